@@ -1,0 +1,5 @@
+pub mod Access
+pub mod Errno
+pub mod Kind
+pub mod Map
+pub mod Right

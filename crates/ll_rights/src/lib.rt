@@ -1,0 +1,13 @@
+//! What Landlock's rules speak of: file system rights and sets of them, kinds of nodes, and the
+//! refusals of a call. The finite map of `specs/Map.antt` is what all crates' definitions use.
+#![tactic(auto)]
+
+mod access;
+mod errno;
+mod kind;
+mod right;
+
+pub use access::Access;
+pub use errno::Errno;
+pub use kind::Kind;
+pub use right::Right;

@@ -1,0 +1,108 @@
+//! One right.
+
+ghost use Rattle.std.specs.Prelude.{◌≡◌, ◌≢◌, ◌<◌, ◌^◌, ℕ, IfSome, IfNone};
+ghost use Rattle.std.specs.Option.{SomeIff};
+ghost use Rattle.ll_rights.specs.Right.{right_text};
+
+use crate::access::Access;
+use std::marker::Model;
+
+/// One of the fifteen file system rights of Landlock's ABI 3. Contracts see its number, 0 to 14,
+/// the place of its bit in `linux/landlock.h`.
+#[derive(Clone, Copy, Debug, PartialEq, Eq)]
+pub struct Right {
+    number: u8,
+}
+
+impl Model for Right {
+    ghost use Rattle.std.specs.Prelude.{ℕ, ◌<◌};
+
+    ghost Value = { ℕ };
+
+    ghost view = { λ right. right.number };
+
+    ghost invariant = { λ right. right.number < 15 };
+
+    ghost inverse = { λ number. record { number = number } };
+}
+
+const NAMES: [&str; 15] = [
+    "execute",
+    "write_file",
+    "read_file",
+    "read_dir",
+    "remove_dir",
+    "remove_file",
+    "make_char",
+    "make_dir",
+    "make_reg",
+    "make_sock",
+    "make_fifo",
+    "make_block",
+    "make_sym",
+    "refer",
+    "truncate",
+];
+
+impl Right {
+    pub const EXECUTE: Right = Right { number: 0 };
+    pub const WRITE_FILE: Right = Right { number: 1 };
+    pub const READ_FILE: Right = Right { number: 2 };
+    pub const READ_DIR: Right = Right { number: 3 };
+    pub const REMOVE_DIR: Right = Right { number: 4 };
+    pub const REMOVE_FILE: Right = Right { number: 5 };
+    pub const MAKE_CHAR: Right = Right { number: 6 };
+    pub const MAKE_DIR: Right = Right { number: 7 };
+    pub const MAKE_REG: Right = Right { number: 8 };
+    pub const MAKE_SOCK: Right = Right { number: 9 };
+    pub const MAKE_FIFO: Right = Right { number: 10 };
+    pub const MAKE_BLOCK: Right = Right { number: 11 };
+    pub const MAKE_SYM: Right = Right { number: 12 };
+    pub const REFER: Right = Right { number: 13 };
+    pub const TRUNCATE: Right = Right { number: 14 };
+
+    /// The right of this number.
+    pub fn new(number: u8) -> Option<Right>
+        ensures { SomeIff result (number < 15) number }
+    {
+        if number < 15 {
+            Some(Right { number })
+        } else {
+            None
+        }
+    }
+
+    pub fn number(self) -> u8
+        ensures number { result ≡ self }
+        ensures known { result < 15 }
+    {
+        self.number
+    }
+
+    /// The set of this right alone.
+    pub fn access(self) -> Access
+        ensures { result.0 ≡ 2 ^ self }
+    {
+        Access(1 << self.number)
+    }
+
+    pub fn text(self) -> &'static str
+        ensures { result.now ≡ right_text self }
+    {
+        NAMES[self.number as usize]
+    }
+
+    /// The right that a text names.
+    pub fn parse(text: &str) -> Option<Right>
+        ensures found { IfSome result (λ right. text.now ≡ right_text right) }
+        ensures none { IfNone result ((right : ℕ) → right < 15 → text.now ≢ right_text right) }
+    {
+        for number in 0..15 {
+            let right = Right { number };
+            if text == right.text() {
+                return Some(right);
+            }
+        }
+        None
+    }
+}
