@@ -1,0 +1,60 @@
+-- Paths: what a text spells, and how two paths lie to each other. path_resolution(7), in this project's profile
+use Rattle.std.specs.Prelude.{ℕ, ◌==◌, Bool, true, false, not, ◌&&◌, ◌||◌, List, [], ◌∷◌, ◌++◌, length, nat_lt, drop, if◌then◌else◌, codes}
+use Rattle.std.specs.List.{slice_split, starts_with, list_any, join_with_byte}
+use Rattle.ll_rights.specs.declared.errno.Errno.{Errno}
+use Rattle.ll_rights.specs.declared.errno.Errno.TheVariants.{EINVAL, ENAMETOOLONG}
+use Rattle.ll_rights.specs.Errno.{refuse}
+use Rattle.ll_path.specs.Name.{same_name}
+
+-- a path is the list of its names from the root on; the empty list is the root
+abbrev pub Path : Type 0
+Path = List (List ℕ)
+
+-- the names that a text spells: what stands between its slashes. The text `/` has none
+abbrev pub names_in : List ℕ → Path
+names_in text = if nat_lt (length text) 2 then [] else slice_split (λ b. b == 47) (drop 1 text)
+
+-- an empty name, or one of the two that this profile leaves out
+abbrev pub is_no_name : List ℕ → Bool
+is_no_name name = (length name == 0) || same_name name (codes ".") || same_name name (codes "..")
+
+-- why a word is no path: all refusals that hold, of which the first is given
+abbrev pub text_refusals : List ℕ → List Errno
+text_refusals text =
+    refuse (nat_lt 4095 (length text)) ENAMETOOLONG
+    ++ refuse (not (starts_with same_byte text (codes "/")) || list_any is_no_name (names_in text)) EINVAL
+    ++ refuse (list_any (λ name. nat_lt 255 (length name)) (names_in text) || nat_lt 64 (length (names_in text))) ENAMETOOLONG
+  where
+    same_byte : ℕ → ℕ → Bool
+    same_byte a b = a == b
+
+-- the one text of a path
+abbrev pub path_text : Path → List ℕ
+path_text path = 47 ∷ join_with_byte 47 path
+
+abbrev pub is_root : Path → Bool
+is_root [] = true
+is_root (name ∷ path) = false
+
+-- all names but the last
+abbrev pub parent : Path → Path
+parent [] = []
+parent (name ∷ []) = []
+parent (name ∷ next ∷ path) = name ∷ parent (next ∷ path)
+
+abbrev pub last_name : Path → List ℕ
+last_name [] = []
+last_name (name ∷ []) = name
+last_name (name ∷ next ∷ path) = last_name (next ∷ path)
+
+-- the second path is strictly beneath the first: it begins with all of its names, and has more
+abbrev pub is_beneath : Path → Path → Bool
+is_beneath upper [] = false
+is_beneath [] (name ∷ lower) = true
+is_beneath (this ∷ upper) (name ∷ lower) = same_name this name && is_beneath upper lower
+
+-- the longest common beginning of two paths
+abbrev pub common : Path → Path → Path
+common [] q = []
+common (this ∷ p) [] = []
+common (this ∷ p) (name ∷ q) = if same_name this name then this ∷ common p q else []

@@ -1,0 +1,50 @@
+//! What a write brings and a read gives.
+
+ghost use Rattle.std.specs.Prelude.{◌≡◌, ◌≤◌, ◌<◌, ℕ, List, [], length, IfOk, IfErr};
+
+use std::alloc::Global;
+use std::marker::Model;
+
+/// At most 4,096 bytes.
+#[derive(Drop)]
+pub struct Data {
+    bytes: Vec<u8>,
+}
+
+impl Model for Data {
+    ghost Value = { List ℕ };
+
+    ghost view = { λ d. d.bytes.items };
+
+    ghost invariant = { λ d. length d.bytes.items ≤ 4096 };
+}
+
+impl Data {
+    /// These bytes. More than 4,096 come back.
+    pub fn new(bytes: Vec<u8>) -> Result<Data, Vec<u8>>
+        ensures ok { IfOk result (λ d. (length bytes.items ≤ 4096) × (d ≡ bytes.items)) }
+        ensures err { IfErr result (λ back. (4096 < length bytes.items) × (back ≡ bytes)) }
+    {
+        if bytes.len() <= 4096 {
+            Ok(Data { bytes })
+        } else {
+            Err(bytes)
+        }
+    }
+
+    /// No bytes.
+    pub fn empty(alloc: Global) -> Data
+        ensures { result ≡ [] }
+    {
+        Data {
+            bytes: Vec::new(alloc),
+        }
+    }
+
+    pub fn as_slice(&self) -> &[u8]
+        ensures bytes { result.now ≡ self.now }
+        ensures short { length self.now ≤ 4096 }
+    {
+        self.bytes.as_slice()
+    }
+}

@@ -1,0 +1,54 @@
+//! The names of a path, one after the other.
+
+ghost use Rattle.std.specs.Prelude.{◌≡◌, ◌==◌, ℕ, List, [], Option, Some, None};
+ghost use Rattle.std.specs.List.{slice_split};
+ghost use Rattle.std.specs.Iterator.{YieldsFirstRef, item_count};
+
+use std::marker::Model;
+
+/// A list of names that a text holds, as an iterator over them. Contracts see the names that are left.
+#[derive(Drop)]
+pub struct Names<'a> {
+    // the names with a slash between any two; `None` is no name
+    rest: Option<&'a str>,
+}
+
+impl<'a> Model for Names<'a> {
+    ghost use Rattle.std.specs.Prelude.{ℕ, List};
+    ghost use Rattle.ll_path.specs.Names.{names_left};
+
+    ghost Value = { List (List ℕ) };
+
+    ghost view = { λ names. names_left names.rest };
+}
+
+impl<'a> Iterator for Names<'a> {
+    type Item = &'a str;
+
+    ghost next_gives = { YieldsFirstRef (λ names. names) };
+
+    ghost remaining = { item_count (λ names. names) };
+
+    fn next(&mut self) -> Option<&'a str> {
+        let text = self.rest?;
+        match text.split_once('/') {
+            Some((name, rest)) => {
+                self.rest = Some(rest);
+                Some(name)
+            }
+            None => {
+                self.rest = None;
+                Some(text)
+            }
+        }
+    }
+}
+
+fn toy(names: Names<'_>) -> u64
+{
+    let mut n = 0u64;
+    for _name in names {
+        n = n.saturating_add(1);
+    }
+    n
+}

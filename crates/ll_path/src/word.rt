@@ -1,0 +1,54 @@
+//! Words of command lines.
+
+ghost use Rattle.std.specs.Prelude.{◌≡◌, ◌≤◌, ℕ, List, All, IfOk, IfErr, IsTrue, ◌↔◌, string_bytes};
+ghost use Rattle.ll_path.specs.Word.{IsVisible, IsWord};
+
+use std::marker::Model;
+
+/// 1 to 8,000 bytes from 0x21 to 0x7E.
+#[derive(Drop)]
+pub struct Word {
+    text: String,
+}
+
+impl Model for Word {
+    ghost Value = { List ℕ };
+
+    ghost view = { λ word. string_bytes word.text };
+
+    ghost invariant = { λ word. IsWord (string_bytes word.text) };
+}
+
+fn is_visible(text: &str) -> bool
+    ensures { IsTrue result ↔ All (λ b. IsVisible b) text.now }
+{
+    text.as_bytes().iter().all(|b| *b >= 0x21 && *b <= 0x7e)
+}
+
+impl Word {
+    /// Whether a word has this text.
+    pub fn fits(text: &str) -> bool
+        ensures { IsTrue result ↔ IsWord text.now }
+    {
+        !text.is_empty() && text.len() <= 8000 && is_visible(text)
+    }
+
+    /// The word of this text. A text that is no word comes back.
+    pub fn new(text: String) -> Result<Word, String>
+        ensures ok { IfOk result (λ word. IsWord (string_bytes text) × (word ≡ string_bytes text)) }
+        ensures err { IfErr result (λ back. (IsWord (string_bytes text) → ⊥) × (back ≡ text)) }
+    {
+        if Word::fits(text.as_str()) {
+            Ok(Word { text })
+        } else {
+            Err(text)
+        }
+    }
+
+    pub fn as_str(&self) -> &str
+        ensures text { result.now ≡ self.now }
+        ensures word { IsWord self.now }
+    {
+        self.text.as_str()
+    }
+}
