@@ -1,5 +1,5 @@
 -- Kinds of nodes, and the rights that go with each. linux/landlock.h, "Filesystem flags"
-use Rattle.std.specs.Prelude.{ℕ, List, codes}
+use Rattle.std.specs.Prelude.{ℕ, Bool, true, false, List, codes}
 use Rattle.ll_rights.specs.declared.kind.Kind.{Kind}
 use Rattle.ll_rights.specs.declared.kind.Kind.TheVariants.{Reg, Dir, Sym, Fifo, Sock, Char, Block}
 use Rattle.ll_rights.specs.Right as right
@@ -31,3 +31,7 @@ remove_right _ = right.remove_file
 abbrev pub relevant : Kind → ℕ
 relevant Dir = all_set
 relevant _ = file_set
+
+abbrev pub is_dir : Kind → Bool
+is_dir Dir = true
+is_dir _ = false

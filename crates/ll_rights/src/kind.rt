@@ -1,7 +1,7 @@
 //! Kinds of nodes.
 
 ghost use Rattle.std.specs.Prelude.{◌≡◌, ◌≢◌, IfSome, IfNone};
-ghost use Rattle.ll_rights.specs.Kind.{kind_text, make_right, remove_right, relevant};
+ghost use Rattle.ll_rights.specs.Kind.{is_dir, kind_text, make_right, remove_right, relevant};
 ghost use Rattle.ll_rights.specs.declared.kind.Kind.{Kind};
 
 use crate::access::Access;
@@ -49,6 +49,12 @@ impl Kind {
             "block" => Some(Kind::Block),
             _ => None,
         }
+    }
+
+    pub fn is_dir(self) -> bool
+        ensures { result ≡ is_dir self }
+    {
+        self == Kind::Dir
     }
 
     /// The right to make such a node, asked on the directory.

@@ -1,0 +1,4 @@
+pub mod Codes
+pub mod Layer
+pub mod Rules
+pub mod Tables
