@@ -1,4 +1,5 @@
 pub mod Name
 pub mod Names
 pub mod Path
+pub mod Target
 pub mod Word

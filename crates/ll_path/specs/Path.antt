@@ -1,5 +1,5 @@
 -- Paths: what a text spells, and how two paths lie to each other. path_resolution(7), in this project's profile
-use Rattle.std.specs.Prelude.{ℕ, ◌==◌, Bool, true, false, not, ◌&&◌, ◌||◌, List, [], ◌∷◌, ◌++◌, length, nat_lt, drop, if◌then◌else◌, codes}
+use Rattle.std.specs.Prelude.{ℕ, ◌==◌, Bool, true, false, not, ◌&&◌, ◌||◌, List, [], ◌∷◌, ◌++◌, length, nat_eq, nat_lt, drop, if◌then◌else◌, codes}
 use Rattle.std.specs.List.{slice_split, starts_with, list_any, join_with_byte}
 use Rattle.ll_rights.specs.declared.errno.Errno.{Errno}
 use Rattle.ll_rights.specs.declared.errno.Errno.TheVariants.{EINVAL, ENAMETOOLONG}
@@ -10,7 +10,7 @@ use Rattle.ll_path.specs.Name.{same_name}
 abbrev pub Path : Type 0
 Path = List (List ℕ)
 
--- the names that a text spells: what stands between its slashes. The text `/` has none
+-- the names that a text spells: what stands between its slashes (47). The text `/` has none
 abbrev pub names_in : List ℕ → Path
 names_in text = if nat_lt (length text) 2 then [] else slice_split (λ b. b == 47) (drop 1 text)
 
@@ -18,15 +18,18 @@ names_in text = if nat_lt (length text) 2 then [] else slice_split (λ b. b == 4
 abbrev pub is_no_name : List ℕ → Bool
 is_no_name name = (length name == 0) || same_name name (codes ".") || same_name name (codes "..")
 
--- why a word is no path: all refusals that hold, of which the first is given
+-- a name of more than NAME_MAX bytes
+abbrev pub is_long_name : List ℕ → Bool
+is_long_name name = nat_lt 255 (length name)
+
+-- why a word is no path: all refusals that hold, of which the first is given. With its final NUL a path has at most PATH_MAX, 4,096 bytes
 abbrev pub text_refusals : List ℕ → List Errno
 text_refusals text =
     refuse (nat_lt 4095 (length text)) ENAMETOOLONG
-    ++ refuse (not (starts_with same_byte text (codes "/")) || list_any is_no_name (names_in text)) EINVAL
-    ++ refuse (list_any (λ name. nat_lt 255 (length name)) (names_in text) || nat_lt 64 (length (names_in text))) ENAMETOOLONG
-  where
-    same_byte : ℕ → ℕ → Bool
-    same_byte a b = a == b
+    ++ refuse (not (starts_with nat_eq text (codes "/"))) EINVAL
+    ++ refuse (list_any is_no_name (names_in text)) EINVAL
+    ++ refuse (list_any is_long_name (names_in text)) ENAMETOOLONG
+    ++ refuse (nat_lt 64 (length (names_in text))) ENAMETOOLONG
 
 -- the one text of a path
 abbrev pub path_text : Path → List ℕ
@@ -36,12 +39,13 @@ abbrev pub is_root : Path → Bool
 is_root [] = true
 is_root (name ∷ path) = false
 
--- all names but the last
+-- all names but the last. The root is its own parent
 abbrev pub parent : Path → Path
 parent [] = []
 parent (name ∷ []) = []
 parent (name ∷ next ∷ path) = name ∷ parent (next ∷ path)
 
+-- the root has none, and the empty text stands for it
 abbrev pub last_name : Path → List ℕ
 last_name [] = []
 last_name (name ∷ []) = name

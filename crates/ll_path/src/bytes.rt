@@ -1,11 +1,11 @@
 //! What a write brings and a read gives.
 
-ghost use Rattle.std.specs.Prelude.{◌≡◌, ◌≤◌, ◌<◌, ℕ, List, [], length, IfOk, IfErr};
+ghost use Rattle.std.specs.Prelude.{◌≡◌, ◌==◌, ◌≤◌, ◌<◌, ℕ, List, [], length, IfOk, IfErr};
 
 use std::alloc::Global;
 use std::marker::Model;
 
-/// At most 4,096 bytes.
+/// At most 4,096 bytes of any kind. Contracts see the list of them.
 #[derive(Drop)]
 pub struct Data {
     bytes: Vec<u8>,
@@ -20,7 +20,7 @@ impl Model for Data {
 }
 
 impl Data {
-    /// These bytes. More than 4,096 come back.
+    /// These bytes. More than 4,096 come back. Takes no memory.
     pub fn new(bytes: Vec<u8>) -> Result<Data, Vec<u8>>
         ensures ok { IfOk result (λ d. (length bytes.items ≤ 4096) × (d ≡ bytes.items)) }
         ensures err { IfErr result (λ back. (4096 < length bytes.items) × (back ≡ bytes)) }
@@ -32,13 +32,26 @@ impl Data {
         }
     }
 
-    /// No bytes.
+    /// No bytes. Takes no memory.
     pub fn empty(alloc: Global) -> Data
         ensures { result ≡ [] }
     {
         Data {
             bytes: Vec::new(alloc),
         }
+    }
+
+    pub fn len(&self) -> usize
+        ensures len { result ≡ length self.now }
+        ensures short { result ≤ 4096 }
+    {
+        self.bytes.len()
+    }
+
+    pub fn is_empty(&self) -> bool
+        ensures { result ≡ (length self.now == 0) }
+    {
+        self.bytes.is_empty()
     }
 
     pub fn as_slice(&self) -> &[u8]

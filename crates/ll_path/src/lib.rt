@@ -1,4 +1,5 @@
-//! The texts of calls: words, names and paths, and what of a word is no path.
+//! The texts of calls: words, the names in directories, paths and what a word gives where a path
+//! is wanted, and the bytes of reads and writes.
 #![tactic(auto)]
 
 mod bytes;
@@ -6,6 +7,8 @@ mod name;
 mod names;
 mod path;
 mod target;
+#[cfg(test)]
+mod tests;
 mod word;
 
 pub use bytes::Data;

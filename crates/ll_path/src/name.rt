@@ -1,12 +1,17 @@
 //! Names in a directory.
 
-ghost use Rattle.std.specs.Prelude.{◌≡◌, ℕ, List, IfOk, IsTrue, ◌↔◌, string_bytes};
+ghost use Rattle.std.specs.Prelude.{◌≡◌, ◌≢◌, ℕ, List, All, IfOk, IfErr, IsTrue, ◌↔◌, string_bytes};
+ghost use Rattle.std.specs.Ordering.{nat_cmp};
+ghost use Rattle.std.specs.Cmp.Lexicographic.{slice_cmp};
+ghost use Rattle.ll_path.specs.Word.{IsVisible};
 ghost use Rattle.ll_path.specs.Name.{IsName};
 
 use std::alloc::{AllocError, Global};
+use std::cmp::Ordering;
 use std::marker::Model;
 
-/// 1 to 255 bytes from 0x21 to 0x7E without a slash, and neither `.` nor `..`.
+/// A name in a directory: 1 to 255 bytes from 0x21 to 0x7E without a slash, and neither `.` nor
+/// `..`. Contracts see its bytes.
 #[derive(Drop)]
 pub struct Name {
     text: String,
@@ -20,8 +25,38 @@ impl Model for Name {
     ghost invariant = { λ name. IsName (string_bytes name.text) };
 }
 
+fn is_visible_without_slash(text: &str) -> bool
+    ensures { IsTrue result ↔ All (λ b. IsVisible b × (b ≢ 47)) text.now }
+{
+    text.as_bytes()
+        .iter()
+        .all(|b| *b >= 0x21 && *b <= 0x7e && *b != b'/')
+}
+
 impl Name {
-    /// A name of its own with this text.
+    /// Whether a name has this text.
+    pub fn fits(text: &str) -> bool
+        ensures { IsTrue result ↔ IsName text.now }
+    {
+        if text == "." || text == ".." {
+            return false;
+        }
+        !text.is_empty() && text.len() <= 255 && is_visible_without_slash(text)
+    }
+
+    /// The name of this text. A text that is no name comes back. Takes no memory.
+    pub fn new(text: String) -> Result<Name, String>
+        ensures ok { IfOk result (λ name. IsName (string_bytes text) × (name ≡ string_bytes text)) }
+        ensures err { IfErr result (λ back. (IsName (string_bytes text) → ⊥) × (back ≡ text)) }
+    {
+        if Name::fits(text.as_str()) {
+            Ok(Name { text })
+        } else {
+            Err(text)
+        }
+    }
+
+    /// A name of its own with this text. Fails only for want of memory.
     pub fn from_text(alloc: Global, text: &str) -> Result<Name, AllocError>
         requires { IsName text.now }
         ensures { IfOk result (λ name. name ≡ text.now) }
@@ -35,5 +70,12 @@ impl Name {
         ensures name { IsName self.now }
     {
         self.text.as_str()
+    }
+
+    /// How this name lies to another by bytes: `Less` where this one comes first.
+    pub fn order(&self, name: &str) -> Ordering
+        ensures { result ≡ slice_cmp nat_cmp self.now name.now }
+    {
+        self.as_str().cmp(name)
     }
 }

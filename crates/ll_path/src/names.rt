@@ -1,8 +1,9 @@
 //! The names of a path, one after the other.
 
-ghost use Rattle.std.specs.Prelude.{◌≡◌, ◌==◌, ℕ, List, [], Option, Some, None};
+ghost use Rattle.std.specs.Prelude.{◌≡◌, ◌==◌, ℕ, List, [], ◌∷◌, Option, Some, None};
 ghost use Rattle.std.specs.List.{slice_split};
 ghost use Rattle.std.specs.Iterator.{YieldsFirstRef, item_count};
+ghost use Rattle.ll_path.specs.Path.{names_in};
 
 use std::marker::Model;
 
@@ -20,6 +21,32 @@ impl<'a> Model for Names<'a> {
     ghost Value = { List (List ℕ) };
 
     ghost view = { λ names. names_left names.rest };
+}
+
+impl<'a> Names<'a> {
+    pub(crate) fn none() -> Names<'a>
+        ensures { result ≡ [] }
+    {
+        Names { rest: None }
+    }
+
+    // What stands between the slashes of a text.
+    pub(crate) fn between_slashes(text: &'a str) -> Names<'a>
+        ensures { result ≡ slice_split (λ b. b == 47) text.now }
+    {
+        Names { rest: Some(text) }
+    }
+
+    // The names of a path, of which this is all that follows its first slash.
+    pub(crate) fn after_slash(text: &'a str) -> Names<'a>
+        ensures { result ≡ names_in (47 ∷ text.now) }
+    {
+        if text.is_empty() {
+            Names::none()
+        } else {
+            Names::between_slashes(text)
+        }
+    }
 }
 
 impl<'a> Iterator for Names<'a> {
@@ -42,13 +69,4 @@ impl<'a> Iterator for Names<'a> {
             }
         }
     }
-}
-
-fn toy(names: Names<'_>) -> u64
-{
-    let mut n = 0u64;
-    for _name in names {
-        n = n.saturating_add(1);
-    }
-    n
 }

@@ -1,11 +1,19 @@
 //! Paths.
 
-ghost use Rattle.std.specs.Prelude.{◌≡◌, ℕ, List, []};
+ghost use Rattle.std.specs.Prelude.{◌≡◌, ◌<◌, ◌≤◌, ◌+◌, ◌^◌, ℕ, nat_lt, List, [], ◌∷◌, ◌++◌, All, length, sum_by, Option, Some, slice_get, IfSome, IfNone, IfOk, IfErr};
+ghost use Rattle.std.specs.List.{join_with_byte, list_any};
+ghost use Rattle.ll_rights.specs.Errno.{refuse};
+ghost use Rattle.ll_path.specs.Word.{IsVisible};
+ghost use Rattle.ll_path.specs.Name.{IsName, same_name};
+ghost use Rattle.ll_path.specs.Path.{names_in, is_no_name, is_long_name, text_refusals, path_text, is_root, parent, last_name, is_beneath, common};
 
+use crate::names::Names;
 use crate::word::Word;
+use ll_rights::Errno;
 use std::marker::Model;
 
-/// A path of at most 64 names, from the root on. Contracts see the list of its names.
+/// A path of at most 64 names, from the root on, in a text of at most 4,095 bytes. Contracts see
+/// the list of its names.
 #[derive(Drop)]
 pub struct Path {
     word: Word,
@@ -20,4 +28,176 @@ impl Model for Path {
     ghost view = { λ path. names_in path.word };
 
     ghost invariant = { λ path. text_refusals path.word ≡ [] };
+}
+
+fn is_same(this: &str, other: &str) -> bool
+    ensures { result ≡ same_name this.now other.now }
+{
+    this == other
+}
+
+fn is_no_name(name: &str) -> bool
+    ensures { result ≡ is_no_name name.now }
+{
+    name.is_empty() || is_same(name, ".") || is_same(name, "..")
+}
+
+fn has_no_name(mut names: Names<'_>) -> bool
+    ensures { result ≡ list_any is_no_name names.entry }
+{
+    names.any(is_no_name)
+}
+
+fn has_long_name(mut names: Names<'_>) -> bool
+    ensures { result ≡ list_any is_long_name names.entry }
+{
+    names.any(|name| name.len() > 255)
+}
+
+fn has_many_names(mut names: Names<'_>) -> bool
+    ensures { result ≡ nat_lt 64 (length names.entry) }
+{
+    names.nth(64).is_some()
+}
+
+// Why a text spells no path.
+fn refusal(text: &str) -> Option<Errno>
+    ensures { result ≡ slice_get (text_refusals text.now) 0 }
+{
+    if text.len() > 4095 {
+        return Some(Errno::ENAMETOOLONG);
+    }
+    let Some(rest) = text.strip_prefix('/') else {
+        return Some(Errno::EINVAL);
+    };
+    if has_no_name(Names::after_slash(rest)) {
+        return Some(Errno::EINVAL);
+    }
+    if has_long_name(Names::after_slash(rest)) || has_many_names(Names::after_slash(rest)) {
+        return Some(Errno::ENAMETOOLONG);
+    }
+    None
+}
+
+// How many bytes the names take that both lists begin with, each with a slash after it.
+fn shared_len(names: Names<'_>, mut others: Names<'_>) -> usize
+    requires { sum_by (λ name. length name + 1) names < 2 ^ 64 }
+    ensures { result ≡ sum_by (λ name. length name + 1) (common names.entry others.entry) }
+{
+    let mut len = 0;
+    for name in names {
+        match others.next() {
+            Some(other) if is_same(name, other) => len += name.len() + 1,
+            _ => return len,
+        }
+    }
+    len
+}
+
+impl Path {
+    /// The path that a word spells. A word that spells none comes back with the reason. Takes no
+    /// memory.
+    pub fn parse(word: Word) -> Result<Path, (Word, Errno)>
+        ensures ok { IfOk result (λ path. (text_refusals word ≡ []) × (path ≡ names_in word)) }
+        ensures err { IfErr result (λ e. (e.0 ≡ word) × (slice_get (text_refusals word) 0 ≡ Some e.1)) }
+    {
+        match refusal(word.as_str()) {
+            None => Ok(Path { word }),
+            Some(errno) => Err((word, errno)),
+        }
+    }
+
+    // The names with a slash between any two.
+    fn joined(&self) -> &str
+        ensures text { result.now ≡ join_with_byte 47 self.now }
+        ensures names { self.now ≡ names_in (47 ∷ result.now) }
+        ensures visible { All (λ b. IsVisible b) result.now }
+        ensures each { All IsName self.now }
+        ensures few { length self.now ≤ 64 }
+    {
+        &self.word.as_str()[1..]
+    }
+
+    /// All names, from the root on.
+    pub fn names(&self) -> Names<'_>
+        ensures { result ≡ self.now }
+    {
+        Names::after_slash(self.joined())
+    }
+
+    /// How many names there are.
+    pub fn len(&self) -> usize
+        ensures len { result ≡ length self.now }
+        ensures short { result ≤ 64 }
+    {
+        let joined = self.joined();
+        Names::after_slash(joined).count()
+    }
+
+    pub fn is_root(&self) -> bool
+        ensures { result ≡ is_root self.now }
+    {
+        self.joined().is_empty()
+    }
+
+    /// The parent's names and the last name. The root has neither.
+    pub fn split_last(&self) -> Option<(Names<'_>, &str)>
+        ensures none { IfNone result (self.now ≡ []) }
+        ensures parent { IfSome result (λ both. both.0 ≡ parent self.now) }
+        ensures last { IfSome result (λ both. both.1.now ≡ last_name self.now) }
+        ensures whole { IfSome result (λ both. self.now ≡ both.0 ++ both.1.now ∷ []) }
+        ensures name { IfSome result (λ both. IsName both.1.now) }
+    {
+        let joined = self.joined();
+        if joined.is_empty() {
+            return None;
+        }
+        match joined.rsplit_once('/') {
+            Some((front, last)) => Some((Names::between_slashes(front), last)),
+            None => Some((Names::none(), joined)),
+        }
+    }
+
+    /// The parent's names. The root is its own parent.
+    pub fn parent(&self) -> Names<'_>
+        ensures { result ≡ parent self.now }
+    {
+        match self.split_last() {
+            Some((parent, _)) => parent,
+            None => Names::none(),
+        }
+    }
+
+    /// Whether this path is strictly beneath the other, by names.
+    pub fn is_beneath(&self, upper: &Path) -> bool
+        ensures { result ≡ is_beneath upper.now self.now }
+    {
+        let mut names = self.names();
+        for above in upper.names() {
+            match names.next() {
+                Some(name) if is_same(above, name) => {}
+                _ => return false,
+            }
+        }
+        names.next().is_some()
+    }
+
+    /// The longest common beginning of both paths.
+    pub fn common(&self, other: &Path) -> Names<'_>
+        ensures { result ≡ common self.now other.now }
+    {
+        let joined = self.joined();
+        let len = shared_len(self.names(), other.names());
+        if len == 0 {
+            return Names::none();
+        }
+        Names::between_slashes(&joined[..len - 1])
+    }
+
+    /// The one text of the path.
+    pub fn as_str(&self) -> &str
+        ensures { result.now ≡ path_text self.now }
+    {
+        self.word.as_str()
+    }
 }

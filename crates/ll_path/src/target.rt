@@ -7,7 +7,7 @@ use crate::path::Path;
 use crate::word::Word;
 use ll_rights::Errno;
 
-/// A word that is no path, and why.
+/// A word that spells no path, and why.
 #[derive(Drop)]
 pub struct BadPath {
     pub word: Word,
@@ -15,9 +15,34 @@ pub struct BadPath {
     ghost refused: { slice_get (text_refusals word) 0 ≡ Some errno },
 }
 
-/// A path, or a word that is none.
+/// The path that a word spells, or the word where it spells none. So a call knows each of its
+/// paths from the start, and a bad one is refused only when its turn comes.
 #[derive(Drop)]
 pub enum Target {
     Good(Path),
     Bad(BadPath),
+}
+
+impl Target {
+    ghost use Rattle.ll_path.specs.Target.{IsTarget, target_text};
+
+    /// What a word gives. Takes no memory.
+    pub fn read(word: Word) -> Target
+        ensures { IsTarget word result }
+    {
+        match Path::parse(word) {
+            Ok(path) => Target::Good(path),
+            Err((word, errno)) => Target::Bad(BadPath { word, errno }),
+        }
+    }
+
+    /// The text of the word again.
+    pub fn as_str(&self) -> &str
+        ensures { result.now ≡ target_text self.now }
+    {
+        match self {
+            Target::Good(path) => path.as_str(),
+            Target::Bad(bad) => bad.word.as_str(),
+        }
+    }
 }

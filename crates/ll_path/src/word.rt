@@ -5,7 +5,8 @@ ghost use Rattle.ll_path.specs.Word.{IsVisible, IsWord};
 
 use std::marker::Model;
 
-/// 1 to 8,000 bytes from 0x21 to 0x7E.
+/// A word of a command line: 1 to 8,000 bytes from 0x21 to 0x7E, the printed characters of ASCII
+/// but the space. Contracts see its bytes.
 #[derive(Drop)]
 pub struct Word {
     text: String,
@@ -33,7 +34,7 @@ impl Word {
         !text.is_empty() && text.len() <= 8000 && is_visible(text)
     }
 
-    /// The word of this text. A text that is no word comes back.
+    /// The word of this text. A text that is no word comes back. Takes no memory.
     pub fn new(text: String) -> Result<Word, String>
         ensures ok { IfOk result (λ word. IsWord (string_bytes text) × (word ≡ string_bytes text)) }
         ensures err { IfErr result (λ back. (IsWord (string_bytes text) → ⊥) × (back ≡ text)) }

@@ -1,7 +1,8 @@
 -- Sets of rights, as linux/landlock.h writes them: a number with a bit for each right.
 use Rattle.std.specs.Prelude.{ℕ, ◌/◌, ◌%◌, ◌^◌, Bool, ◌==◌, List, ◌++◌, map, filter, codes, bit_and, nat_lt, if◌then◌else◌}
 use Rattle.std.specs.List.{join_with_byte}
-use Rattle.std.specs.Fmt.{digits}
+use Rattle.std.specs.Char.{digit_char}
+use Rattle.std.specs.Int.Digits.{digits_of}
 use Rattle.ll_rights.specs.Right.{all_rights, right_text}
 
 -- whether the set has the right
@@ -22,3 +23,18 @@ file_set = 0x4007
 -- landlock.rst, "Previous limitations": refer came with ABI 2, truncate with ABI 3
 abbrev pub known_set : ℕ → ℕ
 known_set abi = if nat_lt abi 2 then 0x1fff else if nat_lt abi 3 then 0x3fff else all_set
+
+-- the names of those of the rights that the set has
+unfoldable pub names_among : List ℕ → ℕ → List (List ℕ)
+names_among rights set = map right_text (filter (holds set) rights)
+
+-- in rising order
+abbrev pub names_in : ℕ → List (List ℕ)
+names_in set = names_among all_rights set
+
+-- The one text of a set, own: `none`, or its rights' names joined by commas. A set with a bit that is no right's is a number:
+-- `0x` and its digits in base 16, in lower case, with no leading zero
+unfoldable pub access_text : ℕ → List ℕ
+access_text set = if set == 0 then codes "none"
+    else if nat_lt set (2 ^ 15) then join_with_byte 44 (names_in set)
+    else codes "0x" ++ map digit_char (digits_of 16 set)

@@ -1,10 +1,14 @@
 //! Sets of rights.
 
-ghost use Rattle.std.specs.Prelude.{⊤, ◌≡◌, ◌<◌, ◌≤◌, ◌==◌, [], ◌∷◌, codes, bit_and, bit_or};
-ghost use Rattle.ll_rights.specs.Access.{holds, is_within, known_set};
+ghost use Rattle.std.specs.Prelude.{⊤, ◌≡◌, ◌≢◌, ◌<◌, ◌≤◌, ◌==◌, ◌^◌, ℕ, [], ◌∷◌, map, codes, nat_le, ◌&&◌, ◌||◌, bit_and, bit_or, string_bytes, IfOk, IfSome, IfNone};
+ghost use Rattle.std.specs.List.{join_with_byte, slice_split, list_all};
+ghost use Rattle.std.specs.Char.{digit_char};
+ghost use Rattle.std.specs.Int.Digits.{digits_of};
+ghost use Rattle.ll_rights.specs.Access.{holds, is_within, known_set, names_in, access_text};
 
 use crate::right::Right;
 use bitflags::{Flag, Flags, bitflag_items};
+use std::alloc::{AllocError, Global};
 
 /// A set of rights: a right is in it where the bit of its number is set. Bits from 15 on are
 /// rights that nobody here knows.
@@ -89,4 +93,92 @@ impl Access {
     {
         other.contains(self)
     }
+
+    /// The set and the rights of the other.
+    pub fn with(self, other: Access) -> Access
+        ensures { result.0 ≡ bit_or self.0 other.0 }
+    {
+        Access(self.0 | other.0)
+    }
+
+    /// The one text of the set: `none`, the names of its rights in rising order, joined by commas,
+    /// or `0x` and the number where a bit is no right's.
+    pub fn text(self, alloc: Global) -> Result<String, AllocError>
+        ensures { IfOk result (λ text. string_bytes text ≡ access_text self.0) }
+    {
+        if self.0 == 0 {
+            String::from_str(alloc, "none")
+        } else if self.is_within(Access::ALL) {
+            self.names(alloc)
+        } else {
+            format!(in alloc; "0x{:x}", self.0)
+        }
+    }
+
+    /// The set that a text spells. No other spelling of a set is read.
+    pub fn parse(text: &str) -> Option<Access>
+        ensures found { IfSome result (λ access. text.now ≡ access_text access.0) }
+        ensures none { IfNone result ((set : ℕ) → set < 2 ^ 64 → text.now ≢ access_text set) }
+    {
+        if text == "none" {
+            return Some(Access(0));
+        }
+        match text.strip_prefix("0x") {
+            Some(digits) => Access::parse_number(digits),
+            None => Access::parse_names(text),
+        }
+    }
+
+    // the names of the rights, joined by commas
+    fn names(self, alloc: Global) -> Result<String, AllocError>
+        ensures { IfOk result (λ text. string_bytes text ≡ join_with_byte 44 (names_in self.0)) }
+    {
+        let mut text = String::new(alloc);
+        for right in Right::ALL {
+            if self.holds(right) {
+                if !text.is_empty() {
+                    text.push(',')?;
+                }
+                text.push_str(right.text())?;
+            }
+        }
+        Ok(text)
+    }
+
+    // each name's right stands above those of the names before it
+    fn parse_names(text: &str) -> Option<Access>
+        ensures found { IfSome result (λ access. (access.0 < 2 ^ 15) × (slice_split (λ b. b == 44) text.now ≡ names_in access.0)) }
+        ensures none { IfNone result ((set : ℕ) → slice_split (λ b. b == 44) text.now ≢ names_in set) }
+    {
+        let mut set = Access(0);
+        for name in text.split(',') {
+            let only = Right::parse(name)?.access();
+            if only.0 <= set.0 {
+                return None;
+            }
+            set = set.with(only);
+        }
+        Some(set)
+    }
+
+    // the digits of a number with a bit that is no right's
+    fn parse_number(digits: &str) -> Option<Access>
+        ensures found { IfSome result (λ access. (2 ^ 15 ≤ access.0) × (digits.now ≡ map digit_char (digits_of 16 access.0))) }
+        ensures none { IfNone result ((set : ℕ) → 2 ^ 15 ≤ set → set < 2 ^ 64 → digits.now ≢ map digit_char (digits_of 16 set)) }
+    {
+        if digits.starts_with('0') || !is_lower_hex(digits) {
+            return None;
+        }
+        match u64::from_str_radix(digits, 16) {
+            Ok(set) if set > Access::ALL.0 => Some(Access(set)),
+            _ => None,
+        }
+    }
+}
+
+// whether each byte is a digit of base 16, in lower case
+fn is_lower_hex(text: &str) -> bool
+    ensures { result ≡ list_all (λ b. (nat_le 48 b && nat_le b 57) || (nat_le 97 b && nat_le b 102)) text.now }
+{
+    text.bytes().all(|b| matches!(b, b'0'..=b'9' | b'a'..=b'f'))
 }

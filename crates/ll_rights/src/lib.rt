@@ -6,6 +6,8 @@ mod access;
 mod errno;
 mod kind;
 mod right;
+#[cfg(test)]
+mod tests;
 
 pub use access::Access;
 pub use errno::Errno;

@@ -46,20 +46,53 @@ const NAMES: [&str; 15] = [
 
 impl Right {
     pub const EXECUTE: Right = Right { number: 0 };
+
     pub const WRITE_FILE: Right = Right { number: 1 };
+
     pub const READ_FILE: Right = Right { number: 2 };
+
     pub const READ_DIR: Right = Right { number: 3 };
+
     pub const REMOVE_DIR: Right = Right { number: 4 };
+
     pub const REMOVE_FILE: Right = Right { number: 5 };
+
     pub const MAKE_CHAR: Right = Right { number: 6 };
+
     pub const MAKE_DIR: Right = Right { number: 7 };
+
     pub const MAKE_REG: Right = Right { number: 8 };
+
     pub const MAKE_SOCK: Right = Right { number: 9 };
+
     pub const MAKE_FIFO: Right = Right { number: 10 };
+
     pub const MAKE_BLOCK: Right = Right { number: 11 };
+
     pub const MAKE_SYM: Right = Right { number: 12 };
+
     pub const REFER: Right = Right { number: 13 };
+
     pub const TRUNCATE: Right = Right { number: 14 };
+
+    /// All fifteen, in the order of their numbers.
+    pub const ALL: [Right; 15] = [
+        Right::EXECUTE,
+        Right::WRITE_FILE,
+        Right::READ_FILE,
+        Right::READ_DIR,
+        Right::REMOVE_DIR,
+        Right::REMOVE_FILE,
+        Right::MAKE_CHAR,
+        Right::MAKE_DIR,
+        Right::MAKE_REG,
+        Right::MAKE_SOCK,
+        Right::MAKE_FIFO,
+        Right::MAKE_BLOCK,
+        Right::MAKE_SYM,
+        Right::REFER,
+        Right::TRUNCATE,
+    ];
 
     /// The right of this number.
     pub fn new(number: u8) -> Option<Right>
@@ -94,11 +127,11 @@ impl Right {
 
     /// The right that a text names.
     pub fn parse(text: &str) -> Option<Right>
+        ensures known { IfSome result (λ right. right < 15) }
         ensures found { IfSome result (λ right. text.now ≡ right_text right) }
         ensures none { IfNone result ((right : ℕ) → right < 15 → text.now ≢ right_text right) }
     {
-        for number in 0..15 {
-            let right = Right { number };
+        for right in Right::ALL {
             if text == right.text() {
                 return Some(right);
             }

@@ -1,5 +1,5 @@
 -- When a ruleset is made, extended and enforced. landlock_create_ruleset(2), landlock_add_rule(2), landlock_restrict_self(2)
-use Rattle.std.specs.Prelude.{ℕ, not, ◌&&◌, ◌==◌, List, [], ◌∷◌, ◌++◌, length, nat_le, unwrap_or, bit_or}
+use Rattle.std.specs.Prelude.{ℕ, not, ◌&&◌, ◌==◌, List, ◌++◌, length, nat_le, unwrap_or, bit_or}
 use Rattle.ll_rights.specs.declared.kind.Kind.{Kind}
 use Rattle.ll_rights.specs.declared.errno.Errno.{Errno}
 use Rattle.ll_rights.specs.declared.errno.Errno.TheVariants.{EINVAL, ENOMSG, E2BIG}

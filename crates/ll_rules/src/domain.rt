@@ -1,6 +1,12 @@
 //! Domains.
 
+ghost use Rattle.std.specs.Prelude.{◌≡◌, ◌≢◌, ◌≤◌, ◌↔◌, IsTrue, [], ◌∷◌, ◌++◌, length, slice_get, Some, Err, OnOk, OnErr, IfOk, IfErr};
+ghost use Rattle.ll_rules.specs.Rules.{layer_limit};
+
 use crate::layer::Layer;
+use crate::ruleset::Ruleset;
+use ll_rights::Errno;
+use std::alloc::{AllocError, Global};
 use std::marker::Model;
 
 /// The layers that a client is under, the oldest first: at most 16.
@@ -8,6 +14,8 @@ use std::marker::Model;
 pub struct Domain {
     layers: Vec<Layer>,
 }
+
+const MOST_LAYERS: usize = 16;
 
 impl Model for Domain {
     ghost use Rattle.std.specs.Prelude.{List, ◌≤◌, length};
@@ -22,4 +30,64 @@ impl Model for Domain {
     ghost view = { λ domain. domain.layers.items };
 
     ghost invariant = { λ domain. length domain.layers.items ≤ 16 };
+}
+
+impl Domain {
+    /// The domain of a client that never confined itself.
+    pub fn empty(alloc: Global) -> Domain
+        ensures { result ≡ [] }
+    {
+        Domain {
+            layers: Vec::new(alloc),
+        }
+    }
+
+    /// Enforces the ruleset as it is now, as the newest layer.
+    pub fn stack(&mut self, made: &Ruleset) -> Result<(), Errno>
+        ensures ok { OnOk result ((layer_limit self.old ≡ []) × (self.new ≡ self.old ++ made.now ∷ [])) }
+
+        // Want of memory comes only where nothing else refuses the layer.
+        ensures refused { IfErr result (λ errno. errno ≢ Errno.NoMemory → slice_get (layer_limit self.old) 0 ≡ Some errno) }
+        ensures starved { result ≡ Err Errno.NoMemory → layer_limit self.old ≡ [] }
+        ensures err { OnErr result (self.new ≡ self.old) }
+    {
+        if self.len() >= MOST_LAYERS {
+            return Err(Errno::E2BIG);
+        }
+        let Ok(layer) = made.layer().clone() else {
+            return Err(Errno::NoMemory);
+        };
+        if self.layers.push(layer).is_err() {
+            return Err(Errno::NoMemory);
+        }
+        Ok(())
+    }
+
+    pub fn copy(&self) -> Result<Domain, AllocError>
+        ensures { IfOk result (λ copy. copy ≡ self.now) }
+    {
+        let layers = self.layers.clone()?;
+        Ok(Domain { layers })
+    }
+
+    /// How many layers there are.
+    pub fn len(&self) -> usize
+        ensures len { result ≡ length self.now }
+        ensures most { result ≤ 16 }
+    {
+        self.layers.len()
+    }
+
+    pub fn is_empty(&self) -> bool
+        ensures { IsTrue result ↔ (self.now ≡ []) }
+    {
+        self.layers.is_empty()
+    }
+
+    /// The layers, the oldest first.
+    pub fn layers(&self) -> &[Layer]
+        ensures { result.now ≡ self.now }
+    {
+        self.layers.as_slice()
+    }
 }

@@ -1,9 +1,12 @@
 //! Layers.
 
-ghost use Rattle.std.specs.Prelude.{◌≡◌};
+ghost use Rattle.std.specs.Prelude.{◌≡◌, ℕ, unwrap_or, OnOk, OnErr};
+ghost use Rattle.ll_rights.specs.Map.{get, has, len};
 ghost use Rattle.ll_rules.specs.Layer.{has_rule, restricts};
+ghost use Rattle.ll_rules.specs.Rules.{new_ruleset, with_rule};
 
-use ll_rights::Access;
+use ll_rights::{Access, Right};
+use std::alloc::{AllocError, Global};
 use std::collections::BTreeMap;
 use std::marker::Model;
 
@@ -23,15 +26,86 @@ impl Model for Layer {
 
     ghost coded = { coded_layer };
 
-    ghost use Rattle.ll_rules.specs.Tables.{rules_of};
+    ghost use Rattle.ll_rules.specs.Tables.{rules_of, IsTable};
 
     ghost view = { λ layer. record { handled = layer.handled.0; rules = rules_of layer.rules } };
+
+    ghost invariant = { λ layer. IsTable layer.rules };
+}
+
+impl Clone for Layer {
+    ghost use Rattle.std.specs.Prelude.{◌≡◌};
+
+    ghost is_clone = { λ layer copy. copy ≡ layer };
+
+    fn clone(&self) -> Result<Layer, AllocError> {
+        let rules = self.rules.clone()?;
+        Ok(Layer {
+            handled: self.handled,
+            rules,
+        })
+    }
 }
 
 impl Layer {
+    /// A layer with no rules. Takes no memory.
+    pub(crate) fn new(alloc: Global, handled: Access) -> Layer
+        ensures { result ≡ new_ruleset handled.0 }
+    {
+        Layer {
+            handled,
+            rules: BTreeMap::new(alloc),
+        }
+    }
+
     pub fn handled(&self) -> Access
         ensures { result.0 ≡ self.now.handled }
     {
         self.handled
+    }
+
+    /// The rights of the rule on the inode; none where there is no rule.
+    pub fn rule(&self, inode: u64) -> Access
+        ensures { result.0 ≡ unwrap_or (get self.now.rules inode) 0 }
+    {
+        self.rules.get(&inode).copied().unwrap_or(Access(0))
+    }
+
+    /// Whether the rule on the inode holds the right.
+    pub fn has_rule(&self, right: Right, inode: u64) -> bool
+        ensures { result ≡ has_rule self.now right inode }
+    {
+        self.rule(inode).holds(right)
+    }
+
+    /// Whether the layer restricts the right: what it handles, and refer.
+    pub fn restricts(&self, right: Right) -> bool
+        ensures { result ≡ restricts self.now right }
+    {
+        self.handled.holds(right) || right == Right::REFER
+    }
+
+    /// How many inodes have a rule.
+    pub(crate) fn rule_count(&self) -> usize
+        ensures { result ≡ len self.now.rules }
+    {
+        self.rules.len()
+    }
+
+    /// Whether the inode has a rule.
+    pub(crate) fn has_inode(&self, inode: u64) -> bool
+        ensures { result ≡ has self.now.rules inode }
+    {
+        self.rules.contains_key(&inode)
+    }
+
+    /// Adds a rule, joined with that on the same inode.
+    pub(crate) fn add_rule(&mut self, inode: u64, rights: Access) -> Result<(), AllocError>
+        ensures ok { OnOk result (self.new ≡ with_rule self.old inode rights.0) }
+        ensures err { OnErr result (self.new ≡ self.old) }
+    {
+        let joined = Access(self.rule(inode).0 | rights.0);
+        self.rules.insert(inode, joined)?;
+        Ok(())
     }
 }

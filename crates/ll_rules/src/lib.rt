@@ -4,6 +4,8 @@
 mod domain;
 mod layer;
 mod ruleset;
+#[cfg(test)]
+mod tests;
 
 pub use domain::Domain;
 pub use layer::Layer;

@@ -1,6 +1,11 @@
 //! Rulesets.
 
+ghost use Rattle.std.specs.Prelude.{◌≡◌, ◌≢◌, [], ◌++◌, slice_get, Some, Err, OnOk, OnErr, IfOk, IfErr};
+ghost use Rattle.ll_rules.specs.Rules.{create_refusals, new_ruleset, rule_refusals, rule_limit, with_rule};
+
 use crate::layer::Layer;
+use ll_rights::{Access, Errno, Kind};
+use std::alloc::{AllocError, Global};
 use std::marker::Model;
 
 /// A ruleset that a client is making. Contracts see the layer that it would be.
@@ -8,6 +13,8 @@ use std::marker::Model;
 pub struct Ruleset {
     layer: Layer,
 }
+
+const MOST_RULES: usize = 256;
 
 impl Model for Ruleset {
     ghost use Rattle.ll_rules.specs.Layer.{Layer};
@@ -18,4 +25,66 @@ impl Model for Ruleset {
     ghost coded = { coded_layer };
 
     ghost view = { λ ruleset'. ruleset'.layer };
+}
+
+impl Ruleset {
+    /// A ruleset that handles these rights. Takes no memory.
+    pub fn create(alloc: Global, handled: Access) -> Result<Ruleset, Errno>
+        ensures ok { IfOk result (λ made. (create_refusals handled.0 ≡ []) × (made ≡ new_ruleset handled.0)) }
+        ensures err { IfErr result (λ errno. slice_get (create_refusals handled.0) 0 ≡ Some errno) }
+    {
+        if !handled.is_within(Access::ALL) {
+            return Err(Errno::EINVAL);
+        }
+        if handled.0 == 0 {
+            return Err(Errno::ENOMSG);
+        }
+        Ok(Ruleset {
+            layer: Layer::new(alloc, handled),
+        })
+    }
+
+    /// Adds a rule on the inode of a node of this kind. A second rule on one inode is joined with
+    /// the first.
+    pub fn allow(&mut self, inode: u64, kind: Kind, rights: Access) -> Result<(), Errno>
+        ensures ok { OnOk result ((rule_refusals self.old kind rights.0 ++ rule_limit self.old inode ≡ [])
+            × (self.new ≡ with_rule self.old inode rights.0)) }
+
+        // Want of memory comes only where nothing else refuses the rule.
+        ensures refused { IfErr result (λ errno. errno ≢ Errno.NoMemory →
+            slice_get (rule_refusals self.old kind rights.0 ++ rule_limit self.old inode) 0 ≡ Some errno) }
+        ensures starved { result ≡ Err Errno.NoMemory → rule_refusals self.old kind rights.0 ++ rule_limit self.old inode ≡ [] }
+        ensures err { OnErr result (self.new ≡ self.old) }
+    {
+        if rights.0 == 0 {
+            return Err(Errno::ENOMSG);
+        }
+        if !rights.is_within(self.layer.handled()) {
+            return Err(Errno::EINVAL);
+        }
+        if !kind.is_dir() && !rights.is_within(Access::FILE) {
+            return Err(Errno::EINVAL);
+        }
+        if self.layer.rule_count() >= MOST_RULES && !self.layer.has_inode(inode) {
+            return Err(Errno::E2BIG);
+        }
+        if self.layer.add_rule(inode, rights).is_err() {
+            return Err(Errno::NoMemory);
+        }
+        Ok(())
+    }
+
+    /// The layer that the ruleset is when it is enforced.
+    pub fn layer(&self) -> &Layer
+        ensures { result.now ≡ self.now }
+    {
+        &self.layer
+    }
+
+    pub fn copy(&self) -> Result<Ruleset, AllocError>
+        ensures { IfOk result (λ copy. copy ≡ self.now) }
+    {
+        let layer = self.layer.clone()?;
+        Ok(Ruleset { layer })
+    }
 }

@@ -1,0 +1,13 @@
+use Rattle.std.specs.Prelude.{ℕ}
+use Rattle.std.specs.Ordering.{nat_cmp}
+use Rattle.std.proofs.Common.{ap, ◌∙◌}
+use Rattle.ll_rights.specs.Map.{Map, from_sorted}
+use Rattle.ll_rights.proofs.Maps.{from_sorted-empty}
+use Rattle.ll_rules.specs.Layer.{Layer}
+use Rattle.ll_rules.specs.Tables.{rows_of}
+use Rattle.ll_rules.proofs.layer.Layer.new.Goals as goal
+
+pub returns : goal.returns
+returns c =
+    let made : Map nat_cmp ℕ → Layer = λ rules. record { handled = c.args.handled.0; rules = rules } in
+    ap made (ap (λ es. from_sorted (rows_of es)) c.new.ensures.empty ∙ from_sorted-empty ℕ nat_cmp)
