@@ -1,0 +1,2 @@
+pub mod Denial
+pub mod Verdict

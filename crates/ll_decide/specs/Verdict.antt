@@ -1,0 +1,71 @@
+-- What a domain denies. A layer may be kept as anything that tells what it grants on what stands for a path.
+-- landlock.rst, "Layers of file path access rights": a call is allowed where every layer grants every right that it asks
+use Rattle.std.specs.Prelude.{ℕ, Bool, true, false, not, ◌&&◌, List, [], ◌∷◌, ◌++◌, Option, Some, None, ◌==◌, slice_get, filter, if◌then◌else◌}
+use Rattle.std.specs.List.{list_any, flat_map, enumerate_from}
+use Rattle.ll_rights.specs.Right.{refer, all_rights}
+use Rattle.ll_rights.specs.Access.{holds}
+use Rattle.ll_decide.specs.declared.denial.Cause.{Cause}
+use Rattle.ll_decide.specs.declared.denial.Cause.TheVariants.{EACCES, EXDEV}
+use Rattle.ll_decide.specs.declared.denial.Place.{Place}
+use Rattle.ll_decide.specs.declared.denial.Place.TheVariants.{At, Old, New}
+use Rattle.ll_decide.specs.declared.denial.Denial.{Denial}
+
+-- a right that a call asks on a path
+pub record Ask (P : Type 0) : Type 0 where
+  pub path : P
+  pub right : ℕ
+  pub place : Place
+
+-- A node that a call gives a name in another directory: its own path, that directory's, and the set of rights that mean
+-- something for it
+pub record Move (P : Type 0) : Type 0 where
+  pub from : P
+  pub into : P
+  pub relevant : ℕ
+
+abbrev pub when : {A : Type 0} → Bool → List A → List A
+when test xs = if test then xs else []
+
+abbrev pub is_at : Place → Place → Bool
+is_at At At = true
+is_at Old Old = true
+is_at New New = true
+is_at _ _ = false
+
+abbrev pub places : List Place
+places = At ∷ Old ∷ New ∷ []
+
+abbrev pub rights_without_refer : List ℕ
+rights_without_refer = filter (λ right. not (right == refer)) all_rights
+
+-- the denials for which the test says yes, by layer from 1, then right, then place
+abbrev pub denials : {A : Type 0} → Cause → List A → List ℕ → List Place → (A → ℕ → Place → Bool) → List Denial
+denials {A} cause layers rights places test =
+    flat_map (λ (l : ℕ × A). flat_map (λ right. flat_map (λ place.
+    when (test l.1 right place) (record { cause = cause; layer = l.0; right = right; place = place } ∷ []))
+    places) rights) (enumerate_from 1 layers)
+
+module _ {A P : Type 0} (grants : A → P → ℕ → Bool) where
+  -- the layer doesn't grant some right that is asked so
+  abbrev pub lacks : List (Ask P) → A → ℕ → Place → Bool
+  lacks asks layer right place = list_any (λ (a : Ask P). (a.right == right) && is_at a.place place && not (grants layer a.path right)) asks
+
+  -- In its new directory the node would have a right that it doesn't have by its own path.
+  -- linux/landlock.h, LANDLOCK_ACCESS_FS_REFER: no right may be gained by a rename or link
+  abbrev pub gains : Move P → A → ℕ → Place → Bool
+  gains move layer right place = holds move.relevant right && grants layer move.into right && not (grants layer move.from right)
+
+  abbrev pub gain_denials : List A → Option (Move P) → List Denial
+  gain_denials layers None = []
+  gain_denials layers (Some move) = denials EXDEV layers all_rights (New ∷ []) (gains move)
+
+  -- All denials of a call, of which the first is given: what is missing, a missing refer after the rest, then what a move
+  -- would gain
+  abbrev pub all_denials : List A → List (Ask P) → Option (Move P) → List Denial
+  all_denials layers asks move =
+      denials EACCES layers rights_without_refer places (lacks asks)
+      ++ denials EXDEV layers (refer ∷ []) places (lacks asks)
+      ++ gain_denials layers move
+
+  abbrev pub verdict : List A → List (Ask P) → Option (Move P) → Option Denial
+  verdict layers asks move = slice_get (all_denials layers asks move) 0

@@ -1,0 +1,82 @@
+//! Denials.
+
+ghost use Rattle.std.specs.Prelude.{◌≡◌, ◌≢◌, IfSome, IfNone};
+ghost use Rattle.ll_rights.specs.Errno.{errno_text};
+ghost use Rattle.ll_decide.specs.Denial.{cause_errno, place_text};
+ghost use Rattle.ll_decide.specs.declared.denial.Cause.{Cause};
+ghost use Rattle.ll_decide.specs.declared.denial.Place.{Place};
+
+use ll_rights::{Errno, Right};
+
+/// Which of a call's paths a right was asked for: its only path, its old one or its new one.
+/// They stand in the order in which denials name them.
+#[derive(Clone, Copy, Debug, PartialEq, Eq)]
+pub enum Place {
+    At,
+    Old,
+    New,
+}
+
+impl Place {
+    pub fn text(self) -> &'static str
+        ensures { result.now ≡ place_text self }
+    {
+        match self {
+            Place::At => "at",
+            Place::Old => "old",
+            Place::New => "new",
+        }
+    }
+
+    /// The place that a text names.
+    pub fn parse(text: &str) -> Option<Place>
+        ensures found { IfSome result (λ place. text.now ≡ place_text place) }
+        ensures none { IfNone result ((place : Place) → text.now ≢ place_text place) }
+    {
+        match text {
+            "at" => Some(Place::At),
+            "old" => Some(Place::Old),
+            "new" => Some(Place::New),
+            _ => None,
+        }
+    }
+}
+
+/// Why policy denies a call: a right is missing, or the node would move across what the layer parts.
+#[derive(Clone, Copy, Debug, PartialEq, Eq)]
+pub enum Cause {
+    EACCES,
+    EXDEV,
+}
+
+impl Cause {
+    pub fn errno(self) -> Errno
+        ensures { result ≡ cause_errno self }
+    {
+        match self {
+            Cause::EACCES => Errno::EACCES,
+            Cause::EXDEV => Errno::EXDEV,
+        }
+    }
+
+    /// The cause that a text names by its errno.
+    pub fn parse(text: &str) -> Option<Cause>
+        ensures found { IfSome result (λ cause. text.now ≡ errno_text (cause_errno cause)) }
+        ensures none { IfNone result ((cause : Cause) → text.now ≢ errno_text (cause_errno cause)) }
+    {
+        match text {
+            "EACCES" => Some(Cause::EACCES),
+            "EXDEV" => Some(Cause::EXDEV),
+            _ => None,
+        }
+    }
+}
+
+/// What a layer denies. Layers are numbered from 1, the oldest.
+#[derive(Clone, Copy, Debug, PartialEq, Eq)]
+pub struct Denial {
+    pub cause: Cause,
+    pub layer: u64,
+    pub right: Right,
+    pub place: Place,
+}

@@ -1,0 +1,259 @@
+-- What follows from one step for every call: which refusals there are, who stays, and how inode numbers grow.
+use Rattle.std.specs.Prelude.{◌≡◌, ◌≢◌, ℕ, ◌+◌, ◌≤◌, Bool, true, false, not, ◌||◌, List, [], ◌∷◌, ◌++◌, map, length, Option, Some, None, is_some, is_none, nat_le, nat_lt, nat_eq, ◌==◌, ◌&&◌, codes, slice_get, cond, refl, ◌⊎◌}
+use Rattle.std.specs.List.{AllByRecursion, list_any, starts_with}
+use Rattle.std.specs.Option.{option_map_or}
+use Rattle.std.specs.Ordering.{nat_cmp, eq_by_cmp}
+use Rattle.std.specs.Cmp.{nat_cmp_total}
+use Rattle.std.specs.FinMap.{nat_cmp-IsAntisymmetric}
+use Rattle.std.proofs.Common.{ap, subst, ◌∙◌, inl, inr, arith}
+use Rattle.ll_rights.specs.declared.kind.Kind.{Kind}
+use Rattle.ll_rights.specs.declared.kind.Kind.TheVariants.{Reg, Dir, Sym, Fifo, Sock, Char, Block}
+use Rattle.ll_rights.specs.declared.errno.Errno.{Errno}
+use Rattle.ll_rights.specs.declared.errno.Errno.TheVariants.{NoMemory, ENOENT, EEXIST, EINVAL, EBUSY, EBADF, EMFILE, ENOSPC, ENAMETOOLONG, E2BIG, ENOMSG}
+use Rattle.ll_rights.specs.Errno.{refuse, errno_number}
+use Rattle.ll_rights.specs.Map.{Map, get, has, insert, len}
+use Rattle.ll_rights.specs.Access.{is_within, all_set, file_set}
+use Rattle.ll_rights.specs.Kind.{is_dir}
+use Rattle.ll_rights.proofs.Maps.{get-insert}
+use Rattle.ll_path.specs.Path as paths
+use Rattle.ll_path.specs.Path.{Path}
+use Rattle.ll_path.specs.declared.target.Target.{Target}
+use Rattle.ll_path.specs.declared.target.Target.TheVariants.{Good, Bad}
+use Rattle.ll_decide.specs.declared.denial.Denial.{Denial}
+use Rattle.ll_seq.specs.declared.client.Client.{Client}
+use Rattle.ll_seq.specs.declared.call.Call.{Call}
+use Rattle.ll_seq.specs.declared.call.Call.TheVariants.{Make, Open, Ruleset, Allow, Confine, Connect}
+use Rattle.ll_seq.specs.declared.reply.Reply.{Reply}
+use Rattle.ll_seq.specs.declared.reply.Reply.TheVariants.{Done, Opened, Created, Refused, Denied}
+use Rattle.ll_seq.specs.State.{State, child, root}
+use Rattle.ll_seq.specs.Call.{path_of}
+use Rattle.ll_seq.specs.Tree.{named, inode_of, directory_of, kind_at}
+use Rattle.ll_seq.specs.Asked.{call_denials}
+use Rattle.ll_seq.specs.Stages.{bad_text, text_refusals, number_refusals, relation_refusals, walk_refusals, existence_refusals, kind_refusals, limit_refusals, in_the_way, kind_of_child, no_directory, not_to_open, ruleset_at, is_crowded, lowest_free}
+use Rattle.ll_seq.specs.Effects.{done}
+use Rattle.ll_seq.specs.Step.{step, first_or, refusals, client_of, IsAnswer}
+
+-- ---- refusals
+
+abbrev Fine : Errno → Type 0
+Fine e = (3 ≤ errno_number e) × (errno_number e ≤ 22)
+
+abbrev AllFine : List Errno → Type 0
+AllFine errs = AllByRecursion Fine errs
+
+joined : (xs ys : List Errno) → AllFine xs → AllFine ys → AllFine (xs ++ ys)
+joined [] ys h k = k
+joined (x ∷ xs) ys h k = (h.0, joined xs ys h.1 k)
+
+if_refused : (b : Bool) (e : Errno) → Fine e → AllFine (refuse b e)
+if_refused true e fine = (fine, tt)
+if_refused false e fine = tt
+
+first_fine : (errs : List Errno) (e : Errno) → AllFine errs → slice_get errs 0 ≡ Some e → Fine e
+first_fine [] e h is = absurd cc
+first_fine (x ∷ errs) e h is = let same : x ≡ e = cc in subst Fine same h.0
+
+five : (a b c d e : Bool) → AllFine (refuse a ENAMETOOLONG ++ refuse b EINVAL ++ refuse c EINVAL ++ refuse d ENAMETOOLONG ++ refuse e ENAMETOOLONG)
+five a b c d e =
+    joined (refuse a ENAMETOOLONG ++ refuse b EINVAL ++ refuse c EINVAL ++ refuse d ENAMETOOLONG) (refuse e ENAMETOOLONG)
+    (joined (refuse a ENAMETOOLONG ++ refuse b EINVAL ++ refuse c EINVAL) (refuse d ENAMETOOLONG)
+    (joined (refuse a ENAMETOOLONG ++ refuse b EINVAL) (refuse c EINVAL)
+    (joined (refuse a ENAMETOOLONG) (refuse b EINVAL) (if_refused a ENAMETOOLONG (omega arith, omega arith)) (if_refused b EINVAL (omega arith, omega arith)))
+    (if_refused c EINVAL (omega arith, omega arith)))
+    (if_refused d ENAMETOOLONG (omega arith, omega arith)))
+    (if_refused e ENAMETOOLONG (omega arith, omega arith))
+
+word_fine : (text : List ℕ) → AllFine (paths.text_refusals text)
+word_fine text =
+    five (nat_lt 4095 (length text)) (not (starts_with nat_eq text (codes "/"))) (list_any paths.is_no_name (paths.names_in text)) (list_any paths.is_long_name (paths.names_in text)) (nat_lt 64 (length (paths.names_in text)))
+
+target_fine : (t : Target) → AllFine (bad_text t)
+target_fine (Good p) = tt
+target_fine (Bad word) = (first_fine (paths.text_refusals word.word) word.errno (word_fine word.word) word.refused, tt)
+
+step_fine : (k : Option Kind) → AllFine (no_directory k)
+step_fine None = ((omega arith, omega arith), tt)
+step_fine (Some Dir) = tt
+step_fine (Some Sym) = ((omega arith, omega arith), tt)
+step_fine (Some Reg) = ((omega arith, omega arith), tt)
+step_fine (Some Fifo) = ((omega arith, omega arith), tt)
+step_fine (Some Sock) = ((omega arith, omega arith), tt)
+step_fine (Some Char) = ((omega arith, omega arith), tt)
+step_fine (Some Block) = ((omega arith, omega arith), tt)
+
+onward_fine : (f : ℕ → List Errno) (o : Option ℕ) → ((i : ℕ) → AllFine (f i)) → AllFine (option_map_or f o [])
+onward_fine f None h = tt
+onward_fine f (Some i) h = h i
+
+way_fine : (s : State) (p : Path) (inode : ℕ) → AllFine (in_the_way s p inode)
+way_fine s [] inode = tt
+way_fine s (name ∷ p) inode = joined (no_directory (kind_of_child s (child s inode name))) (option_map_or (in_the_way s p) (child s inode name) []) (step_fine (kind_of_child s (child s inode name))) (onward_fine (in_the_way s p) (child s inode name) (λ i. way_fine s p i))
+
+open_fine : (k : Kind) → AllFine (not_to_open k)
+open_fine Reg = tt
+open_fine Dir = ((omega arith, omega arith), tt)
+open_fine Sym = ((omega arith, omega arith), tt)
+open_fine Fifo = ((omega arith, omega arith), tt)
+open_fine Sock = ((omega arith, omega arith), tt)
+open_fine Char = ((omega arith, omega arith), tt)
+open_fine Block = ((omega arith, omega arith), tt)
+
+-- ---- replies
+
+abbrev AllAnswers : List Reply → Type 0
+AllAnswers replies = AllByRecursion IsAnswer replies
+
+together : (xs ys : List Reply) → AllAnswers xs → AllAnswers ys → AllAnswers (xs ++ ys)
+together [] ys h k = k
+together (x ∷ xs) ys h k = (h.0, together xs ys h.1 k)
+
+refused_all : (errs : List Errno) → AllFine errs → AllAnswers (map Refused errs)
+refused_all [] h = tt
+refused_all (e ∷ errs) h = (h.0, refused_all errs h.1)
+
+denied_all : (ds : List Denial) → AllAnswers (map Denied ds)
+denied_all [] = tt
+denied_all (d ∷ ds) = (tt, denied_all ds)
+
+answered : (s : State) (xs : List Reply) (o : Reply × State) → AllAnswers xs → IsAnswer o.0 → IsAnswer (first_or s xs o).0
+answered s [] o h fine = fine
+answered s (x ∷ xs) o h fine = h.0
+
+all_stages : (t n r w e : List Errno) (d : List Denial) (k l : List Errno) → AllFine t → AllFine n → AllFine r → AllFine w → AllFine e → AllFine k → AllFine l
+    → AllAnswers (map Refused t ++ map Refused n ++ map Refused r ++ map Refused w ++ map Refused e ++ map Denied d ++ map Refused k ++ map Refused l)
+all_stages t n r w e d k l ht hn hr hw he hk hl =
+    let a2 = together (map Refused t) (map Refused n) (refused_all t ht) (refused_all n hn) in
+    let a3 = together (map Refused t ++ map Refused n) (map Refused r) a2 (refused_all r hr) in
+    let a4 = together (map Refused t ++ map Refused n ++ map Refused r) (map Refused w) a3 (refused_all w hw) in
+    let a5 = together (map Refused t ++ map Refused n ++ map Refused r ++ map Refused w) (map Refused e) a4 (refused_all e he) in
+    let a6 = together (map Refused t ++ map Refused n ++ map Refused r ++ map Refused w ++ map Refused e) (map Denied d) a5 (denied_all d) in
+    let a7 = together (map Refused t ++ map Refused n ++ map Refused r ++ map Refused w ++ map Refused e ++ map Denied d) (map Refused k) a6 (refused_all k hk) in
+    together (map Refused t ++ map Refused n ++ map Refused r ++ map Refused w ++ map Refused e ++ map Denied d ++ map Refused k) (map Refused l) a7 (refused_all l hl)
+
+text_fine : (call : Call) → AllFine (text_refusals call)
+text_fine (Make kind t) = target_fine t
+text_fine (Open mode t) = target_fine t
+text_fine (Ruleset rights) = tt
+text_fine (Allow rs t rights) = target_fine t
+text_fine (Confine rs) = tt
+text_fine Connect = tt
+
+number_fine : (c : Client) (call : Call) → AllFine (number_refusals c call)
+number_fine c (Make kind t) = tt
+number_fine c (Open mode t) = tt
+number_fine c (Ruleset rights) = tt
+number_fine c (Allow rs t rights) = if_refused (is_none (slice_get c.rulesets rs)) EBADF (omega arith, omega arith)
+number_fine c (Confine rs) = if_refused (is_none (slice_get c.rulesets rs)) EBADF (omega arith, omega arith)
+number_fine c Connect = tt
+
+relation_fine : (call : Call) → AllFine (relation_refusals call)
+relation_fine (Make kind t) = if_refused (paths.is_root (path_of t)) EBUSY (omega arith, omega arith)
+relation_fine (Open mode t) = tt
+relation_fine (Ruleset rights) = tt
+relation_fine (Allow rs t rights) = tt
+relation_fine (Confine rs) = tt
+relation_fine Connect = tt
+
+walk_fine : (s : State) (call : Call) → AllFine (walk_refusals s call)
+walk_fine s (Make kind t) = way_fine s (paths.parent (path_of t)) root
+walk_fine s (Open mode t) = way_fine s (paths.parent (path_of t)) root
+walk_fine s (Ruleset rights) = tt
+walk_fine s (Allow rs t rights) = way_fine s (paths.parent (path_of t)) root
+walk_fine s (Confine rs) = tt
+walk_fine s Connect = tt
+
+existence_fine : (s : State) (call : Call) → AllFine (existence_refusals s call)
+existence_fine s (Make kind t) = if_refused (is_some (named s (path_of t))) EEXIST (omega arith, omega arith)
+existence_fine s (Open mode t) = if_refused (is_none (named s (path_of t))) ENOENT (omega arith, omega arith)
+existence_fine s (Ruleset rights) = tt
+existence_fine s (Allow rs t rights) = if_refused (is_none (named s (path_of t))) ENOENT (omega arith, omega arith)
+existence_fine s (Confine rs) = tt
+existence_fine s Connect = tt
+
+create_fine : (a b : Bool) → AllFine (refuse a EINVAL ++ refuse b ENOMSG)
+create_fine a b = joined (refuse a EINVAL) (refuse b ENOMSG) (if_refused a EINVAL (omega arith, omega arith)) (if_refused b ENOMSG (omega arith, omega arith))
+
+rule_fine : (a b c : Bool) → AllFine (refuse a ENOMSG ++ refuse b EINVAL ++ refuse c EINVAL)
+rule_fine a b c =
+    joined (refuse a ENOMSG ++ refuse b EINVAL) (refuse c EINVAL)
+    (joined (refuse a ENOMSG) (refuse b EINVAL) (if_refused a ENOMSG (omega arith, omega arith)) (if_refused b EINVAL (omega arith, omega arith)))
+    (if_refused c EINVAL (omega arith, omega arith))
+
+kind_fine : (s : State) (c : Client) (call : Call) → AllFine (kind_refusals s c call)
+kind_fine s c (Make kind t) = tt
+kind_fine s c (Open mode t) = open_fine (kind_at s (path_of t))
+kind_fine s c (Ruleset rights) = create_fine (not (is_within rights.0 all_set)) (rights.0 == 0)
+kind_fine s c (Allow rs t rights) =
+    rule_fine (rights.0 == 0) (not (is_within rights.0 (ruleset_at c rs).handled)) (not (is_dir (kind_at s (path_of t))) && not (is_within rights.0 file_set))
+kind_fine s c (Confine rs) = tt
+kind_fine s c Connect = tt
+
+limit_fine : (s : State) (c : Client) (call : Call) → AllFine (limit_refusals s c call)
+limit_fine s c (Make kind t) = if_refused (is_crowded s (directory_of s (path_of t)) || nat_le s.room (len s.nodes)) ENOSPC (omega arith, omega arith)
+limit_fine s c (Open mode t) = if_refused (is_none (lowest_free c.descriptors)) EMFILE (omega arith, omega arith)
+limit_fine s c (Ruleset rights) = if_refused (nat_le 16 (length c.rulesets)) EMFILE (omega arith, omega arith)
+limit_fine s c (Allow rs t rights) =
+    if_refused (nat_le 256 (len (ruleset_at c rs).rules) && not (has (ruleset_at c rs).rules (inode_of s (path_of t)))) E2BIG (omega arith, omega arith)
+limit_fine s c (Confine rs) = if_refused (nat_le 16 (length c.domain)) E2BIG (omega arith, omega arith)
+limit_fine s c Connect = if_refused (nat_le 64 (len s.clients)) EMFILE (omega arith, omega arith)
+
+all_refusals : (s : State) (c : Client) (call : Call) → AllAnswers (refusals s c call)
+all_refusals s c call =
+    all_stages (text_refusals call) (number_refusals c call) (relation_refusals call) (walk_refusals s call) (existence_refusals s call) (call_denials s c call) (kind_refusals s c call) (limit_refusals s c call)
+    (text_fine call) (number_fine c call) (relation_fine call) (walk_fine s call) (existence_fine s call) (kind_fine s c call) (limit_fine s c call)
+
+done_answers : (s : State) (number : ℕ) (c : Client) (call : Call) (fresh : ℕ) → IsAnswer (done s number c call fresh).0
+done_answers s number c (Make kind t) fresh = tt
+done_answers s number c (Open mode t) fresh = tt
+done_answers s number c (Ruleset rights) fresh = tt
+done_answers s number c (Allow rs t rights) fresh = tt
+done_answers s number c (Confine rs) fresh = tt
+done_answers s number c Connect fresh = tt
+
+pub step-IsAnswer : (s : State) (number : ℕ) (call : Call) (fresh : ℕ) → IsAnswer (step s number call fresh).0
+step-IsAnswer s number call fresh = answered s (refusals s (client_of s number) call) (done s number (client_of s number) call fresh) (all_refusals s (client_of s number) call) (done_answers s number (client_of s number) call fresh)
+
+-- ---- the state after
+
+kept_or : (P : State → Type 0) (s : State) (xs : List Reply) (o : Reply × State) → P s → P o.1 → P (first_or s xs o).1
+kept_or P s [] o h k = k
+kept_or P s (x ∷ xs) o h k = h
+
+still_there : (b : Bool) (o : Option Client) (c : Client) → is_some o ≡ true → is_some (cond b (Some c) o) ≡ true
+still_there true o c h = refl
+still_there false o c h = h
+
+has-insert : (m : Map nat_cmp Client) (k q : ℕ) (c : Client) → has m q ≡ true → has (insert m k c) q ≡ true
+has-insert m k q c h = ap is_some (get-insert nat_cmp_total nat_cmp-IsAntisymmetric m k c q) ∙ still_there (eq_by_cmp nat_cmp q k) (get m q) c h
+
+done_stays : (s : State) (number : ℕ) (c : Client) (call : Call) (fresh other : ℕ) → has s.clients other ≡ true → has (done s number c call fresh).1.clients other ≡ true
+done_stays s number c (Make kind t) fresh other h = h
+done_stays s number c (Open mode t) fresh other h = has-insert s.clients number other _ h
+done_stays s number c (Ruleset rights) fresh other h = has-insert s.clients number other _ h
+done_stays s number c (Allow rs t rights) fresh other h = has-insert s.clients number other _ h
+done_stays s number c (Confine rs) fresh other h = has-insert s.clients number other _ h
+done_stays s number c Connect fresh other h = has-insert s.clients number other _ h
+
+pub step-clients_stay : (s : State) (number : ℕ) (call : Call) (fresh other : ℕ) → has s.clients other ≡ true → has (step s number call fresh).1.clients other ≡ true
+step-clients_stay s number call fresh other h = kept_or (λ z. has z.clients other ≡ true) s (refusals s (client_of s number) call) (done s number (client_of s number) call fresh) h (done_stays s number (client_of s number) call fresh other h)
+
+done_next : (s : State) (number : ℕ) (c : Client) (call : Call) (fresh : ℕ) → (done s number c call fresh).1.next ≤ s.next + 1
+done_next s number c (Make kind t) fresh = omega arith
+done_next s number c (Open mode t) fresh = omega arith
+done_next s number c (Ruleset rights) fresh = omega arith
+done_next s number c (Allow rs t rights) fresh = omega arith
+done_next s number c (Confine rs) fresh = omega arith
+done_next s number c Connect fresh = omega arith
+
+pub step-next : (s : State) (number : ℕ) (call : Call) (fresh : ℕ) → (step s number call fresh).1.next ≤ s.next + 1
+step-next s number call fresh = kept_or (λ z. z.next ≤ s.next + 1) s (refusals s (client_of s number) call) (done s number (client_of s number) call fresh) (omega arith) (done_next s number (client_of s number) call fresh)
+
+-- ---- want of memory or a step
+
+pub starved_or_not : (r : Reply) → (r ≡ Refused NoMemory) ⊎ (r ≢ Refused NoMemory)
+starved_or_not (Refused NoMemory) = inl refl
+starved_or_not (Refused e) = inr (λ h. cc)
+starved_or_not Done = inr (λ h. cc)
+starved_or_not (Opened n) = inr (λ h. cc)
+starved_or_not (Created n) = inr (λ h. cc)
+starved_or_not (Denied d) = inr (λ h. cc)

@@ -1,0 +1,298 @@
+-- Worked examples, which the check computes.
+use Rattle.std.specs.Prelude.{◌≡◌, ℕ, List, [], ◌∷◌, Some, codes, refl}
+use Rattle.ll_rights.specs.declared.kind.Kind.TheVariants.{Reg, Dir, Sym, Fifo, Sock, Char, Block}
+use Rattle.ll_rights.specs.declared.errno.Errno.TheVariants.{ENOENT, EEXIST, ENOTDIR, EISDIR, EINVAL, EBUSY, EBADF, ENOSPC, ELOOP, ENXIO, ENOMSG}
+use Rattle.ll_rights.specs.declared.access.Access.{Access}
+use Rattle.ll_rights.specs.Right as right
+use Rattle.ll_rights.specs.Map.{empty, checked, get, insert, remove, entries}
+use Rattle.ll_path.specs.Path.{names_in}
+use Rattle.ll_path.specs.declared.target.Target.{Target}
+use Rattle.ll_path.specs.declared.target.Target.TheVariants.{Good}
+use Rattle.ll_decide.specs.declared.denial.Cause.TheVariants.{EACCES}
+use Rattle.ll_decide.specs.declared.denial.Place.TheVariants.{At}
+use Rattle.ll_seq.specs.declared.call.Mode.TheVariants.{Read, Write, ReadWrite}
+use Rattle.ll_seq.specs.declared.call.Call.{Call}
+use Rattle.ll_seq.specs.declared.call.Call.TheVariants.{Make, Open, Ruleset, Allow, Confine, Connect}
+use Rattle.ll_seq.specs.declared.reply.Reply.{Reply}
+use Rattle.ll_seq.specs.declared.reply.Reply.TheVariants.{Done, Opened, Created, Refused, Denied}
+use Rattle.ll_seq.specs.State.{State, start}
+use Rattle.ll_seq.specs.Tree.{named}
+use Rattle.ll_seq.specs.Stages.{numbers_from}
+use Rattle.ll_seq.specs.Step.{step}
+
+-- The calls are those of client 1, the only one.
+abbrev replies_from : State → List Call → List Reply
+replies_from s [] = []
+replies_from s (call ∷ calls) = let outcome = step s 1 call 2 in outcome.0 ∷ replies_from outcome.1 calls
+
+abbrev state_after : State → List Call → State
+state_after s [] = s
+state_after s (call ∷ calls) = state_after (step s 1 call 2).1 calls
+
+-- a tree with room for this many nodes, to which the client has connected
+abbrev connected : ℕ → State
+connected room = (step (start room) 1 Connect 2).1
+
+abbrev replies : ℕ → List Call → List Reply
+replies room calls = replies_from (connected room) calls
+
+-- for texts that do spell a path
+abbrev path : List ℕ → Target
+path text = Good (names_in text)
+
+abbrev set : ℕ → Access
+set rights = record { 0 = rights }
+
+abbrev denied : ℕ → ℕ → Reply
+denied layer right = Denied (record { cause = EACCES; layer = layer; right = right; place = At })
+
+-- ---- Rulesets and layers
+pub one_layer_one_rule : replies 64 (
+    Make Dir (path (codes "/a"))
+    ∷ Make Reg (path (codes "/a/f"))
+    ∷ Make Dir (path (codes "/b"))
+    ∷ Make Reg (path (codes "/b/f"))
+    ∷ Ruleset (set 0x4)
+    ∷ Allow 0 (path (codes "/a")) (set 0x4)
+    ∷ Confine 0
+    ∷ Open Read (path (codes "/a/f"))
+    ∷ Open Read (path (codes "/b/f"))
+    ∷ [])
+    ≡ Done
+    ∷ Done
+    ∷ Done
+    ∷ Done
+    ∷ Created 0
+    ∷ Done
+    ∷ Done
+    ∷ Opened 0
+    ∷ denied 1 right.read_file
+    ∷ []
+unfolding empty checked get insert remove entries numbers_from
+one_layer_one_rule = refl
+
+-- The two layers together would grant both rights. A rule that comes after a ruleset was enforced is not in its layer
+pub layers_are_not_joined : replies 64 (
+    Make Reg (path (codes "/f"))
+    ∷ Ruleset (set 0x6)
+    ∷ Allow 0 (path (codes "/f")) (set 0x4)
+    ∷ Confine 0
+    ∷ Ruleset (set 0x6)
+    ∷ Allow 1 (path (codes "/f")) (set 0x2)
+    ∷ Confine 1
+    ∷ Open ReadWrite (path (codes "/f"))
+    ∷ Open Read (path (codes "/f"))
+    ∷ Allow 0 (path (codes "/f")) (set 0x2)
+    ∷ Open Write (path (codes "/f"))
+    ∷ [])
+    ≡ Done
+    ∷ Created 0
+    ∷ Done
+    ∷ Done
+    ∷ Created 1
+    ∷ Done
+    ∷ Done
+    ∷ denied 1 right.write_file
+    ∷ denied 2 right.read_file
+    ∷ Done
+    ∷ denied 1 right.write_file
+    ∷ []
+unfolding empty checked get insert remove entries numbers_from
+layers_are_not_joined = refl
+
+pub refusals_of_rulesets : replies 64 (
+    Make Reg (path (codes "/f"))
+    ∷ Ruleset (set 0)
+    ∷ Ruleset (set 0x8000)
+    ∷ Ruleset (set 0x100)
+    ∷ Allow 0 (path (codes "/f")) (set 0x100)
+    ∷ Allow 0 (path (codes "/")) (set 0)
+    ∷ Allow 0 (path (codes "/")) (set 0x1)
+    ∷ Allow 1 (path (codes "/f")) (set 0x100)
+    ∷ Confine 1
+    ∷ Confine 0
+    ∷ [])
+    ≡ Done
+    ∷ Refused ENOMSG
+    ∷ Refused EINVAL
+    ∷ Created 0
+    ∷ Refused EINVAL
+    ∷ Refused ENOMSG
+    ∷ Refused EINVAL
+    ∷ Refused EBADF
+    ∷ Refused EBADF
+    ∷ Done
+    ∷ []
+unfolding empty checked get insert remove entries numbers_from
+refusals_of_rulesets = refl
+
+pub rules_are_joined_along_the_path : replies 64 (
+    Make Dir (path (codes "/a"))
+    ∷ Make Dir (path (codes "/a/b"))
+    ∷ Make Reg (path (codes "/a/b/f"))
+    ∷ Ruleset (set 0x6)
+    ∷ Allow 0 (path (codes "/a")) (set 0x4)
+    ∷ Allow 0 (path (codes "/a/b")) (set 0x2)
+    ∷ Confine 0
+    ∷ Open ReadWrite (path (codes "/a/b/f"))
+    ∷ Open Write (path (codes "/a"))
+    ∷ [])
+    ≡ Done
+    ∷ Done
+    ∷ Done
+    ∷ Created 0
+    ∷ Done
+    ∷ Done
+    ∷ Done
+    ∷ Opened 0
+    ∷ denied 1 right.write_file
+    ∷ []
+unfolding empty checked get insert remove entries numbers_from
+rules_are_joined_along_the_path = refl
+
+-- A layer restricts refer always, which here neither a make nor an opening needs
+pub no_call_asks_refer : replies 64 (
+    Make Dir (path (codes "/a"))
+    ∷ Ruleset (set 0x2000)
+    ∷ Confine 0
+    ∷ Make Reg (path (codes "/a/f"))
+    ∷ Open Read (path (codes "/a/f"))
+    ∷ [])
+    ≡ Done
+    ∷ Created 0
+    ∷ Done
+    ∷ Done
+    ∷ Opened 0
+    ∷ []
+unfolding empty checked get insert remove entries numbers_from
+no_call_asks_refer = refl
+
+pub a_make_is_asked_at_the_parent : replies 64 (
+    Make Dir (path (codes "/d"))
+    ∷ Ruleset (set 0x120)
+    ∷ Allow 0 (path (codes "/d")) (set 0x100)
+    ∷ Confine 0
+    ∷ Make Reg (path (codes "/d/f"))
+    ∷ Make Reg (path (codes "/g"))
+    ∷ Make Fifo (path (codes "/g"))
+    ∷ [])
+    ≡ Done
+    ∷ Created 0
+    ∷ Done
+    ∷ Done
+    ∷ Done
+    ∷ denied 1 right.make_reg
+    ∷ Done
+    ∷ []
+unfolding empty checked get insert remove entries numbers_from
+a_make_is_asked_at_the_parent = refl
+
+-- ---- Paths
+pub what_is_in_the_way : replies 64 (
+    Make Dir (path (codes "/"))
+    ∷ Make Reg (path (codes "/f"))
+    ∷ Make Reg (path (codes "/f/x"))
+    ∷ Make Sym (path (codes "/s"))
+    ∷ Make Reg (path (codes "/s/x"))
+    ∷ Open Read (path (codes "/s/x/y"))
+    ∷ Open Read (path (codes "/n/x"))
+    ∷ Open Read (path (codes "/n"))
+    ∷ [])
+    ≡ Refused EBUSY
+    ∷ Done
+    ∷ Refused ENOTDIR
+    ∷ Done
+    ∷ Refused ELOOP
+    ∷ Refused ELOOP
+    ∷ Refused ENOENT
+    ∷ Refused ENOENT
+    ∷ []
+unfolding empty checked get insert remove entries numbers_from
+what_is_in_the_way = refl
+
+pub a_name_that_is_there_comes_before_policy : replies 64 (
+    Make Reg (path (codes "/f"))
+    ∷ Ruleset (set 0x100)
+    ∷ Confine 0
+    ∷ Make Reg (path (codes "/f"))
+    ∷ Make Reg (path (codes "/g"))
+    ∷ [])
+    ≡ Done
+    ∷ Created 0
+    ∷ Done
+    ∷ Refused EEXIST
+    ∷ denied 1 right.make_reg
+    ∷ []
+unfolding empty checked get insert remove entries numbers_from
+a_name_that_is_there_comes_before_policy = refl
+
+-- ---- Openings
+pub only_files_open : replies 64 (
+    Make Sym (path (codes "/s"))
+    ∷ Make Fifo (path (codes "/p"))
+    ∷ Make Sock (path (codes "/k"))
+    ∷ Make Char (path (codes "/c"))
+    ∷ Make Block (path (codes "/b"))
+    ∷ Open Read (path (codes "/"))
+    ∷ Open Read (path (codes "/s"))
+    ∷ Open Read (path (codes "/p"))
+    ∷ Open Read (path (codes "/k"))
+    ∷ Open Read (path (codes "/c"))
+    ∷ Open Read (path (codes "/b"))
+    ∷ [])
+    ≡ Done
+    ∷ Done
+    ∷ Done
+    ∷ Done
+    ∷ Done
+    ∷ Refused EISDIR
+    ∷ Refused ELOOP
+    ∷ Refused ENXIO
+    ∷ Refused ENXIO
+    ∷ Refused ENXIO
+    ∷ Refused ENXIO
+    ∷ []
+unfolding empty checked get insert remove entries numbers_from
+only_files_open = refl
+
+-- An opening that is refused takes none
+pub the_lowest_free_descriptor : replies 64 (
+    Make Reg (path (codes "/f"))
+    ∷ Open Read (path (codes "/f"))
+    ∷ Open Write (path (codes "/n"))
+    ∷ Open Write (path (codes "/f"))
+    ∷ Open ReadWrite (path (codes "/f"))
+    ∷ [])
+    ≡ Done
+    ∷ Opened 0
+    ∷ Refused ENOENT
+    ∷ Opened 1
+    ∷ Opened 2
+    ∷ []
+unfolding empty checked get insert remove entries numbers_from
+the_lowest_free_descriptor = refl
+
+-- ---- Nodes
+-- The root is one of them
+pub room_for_two_nodes : replies 2 (
+    Make Reg (path (codes "/a"))
+    ∷ Make Reg (path (codes "/b"))
+    ∷ Open Read (path (codes "/b"))
+    ∷ [])
+    ≡ Done
+    ∷ Refused ENOSPC
+    ∷ Refused ENOENT
+    ∷ []
+unfolding empty checked get insert remove entries numbers_from
+room_for_two_nodes = refl
+
+-- of the second call
+pub a_refused_make_takes_no_number : named (state_after (connected 64) (
+    Make Reg (path (codes "/a"))
+    ∷ Make Dir (path (codes "/a"))
+    ∷ Make Reg (path (codes "/b"))
+    ∷ []))
+    (names_in (codes "/b"))
+    ≡ Some 3
+unfolding empty checked get insert remove entries numbers_from
+a_refused_make_takes_no_number = refl

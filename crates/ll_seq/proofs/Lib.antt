@@ -1,0 +1,10 @@
+pub mod Calls
+pub mod Chains
+pub mod Consequences
+pub mod Denials
+pub mod Examples
+pub mod Numbers
+pub mod Results
+pub mod Slots
+pub mod Staged
+pub mod Tables

@@ -1,0 +1,20 @@
+-- The parts of calls.
+use Rattle.std.specs.Prelude.{Bool, true, false, []}
+use Rattle.ll_path.specs.Path.{Path}
+use Rattle.ll_path.specs.declared.target.Target.{Target}
+use Rattle.ll_path.specs.declared.target.Target.TheVariants.{Good, Bad}
+use Rattle.ll_seq.specs.declared.call.Mode.{Mode}
+use Rattle.ll_seq.specs.declared.call.Mode.TheVariants.{Read, Write}
+
+abbrev pub reads : Mode → Bool
+reads Write = false
+reads _ = true
+
+abbrev pub writes : Mode → Bool
+writes Read = false
+writes _ = true
+
+-- the path that a call names. (A word that is no path is refused before anything is asked of it)
+abbrev pub path_of : Target → Path
+path_of (Good path) = path
+path_of (Bad word) = []

@@ -1,0 +1,27 @@
+-- Codes, by which a tree's state can be a model's value.
+use Rattle.std.specs.Prelude.{ℕ, refl}
+use Rattle.std.specs.Ordering.{nat_cmp}
+use Rattle.std.specs.Coded.{Coded, code_by, coded×, coded_ℕ}
+use Rattle.ll_rights.specs.Map.{Map, code}
+use Rattle.ll_seq.specs.declared.client.Client.{Client}
+use Rattle.ll_seq.specs.contracts.client.Client as client
+use Rattle.ll_seq.specs.contracts.entries.Slot as place
+use Rattle.ll_seq.specs.declared.node.Node.{Node}
+use Rattle.ll_seq.specs.contracts.node.Node as node
+use Rattle.ll_seq.specs.State.{slot_cmp, State}
+
+abbrev pub coded_entries : Coded (Map slot_cmp ℕ)
+coded_entries = code (place.the_row).coded coded_ℕ
+
+abbrev pub coded_nodes : Coded (Map nat_cmp Node)
+coded_nodes = code coded_ℕ (node.the_row).coded
+
+abbrev pub coded_clients : Coded (Map nat_cmp Client)
+coded_clients = code coded_ℕ (client.the_row).coded
+
+abbrev pub coded_state : Coded State
+coded_state =
+    code_by (Map slot_cmp ℕ × (Map nat_cmp Node × (ℕ × (ℕ × Map nat_cmp Client))))
+    (coded× coded_entries (coded× coded_nodes (coded× coded_ℕ (coded× coded_ℕ coded_clients))))
+    (λ s. (s.entries, (s.nodes, (s.next, (s.room, s.clients)))))
+    (λ p. record { entries = p.0; nodes = p.1.0; next = p.1.1.0; room = p.1.1.1.0; clients = p.1.1.1.1 }) (λ _. refl)

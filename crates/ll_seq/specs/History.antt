@@ -1,0 +1,41 @@
+-- Histories of one tree. own
+use Rattle.std.specs.Prelude.{◌≡◌, ℕ, Bool, true, false, not, List, [], ◌∷◌, map, filter, ◌==◌, ⊤, IsTrue}
+use Rattle.ll_rights.specs.Map.{has}
+use Rattle.ll_seq.specs.declared.call.Call.{Call}
+use Rattle.ll_seq.specs.declared.call.Call.TheVariants.{Connect}
+use Rattle.ll_seq.specs.declared.reply.Reply.{Reply}
+use Rattle.ll_seq.specs.declared.reply.Reply.TheVariants.{Done}
+use Rattle.ll_seq.specs.declared.reply.Entry.{Entry}
+use Rattle.ll_seq.specs.State.{State}
+use Rattle.ll_seq.specs.Step.{step}
+
+abbrev pub is_connect : Call → Bool
+is_connect Connect = true
+is_connect _ = false
+
+-- no call of an entry brings another client yet, so which number it would get doesn't matter
+abbrev pub outcome_of : State → Entry → Reply × State
+outcome_of s e = step s e.client e.call 0
+
+abbrev pub after : State → Entry → State
+after s e = (outcome_of s e).1
+
+-- the entry may stand where the tree is in this state
+pub record MayStand (s : State) (e : Entry) : Type 0 where
+  -- the caller is there, but for a connect, which brings it
+  pub caller : has s.clients e.client ≡ not (is_connect e.call)
+  pub connected : IsTrue (is_connect e.call) → e.reply ≡ Done
+  pub answered : (outcome_of s e).0 ≡ e.reply
+
+-- the entries are the calls of one tree, one after the other, each with the reply that it got
+abbrev pub IsLegal : State → List Entry → Type 0
+IsLegal s [] = ⊤
+IsLegal s (e ∷ es) = MayStand s e × IsLegal (after s e) es
+
+abbrev pub state_after : State → List Entry → State
+state_after s [] = s
+state_after s (e ∷ es) = state_after (after s e) es
+
+-- a client's calls and their replies, in order
+abbrev pub part : List Entry → ℕ → List (Call × Reply)
+part es client = map (λ (e : Entry). (e.call, e.reply)) (filter (λ (e : Entry). e.client == client) es)

@@ -1,0 +1,127 @@
+-- When a call is refused apart from policy. Each stage lists the refusals that hold, and the first of all decides.
+-- Their one order is own
+use Rattle.std.specs.Prelude.{ℕ, zero, suc, Bool, not, ◌||◌, List, [], ◌∷◌, ◌++◌, length, Option, Some, None, nat_le, is_some, is_none, unwrap_or, slice_get, find}
+use Rattle.std.specs.Option.{option_map_or}
+use Rattle.std.specs.Ordering.{nat_cmp}
+use Rattle.ll_rights.specs.declared.kind.Kind.{Kind}
+use Rattle.ll_rights.specs.declared.kind.Kind.TheVariants.{Reg, Dir, Sym}
+use Rattle.ll_rights.specs.declared.errno.Errno.{Errno}
+use Rattle.ll_rights.specs.declared.errno.Errno.TheVariants.{ENOENT, EEXIST, ENOTDIR, EISDIR, EBUSY, EBADF, EMFILE, ENOSPC, ELOOP, ENXIO}
+use Rattle.ll_rights.specs.Errno.{refuse}
+use Rattle.ll_rights.specs.Map.{Map, has, len}
+use Rattle.ll_path.specs.Path.{Path, parent, is_root}
+use Rattle.ll_path.specs.declared.target.Target.{Target}
+use Rattle.ll_path.specs.declared.target.Target.TheVariants.{Good, Bad}
+use Rattle.ll_rules.specs.Layer.{Layer}
+use Rattle.ll_rules.specs.Rules.{create_refusals, new_ruleset, rule_refusals, rule_limit, layer_limit}
+use Rattle.ll_seq.specs.declared.client.Client.{Client}
+use Rattle.ll_seq.specs.declared.client.Descriptor.{Descriptor}
+use Rattle.ll_seq.specs.declared.call.Call.{Call}
+use Rattle.ll_seq.specs.declared.call.Call.TheVariants.{Make, Open, Ruleset, Allow, Confine, Connect}
+use Rattle.ll_seq.specs.Call.{path_of}
+use Rattle.ll_seq.specs.State.{State, child, kind_of, names_in, root}
+use Rattle.ll_seq.specs.Tree.{named, inode_of, directory_of, kind_at}
+
+-- ---- Text: a word that is no path
+abbrev pub bad_text : Target → List Errno
+bad_text (Good path) = []
+bad_text (Bad word) = word.errno ∷ []
+
+abbrev pub text_refusals : Call → List Errno
+text_refusals (Make kind target) = bad_text target
+text_refusals (Open mode target) = bad_text target
+text_refusals (Allow number target rights) = bad_text target
+text_refusals _ = []
+
+-- ---- The caller's numbers. landlock_add_rule(2), landlock_restrict_self(2): EBADF
+abbrev pub number_refusals : Client → Call → List Errno
+number_refusals c (Allow number target rights) = refuse (is_none (slice_get c.rulesets number)) EBADF
+number_refusals c (Confine number) = refuse (is_none (slice_get c.rulesets number)) EBADF
+number_refusals c _ = []
+
+-- ---- How the paths lie, by names alone. Nothing is made at the root: EBUSY
+abbrev pub relation_refusals : Call → List Errno
+relation_refusals (Make kind target) = refuse (is_root (path_of target)) EBUSY
+relation_refusals _ = []
+
+-- ---- The walk to the parent, from the left. path_resolution(7): ENOENT, ENOTDIR; ELOOP as by openat2(2), RESOLVE_NO_SYMLINKS
+abbrev pub no_directory : Option Kind → List Errno
+no_directory None = ENOENT ∷ []
+no_directory (Some Dir) = []
+no_directory (Some Sym) = ELOOP ∷ []
+no_directory (Some _) = ENOTDIR ∷ []
+
+abbrev pub kind_of_child : State → Option ℕ → Option Kind
+kind_of_child s None = None
+kind_of_child s (Some inode) = kind_of s inode
+
+-- what is in the way of each name from an inode on, the first first
+abbrev pub in_the_way : State → Path → ℕ → List Errno
+in_the_way s [] inode = []
+in_the_way s (name ∷ path) inode = no_directory (kind_of_child s (child s inode name)) ++ option_map_or (in_the_way s path) (child s inode name) []
+
+abbrev pub way_to : State → Target → List Errno
+way_to s target = in_the_way s (parent (path_of target)) root
+
+abbrev pub walk_refusals : State → Call → List Errno
+walk_refusals s (Make kind target) = way_to s target
+walk_refusals s (Open mode target) = way_to s target
+walk_refusals s (Allow number target rights) = way_to s target
+walk_refusals s _ = []
+
+-- ---- Whether the last name is there. mknod(2): EEXIST; open(2): ENOENT
+abbrev pub missing : State → Target → List Errno
+missing s target = refuse (is_none (named s (path_of target))) ENOENT
+
+abbrev pub present : State → Target → List Errno
+present s target = refuse (is_some (named s (path_of target))) EEXIST
+
+abbrev pub existence_refusals : State → Call → List Errno
+existence_refusals s (Make kind target) = present s target
+existence_refusals s (Open mode target) = missing s target
+existence_refusals s (Allow number target rights) = missing s target
+existence_refusals s _ = []
+
+-- ---- (Policy stands here.)
+
+-- ---- Kinds. open(2): EISDIR, ELOOP (O_NOFOLLOW), ENXIO; landlock_create_ruleset(2), landlock_add_rule(2)
+abbrev pub not_to_open : Kind → List Errno
+not_to_open Reg = []
+not_to_open Dir = EISDIR ∷ []
+not_to_open Sym = ELOOP ∷ []
+not_to_open _ = ENXIO ∷ []
+
+abbrev pub ruleset_at : Client → ℕ → Layer
+ruleset_at c number = unwrap_or (slice_get c.rulesets number) (new_ruleset 0)
+
+abbrev pub kind_refusals : State → Client → Call → List Errno
+kind_refusals s c (Open mode target) = not_to_open (kind_at s (path_of target))
+kind_refusals s c (Ruleset rights) = create_refusals rights.0
+kind_refusals s c (Allow number target rights) = rule_refusals (ruleset_at c number) (kind_at s (path_of target)) rights.0
+kind_refusals s c _ = []
+
+-- ---- Limits. own
+
+-- a directory has at most 1,024 entries
+abbrev pub is_crowded : State → ℕ → Bool
+is_crowded s directory = nat_le 1024 (length (names_in s directory))
+
+abbrev pub no_space : State → ℕ → List Errno
+no_space s directory = refuse (is_crowded s directory || nat_le s.room (len s.nodes)) ENOSPC
+
+-- n numbers from k on
+unfoldable pub numbers_from : ℕ → ℕ → List ℕ
+numbers_from k zero = []
+numbers_from k (suc n) = k ∷ numbers_from (suc k) n
+
+-- of 64 descriptors the lowest that is free. open(2): the lowest-numbered one
+abbrev pub lowest_free : Map nat_cmp Descriptor → Option ℕ
+lowest_free descriptors = find (λ fd. not (has descriptors fd)) (numbers_from 0 64)
+
+abbrev pub limit_refusals : State → Client → Call → List Errno
+limit_refusals s c (Make kind target) = no_space s (directory_of s (path_of target))
+limit_refusals s c (Open mode target) = refuse (is_none (lowest_free c.descriptors)) EMFILE
+limit_refusals s c (Ruleset rights) = refuse (nat_le 16 (length c.rulesets)) EMFILE
+limit_refusals s c (Allow number target rights) = rule_limit (ruleset_at c number) (inode_of s (path_of target))
+limit_refusals s c (Confine number) = layer_limit c.domain
+limit_refusals s c Connect = refuse (nat_le 64 (len s.clients)) EMFILE

@@ -1,0 +1,54 @@
+-- What the tree is: directory entries, nodes and clients. own, after inode(7) and path_resolution(7)
+use Rattle.std.specs.Prelude.{ℕ, List, [], map, filter, Option, ◌==◌, option_map}
+use Rattle.std.specs.declared.cmp.Ordering.{Ordering}
+use Rattle.std.specs.Ordering.{nat_cmp, ordering_then}
+use Rattle.std.specs.Cmp.Lexicographic.{slice_cmp}
+use Rattle.ll_rights.specs.declared.kind.Kind.{Kind}
+use Rattle.ll_rights.specs.declared.kind.Kind.TheVariants.{Dir}
+use Rattle.ll_rights.specs.Map.{Map, empty, get, insert, entries}
+use Rattle.ll_rules.specs.Layer.{Layer}
+use Rattle.ll_seq.specs.declared.client.Client.{Client}
+use Rattle.ll_seq.specs.declared.entries.Slot.{Slot}
+use Rattle.ll_seq.specs.declared.node.Node.{Node}
+
+abbrev pub Name : Type 0
+Name = List ℕ
+
+-- places in the tree, by directory and then by the name's bytes
+abbrev pub slot_cmp : Slot → Slot → Ordering
+slot_cmp a b = ordering_then (nat_cmp a.directory b.directory) (slice_cmp nat_cmp a.name b.name)
+
+abbrev pub slot : ℕ → Name → Slot
+slot directory name = record { directory = directory; name = name }
+
+-- entries: the triples of directory, name and inode. Nodes, descriptors and clients are as the code declares them. next: the next inode number. room: how many nodes may live
+pub record State : Type 0 where
+  pub entries : Map slot_cmp ℕ
+  pub nodes : Map nat_cmp Node
+  pub next : ℕ
+  pub room : ℕ
+  pub clients : Map nat_cmp Client
+
+abbrev pub root : ℕ
+root = 1
+
+abbrev pub empty_node : Kind → Node
+empty_node kind = record { kind = kind; bytes = [] }
+
+abbrev pub new_client : List Layer → Client
+new_client domain = record { domain = domain; rulesets = []; descriptors = empty }
+
+-- the root alone, and no client
+abbrev pub start : ℕ → State
+start room = record { entries = empty; nodes = insert empty root (empty_node Dir); next = 2; room = room; clients = empty }
+
+abbrev pub kind_of : State → ℕ → Option Kind
+kind_of s inode = option_map (λ (n : Node). n.kind) (get s.nodes inode)
+
+-- what the directory has under the name
+abbrev pub child : State → ℕ → Name → Option ℕ
+child s directory name = get s.entries (slot directory name)
+
+-- the names in the directory, rising by bytes
+abbrev pub names_in : State → ℕ → List Name
+names_in s directory = map (λ (e : Slot × ℕ). e.0.name) (filter (λ (e : Slot × ℕ). e.0.directory == directory) (entries s.entries))

@@ -1,0 +1,185 @@
+//! Clients.
+
+ghost use Rattle.std.specs.Prelude.{◌≡◌, ◌≢◌, ◌+◌, ◌<◌, [], ◌∷◌, ◌++◌, ℕ, length, nat_le, IfOk, IfErr, OnOk, OnErr, Option, Some, None, Err, unwrap_or, slice_get, slice_set, is_none};
+ghost use Rattle.std.specs.Option.{option_copied};
+ghost use Rattle.ll_rights.specs.Errno.{refuse};
+ghost use Rattle.ll_rights.specs.Map.{empty, insert};
+ghost use Rattle.ll_rules.specs.Layer.{Layer};
+ghost use Rattle.ll_rules.specs.Rules.{create_refusals, new_ruleset, rule_refusals, rule_limit, with_rule, layer_limit};
+
+use crate::table::Table;
+use ll_rights::{Access, Errno, Kind};
+use ll_rules::{Domain, Ruleset};
+use std::alloc::{AllocError, Global};
+use std::marker::Model;
+
+const MOST_RULESETS: usize = 16;
+
+/// An open file. `kept` is the number of the oldest layer that didn't grant truncate when it was opened, if one didn't.
+#[derive(Drop, Clone, Copy, Debug, PartialEq, Eq)]
+pub struct Descriptor {
+    pub inode: u64,
+    pub reads: bool,
+    pub writes: bool,
+    pub kept: Option<u64>,
+}
+
+/// The rulesets that a client has made, in the order of their numbers. Contracts see the list.
+#[derive(Drop)]
+pub struct Rulesets {
+    made: Vec<Ruleset>,
+}
+
+impl Model for Rulesets {
+    ghost use Rattle.std.specs.Prelude.{List};
+    ghost use Rattle.std.specs.Coded.{coded_list};
+    ghost use Rattle.ll_rules.specs.Layer.{Layer};
+    ghost use Rattle.ll_rules.specs.Codes.{coded_layer};
+
+    ghost Value = { List Layer };
+
+    ghost coded = { coded_list coded_layer };
+
+    ghost view = { λ rulesets. rulesets.made.items };
+}
+
+impl Rulesets {
+    pub fn new(alloc: Global) -> Rulesets
+        ensures { result ≡ [] }
+    {
+        Rulesets {
+            made: Vec::new(alloc),
+        }
+    }
+
+    pub fn len(&self) -> usize
+        ensures { result ≡ length self.now }
+    {
+        self.made.len()
+    }
+
+    /// The ruleset of this number.
+    pub fn get(&self, number: u64) -> Option<&Ruleset>
+        ensures { option_copied result ≡ slice_get self.now number }
+    {
+        self.made.get(number as usize)
+    }
+
+    /// A ruleset more, which gets the next number.
+    pub fn push(&mut self, made: Ruleset) -> Result<(), AllocError>
+        ensures ok { OnOk result (self.new ≡ self.old ++ made ∷ []) }
+        ensures err { OnErr result (self.new ≡ self.old) }
+    {
+        self.made.push(made)?;
+        Ok(())
+    }
+
+    /// A rule of the ruleset of this number, which is there, on the inode of a node of this kind.
+    pub fn allow(
+        &mut self,
+        number: u64,
+        inode: u64,
+        kind: Kind,
+        rights: Access,
+    ) -> Result<(), Errno>
+        requires { number < length self.old }
+        ensures ok { OnOk result ((made : Layer) × (slice_get self.old number ≡ Some made)
+            × (rule_refusals made kind rights.0 ++ rule_limit made inode ≡ [])
+            × (self.new ≡ slice_set self.old number (with_rule made inode rights.0))) }
+        ensures refused { IfErr result (λ errno. errno ≢ Errno.NoMemory → (made : Layer) → slice_get self.old number ≡ Some made
+            → slice_get (rule_refusals made kind rights.0 ++ rule_limit made inode) 0 ≡ Some errno) }
+        ensures err { OnErr result (self.new ≡ self.old) }
+    {
+        let made = &mut self.made[number as usize];
+        made.allow(inode, kind, rights)
+    }
+}
+
+/// A client: the layers that it is under, its rulesets, and its open files by number.
+#[derive(Drop)]
+pub struct Client {
+    pub domain: Domain,
+    pub rulesets: Rulesets,
+    pub descriptors: Table<Descriptor>,
+}
+
+impl Client {
+    ghost use Rattle.ll_seq.specs.State.{new_client};
+    ghost use Rattle.ll_seq.specs.Stages.{lowest_free, ruleset_at};
+
+    /// A client without layers.
+    pub fn new(alloc: Global) -> Client
+        ensures { result ≡ new_client [] }
+    {
+        Client {
+            domain: Domain::empty(alloc),
+            rulesets: Rulesets::new(alloc),
+            descriptors: Table::new(alloc),
+        }
+    }
+
+    /// The lowest of 64 descriptors that is free.
+    pub fn lowest_free(&self) -> Option<u64>
+        ensures { result ≡ lowest_free self.now.descriptors }
+    {
+        for number in 0..64 {
+            if !self.descriptors.has(number) {
+                return Some(number);
+            }
+        }
+        None
+    }
+
+    /// Opens a file at the lowest free descriptor.
+    pub fn open(&mut self, descriptor: Descriptor) -> Result<u64, Errno>
+        ensures ok { IfOk result (λ number. (lowest_free self.old.descriptors ≡ Some number)
+            × (self.new ≡ record self.old { descriptors = insert self.old.descriptors number descriptor })) }
+        ensures refused { IfErr result (λ errno. errno ≢ Errno.NoMemory → slice_get (refuse (is_none (lowest_free self.old.descriptors)) Errno.EMFILE) 0 ≡ Some errno) }
+        ensures err { OnErr result (self.new ≡ self.old) }
+    {
+        let Some(number) = self.lowest_free() else {
+            return Err(Errno::EMFILE);
+        };
+        if self.descriptors.insert(number, descriptor).is_err() {
+            return Err(Errno::NoMemory);
+        }
+        Ok(number)
+    }
+
+    /// Makes a ruleset that handles these rights.
+    pub fn create_ruleset(&mut self, alloc: Global, handled: Access) -> Result<u64, Errno>
+        ensures ok { IfOk result (λ number. (create_refusals handled.0 ++ refuse (nat_le 16 (length self.old.rulesets)) Errno.EMFILE ≡ [])
+            × (number ≡ length self.old.rulesets)
+            × (self.new ≡ record self.old { rulesets = self.old.rulesets ++ new_ruleset handled.0 ∷ [] })) }
+        ensures refused { IfErr result (λ errno. errno ≢ Errno.NoMemory
+            → slice_get (create_refusals handled.0 ++ refuse (nat_le 16 (length self.old.rulesets)) Errno.EMFILE) 0 ≡ Some errno) }
+        ensures err { OnErr result (self.new ≡ self.old) }
+    {
+        let made = match Ruleset::create(alloc, handled) {
+            Ok(made) => made,
+            Err(errno) => return Err(errno),
+        };
+        let number = self.rulesets.len();
+        if MOST_RULESETS <= number {
+            return Err(Errno::EMFILE);
+        }
+        if self.rulesets.push(made).is_err() {
+            return Err(Errno::NoMemory);
+        }
+        Ok(number as u64)
+    }
+
+    /// Enforces the ruleset of this number, which is there.
+    pub fn confine(&mut self, number: u64) -> Result<(), Errno>
+        requires { number < length self.old.rulesets }
+        ensures ok { OnOk result ((layer_limit self.old.domain ≡ [])
+            × (self.new ≡ record self.old { domain = self.old.domain ++ ruleset_at self.old number ∷ [] })) }
+        ensures refused { IfErr result (λ errno. errno ≢ Errno.NoMemory → slice_get (layer_limit self.old.domain) 0 ≡ Some errno) }
+        ensures err { OnErr result (self.new ≡ self.old) }
+    {
+        match self.rulesets.get(number) {
+            None => Err(Errno::EBADF),
+            Some(made) => self.domain.stack(made),
+        }
+    }
+}

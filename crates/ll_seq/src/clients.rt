@@ -1,0 +1,96 @@
+//! What clients do to their own records.
+
+ghost use Rattle.std.specs.Prelude.{◌≡◌, ◌≢◌, ◌+◌, ◌<◌, [], ◌∷◌, ◌++◌, ℕ, length, nat_le, IfOk, IfErr, OnOk, OnErr, Option, Some, true, slice_get, slice_set, is_none};
+ghost use Rattle.ll_rights.specs.Errno.{refuse};
+ghost use Rattle.ll_rights.specs.Map.{get, has, insert};
+ghost use Rattle.ll_rules.specs.Layer.{Layer};
+ghost use Rattle.ll_rules.specs.Rules.{create_refusals, new_ruleset, rule_refusals, rule_limit, with_rule, layer_limit};
+ghost use Rattle.ll_seq.specs.Stages.{lowest_free, ruleset_at};
+ghost use Rattle.ll_seq.specs.declared.client.Client as record_of;
+
+use crate::client::{Client, Descriptor};
+use crate::table::{Table, index_of};
+use ll_rights::{Access, Errno, Kind};
+use std::alloc::Global;
+
+impl Table<Client> {
+    /// Opens a file at the client's lowest free descriptor.
+    pub(crate) fn open(&mut self, client: u64, descriptor: Descriptor) -> Result<u64, Errno>
+        requires { has self.old client ≡ true }
+        ensures ok { IfOk result (λ number. (c : record_of.Client) → get self.old client ≡ Some c
+            → (lowest_free c.descriptors ≡ Some number) × (self.new ≡ insert self.old client (record c { descriptors = insert c.descriptors number descriptor }))) }
+        ensures refused { IfErr result (λ errno. errno ≢ Errno.NoMemory → (c : record_of.Client) → get self.old client ≡ Some c
+            → slice_get (refuse (is_none (lowest_free c.descriptors)) Errno.EMFILE) 0 ≡ Some errno) }
+        ensures err { OnErr result (self.new ≡ self.old) }
+    {
+        let Some(i) = index_of(&self.rows, client) else {
+            unreachable!();
+        };
+        let row = &mut self.rows[i];
+        row.1.open(descriptor)
+    }
+
+    /// Makes a ruleset of the client's that handles these rights.
+    pub(crate) fn create_ruleset(
+        &mut self,
+        alloc: Global,
+        client: u64,
+        handled: Access,
+    ) -> Result<u64, Errno>
+        requires { has self.old client ≡ true }
+        ensures ok { IfOk result (λ number. (c : record_of.Client) → get self.old client ≡ Some c
+            → (create_refusals handled.0 ++ refuse (nat_le 16 (length c.rulesets)) Errno.EMFILE ≡ []) × (number ≡ length c.rulesets)
+            × (self.new ≡ insert self.old client (record c { rulesets = c.rulesets ++ new_ruleset handled.0 ∷ [] }))) }
+        ensures refused { IfErr result (λ errno. errno ≢ Errno.NoMemory → (c : record_of.Client) → get self.old client ≡ Some c
+            → slice_get (create_refusals handled.0 ++ refuse (nat_le 16 (length c.rulesets)) Errno.EMFILE) 0 ≡ Some errno) }
+        ensures err { OnErr result (self.new ≡ self.old) }
+    {
+        let Some(i) = index_of(&self.rows, client) else {
+            unreachable!();
+        };
+        let row = &mut self.rows[i];
+        row.1.create_ruleset(alloc, handled)
+    }
+
+    /// A rule of the client's ruleset of this number, which is there, on the inode of a node of this kind.
+    pub(crate) fn allow(
+        &mut self,
+        client: u64,
+        number: u64,
+        inode: u64,
+        kind: Kind,
+        rights: Access,
+    ) -> Result<(), Errno>
+        requires there { has self.old client ≡ true }
+        requires made { (c : record_of.Client) → get self.old client ≡ Some c → number < length c.rulesets }
+        ensures ok { OnOk result ((c : record_of.Client) → get self.old client ≡ Some c → (made : Layer) × (slice_get c.rulesets number ≡ Some made)
+            × (rule_refusals made kind rights.0 ++ rule_limit made inode ≡ [])
+            × (self.new ≡ insert self.old client (record c { rulesets = slice_set c.rulesets number (with_rule made inode rights.0) }))) }
+        ensures refused { IfErr result (λ errno. errno ≢ Errno.NoMemory → (c : record_of.Client) → get self.old client ≡ Some c
+            → (made : Layer) → slice_get c.rulesets number ≡ Some made → slice_get (rule_refusals made kind rights.0 ++ rule_limit made inode) 0 ≡ Some errno) }
+        ensures err { OnErr result (self.new ≡ self.old) }
+    {
+        let Some(i) = index_of(&self.rows, client) else {
+            unreachable!();
+        };
+        let row = &mut self.rows[i];
+        row.1.rulesets.allow(number, inode, kind, rights)
+    }
+
+    /// Enforces the client's ruleset of this number, which is there.
+    pub(crate) fn confine(&mut self, client: u64, number: u64) -> Result<(), Errno>
+        requires there { has self.old client ≡ true }
+        requires made { (c : record_of.Client) → get self.old client ≡ Some c → number < length c.rulesets }
+        ensures ok { OnOk result ((c : record_of.Client) → get self.old client ≡ Some c → (layer_limit c.domain ≡ [])
+            × (self.new ≡ insert self.old client (record c { domain = c.domain ++ ruleset_at c number ∷ [] }))) }
+        ensures refused { IfErr result (λ errno. errno ≢ Errno.NoMemory → (c : record_of.Client) → get self.old client ≡ Some c
+            → slice_get (layer_limit c.domain) 0 ≡ Some errno) }
+        ensures err { OnErr result (self.new ≡ self.old) }
+    {
+        let Some(i) = index_of(&self.rows, client) else {
+            unreachable!();
+        };
+        let row = &mut self.rows[i];
+        row.1.confine(number)
+    }
+}

@@ -1,0 +1,22 @@
+//! The sequential tree: calls and their replies, the definitions of what each call does (in `specs/`), and a plain tree
+//! that does it.
+#![tactic(auto)]
+
+mod call;
+mod client;
+mod clients;
+mod entries;
+mod node;
+mod plain;
+mod reply;
+mod table;
+#[cfg(test)]
+mod tests;
+
+pub use call::{Call, Mode};
+pub use client::{Client, Descriptor, Rulesets};
+pub use entries::{Entries, Slot};
+pub use node::{Content, Node};
+pub use plain::Plain;
+pub use reply::{Entry, Reply};
+pub use table::Table;

@@ -1,0 +1,109 @@
+//! The plain tree.
+
+mod calls;
+mod policy;
+mod walk;
+
+ghost use Rattle.std.specs.Prelude.{◌≡◌, ◌≢◌, ◌<◌, ◌≤◌, ◌+◌, ◌-◌, ◌^◌, ℕ, true, not, IfOk};
+ghost use Rattle.ll_rights.specs.Map.{has};
+ghost use Rattle.ll_seq.specs.State.{State, start};
+ghost use Rattle.ll_seq.specs.Step.{step, IsAnswer};
+ghost use Rattle.ll_seq.specs.History.{is_connect};
+ghost use Rattle.ll_seq.specs.declared.reply.Reply.{Reply};
+
+use crate::call::Call;
+use crate::client::Client;
+use crate::entries::Entries;
+use crate::node::{Content, Node};
+use crate::reply::Reply;
+use crate::table::Table;
+use ll_rights::{Errno, Kind};
+use std::alloc::{AllocError, Global};
+use std::marker::Model;
+
+const ROOT: u64 = 1;
+
+/// The tree as its definition reads: tables in plain order, every path walked from the root, every right asked upward.
+/// Contracts see the state.
+#[derive(Drop)]
+pub struct Plain {
+    entries: Entries,
+    nodes: Table<Node>,
+    next: u64,
+    room: usize,
+    clients: Table<Client>,
+    alloc: Global,
+}
+
+impl Model for Plain {
+    ghost use Rattle.ll_seq.specs.State.{State};
+    ghost use Rattle.ll_seq.specs.Codes.{coded_state};
+    ghost use Rattle.ll_seq.specs.Tables.{IsBelow};
+
+    ghost Value = { State };
+
+    ghost coded = { coded_state };
+
+    ghost view = { λ tree. record { entries = tree.entries; nodes = tree.nodes; next = tree.next; room = tree.room; clients = tree.clients } };
+
+    ghost invariant = { λ tree. IsBelow tree.nodes tree.next };
+}
+
+impl Plain {
+    /// A tree of the root alone, without a client, in which this many nodes may live.
+    pub fn new(alloc: Global, nodes: usize) -> Result<Plain, AllocError>
+        requires some { 1 ≤ nodes }
+        requires most { nodes ≤ 4096 }
+        ensures { IfOk result (λ tree. tree ≡ start nodes) }
+    {
+        let root = Node {
+            kind: Kind::Dir,
+            bytes: Content::empty(alloc),
+        };
+        let mut table = Table::new(alloc);
+        table.insert(ROOT, root)?;
+        Ok(Plain {
+            entries: Entries::new(alloc),
+            nodes: table,
+            next: ROOT + 1,
+            room: nodes,
+            clients: Table::new(alloc),
+            alloc,
+        })
+    }
+
+    /// Makes the client's call. The reply and the state after are those of one step, or want of memory is answered and
+    /// nothing has changed. `fresh` is the number that a spawned client would get.
+    pub fn apply(&mut self, client: u64, call: &Call, fresh: u64) -> Reply
+        requires caller { has self.old.clients client ≡ not (is_connect call.now) }
+        requires next { self.old.next < 2 ^ 64 - 1 }
+
+        ensures step { result ≢ Reply.Refused Errno.NoMemory → ◌≡◌ {A = Reply × State} (result, self.new) (step self.old client call.now fresh) }
+        ensures no_memory { result ≡ Reply.Refused Errno.NoMemory → self.new ≡ self.old }
+
+        // What follows from these for every call.
+        ensures answers { IsAnswer result }
+        ensures clients_stay { (other : ℕ) → has self.old.clients other ≡ true → has self.new.clients other ≡ true }
+        ensures numbers { self.new.next ≤ self.old.next + 1 }
+    {
+        self.reply(client, call, fresh)
+    }
+
+    fn reply(&mut self, client: u64, call: &Call, fresh: u64) -> Reply
+        requires caller { has self.old.clients client ≡ not (is_connect call.now) }
+        requires next { self.old.next < 2 ^ 64 - 1 }
+        ensures step { result ≢ Reply.Refused Errno.NoMemory → ◌≡◌ {A = Reply × State} (result, self.new) (step self.old client call.now fresh) }
+        ensures no_memory { result ≡ Reply.Refused Errno.NoMemory → self.new ≡ self.old }
+    {
+        match call {
+            Call::Make(kind, target) => self.make(client, *kind, target, fresh),
+            Call::Open(mode, target) => self.open(client, *mode, target, fresh),
+            Call::Ruleset(rights) => self.create_ruleset(client, *rights, fresh),
+            Call::Allow(number, target, rights) => self.allow(
+                client, *number, target, *rights, fresh,
+            ),
+            Call::Confine(number) => self.confine(client, *number, fresh),
+            Call::Connect => self.connect(client, fresh),
+        }
+    }
+}
