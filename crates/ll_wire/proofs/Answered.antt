@@ -1,0 +1,22 @@
+-- What the tree answers has a spelling.
+use Rattle.std.specs.Prelude.{⊤, ◌^◌, ◌<◌}
+use Rattle.std.proofs.Common.{arith}
+use Rattle.ll_seq.specs.declared.reply.Reply.{Reply}
+use Rattle.ll_seq.specs.declared.reply.Reply.TheVariants.{Done, Opened, Created, Refused, Denied}
+use Rattle.ll_seq.specs.Step.{IsAnswer}
+use Rattle.ll_wire.specs.Grammar.{IsReply}
+
+-- what the types of its numbers say of a reply
+abbrev pub InRange : Reply → Type 0
+InRange (Opened number) = number < 2 ^ 64
+InRange (Created number) = number < 2 ^ 64
+InRange (Denied d) = (d.layer < 2 ^ 64) × (d.right < 15)
+InRange Done = ⊤
+InRange (Refused errno) = ⊤
+
+pub answer_is_reply : (reply : Reply) → InRange reply → IsAnswer reply → IsReply reply
+answer_is_reply Done held h = tt
+answer_is_reply (Opened number) held h = held
+answer_is_reply (Created number) held h = held
+answer_is_reply (Refused errno) held h = (h.0, omega arith)
+answer_is_reply (Denied d) held h = held

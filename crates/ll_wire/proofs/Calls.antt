@@ -1,0 +1,72 @@
+-- What a call is whose first token is known.
+use Rattle.std.proofs.Common.{◌≡◌, ℕ, ◌^◌, ◌<◌, Bool, false, List, [], ◌∷◌, codes, Err, inl, inr, refl, ap, sym, subst}
+use Rattle.std.specs.Str.{bytes_eq}
+use Rattle.std.specs.Fmt.{decimal}
+use Rattle.std.proofs.lemmas.Bool.{false≢true}
+use Rattle.ll_rights.specs.declared.errno.Errno.{Errno}
+use Rattle.ll_rights.specs.declared.kind.Kind.{Kind}
+use Rattle.ll_rights.specs.declared.access.Access.{Access}
+use Rattle.ll_rights.specs.Kind.{kind_text}
+use Rattle.ll_rights.specs.Access.{access_text}
+use Rattle.ll_path.specs.declared.target.Target.{Target}
+use Rattle.ll_path.specs.Target.{target_text}
+use Rattle.ll_seq.specs.declared.call.Mode.{Mode}
+use Rattle.ll_seq.specs.declared.call.Call.{Call}
+use Rattle.ll_seq.specs.declared.call.Call.TheVariants.{Make, Open, Ruleset, Allow, Confine}
+use Rattle.ll_wire.specs.Grammar.{mode_text, SpellsTarget}
+use Rattle.ll_wire.specs.Reads.{Reads, SpellsCall, SpellsNumber, SpellsRights}
+use Rattle.ll_wire.proofs.Targets.{text_is, own_text}
+
+-- whether the first token is the name
+abbrev first_is : List ℕ → List (List ℕ) → Bool
+first_is name [] = false
+first_is name (token ∷ tokens) = bytes_eq name token
+
+pub make_is : (args : List (List ℕ)) (call : Call) → SpellsCall (codes "make" ∷ args) call
+    → (kind : Kind) × (target : Target) × SpellsTarget (target_text target) target × (args ≡ kind_text kind ∷ target_text target ∷ []) × (call ≡ Make kind target)
+make_is args (Make kind target) h = (kind, target, h.0, cc, refl)
+make_is args call h = absurd (false≢true (sym (ap (first_is (codes "make")) h.1)))
+
+pub open_is : (args : List (List ℕ)) (call : Call) → SpellsCall (codes "open" ∷ args) call
+    → (mode : Mode) × (target : Target) × SpellsTarget (target_text target) target × (args ≡ mode_text mode ∷ target_text target ∷ []) × (call ≡ Open mode target)
+open_is args (Open mode target) h = (mode, target, h.0, cc, refl)
+open_is args call h = absurd (false≢true (sym (ap (first_is (codes "open")) h.1)))
+
+pub ruleset_is : (args : List (List ℕ)) (call : Call) → SpellsCall (codes "ruleset" ∷ args) call
+    → (rights : Access) × (args ≡ access_text rights.0 ∷ []) × (call ≡ Ruleset rights)
+ruleset_is args (Ruleset rights) h = (rights, cc, refl)
+ruleset_is args call h = absurd (false≢true (sym (ap (first_is (codes "ruleset")) h.1)))
+
+pub allow_is : (args : List (List ℕ)) (call : Call) → SpellsCall (codes "allow" ∷ args) call
+    → (number : ℕ) × (target : Target) × (rights : Access) × (number < 2 ^ 64) × SpellsTarget (target_text target) target
+    × (args ≡ decimal number ∷ target_text target ∷ access_text rights.0 ∷ []) × (call ≡ Allow number target rights)
+allow_is args (Allow number target rights) h = (number, target, rights, h.0.0, h.0.1, cc, refl)
+allow_is args call h = absurd (false≢true (sym (ap (first_is (codes "allow")) h.1)))
+
+pub confine_is : (args : List (List ℕ)) (call : Call) → SpellsCall (codes "confine" ∷ args) call
+    → (number : ℕ) × (number < 2 ^ 64) × (args ≡ decimal number ∷ []) × (call ≡ Confine number)
+confine_is args (Confine number) h = (number, h.0, cc, refl)
+confine_is args call h = absurd (false≢true (sym (ap (first_is (codes "confine")) h.1)))
+
+-- where a part can't be read, the whole can't, for the same reason
+fails : {V W : Type 0} (P : V → Type 0) (Q : W → Type 0) (e : Errno) → ((w : W) → Q w → (v : V) × P v) → ((v : V) → P v → (w : W) × Q w) → Reads P (Err e) → Reads Q (Err e)
+fails P Q e part whole (inl h) = inl (h.0, λ w is. let v = part w is in h.1 v.0 v.1)
+fails P Q e part whole (inr h) = let w = whole h.1 h.2 in inr (h.0, w.0, w.1)
+
+pub make_fails : (args : List (List ℕ)) (kind : Kind) (path : List ℕ) (e : Errno) → args ≡ kind_text kind ∷ path ∷ []
+    → Reads (SpellsTarget path) (Err e) → Reads (SpellsCall (codes "make" ∷ args)) (Err e)
+make_fails args kind path e parts = fails (SpellsTarget path) (SpellsCall (codes "make" ∷ args)) e
+    (λ call is. let m = make_is args call is in let same : target_text m.1 ≡ path = cc in (m.1, subst (λ (w : List ℕ). SpellsTarget w m.1) same m.2))
+    (λ target is. let same = text_is path target is in (Make kind target, (own_text path target is, cc)))
+
+pub open_fails : (args : List (List ℕ)) (mode : Mode) (path : List ℕ) (e : Errno) → args ≡ mode_text mode ∷ path ∷ []
+    → Reads (SpellsTarget path) (Err e) → Reads (SpellsCall (codes "open" ∷ args)) (Err e)
+open_fails args mode path e parts = fails (SpellsTarget path) (SpellsCall (codes "open" ∷ args)) e
+    (λ call is. let m = open_is args call is in let same : target_text m.1 ≡ path = cc in (m.1, subst (λ (w : List ℕ). SpellsTarget w m.1) same m.2))
+    (λ target is. let same = text_is path target is in (Open mode target, (own_text path target is, cc)))
+
+pub allow_fails : (args : List (List ℕ)) (ruleset_word path rights_word : List ℕ) (number : ℕ) (rights : Access) (e : Errno) → args ≡ ruleset_word ∷ path ∷ rights_word ∷ []
+    → SpellsNumber ruleset_word number → SpellsRights rights_word rights → Reads (SpellsTarget path) (Err e) → Reads (SpellsCall (codes "allow" ∷ args)) (Err e)
+allow_fails args ruleset_word path rights_word number rights e parts n r = fails (SpellsTarget path) (SpellsCall (codes "allow" ∷ args)) e
+    (λ call is. let m = allow_is args call is in let same : target_text m.1 ≡ path = cc in (m.1, subst (λ (w : List ℕ). SpellsTarget w m.1) same m.4))
+    (λ target is. let same = text_is path target is in (Allow number target rights, ((n.0, own_text path target is, r.0), cc)))

@@ -1,0 +1,9 @@
+pub mod Answered
+pub mod Calls
+pub mod Joined
+pub mod Lines
+pub mod Numbers
+pub mod Rights
+pub mod Targets
+pub mod Tokens
+pub mod Unique

@@ -1,0 +1,150 @@
+-- The tokens of a call are visible bytes, so a line is cut at its spaces.
+use Rattle.std.proofs.Common.{◌≡◌, ℕ, suc, zero, ◌+◌, ◌^◌, ◌<◌, Bool, true, false, ◌&&◌, leb, List, [], ◌∷◌, ◌++◌, map, refl, ap, ◌∙◌, arith, codes, inl, inr}
+use Rattle.std.specs.Prelude.{◌==◌, if◌then◌else◌, nat_lt}
+use Rattle.std.specs.List.{slice_split, AllByRecursion, join_with_byte}
+use Rattle.std.specs.Fmt.{decimal}
+use Rattle.std.specs.Char.{digit_char}
+use Rattle.std.specs.Int.Digits.{digits_of, AllBelowBase}
+use Rattle.std.specs.Str.{IsAscii}
+use Rattle.std.specs.Str.Parse.{AllDigits}
+use Rattle.std.proofs.lemmas.Str.Parse.{digit_from_value}
+use Rattle.std.proofs.lemmas.Fmt.{decimal_is_IsNumeral}
+use Rattle.std.proofs.lemmas.Int.Digits.{all_below_base_digits_of}
+use Rattle.std.proofs.lemmas.Bool.{leb-true, ne_eqb, cases_lt, cases_Bool, and_parts}
+use Rattle.std.proofs.lemmas.List.Elements.{All-from_recursion}
+use Rattle.std.proofs.lemmas.List.Splits.{slice_split_at, slice_split_none}
+use Rattle.ll_rights.specs.declared.kind.Kind.{Kind}
+use Rattle.ll_rights.specs.declared.kind.Kind.TheVariants as kinds
+use Rattle.ll_rights.specs.Kind.{kind_text}
+use Rattle.ll_rights.specs.Right.{right_text, all_rights}
+use Rattle.ll_rights.specs.Access.{holds, names_among, names_in, access_text}
+use Rattle.ll_rights.proofs.Names.{names_yes, names_no, names_end, text_none, text_names, text_number}
+use Rattle.ll_path.specs.Word.{IsVisible}
+use Rattle.ll_seq.specs.declared.call.Mode.{Mode}
+use Rattle.ll_seq.specs.declared.call.Mode.TheVariants as modes
+use Rattle.ll_seq.specs.declared.call.Call.{Call}
+use Rattle.ll_seq.specs.declared.call.Call.TheVariants as calls
+use Rattle.ll_wire.specs.Grammar.{mode_text, call_tokens, IsCall}
+
+abbrev pub IsToken : List ℕ → Type 0
+IsToken token = AllByRecursion IsVisible token
+
+-- ---- literals, by a test that computes
+
+abbrev visible : List ℕ → Bool
+visible [] = true
+visible (b ∷ bs) = leb 33 b && (leb b 126 && visible bs)
+
+visible_is : (token : List ℕ) → visible token ≡ true → IsToken token
+visible_is [] e = tt
+visible_is (b ∷ bs) e =
+    let p = and_parts (leb 33 b) (leb b 126 && visible bs) e in
+    let q = and_parts (leb b 126) (visible bs) p.1 in
+    ((leb-true _ _ p.0, leb-true _ _ q.0), visible_is bs q.1)
+
+kind_token : (kind : Kind) → IsToken (kind_text kind)
+kind_token kinds.Reg = visible_is (codes "reg") refl
+kind_token kinds.Dir = visible_is (codes "dir") refl
+kind_token kinds.Sym = visible_is (codes "sym") refl
+kind_token kinds.Fifo = visible_is (codes "fifo") refl
+kind_token kinds.Sock = visible_is (codes "sock") refl
+kind_token kinds.Char = visible_is (codes "char") refl
+kind_token kinds.Block = visible_is (codes "block") refl
+
+mode_token : (mode : Mode) → IsToken (mode_text mode)
+mode_token modes.Read = visible_is (codes "r") refl
+mode_token modes.Write = visible_is (codes "w") refl
+mode_token modes.ReadWrite = visible_is (codes "rw") refl
+
+-- ---- numbers
+
+digits_token : (ds : List ℕ) → AllDigits 10 ds → IsToken ds
+digits_token [] h = tt
+digits_token (d ∷ ds) h = let r = digit_from_value d h.0 in ((omega arith, omega arith), digits_token ds h.1)
+
+number_token : (n : ℕ) → n < 2 ^ 64 → IsToken (decimal n)
+number_token n h = digits_token (decimal n) (decimal_is_IsNumeral n h).0.1
+
+-- ---- sets of rights
+
+all_append : (P : ℕ → Type 0) (xs ys : List ℕ) → AllByRecursion P xs → AllByRecursion P ys → AllByRecursion P (xs ++ ys)
+all_append P [] ys h k = k
+all_append P (x ∷ xs) ys h k = (h.0, all_append P xs ys h.1 k)
+
+join_token : (names : List (List ℕ)) → AllByRecursion IsToken names → IsToken (join_with_byte 44 names)
+join_token [] h = tt
+join_token (name ∷ []) h = h.0
+join_token (name ∷ next ∷ names) h = all_append IsVisible name (44 ∷ join_with_byte 44 (next ∷ names)) h.0 ((omega arith, omega arith), join_token (next ∷ names) h.1)
+
+abbrev all_visible : List ℕ → Bool
+all_visible [] = true
+all_visible (right ∷ rights) = visible (right_text right) && all_visible rights
+
+names_tokens : (rights : List ℕ) (set : ℕ) → all_visible rights ≡ true → AllByRecursion IsToken (names_among rights set)
+names_tokens [] set e = rw (names_end set) tt
+names_tokens (right ∷ rights) set e =
+    let p = and_parts (visible (right_text right)) (all_visible rights) e in
+    elim (cases_Bool (holds set right)) [
+      | inl there ↦ rw (names_yes right rights set there) (visible_is (right_text right) p.0, names_tokens rights set p.1)
+      | inr missing ↦ rw (names_no right rights set missing) (names_tokens rights set p.1)
+    ]
+
+digit_visible : (d : ℕ) → d < 16 → IsVisible (digit_char d)
+digit_visible d h = chosen (nat_lt d 10)
+  where
+    chosen : (b : Bool) → IsVisible (if b then 48 + d else (87 + d))
+    chosen true = (omega arith, omega arith)
+    chosen false = (omega arith, omega arith)
+
+hex_token : (ds : List ℕ) → AllBelowBase 16 ds → IsToken (map digit_char ds)
+hex_token [] h = tt
+hex_token (d ∷ ds) h = (digit_visible d h.0, hex_token ds h.1)
+
+rights_token : (set : ℕ) → IsToken (access_text set)
+rights_token set = elim (cases_lt 0 set) [
+  | inr le ↦ (let none : set ≡ 0 = omega arith in rw (none, text_none) (visible_is (codes "none") refl))
+  | inl some ↦ elim (cases_lt set 32768) [
+    | inl known ↦ rw (text_names set some known) (join_token (names_in set) (names_tokens all_rights set refl))
+    | inr unknown ↦ rw (text_number set unknown)
+        (all_append IsVisible (codes "0x") (map digit_char (digits_of 16 set)) (visible_is (codes "0x") refl) (hex_token (digits_of 16 set) (all_below_base_digits_of 16 set (omega arith))))
+  ]
+]
+
+-- ---- calls
+
+pub call_is_tokens : (call : Call) → IsCall call → AllByRecursion IsToken (call_tokens call)
+call_is_tokens (calls.Make kind target) h = (visible_is (codes "make") refl, (kind_token kind, (h.0.2, tt)))
+call_is_tokens (calls.Open mode target) h = (visible_is (codes "open") refl, (mode_token mode, (h.0.2, tt)))
+call_is_tokens (calls.Ruleset rights) h = (visible_is (codes "ruleset") refl, (rights_token rights.0, tt))
+call_is_tokens (calls.Allow number target rights) h = (visible_is (codes "allow") refl, (number_token number h.0, (h.1.0.2, (rights_token rights.0, tt))))
+call_is_tokens (calls.Confine number) h = (visible_is (codes "confine") refl, (number_token number h, tt))
+call_is_tokens calls.Connect h = absurd h
+
+-- ---- lines
+
+no_space : (token : List ℕ) → IsToken token → AllByRecursion (λ b. (b == 32) ≡ false) token
+no_space [] h = tt
+no_space (b ∷ bs) h = (ne_eqb b 32 (λ e. omega arith), no_space bs h.1)
+
+pub cut_at_spaces : (token : List ℕ) (tokens : List (List ℕ)) → AllByRecursion IsToken (token ∷ tokens) → slice_split (λ b. b == 32) (join_with_byte 32 (token ∷ tokens)) ≡ token ∷ tokens
+cut_at_spaces token [] h = slice_split_none (λ b. b == 32) token (All-from_recursion (λ b. (b == 32) ≡ false) token (no_space token h.0))
+cut_at_spaces token (next ∷ tokens) h =
+    slice_split_at (λ b. b == 32) token 32 (join_with_byte 32 (next ∷ tokens)) (All-from_recursion (λ b. (b == 32) ≡ false) token (no_space token h.0)) refl
+    ∙ ap (λ (ts : List (List ℕ)). token ∷ ts) (cut_at_spaces next tokens h.1)
+
+small : (token : List ℕ) → IsToken token → AllByRecursion (λ b. b < 128) token
+small [] h = tt
+small (b ∷ bs) h = (omega arith, small bs h.1)
+
+join_small : (tokens : List (List ℕ)) → AllByRecursion IsToken tokens → AllByRecursion (λ b. b < 128) (join_with_byte 32 tokens)
+join_small [] h = tt
+join_small (token ∷ []) h = small token h.0
+join_small (token ∷ next ∷ tokens) h = all_append (λ b. b < 128) token (32 ∷ join_with_byte 32 (next ∷ tokens)) (small token h.0) (omega arith, join_small (next ∷ tokens) h.1)
+
+ascii : (bs : List ℕ) → AllByRecursion (λ b. b < 128) bs → IsAscii bs
+ascii [] h i = omega arith
+ascii (b ∷ bs) h zero = h.0
+ascii (b ∷ bs) h (suc i) = ascii bs h.1 i
+
+pub body_is_ascii : (tokens : List (List ℕ)) → AllByRecursion IsToken tokens → IsAscii (join_with_byte 32 tokens)
+body_is_ascii tokens h = ascii _ (join_small tokens h)

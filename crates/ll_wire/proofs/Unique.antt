@@ -1,0 +1,93 @@
+-- A line spells one command.
+use Rattle.std.proofs.Common.{◌≡◌, ℕ, List, [], ◌∷◌, codes, refl, ap, sym, ◌∙◌, subst}
+use Rattle.std.specs.Prelude.{if◌then◌else◌}
+use Rattle.std.specs.Str.{bytes_eq}
+use Rattle.std.specs.List.{join_with_byte}
+use Rattle.std.specs.Fmt.{decimal}
+use Rattle.std.proofs.lemmas.Fmt.{decimal_injective}
+use Rattle.ll_rights.specs.declared.access.Access.{Access}
+use Rattle.ll_rights.specs.declared.kind.Kind.{Kind}
+use Rattle.ll_rights.specs.declared.kind.Kind.TheVariants.{Reg, Dir, Sym, Fifo, Sock, Char, Block}
+use Rattle.ll_rights.specs.Access.{access_text}
+use Rattle.ll_rights.specs.Kind.{kind_text}
+use Rattle.ll_path.specs.declared.target.Target.{Target}
+use Rattle.ll_path.specs.Target.{target_text}
+use Rattle.ll_path.proofs.TargetLemmas.{target_unique}
+use Rattle.ll_seq.specs.declared.call.Mode.{Mode}
+use Rattle.ll_seq.specs.declared.call.Mode.TheVariants.{Read, Write, ReadWrite}
+use Rattle.ll_seq.specs.declared.call.Call.{Call}
+use Rattle.ll_seq.specs.declared.call.Call.TheVariants as calls
+use Rattle.ll_wire.specs.Grammar.{mode_text, SpellsTarget, call_tokens, IsCall, SpellsCommand}
+use Rattle.ll_wire.proofs.Rights.{same_set}
+use Rattle.ll_wire.proofs.Calls.{make_is, open_is, ruleset_is, allow_is, confine_is}
+use Rattle.ll_wire.proofs.Lines.{spelled, tokens_are}
+
+-- ---- each word
+
+abbrev kind_of : List ℕ → Kind
+kind_of text = if bytes_eq text (codes "reg") then Reg else if bytes_eq text (codes "dir") then Dir else if bytes_eq text (codes "sym") then Sym
+    else if bytes_eq text (codes "fifo") then Fifo else if bytes_eq text (codes "sock") then Sock else if bytes_eq text (codes "char") then Char else Block
+
+kind_of_text : (kind : Kind) → kind_of (kind_text kind) ≡ kind
+kind_of_text Reg = refl
+kind_of_text Dir = refl
+kind_of_text Sym = refl
+kind_of_text Fifo = refl
+kind_of_text Sock = refl
+kind_of_text Char = refl
+kind_of_text Block = refl
+
+same_kind : (some other : Kind) → kind_text some ≡ kind_text other → some ≡ other
+same_kind some other e = sym (kind_of_text some) ∙ ap kind_of e ∙ kind_of_text other
+
+abbrev mode_of : List ℕ → Mode
+mode_of text = if bytes_eq text (codes "r") then Read else if bytes_eq text (codes "w") then Write else ReadWrite
+
+mode_of_text : (mode : Mode) → mode_of (mode_text mode) ≡ mode
+mode_of_text Read = refl
+mode_of_text Write = refl
+mode_of_text ReadWrite = refl
+
+same_mode : (some other : Mode) → mode_text some ≡ mode_text other → some ≡ other
+same_mode some other e = sym (mode_of_text some) ∙ ap mode_of e ∙ mode_of_text other
+
+same_target : (some other : Target) → SpellsTarget (target_text some) some → SpellsTarget (target_text other) other → target_text some ≡ target_text other → some ≡ other
+same_target some other h k e = target_unique (target_text other) some other (subst (λ (text : List ℕ). SpellsTarget text some) e h).1 k.1
+
+same_rights : (some other : Access) → access_text some.0 ≡ access_text other.0 → some ≡ other
+same_rights some other e = let same = same_set some.0 other.0 e in λ i. record { 0 = same i }
+
+-- ---- calls and commands
+
+same_call : (some other : Call) → IsCall some → IsCall other → call_tokens some ≡ call_tokens other → some ≡ other
+same_call (calls.Make kind target) other h k e =
+    let o = make_is (kind_text kind ∷ target_text target ∷ []) other (k, e) in
+    let kinds = same_kind kind o.0 cc in
+    let targets = same_target target o.1 h o.2 cc in
+    (λ i. calls.Make (kinds i) (targets i)) ∙ sym o.4
+same_call (calls.Open mode target) other h k e =
+    let o = open_is (mode_text mode ∷ target_text target ∷ []) other (k, e) in
+    let modes = same_mode mode o.0 cc in
+    let targets = same_target target o.1 h o.2 cc in
+    (λ i. calls.Open (modes i) (targets i)) ∙ sym o.4
+same_call (calls.Ruleset rights) other h k e =
+    let o = ruleset_is (access_text rights.0 ∷ []) other (k, e) in
+    let sets = same_rights rights o.0 cc in
+    ap calls.Ruleset sets ∙ sym o.2
+same_call (calls.Allow number target rights) other h k e =
+    let o = allow_is (decimal number ∷ target_text target ∷ access_text rights.0 ∷ []) other (k, e) in
+    let numbers = decimal_injective number o.0 h.0 o.3 cc in
+    let targets = same_target target o.1 h.1 o.4 cc in
+    let sets = same_rights rights o.2 cc in
+    (λ i. calls.Allow (numbers i) (targets i) (sets i)) ∙ sym o.6
+same_call (calls.Confine number) other h k e =
+    let o = confine_is (decimal number ∷ []) other (k, e) in
+    let numbers = decimal_injective number o.0 h o.1 cc in
+    ap calls.Confine numbers ∙ sym o.3
+same_call calls.Connect other h k e = absurd h
+
+pub spells_one : (line : List ℕ) (n m : ℕ) (call other : Call) → SpellsCommand line n call → SpellsCommand line m other → (n ≡ m) × (call ≡ other)
+spells_one line n m call other h k =
+    let tokens = tokens_are line (join_with_byte 32 (call_tokens call)) n call (spelled line n call h) h in
+    let others = tokens_are line (join_with_byte 32 (call_tokens call)) m other (spelled line n call h) k in
+    (h.first ∙ sym k.first, same_call call other h.is_call k.is_call (sym tokens ∙ others))

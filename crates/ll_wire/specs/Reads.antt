@@ -1,0 +1,28 @@
+-- What reading a text answers.
+use Rattle.std.specs.Prelude.{◌≡◌, ℕ, ◌^◌, ◌<◌, ◌⊎◌, List, Option, Some, None, Result, Ok, Err, decimal}
+use Rattle.ll_rights.specs.declared.errno.Errno.{Errno}
+use Rattle.ll_rights.specs.declared.errno.Errno.TheVariants.{NoMemory, BadLine}
+use Rattle.ll_rights.specs.declared.access.Access.{Access}
+use Rattle.ll_rights.specs.Access.{access_text}
+use Rattle.ll_seq.specs.declared.call.Call.{Call}
+use Rattle.ll_wire.specs.Grammar.{call_tokens, IsCall}
+
+-- The value that is spelled; BadLine only where none is, and NoMemory only where one is
+abbrev pub Reads : {V : Type 0} → (V → Type 0) → Result V Errno → Type 0
+Reads Spells (Ok v) = Spells v
+Reads {V} Spells (Err e) = ((e ≡ BadLine) × ((v : V) → Spells v → ⊥)) ⊎ ((e ≡ NoMemory) × (v : V) × Spells v)
+
+-- the value that is spelled, or none where none is
+abbrev pub Finds : {V : Type 0} → (V → Type 0) → Option V → Type 0
+Finds Spells (Some v) = Spells v
+Finds {V} Spells None = (v : V) → Spells v → ⊥
+
+abbrev pub SpellsNumber : List ℕ → ℕ → Type 0
+SpellsNumber token number = (number < 2 ^ 64) × (token ≡ decimal number)
+
+abbrev pub SpellsRights : List ℕ → Access → Type 0
+SpellsRights token rights = (rights.0 < 2 ^ 64) × (token ≡ access_text rights.0)
+
+-- the tokens spell the call
+abbrev pub SpellsCall : List (List ℕ) → Call → Type 0
+SpellsCall tokens call = IsCall call × (tokens ≡ call_tokens call)

@@ -1,0 +1,11 @@
+//! The lines of a session: commands, read, and replies, written. `specs/Grammar.antt` spells each.
+#![tactic(auto)]
+
+mod read;
+#[cfg(test)]
+mod tests;
+mod token;
+mod write;
+
+pub use read::{LINE_LIMIT, read_command};
+pub use write::reply_text;

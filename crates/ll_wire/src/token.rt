@@ -1,0 +1,58 @@
+//! Lines and their tokens.
+
+ghost use Rattle.std.specs.Prelude.{◌≡◌, ◌≢◌, ◌<◌, ◌≤◌, ◌==◌, ◌∷◌, [], ◌++◌, ℕ, List, map, length, take, slice_index, MatchBool, IfSome, IfNone};
+ghost use Rattle.std.specs.List.{slice_split};
+ghost use Rattle.std.specs.Str.{IsAscii};
+ghost use Rattle.ll_wire.specs.Reads.{Finds, SpellsNumber};
+
+// What stands before the line feed.
+pub(crate) fn body_of(line: &[u8]) -> Option<&str>
+    ensures found { IfSome result (λ body. line.now ≡ body.now ++ 10 ∷ []) }
+    ensures none { IfNone result ((body : List ℕ) → IsAscii body → line.now ≢ body ++ 10 ∷ []) }
+{
+    let (last, body) = line.split_last()?;
+    if *last != b'\n' {
+        return None;
+    }
+    match str::from_utf8(body) {
+        Ok(body) => Some(body),
+        Err(_) => None,
+    }
+}
+
+// How many tokens there are, if they find room. Two spaces have an empty token between them.
+pub(crate) fn tokens_of<'a>(body: &'a str, tokens: &mut [&'a str]) -> Option<usize>
+    ensures found { IfSome result (λ n. (n ≤ length tokens.new) × (map (λ s. s.now) (take n tokens.new) ≡ slice_split (λ b. b == 32) body.entry.now)) }
+    ensures none { IfNone result (length tokens.old < length (slice_split (λ b. b == 32) body.entry.now)) }
+{
+    let mut count = 0;
+    for token in body.split(' ') {
+        if count == tokens.len() {
+            return None;
+        }
+        tokens[count] = token;
+        count += 1;
+    }
+    Some(count)
+}
+
+// No sign, and no zero in front.
+fn is_plain(token: &str) -> bool
+    ensures { MatchBool result ((0 < length token.now) × (slice_index token.now 0 ≢ 43) × (slice_index token.now 0 ≡ 48 → length token.now ≡ 1))
+        ((0 < length token.now) × (slice_index token.now 0 ≢ 43) × (slice_index token.now 0 ≡ 48 → length token.now ≡ 1) → ⊥) }
+{
+    match token.as_bytes() {
+        [] => false,
+        [b'0'] => true,
+        [first, ..] => *first != b'+' && *first != b'0',
+    }
+}
+
+pub(crate) fn number_of(token: &str) -> Option<u64>
+    ensures { Finds (SpellsNumber token.now) result }
+{
+    if !is_plain(token) {
+        return None;
+    }
+    token.parse::<u64>().ok()
+}
