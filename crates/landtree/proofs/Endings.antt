@@ -1,0 +1,69 @@
+-- The end of the input, and whole runs.
+use Rattle.std.proofs.Common.{◌≡◌, ℕ, false, List, [], ◌∷◌, ◌++◌, Option, None, Some, refl, sym, ap, ◌∙◌, inl}
+use Rattle.std.specs.Prelude.{IfSome}
+use Rattle.std.proofs.lemmas.List.{append-nil}
+use Rattle.ll_seq.specs.State.{State}
+use Rattle.ll_wire.specs.Grammar.{reply_line}
+use Rattle.landtree.specs.declared.setup.Setup.{Setup}
+use Rattle.landtree.specs.declared.session.OpenSession.{OpenSession}
+use Rattle.landtree.specs.Transcript.{Session, pieces}
+use Rattle.landtree.specs.Run.{opening, Runs, Begins, Writes}
+use Rattle.landtree.specs.Progress.{Holds, StandsAt, IsWritten, HasBegun, Progress}
+use Rattle.landtree.proofs.Cuts.{pieces-last, kept, has_bytes}
+use Rattle.landtree.proofs.Writing.{appends-more, front-none}
+use Rattle.landtree.proofs.Advance.{Answering, Starting, lines-append, begins, piece_stops}
+
+-- the input ended with a line feed
+pub no_part : (first : Session) (input : List ℕ) (old new : Option (List ℕ)) (session : OpenSession) → session.line.bytes.items ≡ [] → session.line.is_long ≡ false
+    → Progress first input [] old new session → IsWritten first input old new
+no_part first input old new session empty short p =
+    let part : p.part ≡ [] = sym (kept session.line p.part short p.held) ∙ empty in
+    let all : pieces input ≡ p.done = p.cut ∙ rw part (append-nil p.done) in
+    (p.text, p.last, rw all p.lines, p.wrote)
+
+-- it ended without one
+pub last_part : (first : Session) (input : List ℕ) (old mid new : Option (List ℕ)) (session : OpenSession) (plain : State)
+    → (session.line.bytes.items ≡ [] → session.line.is_long ≡ false → ⊥) → Answering session.line session.plain plain mid new
+    → Progress first input [] old mid session → IsWritten first input old new
+last_part first input old mid new session plain not_empty answer p =
+    let a = answer p.last p.part p.held p.stands in
+    let all : pieces input ≡ p.done ++ p.part ∷ [] = p.cut ∙ ap (λ (x : List (List ℕ)). p.done ++ x) (pieces-last p.part (has_bytes session.line p.part not_empty p.held) p.open_part) in
+    (p.text ++ reply_line a.1, a.0, rw all (lines-append p.done first p.last a.0 p.text p.part a.1 p.lines a.2), appends-more old mid new p.text (reply_line a.1) p.wrote a.4)
+
+pub last_stops : (first : Session) (input : List ℕ) (old mid new : Option (List ℕ)) (session : OpenSession)
+    → (session.line.bytes.items ≡ [] → session.line.is_long ≡ false → ⊥) → Starting session.line session.plain mid new
+    → Progress first input [] old mid session → HasBegun first input old new
+last_stops first input old mid new session not_empty start p =
+    piece_stops first input p.part [] old mid new [] session p (pieces-last p.part (has_bytes session.line p.part not_empty p.held) p.open_part) (start p.last p.part p.held p.stands)
+
+-- ---- whole runs
+
+-- a session that is opened, and all of the input is read and answered
+abbrev pub Whole : OpenSession → (remaining remaining' old new : Option (List ℕ)) → Type 0
+Whole session remaining remaining' old new = (first : Session) (input : List ℕ) (old' : Option (List ℕ)) → remaining ≡ Some input
+    → Progress first input input old' old session → (remaining' ≡ Some []) × IsWritten first input old' new
+
+abbrev pub Part : OpenSession → (remaining old new : Option (List ℕ)) → Type 0
+Part session remaining old new = (first : Session) (input : List ℕ) (old' : Option (List ℕ)) → remaining ≡ Some input
+    → Progress first input input old' old session → HasBegun first input old' new
+
+pub runs : (setup : Setup) (remaining remaining' old new : Option (List ℕ)) (session : OpenSession) → Holds session.line [] → StandsAt session.plain (opening setup)
+    → Whole session remaining remaining' old new
+    → IfSome remaining (λ input. (left : List ℕ) × (remaining' ≡ Some left) × Writes old new (Runs setup input left))
+runs setup None remaining' old new session held stands whole = tt
+runs setup (Some input) remaining' old new session held stands whole =
+    let w = whole (opening setup) input old refl (begins (opening setup) input old session held stands) in
+    ([], w.0, (w.1.0, inl (opening setup, w.1.1, refl, refl, w.1.2), w.1.3))
+
+has_begun : (setup : Setup) (input : List ℕ) (old new : Option (List ℕ)) → HasBegun (opening setup) input old new → Writes old new (Begins setup input)
+has_begun setup input old new h = (h.6.0, (opening setup, h.3, h.0, h.1, h.2, h.6.1, refl, h.4, h.5, h.6.2), h.6.3)
+
+pub run_stops : (setup : Setup) (remaining old new : Option (List ℕ)) (session : OpenSession) → Holds session.line [] → StandsAt session.plain (opening setup)
+    → Part session remaining old new → IfSome remaining (λ input. Writes old new (Begins setup input))
+run_stops setup None old new session held stands part = tt
+run_stops setup (Some input) old new session held stands part =
+    has_begun setup input old new (part (opening setup) input old refl (begins (opening setup) input old session held stands))
+
+pub not_opened : (setup : Setup) (remaining old : Option (List ℕ)) → IfSome remaining (λ input. Writes old old (Begins setup input))
+not_opened setup None old = tt
+not_opened setup (Some input) old = has_begun setup input old old ([], pieces input, [], opening setup, refl, (refl, refl), front-none old [])

@@ -1,0 +1,18 @@
+use Rattle.std.proofs.Common.{List, ℕ, ◌∙◌, subst}
+use Rattle.ll_wire.specs.Grammar.{SpellsCommand}
+use Rattle.landtree.proofs.Cuts.{kept}
+use Rattle.landtree.proofs.Replies.{called, spells_none, too_long, not_read}
+use Rattle.landtree.proofs.session.OpenSession.reply.Goals as goal
+
+pub returns-then-self-clause-answers : goal.returns-then-self-clause-answers
+returns-then-self-clause-answers c s piece held stands = spells_none s piece _ (too_long c.args.self.now.line piece c.if-self.true held) stands
+
+pub returns-in-Ok-clause-answers : goal.returns-in-Ok-clause-answers
+returns-in-Ok-clause-answers c s piece held stands =
+    let same = c.deref.ensures.value ∙ kept c.args.self.now.line piece c.if-self.false held in
+    called s piece c.args.self.now.plain c.apply.new.self c.in-Ok.field-0-0 c.in-Ok.call c.apply.result 0 stands
+    (subst (λ (p : List ℕ). SpellsCommand p c.in-Ok.field-0-0 c.in-Ok.call) same c.in-Ok.ensures) c.apply.ensures.step c.apply.ensures.no_memory
+
+pub returns-in-Err-clause-answers : goal.returns-in-Err-clause-answers
+returns-in-Err-clause-answers c s piece held stands =
+    not_read s piece _ _ c.in-Err.errno (c.deref.ensures.value ∙ kept c.args.self.now.line piece c.if-self.false held) c.in-Err.ensures stands

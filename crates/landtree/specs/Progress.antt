@@ -1,0 +1,60 @@
+-- How far a run has come.
+use Rattle.std.specs.Prelude.{◌≡◌, ◌≢◌, ℕ, ◌≤◌, ◌<◌, List, [], ◌∷◌, ◌++◌, length, Option, None, MatchBool}
+use Rattle.std.specs.List.{AllByRecursion}
+use Rattle.std.specs.Io.KnownBytes.{Appends}
+use Rattle.ll_seq.specs.declared.reply.Reply.{Reply}
+use Rattle.ll_seq.specs.State.{State}
+use Rattle.ll_wire.specs.Grammar.{reply_line}
+use Rattle.landtree.specs.declared.line.Line.{Line}
+use Rattle.landtree.specs.declared.session.OpenSession.{OpenSession}
+use Rattle.landtree.specs.Transcript.{Session, Called, Answers, Transcript, pieces}
+
+-- the bytes since the last line feed: kept, or over 16,384 of them
+abbrev pub Holds : Line → List ℕ → Type 0
+Holds line part = MatchBool line.is_long (16384 < length part) ((line.bytes.items ≡ part) × (length part ≤ 16384))
+
+-- the session with this tree, of its first client alone and without a limit
+pub record StandsAt (plain : State) (s : Session) : Type 0 where
+  pub tree : s.tree ≡ plain
+  pub clients : s.clients ≡ 1 ∷ []
+  pub limit : s.limit ≡ None
+
+abbrev pub AnswersLine : Session → List ℕ → Reply → Session → Type 0
+AnswersLine = Answers (λ s. s.clients) Called
+
+abbrev pub Lines : Session → List (List ℕ) → List ℕ → Session → Type 0
+Lines = Transcript (λ s. s.clients) Called
+
+-- a front of the text is written
+abbrev pub AppendsFront : (old new : Option (List ℕ)) → List ℕ → Type 0
+AppendsFront old new text = (front back : List ℕ) × (text ≡ front ++ back) × Appends old new front
+
+-- the piece is answered, the answer is written, and this tree is left
+abbrev pub IsAnswered : Session → List ℕ → State → (old new : Option (List ℕ)) → Type 0
+IsAnswered s piece left old new = (t : Session) × (reply : Reply) × AnswersLine s piece reply t × StandsAt left t × Appends old new (reply_line reply)
+
+-- the piece is answered, and a front of the answer is written
+abbrev pub IsStarted : Session → List ℕ → (old new : Option (List ℕ)) → Type 0
+IsStarted s piece old new = (t : Session) × (reply : Reply) × AnswersLine s piece reply t × AppendsFront old new (reply_line reply)
+
+-- the whole transcript is written
+abbrev pub IsWritten : Session → List ℕ → (old new : Option (List ℕ)) → Type 0
+IsWritten first input old new = (text : List ℕ) × (last : Session) × Lines first (pieces input) text last × Appends old new text
+
+-- a beginning of the transcript of some first pieces is written
+abbrev pub HasBegun : Session → List ℕ → (old new : Option (List ℕ)) → Type 0
+HasBegun first input old new =
+    (done more : List (List ℕ)) × (text : List ℕ) × (last : Session) × (pieces input ≡ done ++ more) × Lines first done text last × AppendsFront old new text
+
+-- Of the input this is left to read. The pieces before the line that is being read are answered, and their transcript is written
+pub record Progress (first : Session) (input left : List ℕ) (old new : Option (List ℕ)) (open_session : OpenSession) : Type 0 where
+  pub done : List (List ℕ)
+  pub part : List ℕ
+  pub text : List ℕ
+  pub last : Session
+  pub cut : pieces input ≡ done ++ pieces (part ++ left)
+  pub open_part : AllByRecursion (λ b. b ≢ 10) part
+  pub held : Holds open_session.line part
+  pub lines : Lines first done text last
+  pub stands : StandsAt open_session.plain last
+  pub wrote : Appends old new text

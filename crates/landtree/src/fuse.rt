@@ -1,0 +1,62 @@
+//! Devices for tests. They give and take one byte at a time, and fail once their calls are used up.
+
+ghost use Rattle.std.specs.Prelude.{Some};
+
+use std::io;
+use std::io::{ErrorKind, Read, Write};
+
+#[derive(Drop)]
+pub struct Source<'a> {
+    pub rest: &'a [u8],
+    pub calls: usize,
+}
+
+impl Read for Source<'_> {
+    ghost remaining = { λ source. Some source.rest.now };
+
+    fn read(&mut self, buf: &mut [u8]) -> io::Result<usize> {
+        if self.calls == 0 {
+            return Err(io::Error::from(ErrorKind::Other));
+        }
+        self.calls -= 1;
+        if buf.len() == 0 {
+            return Ok(0);
+        }
+        match self.rest {
+            [] => Ok(0),
+            [first, rest @ ..] => {
+                buf[0] = *first;
+                self.rest = rest;
+                Ok(1)
+            }
+        }
+    }
+}
+
+#[derive(Drop)]
+pub struct Sink {
+    pub held: Vec<u8>,
+    pub calls: usize,
+}
+
+impl Write for Sink {
+    ghost contents = { λ sink. Some sink.held.items };
+
+    fn write(&mut self, buf: &[u8]) -> io::Result<usize> {
+        if self.calls == 0 {
+            return Err(io::Error::from(ErrorKind::Other));
+        }
+        self.calls -= 1;
+        match buf {
+            [] => Ok(0),
+            [first, ..] => {
+                self.held.push(*first)?;
+                Ok(1)
+            }
+        }
+    }
+
+    fn flush(&mut self) -> io::Result<()> {
+        Ok(())
+    }
+}

@@ -1,0 +1,38 @@
+//! Script files.
+
+use std::fs::File;
+use std::io;
+use std::io::Read;
+use std::rt::Files;
+
+/// A file that its first read opens, so that faults found before are told first.
+#[derive(Drop)]
+pub struct ScriptFile<'a, R: Files> {
+    rt: &'a R,
+    path: &'a str,
+    file: Option<R::File>,
+}
+
+impl<'a, R: Files> ScriptFile<'a, R> {
+    pub fn new(rt: &'a R, path: &'a str) -> Self {
+        ScriptFile {
+            rt,
+            path,
+            file: None,
+        }
+    }
+}
+
+impl<R: Files> Read for ScriptFile<'_, R> {
+    fn read(&mut self, buf: &mut [u8]) -> io::Result<usize> {
+        match &mut self.file {
+            Some(file) => file.read(buf),
+            None => {
+                let mut file = File::open(self.rt, self.path)?;
+                let count = file.read(buf)?;
+                self.file = Some(file);
+                Ok(count)
+            }
+        }
+    }
+}
