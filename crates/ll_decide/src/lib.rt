@@ -1,6 +1,13 @@
-//! Denials: what a layer lacks or would gain, in the order in which it is told.
+//! Denials: what a layer lacks or would gain, in the order in which it is told; and the decision
+//! by masks, one set of rights for each layer.
 #![tactic(auto)]
 
+mod deciding;
 mod denial;
+mod masks;
+#[cfg(test)]
+mod tests;
 
+pub use deciding::{Asked, Moved, verdict};
 pub use denial::{Cause, Denial, Place};
+pub use masks::Masks;

@@ -1,0 +1,4 @@
+pub mod Agreeing
+pub mod Bits
+pub mod Carried
+pub mod Finding

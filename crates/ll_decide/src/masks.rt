@@ -1,0 +1,149 @@
+//! Masks: one set of rights for each layer, carried down a path.
+
+ghost use Rattle.std.specs.Prelude.{◌≡◌, ℕ, ◌<◌, List, [], ◌∷◌, ◌++◌, length, slice_get, slice_index, Some};
+ghost use Rattle.ll_rights.specs.Access.{holds};
+ghost use Rattle.ll_decide.specs.Masks.{IsMask, AreMasks, numbers_of};
+
+use ll_rights::{Access, Right};
+use ll_rules::{Domain, Layer};
+use smallvec::SmallVec;
+use std::alloc::Global;
+use std::marker::Model;
+
+/// For each layer of a domain, the oldest first, the set of the rights that it grants on a chain of
+/// inodes. Contracts see the sets as numbers. It takes no memory.
+#[derive(Drop)]
+pub struct Masks {
+    masks: SmallVec<Mask, 16>,
+}
+
+impl Model for Masks {
+    ghost use Rattle.std.specs.Prelude.{◌≡◌, ℕ, ◌≤◌, List, length};
+
+    ghost Value = { List ℕ };
+
+    ghost use Rattle.ll_decide.specs.Masks.{numbers_of};
+
+    ghost view = { λ all. numbers_of all.masks.items };
+
+    // All stand in the inline places.
+    ghost invariant = { λ all. (length all.masks.items ≤ 16) × (all.masks.capacity ≡ 16) };
+}
+
+const ROOT: u64 = 1;
+
+impl Masks {
+    /// The masks over the chain of the root alone, which is inode 1.
+    pub fn root(alloc: Global, domain: &Domain) -> Masks
+        ensures masks { AreMasks result domain.now (1 ∷ []) }
+        ensures len { length result ≡ length domain.now }
+    {
+        let mut masks = Masks::start(alloc, domain);
+        masks.down(domain, ROOT);
+        masks
+    }
+
+    // over no inode
+    fn start(alloc: Global, domain: &Domain) -> Masks
+        ensures { AreMasks result domain.now [] }
+    {
+        // There is a place for each layer.
+        prove!(domain.len() <= 16);
+        let mut masks = SmallVec::new(alloc);
+        for layer in domain.layers() {
+            masks.push_reserved(Mask::unrestricted(layer));
+        }
+        Masks { masks }
+    }
+
+    /// The same over the chain with one inode more at its end.
+    pub fn down(&mut self, domain: &Domain, inode: u64)
+        requires { length self.old ≡ length domain.now }
+        ensures masks { (inodes : List ℕ) → AreMasks self.old domain.now inodes → AreMasks self.new domain.now (inodes ++ inode ∷ []) }
+        ensures len { length self.new ≡ length self.old }
+    {
+        add_rules(self.masks.as_mut_slice(), domain.layers(), inode);
+    }
+
+    /// The same masks again.
+    pub fn copy(&self) -> Masks
+        ensures { result ≡ self.now }
+    {
+        let alloc = *self.masks.allocator();
+        let Ok(masks) = SmallVec::from_slice(alloc, self.masks.as_slice()) else {
+            unreachable!()
+        };
+        Masks { masks }
+    }
+
+    /// How many layers there are.
+    pub fn len(&self) -> usize
+        ensures { result ≡ length self.now }
+    {
+        self.masks.len()
+    }
+
+    /// What a layer grants; the oldest is 0.
+    pub fn layer(&self, number: usize) -> Access
+        requires { number < length self.now }
+        ensures { slice_get self.now number ≡ Some result.0 }
+    {
+        self.masks.as_slice()[number].rights
+    }
+
+    /// Whether a layer grants the right. A layer that isn't there grants nothing.
+    pub fn holds(&self, layer: usize, right: Right) -> bool
+        ensures { result ≡ holds (slice_index self.now layer) right }
+    {
+        match self.masks.as_slice().get(layer) {
+            None => false,
+            Some(mask) => mask.rights.holds(right),
+        }
+    }
+}
+
+/// What one layer grants.
+#[derive(Clone, Copy)]
+struct Mask {
+    rights: Access,
+}
+
+impl Default for Mask {
+    // stands in the places that no layer takes
+    fn default() -> Mask {
+        Mask { rights: Access(0) }
+    }
+}
+
+impl Mask {
+    // with no rule
+    fn unrestricted(layer: &Layer) -> Mask
+        ensures { IsMask result.rights.0 layer.now [] }
+    {
+        let restricted = layer.handled().with(Access::REFER);
+        Mask {
+            rights: Access(Access::ALL.0 & !restricted.0),
+        }
+    }
+
+    // over the chain with one inode more
+    fn with_rule(self, layer: &Layer, inode: u64) -> Mask
+        ensures { (inodes : List ℕ) → IsMask self.rights.0 layer.now inodes → IsMask result.rights.0 layer.now (inodes ++ inode ∷ []) }
+    {
+        let granted = Access(layer.rule(inode).0 & Access::ALL.0);
+        Mask {
+            rights: self.rights.with(granted),
+        }
+    }
+}
+
+// each mask over the chain with one inode more
+fn add_rules(masks: &mut [Mask], layers: &[Layer], inode: u64)
+    requires { length masks.old ≡ length layers.now }
+    ensures masks { (inodes : List ℕ) → AreMasks (numbers_of masks.old) layers.now inodes → AreMasks (numbers_of masks.new) layers.now (inodes ++ inode ∷ []) }
+    ensures len { length masks.new ≡ length masks.old }
+{
+    for (i, mask) in masks.iter_mut().enumerate() {
+        *mask = mask.with_rule(&layers[i], inode);
+    }
+}
