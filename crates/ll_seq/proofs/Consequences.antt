@@ -1,5 +1,5 @@
 -- What follows from one step for every call: which refusals there are, who stays, and how inode numbers grow.
-use Rattle.std.specs.Prelude.{◌≡◌, ◌≢◌, ℕ, ◌+◌, ◌≤◌, Bool, true, false, not, ◌||◌, List, [], ◌∷◌, ◌++◌, map, length, Option, Some, None, is_some, is_none, nat_le, nat_lt, nat_eq, ◌==◌, ◌&&◌, codes, slice_get, cond, refl, ◌⊎◌}
+use Rattle.std.specs.Prelude.{◌≡◌, ◌≢◌, ℕ, ◌+◌, ◌≤◌, Bool, true, false, not, ◌||◌, List, [], ◌∷◌, ◌++◌, map, length, Option, Some, None, is_some, is_none, nat_le, nat_lt, nat_eq, ◌==◌, ◌&&◌, codes, slice_get, cond, if◌then◌else◌, ⊤, refl, ◌⊎◌}
 use Rattle.std.specs.List.{AllByRecursion, list_any, starts_with}
 use Rattle.std.specs.Option.{option_map_or}
 use Rattle.std.specs.Ordering.{nat_cmp, eq_by_cmp}
@@ -9,34 +9,37 @@ use Rattle.std.proofs.Common.{ap, subst, ◌∙◌, inl, inr, arith}
 use Rattle.ll_rights.specs.declared.kind.Kind.{Kind}
 use Rattle.ll_rights.specs.declared.kind.Kind.TheVariants.{Reg, Dir, Sym, Fifo, Sock, Char, Block}
 use Rattle.ll_rights.specs.declared.errno.Errno.{Errno}
-use Rattle.ll_rights.specs.declared.errno.Errno.TheVariants.{NoMemory, ENOENT, EEXIST, EINVAL, EBUSY, EBADF, EMFILE, ENOSPC, ENAMETOOLONG, E2BIG, ENOMSG}
+use Rattle.ll_rights.specs.declared.errno.Errno.TheVariants.{NoMemory, ENOENT, EEXIST, ENOTDIR, EISDIR, ENOTEMPTY, EINVAL, EFBIG, EBUSY, EBADF, EMFILE, ENOSPC, ENAMETOOLONG, E2BIG, ENOMSG}
 use Rattle.ll_rights.specs.Errno.{refuse, errno_number}
-use Rattle.ll_rights.specs.Map.{Map, get, has, insert, len}
+use Rattle.ll_rights.specs.Map.{Map, get, has, insert, remove, len}
 use Rattle.ll_rights.specs.Access.{is_within, all_set, file_set}
 use Rattle.ll_rights.specs.Kind.{is_dir}
-use Rattle.ll_rights.proofs.Maps.{get-insert}
+use Rattle.ll_rights.proofs.Maps.{equal_at, get-insert}
 use Rattle.ll_path.specs.Path as paths
 use Rattle.ll_path.specs.Path.{Path}
 use Rattle.ll_path.specs.declared.target.Target.{Target}
 use Rattle.ll_path.specs.declared.target.Target.TheVariants.{Good, Bad}
 use Rattle.ll_decide.specs.declared.denial.Denial.{Denial}
 use Rattle.ll_seq.specs.declared.client.Client.{Client}
+use Rattle.ll_seq.specs.declared.entries.Slot.{Slot}
+use Rattle.ll_seq.specs.declared.node.Node.{Node}
+use Rattle.ll_seq.specs.declared.call.Mode.{Mode}
 use Rattle.ll_seq.specs.declared.call.Call.{Call}
-use Rattle.ll_seq.specs.declared.call.Call.TheVariants.{Make, Open, Ruleset, Allow, Confine, Connect}
+use Rattle.ll_seq.specs.declared.call.Call.TheVariants.{Make, Open, Truncate, ReadDir, Stat, Exec, Unlink, Rmdir, Ruleset, Allow, Confine, Connect}
 use Rattle.ll_seq.specs.declared.reply.Reply.{Reply}
-use Rattle.ll_seq.specs.declared.reply.Reply.TheVariants.{Done, Opened, Created, Refused, Denied}
-use Rattle.ll_seq.specs.State.{State, child, root}
+use Rattle.ll_seq.specs.declared.reply.Reply.TheVariants.{Done, Opened, Listed, Found, Created, Refused, Denied}
+use Rattle.ll_seq.specs.State.{State, child, root, bytes_of}
 use Rattle.ll_seq.specs.Call.{path_of}
 use Rattle.ll_seq.specs.Tree.{named, inode_of, directory_of, kind_at}
 use Rattle.ll_seq.specs.Asked.{call_denials}
-use Rattle.ll_seq.specs.Stages.{bad_text, text_refusals, number_refusals, relation_refusals, walk_refusals, existence_refusals, kind_refusals, limit_refusals, in_the_way, kind_of_child, no_directory, not_to_open, ruleset_at, is_crowded, lowest_free}
-use Rattle.ll_seq.specs.Effects.{done}
+use Rattle.ll_seq.specs.Stages.{bad_text, text_refusals, number_refusals, relation_refusals, walk_refusals, existence_refusals, kind_refusals, limit_refusals, in_the_way, kind_of_child, no_directory, not_to_open, not_to_truncate, is_dir_at, has_names, is_too_long, ruleset_at, is_crowded, lowest_free}
+use Rattle.ll_seq.specs.Effects.{lives, without_name, slot_of, resized, with_bytes, with_opened, emptied, done}
 use Rattle.ll_seq.specs.Step.{step, first_or, refusals, client_of, IsAnswer}
 
 -- ---- refusals
 
 abbrev Fine : Errno → Type 0
-Fine e = (3 ≤ errno_number e) × (errno_number e ≤ 22)
+Fine e = (3 ≤ errno_number e) × (errno_number e ≤ 20)
 
 abbrev AllFine : List Errno → Type 0
 AllFine errs = AllByRecursion Fine errs
@@ -98,29 +101,43 @@ open_fine Sock = ((omega arith, omega arith), tt)
 open_fine Char = ((omega arith, omega arith), tt)
 open_fine Block = ((omega arith, omega arith), tt)
 
+truncate_fine : (k : Kind) → AllFine (not_to_truncate k)
+truncate_fine Reg = tt
+truncate_fine Dir = ((omega arith, omega arith), tt)
+truncate_fine Sym = ((omega arith, omega arith), tt)
+truncate_fine Fifo = ((omega arith, omega arith), tt)
+truncate_fine Sock = ((omega arith, omega arith), tt)
+truncate_fine Char = ((omega arith, omega arith), tt)
+truncate_fine Block = ((omega arith, omega arith), tt)
+
 -- ---- replies
 
-abbrev AllAnswers : List Reply → Type 0
-AllAnswers replies = AllByRecursion IsAnswer replies
+-- what a step answers: no want of memory
+abbrev Settles : Reply → Type 0
+Settles (Refused errno) = Fine errno
+Settles _ = ⊤
 
-together : (xs ys : List Reply) → AllAnswers xs → AllAnswers ys → AllAnswers (xs ++ ys)
+abbrev AllSettle : List Reply → Type 0
+AllSettle replies = AllByRecursion Settles replies
+
+together : (xs ys : List Reply) → AllSettle xs → AllSettle ys → AllSettle (xs ++ ys)
 together [] ys h k = k
 together (x ∷ xs) ys h k = (h.0, together xs ys h.1 k)
 
-refused_all : (errs : List Errno) → AllFine errs → AllAnswers (map Refused errs)
+refused_all : (errs : List Errno) → AllFine errs → AllSettle (map Refused errs)
 refused_all [] h = tt
 refused_all (e ∷ errs) h = (h.0, refused_all errs h.1)
 
-denied_all : (ds : List Denial) → AllAnswers (map Denied ds)
+denied_all : (ds : List Denial) → AllSettle (map Denied ds)
 denied_all [] = tt
 denied_all (d ∷ ds) = (tt, denied_all ds)
 
-answered : (s : State) (xs : List Reply) (o : Reply × State) → AllAnswers xs → IsAnswer o.0 → IsAnswer (first_or s xs o).0
+answered : (s : State) (xs : List Reply) (o : Reply × State) → AllSettle xs → Settles o.0 → Settles (first_or s xs o).0
 answered s [] o h fine = fine
 answered s (x ∷ xs) o h fine = h.0
 
 all_stages : (t n r w e : List Errno) (d : List Denial) (k l : List Errno) → AllFine t → AllFine n → AllFine r → AllFine w → AllFine e → AllFine k → AllFine l
-    → AllAnswers (map Refused t ++ map Refused n ++ map Refused r ++ map Refused w ++ map Refused e ++ map Denied d ++ map Refused k ++ map Refused l)
+    → AllSettle (map Refused t ++ map Refused n ++ map Refused r ++ map Refused w ++ map Refused e ++ map Denied d ++ map Refused k ++ map Refused l)
 all_stages t n r w e d k l ht hn hr hw he hk hl =
     let a2 = together (map Refused t) (map Refused n) (refused_all t ht) (refused_all n hn) in
     let a3 = together (map Refused t ++ map Refused n) (map Refused r) a2 (refused_all r hr) in
@@ -133,6 +150,12 @@ all_stages t n r w e d k l ht hn hr hw he hk hl =
 text_fine : (call : Call) → AllFine (text_refusals call)
 text_fine (Make kind t) = target_fine t
 text_fine (Open mode t) = target_fine t
+text_fine (Truncate t size) = target_fine t
+text_fine (ReadDir t) = target_fine t
+text_fine (Stat t) = target_fine t
+text_fine (Exec t) = target_fine t
+text_fine (Unlink t) = target_fine t
+text_fine (Rmdir t) = target_fine t
 text_fine (Ruleset rights) = tt
 text_fine (Allow rs t rights) = target_fine t
 text_fine (Confine rs) = tt
@@ -141,6 +164,12 @@ text_fine Connect = tt
 number_fine : (c : Client) (call : Call) → AllFine (number_refusals c call)
 number_fine c (Make kind t) = tt
 number_fine c (Open mode t) = tt
+number_fine c (Truncate t size) = tt
+number_fine c (ReadDir t) = tt
+number_fine c (Stat t) = tt
+number_fine c (Exec t) = tt
+number_fine c (Unlink t) = tt
+number_fine c (Rmdir t) = tt
 number_fine c (Ruleset rights) = tt
 number_fine c (Allow rs t rights) = if_refused (is_none (slice_get c.rulesets rs)) EBADF (omega arith, omega arith)
 number_fine c (Confine rs) = if_refused (is_none (slice_get c.rulesets rs)) EBADF (omega arith, omega arith)
@@ -149,6 +178,12 @@ number_fine c Connect = tt
 relation_fine : (call : Call) → AllFine (relation_refusals call)
 relation_fine (Make kind t) = if_refused (paths.is_root (path_of t)) EBUSY (omega arith, omega arith)
 relation_fine (Open mode t) = tt
+relation_fine (Truncate t size) = tt
+relation_fine (ReadDir t) = tt
+relation_fine (Stat t) = tt
+relation_fine (Exec t) = tt
+relation_fine (Unlink t) = if_refused (paths.is_root (path_of t)) EBUSY (omega arith, omega arith)
+relation_fine (Rmdir t) = if_refused (paths.is_root (path_of t)) EBUSY (omega arith, omega arith)
 relation_fine (Ruleset rights) = tt
 relation_fine (Allow rs t rights) = tt
 relation_fine (Confine rs) = tt
@@ -157,6 +192,12 @@ relation_fine Connect = tt
 walk_fine : (s : State) (call : Call) → AllFine (walk_refusals s call)
 walk_fine s (Make kind t) = way_fine s (paths.parent (path_of t)) root
 walk_fine s (Open mode t) = way_fine s (paths.parent (path_of t)) root
+walk_fine s (Truncate t size) = way_fine s (paths.parent (path_of t)) root
+walk_fine s (ReadDir t) = way_fine s (paths.parent (path_of t)) root
+walk_fine s (Stat t) = way_fine s (paths.parent (path_of t)) root
+walk_fine s (Exec t) = way_fine s (paths.parent (path_of t)) root
+walk_fine s (Unlink t) = way_fine s (paths.parent (path_of t)) root
+walk_fine s (Rmdir t) = way_fine s (paths.parent (path_of t)) root
 walk_fine s (Ruleset rights) = tt
 walk_fine s (Allow rs t rights) = way_fine s (paths.parent (path_of t)) root
 walk_fine s (Confine rs) = tt
@@ -165,6 +206,12 @@ walk_fine s Connect = tt
 existence_fine : (s : State) (call : Call) → AllFine (existence_refusals s call)
 existence_fine s (Make kind t) = if_refused (is_some (named s (path_of t))) EEXIST (omega arith, omega arith)
 existence_fine s (Open mode t) = if_refused (is_none (named s (path_of t))) ENOENT (omega arith, omega arith)
+existence_fine s (Truncate t size) = if_refused (is_none (named s (path_of t))) ENOENT (omega arith, omega arith)
+existence_fine s (ReadDir t) = if_refused (is_none (named s (path_of t))) ENOENT (omega arith, omega arith)
+existence_fine s (Stat t) = if_refused (is_none (named s (path_of t))) ENOENT (omega arith, omega arith)
+existence_fine s (Exec t) = if_refused (is_none (named s (path_of t))) ENOENT (omega arith, omega arith)
+existence_fine s (Unlink t) = if_refused (is_none (named s (path_of t))) ENOENT (omega arith, omega arith)
+existence_fine s (Rmdir t) = if_refused (is_none (named s (path_of t))) ENOENT (omega arith, omega arith)
 existence_fine s (Ruleset rights) = tt
 existence_fine s (Allow rs t rights) = if_refused (is_none (named s (path_of t))) ENOENT (omega arith, omega arith)
 existence_fine s (Confine rs) = tt
@@ -182,6 +229,13 @@ rule_fine a b c =
 kind_fine : (s : State) (c : Client) (call : Call) → AllFine (kind_refusals s c call)
 kind_fine s c (Make kind t) = tt
 kind_fine s c (Open mode t) = open_fine (kind_at s (path_of t))
+kind_fine s c (Truncate t size) = truncate_fine (kind_at s (path_of t))
+kind_fine s c (ReadDir t) = if_refused (not (is_dir_at s t)) ENOTDIR (omega arith, omega arith)
+kind_fine s c (Stat t) = tt
+kind_fine s c (Exec t) = open_fine (kind_at s (path_of t))
+kind_fine s c (Unlink t) = if_refused (is_dir_at s t) EISDIR (omega arith, omega arith)
+kind_fine s c (Rmdir t) = joined (refuse (not (is_dir_at s t)) ENOTDIR) (refuse (has_names s (inode_of s (path_of t))) ENOTEMPTY)
+    (if_refused (not (is_dir_at s t)) ENOTDIR (omega arith, omega arith)) (if_refused (has_names s (inode_of s (path_of t))) ENOTEMPTY (omega arith, omega arith))
 kind_fine s c (Ruleset rights) = create_fine (not (is_within rights.0 all_set)) (rights.0 == 0)
 kind_fine s c (Allow rs t rights) =
     rule_fine (rights.0 == 0) (not (is_within rights.0 (ruleset_at c rs).handled)) (not (is_dir (kind_at s (path_of t))) && not (is_within rights.0 file_set))
@@ -191,27 +245,51 @@ kind_fine s c Connect = tt
 limit_fine : (s : State) (c : Client) (call : Call) → AllFine (limit_refusals s c call)
 limit_fine s c (Make kind t) = if_refused (is_crowded s (directory_of s (path_of t)) || nat_le s.room (len s.nodes)) ENOSPC (omega arith, omega arith)
 limit_fine s c (Open mode t) = if_refused (is_none (lowest_free c.descriptors)) EMFILE (omega arith, omega arith)
+limit_fine s c (Truncate t size) = if_refused (is_too_long size) EFBIG (omega arith, omega arith)
+limit_fine s c (ReadDir t) = tt
+limit_fine s c (Stat t) = tt
+limit_fine s c (Exec t) = tt
+limit_fine s c (Unlink t) = tt
+limit_fine s c (Rmdir t) = tt
 limit_fine s c (Ruleset rights) = if_refused (nat_le 16 (length c.rulesets)) EMFILE (omega arith, omega arith)
 limit_fine s c (Allow rs t rights) =
     if_refused (nat_le 256 (len (ruleset_at c rs).rules) && not (has (ruleset_at c rs).rules (inode_of s (path_of t)))) E2BIG (omega arith, omega arith)
 limit_fine s c (Confine rs) = if_refused (nat_le 16 (length c.domain)) E2BIG (omega arith, omega arith)
 limit_fine s c Connect = if_refused (nat_le 64 (len s.clients)) EMFILE (omega arith, omega arith)
 
-all_refusals : (s : State) (c : Client) (call : Call) → AllAnswers (refusals s c call)
+all_refusals : (s : State) (c : Client) (call : Call) → AllSettle (refusals s c call)
 all_refusals s c call =
     all_stages (text_refusals call) (number_refusals c call) (relation_refusals call) (walk_refusals s call) (existence_refusals s call) (call_denials s c call) (kind_refusals s c call) (limit_refusals s c call)
     (text_fine call) (number_fine c call) (relation_fine call) (walk_fine s call) (existence_fine s call) (kind_fine s c call) (limit_fine s c call)
 
-done_answers : (s : State) (number : ℕ) (c : Client) (call : Call) (fresh : ℕ) → IsAnswer (done s number c call fresh).0
-done_answers s number c (Make kind t) fresh = tt
-done_answers s number c (Open mode t) fresh = tt
-done_answers s number c (Ruleset rights) fresh = tt
-done_answers s number c (Allow rs t rights) fresh = tt
-done_answers s number c (Confine rs) fresh = tt
-done_answers s number c Connect fresh = tt
+done_settles : (s : State) (number : ℕ) (c : Client) (call : Call) (fresh : ℕ) → Settles (done s number c call fresh).0
+done_settles s number c (Make kind t) fresh = tt
+done_settles s number c (Open mode t) fresh = tt
+done_settles s number c (Truncate t size) fresh = tt
+done_settles s number c (ReadDir t) fresh = tt
+done_settles s number c (Stat t) fresh = tt
+done_settles s number c (Exec t) fresh = tt
+done_settles s number c (Unlink t) fresh = tt
+done_settles s number c (Rmdir t) fresh = tt
+done_settles s number c (Ruleset rights) fresh = tt
+done_settles s number c (Allow rs t rights) fresh = tt
+done_settles s number c (Confine rs) fresh = tt
+done_settles s number c Connect fresh = tt
+
+step-settles : (s : State) (number : ℕ) (call : Call) (fresh : ℕ) → Settles (step s number call fresh).0
+step-settles s number call fresh = answered s (refusals s (client_of s number) call) (done s number (client_of s number) call fresh) (all_refusals s (client_of s number) call) (done_settles s number (client_of s number) call fresh)
+
+settled_answer : (r : Reply) → Settles r → IsAnswer r
+settled_answer Done h = tt
+settled_answer (Opened n) h = tt
+settled_answer (Listed names) h = tt
+settled_answer (Found status) h = tt
+settled_answer (Created n) h = tt
+settled_answer (Denied d) h = tt
+settled_answer (Refused errno) h = inl h
 
 pub step-IsAnswer : (s : State) (number : ℕ) (call : Call) (fresh : ℕ) → IsAnswer (step s number call fresh).0
-step-IsAnswer s number call fresh = answered s (refusals s (client_of s number) call) (done s number (client_of s number) call fresh) (all_refusals s (client_of s number) call) (done_answers s number (client_of s number) call fresh)
+step-IsAnswer s number call fresh = settled_answer (step s number call fresh).0 (step-settles s number call fresh)
 
 -- ---- the state after
 
@@ -219,27 +297,101 @@ kept_or : (P : State → Type 0) (s : State) (xs : List Reply) (o : Reply × Sta
 kept_or P s [] o h k = k
 kept_or P s (x ∷ xs) o h k = h
 
+-- what bytes and lost names leave alone
+record Beside (s t : State) : Type 0 where
+  clients : t.clients ≡ s.clients
+  next : t.next ≡ s.next
+
+bytes_beside : (s : State) (inode : ℕ) (bytes : List ℕ) → Beside s (with_bytes s inode bytes)
+bytes_beside s inode bytes = of (get s.nodes inode)
+  where
+    of : (o : Option Node) → Beside s (option_map_or (λ (n : Node). record s { nodes = insert s.nodes inode (record n { bytes = bytes }) }) o s)
+    of None = record { clients = refl; next = refl }
+    of (Some n) = record { clients = refl; next = refl }
+
+emptied_beside : (s : State) (mode : Mode) (path : Path) → Beside s (emptied s mode path)
+emptied_beside s mode path = of mode.truncate
+  where
+    of : (b : Bool) → Beside s (if b then with_bytes s (inode_of s path) [] else s)
+    of true = bytes_beside s (inode_of s path) []
+    of false = record { clients = refl; next = refl }
+
+gone_beside : (s : State) (at : Slot) (inode : ℕ) → Beside s (without_name s at inode)
+gone_beside s at inode = of (lives (record s { entries = remove s.entries at }) inode)
+  where
+    of : (b : Bool) → Beside s (if b then record s { entries = remove s.entries at } else record s { entries = remove s.entries at; nodes = remove s.nodes inode })
+    of true = record { clients = refl; next = refl }
+    of false = record { clients = refl; next = refl }
+
+-- the clients stand as before, or the caller or the new client has changed
+abbrev Touches : State → ℕ → ℕ → Map nat_cmp Client → Type 0
+Touches s number fresh clients = (clients ≡ s.clients) ⊎ ((k : ℕ) × (x : Client) × ((k ≡ number) ⊎ (k ≡ fresh)) × (clients ≡ insert s.clients k x))
+
+own : (s : State) (number fresh : ℕ) (x : Client) (clients : Map nat_cmp Client) → clients ≡ insert s.clients number x → Touches s number fresh clients
+own s number fresh x clients is = inr (number, x, inl refl, is)
+
+done_clients : (s : State) (number : ℕ) (c : Client) (call : Call) (fresh : ℕ) → Touches s number fresh (done s number c call fresh).1.clients
+done_clients s number c (Make kind t) fresh = inl refl
+done_clients s number c (Open mode t) fresh = own s number fresh _ _ (ap (λ m. insert m number (with_opened s c mode (path_of t))) (emptied_beside s mode (path_of t)).clients)
+done_clients s number c (Truncate t size) fresh = inl (bytes_beside s (inode_of s (path_of t)) (resized (bytes_of s (inode_of s (path_of t))) size)).clients
+done_clients s number c (ReadDir t) fresh = inl refl
+done_clients s number c (Stat t) fresh = inl refl
+done_clients s number c (Exec t) fresh = inl refl
+done_clients s number c (Unlink t) fresh = inl (gone_beside s (slot_of s (path_of t)) (inode_of s (path_of t))).clients
+done_clients s number c (Rmdir t) fresh = inl (gone_beside s (slot_of s (path_of t)) (inode_of s (path_of t))).clients
+done_clients s number c (Ruleset rights) fresh = own s number fresh _ _ refl
+done_clients s number c (Allow rs t rights) fresh = own s number fresh _ _ refl
+done_clients s number c (Confine rs) fresh = own s number fresh _ _ refl
+done_clients s number c Connect fresh = own s number fresh _ _ refl
+
+step_clients : (s : State) (number : ℕ) (call : Call) (fresh : ℕ) → Touches s number fresh (step s number call fresh).1.clients
+step_clients s number call fresh = kept_or (λ z. Touches s number fresh z.clients) s (refusals s (client_of s number) call) (done s number (client_of s number) call fresh) (inl refl) (done_clients s number (client_of s number) call fresh)
+
 still_there : (b : Bool) (o : Option Client) (c : Client) → is_some o ≡ true → is_some (cond b (Some c) o) ≡ true
 still_there true o c h = refl
 still_there false o c h = h
 
-has-insert : (m : Map nat_cmp Client) (k q : ℕ) (c : Client) → has m q ≡ true → has (insert m k c) q ≡ true
-has-insert m k q c h = ap is_some (get-insert nat_cmp_total nat_cmp-IsAntisymmetric m k c q) ∙ still_there (eq_by_cmp nat_cmp q k) (get m q) c h
-
-done_stays : (s : State) (number : ℕ) (c : Client) (call : Call) (fresh other : ℕ) → has s.clients other ≡ true → has (done s number c call fresh).1.clients other ≡ true
-done_stays s number c (Make kind t) fresh other h = h
-done_stays s number c (Open mode t) fresh other h = has-insert s.clients number other _ h
-done_stays s number c (Ruleset rights) fresh other h = has-insert s.clients number other _ h
-done_stays s number c (Allow rs t rights) fresh other h = has-insert s.clients number other _ h
-done_stays s number c (Confine rs) fresh other h = has-insert s.clients number other _ h
-done_stays s number c Connect fresh other h = has-insert s.clients number other _ h
-
 pub step-clients_stay : (s : State) (number : ℕ) (call : Call) (fresh other : ℕ) → has s.clients other ≡ true → has (step s number call fresh).1.clients other ≡ true
-step-clients_stay s number call fresh other h = kept_or (λ z. has z.clients other ≡ true) s (refusals s (client_of s number) call) (done s number (client_of s number) call fresh) h (done_stays s number (client_of s number) call fresh other h)
+step-clients_stay s number call fresh other h =
+    elim (step_clients s number call fresh) [
+      | inl same ↦ ap (λ (m : Map nat_cmp Client). has m other) same ∙ h
+      | inr made ↦ ap (λ (m : Map nat_cmp Client). has m other) made.3
+          ∙ ap is_some (get-insert nat_cmp_total nat_cmp-IsAntisymmetric s.clients made.0 made.1 other) ∙ still_there (eq_by_cmp nat_cmp other made.0) (get s.clients other) made.1 h
+    ]
+
+beside : (b : Bool) (o : Option Client) (c : Client) → b ≡ false → is_some (cond b (Some c) o) ≡ is_some o
+beside true o c h = absurd cc
+beside false o c h = refl
+
+unequal : (m n : ℕ) → m ≢ n → eq_by_cmp nat_cmp m n ≡ false
+unequal m n differ = of (eq_by_cmp nat_cmp m n) refl
+  where
+    of : (b : Bool) → eq_by_cmp nat_cmp m n ≡ b → b ≡ false
+    of true e = absurd (differ (nat_cmp-IsAntisymmetric m n (equal_at _ e)))
+    of false e = refl
+
+neither : (k other number fresh : ℕ) → (k ≡ number) ⊎ (k ≡ fresh) → other ≢ number → other ≢ fresh → other ≢ k
+neither k other number fresh (inl is) a b same = a (same ∙ is)
+neither k other number fresh (inr is) a b same = b (same ∙ is)
+
+pub step-no_other : (s : State) (number : ℕ) (call : Call) (fresh other : ℕ) → other ≢ number → other ≢ fresh → has (step s number call fresh).1.clients other ≡ has s.clients other
+step-no_other s number call fresh other a b =
+    elim (step_clients s number call fresh) [
+      | inl same ↦ ap (λ (m : Map nat_cmp Client). has m other) same
+      | inr made ↦ ap (λ (m : Map nat_cmp Client). has m other) made.3
+          ∙ ap is_some (get-insert nat_cmp_total nat_cmp-IsAntisymmetric s.clients made.0 made.1 other)
+          ∙ beside (eq_by_cmp nat_cmp other made.0) (get s.clients other) made.1 (unequal other made.0 (neither made.0 other number fresh made.2 a b))
+    ]
 
 done_next : (s : State) (number : ℕ) (c : Client) (call : Call) (fresh : ℕ) → (done s number c call fresh).1.next ≤ s.next + 1
 done_next s number c (Make kind t) fresh = omega arith
-done_next s number c (Open mode t) fresh = omega arith
+done_next s number c (Open mode t) fresh = omega (arith, (emptied_beside s mode (path_of t)).next)
+done_next s number c (Truncate t size) fresh = omega (arith, (bytes_beside s (inode_of s (path_of t)) (resized (bytes_of s (inode_of s (path_of t))) size)).next)
+done_next s number c (ReadDir t) fresh = omega arith
+done_next s number c (Stat t) fresh = omega arith
+done_next s number c (Exec t) fresh = omega arith
+done_next s number c (Unlink t) fresh = omega (arith, (gone_beside s (slot_of s (path_of t)) (inode_of s (path_of t))).next)
+done_next s number c (Rmdir t) fresh = omega (arith, (gone_beside s (slot_of s (path_of t)) (inode_of s (path_of t))).next)
 done_next s number c (Ruleset rights) fresh = omega arith
 done_next s number c (Allow rs t rights) fresh = omega arith
 done_next s number c (Confine rs) fresh = omega arith
@@ -250,10 +402,14 @@ step-next s number call fresh = kept_or (λ z. z.next ≤ s.next + 1) s (refusal
 
 -- ---- want of memory or a step
 
-pub starved_or_not : (r : Reply) → (r ≡ Refused NoMemory) ⊎ (r ≢ Refused NoMemory)
-starved_or_not (Refused NoMemory) = inl refl
-starved_or_not (Refused e) = inr (λ h. cc)
-starved_or_not Done = inr (λ h. cc)
-starved_or_not (Opened n) = inr (λ h. cc)
-starved_or_not (Created n) = inr (λ h. cc)
-starved_or_not (Denied d) = inr (λ h. cc)
+not_starved : (r : Reply) → Settles r → r ≢ Refused NoMemory
+not_starved Done h e = absurd cc
+not_starved (Opened n) h e = absurd cc
+not_starved (Listed names) h e = absurd cc
+not_starved (Found status) h e = absurd cc
+not_starved (Created n) h e = absurd cc
+not_starved (Denied d) h e = absurd cc
+not_starved (Refused errno) h e = (let same : errno ≡ NoMemory = cc in let number = ap errno_number same in omega (arith, h.1))
+
+pub step-not_starved : (s : State) (number : ℕ) (call : Call) (fresh : ℕ) → (step s number call fresh).0 ≢ Refused NoMemory
+step-not_starved s number call fresh = not_starved (step s number call fresh).0 (step-settles s number call fresh)

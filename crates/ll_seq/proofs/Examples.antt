@@ -1,5 +1,5 @@
 -- Worked examples, which the check computes.
-use Rattle.std.specs.Prelude.{◌≡◌, ℕ, List, [], ◌∷◌, Some, codes, refl}
+use Rattle.std.specs.Prelude.{◌≡◌, ℕ, false, List, [], ◌∷◌, Some, codes, refl}
 use Rattle.ll_rights.specs.declared.kind.Kind.TheVariants.{Reg, Dir, Sym, Fifo, Sock, Char, Block}
 use Rattle.ll_rights.specs.declared.errno.Errno.TheVariants.{ENOENT, EEXIST, ENOTDIR, EISDIR, EINVAL, EBUSY, EBADF, ENOSPC, ELOOP, ENXIO, ENOMSG}
 use Rattle.ll_rights.specs.declared.access.Access.{Access}
@@ -10,7 +10,9 @@ use Rattle.ll_path.specs.declared.target.Target.{Target}
 use Rattle.ll_path.specs.declared.target.Target.TheVariants.{Good}
 use Rattle.ll_decide.specs.declared.denial.Cause.TheVariants.{EACCES}
 use Rattle.ll_decide.specs.declared.denial.Place.TheVariants.{At}
-use Rattle.ll_seq.specs.declared.call.Mode.TheVariants.{Read, Write, ReadWrite}
+use Rattle.ll_seq.specs.declared.call.AccessMode.{AccessMode}
+use Rattle.ll_seq.specs.declared.call.AccessMode.TheVariants.{Read, Write, ReadWrite}
+use Rattle.ll_seq.specs.declared.call.Mode.{Mode}
 use Rattle.ll_seq.specs.declared.call.Call.{Call}
 use Rattle.ll_seq.specs.declared.call.Call.TheVariants.{Make, Open, Ruleset, Allow, Confine, Connect}
 use Rattle.ll_seq.specs.declared.reply.Reply.{Reply}
@@ -40,6 +42,9 @@ replies room calls = replies_from (connected room) calls
 abbrev path : List ℕ → Target
 path text = Good (names_in text)
 
+abbrev mode : AccessMode → Mode
+mode access = record { access = access; truncate = false }
+
 abbrev set : ℕ → Access
 set rights = record { 0 = rights }
 
@@ -55,8 +60,8 @@ pub one_layer_one_rule : replies 64 (
     ∷ Ruleset (set 0x4)
     ∷ Allow 0 (path (codes "/a")) (set 0x4)
     ∷ Confine 0
-    ∷ Open Read (path (codes "/a/f"))
-    ∷ Open Read (path (codes "/b/f"))
+    ∷ Open (mode Read) (path (codes "/a/f"))
+    ∷ Open (mode Read) (path (codes "/b/f"))
     ∷ [])
     ≡ Done
     ∷ Done
@@ -80,10 +85,10 @@ pub layers_are_not_joined : replies 64 (
     ∷ Ruleset (set 0x6)
     ∷ Allow 1 (path (codes "/f")) (set 0x2)
     ∷ Confine 1
-    ∷ Open ReadWrite (path (codes "/f"))
-    ∷ Open Read (path (codes "/f"))
+    ∷ Open (mode ReadWrite) (path (codes "/f"))
+    ∷ Open (mode Read) (path (codes "/f"))
     ∷ Allow 0 (path (codes "/f")) (set 0x2)
-    ∷ Open Write (path (codes "/f"))
+    ∷ Open (mode Write) (path (codes "/f"))
     ∷ [])
     ≡ Done
     ∷ Created 0
@@ -134,8 +139,8 @@ pub rules_are_joined_along_the_path : replies 64 (
     ∷ Allow 0 (path (codes "/a")) (set 0x4)
     ∷ Allow 0 (path (codes "/a/b")) (set 0x2)
     ∷ Confine 0
-    ∷ Open ReadWrite (path (codes "/a/b/f"))
-    ∷ Open Write (path (codes "/a"))
+    ∷ Open (mode ReadWrite) (path (codes "/a/b/f"))
+    ∷ Open (mode Write) (path (codes "/a"))
     ∷ [])
     ≡ Done
     ∷ Done
@@ -156,7 +161,7 @@ pub no_call_asks_refer : replies 64 (
     ∷ Ruleset (set 0x2000)
     ∷ Confine 0
     ∷ Make Reg (path (codes "/a/f"))
-    ∷ Open Read (path (codes "/a/f"))
+    ∷ Open (mode Read) (path (codes "/a/f"))
     ∷ [])
     ≡ Done
     ∷ Created 0
@@ -194,9 +199,9 @@ pub what_is_in_the_way : replies 64 (
     ∷ Make Reg (path (codes "/f/x"))
     ∷ Make Sym (path (codes "/s"))
     ∷ Make Reg (path (codes "/s/x"))
-    ∷ Open Read (path (codes "/s/x/y"))
-    ∷ Open Read (path (codes "/n/x"))
-    ∷ Open Read (path (codes "/n"))
+    ∷ Open (mode Read) (path (codes "/s/x/y"))
+    ∷ Open (mode Read) (path (codes "/n/x"))
+    ∷ Open (mode Read) (path (codes "/n"))
     ∷ [])
     ≡ Refused EBUSY
     ∷ Done
@@ -233,12 +238,12 @@ pub only_files_open : replies 64 (
     ∷ Make Sock (path (codes "/k"))
     ∷ Make Char (path (codes "/c"))
     ∷ Make Block (path (codes "/b"))
-    ∷ Open Read (path (codes "/"))
-    ∷ Open Read (path (codes "/s"))
-    ∷ Open Read (path (codes "/p"))
-    ∷ Open Read (path (codes "/k"))
-    ∷ Open Read (path (codes "/c"))
-    ∷ Open Read (path (codes "/b"))
+    ∷ Open (mode Read) (path (codes "/"))
+    ∷ Open (mode Read) (path (codes "/s"))
+    ∷ Open (mode Read) (path (codes "/p"))
+    ∷ Open (mode Read) (path (codes "/k"))
+    ∷ Open (mode Read) (path (codes "/c"))
+    ∷ Open (mode Read) (path (codes "/b"))
     ∷ [])
     ≡ Done
     ∷ Done
@@ -258,10 +263,10 @@ only_files_open = refl
 -- An opening that is refused takes none
 pub the_lowest_free_descriptor : replies 64 (
     Make Reg (path (codes "/f"))
-    ∷ Open Read (path (codes "/f"))
-    ∷ Open Write (path (codes "/n"))
-    ∷ Open Write (path (codes "/f"))
-    ∷ Open ReadWrite (path (codes "/f"))
+    ∷ Open (mode Read) (path (codes "/f"))
+    ∷ Open (mode Write) (path (codes "/n"))
+    ∷ Open (mode Write) (path (codes "/f"))
+    ∷ Open (mode ReadWrite) (path (codes "/f"))
     ∷ [])
     ≡ Done
     ∷ Opened 0
@@ -277,7 +282,7 @@ the_lowest_free_descriptor = refl
 pub room_for_two_nodes : replies 2 (
     Make Reg (path (codes "/a"))
     ∷ Make Reg (path (codes "/b"))
-    ∷ Open Read (path (codes "/b"))
+    ∷ Open (mode Read) (path (codes "/b"))
     ∷ [])
     ≡ Done
     ∷ Refused ENOSPC

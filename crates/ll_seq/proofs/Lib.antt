@@ -3,8 +3,9 @@ pub mod Chains
 pub mod Consequences
 pub mod Denials
 pub mod Examples
+pub mod Living
 pub mod Numbers
+pub mod Parts
 pub mod Results
 pub mod Slots
-pub mod Staged
 pub mod Tables

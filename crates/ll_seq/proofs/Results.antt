@@ -1,7 +1,10 @@
 -- Results of calls, and the first of several refusals.
-use Rattle.std.specs.Prelude.{◌≡◌, ℕ, ◌<◌, List, Option, Some, Result, Ok, Err, OnOk, IfOk, IfErr, length, get_or, slice_get, refl}
-use Rattle.std.proofs.Common.{sym, ap, ◌∙◌, arith}
+use Rattle.std.specs.Prelude.{◌≡◌, ◌≢◌, ◌⊎◌, ℕ, ◌<◌, List, [], Option, Some, Result, Ok, Err, OnOk, IfOk, IfErr, length, get_or, slice_get, refl}
+use Rattle.std.proofs.Common.{sym, ap, ◌∙◌, arith, inl, inr}
 use Rattle.std.proofs.lemmas.Option.{slice_get_read}
+use Rattle.ll_rights.specs.declared.errno.Errno.{Errno}
+use Rattle.ll_rights.specs.declared.errno.Errno.TheVariants.{NoMemory}
+use Rattle.ll_seq.specs.Fails.{Fails}
 
 pub on_ok : {A E : Type 0} {P Q : Type 0} (r : Result A E) → OnOk r P → (P → Q) → OnOk r Q
 on_ok (Ok a) p f = f p
@@ -14,6 +17,20 @@ if_ok (Err e) p f = tt
 pub if_err : {A E : Type 0} {P Q : E → Type 0} (r : Result A E) → IfErr r P → ((e : E) → P e → Q e) → IfErr r Q
 if_err (Ok a) p f = tt
 if_err (Err e) p f = f e p
+
+-- ---- refusals
+
+wants_memory : (errno : Errno) → (errno ≡ NoMemory) ⊎ (errno ≢ NoMemory)
+wants_memory NoMemory = inl refl
+wants_memory _ = inr (λ e. cc)
+
+-- want of memory comes only where there is no refusal, and any other error is the first of them
+pub fails : {A : Type 0} (refusals : List Errno) (r : Result A Errno) → IfErr r (λ errno. errno ≢ NoMemory → slice_get refusals 0 ≡ Some errno) → (r ≡ Err NoMemory → refusals ≡ []) → IfErr r (Fails refusals)
+fails refusals (Ok a) first starved = tt
+fails refusals (Err errno) first starved = elim (wants_memory errno) [
+  | inl memory ↦ inr (memory, starved (ap Err memory))
+  | inr other ↦ inl (first other)
+]
 
 -- ---- an element by its index
 

@@ -3,14 +3,14 @@ use Rattle.std.specs.Prelude.{Bool, true, false, []}
 use Rattle.ll_path.specs.Path.{Path}
 use Rattle.ll_path.specs.declared.target.Target.{Target}
 use Rattle.ll_path.specs.declared.target.Target.TheVariants.{Good, Bad}
-use Rattle.ll_seq.specs.declared.call.Mode.{Mode}
-use Rattle.ll_seq.specs.declared.call.Mode.TheVariants.{Read, Write}
+use Rattle.ll_seq.specs.declared.call.AccessMode.{AccessMode}
+use Rattle.ll_seq.specs.declared.call.AccessMode.TheVariants.{Read, Write}
 
-abbrev pub reads : Mode → Bool
+abbrev pub reads : AccessMode → Bool
 reads Write = false
 reads _ = true
 
-abbrev pub writes : Mode → Bool
+abbrev pub writes : AccessMode → Bool
 writes Read = false
 writes _ = true
 

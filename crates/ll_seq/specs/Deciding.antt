@@ -1,6 +1,7 @@
--- The denials of a part of a decision, for the helpers of the plain tree alone: no public contract cites this file.
-use Rattle.std.specs.Prelude.{ℕ, List, [], ◌∷◌}
+-- What parts of a call come to, for the helpers of the plain tree alone: no public contract cites this file.
+use Rattle.std.specs.Prelude.{◌≡◌, ℕ, ◌⊎◌, List, [], ◌∷◌}
 use Rattle.std.specs.List.{flat_map}
+use Rattle.ll_rights.specs.declared.errno.Errno.TheVariants.{NoMemory}
 use Rattle.ll_path.specs.Path.{Path, parent}
 use Rattle.ll_rules.specs.Layer.{Layer}
 use Rattle.ll_decide.specs.declared.denial.Cause.{Cause}
@@ -10,8 +11,20 @@ use Rattle.ll_decide.specs.Verdict.{Ask, when, lacks, places}
 use Rattle.ll_seq.specs.declared.plain.policy.Asked as code
 use Rattle.ll_seq.specs.declared.plain.policy.On.{On}
 use Rattle.ll_seq.specs.declared.plain.policy.On.TheVariants.{Itself, Parent}
+use Rattle.ll_seq.specs.declared.call.Call.{Call}
+use Rattle.ll_seq.specs.declared.reply.Reply.{Reply}
+use Rattle.ll_seq.specs.declared.reply.Reply.TheVariants.{Refused}
 use Rattle.ll_seq.specs.State.{State}
 use Rattle.ll_seq.specs.Asked.{grants}
+use Rattle.ll_seq.specs.Step.{step, refusals, client_of}
+
+-- nothing refuses the call, but there is no memory for it, and nothing has changed
+abbrev pub Starves : State → ℕ → Call → Reply → State → Type 0
+Starves s number call reply after = (reply ≡ Refused NoMemory) × (after ≡ s) × (refusals s (client_of s number) call ≡ [])
+
+-- a call comes to its step, or starves
+abbrev pub Comes : State → ℕ → Call → Reply → State → Type 0
+Comes s number call reply after = (fresh : ℕ) → (◌≡◌ {A = Reply × State} (reply, after) (step s number call fresh)) ⊎ Starves s number call reply after
 
 abbrev pub spot_on : On → Path → Path
 spot_on Itself path = path

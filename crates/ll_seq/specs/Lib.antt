@@ -3,6 +3,7 @@ pub mod Call
 pub mod Codes
 pub mod Deciding
 pub mod Effects
+pub mod Fails
 pub mod History
 pub mod Stages
 pub mod State

@@ -1,13 +1,14 @@
 -- When a call is refused apart from policy. Each stage lists the refusals that hold, and the first of all decides.
 -- Their one order is own
-use Rattle.std.specs.Prelude.{ℕ, zero, suc, Bool, not, ◌||◌, List, [], ◌∷◌, ◌++◌, length, Option, Some, None, nat_le, is_some, is_none, unwrap_or, slice_get, find}
+use Rattle.std.specs.Prelude.{ℕ, zero, suc, Bool, not, ◌||◌, List, [], ◌∷◌, ◌++◌, length, Option, Some, None, nat_lt, nat_le, is_some, is_none, unwrap_or, slice_get, find}
 use Rattle.std.specs.Option.{option_map_or}
 use Rattle.std.specs.Ordering.{nat_cmp}
 use Rattle.ll_rights.specs.declared.kind.Kind.{Kind}
 use Rattle.ll_rights.specs.declared.kind.Kind.TheVariants.{Reg, Dir, Sym}
 use Rattle.ll_rights.specs.declared.errno.Errno.{Errno}
-use Rattle.ll_rights.specs.declared.errno.Errno.TheVariants.{ENOENT, EEXIST, ENOTDIR, EISDIR, EBUSY, EBADF, EMFILE, ENOSPC, ELOOP, ENXIO}
+use Rattle.ll_rights.specs.declared.errno.Errno.TheVariants.{ENOENT, EEXIST, ENOTDIR, EISDIR, ENOTEMPTY, EINVAL, EBUSY, EBADF, EMFILE, ENOSPC, EFBIG, ELOOP, ENXIO}
 use Rattle.ll_rights.specs.Errno.{refuse}
+use Rattle.ll_rights.specs.Kind.{is_dir}
 use Rattle.ll_rights.specs.Map.{Map, has, len}
 use Rattle.ll_path.specs.Path.{Path, parent, is_root}
 use Rattle.ll_path.specs.declared.target.Target.{Target}
@@ -17,7 +18,7 @@ use Rattle.ll_rules.specs.Rules.{create_refusals, new_ruleset, rule_refusals, ru
 use Rattle.ll_seq.specs.declared.client.Client.{Client}
 use Rattle.ll_seq.specs.declared.client.Descriptor.{Descriptor}
 use Rattle.ll_seq.specs.declared.call.Call.{Call}
-use Rattle.ll_seq.specs.declared.call.Call.TheVariants.{Make, Open, Ruleset, Allow, Confine, Connect}
+use Rattle.ll_seq.specs.declared.call.Call.TheVariants.{Make, Open, Truncate, ReadDir, Stat, Exec, Unlink, Rmdir, Ruleset, Allow, Confine, Connect}
 use Rattle.ll_seq.specs.Call.{path_of}
 use Rattle.ll_seq.specs.State.{State, child, kind_of, names_in, root}
 use Rattle.ll_seq.specs.Tree.{named, inode_of, directory_of, kind_at}
@@ -30,6 +31,12 @@ bad_text (Bad word) = word.errno ∷ []
 abbrev pub text_refusals : Call → List Errno
 text_refusals (Make kind target) = bad_text target
 text_refusals (Open mode target) = bad_text target
+text_refusals (Truncate target size) = bad_text target
+text_refusals (ReadDir target) = bad_text target
+text_refusals (Stat target) = bad_text target
+text_refusals (Exec target) = bad_text target
+text_refusals (Unlink target) = bad_text target
+text_refusals (Rmdir target) = bad_text target
 text_refusals (Allow number target rights) = bad_text target
 text_refusals _ = []
 
@@ -39,9 +46,11 @@ number_refusals c (Allow number target rights) = refuse (is_none (slice_get c.ru
 number_refusals c (Confine number) = refuse (is_none (slice_get c.rulesets number)) EBADF
 number_refusals c _ = []
 
--- ---- How the paths lie, by names alone. Nothing is made at the root: EBUSY
+-- ---- How the paths lie, by names alone. The root is neither made nor removed. rmdir(2): EBUSY
 abbrev pub relation_refusals : Call → List Errno
 relation_refusals (Make kind target) = refuse (is_root (path_of target)) EBUSY
+relation_refusals (Unlink target) = refuse (is_root (path_of target)) EBUSY
+relation_refusals (Rmdir target) = refuse (is_root (path_of target)) EBUSY
 relation_refusals _ = []
 
 -- ---- The walk to the parent, from the left. path_resolution(7): ENOENT, ENOTDIR; ELOOP as by openat2(2), RESOLVE_NO_SYMLINKS
@@ -66,6 +75,12 @@ way_to s target = in_the_way s (parent (path_of target)) root
 abbrev pub walk_refusals : State → Call → List Errno
 walk_refusals s (Make kind target) = way_to s target
 walk_refusals s (Open mode target) = way_to s target
+walk_refusals s (Truncate target size) = way_to s target
+walk_refusals s (ReadDir target) = way_to s target
+walk_refusals s (Stat target) = way_to s target
+walk_refusals s (Exec target) = way_to s target
+walk_refusals s (Unlink target) = way_to s target
+walk_refusals s (Rmdir target) = way_to s target
 walk_refusals s (Allow number target rights) = way_to s target
 walk_refusals s _ = []
 
@@ -79,23 +94,48 @@ present s target = refuse (is_some (named s (path_of target))) EEXIST
 abbrev pub existence_refusals : State → Call → List Errno
 existence_refusals s (Make kind target) = present s target
 existence_refusals s (Open mode target) = missing s target
+existence_refusals s (Truncate target size) = missing s target
+existence_refusals s (ReadDir target) = missing s target
+existence_refusals s (Stat target) = missing s target
+existence_refusals s (Exec target) = missing s target
+existence_refusals s (Unlink target) = missing s target
+existence_refusals s (Rmdir target) = missing s target
 existence_refusals s (Allow number target rights) = missing s target
 existence_refusals s _ = []
 
 -- ---- (Policy stands here.)
 
--- ---- Kinds. open(2): EISDIR, ELOOP (O_NOFOLLOW), ENXIO; landlock_create_ruleset(2), landlock_add_rule(2)
+-- ---- Kinds. open(2): EISDIR, ELOOP (O_NOFOLLOW), ENXIO; truncate(2): EISDIR, EINVAL; opendir(3): ENOTDIR; unlink(2): EISDIR;
+-- rmdir(2): ENOTDIR, ENOTEMPTY; landlock_create_ruleset(2), landlock_add_rule(2)
 abbrev pub not_to_open : Kind → List Errno
 not_to_open Reg = []
 not_to_open Dir = EISDIR ∷ []
 not_to_open Sym = ELOOP ∷ []
 not_to_open _ = ENXIO ∷ []
 
+abbrev pub not_to_truncate : Kind → List Errno
+not_to_truncate Reg = []
+not_to_truncate Dir = EISDIR ∷ []
+not_to_truncate Sym = ELOOP ∷ []
+not_to_truncate _ = EINVAL ∷ []
+
+abbrev pub is_dir_at : State → Target → Bool
+is_dir_at s target = is_dir (kind_at s (path_of target))
+
+-- the directory has a name
+abbrev pub has_names : State → ℕ → Bool
+has_names s directory = nat_lt 0 (length (names_in s directory))
+
 abbrev pub ruleset_at : Client → ℕ → Layer
 ruleset_at c number = unwrap_or (slice_get c.rulesets number) (new_ruleset 0)
 
 abbrev pub kind_refusals : State → Client → Call → List Errno
 kind_refusals s c (Open mode target) = not_to_open (kind_at s (path_of target))
+kind_refusals s c (Truncate target size) = not_to_truncate (kind_at s (path_of target))
+kind_refusals s c (ReadDir target) = refuse (not (is_dir_at s target)) ENOTDIR
+kind_refusals s c (Exec target) = not_to_open (kind_at s (path_of target))
+kind_refusals s c (Unlink target) = refuse (is_dir_at s target) EISDIR
+kind_refusals s c (Rmdir target) = refuse (not (is_dir_at s target)) ENOTDIR ++ refuse (has_names s (inode_of s (path_of target))) ENOTEMPTY
 kind_refusals s c (Ruleset rights) = create_refusals rights.0
 kind_refusals s c (Allow number target rights) = rule_refusals (ruleset_at c number) (kind_at s (path_of target)) rights.0
 kind_refusals s c _ = []
@@ -109,6 +149,10 @@ is_crowded s directory = nat_le 1024 (length (names_in s directory))
 abbrev pub no_space : State → ℕ → List Errno
 no_space s directory = refuse (is_crowded s directory || nat_le s.room (len s.nodes)) ENOSPC
 
+-- a file has at most 65,536 bytes. truncate(2): EFBIG
+abbrev pub is_too_long : ℕ → Bool
+is_too_long size = nat_lt 65536 size
+
 -- n numbers from k on
 unfoldable pub numbers_from : ℕ → ℕ → List ℕ
 numbers_from k zero = []
@@ -121,7 +165,9 @@ lowest_free descriptors = find (λ fd. not (has descriptors fd)) (numbers_from 0
 abbrev pub limit_refusals : State → Client → Call → List Errno
 limit_refusals s c (Make kind target) = no_space s (directory_of s (path_of target))
 limit_refusals s c (Open mode target) = refuse (is_none (lowest_free c.descriptors)) EMFILE
+limit_refusals s c (Truncate target size) = refuse (is_too_long size) EFBIG
 limit_refusals s c (Ruleset rights) = refuse (nat_le 16 (length c.rulesets)) EMFILE
 limit_refusals s c (Allow number target rights) = rule_limit (ruleset_at c number) (inode_of s (path_of target))
 limit_refusals s c (Confine number) = layer_limit c.domain
 limit_refusals s c Connect = refuse (nat_le 64 (len s.clients)) EMFILE
+limit_refusals s c _ = []

@@ -1,5 +1,7 @@
 -- What the tree is: directory entries, nodes and clients. own, after inode(7) and path_resolution(7)
-use Rattle.std.specs.Prelude.{ℕ, List, [], map, filter, Option, ◌==◌, option_map}
+use Rattle.std.specs.Prelude.{ℕ, Bool, List, [], length, map, filter, Option, ◌==◌, option_map}
+use Rattle.std.specs.List.{list_any}
+use Rattle.std.specs.Option.{option_map_or}
 use Rattle.std.specs.declared.cmp.Ordering.{Ordering}
 use Rattle.std.specs.Ordering.{nat_cmp, ordering_then}
 use Rattle.std.specs.Cmp.Lexicographic.{slice_cmp}
@@ -8,6 +10,7 @@ use Rattle.ll_rights.specs.declared.kind.Kind.TheVariants.{Dir}
 use Rattle.ll_rights.specs.Map.{Map, empty, get, insert, entries}
 use Rattle.ll_rules.specs.Layer.{Layer}
 use Rattle.ll_seq.specs.declared.client.Client.{Client}
+use Rattle.ll_seq.specs.declared.client.Descriptor.{Descriptor}
 use Rattle.ll_seq.specs.declared.entries.Slot.{Slot}
 use Rattle.ll_seq.specs.declared.node.Node.{Node}
 
@@ -45,6 +48,9 @@ start room = record { entries = empty; nodes = insert empty root (empty_node Dir
 abbrev pub kind_of : State → ℕ → Option Kind
 kind_of s inode = option_map (λ (n : Node). n.kind) (get s.nodes inode)
 
+abbrev pub bytes_of : State → ℕ → List ℕ
+bytes_of s inode = option_map_or (λ (n : Node). n.bytes) (get s.nodes inode) []
+
 -- what the directory has under the name
 abbrev pub child : State → ℕ → Name → Option ℕ
 child s directory name = get s.entries (slot directory name)
@@ -52,3 +58,11 @@ child s directory name = get s.entries (slot directory name)
 -- the names in the directory, rising by bytes
 abbrev pub names_in : State → ℕ → List Name
 names_in s directory = map (λ (e : Slot × ℕ). e.0.name) (filter (λ (e : Slot × ℕ). e.0.directory == directory) (entries s.entries))
+
+-- how many names the inode has
+abbrev pub name_count : State → ℕ → ℕ
+name_count s inode = length (filter (λ (e : Slot × ℕ). e.1 == inode) (entries s.entries))
+
+-- some client has the inode open
+abbrev pub is_open : State → ℕ → Bool
+is_open s inode = list_any (λ (c : ℕ × Client). list_any (λ (d : ℕ × Descriptor). d.1.inode == inode) (entries c.1.descriptors)) (entries s.clients)

@@ -1,5 +1,6 @@
 -- One call: the first stage that refuses gives the reply, and a refusal keeps the state.
-use Rattle.std.specs.Prelude.{ℕ, ◌≤◌, ⊤, List, [], ◌∷◌, ◌++◌, map, unwrap_or}
+use Rattle.std.specs.Prelude.{◌≡◌, ℕ, ◌≤◌, ⊤, ◌⊎◌, List, [], ◌∷◌, ◌++◌, map, unwrap_or}
+use Rattle.ll_rights.specs.declared.errno.Errno.TheVariants.{NoMemory}
 use Rattle.ll_rights.specs.Errno.{errno_number}
 use Rattle.ll_rights.specs.Map.{get}
 use Rattle.ll_seq.specs.declared.client.Client.{Client}
@@ -34,7 +35,8 @@ first_or s (reply ∷ replies) outcome = (reply, s)
 abbrev pub step : State → ℕ → Call → ℕ → Reply × State
 step s number call fresh = first_or s (refusals s (client_of s number) call) (done s number (client_of s number) call fresh)
 
--- What the tree answers of itself: what policy refuses it tells as a denial, and what is no call it never sees
+-- What the tree answers of itself: what policy refuses it tells as a denial; its entries are counted by others, and what is
+-- no call it never sees
 abbrev pub IsAnswer : Reply → Type 0
-IsAnswer (Refused errno) = (3 ≤ errno_number errno) × (errno_number errno ≤ 22)
+IsAnswer (Refused errno) = ((3 ≤ errno_number errno) × (errno_number errno ≤ 20)) ⊎ (errno ≡ NoMemory)
 IsAnswer _ = ⊤

@@ -1,10 +1,11 @@
 //! Clients.
 
-ghost use Rattle.std.specs.Prelude.{◌≡◌, ◌≢◌, ◌+◌, ◌<◌, [], ◌∷◌, ◌++◌, ℕ, length, nat_le, IfOk, IfErr, OnOk, OnErr, Option, Some, None, Err, unwrap_or, slice_get, slice_set, is_none};
+ghost use Rattle.std.specs.Prelude.{◌≡◌, ◌+◌, ◌<◌, [], ◌∷◌, ◌++◌, length, nat_le, IfOk, IfErr, OnOk, OnErr, Some, slice_get, slice_set, is_none};
 ghost use Rattle.std.specs.Option.{option_copied};
 ghost use Rattle.ll_rights.specs.Errno.{refuse};
 ghost use Rattle.ll_rights.specs.Map.{empty, insert};
 ghost use Rattle.ll_rules.specs.Layer.{Layer};
+ghost use Rattle.ll_seq.specs.Fails.{Fails};
 ghost use Rattle.ll_rules.specs.Rules.{create_refusals, new_ruleset, rule_refusals, rule_limit, with_rule, layer_limit};
 
 use crate::table::Table;
@@ -86,8 +87,8 @@ impl Rulesets {
         ensures ok { OnOk result ((made : Layer) × (slice_get self.old number ≡ Some made)
             × (rule_refusals made kind rights.0 ++ rule_limit made inode ≡ [])
             × (self.new ≡ slice_set self.old number (with_rule made inode rights.0))) }
-        ensures refused { IfErr result (λ errno. errno ≢ Errno.NoMemory → (made : Layer) → slice_get self.old number ≡ Some made
-            → slice_get (rule_refusals made kind rights.0 ++ rule_limit made inode) 0 ≡ Some errno) }
+        ensures refused { IfErr result (λ errno. (made : Layer) → slice_get self.old number ≡ Some made
+            → Fails (rule_refusals made kind rights.0 ++ rule_limit made inode) errno) }
         ensures err { OnErr result (self.new ≡ self.old) }
     {
         let made = &mut self.made[number as usize];
@@ -134,7 +135,7 @@ impl Client {
     pub fn open(&mut self, descriptor: Descriptor) -> Result<u64, Errno>
         ensures ok { IfOk result (λ number. (lowest_free self.old.descriptors ≡ Some number)
             × (self.new ≡ record self.old { descriptors = insert self.old.descriptors number descriptor })) }
-        ensures refused { IfErr result (λ errno. errno ≢ Errno.NoMemory → slice_get (refuse (is_none (lowest_free self.old.descriptors)) Errno.EMFILE) 0 ≡ Some errno) }
+        ensures refused { IfErr result (λ errno. Fails (refuse (is_none (lowest_free self.old.descriptors)) Errno.EMFILE) errno) }
         ensures err { OnErr result (self.new ≡ self.old) }
     {
         let Some(number) = self.lowest_free() else {
@@ -151,8 +152,7 @@ impl Client {
         ensures ok { IfOk result (λ number. (create_refusals handled.0 ++ refuse (nat_le 16 (length self.old.rulesets)) Errno.EMFILE ≡ [])
             × (number ≡ length self.old.rulesets)
             × (self.new ≡ record self.old { rulesets = self.old.rulesets ++ new_ruleset handled.0 ∷ [] })) }
-        ensures refused { IfErr result (λ errno. errno ≢ Errno.NoMemory
-            → slice_get (create_refusals handled.0 ++ refuse (nat_le 16 (length self.old.rulesets)) Errno.EMFILE) 0 ≡ Some errno) }
+        ensures refused { IfErr result (λ errno. Fails (create_refusals handled.0 ++ refuse (nat_le 16 (length self.old.rulesets)) Errno.EMFILE) errno) }
         ensures err { OnErr result (self.new ≡ self.old) }
     {
         let made = match Ruleset::create(alloc, handled) {
@@ -174,7 +174,7 @@ impl Client {
         requires { number < length self.old.rulesets }
         ensures ok { OnOk result ((layer_limit self.old.domain ≡ [])
             × (self.new ≡ record self.old { domain = self.old.domain ++ ruleset_at self.old number ∷ [] })) }
-        ensures refused { IfErr result (λ errno. errno ≢ Errno.NoMemory → slice_get (layer_limit self.old.domain) 0 ≡ Some errno) }
+        ensures refused { IfErr result (λ errno. Fails (layer_limit self.old.domain) errno) }
         ensures err { OnErr result (self.new ≡ self.old) }
     {
         match self.rulesets.get(number) {

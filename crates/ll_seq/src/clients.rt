@@ -1,26 +1,55 @@
 //! What clients do to their own records.
 
-ghost use Rattle.std.specs.Prelude.{◌≡◌, ◌≢◌, ◌+◌, ◌<◌, [], ◌∷◌, ◌++◌, ℕ, length, nat_le, IfOk, IfErr, OnOk, OnErr, Option, Some, true, slice_get, slice_set, is_none};
+ghost use Rattle.std.specs.Prelude.{◌≡◌, ◌+◌, ◌<◌, [], ◌∷◌, ◌++◌, ◌==◌, ℕ, length, nat_le, IfOk, IfErr, OnOk, OnErr, Some, true, slice_get, slice_set, is_none};
+ghost use Rattle.std.specs.List.{list_any};
 ghost use Rattle.ll_rights.specs.Errno.{refuse};
-ghost use Rattle.ll_rights.specs.Map.{get, has, insert};
+ghost use Rattle.ll_rights.specs.Map.{get, has, insert, entries};
 ghost use Rattle.ll_rules.specs.Layer.{Layer};
 ghost use Rattle.ll_rules.specs.Rules.{create_refusals, new_ruleset, rule_refusals, rule_limit, with_rule, layer_limit};
 ghost use Rattle.ll_seq.specs.Stages.{lowest_free, ruleset_at};
+ghost use Rattle.ll_seq.specs.Fails.{Fails};
 ghost use Rattle.ll_seq.specs.declared.client.Client as record_of;
+ghost use Rattle.ll_seq.specs.declared.client.Descriptor as file;
 
 use crate::client::{Client, Descriptor};
 use crate::table::{Table, index_of};
 use ll_rights::{Access, Errno, Kind};
 use std::alloc::Global;
 
+impl Table<Descriptor> {
+    /// Whether one of them is the inode's.
+    pub(crate) fn is_open(&self, inode: u64) -> bool
+        ensures { result ≡ list_any (λ (d : ℕ × file.Descriptor). d.1.inode == inode) (entries self.now) }
+    {
+        for row in &self.rows {
+            if row.1.inode == inode {
+                return true;
+            }
+        }
+        false
+    }
+}
+
 impl Table<Client> {
+    /// Whether one of them has the inode open.
+    pub(crate) fn has_open(&self, inode: u64) -> bool
+        ensures { result ≡ list_any (λ (c : ℕ × record_of.Client). list_any (λ (d : ℕ × file.Descriptor). d.1.inode == inode) (entries c.1.descriptors)) (entries self.now) }
+    {
+        for row in &self.rows {
+            if row.1.descriptors.is_open(inode) {
+                return true;
+            }
+        }
+        false
+    }
+
     /// Opens a file at the client's lowest free descriptor.
     pub(crate) fn open(&mut self, client: u64, descriptor: Descriptor) -> Result<u64, Errno>
         requires { has self.old client ≡ true }
         ensures ok { IfOk result (λ number. (c : record_of.Client) → get self.old client ≡ Some c
             → (lowest_free c.descriptors ≡ Some number) × (self.new ≡ insert self.old client (record c { descriptors = insert c.descriptors number descriptor }))) }
-        ensures refused { IfErr result (λ errno. errno ≢ Errno.NoMemory → (c : record_of.Client) → get self.old client ≡ Some c
-            → slice_get (refuse (is_none (lowest_free c.descriptors)) Errno.EMFILE) 0 ≡ Some errno) }
+        ensures refused { IfErr result (λ errno. (c : record_of.Client) → get self.old client ≡ Some c
+            → Fails (refuse (is_none (lowest_free c.descriptors)) Errno.EMFILE) errno) }
         ensures err { OnErr result (self.new ≡ self.old) }
     {
         let Some(i) = index_of(&self.rows, client) else {
@@ -41,8 +70,8 @@ impl Table<Client> {
         ensures ok { IfOk result (λ number. (c : record_of.Client) → get self.old client ≡ Some c
             → (create_refusals handled.0 ++ refuse (nat_le 16 (length c.rulesets)) Errno.EMFILE ≡ []) × (number ≡ length c.rulesets)
             × (self.new ≡ insert self.old client (record c { rulesets = c.rulesets ++ new_ruleset handled.0 ∷ [] }))) }
-        ensures refused { IfErr result (λ errno. errno ≢ Errno.NoMemory → (c : record_of.Client) → get self.old client ≡ Some c
-            → slice_get (create_refusals handled.0 ++ refuse (nat_le 16 (length c.rulesets)) Errno.EMFILE) 0 ≡ Some errno) }
+        ensures refused { IfErr result (λ errno. (c : record_of.Client) → get self.old client ≡ Some c
+            → Fails (create_refusals handled.0 ++ refuse (nat_le 16 (length c.rulesets)) Errno.EMFILE) errno) }
         ensures err { OnErr result (self.new ≡ self.old) }
     {
         let Some(i) = index_of(&self.rows, client) else {
@@ -66,8 +95,8 @@ impl Table<Client> {
         ensures ok { OnOk result ((c : record_of.Client) → get self.old client ≡ Some c → (made : Layer) × (slice_get c.rulesets number ≡ Some made)
             × (rule_refusals made kind rights.0 ++ rule_limit made inode ≡ [])
             × (self.new ≡ insert self.old client (record c { rulesets = slice_set c.rulesets number (with_rule made inode rights.0) }))) }
-        ensures refused { IfErr result (λ errno. errno ≢ Errno.NoMemory → (c : record_of.Client) → get self.old client ≡ Some c
-            → (made : Layer) → slice_get c.rulesets number ≡ Some made → slice_get (rule_refusals made kind rights.0 ++ rule_limit made inode) 0 ≡ Some errno) }
+        ensures refused { IfErr result (λ errno. (c : record_of.Client) → get self.old client ≡ Some c
+            → (made : Layer) → slice_get c.rulesets number ≡ Some made → Fails (rule_refusals made kind rights.0 ++ rule_limit made inode) errno) }
         ensures err { OnErr result (self.new ≡ self.old) }
     {
         let Some(i) = index_of(&self.rows, client) else {
@@ -83,8 +112,7 @@ impl Table<Client> {
         requires made { (c : record_of.Client) → get self.old client ≡ Some c → number < length c.rulesets }
         ensures ok { OnOk result ((c : record_of.Client) → get self.old client ≡ Some c → (layer_limit c.domain ≡ [])
             × (self.new ≡ insert self.old client (record c { domain = c.domain ++ ruleset_at c number ∷ [] }))) }
-        ensures refused { IfErr result (λ errno. errno ≢ Errno.NoMemory → (c : record_of.Client) → get self.old client ≡ Some c
-            → slice_get (layer_limit c.domain) 0 ≡ Some errno) }
+        ensures refused { IfErr result (λ errno. (c : record_of.Client) → get self.old client ≡ Some c → Fails (layer_limit c.domain) errno) }
         ensures err { OnErr result (self.new ≡ self.old) }
     {
         let Some(i) = index_of(&self.rows, client) else {

@@ -1,9 +1,11 @@
 //! Directory entries.
 
-ghost use Rattle.std.specs.Prelude.{◌≡◌, ◌+◌, ◌<◌, ℕ, Option, Some, None, OnOk, OnErr, length};
+ghost use Rattle.std.specs.Prelude.{◌≡◌, ◌+◌, ◌<◌, ℕ, Some, None, IfSome, IfNone, IfOk, OnOk, OnErr, length, slice_get};
+ghost use Rattle.std.specs.FinMap.Entries.{find};
 ghost use Rattle.ll_rights.proofs.Places.{place};
 ghost use Rattle.ll_seq.specs.State.{slot, slot_cmp};
 
+use crate::listing::Listing;
 use ll_path::Name;
 use std::alloc::{AllocError, Global};
 use std::cmp::Ordering;
@@ -47,6 +49,20 @@ fn order(directory: u64, name: &str, other: &Slot) -> Ordering
         .then(name.cmp(other.name.as_str()))
 }
 
+/// Where the entry at the place stands.
+fn index_of(rows: &[(Slot, u64)], directory: u64, name: &str) -> Option<usize>
+    ensures none { IfNone result (find slot_cmp (slot directory name.now) rows.now ≡ None) }
+    ensures within { IfSome result (λ i. i < length rows.now) }
+    ensures row { IfSome result (λ i. (inode : ℕ) × (find slot_cmp (slot directory name.now) rows.now ≡ Some inode) × (slice_get rows.now i ≡ Some (slot directory name.now, inode))) }
+{
+    for (i, row) in rows.iter().enumerate() {
+        if order(directory, name, &row.0).is_eq() {
+            return Some(i);
+        }
+    }
+    None
+}
+
 /// How many entries stand before the place.
 fn place_of(rows: &[(Slot, u64)], directory: u64, name: &str) -> usize
     ensures place { result ≡ place slot_cmp (slot directory name.now) rows.now }
@@ -61,8 +77,8 @@ fn place_of(rows: &[(Slot, u64)], directory: u64, name: &str) -> usize
 }
 
 impl Entries {
-    ghost use Rattle.std.specs.Prelude.{List, filter, ◌==◌};
-    ghost use Rattle.ll_rights.specs.Map.{empty, get, insert, entries};
+    ghost use Rattle.std.specs.Prelude.{filter, map, ◌==◌};
+    ghost use Rattle.ll_rights.specs.Map.{empty, get, insert, remove, entries};
     ghost use Rattle.ll_seq.specs.declared.entries.Slot as slots;
 
     pub fn new(alloc: Global) -> Entries
@@ -77,25 +93,38 @@ impl Entries {
     pub fn get(&self, directory: u64, name: &str) -> Option<u64>
         ensures { result ≡ get self.now (slot directory name.now) }
     {
-        for row in &self.rows {
-            if order(directory, name, &row.0).is_eq() {
-                return Some(row.1);
-            }
-        }
-        None
+        let i = index_of(&self.rows, directory, name)?;
+        Some(self.rows[i].1)
     }
 
     /// How many names the directory has.
     pub fn count_in(&self, directory: u64) -> usize
         ensures { result ≡ length (filter (λ (e : slots.Slot × ℕ). e.0.directory == directory) (entries self.now)) }
     {
-        let mut count = 0;
+        self.rows
+            .iter()
+            .filter(|row| row.0.directory == directory)
+            .count()
+    }
+
+    /// The names in the directory, rising by bytes.
+    pub fn names_in(&self, alloc: Global, directory: u64) -> Result<Listing, AllocError>
+        ensures { IfOk result (λ listing. listing ≡ map (λ (e : slots.Slot × ℕ). e.0.name) (filter (λ (e : slots.Slot × ℕ). e.0.directory == directory) (entries self.now))) }
+    {
+        let mut listing = Listing::new(alloc);
         for row in &self.rows {
             if row.0.directory == directory {
-                count += 1;
+                listing.push(Name::from_text(alloc, row.0.name.as_str())?)?;
             }
         }
-        count
+        Ok(listing)
+    }
+
+    /// How many names the inode has.
+    pub fn count_of(&self, inode: u64) -> usize
+        ensures { result ≡ length (filter (λ (e : slots.Slot × ℕ). e.1 == inode) (entries self.now)) }
+    {
+        self.rows.iter().filter(|row| row.1 == inode).count()
     }
 
     /// Adds an inode under a name that the directory doesn't have.
@@ -107,5 +136,14 @@ impl Entries {
         let place = place_of(&self.rows, directory, name.as_str());
         self.rows.insert(place, (Slot { directory, name }, inode))?;
         Ok(())
+    }
+
+    /// Forgets the name, if the directory has it.
+    pub fn remove(&mut self, directory: u64, name: &str)
+        ensures { self.new ≡ remove self.old (slot directory name.now) }
+    {
+        if let Some(i) = index_of(&self.rows, directory, name) {
+            self.rows.remove(i);
+        }
     }
 }

@@ -6,17 +6,20 @@ mod call;
 mod client;
 mod clients;
 mod entries;
+mod listing;
 mod node;
+mod nodes;
 mod plain;
 mod reply;
 mod table;
 #[cfg(test)]
 mod tests;
 
-pub use call::{Call, Mode};
+pub use call::{AccessMode, Call, Mode};
 pub use client::{Client, Descriptor, Rulesets};
 pub use entries::{Entries, Slot};
+pub use listing::Listing;
 pub use node::{Content, Node};
 pub use plain::Plain;
-pub use reply::{Entry, Reply};
+pub use reply::{Entry, Reply, Status};
 pub use table::Table;

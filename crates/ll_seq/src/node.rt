@@ -1,7 +1,9 @@
 //! Nodes.
 
+ghost use Rattle.std.specs.Prelude.{◌≡◌, OnOk, OnErr};
+
 use ll_rights::Kind;
-use std::alloc::Global;
+use std::alloc::{AllocError, Global};
 use std::marker::Model;
 
 /// The bytes of a node. Contracts see the list.
@@ -19,7 +21,8 @@ impl Model for Content {
 }
 
 impl Content {
-    ghost use Rattle.std.specs.Prelude.{◌≡◌, []};
+    ghost use Rattle.std.specs.Prelude.{[], length};
+    ghost use Rattle.ll_seq.specs.Effects.{resized};
 
     pub fn empty(alloc: Global) -> Content
         ensures { result ≡ [] }
@@ -27,6 +30,26 @@ impl Content {
         Content {
             bytes: Vec::new(alloc),
         }
+    }
+
+    pub fn len(&self) -> usize
+        ensures { result ≡ length self.now }
+    {
+        self.bytes.len()
+    }
+
+    /// Cuts the bytes to this length, or fills them with zeros to it.
+    pub fn set_len(&mut self, len: usize) -> Result<(), AllocError>
+        ensures ok { OnOk result (self.new ≡ resized self.old len) }
+        ensures err { OnErr result (self.new ≡ self.old) }
+    {
+        self.bytes.resize(len, 0)
+    }
+
+    pub fn clear(&mut self)
+        ensures { self.new ≡ [] }
+    {
+        self.bytes.clear();
     }
 }
 

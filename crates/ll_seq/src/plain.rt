@@ -1,13 +1,16 @@
 //! The plain tree.
 
-mod calls;
+mod files;
+mod names;
 mod policy;
+mod rulesets;
 mod walk;
 
-ghost use Rattle.std.specs.Prelude.{◌≡◌, ◌≢◌, ◌<◌, ◌≤◌, ◌+◌, ◌-◌, ◌^◌, ℕ, true, not, IfOk};
+ghost use Rattle.std.specs.Prelude.{◌≡◌, ◌≢◌, ◌<◌, ◌≤◌, ◌+◌, ◌-◌, ◌^◌, ℕ, [], true, not, IfOk};
 ghost use Rattle.ll_rights.specs.Map.{has};
 ghost use Rattle.ll_seq.specs.State.{State, start};
-ghost use Rattle.ll_seq.specs.Step.{step, IsAnswer};
+ghost use Rattle.ll_seq.specs.Deciding.{Comes};
+ghost use Rattle.ll_seq.specs.Step.{step, refusals, client_of, IsAnswer};
 ghost use Rattle.ll_seq.specs.History.{is_connect};
 ghost use Rattle.ll_seq.specs.declared.reply.Reply.{Reply};
 
@@ -81,29 +84,36 @@ impl Plain {
         ensures step { result ≢ Reply.Refused Errno.NoMemory → ◌≡◌ {A = Reply × State} (result, self.new) (step self.old client call.now fresh) }
         ensures no_memory { result ≡ Reply.Refused Errno.NoMemory → self.new ≡ self.old }
 
+        // Want of memory comes only where nothing else refuses the call.
+        ensures starved { result ≡ Reply.Refused Errno.NoMemory → refusals self.old (client_of self.old client) call.now ≡ [] }
+
         // What follows from these for every call.
         ensures answers { IsAnswer result }
         ensures clients_stay { (other : ℕ) → has self.old.clients other ≡ true → has self.new.clients other ≡ true }
+        ensures no_other_client { (other : ℕ) → other ≢ client → other ≢ fresh → has self.new.clients other ≡ has self.old.clients other }
         ensures numbers { self.new.next ≤ self.old.next + 1 }
     {
-        self.reply(client, call, fresh)
+        self.reply(client, call)
     }
 
-    fn reply(&mut self, client: u64, call: &Call, fresh: u64) -> Reply
+    fn reply(&mut self, client: u64, call: &Call) -> Reply
         requires caller { has self.old.clients client ≡ not (is_connect call.now) }
         requires next { self.old.next < 2 ^ 64 - 1 }
-        ensures step { result ≢ Reply.Refused Errno.NoMemory → ◌≡◌ {A = Reply × State} (result, self.new) (step self.old client call.now fresh) }
-        ensures no_memory { result ≡ Reply.Refused Errno.NoMemory → self.new ≡ self.old }
+        ensures { Comes self.old client call.now result self.new }
     {
         match call {
-            Call::Make(kind, target) => self.make(client, *kind, target, fresh),
-            Call::Open(mode, target) => self.open(client, *mode, target, fresh),
-            Call::Ruleset(rights) => self.create_ruleset(client, *rights, fresh),
-            Call::Allow(number, target, rights) => self.allow(
-                client, *number, target, *rights, fresh,
-            ),
-            Call::Confine(number) => self.confine(client, *number, fresh),
-            Call::Connect => self.connect(client, fresh),
+            Call::Make(kind, target) => self.make(client, *kind, target),
+            Call::Open(mode, target) => self.open(client, *mode, target),
+            Call::Truncate(target, size) => self.truncate(client, target, *size),
+            Call::ReadDir(target) => self.read_dir(client, target),
+            Call::Stat(target) => self.stat(client, target),
+            Call::Exec(target) => self.exec(client, target),
+            Call::Unlink(target) => self.unlink(client, target),
+            Call::Rmdir(target) => self.rmdir(client, target),
+            Call::Ruleset(rights) => self.create_ruleset(client, *rights),
+            Call::Allow(number, target, rights) => self.allow(client, *number, target, *rights),
+            Call::Confine(number) => self.confine(client, *number),
+            Call::Connect => self.connect(client),
         }
     }
 }

@@ -1,8 +1,18 @@
 //! Replies.
 
 use crate::call::Call;
+use crate::listing::Listing;
 use ll_decide::Denial;
-use ll_rights::Errno;
+use ll_rights::{Errno, Kind};
+
+/// What a node is. A directory's links are 1, another node's the number of its names.
+#[derive(Clone, Copy, Debug, PartialEq, Eq)]
+pub struct Status {
+    pub inode: u64,
+    pub kind: Kind,
+    pub size: u64,
+    pub links: u64,
+}
 
 /// What a call answers.
 #[derive(Drop)]
@@ -11,6 +21,9 @@ pub enum Reply {
     Done,
     /// The descriptor's number.
     Opened(u64),
+    /// The names in the directory, rising by bytes.
+    Listed(Listing),
+    Found(Status),
     /// The ruleset's number.
     Created(u64),
     Refused(Errno),

@@ -1,6 +1,6 @@
 //! Tables by number.
 
-ghost use Rattle.std.specs.Prelude.{◌≡◌, ◌<◌, ◌+◌, ℕ, Option, Some, None, IfSome, IfNone, OnOk, OnErr, length, slice_get, true, false, is_some};
+ghost use Rattle.std.specs.Prelude.{◌≡◌, ◌<◌, ◌+◌, Some, None, IfSome, IfNone, OnOk, OnErr, length, slice_get};
 ghost use Rattle.std.specs.Ordering.{nat_cmp};
 ghost use Rattle.std.specs.Option.{option_copied};
 ghost use Rattle.std.specs.FinMap.Entries.{find};
@@ -78,12 +78,8 @@ impl<V> Table<V> {
     pub fn get(&self, number: u64) -> Option<&V>
         ensures { option_copied result ≡ get self.now number }
     {
-        for row in &self.rows {
-            if row.0 == number {
-                return Some(&row.1);
-            }
-        }
-        None
+        let i = index_of(&self.rows, number)?;
+        Some(&self.rows[i].1)
     }
 
     pub fn has(&self, number: u64) -> bool

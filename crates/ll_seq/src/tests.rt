@@ -6,11 +6,10 @@ ghost use Rattle.std.specs.Prelude.{◌≡◌, ◌≤◌, ◌+◌, true, false, 
 ghost use Rattle.ll_rights.specs.Map.{has};
 ghost use Rattle.ll_seq.specs.History.{is_connect};
 
-use crate::{Call, Client, Descriptor, Entries, Mode, Plain, Reply, Rulesets, Table};
+use crate::{AccessMode, Call, Mode, Plain, Reply};
 use ll_decide::{Cause, Denial, Place};
-use ll_path::{Name, Target, Word};
+use ll_path::{Target, Word};
 use ll_rights::{Access, Errno, Kind, Right};
-use ll_rules::Ruleset;
 use std::alloc::{AllocError, Global};
 use std::process::Abort;
 use std::test::Fail;
@@ -25,6 +24,24 @@ macro_rules! again {
     };
 }
 
+mod paths;
+mod tables;
+
+const READ: Mode = Mode {
+    access: AccessMode::Read,
+    truncate: false,
+};
+
+const WRITE: Mode = Mode {
+    access: AccessMode::Write,
+    truncate: false,
+};
+
+const READ_WRITE: Mode = Mode {
+    access: AccessMode::ReadWrite,
+    truncate: false,
+};
+
 fn target(alloc: Global, text: &str) -> Result<Target, Fail> {
     let text = again!(String::from_str(alloc, text))?;
     Ok(Target::read(Word::new(text)?))
@@ -35,6 +52,12 @@ fn target(alloc: Global, text: &str) -> Result<Target, Fail> {
 enum Ask<'a> {
     Make(Kind, &'a str),
     Open(Mode, &'a str),
+    Truncate(&'a str, u64),
+    ReadDir(&'a str),
+    Stat(&'a str),
+    Exec(&'a str),
+    Unlink(&'a str),
+    Rmdir(&'a str),
     Ruleset(u64),
     Allow(u64, &'a str, u64),
     Confine(u64),
@@ -47,6 +70,12 @@ impl Ask<'_> {
         match self {
             Ask::Make(kind, text) => Ok(Call::Make(kind, target(alloc, text)?)),
             Ask::Open(mode, text) => Ok(Call::Open(mode, target(alloc, text)?)),
+            Ask::Truncate(text, size) => Ok(Call::Truncate(target(alloc, text)?, size)),
+            Ask::ReadDir(text) => Ok(Call::ReadDir(target(alloc, text)?)),
+            Ask::Stat(text) => Ok(Call::Stat(target(alloc, text)?)),
+            Ask::Exec(text) => Ok(Call::Exec(target(alloc, text)?)),
+            Ask::Unlink(text) => Ok(Call::Unlink(target(alloc, text)?)),
+            Ask::Rmdir(text) => Ok(Call::Rmdir(target(alloc, text)?)),
             Ask::Ruleset(rights) => Ok(Call::Ruleset(Access(rights))),
             Ask::Allow(number, text, rights) => {
                 Ok(Call::Allow(number, target(alloc, text)?, Access(rights)))
@@ -120,6 +149,7 @@ fn is_same(reply: &Reply, want: &Reply) -> bool {
     match (reply, want) {
         (Reply::Done, Reply::Done) => true,
         (Reply::Opened(number), Reply::Opened(wanted)) => number == wanted,
+        (Reply::Found(status), Reply::Found(wanted)) => status == wanted,
         (Reply::Created(number), Reply::Created(wanted)) => number == wanted,
         (Reply::Refused(errno), Reply::Refused(wanted)) => errno == wanted,
         (Reply::Denied(denial), Reply::Denied(wanted)) => denial == wanted,
@@ -146,8 +176,8 @@ fn one_layer_with_one_rule(rt: HostRuntime) -> Result<(), Fail> {
         (Ask::Ruleset(0x4), Reply::Created(0)),
         (Ask::Allow(0, "/a", 0x4), Reply::Done),
         (Ask::Confine(0), Reply::Done),
-        (Ask::Open(Mode::Read, "/a/f"), Reply::Opened(0)),
-        (Ask::Open(Mode::Read, "/b/f"), denied(1, Right::READ_FILE)),
+        (Ask::Open(READ, "/a/f"), Reply::Opened(0)),
+        (Ask::Open(READ, "/b/f"), denied(1, Right::READ_FILE)),
     ];
     Session::new(rt.alloc(), 64)?.check(&rt, &rows)
 }
@@ -162,13 +192,10 @@ fn layers_are_not_joined(rt: HostRuntime) -> Result<(), Fail> {
         (Ask::Ruleset(0x6), Reply::Created(1)),
         (Ask::Allow(1, "/f", 0x2), Reply::Done),
         (Ask::Confine(1), Reply::Done),
-        (
-            Ask::Open(Mode::ReadWrite, "/f"),
-            denied(1, Right::WRITE_FILE),
-        ),
-        (Ask::Open(Mode::Read, "/f"), denied(2, Right::READ_FILE)),
+        (Ask::Open(READ_WRITE, "/f"), denied(1, Right::WRITE_FILE)),
+        (Ask::Open(READ, "/f"), denied(2, Right::READ_FILE)),
         (Ask::Allow(0, "/f", 0x2), Reply::Done),
-        (Ask::Open(Mode::Write, "/f"), denied(1, Right::WRITE_FILE)),
+        (Ask::Open(WRITE, "/f"), denied(1, Right::WRITE_FILE)),
     ];
     Session::new(rt.alloc(), 64)?.check(&rt, &rows)
 }
@@ -212,12 +239,12 @@ fn opens(rt: HostRuntime) -> Result<(), Fail> {
     let rows = [
         (Ask::Make(Kind::Sym, "/s"), Reply::Done),
         (Ask::Make(Kind::Fifo, "/p"), Reply::Done),
-        (Ask::Open(Mode::Read, "/a/"), Reply::Refused(Errno::EINVAL)),
-        (Ask::Open(Mode::Read, "/a"), Reply::Refused(Errno::ENOENT)),
-        (Ask::Open(Mode::Read, "/s/x"), Reply::Refused(Errno::ELOOP)),
-        (Ask::Open(Mode::Read, "/"), Reply::Refused(Errno::EISDIR)),
-        (Ask::Open(Mode::Read, "/s"), Reply::Refused(Errno::ELOOP)),
-        (Ask::Open(Mode::Read, "/p"), Reply::Refused(Errno::ENXIO)),
+        (Ask::Open(READ, "/a/"), Reply::Refused(Errno::EINVAL)),
+        (Ask::Open(READ, "/a"), Reply::Refused(Errno::ENOENT)),
+        (Ask::Open(READ, "/s/x"), Reply::Refused(Errno::ELOOP)),
+        (Ask::Open(READ, "/"), Reply::Refused(Errno::EISDIR)),
+        (Ask::Open(READ, "/s"), Reply::Refused(Errno::ELOOP)),
+        (Ask::Open(READ, "/p"), Reply::Refused(Errno::ENXIO)),
     ];
     Session::new(rt.alloc(), 64)?.check(&rt, &rows)
 }
@@ -236,8 +263,8 @@ fn policy_after_names_and_before_kinds(rt: HostRuntime) -> Result<(), Fail> {
         (Ask::Make(Kind::Reg, "/g"), denied(1, Right::MAKE_REG)),
         (Ask::Make(Kind::Fifo, "/g"), Reply::Done),
         (Ask::Make(Kind::Reg, "/d/f"), Reply::Done),
-        (Ask::Open(Mode::Read, "/d"), denied(1, Right::READ_FILE)),
-        (Ask::Open(Mode::Write, "/d"), Reply::Refused(Errno::EISDIR)),
+        (Ask::Open(READ, "/d"), denied(1, Right::READ_FILE)),
+        (Ask::Open(WRITE, "/d"), Reply::Refused(Errno::EISDIR)),
     ];
     Session::new(rt.alloc(), 64)?.check(&rt, &rows)
 }
@@ -253,7 +280,7 @@ fn sixteen_rulesets(rt: HostRuntime) -> Result<(), Fail> {
 
 #[test]
 fn sixty_four_descriptors(rt: HostRuntime) -> Result<(), Fail> {
-    let open = Ask::Open(Mode::Read, "/f");
+    let open = Ask::Open(READ, "/f");
     let mut session = Session::new(rt.alloc(), 64)?;
     session.check(&rt, &[(Ask::Make(Kind::Reg, "/f"), Reply::Done)])?;
     for number in 0..64 {
@@ -267,7 +294,7 @@ fn room_for_two_nodes(rt: HostRuntime) -> Result<(), Fail> {
     let rows = [
         (Ask::Make(Kind::Reg, "/a"), Reply::Done),
         (Ask::Make(Kind::Reg, "/b"), Reply::Refused(Errno::ENOSPC)),
-        (Ask::Open(Mode::Read, "/b"), Reply::Refused(Errno::ENOENT)),
+        (Ask::Open(READ, "/b"), Reply::Refused(Errno::ENOENT)),
     ];
     Session::new(rt.alloc(), 2)?.check(&rt, &rows)
 }
@@ -298,7 +325,7 @@ fn each_growth_refused_in_turn(rt: HostRuntime) -> Result<(), Fail> {
         let text = numbered(rt.alloc(), number)?;
         let rows = [
             (Ask::Make(Kind::Reg, text.as_str()), Reply::Done),
-            (Ask::Open(Mode::Read, text.as_str()), Reply::Opened(number)),
+            (Ask::Open(READ, text.as_str()), Reply::Opened(number)),
             (Ask::Ruleset(0x4), Reply::Created(number)),
         ];
         session.check(&rt, &rows)?;
@@ -312,10 +339,10 @@ fn each_growth_refused_in_turn(rt: HostRuntime) -> Result<(), Fail> {
         session.check(&rt, &rows)?;
     }
     let rows = [
-        (Ask::Open(Mode::Read, "/0"), Reply::Opened(9)),
-        (Ask::Open(Mode::Read, "/8"), denied(1, Right::READ_FILE)),
+        (Ask::Open(READ, "/0"), Reply::Opened(9)),
+        (Ask::Open(READ, "/8"), denied(1, Right::READ_FILE)),
         (Ask::Confine(0), Reply::Done),
-        (Ask::Open(Mode::Read, "/0"), denied(10, Right::READ_FILE)),
+        (Ask::Open(READ, "/0"), denied(10, Right::READ_FILE)),
     ];
     session.check(&rt, &rows)
 }
@@ -335,7 +362,7 @@ fn a_rule_without_memory_is_not_there(rt: HostRuntime) -> Result<(), Fail> {
     };
     let rows = [
         (Ask::Confine(0), Reply::Done),
-        (Ask::Open(Mode::Read, "/f"), want),
+        (Ask::Open(READ, "/f"), want),
     ];
     session.check(&rt, &rows)
 }
@@ -343,101 +370,11 @@ fn a_rule_without_memory_is_not_there(rt: HostRuntime) -> Result<(), Fail> {
 #[test]
 fn modes(rt: HostRuntime) {
     for (mode, reads, writes) in [
-        (Mode::Read, true, false),
-        (Mode::Write, false, true),
-        (Mode::ReadWrite, true, true),
+        (READ, true, false),
+        (WRITE, false, true),
+        (READ_WRITE, true, true),
     ] {
-        assert_eq!(rt; mode.reads(), reads);
-        assert_eq!(rt; mode.writes(), writes);
+        assert_eq!(rt; mode.access.reads(), reads);
+        assert_eq!(rt; mode.access.writes(), writes);
     }
-}
-
-fn add_number(table: &mut Table<u64>, number: u64) -> Result<(), AllocError> {
-    if table.get(number).is_some() {
-        return Ok(());
-    }
-    table.insert(number, number)
-}
-
-#[test]
-fn tables(rt: HostRuntime) -> Result<(), Fail> {
-    let mut table = Table::new(rt.alloc());
-    for number in [5, 1, 3] {
-        again!(add_number(&mut table, number))?;
-    }
-    table.remove(3);
-    assert_eq!(rt; table.len(), 2);
-    for (number, want) in [(1, true), (3, false), (5, true)] {
-        assert_eq!(rt; table.has(number), want, "{number}");
-    }
-    Ok(())
-}
-
-fn add_entry(
-    alloc: Global,
-    entries: &mut Entries,
-    directory: u64,
-    name: &str,
-    inode: u64,
-) -> Result<(), AllocError> {
-    if !Name::fits(name) || entries.get(directory, name).is_some() {
-        return Ok(());
-    }
-    entries.insert(directory, Name::from_text(alloc, name)?, inode)
-}
-
-#[test]
-fn entries(rt: HostRuntime) -> Result<(), Fail> {
-    let mut entries = Entries::new(rt.alloc());
-    for (directory, name, inode) in [(1, "b", 4), (2, "a", 6), (1, "a", 5)] {
-        again!(add_entry(rt.alloc(), &mut entries, directory, name, inode))?;
-    }
-    assert_eq!(rt; entries.count_in(1), 2);
-    for (directory, name, want) in [(1, "a", Some(5)), (2, "a", Some(6)), (2, "b", None)] {
-        assert_eq!(rt; entries.get(directory, name), want);
-    }
-    Ok(())
-}
-
-fn add_ruleset(alloc: Global, rulesets: &mut Rulesets) -> Result<(), Errno> {
-    let made = Ruleset::create(alloc, Access(0x4))?;
-    rulesets.push(made).map_err(|_| Errno::NoMemory)
-}
-
-#[test]
-fn rulesets(rt: HostRuntime) -> Result<(), Fail> {
-    let mut rulesets = Rulesets::new(rt.alloc());
-    again!(add_ruleset(rt.alloc(), &mut rulesets))?;
-    assert_eq!(rt; rulesets.len(), 1);
-    again!(rulesets.allow(0, 7, Kind::Reg, Access(0x4)))?;
-    let made = rulesets.get(0).ok_or("no ruleset")?;
-    assert!(rt; made.layer().has_rule(Right::READ_FILE, 7));
-    assert!(rt; rulesets.get(1).is_none());
-    Ok(())
-}
-
-#[test]
-fn clients_open(rt: HostRuntime) {
-    let mut client = Client::new(rt.alloc());
-    let descriptor = Descriptor {
-        inode: 2,
-        reads: true,
-        writes: false,
-        kept: None,
-    };
-    assert_eq!(rt; again!(client.open(descriptor)), Ok(0));
-    assert_eq!(rt; client.lowest_free(), Some(1));
-    assert_eq!(rt; client.descriptors.get(0).copied(), Some(descriptor));
-}
-
-#[test]
-fn clients_confine(rt: HostRuntime) {
-    let mut client = Client::new(rt.alloc());
-    assert_eq!(rt;
-        again!(client.create_ruleset(rt.alloc(), Access(0x4))),
-        Ok(0)
-    );
-    assert_eq!(rt; client.rulesets.len(), 1);
-    assert_eq!(rt; again!(client.confine(0)), Ok(()));
-    assert_eq!(rt; client.domain.len(), 1);
 }

@@ -3,8 +3,10 @@
 ghost use Rattle.std.specs.Prelude.{◌≡◌, map, slice_get, Option, None};
 ghost use Rattle.ll_rights.specs.declared.errno.Errno.{Errno};
 ghost use Rattle.ll_decide.specs.Verdict.{denials, lacks, places, verdict};
+ghost use Rattle.ll_decide.specs.declared.denial.Place.TheVariants.{At};
 ghost use Rattle.ll_path.specs.Path.{parent};
-ghost use Rattle.ll_seq.specs.Asked.{grants, kept_at};
+ghost use Rattle.ll_seq.specs.Asked.{ask, grants, kept_at};
+ghost use Rattle.ll_seq.specs.Step.{client_of};
 ghost use Rattle.ll_seq.specs.Deciding.{ask_of, spot, of_right, of_layer};
 
 use crate::plain::{Plain, ROOT};
@@ -29,7 +31,29 @@ pub struct Asked<'a> {
     pub place: Place,
 }
 
-impl Asked<'_> {
+impl<'a> Asked<'a> {
+    pub(super) fn at(path: &'a Path, right: Right) -> Asked<'a>
+        ensures { ask_of result ≡ ask path.now right At }
+    {
+        Asked {
+            path,
+            on: On::Itself,
+            right,
+            place: Place::At,
+        }
+    }
+
+    pub(super) fn at_parent(path: &'a Path, right: Right) -> Asked<'a>
+        ensures { ask_of result ≡ ask (parent path.now) right At }
+    {
+        Asked {
+            path,
+            on: On::Parent,
+            right,
+            place: Place::At,
+        }
+    }
+
     fn names(&self) -> Names<'_>
         ensures { result ≡ spot self.now }
     {
@@ -151,7 +175,7 @@ impl Plain {
     }
 
     /// What the domain denies where these rights are asked.
-    pub(super) fn denial(&self, domain: &Domain, asks: &[Asked<'_>]) -> Option<Denial>
+    fn denial(&self, domain: &Domain, asks: &[Asked<'_>]) -> Option<Denial>
         ensures { result ≡ verdict (grants self.now) domain.now (map ask_of asks.now) None }
     {
         if let Some(denial) = self.first_denial(Cause::EACCES, domain, &BUT_REFER, asks) {
@@ -161,18 +185,32 @@ impl Plain {
     }
 
     /// The number of the oldest layer that doesn't grant truncate on the path.
-    pub(super) fn kept(&self, domain: &Domain, path: &Path) -> Option<u64>
+    fn kept(&self, domain: &Domain, path: &Path) -> Option<u64>
         ensures { result ≡ kept_at self.now domain.now path.now }
     {
-        let truncate = Asked {
-            path,
-            on: On::Itself,
-            right: Right::TRUNCATE,
-            place: Place::At,
-        };
-        match self.denial(domain, &[truncate]) {
+        match self.denial(domain, &[Asked::at(path, Right::TRUNCATE)]) {
             None => None,
             Some(denial) => Some(denial.layer),
+        }
+    }
+
+    /// What the client's layers deny where these rights are asked.
+    pub(super) fn denied(&self, client: u64, asks: &[Asked<'_>]) -> Option<Denial>
+        ensures { result ≡ verdict (grants self.now) (client_of self.now client).domain (map ask_of asks.now) None }
+    {
+        match self.clients.get(client) {
+            None => None,
+            Some(record) => self.denial(&record.domain, asks),
+        }
+    }
+
+    /// What an opening of the path keeps.
+    pub(super) fn kept_for(&self, client: u64, path: &Path) -> Option<u64>
+        ensures { result ≡ kept_at self.now (client_of self.now client).domain path.now }
+    {
+        match self.clients.get(client) {
+            None => None,
+            Some(record) => self.kept(&record.domain, path),
         }
     }
 }

@@ -1,15 +1,27 @@
 //! Walks from the root.
 
-ghost use Rattle.std.specs.Prelude.{◌≡◌, ◌++◌, [], Some, slice_get, IfOk, IfErr, is_none};
+ghost use Rattle.std.specs.Prelude.{◌≡◌, ◌++◌, [], Some, slice_get, IfOk, IfErr, is_none, unwrap_or};
+ghost use Rattle.ll_rights.specs.declared.kind.Kind.{Kind};
 ghost use Rattle.ll_rights.specs.Errno.{refuse};
-ghost use Rattle.ll_path.specs.Path.{parent};
+ghost use Rattle.ll_rights.specs.Kind.{is_dir};
+ghost use Rattle.ll_path.specs.Name.{IsName};
+ghost use Rattle.ll_path.specs.Path.{parent, last_name, is_root};
+ghost use Rattle.ll_seq.specs.Call.{path_of};
 ghost use Rattle.ll_seq.specs.State.{child, kind_of, root};
-ghost use Rattle.ll_seq.specs.Tree.{named, kind_at};
-ghost use Rattle.ll_seq.specs.Stages.{in_the_way};
+ghost use Rattle.ll_seq.specs.Tree.{named, directory_of};
+ghost use Rattle.ll_seq.specs.Stages.{bad_text, in_the_way, way_to, missing};
 
 use crate::plain::{Plain, ROOT};
-use ll_path::{Names, Path};
+use ll_path::{Names, Path, Target};
 use ll_rights::{Errno, Kind};
+
+/// A path's last name, and the directory in which it stands.
+#[derive(Drop)]
+pub struct Spot<'a> {
+    pub path: &'a Path,
+    pub directory: u64,
+    pub name: &'a str,
+}
 
 impl Plain {
     /// What the directory has under the name.
@@ -23,6 +35,19 @@ impl Plain {
         ensures { result ≡ kind_of self.now inode }
     {
         self.nodes.get(inode).map(|node| node.kind)
+    }
+
+    /// The node's kind; where there is no node, a regular file's.
+    pub(super) fn kind_or_file(&self, inode: u64) -> Kind
+        ensures { result ≡ unwrap_or (kind_of self.now inode) Kind.Reg }
+    {
+        self.kind(inode).unwrap_or(Kind::Reg)
+    }
+
+    pub(super) fn is_dir(&self, inode: u64) -> bool
+        ensures { result ≡ is_dir (unwrap_or (kind_of self.now inode) Kind.Reg) }
+    {
+        self.kind(inode) == Some(Kind::Dir)
     }
 
     /// The directory that the names lead to, or what is in the way first.
@@ -62,6 +87,49 @@ impl Plain {
         match self.child(directory, last) {
             Some(inode) => Ok(inode),
             None => Err(Errno::ENOENT),
+        }
+    }
+
+    /// The path that the target spells and the inode that this names, or why there is none.
+    pub(super) fn find<'a>(&self, target: &'a Target) -> Result<(&'a Path, u64), Errno>
+        ensures path { IfOk result (λ found. found.0.now ≡ path_of target.now) }
+        ensures free { IfOk result (λ found. bad_text target.now ++ (way_to self.now target.now ++ missing self.now target.now) ≡ []) }
+        ensures found { IfOk result (λ found. named self.now (path_of target.now) ≡ Some found.1) }
+        ensures refused { IfErr result (λ errno. slice_get (bad_text target.now ++ (way_to self.now target.now ++ missing self.now target.now)) 0 ≡ Some errno) }
+    {
+        let path = match target {
+            Target::Bad(bad) => return Err(bad.errno),
+            Target::Good(path) => path,
+        };
+        match self.look_up(path) {
+            Err(errno) => Err(errno),
+            Ok(inode) => Ok((path, inode)),
+        }
+    }
+
+    /// Where the last name of the path stands that the target spells, or why it stands nowhere. The root's has no place.
+    pub(super) fn find_spot<'a>(&self, target: &'a Target) -> Result<Spot<'a>, Errno>
+        ensures path { IfOk result (λ spot. spot.path.now ≡ path_of target.now) }
+        ensures name { IfOk result (λ spot. (spot.name.now ≡ last_name (path_of target.now)) × IsName spot.name.now) }
+        ensures free { IfOk result (λ spot. bad_text target.now ++ (refuse (is_root (path_of target.now)) Errno.EBUSY ++ way_to self.now target.now) ≡ []) }
+        ensures directory { IfOk result (λ spot. spot.directory ≡ directory_of self.now (path_of target.now)) }
+        ensures child { IfOk result (λ spot. named self.now (path_of target.now) ≡ child self.now spot.directory spot.name.now) }
+        ensures refused { IfErr result (λ errno. slice_get (bad_text target.now ++ (refuse (is_root (path_of target.now)) Errno.EBUSY ++ way_to self.now target.now)) 0 ≡ Some errno) }
+    {
+        let path = match target {
+            Target::Bad(bad) => return Err(bad.errno),
+            Target::Good(path) => path,
+        };
+        let Some((parent, name)) = path.split_last() else {
+            return Err(Errno::EBUSY);
+        };
+        match self.walk(parent) {
+            Err(errno) => Err(errno),
+            Ok(directory) => Ok(Spot {
+                path,
+                directory,
+                name,
+            }),
         }
     }
 }

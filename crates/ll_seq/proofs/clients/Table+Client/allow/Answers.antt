@@ -31,5 +31,4 @@ returns-clause-ok c =
 pub returns-clause-refused : goal.returns-clause-refused
 returns-clause-refused c =
     let over = changed c.self.inside.rows.items c.deref.result.now c.args.self.now c.args.client c.in-Some.i c.index_mut-row.result.now (record c.index_mut-row.result.now.1 { rulesets = c.allow.new.self }) c.self.view_is c.self.invariant c.deref.ensures.value c.in-Some.ensures.row c.index_mut-row.ensures.value in
-    if_err c.allow.result c.allow.ensures.refused (λ errno first other c' there made is.
-    first other made (ap (λ (x : Client). slice_get x.rulesets c.args.number) (same_some over.got there) ∙ is))
+    if_err c.allow.result c.allow.ensures.refused (λ errno why c' there made is. why made (ap (λ (x : Client). slice_get x.rulesets c.args.number) (same_some over.got there) ∙ is))

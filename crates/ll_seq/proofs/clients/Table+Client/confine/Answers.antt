@@ -1,9 +1,10 @@
-use Rattle.std.proofs.Common.{◌≡◌, ap, subst, sym, ◌∙◌}
-use Rattle.std.specs.Prelude.{slice_get, [], ◌∷◌, ◌++◌}
+use Rattle.std.proofs.Common.{◌≡◌, ap, subst, ◌∙◌}
+use Rattle.std.specs.Prelude.{[], ◌∷◌, ◌++◌}
 use Rattle.ll_rights.specs.Map.{insert}
 use Rattle.ll_rules.specs.Rules.{layer_limit}
 use Rattle.ll_seq.specs.Stages.{ruleset_at}
 use Rattle.ll_seq.specs.declared.client.Client.{Client}
+use Rattle.ll_seq.specs.Fails.{Fails}
 use Rattle.ll_seq.proofs.Results.{on_ok, if_err, same_some}
 use Rattle.ll_seq.proofs.Tables.{changed, not_missing}
 use Rattle.ll_seq.proofs.clients.Table+Client.confine.Goals as goal
@@ -30,5 +31,4 @@ returns-clause-ok c =
 pub returns-clause-refused : goal.returns-clause-refused
 returns-clause-refused c =
     let over = changed c.self.inside.rows.items c.deref.result.now c.args.self.now c.args.client c.in-Some.i c.index_mut-row.result.now c.confine.new.self c.self.view_is c.self.invariant c.deref.ensures.value c.in-Some.ensures.row c.index_mut-row.ensures.value in
-    if_err c.confine.result c.confine.ensures.refused (λ errno first other c' there.
-    ap (λ (x : Client). slice_get (layer_limit x.domain) 0) (sym (same_some over.got there)) ∙ first other)
+    if_err c.confine.result c.confine.ensures.refused (λ errno why c' there. subst (λ (x : Client). Fails (layer_limit x.domain) errno) (same_some over.got there) why)

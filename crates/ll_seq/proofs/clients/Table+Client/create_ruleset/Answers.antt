@@ -1,10 +1,11 @@
-use Rattle.std.proofs.Common.{◌≡◌, ap, subst, sym, ◌∙◌}
-use Rattle.std.specs.Prelude.{slice_get, nat_le, length, [], ◌∷◌, ◌++◌}
+use Rattle.std.proofs.Common.{◌≡◌, ap, subst, ◌∙◌}
+use Rattle.std.specs.Prelude.{nat_le, length, [], ◌∷◌, ◌++◌}
 use Rattle.ll_rights.specs.declared.errno.Errno.TheVariants.{EMFILE}
 use Rattle.ll_rights.specs.Errno.{refuse}
 use Rattle.ll_rights.specs.Map.{insert}
 use Rattle.ll_rules.specs.Rules.{create_refusals, new_ruleset}
 use Rattle.ll_seq.specs.declared.client.Client.{Client}
+use Rattle.ll_seq.specs.Fails.{Fails}
 use Rattle.ll_seq.proofs.Results.{if_ok, if_err, same_some}
 use Rattle.ll_seq.proofs.Tables.{changed, not_missing}
 use Rattle.ll_seq.proofs.clients.Table+Client.create_ruleset.Goals as goal
@@ -28,5 +29,5 @@ returns-clause-ok c =
 pub returns-clause-refused : goal.returns-clause-refused
 returns-clause-refused c =
     let over = changed c.self.inside.rows.items c.deref.result.now c.args.self.now c.args.client c.in-Some.i c.index_mut-row.result.now c.create_ruleset.new.self c.self.view_is c.self.invariant c.deref.ensures.value c.in-Some.ensures.row c.index_mut-row.ensures.value in
-    if_err c.create_ruleset.result c.create_ruleset.ensures.refused (λ errno first other c' there.
-    ap (λ (x : Client). slice_get (create_refusals c.args.handled.0 ++ refuse (nat_le 16 (length x.rulesets)) EMFILE) 0) (sym (same_some over.got there)) ∙ first other)
+    if_err c.create_ruleset.result c.create_ruleset.ensures.refused (λ errno why c' there.
+    subst (λ (x : Client). Fails (create_refusals c.args.handled.0 ++ refuse (nat_le 16 (length x.rulesets)) EMFILE) errno) (same_some over.got there) why)

@@ -1,10 +1,11 @@
-use Rattle.std.proofs.Common.{◌≡◌, Some, ap, subst, sym, ◌∙◌}
-use Rattle.std.specs.Prelude.{slice_get, is_none}
+use Rattle.std.proofs.Common.{◌≡◌, Some, ap, subst, ◌∙◌}
+use Rattle.std.specs.Prelude.{is_none}
 use Rattle.ll_rights.specs.declared.errno.Errno.TheVariants.{EMFILE}
 use Rattle.ll_rights.specs.Errno.{refuse}
 use Rattle.ll_rights.specs.Map.{insert}
 use Rattle.ll_seq.specs.Stages.{lowest_free}
 use Rattle.ll_seq.specs.declared.client.Client.{Client}
+use Rattle.ll_seq.specs.Fails.{Fails}
 use Rattle.ll_seq.proofs.Results.{if_ok, if_err, same_some}
 use Rattle.ll_seq.proofs.Tables.{changed, not_missing}
 use Rattle.ll_seq.proofs.clients.Table+Client.open.Goals as goal
@@ -27,5 +28,5 @@ returns-clause-ok c =
 pub returns-clause-refused : goal.returns-clause-refused
 returns-clause-refused c =
     let over = changed c.self.inside.rows.items c.deref.result.now c.args.self.now c.args.client c.in-Some.i c.index_mut-row.result.now c.open.new.self c.self.view_is c.self.invariant c.deref.ensures.value c.in-Some.ensures.row c.index_mut-row.ensures.value in
-    if_err c.open.result c.open.ensures.refused (λ errno first other c' there.
-    ap (λ (x : Client). slice_get (refuse (is_none (lowest_free x.descriptors)) EMFILE) 0) (sym (same_some over.got there)) ∙ first other)
+    if_err c.open.result c.open.ensures.refused (λ errno why c' there.
+    subst (λ (x : Client). Fails (refuse (is_none (lowest_free x.descriptors)) EMFILE) errno) (same_some over.got there) why)

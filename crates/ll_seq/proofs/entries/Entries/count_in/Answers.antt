@@ -1,13 +1,13 @@
-use Rattle.std.proofs.Common.{List, ◌≡◌, ℕ, ◌==◌, length, filter, sym, ap, ◌∙◌, arith}
-use Rattle.ll_rights.specs.Map.{entries}
-use Rattle.ll_rights.proofs.Maps.{entries-from_sorted}
+use Rattle.std.proofs.Common.{rules, tests, ◌≡◌, ◌==◌, ℕ, length, filter, sym, ◌∙◌}
+use Rattle.std.proofs.lemmas.Iterator.{YieldsList-from_slice}
+use Rattle.std.proofs.lemmas.Iterator.Consumers.{count_from_yields_List, YieldsList-from_filter}
 use Rattle.ll_seq.specs.declared.entries.Slot.{Slot}
-use Rattle.ll_seq.specs.State.{slot_cmp}
+use Rattle.ll_seq.proofs.Tables.{of_rows}
 use Rattle.ll_seq.proofs.entries.Entries.count_in.Goals as goal
 
-pub loop-row-init : goal.loop-row-init
-loop-row-init c =
-    let count = λ (es : List (Slot × ℕ)). length (filter (λ (e : Slot × ℕ). e.0.directory == c.args.directory) es) in
-    let whole : count (entries c.args.self.now) ≡ count c.deref-row-items.result.now =
-    ap (λ m. count (entries m)) (sym c.self.view_is) ∙ ap count (entries-from_sorted slot_cmp c.self.inside.rows.items c.self.invariant) ∙ ap count (sym c.deref-row-items.ensures.value) in
-    record { within = omega arith; whole = omega arith }
+pub returns : goal.returns
+returns c =
+    let counted : c.count.result ≡ length (filter (λ (e : Slot × ℕ). e.0.directory == c.args.directory) c.deref.result.now) =
+    count_from_yields_List c.filter.result c.count.result c.count.ensures.ran
+    (YieldsList-from_filter _ (λ (e : Slot × ℕ). e.0.directory == c.args.directory) (YieldsList-from_slice c.deref.result.now cc) c.filter.ensures.closure (λ x r q k. search (rules, tests))) in
+    counted ∙ sym (of_rows (λ es. length (filter (λ (e : Slot × ℕ). e.0.directory == c.args.directory) es)) c.self.inside.rows.items c.deref.result.now c.args.self.now c.self.view_is c.self.invariant c.deref.ensures.value)

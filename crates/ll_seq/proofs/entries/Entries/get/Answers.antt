@@ -1,12 +1,13 @@
-use Rattle.std.proofs.Common.{sym, ap, ◌∙◌}
-use Rattle.std.specs.FinMap.Entries.{find}
-use Rattle.ll_rights.specs.Map.{get}
-use Rattle.ll_rights.proofs.Maps.{get-from_sorted}
-use Rattle.ll_seq.specs.State.{slot, slot_cmp}
+use Rattle.std.proofs.Common.{sym, ◌∙◌}
+use Rattle.ll_seq.specs.State.{slot}
+use Rattle.ll_seq.proofs.Tables.{got, got_row}
 use Rattle.ll_seq.proofs.entries.Entries.get.Goals as goal
 
-pub loop-row-init : goal.loop-row-init
-loop-row-init c =
-    ap (λ m. get m (slot c.args.directory c.args.name.now)) (sym c.self.view_is)
-    ∙ get-from_sorted slot_cmp c.self.inside.rows.items (slot c.args.directory c.args.name.now) c.self.invariant
-    ∙ ap (find slot_cmp (slot c.args.directory c.args.name.now)) (sym c.deref-row-items.ensures.value)
+pub returns-in_err-i : goal.returns-in_err-i
+returns-in_err-i c =
+    c.from_residual.ensures
+    ∙ sym (got c.self.inside.rows.items c.deref.result.now c.args.self.now (slot c.args.directory c.args.name.now) c.self.view_is c.self.invariant c.deref.ensures.value ∙ c.in_err-i.ensures.none)
+
+pub returns : goal.returns
+returns c =
+    sym (got_row c.self.inside.rows.items c.deref.result.now c.args.self.now (slot c.args.directory c.args.name.now) c.in_ok-i.i c.index.result.now c.self.view_is c.self.invariant c.deref.ensures.value c.in_ok-i.ensures.row c.index.ensures)

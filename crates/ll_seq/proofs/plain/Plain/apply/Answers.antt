@@ -1,28 +1,56 @@
-use Rattle.std.proofs.Common.{ap, sym, subst, inl, inr, ◌∙◌, arith}
+use Rattle.std.proofs.Common.{ap, sym, subst, refl, inl, inr, ◌∙◌, arith}
 use Rattle.ll_rights.specs.Map.{has}
 use Rattle.ll_seq.specs.declared.reply.Reply.{Reply}
 use Rattle.ll_seq.specs.State.{State}
 use Rattle.ll_seq.specs.Step.{IsAnswer}
-use Rattle.ll_seq.proofs.Consequences.{step-IsAnswer, step-clients_stay, step-next, starved_or_not}
+use Rattle.ll_seq.proofs.Consequences.{step-IsAnswer, step-clients_stay, step-no_other, step-next, step-not_starved}
 use Rattle.ll_seq.proofs.plain.Plain.apply.Goals as goal
+
+pub returns-clause-step : goal.returns-clause-step
+returns-clause-step c other =
+    elim (c.reply.ensures c.args.fresh) [
+      | inl is ↦ is
+      | inr starved ↦ absurd (other starved.0)
+    ]
+
+pub returns-clause-no_memory : goal.returns-clause-no_memory
+returns-clause-no_memory c none =
+    elim (c.reply.ensures c.args.fresh) [
+      | inl is ↦ absurd (step-not_starved c.args.self.now c.args.client c.args.call.now c.args.fresh (sym (ap (λ (z : Reply × State). z.0) is) ∙ none))
+      | inr starved ↦ starved.1
+    ]
+
+pub returns-clause-starved : goal.returns-clause-starved
+returns-clause-starved c none =
+    elim (c.reply.ensures c.args.fresh) [
+      | inl is ↦ absurd (step-not_starved c.args.self.now c.args.client c.args.call.now c.args.fresh (sym (ap (λ (z : Reply × State). z.0) is) ∙ none))
+      | inr starved ↦ starved.2
+    ]
 
 pub returns-clause-answers : goal.returns-clause-answers
 returns-clause-answers c =
-    elim (starved_or_not c.reply.result) [
-      | inl starved ↦ subst IsAnswer (sym starved) (omega arith, omega arith)
-      | inr other ↦ subst IsAnswer (sym (ap (λ (z : Reply × State). z.0) (c.reply.ensures.step other))) (step-IsAnswer c.args.self.now c.args.client c.args.call.now c.args.fresh)
+    elim (c.reply.ensures c.args.fresh) [
+      | inl is ↦ subst IsAnswer (sym (ap (λ (z : Reply × State). z.0) is)) (step-IsAnswer c.args.self.now c.args.client c.args.call.now c.args.fresh)
+      | inr starved ↦ subst IsAnswer (sym starved.0) (inr refl)
     ]
 
 pub returns-clause-clients_stay : goal.returns-clause-clients_stay
 returns-clause-clients_stay c = λ other there.
-    elim (starved_or_not c.reply.result) [
-      | inl starved ↦ ap (λ (z : State). has z.clients other) (c.reply.ensures.no_memory starved) ∙ there
-      | inr more ↦ ap (λ (z : Reply × State). has z.1.clients other) (c.reply.ensures.step more) ∙ step-clients_stay c.args.self.now c.args.client c.args.call.now c.args.fresh other there
+    elim (c.reply.ensures c.args.fresh) [
+      | inl is ↦ ap (λ (z : Reply × State). has z.1.clients other) is ∙ step-clients_stay c.args.self.now c.args.client c.args.call.now c.args.fresh other there
+      | inr starved ↦ ap (λ (z : State). has z.clients other) starved.1 ∙ there
+    ]
+
+pub returns-clause-no_other_client : goal.returns-clause-no_other_client
+returns-clause-no_other_client c = λ other a b.
+    elim (c.reply.ensures c.args.fresh) [
+      | inl is ↦ ap (λ (z : Reply × State). has z.1.clients other) is ∙ step-no_other c.args.self.now c.args.client c.args.call.now c.args.fresh other a b
+      | inr starved ↦ ap (λ (z : State). has z.clients other) starved.1
     ]
 
 pub returns-clause-numbers : goal.returns-clause-numbers
 returns-clause-numbers c =
-    elim (starved_or_not c.reply.result) [
-      | inl starved ↦ (let same = ap (λ (z : State). z.next) (c.reply.ensures.no_memory starved) in omega arith)
-      | inr other ↦ (let same = ap (λ (z : Reply × State). z.1.next) (c.reply.ensures.step other) in let grown = step-next c.args.self.now c.args.client c.args.call.now c.args.fresh in omega arith)
+    elim (c.reply.ensures c.args.fresh) [
+      | inl is ↦ (let same = ap (λ (z : Reply × State). z.1.next) is in let grown = step-next c.args.self.now c.args.client c.args.call.now c.args.fresh in omega arith)
+      | inr starved ↦ (let same = ap (λ (z : State). z.next) starved.1 in omega arith)
     ]

@@ -1,48 +1,36 @@
-use Rattle.std.proofs.Common.{ap, sym, ◌∙◌}
-use Rattle.std.specs.Prelude.{[], ◌∷◌, None, is_some, slice_get}
+use Rattle.std.proofs.Common.{rules, ap, sym, ◌∙◌}
+use Rattle.std.specs.Prelude.{[], ◌∷◌, is_some}
+use Rattle.ll_rights.specs.declared.errno.Errno.TheVariants.{EEXIST, ENOSPC}
 use Rattle.ll_path.specs.Path.{parent}
-use Rattle.ll_decide.specs.declared.denial.Place.TheVariants.{At as AtPath}
-use Rattle.ll_decide.specs.Verdict.{all_denials}
-use Rattle.ll_seq.specs.declared.reply.Reply.{Reply}
+use Rattle.ll_decide.specs.declared.denial.Place.TheVariants.{At}
 use Rattle.ll_seq.specs.declared.reply.Reply.TheVariants.{Done}
-use Rattle.ll_seq.specs.State.{State}
-use Rattle.ll_seq.specs.Asked.{ask, grants}
-use Rattle.ll_seq.specs.Step.{client_of}
-use Rattle.ll_seq.proofs.Calls.{At, make_blocked, make_exists, make_denied, make_full, make_done}
+use Rattle.ll_seq.specs.declared.call.Call.TheVariants.{Make}
+use Rattle.ll_seq.specs.State.{slot}
+use Rattle.ll_seq.specs.Asked.{ask}
+use Rattle.ll_seq.specs.Stages.{present}
+use Rattle.ll_seq.specs.Effects.{with_node}
+use Rattle.ll_seq.proofs.Calls.{refused_if, not_refused, no_spot, spot_blocked, spot_free, told}
+use Rattle.ll_seq.proofs.Parts.{refused_before, denied, refused_after, does, starves}
 use Rattle.ll_seq.proofs.plain.Plain.make.Goals as goal
 
-pub returns-in-Err-clause-step : goal.returns-in-Err-clause-step
-returns-in-Err-clause-step c other =
-    let at : At c.args.target.now c.in-Good.path c.in-Some.parent c.in-Some.last.now = record { is = c.in-Good.is; front_is = c.in-Some.ensures.parent; name_is = c.in-Some.ensures.last; whole = c.in-Some.ensures.whole } in
-    make_blocked c.args.self.now c.args.client c.args.kind c.args.target.now c.args.fresh c.in-Good.path c.in-Some.parent c.in-Some.last.now at c.in-Err.errno c.in-Err.ensures.blocked
+pub returns-in-Err : goal.returns-in-Err
+returns-in-Err c = refused_before c.args.self.now c.args.client (Make c.args.kind c.args.target.now) c.in-Err.errno (no_spot c.args.self.now c.args.target.now (present c.args.self.now c.args.target.now) c.in-Err.errno c.in-Err.ensures.refused)
 
-pub returns-then-is_some-clause-step : goal.returns-then-is_some-clause-step
-returns-then-is_some-clause-step c other =
-    let at : At c.args.target.now c.in-Good.path c.in-Some.parent c.in-Some.last.now = record { is = c.in-Good.is; front_is = c.in-Some.ensures.parent; name_is = c.in-Some.ensures.last; whole = c.in-Some.ensures.whole } in
-    make_exists c.args.self.now c.args.client c.args.kind c.args.target.now c.args.fresh c.in-Good.path c.in-Some.parent c.in-Some.last.now at c.in-Ok.directory c.in-Ok.ensures.way c.in-Ok.ensures.found
-    (ap is_some (sym c.child.ensures) ∙ sym c.if-is_some.ensures)
+pub returns-then-is_some : goal.returns-then-is_some
+returns-then-is_some c =
+    refused_before c.args.self.now c.args.client (Make c.args.kind c.args.target.now) EEXIST (spot_blocked c.args.self.now c.args.target.now (present c.args.self.now c.args.target.now) EEXIST c.in-Ok.ensures.free
+    (refused_if _ EEXIST (ap is_some (c.in-Ok.ensures.child ∙ sym c.child.ensures) ∙ sym c.is_some.ensures ∙ c.if-is_some.true)))
 
-pub returns-in-Some-denied-clause-step : goal.returns-in-Some-denied-clause-step
-returns-in-Some-denied-clause-step c other =
-    let at : At c.args.target.now c.in-Good.path c.in-Some.parent c.in-Some.last.now = record { is = c.in-Good.is; front_is = c.in-Some.ensures.parent; name_is = c.in-Some.ensures.last; whole = c.in-Some.ensures.whole } in
-    make_denied c.args.self.now c.args.client c.args.kind c.args.target.now c.args.fresh c.in-Good.path c.in-Some.parent c.in-Some.last.now at c.in-Ok.directory c.in-Ok.ensures.way c.in-Ok.ensures.found
-    (ap is_some (sym c.child.ensures) ∙ sym c.if-is_some.ensures) c.in-Some-denied.denial
-    (ap (λ r. slice_get (all_denials (grants c.args.self.now) (client_of c.args.self.now c.args.client).domain (ask (parent c.in-Good.path) r AtPath ∷ []) None) 0) (sym c.make_right.ensures) ∙ sym c.denied.ensures ∙ c.in-Some-denied.is)
+pub returns-in-Some : goal.returns-in-Some
+returns-in-Some c = denied c.args.self.now c.args.client (Make c.args.kind c.args.target.now) (spot_free c.args.self.now c.args.target.now (present c.args.self.now c.args.target.now) c.in-Ok.ensures.free (not_refused _ EEXIST (ap is_some (c.in-Ok.ensures.child ∙ sym c.child.ensures) ∙ sym c.is_some.ensures ∙ c.if-is_some.false))) c.in-Some.denial (told c.args.self.now c.args.client (Make c.args.kind c.args.target.now) _ c.denied.result c.denied.ensures (ap (λ a. a ∷ []) c.at_parent-ask.ensures ∙ (λ i. ask (parent (c.in-Ok.ensures.path i)) (c.make_right.ensures i) At ∷ [])) ∙ c.in-Some.is)
 
-pub returns-then-is_full-clause-step : goal.returns-then-is_full-clause-step
-returns-then-is_full-clause-step c other =
-    let at : At c.args.target.now c.in-Good.path c.in-Some.parent c.in-Some.last.now = record { is = c.in-Good.is; front_is = c.in-Some.ensures.parent; name_is = c.in-Some.ensures.last; whole = c.in-Some.ensures.whole } in
-    make_full c.args.self.now c.args.client c.args.kind c.args.target.now c.args.fresh c.in-Good.path c.in-Some.parent c.in-Some.last.now at c.in-Ok.directory c.in-Ok.ensures.way c.in-Ok.ensures.found
-    (ap is_some (sym c.child.ensures) ∙ sym c.if-is_some.ensures)
-    (ap (λ r. slice_get (all_denials (grants c.args.self.now) (client_of c.args.self.now c.args.client).domain (ask (parent c.in-Good.path) r AtPath ∷ []) None) 0) (sym c.make_right.ensures) ∙ sym c.denied.ensures ∙ c.in_default-denied.is)
-    (sym c.is_full.ensures ∙ c.if-is_full.true)
+pub returns-then-is_full : goal.returns-then-is_full
+returns-then-is_full c = refused_after c.args.self.now c.args.client (Make c.args.kind c.args.target.now) (spot_free c.args.self.now c.args.target.now (present c.args.self.now c.args.target.now) c.in-Ok.ensures.free (not_refused _ EEXIST (ap is_some (c.in-Ok.ensures.child ∙ sym c.child.ensures) ∙ sym c.is_some.ensures ∙ c.if-is_some.false))) (told c.args.self.now c.args.client (Make c.args.kind c.args.target.now) _ c.denied.result c.denied.ensures (ap (λ a. a ∷ []) c.at_parent-ask.ensures ∙ (λ i. ask (parent (c.in-Ok.ensures.path i)) (c.make_right.ensures i) At ∷ [])) ∙ c.in_default.is) ENOSPC (refused_if _ ENOSPC (search rules))
 
-pub returns-clause-step : goal.returns-clause-step
-returns-clause-step c other =
-    let at : At c.args.target.now c.in-Good.path c.in-Some.parent c.in-Some.last.now = record { is = c.in-Good.is; front_is = c.in-Some.ensures.parent; name_is = c.in-Some.ensures.last; whole = c.in-Some.ensures.whole } in
-    let answer : State → Reply × State = λ z. (Done, z) in
-    ap answer c.in_default-add.ensures.ok
-    ∙ make_done c.args.self.now c.args.client c.args.kind c.args.target.now c.args.fresh c.in-Good.path c.in-Some.parent c.in-Some.last.now at c.in-Ok.directory c.in-Ok.ensures.way c.in-Ok.ensures.found
-    (ap is_some (sym c.child.ensures) ∙ sym c.if-is_some.ensures)
-    (ap (λ r. slice_get (all_denials (grants c.args.self.now) (client_of c.args.self.now c.args.client).domain (ask (parent c.in-Good.path) r AtPath ∷ []) None) 0) (sym c.make_right.ensures) ∙ sym c.denied.ensures ∙ c.in_default-denied.is)
-    (sym c.is_full.ensures ∙ c.if-is_full.false)
+pub returns-in-Err-add : goal.returns-in-Err-add
+returns-in-Err-add c = starves c.args.self.now c.args.client (Make c.args.kind c.args.target.now) (spot_free c.args.self.now c.args.target.now (present c.args.self.now c.args.target.now) c.in-Ok.ensures.free (not_refused _ EEXIST (ap is_some (c.in-Ok.ensures.child ∙ sym c.child.ensures) ∙ sym c.is_some.ensures ∙ c.if-is_some.false))) (told c.args.self.now c.args.client (Make c.args.kind c.args.target.now) _ c.denied.result c.denied.ensures (ap (λ a. a ∷ []) c.at_parent-ask.ensures ∙ (λ i. ask (parent (c.in-Ok.ensures.path i)) (c.make_right.ensures i) At ∷ [])) ∙ c.in_default.is) (not_refused _ ENOSPC (search rules)) _ c.in-Err-add.ensures.err
+
+pub returns-in-Ok-add : goal.returns-in-Ok-add
+returns-in-Ok-add c =
+    does c.args.self.now c.args.client (Make c.args.kind c.args.target.now) (spot_free c.args.self.now c.args.target.now (present c.args.self.now c.args.target.now) c.in-Ok.ensures.free (not_refused _ EEXIST (ap is_some (c.in-Ok.ensures.child ∙ sym c.child.ensures) ∙ sym c.is_some.ensures ∙ c.if-is_some.false))) (told c.args.self.now c.args.client (Make c.args.kind c.args.target.now) _ c.denied.result c.denied.ensures (ap (λ a. a ∷ []) c.at_parent-ask.ensures ∙ (λ i. ask (parent (c.in-Ok.ensures.path i)) (c.make_right.ensures i) At ∷ [])) ∙ c.in_default.is) (not_refused _ ENOSPC (search rules)) Done _
+    (λ fresh. ap (λ z. (Done, z)) (c.in-Ok-add.ensures.ok ∙ (λ i. with_node c.args.self.now c.args.kind (slot (c.in-Ok.ensures.directory i) (c.in-Ok.ensures.name.0 i)))))

@@ -1,17 +1,45 @@
 use Rattle.std.proofs.Common.{ap, sym, ◌∙◌}
-use Rattle.ll_path.specs.declared.target.Target.TheVariants.{Good}
-use Rattle.ll_decide.specs.Verdict.{verdict}
-use Rattle.std.specs.Prelude.{None}
-use Rattle.ll_seq.specs.declared.call.Call.TheVariants.{Open}
-use Rattle.ll_seq.specs.Asked.{asked, grants}
+use Rattle.std.specs.Prelude.{Bool, List, [], ◌∷◌, ◌++◌, None}
+use Rattle.ll_path.specs.Path.{Path}
+use Rattle.ll_rights.specs.Right as right
+use Rattle.ll_decide.specs.declared.denial.Place.TheVariants.{At}
+use Rattle.ll_decide.specs.Verdict.{Ask, when, verdict}
+use Rattle.ll_seq.specs.declared.call.AccessMode.{AccessMode}
+use Rattle.ll_seq.specs.Call.{reads, writes}
+use Rattle.ll_seq.specs.Asked.{ask, grants}
 use Rattle.ll_seq.specs.Step.{client_of}
 use Rattle.ll_seq.proofs.plain.Plain.open_denial.Goals as goal
 
-pub returns-in-Read : goal.returns-in-Read
-returns-in-Read c = c.denied.ensures ∙ ap (λ m. verdict (grants c.args.self.now) (client_of c.args.self.now c.args.client).domain (asked (Open m (Good c.args.path.now))) None) (sym c.in-Read.is)
+abbrev asks : Path → AccessMode → Bool → List (Ask Path)
+asks path access truncates =
+    when (reads access) (ask path right.read_file At ∷ []) ++ when (writes access) (ask path right.write_file At ∷ []) ++ when truncates (ask path right.truncate At ∷ [])
 
-pub returns-in-Write : goal.returns-in-Write
-returns-in-Write c = c.denied-in-Write.ensures ∙ ap (λ m. verdict (grants c.args.self.now) (client_of c.args.self.now c.args.client).domain (asked (Open m (Good c.args.path.now))) None) (sym c.in-Write.is)
+pub returns-in-Read-true : goal.returns-in-Read-true
+returns-in-Read-true c =
+    c.denied.ensures
+    ∙ ap (λ list. verdict (grants c.args.self.now) (client_of c.args.self.now c.args.client).domain list None) ((λ i. c.at-read.ensures i ∷ c.at-truncate.ensures i ∷ []) ∙ (λ i. asks c.args.path.now (sym c.in-Read-true.is-0 i) (sym c.in-Read-true.is-1 i)))
 
-pub returns-in-ReadWrite : goal.returns-in-ReadWrite
-returns-in-ReadWrite c = c.denied-in-ReadWrite.ensures ∙ ap (λ m. verdict (grants c.args.self.now) (client_of c.args.self.now c.args.client).domain (asked (Open m (Good c.args.path.now))) None) (sym c.in-ReadWrite.is)
+pub returns-in-Read-false : goal.returns-in-Read-false
+returns-in-Read-false c =
+    c.denied-in-Read-false.ensures
+    ∙ ap (λ list. verdict (grants c.args.self.now) (client_of c.args.self.now c.args.client).domain list None) ((λ i. c.at-read.ensures i ∷ []) ∙ (λ i. asks c.args.path.now (sym c.in-Read-false.is-0 i) (sym c.in-Read-false.is-1 i)))
+
+pub returns-in-Write-true : goal.returns-in-Write-true
+returns-in-Write-true c =
+    c.denied-in-Write-true.ensures
+    ∙ ap (λ list. verdict (grants c.args.self.now) (client_of c.args.self.now c.args.client).domain list None) ((λ i. c.at-write.ensures i ∷ c.at-truncate.ensures i ∷ []) ∙ (λ i. asks c.args.path.now (sym c.in-Write-true.is-0 i) (sym c.in-Write-true.is-1 i)))
+
+pub returns-in-Write-false : goal.returns-in-Write-false
+returns-in-Write-false c =
+    c.denied-in-Write-false.ensures
+    ∙ ap (λ list. verdict (grants c.args.self.now) (client_of c.args.self.now c.args.client).domain list None) ((λ i. c.at-write.ensures i ∷ []) ∙ (λ i. asks c.args.path.now (sym c.in-Write-false.is-0 i) (sym c.in-Write-false.is-1 i)))
+
+pub returns-in-ReadWrite-true : goal.returns-in-ReadWrite-true
+returns-in-ReadWrite-true c =
+    c.denied-in-ReadWrite-true.ensures
+    ∙ ap (λ list. verdict (grants c.args.self.now) (client_of c.args.self.now c.args.client).domain list None) ((λ i. c.at-read.ensures i ∷ c.at-write.ensures i ∷ c.at-truncate.ensures i ∷ []) ∙ (λ i. asks c.args.path.now (sym c.in-ReadWrite-true.is-0 i) (sym c.in-ReadWrite-true.is-1 i)))
+
+pub returns-in-ReadWrite-false : goal.returns-in-ReadWrite-false
+returns-in-ReadWrite-false c =
+    c.denied-in-ReadWrite-false.ensures
+    ∙ ap (λ list. verdict (grants c.args.self.now) (client_of c.args.self.now c.args.client).domain list None) ((λ i. c.at-read.ensures i ∷ c.at-write.ensures i ∷ []) ∙ (λ i. asks c.args.path.now (sym c.in-ReadWrite-false.is-0 i) (sym c.in-ReadWrite-false.is-1 i)))

@@ -1,9 +1,12 @@
 use Rattle.std.proofs.Common.{sym, ap, ◌∙◌}
-use Rattle.std.specs.Ordering.{nat_cmp}
-use Rattle.std.specs.FinMap.Entries.{find}
-use Rattle.ll_rights.specs.Map.{get}
-use Rattle.ll_rights.proofs.Maps.{get-from_sorted}
+use Rattle.std.specs.Option.{option_copied}
+use Rattle.ll_seq.proofs.Tables.{got, got_row}
 use Rattle.ll_seq.proofs.table.Table.get.Goals as goal
 
-pub loop-row-init : goal.loop-row-init
-loop-row-init g c = ap (λ m. get m c.args.number) (sym c.self.view_is) ∙ get-from_sorted nat_cmp c.self.inside.rows.items c.args.number c.self.invariant ∙ ap (find nat_cmp c.args.number) (sym c.deref-row-items.ensures.value)
+pub returns-in_err-i : goal.returns-in_err-i
+returns-in_err-i g c =
+    ap option_copied c.from_residual.ensures ∙ sym (got c.self.inside.rows.items c.deref.result.now c.args.self.now c.args.number c.self.view_is c.self.invariant c.deref.ensures.value ∙ c.in_err-i.ensures.none)
+
+pub returns : goal.returns
+returns g c =
+    sym (got_row c.self.inside.rows.items c.deref.result.now c.args.self.now c.args.number c.in_ok-i.i c.index.result.now c.self.view_is c.self.invariant c.deref.ensures.value c.in_ok-i.ensures.row c.index.ensures)

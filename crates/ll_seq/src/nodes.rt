@@ -1,0 +1,35 @@
+//! What happens to the bytes of nodes.
+
+ghost use Rattle.std.specs.Prelude.{◌≡◌, [], OnOk, OnErr};
+ghost use Rattle.std.specs.Option.{option_map_or};
+ghost use Rattle.ll_rights.specs.Map.{get, insert};
+ghost use Rattle.ll_seq.specs.Effects.{resized};
+ghost use Rattle.ll_seq.specs.declared.node.Node as record_of;
+
+use crate::node::Node;
+use crate::table::{Table, index_of};
+use std::alloc::AllocError;
+
+impl Table<Node> {
+    /// Cuts the node's bytes to this length, or fills them with zeros to it. Without such a node nothing happens.
+    pub(crate) fn set_len(&mut self, inode: u64, len: usize) -> Result<(), AllocError>
+        ensures ok { OnOk result (self.new ≡ option_map_or (λ (n : record_of.Node). insert self.old inode (record n { bytes = resized n.bytes len })) (get self.old inode) self.old) }
+        ensures err { OnErr result (self.new ≡ self.old) }
+    {
+        let Some(i) = index_of(&self.rows, inode) else {
+            return Ok(());
+        };
+        let row = &mut self.rows[i];
+        row.1.bytes.set_len(len)
+    }
+
+    /// Takes the node's bytes away. Without such a node nothing happens.
+    pub(crate) fn clear(&mut self, inode: u64)
+        ensures { self.new ≡ option_map_or (λ (n : record_of.Node). insert self.old inode (record n { bytes = [] })) (get self.old inode) self.old }
+    {
+        if let Some(i) = index_of(&self.rows, inode) {
+            let row = &mut self.rows[i];
+            row.1.bytes.clear();
+        }
+    }
+}
