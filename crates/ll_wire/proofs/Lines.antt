@@ -33,6 +33,12 @@ cut_line call h = cut call h (call_is_tokens call h)
     cut : (call : Call) → IsCall call → AllByRecursion IsToken (call_tokens call) → slice_split (λ b. b == 32) (join_with_byte 32 (call_tokens call)) ≡ call_tokens call
     cut (calls.Make kind target) h tokens = cut_at_spaces _ _ tokens
     cut (calls.Open mode target) h tokens = cut_at_spaces _ _ tokens
+    cut (calls.Truncate target size) h tokens = cut_at_spaces _ _ tokens
+    cut (calls.ReadDir target) h tokens = cut_at_spaces _ _ tokens
+    cut (calls.Stat target) h tokens = cut_at_spaces _ _ tokens
+    cut (calls.Exec target) h tokens = cut_at_spaces _ _ tokens
+    cut (calls.Unlink target) h tokens = cut_at_spaces _ _ tokens
+    cut (calls.Rmdir target) h tokens = cut_at_spaces _ _ tokens
     cut (calls.Ruleset rights) h tokens = cut_at_spaces _ _ tokens
     cut (calls.Allow number target rights) h tokens = cut_at_spaces _ _ tokens
     cut (calls.Confine number) h tokens = cut_at_spaces _ _ tokens
@@ -41,6 +47,12 @@ cut_line call h = cut call h (call_is_tokens call h)
 at_most_five : (call : Call) → length (call_tokens call) ≤ 5
 at_most_five (calls.Make kind target) = omega arith
 at_most_five (calls.Open mode target) = omega arith
+at_most_five (calls.Truncate target size) = omega arith
+at_most_five (calls.ReadDir target) = omega arith
+at_most_five (calls.Stat target) = omega arith
+at_most_five (calls.Exec target) = omega arith
+at_most_five (calls.Unlink target) = omega arith
+at_most_five (calls.Rmdir target) = omega arith
 at_most_five (calls.Ruleset rights) = omega arith
 at_most_five (calls.Allow number target rights) = omega arith
 at_most_five (calls.Confine number) = omega arith

@@ -20,11 +20,12 @@ use Rattle.ll_rights.specs.Right.{right_text, all_rights}
 use Rattle.ll_rights.specs.Access.{holds, names_among, names_in, access_text}
 use Rattle.ll_rights.proofs.Names.{names_yes, names_no, names_end, text_none, text_names, text_number}
 use Rattle.ll_path.specs.Word.{IsVisible}
+use Rattle.ll_seq.specs.declared.call.AccessMode.{AccessMode}
+use Rattle.ll_seq.specs.declared.call.AccessMode.TheVariants as ways
 use Rattle.ll_seq.specs.declared.call.Mode.{Mode}
-use Rattle.ll_seq.specs.declared.call.Mode.TheVariants as modes
 use Rattle.ll_seq.specs.declared.call.Call.{Call}
 use Rattle.ll_seq.specs.declared.call.Call.TheVariants as calls
-use Rattle.ll_wire.specs.Grammar.{mode_text, call_tokens, IsCall}
+use Rattle.ll_wire.specs.Grammar.{way_text, truncate_text, mode_text, call_tokens, IsCall}
 
 abbrev pub IsToken : List ℕ → Type 0
 IsToken token = AllByRecursion IsVisible token
@@ -51,11 +52,6 @@ kind_token kinds.Sock = visible_is (codes "sock") refl
 kind_token kinds.Char = visible_is (codes "char") refl
 kind_token kinds.Block = visible_is (codes "block") refl
 
-mode_token : (mode : Mode) → IsToken (mode_text mode)
-mode_token modes.Read = visible_is (codes "r") refl
-mode_token modes.Write = visible_is (codes "w") refl
-mode_token modes.ReadWrite = visible_is (codes "rw") refl
-
 -- ---- numbers
 
 digits_token : (ds : List ℕ) → AllDigits 10 ds → IsToken ds
@@ -65,11 +61,25 @@ digits_token (d ∷ ds) h = let r = digit_from_value d h.0 in ((omega arith, ome
 number_token : (n : ℕ) → n < 2 ^ 64 → IsToken (decimal n)
 number_token n h = digits_token (decimal n) (decimal_is_IsNumeral n h).0.1
 
--- ---- sets of rights
-
 all_append : (P : ℕ → Type 0) (xs ys : List ℕ) → AllByRecursion P xs → AllByRecursion P ys → AllByRecursion P (xs ++ ys)
 all_append P [] ys h k = k
 all_append P (x ∷ xs) ys h k = (h.0, all_append P xs ys h.1 k)
+
+-- ---- modes
+
+way_token : (way : AccessMode) → IsToken (way_text way)
+way_token ways.Read = visible_is (codes "r") refl
+way_token ways.Write = visible_is (codes "w") refl
+way_token ways.ReadWrite = visible_is (codes "rw") refl
+
+truncate_token : (truncate : Bool) → IsToken (truncate_text truncate)
+truncate_token true = visible_is (codes "t") refl
+truncate_token false = tt
+
+mode_token : (mode : Mode) → IsToken (mode_text mode)
+mode_token mode = all_append IsVisible (way_text mode.access) (truncate_text mode.truncate) (way_token mode.access) (truncate_token mode.truncate)
+
+-- ---- sets of rights
 
 join_token : (names : List (List ℕ)) → AllByRecursion IsToken names → IsToken (join_with_byte 44 names)
 join_token [] h = tt
@@ -115,6 +125,12 @@ rights_token set = elim (cases_lt 0 set) [
 pub call_is_tokens : (call : Call) → IsCall call → AllByRecursion IsToken (call_tokens call)
 call_is_tokens (calls.Make kind target) h = (visible_is (codes "make") refl, (kind_token kind, (h.0.2, tt)))
 call_is_tokens (calls.Open mode target) h = (visible_is (codes "open") refl, (mode_token mode, (h.0.2, tt)))
+call_is_tokens (calls.Truncate target size) h = (visible_is (codes "truncate") refl, (h.0.0.2, (number_token size h.1, tt)))
+call_is_tokens (calls.ReadDir target) h = (visible_is (codes "list") refl, (h.0.2, tt))
+call_is_tokens (calls.Stat target) h = (visible_is (codes "stat") refl, (h.0.2, tt))
+call_is_tokens (calls.Exec target) h = (visible_is (codes "exec") refl, (h.0.2, tt))
+call_is_tokens (calls.Unlink target) h = (visible_is (codes "unlink") refl, (h.0.2, tt))
+call_is_tokens (calls.Rmdir target) h = (visible_is (codes "rmdir") refl, (h.0.2, tt))
 call_is_tokens (calls.Ruleset rights) h = (visible_is (codes "ruleset") refl, (rights_token rights.0, tt))
 call_is_tokens (calls.Allow number target rights) h = (visible_is (codes "allow") refl, (number_token number h.0, (h.1.0.2, (rights_token rights.0, tt))))
 call_is_tokens (calls.Confine number) h = (visible_is (codes "confine") refl, (number_token number h, tt))

@@ -1,11 +1,13 @@
 -- What reading a text answers.
-use Rattle.std.specs.Prelude.{◌≡◌, ℕ, ◌^◌, ◌<◌, ◌⊎◌, List, Option, Some, None, Result, Ok, Err, decimal}
+use Rattle.std.specs.Prelude.{◌≡◌, ℕ, ◌^◌, ◌<◌, ◌⊎◌, List, [], ◌∷◌, Option, Some, None, Result, Ok, Err, decimal}
 use Rattle.ll_rights.specs.declared.errno.Errno.{Errno}
 use Rattle.ll_rights.specs.declared.errno.Errno.TheVariants.{NoMemory, BadLine}
 use Rattle.ll_rights.specs.declared.access.Access.{Access}
 use Rattle.ll_rights.specs.Access.{access_text}
+use Rattle.ll_path.specs.declared.target.Target.{Target}
+use Rattle.ll_path.specs.Target.{target_text}
 use Rattle.ll_seq.specs.declared.call.Call.{Call}
-use Rattle.ll_wire.specs.Grammar.{call_tokens, IsCall}
+use Rattle.ll_wire.specs.Grammar.{SpellsTarget, call_tokens, IsCall}
 
 -- The value that is spelled; BadLine only where none is, and NoMemory only where one is
 abbrev pub Reads : {V : Type 0} → (V → Type 0) → Result V Errno → Type 0
@@ -22,6 +24,10 @@ SpellsNumber token number = (number < 2 ^ 64) × (token ≡ decimal number)
 
 abbrev pub SpellsRights : List ℕ → Access → Type 0
 SpellsRights token rights = (rights.0 < 2 ^ 64) × (token ≡ access_text rights.0)
+
+-- the tokens are one, which is the target's
+abbrev pub SpellsOneTarget : List (List ℕ) → Target → Type 0
+SpellsOneTarget tokens target = SpellsTarget (target_text target) target × (tokens ≡ target_text target ∷ [])
 
 -- the tokens spell the call
 abbrev pub SpellsCall : List (List ℕ) → Call → Type 0

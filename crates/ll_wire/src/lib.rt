@@ -8,4 +8,4 @@ mod token;
 mod write;
 
 pub use read::{LINE_LIMIT, read_command};
-pub use write::reply_text;
+pub use write::{command_text, reply_text};

@@ -1,29 +1,33 @@
 //! Reading commands.
 
-ghost use Rattle.std.specs.Prelude.{◌≡◌, ◌≢◌, ◌∷◌, map, codes, IfSome, IfNone};
+ghost use Rattle.std.specs.Prelude.{◌≡◌, ◌∷◌, map, codes};
 ghost use Rattle.ll_wire.specs.Grammar.{mode_text, SpellsTarget, SpellsCommand};
-ghost use Rattle.ll_wire.specs.Reads.{Reads, SpellsCall};
-ghost use Rattle.ll_seq.specs.declared.call.Mode.{Mode};
+ghost use Rattle.ll_wire.specs.Reads.{Reads, Finds, SpellsOneTarget, SpellsCall};
 
 use crate::token::{body_of, number_of, tokens_of};
 use ll_path::{Target, Word};
 use ll_rights::{Access, Errno, Kind};
-use ll_seq::{Call, Mode};
+use ll_seq::{AccessMode, Call, Mode};
 use std::alloc::Global;
 
 /// How many bytes a command line has at most, its line feed included.
 pub const LINE_LIMIT: usize = 16_384;
 
 fn mode_of(text: &str) -> Option<Mode>
-    ensures found { IfSome result (λ mode. text.now ≡ mode_text mode) }
-    ensures none { IfNone result ((mode : Mode) → text.now ≢ mode_text mode) }
+    ensures { Finds (λ mode. text.now ≡ mode_text mode) result }
 {
-    match text {
-        "r" => Some(Mode::Read),
-        "w" => Some(Mode::Write),
-        "rw" => Some(Mode::ReadWrite),
-        _ => None,
-    }
+    let (access, letters) = match text.as_bytes() {
+        [b'r', b'w', letters @ ..] => (AccessMode::ReadWrite, letters),
+        [b'r', letters @ ..] => (AccessMode::Read, letters),
+        [b'w', letters @ ..] => (AccessMode::Write, letters),
+        _ => return None,
+    };
+    let truncate = match letters {
+        [] => false,
+        b"t" => true,
+        _ => return None,
+    };
+    Some(Mode { access, truncate })
 }
 
 // The only part of a call that takes memory, so it is read last.
@@ -70,6 +74,31 @@ fn open(alloc: Global, args: &[&str]) -> Result<Call, Errno>
         Ok(target) => Ok(Call::Open(mode, target)),
         Err(errno) => Err(errno),
     }
+}
+
+fn truncate(alloc: Global, args: &[&str]) -> Result<Call, Errno>
+    ensures { Reads (SpellsCall (codes "truncate" ∷ map (λ t. t.now) args.now)) result }
+{
+    let [path, size] = args else {
+        return Err(Errno::BadLine);
+    };
+    let Some(size) = number_of(size) else {
+        return Err(Errno::BadLine);
+    };
+    match target_of(alloc, path) {
+        Ok(target) => Ok(Call::Truncate(target, size)),
+        Err(errno) => Err(errno),
+    }
+}
+
+// The target of a call that names one path and nothing else.
+fn only_target(alloc: Global, args: &[&str]) -> Result<Target, Errno>
+    ensures { Reads (SpellsOneTarget (map (λ t. t.now) args.now)) result }
+{
+    let [path] = args else {
+        return Err(Errno::BadLine);
+    };
+    target_of(alloc, path)
 }
 
 fn ruleset(args: &[&str]) -> Result<Call, Errno>
@@ -123,6 +152,12 @@ fn call_of(alloc: Global, tokens: &[&str]) -> Result<Call, Errno>
     match *name {
         "make" => make(alloc, args),
         "open" => open(alloc, args),
+        "truncate" => truncate(alloc, args),
+        "list" => only_target(alloc, args).map(Call::ReadDir),
+        "stat" => only_target(alloc, args).map(Call::Stat),
+        "exec" => only_target(alloc, args).map(Call::Exec),
+        "unlink" => only_target(alloc, args).map(Call::Unlink),
+        "rmdir" => only_target(alloc, args).map(Call::Rmdir),
         "ruleset" => ruleset(args),
         "allow" => allow(alloc, args),
         "confine" => confine(args),

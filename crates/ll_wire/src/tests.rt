@@ -1,12 +1,12 @@
-//! Each command read, lines that spell none, and each reply written.
+//! Each command read and written back, lines that spell none, and each reply written.
 
 ghost use Rattle.ll_wire.specs.Grammar.{IsReply};
 
-use crate::{read_command, reply_text};
+use crate::{command_text, read_command, reply_text};
 use ll_decide::{Cause, Denial, Place};
-use ll_path::{BadPath, Target};
+use ll_path::{BadPath, Name, Target};
 use ll_rights::{Access, Errno, Kind, Right};
-use ll_seq::{Call, Mode, Reply};
+use ll_seq::{AccessMode, Call, Listing, Mode, Reply, Status};
 use std::alloc::{AllocError, Global};
 use std::test::Fail;
 
@@ -20,9 +20,23 @@ fn is_bad(target: &Target, reason: Errno) -> bool {
     matches!(target, Target::Bad(BadPath { errno, .. }) if *errno == reason)
 }
 
+// Whether the line spells a wanted call of the first client.
+fn reads<F: Fn(&Call) -> bool + Drop>(alloc: Global, line: &[u8], is_wanted: F) -> bool
+    requires { F.IsAlwaysCallable is_wanted }
+{
+    let Ok((client, call)) = read_command(alloc, line) else {
+        return false;
+    };
+    client == 1 && is_wanted(&call)
+}
+
+fn is_make(call: &Call, kind: Kind) -> bool {
+    matches!(call, Call::Make(found, target) if *found == kind && is_path(target, "/a"))
+}
+
 #[test]
 fn make(rt: HostRuntime) {
-    for (line, want) in [
+    for (line, kind) in [
         (b"make reg /a\n".as_slice(), Kind::Reg),
         (b"make dir /a\n", Kind::Dir),
         (b"make sym /a\n", Kind::Sym),
@@ -31,103 +45,163 @@ fn make(rt: HostRuntime) {
         (b"make char /a\n", Kind::Char),
         (b"make block /a\n", Kind::Block),
     ] {
-        let Ok((client, Call::Make(kind, target))) = read_command(rt.alloc(), line) else {
-            assert!(rt; false);
-            return;
-        };
-        assert_eq!(rt; client, 1);
-        assert_eq!(rt; kind, want);
-        assert!(rt; is_path(&target, "/a"));
+        assert!(rt;
+            reads(rt.alloc(), line, |call| is_make(call, kind)),
+            "{line:?}"
+        );
     }
+}
+
+fn is_open(call: &Call, access: AccessMode, truncate: bool) -> bool {
+    let want = Mode { access, truncate };
+    matches!(call, Call::Open(mode, target) if *mode == want && is_path(target, "/a/b"))
 }
 
 #[test]
 fn open(rt: HostRuntime) {
-    for (line, want) in [
-        (b"open r /a/b\n".as_slice(), Mode::Read),
-        (b"open w /a/b\n", Mode::Write),
-        (b"open rw /a/b\n", Mode::ReadWrite),
+    for (line, access, truncate) in [
+        (b"open r /a/b\n".as_slice(), AccessMode::Read, false),
+        (b"open w /a/b\n", AccessMode::Write, false),
+        (b"open rw /a/b\n", AccessMode::ReadWrite, false),
+        (b"open rt /a/b\n", AccessMode::Read, true),
+        (b"open wt /a/b\n", AccessMode::Write, true),
+        (b"open rwt /a/b\n", AccessMode::ReadWrite, true),
     ] {
-        let Ok((client, Call::Open(mode, target))) = read_command(rt.alloc(), line) else {
-            assert!(rt; false);
-            return;
-        };
-        assert_eq!(rt; client, 1);
-        assert_eq!(rt; mode, want);
-        assert!(rt; is_path(&target, "/a/b"));
+        assert!(rt;
+            reads(rt.alloc(), line, |call| is_open(call, access, truncate)),
+            "{line:?}"
+        );
+    }
+}
+
+fn is_truncate(call: &Call, want: u64) -> bool {
+    matches!(call, Call::Truncate(target, size) if is_path(target, "/f") && *size == want)
+}
+
+#[test]
+fn truncate(rt: HostRuntime) {
+    for (line, size) in [
+        (b"truncate /f 0\n".as_slice(), 0),
+        (b"truncate /f 65536\n", 65_536),
+        (b"truncate /f 18446744073709551615\n", u64::MAX),
+    ] {
+        assert!(rt;
+            reads(rt.alloc(), line, |call| is_truncate(call, size)),
+            "{line:?}"
+        );
+    }
+}
+
+// Whether the call is of this name and names one path alone.
+fn is_of_path(call: &Call, name: &str) -> bool {
+    match call {
+        Call::ReadDir(target) => name == "list" && is_path(target, "/a/b"),
+        Call::Stat(target) => name == "stat" && is_path(target, "/a/b"),
+        Call::Exec(target) => name == "exec" && is_path(target, "/a/b"),
+        Call::Unlink(target) => name == "unlink" && is_path(target, "/a/b"),
+        Call::Rmdir(target) => name == "rmdir" && is_path(target, "/a/b"),
+        _ => false,
     }
 }
 
 #[test]
+fn calls_of_one_path(rt: HostRuntime) {
+    for (line, name) in [
+        (b"list /a/b\n".as_slice(), "list"),
+        (b"stat /a/b\n", "stat"),
+        (b"exec /a/b\n", "exec"),
+        (b"unlink /a/b\n", "unlink"),
+        (b"rmdir /a/b\n", "rmdir"),
+    ] {
+        assert!(rt;
+            reads(rt.alloc(), line, |call| is_of_path(call, name)),
+            "{line:?}"
+        );
+    }
+}
+
+fn is_ruleset(call: &Call, want: u64) -> bool {
+    matches!(call, Call::Ruleset(rights) if rights.0 == want)
+}
+
+#[test]
 fn ruleset(rt: HostRuntime) {
-    for (line, want) in [
+    for (line, rights) in [
         (b"ruleset none\n".as_slice(), 0),
         (b"ruleset write_file,read_file\n", 0x6),
         (b"ruleset 0x8000\n", 0x8000),
     ] {
-        let Ok((client, Call::Ruleset(rights))) = read_command(rt.alloc(), line) else {
-            assert!(rt; false);
-            return;
-        };
-        assert_eq!(rt; client, 1);
-        assert_eq!(rt; rights, Access(want));
+        assert!(rt;
+            reads(rt.alloc(), line, |call| is_ruleset(call, rights)),
+            "{line:?}"
+        );
     }
+}
+
+fn is_allow(call: &Call, ruleset: u64, path: &str, want: u64) -> bool {
+    matches!(call, Call::Allow(number, target, rights)
+        if *number == ruleset && is_path(target, path) && rights.0 == want)
 }
 
 #[test]
 fn allow(rt: HostRuntime) {
     let line = b"allow 2 / execute,truncate\n";
-    let Ok((client, Call::Allow(number, target, rights))) = read_command(rt.alloc(), line) else {
-        assert!(rt; false);
-        return;
-    };
-    assert_eq!(rt; client, 1);
-    assert_eq!(rt; number, 2);
-    assert!(rt; is_path(&target, "/"));
-    assert_eq!(rt; rights, Access(0x4001));
+    assert!(rt; reads(rt.alloc(), line, |call| is_allow(call, 2, "/", 0x4001)));
+}
+
+fn is_confine(call: &Call, want: u64) -> bool {
+    matches!(call, Call::Confine(number) if *number == want)
 }
 
 #[test]
 fn confine(rt: HostRuntime) {
-    for (line, want) in [
+    for (line, number) in [
         (b"confine 0\n".as_slice(), 0),
         (b"confine 18446744073709551615\n", u64::MAX),
     ] {
-        let Ok((client, Call::Confine(number))) = read_command(rt.alloc(), line) else {
-            assert!(rt; false);
-            return;
-        };
-        assert_eq!(rt; client, 1);
-        assert_eq!(rt; number, want);
+        assert!(rt;
+            reads(rt.alloc(), line, |call| is_confine(call, number)),
+            "{line:?}"
+        );
     }
 }
 
-// A line that makes a directory at a word of this many bytes.
-fn long_line(alloc: Global, length: u32) -> Result<String, AllocError> {
-    let mut line = String::from_str(alloc, "make dir ")?;
-    for _ in 0..length {
-        line.push_str("x")?;
+// A line with a text many times over.
+fn long_line(alloc: Global, front: &str, text: &str, count: u32) -> Result<String, AllocError> {
+    let mut line = String::from_str(alloc, front)?;
+    for _ in 0..count {
+        line.push_str(text)?;
     }
     line.push_str("\n")?;
     Ok(line)
 }
 
+// Whether the call makes a node at a word that is no path for this reason.
+fn makes_nowhere(call: &Call, reason: Errno) -> bool {
+    matches!(call, Call::Make(_, target) if is_bad(target, reason))
+}
+
 #[test]
 fn bad_paths_are_targets(rt: HostRuntime) -> Result<(), Fail> {
-    let longest = long_line(rt.alloc(), 8_000)?;
+    let longest = long_line(rt.alloc(), "make dir ", "x", 8_000)?;
     for (line, reason) in [
         (b"make dir a\n".as_slice(), Errno::EINVAL),
         (longest.as_bytes(), Errno::ENAMETOOLONG),
     ] {
-        let Ok((_, Call::Make(_, target))) = read_command(rt.alloc(), line) else {
-            assert!(rt; false);
-            return Ok(());
-        };
-        assert!(rt; is_bad(&target, reason));
+        assert!(rt; reads(rt.alloc(), line, |call| makes_nowhere(call, reason)));
     }
-    let longer = long_line(rt.alloc(), 8_001)?;
+    let longer = long_line(rt.alloc(), "make dir ", "x", 8_001)?;
     assert!(rt; is_bad_line(rt.alloc(), longer.as_bytes()));
     Ok(())
+}
+
+// Whether the line spells a command of the first client, and the command's spelling is the line.
+fn is_written_back(alloc: Global, line: &[u8]) -> Result<bool, AllocError> {
+    let Ok((client, call)) = read_command(alloc, line) else {
+        return Ok(false);
+    };
+    let text = command_text(alloc, &call)?;
+    Ok(client == 1 && text.as_bytes() == line)
 }
 
 fn is_bad_line(alloc: Global, line: &[u8]) -> bool {
@@ -150,9 +224,18 @@ fn other_lines_are_bad(rt: HostRuntime) {
         b"make dir /a b\n",
         b"make r /a\n",
         b"Make dir /a\n",
-        b"stat /\n",
+        b"truncate /f\n",
+        b"truncate 1 /f\n",
+        b"truncate /f 01\n",
+        b"truncate /f 18446744073709551616\n",
+        b"stat\n",
+        b"stat /a /b\n",
+        b"list  /\n",
+        b"names\n",
         b"@1 make dir /a\n",
-        b"open t /f\n",
+        b"open tr /f\n",
+        b"open rtw /f\n",
+        b"open rtt /f\n",
         b"open wr /f\n",
         b"open dir /f\n",
         b"ruleset read_file,write_file\n",
@@ -165,6 +248,159 @@ fn other_lines_are_bad(rt: HostRuntime) {
     ] {
         assert!(rt; is_bad_line(rt.alloc(), line), "{line:?}");
     }
+}
+
+// Each command line of the worked examples on rules, once.
+#[test]
+fn lines_on_rules_are_written_back(rt: HostRuntime) -> Result<(), Fail> {
+    for line in [
+        b"make reg /f\n".as_slice(),
+        b"ruleset write_file,read_file\n",
+        b"allow 0 /f read_file\n",
+        b"confine 0\n",
+        b"allow 1 /f write_file\n",
+        b"confine 1\n",
+        b"open rw /f\n",
+        b"open r /f\n",
+        b"allow 0 /f write_file\n",
+        b"open w /f\n",
+        b"make dir /a\n",
+        b"make reg /a/f\n",
+        b"make dir /b\n",
+        b"make reg /b/f\n",
+        b"ruleset read_file\n",
+        b"allow 0 /a read_file\n",
+        b"open r /a/f\n",
+        b"open r /b/f\n",
+        b"ruleset none\n",
+        b"ruleset execute\n",
+        b"ruleset read_file,remove_file,refer\n",
+        b"ruleset execute,write_file,read_file,truncate\n",
+        b"ruleset 0x8000\n",
+        b"ruleset 0x8001\n",
+        b"ruleset make_reg\n",
+        b"allow 0 /f make_reg\n",
+        b"allow 0 / none\n",
+        b"allow 0 / execute\n",
+    ] {
+        assert!(rt; is_written_back(rt.alloc(), line)?, "{line:?}");
+    }
+    Ok(())
+}
+
+// Those on paths, but for the lines that stand above.
+#[test]
+fn lines_on_paths_are_written_back(rt: HostRuntime) -> Result<(), Fail> {
+    for line in [
+        b"stat /\n".as_slice(),
+        b"stat /a/b\n",
+        b"stat a\n",
+        b"stat //\n",
+        b"stat /a//b\n",
+        b"stat /a/\n",
+        b"stat /a/..\n",
+        b"make dir /d\n",
+        b"ruleset remove_file,make_reg\n",
+        b"allow 0 /d make_reg\n",
+        b"make reg /d/f\n",
+        b"unlink /d/f\n",
+        b"make reg /g\n",
+        b"make fifo /g\n",
+        b"rmdir /g\n",
+        b"make dir /\n",
+        b"stat /f/x\n",
+        b"make sym /s\n",
+        b"stat /s/x\n",
+        b"open r /s\n",
+        b"make fifo /p\n",
+        b"open r /p\n",
+        b"unlink /\n",
+        b"list /\n",
+        b"truncate /f 65537\n",
+        b"truncate /f 65536\n",
+        b"stat /f\n",
+        b"make reg /a\n",
+        b"make reg /b\n",
+        b"unlink /a\n",
+        b"stat /b\n",
+        b"make dir /a/b\n",
+        b"make reg /a/b/f\n",
+        b"ruleset execute,read_file\n",
+        b"allow 0 /a/b execute\n",
+        b"open r /a/b/f\n",
+        b"exec /a/b/f\n",
+        b"exec /a\n",
+    ] {
+        assert!(rt; is_written_back(rt.alloc(), line)?, "{line:?}");
+    }
+    Ok(())
+}
+
+#[test]
+fn long_lines_are_written_back(rt: HostRuntime) -> Result<(), Fail> {
+    for (front, text, count) in [
+        ("stat /", "x", 255),
+        ("stat /", "x", 256),
+        ("stat ", "/a", 64),
+        ("stat ", "/a", 65),
+        ("stat /./", "x", 256),
+        ("stat ", "x", 4_096),
+        ("stat ", "x", 8_000),
+    ] {
+        let line = long_line(rt.alloc(), front, text, count)?;
+        assert!(rt;
+            is_written_back(rt.alloc(), line.as_bytes())?,
+            "{front}, {count} times"
+        );
+    }
+    Ok(())
+}
+
+#[test]
+fn each_mode_is_written_back(rt: HostRuntime) -> Result<(), Fail> {
+    for line in [
+        b"open r /f\n".as_slice(),
+        b"open w /f\n",
+        b"open rw /f\n",
+        b"open rt /f\n",
+        b"open wt /f\n",
+        b"open rwt /f\n",
+    ] {
+        assert!(rt; is_written_back(rt.alloc(), line)?, "{line:?}");
+    }
+    Ok(())
+}
+
+// The lines of the worked examples that spell none.
+#[test]
+fn malformed_lines_are_bad(rt: HostRuntime) -> Result<(), Fail> {
+    for line in [
+        b"@1 stat /\n".as_slice(),
+        b"@02 stat /\n",
+        b"open t /f\n",
+        b"open rx /f\n",
+        b"write 0 0 6\n",
+        b"stat /",
+        b"stat  /\n",
+        b"stat /\r\n",
+        b"\n",
+        b"ruleset read_file,write_file\n",
+        b"ruleset 0x4\n",
+    ] {
+        assert!(rt; is_bad_line(rt.alloc(), line), "{line:?}");
+    }
+    for (front, text, count) in [
+        ("stat ", "x", 8_001),
+        ("write 0 0 ", "0", 8_194),
+        ("", "x", 20_000),
+    ] {
+        let line = long_line(rt.alloc(), front, text, count)?;
+        assert!(rt;
+            is_bad_line(rt.alloc(), line.as_bytes()),
+            "{front}, {count} times"
+        );
+    }
+    Ok(())
 }
 
 fn is_written(alloc: Global, reply: Reply, want: &str) -> Result<bool, AllocError>
@@ -185,6 +421,44 @@ fn replies(rt: HostRuntime) -> Result<(), Fail> {
     ] {
         assert!(rt; is_written(rt.alloc(), Reply::Refused(errno), want)?);
     }
+    Ok(())
+}
+
+fn listing(alloc: Global, names: &[&str]) -> Result<Listing, AllocError> {
+    let mut listing = Listing::new(alloc);
+    for name in names {
+        if let Ok(name) = Name::new(String::from_str(alloc, name)?) {
+            listing.push(name)?;
+        }
+    }
+    Ok(listing)
+}
+
+#[test]
+fn listings(rt: HostRuntime) -> Result<(), Fail> {
+    let none = listing(rt.alloc(), &[])?;
+    assert!(rt; is_written(rt.alloc(), Reply::Listed(none), "names\n")?);
+    let three = listing(rt.alloc(), &["f", "p", "s"])?;
+    assert!(rt; is_written(rt.alloc(), Reply::Listed(three), "names f p s\n")?);
+    Ok(())
+}
+
+#[test]
+fn statuses(rt: HostRuntime) -> Result<(), Fail> {
+    let root = Status {
+        inode: 1,
+        kind: Kind::Dir,
+        size: 0,
+        links: 1,
+    };
+    let longest = Status {
+        inode: 2,
+        kind: Kind::Reg,
+        size: 65_536,
+        links: 1,
+    };
+    assert!(rt; is_written(rt.alloc(), Reply::Found(root), "stat 1 dir 0 1\n")?);
+    assert!(rt; is_written(rt.alloc(), Reply::Found(longest), "stat 2 reg 65536 1\n")?);
     Ok(())
 }
 

@@ -1,22 +1,146 @@
-//! Writing replies.
+//! Writing commands and replies.
 
-ghost use Rattle.std.specs.Prelude.{◌≡◌, ◌∷◌, map, IfOk, string_bytes};
-ghost use Rattle.ll_wire.specs.Grammar.{IsReply, line_of, reply_line};
+ghost use Rattle.std.specs.Prelude.{◌≡◌, [], ◌∷◌, ◌++◌, map, codes, IfOk, OnOk, string_bytes};
+ghost use Rattle.ll_wire.specs.Grammar.{line_of, mode_text, call_tokens, IsCall, IsReply, reply_line};
 
 use ll_decide::Denial;
-use ll_seq::Reply;
+use ll_path::{Name, Target};
+use ll_rights::Access;
+use ll_seq::{AccessMode, Call, Mode, Reply, Status};
 use std::alloc::{AllocError, Global};
+
+fn push_token(text: &mut String, token: &str) -> Result<(), AllocError>
+    ensures { OnOk result (string_bytes text.new ≡ string_bytes text.old ++ 32 ∷ token.now) }
+{
+    text.push_str(" ")?;
+    text.push_str(token)
+}
+
+fn ended(mut text: String) -> Result<String, AllocError>
+    ensures { IfOk result (λ line. string_bytes line ≡ string_bytes text ++ 10 ∷ []) }
+{
+    text.push_str("\n")?;
+    Ok(text)
+}
 
 fn line_text(alloc: Global, first: &str, others: &[&str]) -> Result<String, AllocError>
     ensures { IfOk result (λ text. string_bytes text ≡ line_of (first.now ∷ map (λ t. t.now) others.now)) }
 {
     let mut text = String::from_str(alloc, first)?;
     for token in others {
-        text.push_str(" ")?;
-        text.push_str(token)?;
+        push_token(&mut text, token)?;
     }
-    text.push_str("\n")?;
+    ended(text)
+}
+
+fn mode_text(alloc: Global, mode: Mode) -> Result<String, AllocError>
+    ensures { IfOk result (λ text. string_bytes text ≡ mode_text mode) }
+{
+    let ways = match mode.access {
+        AccessMode::Read => "r",
+        AccessMode::Write => "w",
+        AccessMode::ReadWrite => "rw",
+    };
+    let mut text = String::from_str(alloc, ways)?;
+    if mode.truncate {
+        text.push_str("t")?;
+    }
     Ok(text)
+}
+
+// A call's name and two tokens. They share a lifetime, since an array of references has one.
+fn two_args<'a>(alloc: Global, name: &str, one: &'a str, two: &'a str) -> Result<String, AllocError>
+    ensures { IfOk result (λ text. string_bytes text ≡ line_of (name.now ∷ one.now ∷ two.now ∷ [])) }
+{
+    line_text(alloc, name, &[one, two])
+}
+
+fn three_args<'a>(
+    alloc: Global,
+    name: &str,
+    one: &'a str,
+    two: &'a str,
+    three: &'a str,
+) -> Result<String, AllocError>
+    ensures { IfOk result (λ text. string_bytes text ≡ line_of (name.now ∷ one.now ∷ two.now ∷ three.now ∷ [])) }
+{
+    line_text(alloc, name, &[one, two, three])
+}
+
+fn allow_text(
+    alloc: Global,
+    number: u64,
+    target: &Target,
+    rights: Access,
+) -> Result<String, AllocError>
+    ensures { IfOk result (λ text. string_bytes text ≡ line_of (call_tokens (Call.Allow number target.now rights))) }
+{
+    let number = number.to_string(alloc)?;
+    let rights = rights.text(alloc)?;
+    three_args(
+        alloc,
+        "allow",
+        number.as_str(),
+        target.as_str(),
+        rights.as_str(),
+    )
+}
+
+/// The one spelling of a call of the session's first client.
+pub fn command_text(alloc: Global, call: &Call) -> Result<String, AllocError>
+    requires { IsCall call.now }
+    ensures { IfOk result (λ text. string_bytes text ≡ line_of (call_tokens call.now)) }
+{
+    match call {
+        Call::Make(kind, target) => two_args(alloc, "make", kind.text(), target.as_str()),
+        Call::Open(mode, target) => {
+            let mode = mode_text(alloc, *mode)?;
+            two_args(alloc, "open", mode.as_str(), target.as_str())
+        }
+        Call::Truncate(target, size) => {
+            let size = size.to_string(alloc)?;
+            two_args(alloc, "truncate", target.as_str(), size.as_str())
+        }
+        Call::ReadDir(target) => line_text(alloc, "list", &[target.as_str()]),
+        Call::Stat(target) => line_text(alloc, "stat", &[target.as_str()]),
+        Call::Exec(target) => line_text(alloc, "exec", &[target.as_str()]),
+        Call::Unlink(target) => line_text(alloc, "unlink", &[target.as_str()]),
+        Call::Rmdir(target) => line_text(alloc, "rmdir", &[target.as_str()]),
+        Call::Ruleset(rights) => {
+            let rights = rights.text(alloc)?;
+            line_text(alloc, "ruleset", &[rights.as_str()])
+        }
+        Call::Allow(number, target, rights) => allow_text(alloc, *number, target, *rights),
+        Call::Confine(number) => {
+            let number = number.to_string(alloc)?;
+            line_text(alloc, "confine", &[number.as_str()])
+        }
+        Call::Connect => unreachable!(),
+    }
+}
+
+fn names_text(alloc: Global, names: &[Name]) -> Result<String, AllocError>
+    ensures { IfOk result (λ text. string_bytes text ≡ line_of (codes "names" ∷ names.now)) }
+{
+    let mut text = String::from_str(alloc, "names")?;
+    for name in names {
+        push_token(&mut text, name.as_str())?;
+    }
+    ended(text)
+}
+
+fn status_text(alloc: Global, status: &Status) -> Result<String, AllocError>
+    ensures { IfOk result (λ text. string_bytes text ≡ reply_line (Reply.Found status.now)) }
+{
+    let inode = status.inode.to_string(alloc)?;
+    let kind = status.kind.text();
+    let size = status.size.to_string(alloc)?;
+    let links = status.links.to_string(alloc)?;
+    line_text(
+        alloc,
+        "stat",
+        &[inode.as_str(), kind, size.as_str(), links.as_str()],
+    )
 }
 
 fn denial_text(alloc: Global, denial: &Denial) -> Result<String, AllocError>
@@ -44,6 +168,8 @@ pub fn reply_text(alloc: Global, reply: &Reply) -> Result<String, AllocError>
             let number = number.to_string(alloc)?;
             line_text(alloc, "fd", &[number.as_str()])
         }
+        Reply::Listed(listing) => names_text(alloc, listing.names()),
+        Reply::Found(status) => status_text(alloc, status),
         Reply::Created(number) => {
             let number = number.to_string(alloc)?;
             line_text(alloc, "ruleset", &[number.as_str()])

@@ -1,0 +1,31 @@
+use Rattle.std.proofs.Common.{◌≡◌, codes, Ok, Err, refl, rules, arith}
+use Rattle.std.specs.Result.{MatchResult}
+use Rattle.std.proofs.lemmas.Grind.{common_steps}
+use Rattle.ll_seq.specs.declared.call.Call.TheVariants.{ReadDir, Stat, Exec, Unlink, Rmdir}
+use Rattle.ll_wire.proofs.Calls.{list_is, stat_is, exec_is, unlink_is, rmdir_is, call_reads}
+use Rattle.ll_wire.proofs.read.call_of.Goals as goal
+
+pub returns-in-list : goal.returns-in-list
+returns-in-list c =
+    let made : MatchResult c.only_target.result (λ target. c.map.result ≡ Ok (ReadDir target)) (λ e. c.map.result ≡ Err e) = search rules in
+    call_reads (codes "list") ReadDir list_is (λ target is. (is, refl)) _ _ _ _ (grind (arith, common_steps)) made c.only_target.ensures
+
+pub returns-in-stat : goal.returns-in-stat
+returns-in-stat c =
+    let made : MatchResult c.only_target-in-stat.result (λ target. c.map-in-stat.result ≡ Ok (Stat target)) (λ e. c.map-in-stat.result ≡ Err e) = search rules in
+    call_reads (codes "stat") Stat stat_is (λ target is. (is, refl)) _ _ _ _ (grind (arith, common_steps)) made c.only_target-in-stat.ensures
+
+pub returns-in-exec : goal.returns-in-exec
+returns-in-exec c =
+    let made : MatchResult c.only_target-in-exec.result (λ target. c.map-in-exec.result ≡ Ok (Exec target)) (λ e. c.map-in-exec.result ≡ Err e) = search rules in
+    call_reads (codes "exec") Exec exec_is (λ target is. (is, refl)) _ _ _ _ (grind (arith, common_steps)) made c.only_target-in-exec.ensures
+
+pub returns-in-unlink : goal.returns-in-unlink
+returns-in-unlink c =
+    let made : MatchResult c.only_target-in-unlink.result (λ target. c.map-in-unlink.result ≡ Ok (Unlink target)) (λ e. c.map-in-unlink.result ≡ Err e) = search rules in
+    call_reads (codes "unlink") Unlink unlink_is (λ target is. (is, refl)) _ _ _ _ (grind (arith, common_steps)) made c.only_target-in-unlink.ensures
+
+pub returns-in-rmdir : goal.returns-in-rmdir
+returns-in-rmdir c =
+    let made : MatchResult c.only_target-in-rmdir.result (λ target. c.map-in-rmdir.result ≡ Ok (Rmdir target)) (λ e. c.map-in-rmdir.result ≡ Err e) = search rules in
+    call_reads (codes "rmdir") Rmdir rmdir_is (λ target is. (is, refl)) _ _ _ _ (grind (arith, common_steps)) made c.only_target-in-rmdir.ensures
