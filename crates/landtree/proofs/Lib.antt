@@ -3,6 +3,7 @@ pub mod Cuts
 pub mod Devices
 pub mod Endings
 pub mod Matched
+pub mod Numbers
 pub mod Opening
 pub mod Replies
 pub mod Writing

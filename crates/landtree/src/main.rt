@@ -20,12 +20,8 @@ use failure::Failure;
 use options::Options;
 use run::run_script;
 use script::ScriptFile;
-use setup::Setup;
 use std::process::ExitCode;
 use std::{env, io};
-
-/// How many nodes may live in the program's tree.
-const NODES: usize = 1024;
 
 fn words_of(rt: &HostRuntime) -> Result<Vec<String>, Failure> {
     match env::args(rt) {
@@ -47,13 +43,13 @@ fn told(rt: &HostRuntime, error: &clap::Error) -> Result<(), Failure> {
 }
 
 fn perform(rt: &HostRuntime, options: &Options) -> Result<(), Failure> {
-    let setup = Setup { nodes: NODES };
+    let setup = &options.setup;
     let mut out = rt.stdout();
     let ended = if options.script == "-" {
-        run_script(rt.alloc(), &setup, &mut rt.stdin(), &mut out)
+        run_script(rt.alloc(), setup, &mut rt.stdin(), &mut out)
     } else {
         let mut script = ScriptFile::new(rt, options.script);
-        run_script(rt.alloc(), &setup, &mut script, &mut out)
+        run_script(rt.alloc(), setup, &mut script, &mut out)
     };
     ended.map_err(Failure::of_run)
 }

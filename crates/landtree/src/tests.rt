@@ -1,3 +1,5 @@
+mod worked;
+
 use crate::failure::Failure;
 use crate::fault::{RunFault, SessionFault};
 use crate::fuse::{Sink, Source};
@@ -9,12 +11,17 @@ use std::test::Fail;
 
 const SETUP: Setup = Setup { nodes: 1024 };
 
-// What is written for a script.
-fn replies(rt: &HostRuntime, script: &[u8]) -> Result<Vec<u8>, Fail> {
+// What is written for a script over a tree of so many nodes.
+fn replies_over(rt: &HostRuntime, setup: &Setup, script: &[u8]) -> Result<Vec<u8>, Fail> {
     let mut reader = script;
     let mut out = Vec::new(rt.alloc());
-    run_script(rt.alloc(), &SETUP, &mut reader, &mut out)?;
+    run_script(rt.alloc(), setup, &mut reader, &mut out)?;
     Ok(out)
+}
+
+// What is written for a script.
+fn replies(rt: &HostRuntime, script: &[u8]) -> Result<Vec<u8>, Fail> {
+    replies_over(rt, &SETUP, script)
 }
 
 #[test]
@@ -221,6 +228,15 @@ fn too_much_hexadecimal(rt: HostRuntime) -> Result<(), Fail> {
     Ok(())
 }
 
+// The root is one of the two nodes.
+#[test]
+fn full_tree(rt: HostRuntime) -> Result<(), Fail> {
+    let setup = Setup { nodes: 2 };
+    let out = replies_over(&rt, &setup, b"make reg /a\nmake reg /b\n")?;
+    assert_eq!(rt; out.as_slice(), b"ok\nrefused 13 ENOSPC\n".as_slice());
+    Ok(())
+}
+
 const TEN_LINES: &[u8] = b"\
 make dir /a
 make reg /a/f
@@ -289,6 +305,14 @@ fn writes_fail(rt: HostRuntime) -> Result<(), Fail> {
     Ok(())
 }
 
+// What the words ask for: the script and the number of nodes.
+fn asked<'a>(rt: &HostRuntime, words: &'a [&'a str]) -> Option<(&'a str, usize)> {
+    match Options::read(rt.alloc(), words) {
+        Ok(Some(options)) => Some((options.script, options.setup.nodes)),
+        _ => None,
+    }
+}
+
 // The kind of clap's error at the words, if there is one.
 fn refusal(rt: &HostRuntime, words: &[&str]) -> Option<ErrorKind> {
     match Options::read(rt.alloc(), words) {
@@ -298,10 +322,26 @@ fn refusal(rt: &HostRuntime, words: &[&str]) -> Option<ErrorKind> {
 }
 
 #[test]
-fn words(rt: HostRuntime) -> Result<(), Fail> {
-    let words = ["landtree", "run", "-"];
-    let options = Options::read(rt.alloc(), words.as_slice());
-    assert!(rt; matches!(options, Ok(Some(Options { script: "-" }))));
+fn words(rt: HostRuntime) {
+    let read: [(&[&str], (&str, usize)); 9] = [
+        (&["landtree", "run", "-"], ("-", 1024)),
+        (&["landtree", "run", "s"], ("s", 1024)),
+        (&["landtree", "run", "s", "--nodes", "2"], ("s", 2)),
+        (&["landtree", "run", "--nodes", "2", "s"], ("s", 2)),
+        (&["landtree", "run", "s", "--nodes=2"], ("s", 2)),
+        (&["landtree", "run", "s", "--nodes", "1"], ("s", 1)),
+        (&["landtree", "run", "s", "--nodes", "4096"], ("s", 4096)),
+        // As Rust reads a number.
+        (&["landtree", "run", "s", "--nodes", "+2"], ("s", 2)),
+        (&["landtree", "run", "s", "--nodes", "0002"], ("s", 2)),
+    ];
+    for (words, want) in read {
+        assert_eq!(rt; asked(&rt, words), Some(want), "{words:?}");
+    }
+}
+
+#[test]
+fn refused_words(rt: HostRuntime) {
     let refused: [(&[&str], ErrorKind); 6] = [
         (&["landtree"], ErrorKind::MissingSubcommand),
         (&["landtree", "run"], ErrorKind::MissingRequiredArgument),
@@ -311,9 +351,37 @@ fn words(rt: HostRuntime) -> Result<(), Fail> {
         (&["landtree", "--version"], ErrorKind::DisplayVersion),
     ];
     for (words, kind) in refused {
-        assert!(rt; refusal(&rt, words) == Some(kind));
+        assert!(rt; refusal(&rt, words) == Some(kind), "{words:?}");
     }
-    Ok(())
+}
+
+#[test]
+fn refused_nodes(rt: HostRuntime) {
+    let values = ["0", "4097", "x", "0x2", "", "99999999999999999999"];
+    for value in values {
+        let words = ["landtree", "run", "s", "--nodes", value];
+        assert!(rt;
+            refusal(&rt, words.as_slice()) == Some(ErrorKind::ValueValidation),
+            "{value}"
+        );
+    }
+    let refused: [(&[&str], ErrorKind); 3] = [
+        (
+            &["landtree", "run", "s", "--nodes"],
+            ErrorKind::InvalidValue,
+        ),
+        (
+            &["landtree", "run", "s", "--nodes", "-1"],
+            ErrorKind::UnknownArgument,
+        ),
+        (
+            &["landtree", "run", "s", "--nodes", "2", "--nodes", "3"],
+            ErrorKind::ArgumentConflict,
+        ),
+    ];
+    for (words, kind) in refused {
+        assert!(rt; refusal(&rt, words) == Some(kind), "{words:?}");
+    }
 }
 
 #[test]

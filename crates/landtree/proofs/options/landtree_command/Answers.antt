@@ -1,13 +1,10 @@
 use Rattle.std.proofs.Common.{◌≡◌, ◌∙◌, ap, ap₂, rules, codes, true, false}
 use Rattle.std.proofs.lemmas.Result.{IfOk-weaker}
-use Rattle.clap.specs.Words.{App, Rule, app_of, new_app, new_rule, rule_of, with_rule, with_subcommand}
+use Rattle.clap.specs.Words.{App, app_of, new_app, rule_of, with_rule, with_subcommand}
 use Rattle.clap.specs.Simple.{Shape, app_of_fields, on_top}
 use Rattle.clap.specs.declared.builder.command.Command.TheViews.{out-Command}
-use Rattle.landtree.specs.Options.{run}
+use Rattle.landtree.specs.Options.{run, script}
 use Rattle.landtree.proofs.options.landtree_command.Goals as goal
-
-abbrev script : Rule
-script = record (new_rule (codes "SCRIPT")) { required = true }
 
 abbrev versioned : App → App
 versioned = on_top (λ (s : Shape). record s { has_version = true })
@@ -18,7 +15,8 @@ demanding = on_top (λ (s : Shape). record s { subcommand_required = true })
 pub returns : goal.returns
 returns c =
     let script_is : rule_of c.help-script.result ≡ script = search rules in
-    let run_is : app_of c.in_ok-run.run' ≡ run = c.in_ok-run.ensures.shape (search rules) ∙ ap₂ with_rule (ap app_of_fields c.about.ensures ∙ c.new-2.ensures.app) script_is in
+    let run_is : app_of c.in_ok-run.run' ≡ run = c.in_ok-run.ensures.shape c.nodes_option.ensures.local
+    ∙ ap₂ with_rule (c.in_ok-arg.ensures.shape (search rules) ∙ ap₂ with_rule (ap app_of_fields c.about.ensures ∙ c.new-2.ensures.app) script_is) c.nodes_option.ensures.rule in
     let top_is : app_of c.subcommand_required.result ≡ demanding (versioned (new_app (codes "landtree"))) = ap app_of_fields c.subcommand_required.ensures
     ∙ ap demanding (ap app_of_fields c.version.ensures ∙ ap versioned (ap app_of_fields c.about-2.ensures ∙ c.new-3.ensures.app)) in
     let local : (out-Command c.in_ok-run.run').has_globals ≡ false = search rules in
