@@ -2,7 +2,7 @@
 use Rattle.std.proofs.Common.{◌≡◌, ◌≢◌, ℕ, List, [], ◌∷◌, ◌++◌, Option, refl, sym, ap, subst, ◌∙◌, append_assoc}
 use Rattle.std.proofs.lemmas.List.{append-nil}
 use Rattle.ll_seq.specs.declared.reply.Reply.{Reply}
-use Rattle.ll_seq.specs.State.{State}
+use Rattle.landtree.specs.declared.tree.SessionTree.{SessionTree}
 use Rattle.ll_wire.specs.Grammar.{reply_line}
 use Rattle.landtree.specs.declared.line.Line.{Line}
 use Rattle.landtree.specs.declared.session.OpenSession.{OpenSession}
@@ -16,12 +16,12 @@ abbrev pub Takes : Line → ℕ → Line → Type 0
 Takes line b line' = (part : List ℕ) → Holds line part → Holds line' (part ++ b ∷ [])
 
 -- what the line holds is answered
-abbrev pub Answering : Line → (plain plain' : State) (old new : Option (List ℕ)) → Type 0
-Answering line plain plain' old new = (s : Session) (piece : List ℕ) → Holds line piece → StandsAt plain s → IsAnswered s piece plain' old new
+abbrev pub Answering : Line → (tree tree' : SessionTree) (old new : Option (List ℕ)) → Type 0
+Answering line tree tree' old new = (s : Session) (piece : List ℕ) → Holds line piece → StandsAt tree s → IsAnswered s piece tree' old new
 
 -- a front of the answer is written
-abbrev pub Starting : Line → (plain : State) (old new : Option (List ℕ)) → Type 0
-Starting line plain old new = (s : Session) (piece : List ℕ) → Holds line piece → StandsAt plain s → IsStarted s piece old new
+abbrev pub Starting : Line → (tree : SessionTree) (old new : Option (List ℕ)) → Type 0
+Starting line tree old new = (s : Session) (piece : List ℕ) → Holds line piece → StandsAt tree s → IsStarted s piece old new
 
 pub lines-append : (done : List (List ℕ)) (s mid t : Session) (text piece : List ℕ) (reply : Reply) → Lines s done text mid → AnswersLine mid piece reply t
     → Lines s (done ++ piece ∷ []) (text ++ reply_line reply) t
@@ -30,11 +30,11 @@ lines-append [] s mid t text piece reply h a =
 lines-append (p ∷ ps) s mid t text piece reply h a =
     (h.0, h.1, h.2 ++ reply_line reply, h.3, lines-append ps h.1 mid t h.2 piece reply h.4 a, ap (λ (x : List ℕ). x ++ reply_line reply) h.5 ∙ append_assoc (reply_line h.0) h.2 (reply_line reply))
 
-stands_on : (s : Session) (plain plain' : State) → plain' ≡ plain → StandsAt plain s → StandsAt plain' s
-stands_on s plain plain' same stands = record { tree = stands.tree ∙ sym same; clients = stands.clients; limit = stands.limit }
+stands_on : (s : Session) (tree tree' : SessionTree) → tree' ≡ tree → StandsAt tree s → StandsAt tree' s
+stands_on s tree tree' same stands = subst (λ (x : SessionTree). StandsAt x s) (sym same) stands
 
 -- nothing is read yet
-pub begins : (first : Session) (input : List ℕ) (old : Option (List ℕ)) (session : OpenSession) → Holds session.line [] → StandsAt session.plain first
+pub begins : (first : Session) (input : List ℕ) (old : Option (List ℕ)) (session : OpenSession) → Holds session.line [] → StandsAt session.tree first
     → Progress first input input old old session
 begins first input old session held stands = record {
   done = [];
@@ -51,7 +51,7 @@ begins first input old session held stands = record {
 
 -- a byte of the line
 pub byte_more : (first : Session) (input rest : List ℕ) (b : ℕ) (old new : Option (List ℕ)) (session session' : OpenSession) → b ≢ 10
-    → Takes session.line b session'.line → session'.plain ≡ session.plain
+    → Takes session.line b session'.line → session'.tree ≡ session.tree
     → Progress first input (b ∷ rest) old new session → Progress first input rest old new session'
 byte_more first input rest b old new session session' ne takes same p = record {
   done = p.done;
@@ -62,7 +62,7 @@ byte_more first input rest b old new session session' ne takes same p = record {
   open_part = open-append p.part b ne p.open_part;
   held = takes p.part p.held;
   lines = p.lines;
-  stands = stands_on p.last session.plain session'.plain same p.stands;
+  stands = stands_on p.last session.tree session'.tree same p.stands;
   wrote = p.wrote;
 }
 
@@ -72,7 +72,7 @@ one_line part rest b lf is_open = rw lf (pieces-line part rest is_open)
 
 -- the line's end, and the answer
 pub line_more : (first : Session) (input rest : List ℕ) (b : ℕ) (old mid new : Option (List ℕ)) (session session' : OpenSession) (line : Line) → b ≡ 10
-    → Takes session.line b line → Answering line session.plain session'.plain mid new → Holds session'.line []
+    → Takes session.line b line → Answering line session.tree session'.tree mid new → Holds session'.line []
     → Progress first input (b ∷ rest) old mid session → Progress first input rest old new session'
 line_more first input rest b old mid new session session' line lf takes answer cleared p =
     let a = answer p.last (p.part ++ b ∷ []) (takes p.part p.held) p.stands in
@@ -108,7 +108,7 @@ piece_stops first input piece more old mid new left session p e a = (
 )
 
 pub line_stops : (first : Session) (input rest : List ℕ) (b : ℕ) (old mid new : Option (List ℕ)) (session : OpenSession) (line : Line) → b ≡ 10
-    → Takes session.line b line → Starting line session.plain mid new → Progress first input (b ∷ rest) old mid session → HasBegun first input old new
+    → Takes session.line b line → Starting line session.tree mid new → Progress first input (b ∷ rest) old mid session → HasBegun first input old new
 line_stops first input rest b old mid new session line lf takes start p =
     piece_stops first input (p.part ++ b ∷ []) (pieces rest) old mid new (b ∷ rest) session p (one_line p.part rest b lf p.open_part)
     (start p.last (p.part ++ b ∷ []) (takes p.part p.held) p.stands)

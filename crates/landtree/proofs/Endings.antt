@@ -2,7 +2,7 @@
 use Rattle.std.proofs.Common.{◌≡◌, ℕ, false, List, [], ◌∷◌, ◌++◌, Option, None, Some, refl, sym, ap, ◌∙◌, inl}
 use Rattle.std.specs.Prelude.{IfSome}
 use Rattle.std.proofs.lemmas.List.{append-nil}
-use Rattle.ll_seq.specs.State.{State}
+use Rattle.landtree.specs.declared.tree.SessionTree.{SessionTree}
 use Rattle.ll_wire.specs.Grammar.{reply_line}
 use Rattle.landtree.specs.declared.setup.Setup.{Setup}
 use Rattle.landtree.specs.declared.session.OpenSession.{OpenSession}
@@ -22,16 +22,16 @@ no_part first input old new session empty short p =
     (p.text, p.last, rw all p.lines, p.wrote)
 
 -- it ended without one
-pub last_part : (first : Session) (input : List ℕ) (old mid new : Option (List ℕ)) (session : OpenSession) (plain : State)
-    → (session.line.bytes.items ≡ [] → session.line.is_long ≡ false → ⊥) → Answering session.line session.plain plain mid new
+pub last_part : (first : Session) (input : List ℕ) (old mid new : Option (List ℕ)) (session : OpenSession) (tree : SessionTree)
+    → (session.line.bytes.items ≡ [] → session.line.is_long ≡ false → ⊥) → Answering session.line session.tree tree mid new
     → Progress first input [] old mid session → IsWritten first input old new
-last_part first input old mid new session plain not_empty answer p =
+last_part first input old mid new session tree not_empty answer p =
     let a = answer p.last p.part p.held p.stands in
     let all : pieces input ≡ p.done ++ p.part ∷ [] = p.cut ∙ ap (λ (x : List (List ℕ)). p.done ++ x) (pieces-last p.part (has_bytes session.line p.part not_empty p.held) p.open_part) in
     (p.text ++ reply_line a.1, a.0, rw all (lines-append p.done first p.last a.0 p.text p.part a.1 p.lines a.2), appends-more old mid new p.text (reply_line a.1) p.wrote a.4)
 
 pub last_stops : (first : Session) (input : List ℕ) (old mid new : Option (List ℕ)) (session : OpenSession)
-    → (session.line.bytes.items ≡ [] → session.line.is_long ≡ false → ⊥) → Starting session.line session.plain mid new
+    → (session.line.bytes.items ≡ [] → session.line.is_long ≡ false → ⊥) → Starting session.line session.tree mid new
     → Progress first input [] old mid session → HasBegun first input old new
 last_stops first input old mid new session not_empty start p =
     piece_stops first input p.part [] old mid new [] session p (pieces-last p.part (has_bytes session.line p.part not_empty p.held) p.open_part) (start p.last p.part p.held p.stands)
@@ -47,7 +47,7 @@ abbrev pub Part : OpenSession → (remaining old new : Option (List ℕ)) → Ty
 Part session remaining old new = (first : Session) (input : List ℕ) (old' : Option (List ℕ)) → remaining ≡ Some input
     → Progress first input input old' old session → HasBegun first input old' new
 
-pub runs : (setup : Setup) (remaining remaining' old new : Option (List ℕ)) (session : OpenSession) → Holds session.line [] → StandsAt session.plain (opening setup)
+pub runs : (setup : Setup) (remaining remaining' old new : Option (List ℕ)) (session : OpenSession) → Holds session.line [] → StandsAt session.tree (opening setup)
     → Whole session remaining remaining' old new
     → IfSome remaining (λ input. (left : List ℕ) × (remaining' ≡ Some left) × Writes old new (Runs setup input left))
 runs setup None remaining' old new session held stands whole = tt
@@ -58,7 +58,7 @@ runs setup (Some input) remaining' old new session held stands whole =
 has_begun : (setup : Setup) (input : List ℕ) (old new : Option (List ℕ)) → HasBegun (opening setup) input old new → Writes old new (Begins setup input)
 has_begun setup input old new h = (h.6.0, (opening setup, h.3, h.0, h.1, h.2, h.6.1, refl, h.4, h.5, h.6.2), h.6.3)
 
-pub run_stops : (setup : Setup) (remaining old new : Option (List ℕ)) (session : OpenSession) → Holds session.line [] → StandsAt session.plain (opening setup)
+pub run_stops : (setup : Setup) (remaining old new : Option (List ℕ)) (session : OpenSession) → Holds session.line [] → StandsAt session.tree (opening setup)
     → Part session remaining old new → IfSome remaining (λ input. Writes old new (Begins setup input))
 run_stops setup None old new session held stands part = tt
 run_stops setup (Some input) old new session held stands part =

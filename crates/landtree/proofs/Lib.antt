@@ -5,5 +5,6 @@ pub mod Endings
 pub mod Matched
 pub mod Numbers
 pub mod Opening
+pub mod Places
 pub mod Replies
 pub mod Writing

@@ -8,9 +8,9 @@ use Rattle.ll_seq.specs.State.{State, start}
 use Rattle.ll_seq.specs.Step.{step}
 use Rattle.landtree.specs.Run.{connected}
 
-pub nobody : (nodes : ℕ) → has (start nodes).clients 1 ≡ false
+pub nobody : (nodes number : ℕ) → has (start nodes).clients number ≡ false
 unfolding empty get
-nobody nodes = refl
+nobody nodes number = refl
 
 pub somebody : (nodes : ℕ) → has (connected nodes).clients 1 ≡ true
 unfolding empty checked entries get insert

@@ -1,51 +1,69 @@
 -- The reply to a piece.
-use Rattle.std.proofs.Common.{◌≡◌, ◌≢◌, ℕ, ◌-◌, ◌<◌, ◌≤◌, true, List, [], ◌∷◌, length, Option, None, Some, Err, refl, sym, subst, ◌∙◌, arith, inl, inr, ◌⊎◌}
+use Rattle.std.proofs.Common.{◌≡◌, ◌≢◌, ℕ, ◌+◌, ◌-◌, ◌<◌, ◌≤◌, true, false, List, ◌++◌, length, Option, None, Some, Err, refl, sym, ap, subst, ◌∙◌, arith, inl, inr, ◌⊎◌}
 use Rattle.std.specs.Prelude.{slice_get, IsSomeAnd}
+use Rattle.std.proofs.lemmas.Bool.{cases_lt}
 use Rattle.ll_rights.specs.declared.errno.Errno.{Errno}
 use Rattle.ll_rights.specs.declared.errno.Errno.TheVariants.{NoMemory, BadLine}
+use Rattle.ll_rights.specs.Map.{has}
 use Rattle.ll_seq.specs.declared.call.Call.{Call}
 use Rattle.ll_seq.specs.declared.reply.Reply.{Reply}
-use Rattle.ll_seq.specs.declared.reply.Reply.TheVariants.{Refused}
+use Rattle.ll_seq.specs.declared.reply.Reply.TheVariants.{Refused, Spawned}
 use Rattle.ll_seq.specs.State.{State}
+use Rattle.ll_seq.specs.Stages.{numbers_from}
 use Rattle.ll_seq.specs.Step.{step}
 use Rattle.ll_wire.specs.Grammar.{SpellsCommand}
 use Rattle.ll_wire.specs.Reads.{Reads}
 use Rattle.landtree.specs.declared.line.Line.{Line}
-use Rattle.landtree.specs.Transcript.{Session, IsFull, next, answered, starved, calls, bad}
+use Rattle.landtree.specs.declared.tree.SessionTree.{SessionTree}
+use Rattle.landtree.specs.Transcript.{Session, IsFull, brought, next, answered, starved, calls, bad}
 use Rattle.landtree.specs.Progress.{Holds, StandsAt, AnswersLine}
+use Rattle.landtree.proofs.Places.{in_place, no_place, joined, same_place}
 
 -- the piece is answered, and this tree is left
-abbrev pub Answered : Session → List ℕ → Reply → State → Type 0
+abbrev pub Answered : Session → List ℕ → Reply → SessionTree → Type 0
 Answered s piece reply left = (t : Session) × AnswersLine s piece reply t × StandsAt left t
 
-abbrev Spells : List ℕ → ℕ × Call → Type 0
-Spells bytes v = SpellsCommand bytes v.0 v.1
+-- the bytes spell a call of one of the first so many clients
+abbrev Spells : ℕ → List ℕ → ℕ × Call → Type 0
+Spells clients bytes v = SpellsCommand bytes v.0 v.1 × (v.0 ≤ clients)
 
 never_full : (s : Session) → s.limit ≡ None → IsFull s → ⊥
 never_full s e filled = subst (λ (l : Option ℕ). IsSomeAnd l (λ most. most ≤ length s.entries)) e filled
 
-first_client : (clients : List ℕ) (n : ℕ) → clients ≡ 1 ∷ [] → n ≡ 1 → slice_get clients (n - 1) ≡ Some 1
-first_client clients n e f = rw (e, f) refl
+-- what is known of a call that the tree has answered
+pub record Made (before after : SessionTree) (n : ℕ) (call : Call) (reply : Reply) : Type 0 where
+  pub free : has before.plain.clients (before.clients + 1) ≡ false
+  pub step : reply ≢ Refused NoMemory → ◌≡◌ {A = Reply × State} (reply, after.plain) (step before.plain n call (before.clients + 1))
+  pub no_memory : reply ≡ Refused NoMemory → after.plain ≡ before.plain
+  pub clients : after.clients ≡ before.clients + length (brought reply)
+  pub spawned : (told : ℕ) → reply ≡ Spawned told → told ≡ before.clients + 1
 
--- the tree made a step
-stepped : (s : Session) (piece : List ℕ) (before after : State) (n : ℕ) (call : Call) (reply : Reply) (fresh : ℕ)
-    → StandsAt before s → SpellsCommand piece n call → ◌≡◌ {A = Reply × State} (reply, after) (step before 1 call fresh)
-    → Answered s piece reply after
-stepped s piece before after n call reply fresh stands is made = (
-  next s 1 call reply after,
-  calls n 1 call reply _ is (first_client s.clients n stands.clients is.first)
-      (answered reply after fresh (never_full s stands.limit) (subst (λ (p : State). ◌≡◌ {A = Reply × State} (reply, after) (step p 1 call fresh)) (sym stands.tree) made)),
-  record { tree = refl; clients = stands.clients; limit = stands.limit },
-)
+module _ (s : Session) (piece : List ℕ) (before after : SessionTree) (n : ℕ) (call : Call) (stands : StandsAt before s) (is : Spells before.clients piece (n, call)) where
+  caller : slice_get s.clients (n - 1) ≡ Some n
+  caller = ap (λ l. slice_get l (n - 1)) stands.clients ∙ in_place before.clients n is.0.is_client.0 is.1
 
--- the tree found no memory
-stayed : (s : Session) (piece : List ℕ) (before after : State) (n : ℕ) (call : Call)
-    → StandsAt before s → SpellsCommand piece n call → after ≡ before → Answered s piece (Refused NoMemory) after
-stayed s piece before after n call stands is same = (
-  s,
-  calls n 1 call (Refused NoMemory) s is (first_client s.clients n stands.clients is.first) starved,
-  record { tree = stands.tree ∙ sym same; clients = stands.clients; limit = stands.limit },
-)
+  -- the tree made a step
+  stepped : (reply : Reply) → Made before after n call reply → reply ≢ Refused NoMemory → Answered s piece reply after
+  stepped reply made other = (
+    next s n call reply after.plain,
+    calls n n call reply reply _ is.0 caller
+        (answered reply after.plain (before.clients + 1) (never_full s stands.limit) (ap (λ (z : State). has z.clients (before.clients + 1)) stands.tree ∙ made.free)
+        (subst (λ (z : State). ◌≡◌ {A = Reply × State} (reply, after.plain) (step z n call (before.clients + 1))) (sym stands.tree) (made.step other)))
+        (same_place before.clients s.clients reply stands.clients made.spawned),
+    record {
+      tree = refl;
+      clients = ap (λ (l : List ℕ). l ++ brought reply) stands.clients ∙ joined before.clients reply made.spawned ∙ ap (numbers_from 1) (sym made.clients);
+      limit = stands.limit;
+    },
+  )
+
+  -- the tree found no memory
+  stayed : after.plain ≡ before.plain → after.clients ≡ before.clients → Answered s piece (Refused NoMemory) after
+  stayed tree clients = (
+    s,
+    calls n n call (Refused NoMemory) (Refused NoMemory) s is.0 caller starved refl,
+    record { tree = stands.tree ∙ sym tree; clients = stands.clients ∙ ap (numbers_from 1) (sym clients); limit = stands.limit },
+  )
 
 for_memory : (errno : Errno) → (Refused errno ≡ Refused NoMemory) ⊎ (Refused errno ≢ Refused NoMemory)
 for_memory NoMemory = inl refl
@@ -55,25 +73,36 @@ is_starved : (reply : Reply) → (reply ≡ Refused NoMemory) ⊎ (reply ≢ Ref
 is_starved (Refused errno) = for_memory errno
 is_starved _ = inr (λ e. absurd cc)
 
-pub called : (s : Session) (piece : List ℕ) (before after : State) (n : ℕ) (call : Call) (reply : Reply) (fresh : ℕ)
-    → StandsAt before s → SpellsCommand piece n call
-    → (reply ≢ Refused NoMemory → ◌≡◌ {A = Reply × State} (reply, after) (step before 1 call fresh))
-    → (reply ≡ Refused NoMemory → after ≡ before) → Answered s piece reply after
-called s piece before after n call reply fresh stands is made same = elim (is_starved reply) [
-  | inl e ↦ subst (λ (r : Reply). Answered s piece r after) (sym e) (stayed s piece before after n call stands is (same e))
-  | inr ne ↦ stepped s piece before after n call reply fresh stands is (made ne)
+pub called : (s : Session) (piece : List ℕ) (before after : SessionTree) (n : ℕ) (call : Call) (reply : Reply)
+    → StandsAt before s → Spells before.clients piece (n, call) → Made before after n call reply → Answered s piece reply after
+called s piece before after n call reply stands is made = elim (is_starved reply) [
+  | inl e ↦ (
+      let kept : after.clients ≡ before.clients = made.clients ∙ ap (λ (r : Reply). before.clients + length (brought r)) e ∙ (let same : before.clients + 0 ≡ before.clients = omega arith in same) in
+      subst (λ (r : Reply). Answered s piece r after) (sym e) (stayed s piece before after n call stands is (made.no_memory e) kept))
+  | inr ne ↦ stepped s piece before after n call stands is reply made ne
 ]
 
-pub spells_none : (s : Session) (piece : List ℕ) (left : State) → ((v : ℕ × Call) → Spells piece v → ⊥) → StandsAt left s → Answered s piece (Refused BadLine) left
-spells_none s piece left none stands = (s, bad (λ n call is. absurd (none (n, call) is)), stands)
+-- no client of the session makes a call by the piece
+pub spells_none : (s : Session) (piece : List ℕ) (left : SessionTree) → ((v : ℕ × Call) → Spells left.clients piece v → ⊥) → StandsAt left s → Answered s piece (Refused BadLine) left
+spells_none s piece left none stands = (
+  s,
+  bad (λ n call is. ap (λ l. slice_get l (n - 1)) stands.clients ∙ no_place left.clients n (above n call is)),
+  stands,
+)
+  where
+    above : (n : ℕ) (call : Call) → SpellsCommand piece n call → left.clients < n
+    above n call is = elim (cases_lt left.clients n) [
+      | inl more ↦ more
+      | inr less ↦ absurd (none (n, call) (is, less))
+    ]
 
-pub too_long : (line : Line) (piece : List ℕ) → line.is_long ≡ true → Holds line piece → (v : ℕ × Call) → Spells piece v → ⊥
-too_long line piece e held v is = let more : 16384 < length piece = rw e at held in let less = is.short in omega arith
+pub too_long : (line : Line) (piece : List ℕ) (clients : ℕ) → line.is_long ≡ true → Holds line piece → (v : ℕ × Call) → Spells clients piece v → ⊥
+too_long line piece clients e held v is = let more : 16384 < length piece = rw e at held in let less = is.0.short in omega arith
 
 -- nothing was read from the piece: it spells nothing, or there was no memory
-pub not_read : (s : Session) (piece bytes : List ℕ) (left : State) (errno : Errno) → bytes ≡ piece → Reads (Spells bytes) (Err errno) → StandsAt left s
+pub not_read : (s : Session) (piece bytes : List ℕ) (left : SessionTree) (errno : Errno) → bytes ≡ piece → Reads (Spells left.clients bytes) (Err errno) → StandsAt left s
     → Answered s piece (Refused errno) left
 not_read s piece bytes left errno same (inl h) stands = subst (λ (e : Errno). Answered s piece (Refused e) left) (sym h.0)
-    (spells_none s piece left (λ v is. h.1 v (subst (λ (p : List ℕ). Spells p v) (sym same) is)) stands)
+    (spells_none s piece left (λ v is. h.1 v (subst (λ (p : List ℕ). Spells left.clients p v) (sym same) is)) stands)
 not_read s piece bytes left errno same (inr h) stands = subst (λ (e : Errno). Answered s piece (Refused e) left) (sym h.0)
-    (stayed s piece left left h.1.0 h.1.1 stands (subst (λ (p : List ℕ). Spells p h.1) same h.2) refl)
+    (stayed s piece left left h.1.0 h.1.1 stands (subst (λ (p : List ℕ). Spells left.clients p h.1) same h.2) refl refl)

@@ -1,11 +1,12 @@
 -- How far a run has come.
-use Rattle.std.specs.Prelude.{◌≡◌, ◌≢◌, ℕ, ◌≤◌, ◌<◌, List, [], ◌∷◌, ◌++◌, length, Option, None, MatchBool}
+use Rattle.std.specs.Prelude.{◌≡◌, ◌≢◌, ℕ, ◌+◌, ◌≤◌, ◌<◌, List, ◌++◌, length, Option, None, MatchBool}
 use Rattle.std.specs.List.{AllByRecursion}
 use Rattle.std.specs.Io.KnownBytes.{Appends}
 use Rattle.ll_seq.specs.declared.reply.Reply.{Reply}
-use Rattle.ll_seq.specs.State.{State}
+use Rattle.ll_seq.specs.Stages.{numbers_from}
 use Rattle.ll_wire.specs.Grammar.{reply_line}
 use Rattle.landtree.specs.declared.line.Line.{Line}
+use Rattle.landtree.specs.declared.tree.SessionTree.{SessionTree}
 use Rattle.landtree.specs.declared.session.OpenSession.{OpenSession}
 use Rattle.landtree.specs.Transcript.{Session, Called, Answers, Transcript, pieces}
 
@@ -13,10 +14,14 @@ use Rattle.landtree.specs.Transcript.{Session, Called, Answers, Transcript, piec
 abbrev pub Holds : Line → List ℕ → Type 0
 Holds line part = MatchBool line.is_long (16384 < length part) ((line.bytes.items ≡ part) × (length part ≤ 16384))
 
--- the session with this tree, of its first client alone and without a limit
-pub record StandsAt (plain : State) (s : Session) : Type 0 where
-  pub tree : s.tree ≡ plain
-  pub clients : s.clients ≡ 1 ∷ []
+-- the numbers that inodes and clients have had
+abbrev pub used : SessionTree → ℕ
+used tree = tree.plain.next + tree.clients
+
+-- the session with this tree, of so many clients, and without a limit
+pub record StandsAt (of : SessionTree) (s : Session) : Type 0 where
+  pub tree : s.tree ≡ of.plain
+  pub clients : s.clients ≡ numbers_from 1 of.clients
   pub limit : s.limit ≡ None
 
 abbrev pub AnswersLine : Session → List ℕ → Reply → Session → Type 0
@@ -30,7 +35,7 @@ abbrev pub AppendsFront : (old new : Option (List ℕ)) → List ℕ → Type 0
 AppendsFront old new text = (front back : List ℕ) × (text ≡ front ++ back) × Appends old new front
 
 -- the piece is answered, the answer is written, and this tree is left
-abbrev pub IsAnswered : Session → List ℕ → State → (old new : Option (List ℕ)) → Type 0
+abbrev pub IsAnswered : Session → List ℕ → SessionTree → (old new : Option (List ℕ)) → Type 0
 IsAnswered s piece left old new = (t : Session) × (reply : Reply) × AnswersLine s piece reply t × StandsAt left t × Appends old new (reply_line reply)
 
 -- the piece is answered, and a front of the answer is written
@@ -56,5 +61,5 @@ pub record Progress (first : Session) (input left : List ℕ) (old new : Option 
   pub open_part : AllByRecursion (λ b. b ≢ 10) part
   pub held : Holds open_session.line part
   pub lines : Lines first done text last
-  pub stands : StandsAt open_session.plain last
+  pub stands : StandsAt open_session.tree last
   pub wrote : Appends old new text

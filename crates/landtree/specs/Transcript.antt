@@ -1,11 +1,12 @@
 -- What is written for what is read, line by line. own
-use Rattle.std.specs.Prelude.{◌≡◌, ℕ, ◌-◌, ◌≤◌, List, [], ◌∷◌, ◌++◌, length, Option, Some, None, slice_get, ◌==◌, if◌then◌else◌, IsSomeAnd}
+use Rattle.std.specs.Prelude.{◌≡◌, ℕ, ◌+◌, ◌-◌, ◌≤◌, false, List, [], ◌∷◌, ◌++◌, length, Option, Some, None, slice_get, ◌==◌, if◌then◌else◌, IsSomeAnd}
 use Rattle.std.specs.List.{onto_first}
 use Rattle.ll_rights.specs.declared.errno.Errno.TheVariants.{HistoryFull, NoMemory, BadLine}
 use Rattle.ll_seq.specs.declared.call.Call.{Call}
 use Rattle.ll_seq.specs.declared.reply.Reply.{Reply}
-use Rattle.ll_seq.specs.declared.reply.Reply.TheVariants.{Refused}
+use Rattle.ll_seq.specs.declared.reply.Reply.TheVariants.{Refused, Spawned}
 use Rattle.ll_seq.specs.declared.reply.Entry.{Entry}
+use Rattle.ll_rights.specs.Map.{has}
 use Rattle.ll_seq.specs.State.{State}
 use Rattle.ll_seq.specs.Step.{step}
 use Rattle.ll_wire.specs.Grammar.{SpellsCommand, reply_line}
@@ -26,17 +27,27 @@ pub record Session : Type 0 where
 abbrev pub IsFull : Session → Type 0
 IsFull s = IsSomeAnd s.limit (λ most. most ≤ length s.entries)
 
+-- the client that the reply brings
+abbrev pub brought : Reply → List ℕ
+brought (Spawned number) = number ∷ []
+brought _ = []
+
 -- after a call that is entered in the history
 abbrev pub next : Session → ℕ → Call → Reply → State → Session
-next s client call reply tree = record s { tree = tree; entries = s.entries ++ record { client = client; call = call; reply = reply } ∷ [] }
+next s client call reply tree = record s { tree = tree; clients = s.clients ++ brought reply; entries = s.entries ++ record { client = client; call = call; reply = reply } ∷ [] }
 
 -- A client makes a call. The tree makes one step, unless the history is full or a growth was refused: then nothing
--- changes
+-- changes. A client that is spawned gets a number that no client has
 pub data Called (s : Session) (client : ℕ) (call : Call) : Reply → Session → Type 0 where
-  answered : (reply : Reply) (tree : State) (fresh : ℕ) → (IsFull s → ⊥) → ◌≡◌ {A = Reply × State} (reply, tree) (step s.tree client call fresh)
+  answered : (reply : Reply) (tree : State) (fresh : ℕ) → (IsFull s → ⊥) → has s.tree.clients fresh ≡ false → ◌≡◌ {A = Reply × State} (reply, tree) (step s.tree client call fresh)
       → Called s client call reply (next s client call reply tree)
   full : IsFull s → Called s client call (Refused HistoryFull) s
   starved : Called s client call (Refused NoMemory) s
+
+-- The lines name a client by its place in the session
+abbrev pub as_written : List ℕ → Reply → Reply
+as_written clients (Spawned number) = Spawned (length clients + 1)
+as_written clients reply = reply
 
 -- In what follows, S is what is known between two lines, `clients` the session's clients in it, by their numbers, and
 -- `Called s client call reply t` says that a client's call gets this reply and leaves t
@@ -44,8 +55,8 @@ module _ {S : Type 0} (clients : S → List ℕ) (Called : S → ℕ → Call �
   -- A piece that spells a call of a client of the session is answered by the reply to that call; every other piece by
   -- `refused 23 BadLine`
   pub data Answers (s : S) (piece : List ℕ) : Reply → S → Type 0 where
-    calls : (n client : ℕ) (call : Call) (reply : Reply) (t : S) → SpellsCommand piece n call → slice_get (clients s) (n - 1) ≡ Some client
-        → Called s client call reply t → Answers s piece reply t
+    calls : (n client : ℕ) (call : Call) (reply written : Reply) (t : S) → SpellsCommand piece n call → slice_get (clients s) (n - 1) ≡ Some client
+        → Called s client call reply t → written ≡ as_written (clients s) reply → Answers s piece written t
     bad : ((n : ℕ) (call : Call) → SpellsCommand piece n call → slice_get (clients s) (n - 1) ≡ None) → Answers s piece (Refused BadLine) s
 
   -- Each piece gives one line, in order

@@ -14,6 +14,7 @@ mod session;
 mod setup;
 #[cfg(test)]
 mod tests;
+mod tree;
 
 use clap::error::ErrorKind;
 use failure::Failure;

@@ -4,7 +4,7 @@ ghost use Rattle.std.specs.Prelude.{◌≡◌, ◌<◌, ◌≤◌, ◌^◌, [], 
 ghost use Rattle.std.specs.Io.KnownBytes.{Consumes, IsAtEnd};
 ghost use Rattle.landtree.specs.Transcript.{Session};
 ghost use Rattle.landtree.specs.Run.{Runs, Begins, Writes};
-ghost use Rattle.landtree.specs.Progress.{HasBegun, IsWritten, Progress};
+ghost use Rattle.landtree.specs.Progress.{used, HasBegun, IsWritten, Progress};
 
 use crate::fault::{RunFault, SessionFault};
 use crate::session::OpenSession;
@@ -34,7 +34,7 @@ fn read_all<R: Read, W: Write>(
     reader: &mut R,
     writer: &mut W,
 ) -> Result<(), SessionFault>
-    requires room { session.old.plain.next ≤ 3 }
+    requires room { used session.old.tree ≤ 4 }
     ensures ok { OnOk result ((first : Session) (input : List ℕ) (old : Option (List ℕ))
         → R.remaining reader.old ≡ Some input
         → Progress first input input old (W.contents writer.old) session.old
@@ -43,7 +43,7 @@ fn read_all<R: Read, W: Write>(
         → R.remaining reader.old ≡ Some input
         → Progress first input input old (W.contents writer.old) session.old
         → HasBegun first input old (W.contents writer.new)) }
-    ensures numbers { session.new.plain.next < 2 ^ 63 }
+    ensures numbers { used session.new.tree < 2 ^ 63 }
 {
     let mut chunk = [0u8; 512];
     for _read in 0..MOST_READS {
@@ -67,7 +67,7 @@ fn run_session<R: Read, W: Write>(
     reader: &mut R,
     writer: &mut W,
 ) -> Result<(), SessionFault>
-    requires room { session.old.plain.next ≤ 3 }
+    requires room { used session.old.tree ≤ 4 }
     ensures ok { OnOk result ((first : Session) (input : List ℕ) (old : Option (List ℕ))
         → R.remaining reader.old ≡ Some input
         → Progress first input input old (W.contents writer.old) session.old

@@ -1,3 +1,7 @@
+mod built;
+mod descriptors;
+mod moves;
+mod spelled;
 mod worked;
 
 use crate::failure::Failure;
@@ -24,12 +28,11 @@ fn replies(rt: &HostRuntime, script: &[u8]) -> Result<Vec<u8>, Fail> {
     replies_over(rt, &SETUP, script)
 }
 
-#[test]
-fn examples(rt: HostRuntime) -> Result<(), Fail> {
-    let examples: [(&str, &[u8], &[u8]); 8] = [
-        (
-            "one layer with one rule",
-            b"\
+// A name, a script and what is written for it.
+const EXAMPLES: &[(&str, &[u8], &[u8])] = &[
+    (
+        "one layer with one rule",
+        b"\
 make dir /a
 make reg /a/f
 make dir /b
@@ -40,7 +43,7 @@ confine 0
 open r /a/f
 open r /b/f
 ",
-            b"\
+        b"\
 ok
 ok
 ok
@@ -51,10 +54,10 @@ ok
 fd 0
 denied EACCES layer 1 read_file at
 ",
-        ),
-        (
-            "layers are not joined",
-            b"\
+    ),
+    (
+        "layers are not joined",
+        b"\
 make reg /f
 ruleset write_file,read_file
 allow 0 /f read_file
@@ -67,7 +70,7 @@ open r /f
 allow 0 /f write_file
 open w /f
 ",
-            b"\
+        b"\
 ok
 ruleset 0
 ok
@@ -80,10 +83,10 @@ denied EACCES layer 2 read_file at
 ok
 denied EACCES layer 1 write_file at
 ",
-        ),
-        (
-            "refused rulesets, and sixteen layers",
-            b"\
+    ),
+    (
+        "refused rulesets, and sixteen layers",
+        b"\
 make reg /f
 ruleset none
 ruleset 0x8000
@@ -109,7 +112,7 @@ confine 0
 confine 0
 confine 0
 ",
-            b"\
+        b"\
 ok
 refused 20 ENOMSG
 refused 8 EINVAL
@@ -135,13 +138,13 @@ ok
 ok
 refused 19 E2BIG
 ",
-        ),
-        ("an empty script", b"", b""),
-        ("no line feed", b"stat /", b"refused 23 BadLine\n"),
-        ("two spaces", b"stat  /\n", b"refused 23 BadLine\n"),
-        (
-            "texts of rights",
-            b"\
+    ),
+    ("an empty script", b"", b""),
+    ("no line feed", b"stat /", b"refused 23 BadLine\n"),
+    ("two spaces", b"stat  /\n", b"refused 23 BadLine\n"),
+    (
+        "texts of rights",
+        b"\
 ruleset none
 ruleset execute
 ruleset write_file,read_file
@@ -152,7 +155,7 @@ ruleset 0x8001
 ruleset read_file,write_file
 ruleset 0x4
 ",
-            b"\
+        b"\
 refused 20 ENOMSG
 ruleset 0
 ruleset 1
@@ -163,28 +166,31 @@ refused 8 EINVAL
 refused 23 BadLine
 refused 23 BadLine
 ",
-        ),
-        (
-            "nearly calls",
-            b"\
+    ),
+    (
+        "nearly calls",
+        b"\
 @1 stat /
 @02 stat /
 open t /f
 open rx /f
 write 0 0 6
 ",
-            b"\
+        b"\
 refused 23 BadLine
 refused 23 BadLine
 refused 23 BadLine
 refused 23 BadLine
 refused 23 BadLine
 ",
-        ),
-    ];
-    for (name, script, want) in examples {
+    ),
+];
+
+#[test]
+fn examples(rt: HostRuntime) -> Result<(), Fail> {
+    for (name, script, want) in EXAMPLES {
         let out = replies(&rt, script)?;
-        assert_eq!(rt; out.as_slice(), want, "{name}");
+        assert_eq!(rt; out.as_slice(), *want, "{name}");
     }
     Ok(())
 }

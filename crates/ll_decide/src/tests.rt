@@ -6,7 +6,7 @@ ghost use Rattle.std.specs.Prelude.{◌≡◌, length};
 
 use crate::{Asked, Cause, Denial, Masks, Moved, Place, verdict};
 use ll_rights::{Access, Kind, Right};
-use ll_rules::{Domain, Ruleset};
+use ll_rules::{Domain, Layer, Ruleset};
 use std::alloc::Global;
 use std::process::Abort;
 use std::test::Fail;
@@ -233,6 +233,68 @@ fn denies_what_would_be_gained(rt: HostRuntime) -> Result<(), Fail> {
         let into = over(rt.alloc(), &domain, new);
         let result = moved(&domain, &from, &into, Access(relevant));
         assert_eq!(rt; told(result), want, "from {own:?} into {new:?}");
+    }
+    Ok(())
+}
+
+/// What the layer grants on the chain of the root and these inodes, asked upward.
+fn grants(layer: &Layer, below: &[u64], right: Right) -> bool {
+    !layer.restricts(right)
+        || layer.has_rule(right, 1)
+        || below.iter().any(|inode| layer.has_rule(right, *inode))
+}
+
+/// The domains of the worked examples, each over the same chains.
+#[test]
+fn masks_agree_with_grants_asked_upward(rt: HostRuntime) -> Result<(), Fail> {
+    let one_rule = Given {
+        handled: 0x4,
+        rules: &[(2, 0x4)],
+    };
+    let along_the_path = Given {
+        handled: 0x5,
+        rules: &[(2, 0x4), (3, 0x1)],
+    };
+    let own_rule = Given {
+        handled: 0x2004,
+        rules: &[(1, 0x2000), (4, 0x4), (3, 0x4)],
+    };
+    let reads = Given {
+        handled: 0x6,
+        rules: &[(2, 0x4)],
+    };
+    let writes = Given {
+        handled: 0x6,
+        rules: &[(2, 0x2)],
+    };
+    let removes = Given {
+        handled: 0x2020,
+        rules: &[(1, 0x2000), (2, 0x20)],
+    };
+    let refers = Given {
+        handled: 0x2000,
+        rules: &[],
+    };
+    let domains: [&[Given<'_>]; 7] = [
+        &[],
+        &[one_rule],
+        &[along_the_path],
+        &[READS, NONE],
+        &[own_rule],
+        &[reads, writes],
+        &[removes, refers],
+    ];
+    let chains: [&[u64]; 6] = [&[], &[2], &[2, 3], &[4], &[4, 3], &[2, 4, 5]];
+    for layers in domains {
+        let domain = domain(rt.alloc(), layers)?;
+        for below in chains {
+            let masks = over(rt.alloc(), &domain, below);
+            for (i, layer) in domain.layers().iter().enumerate() {
+                for right in Right::ALL {
+                    assert!(rt; masks.holds(i, right) == grants(layer, below, right));
+                }
+            }
+        }
     }
     Ok(())
 }

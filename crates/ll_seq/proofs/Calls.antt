@@ -12,7 +12,7 @@ use Rattle.ll_rules.specs.Layer.{Layer}
 use Rattle.ll_decide.specs.declared.denial.Denial.{Denial}
 use Rattle.ll_decide.specs.Verdict.{Ask, all_denials, verdict}
 use Rattle.ll_seq.specs.declared.call.Call.{Call}
-use Rattle.ll_seq.specs.Asked.{asked, grants, call_denials}
+use Rattle.ll_seq.specs.Asked.{asked, moved, grants}
 use Rattle.ll_path.specs.declared.target.Target.{Target}
 use Rattle.ll_seq.specs.declared.client.Client.{Client}
 use Rattle.ll_seq.specs.Call.{path_of}
@@ -33,27 +33,35 @@ refused_if b e h = ap (λ c. slice_get (refuse c e) 0) h
 pub not_refused : (b : Bool) (e : Errno) → b ≡ false → refuse b e ≡ []
 not_refused b e h = ap (λ c. refuse c e) h
 
+-- ---- what is looked at first, and more behind it
+
+module _ (text lying way : List Errno) where
+  front_then : (more : List Errno) → text ++ (lying ++ way) ++ more ≡ text ++ (lying ++ (way ++ more))
+  front_then more = grouped text (lying ++ way) more ∙ ap (λ (l : List Errno). text ++ l) (grouped lying way more)
+
+  pub front_first : (more : List Errno) (e : Errno) → slice_get (text ++ (lying ++ way)) 0 ≡ Some e → slice_get (text ++ (lying ++ (way ++ more))) 0 ≡ Some e
+  front_first more e h = ap (λ l. slice_get l 0) (sym (front_then more)) ∙ first_stays (text ++ (lying ++ way)) more e h
+
+  pub front_blocked : (more : List Errno) (e : Errno) → text ++ (lying ++ way) ≡ [] → slice_get more 0 ≡ Some e → slice_get (text ++ (lying ++ (way ++ more))) 0 ≡ Some e
+  front_blocked more e free h = ap (λ l. slice_get l 0) (sym (front_then more)) ∙ ap (λ l. slice_get (l ++ more) 0) free ∙ h
+
+  pub front_free : (more : List Errno) → text ++ (lying ++ way) ≡ [] → more ≡ [] → text ++ (lying ++ (way ++ more)) ≡ []
+  front_free more free h = sym (front_then more) ∙ both_free (text ++ (lying ++ way)) more free h
+
 -- ---- the place of a last name
 
 module _ (s : State) (t : Target) where
-  abbrev pub to_spot : List Errno
-  to_spot = bad_text t ++ (refuse (is_root (path_of t)) EBUSY ++ way_to s t)
+  pub no_spot : (more : List Errno) (e : Errno) → slice_get (bad_text t ++ (refuse (is_root (path_of t)) EBUSY ++ way_to s t)) 0 ≡ Some e
+      → slice_get (bad_text t ++ (refuse (is_root (path_of t)) EBUSY ++ (way_to s t ++ more))) 0 ≡ Some e
+  no_spot = front_first (bad_text t) (refuse (is_root (path_of t)) EBUSY) (way_to s t)
 
-  abbrev pub with_spot : List Errno → List Errno
-  with_spot more = bad_text t ++ (refuse (is_root (path_of t)) EBUSY ++ (way_to s t ++ more))
+  pub spot_blocked : (more : List Errno) (e : Errno) → bad_text t ++ (refuse (is_root (path_of t)) EBUSY ++ way_to s t) ≡ [] → slice_get more 0 ≡ Some e
+      → slice_get (bad_text t ++ (refuse (is_root (path_of t)) EBUSY ++ (way_to s t ++ more))) 0 ≡ Some e
+  spot_blocked = front_blocked (bad_text t) (refuse (is_root (path_of t)) EBUSY) (way_to s t)
 
-  -- with what stands behind it
-  pub spot_then : (more : List Errno) → to_spot ++ more ≡ with_spot more
-  spot_then more = grouped (bad_text t) (refuse (is_root (path_of t)) EBUSY ++ way_to s t) more ∙ ap (λ (l : List Errno). bad_text t ++ l) (grouped (refuse (is_root (path_of t)) EBUSY) (way_to s t) more)
-
-  pub no_spot : (more : List Errno) (e : Errno) → slice_get to_spot 0 ≡ Some e → slice_get (with_spot more) 0 ≡ Some e
-  no_spot more e h = ap (λ l. slice_get l 0) (sym (spot_then more)) ∙ first_stays to_spot more e h
-
-  pub spot_blocked : (more : List Errno) (e : Errno) → to_spot ≡ [] → slice_get more 0 ≡ Some e → slice_get (with_spot more) 0 ≡ Some e
-  spot_blocked more e free h = ap (λ l. slice_get l 0) (sym (spot_then more)) ∙ ap (λ l. slice_get (l ++ more) 0) free ∙ h
-
-  pub spot_free : (more : List Errno) → to_spot ≡ [] → more ≡ [] → with_spot more ≡ []
-  spot_free more free h = sym (spot_then more) ∙ both_free to_spot more free h
+  pub spot_free : (more : List Errno) → bad_text t ++ (refuse (is_root (path_of t)) EBUSY ++ way_to s t) ≡ [] → more ≡ []
+      → bad_text t ++ (refuse (is_root (path_of t)) EBUSY ++ (way_to s t ++ more)) ≡ []
+  spot_free = front_free (bad_text t) (refuse (is_root (path_of t)) EBUSY) (way_to s t)
 
   pub is_missing : named s (path_of t) ≡ None → slice_get (missing s t) 0 ≡ Some ENOENT
   is_missing h = ap (λ o. slice_get (refuse (is_none o) ENOENT) 0) h
@@ -67,9 +75,9 @@ module _ (s : State) (t : Target) where
 -- ---- policy
 
 -- what the plain tree is told of the rights that the call asks
-pub told : (s : State) (n : ℕ) (call : Call) (asks : List (Ask Path)) (answer : Option Denial) → answer ≡ verdict (grants s) (client_of s n).domain asks None
-    → asks ≡ asked call → slice_get (call_denials s (client_of s n) call) 0 ≡ answer
-told s n call asks answer is same = sym (is ∙ ap (λ list. verdict (grants s) (client_of s n).domain list None) same)
+pub told : (s : State) (n : ℕ) (call : Call) (asks : List (Ask Path)) (answer : Option Denial) → answer ≡ verdict (grants s) (client_of s n).domain asks (moved s call)
+    → asks ≡ asked s call → slice_get (all_denials (grants s) (client_of s n).domain (asked s call) (moved s call)) 0 ≡ answer
+told s n call asks answer is same = sym (is ∙ ap (λ list. verdict (grants s) (client_of s n).domain list (moved s call)) same)
 
 -- a call that asks nothing isn't denied
 nothing_asked : {A : Type 0} (n : ℕ) (layers : List A) → flat_map silent (enumerate_from n layers) ≡ []

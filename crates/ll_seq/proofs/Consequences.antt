@@ -1,39 +1,42 @@
 -- What follows from one step for every call: which refusals there are, who stays, and how inode numbers grow.
-use Rattle.std.specs.Prelude.{◌≡◌, ◌≢◌, ℕ, ◌+◌, ◌≤◌, Bool, true, false, not, ◌||◌, List, [], ◌∷◌, ◌++◌, map, length, Option, Some, None, is_some, is_none, nat_le, nat_lt, nat_eq, ◌==◌, ◌&&◌, codes, slice_get, cond, if◌then◌else◌, ⊤, refl, ◌⊎◌}
+use Rattle.std.specs.Prelude.{◌≡◌, ◌≢◌, ℕ, ◌+◌, ◌≤◌, Bool, true, false, not, ◌||◌, List, [], ◌∷◌, ◌++◌, map, length, Option, Some, None, is_some, is_none, nat_le, nat_lt, nat_eq, ◌==◌, ◌&&◌, codes, slice_get, cond, if◌then◌else◌, unwrap_or, ⊤, refl, ◌⊎◌}
 use Rattle.std.specs.List.{AllByRecursion, list_any, starts_with}
 use Rattle.std.specs.Option.{option_map_or}
 use Rattle.std.specs.Ordering.{nat_cmp, eq_by_cmp}
 use Rattle.std.specs.Cmp.{nat_cmp_total}
 use Rattle.std.specs.FinMap.{nat_cmp-IsAntisymmetric}
-use Rattle.std.proofs.Common.{ap, subst, ◌∙◌, inl, inr, arith}
+use Rattle.std.proofs.Common.{ap, sym, subst, ◌∙◌, inl, inr, arith}
+use Rattle.std.proofs.lemmas.Bool.{false≢true}
 use Rattle.ll_rights.specs.declared.kind.Kind.{Kind}
 use Rattle.ll_rights.specs.declared.kind.Kind.TheVariants.{Reg, Dir, Sym, Fifo, Sock, Char, Block}
 use Rattle.ll_rights.specs.declared.errno.Errno.{Errno}
-use Rattle.ll_rights.specs.declared.errno.Errno.TheVariants.{NoMemory, ENOENT, EEXIST, ENOTDIR, EISDIR, ENOTEMPTY, EINVAL, EFBIG, EBUSY, EBADF, EMFILE, ENOSPC, ENAMETOOLONG, E2BIG, ENOMSG}
+use Rattle.ll_rights.specs.declared.errno.Errno.TheVariants.{NoMemory, ENOENT, EEXIST, ENOTDIR, EISDIR, ENOTEMPTY, EINVAL, EFBIG, EBUSY, EBADF, EMFILE, EMLINK, ENOSPC, EPERM, ENAMETOOLONG, E2BIG, ENOMSG}
 use Rattle.ll_rights.specs.Errno.{refuse, errno_number}
 use Rattle.ll_rights.specs.Map.{Map, get, has, insert, remove, len}
 use Rattle.ll_rights.specs.Access.{is_within, all_set, file_set}
 use Rattle.ll_rights.specs.Kind.{is_dir}
-use Rattle.ll_rights.proofs.Maps.{equal_at, get-insert}
+use Rattle.ll_rights.proofs.Maps.{equal_at, get-insert, get-insert_same}
 use Rattle.ll_path.specs.Path as paths
 use Rattle.ll_path.specs.Path.{Path}
 use Rattle.ll_path.specs.declared.target.Target.{Target}
 use Rattle.ll_path.specs.declared.target.Target.TheVariants.{Good, Bad}
 use Rattle.ll_decide.specs.declared.denial.Denial.{Denial}
+use Rattle.ll_decide.specs.Verdict.{when}
 use Rattle.ll_seq.specs.declared.client.Client.{Client}
+use Rattle.ll_seq.specs.declared.client.Descriptor.{Descriptor}
 use Rattle.ll_seq.specs.declared.entries.Slot.{Slot}
 use Rattle.ll_seq.specs.declared.node.Node.{Node}
 use Rattle.ll_seq.specs.declared.call.Mode.{Mode}
 use Rattle.ll_seq.specs.declared.call.Call.{Call}
-use Rattle.ll_seq.specs.declared.call.Call.TheVariants.{Make, Open, Truncate, ReadDir, Stat, Exec, Unlink, Rmdir, Ruleset, Allow, Confine, Connect}
+use Rattle.ll_seq.specs.declared.call.Call.TheVariants.{Make, Open, Read, Write, Ftruncate, Close, Truncate, ReadDir, Stat, Exec, Unlink, Rmdir, Rename, Link, Ruleset, Allow, Confine, Spawn, Connect}
 use Rattle.ll_seq.specs.declared.reply.Reply.{Reply}
-use Rattle.ll_seq.specs.declared.reply.Reply.TheVariants.{Done, Opened, Listed, Found, Created, Refused, Denied}
-use Rattle.ll_seq.specs.State.{State, child, root, bytes_of}
-use Rattle.ll_seq.specs.Call.{path_of}
-use Rattle.ll_seq.specs.Tree.{named, inode_of, directory_of, kind_at}
+use Rattle.ll_seq.specs.declared.reply.Reply.TheVariants.{Done, Opened, Bytes, Wrote, Listed, Found, Created, Spawned, Refused, Denied}
+use Rattle.ll_seq.specs.State.{State, slot_cmp, child, root, bytes_of, new_client}
+use Rattle.ll_seq.specs.Call.{creates, is_exclusive, path_of}
+use Rattle.ll_seq.specs.Tree.{named, inode_of, directory_of, kind_or_file, kind_at}
 use Rattle.ll_seq.specs.Asked.{call_denials}
-use Rattle.ll_seq.specs.Stages.{bad_text, text_refusals, number_refusals, relation_refusals, walk_refusals, existence_refusals, kind_refusals, limit_refusals, in_the_way, kind_of_child, no_directory, not_to_open, not_to_truncate, is_dir_at, has_names, is_too_long, ruleset_at, is_crowded, lowest_free}
-use Rattle.ll_seq.specs.Effects.{lives, without_name, slot_of, resized, with_bytes, with_opened, emptied, done}
+use Rattle.ll_seq.specs.Stages.{bad_text, text_refusals, number_refusals, relation_refusals, walk_refusals, existence_refusals, kind_refusals, limit_refusals, in_the_way, kind_of_child, no_directory, way_to, missing, present, without, no_space, lying, replace_refusals, enters, has_many_names, not_to_open, not_to_truncate, is_dir_at, has_names, is_too_long, ruleset_at, is_crowded, lowest_free}
+use Rattle.ll_seq.specs.Effects.{lives, let_go, without_name, with_moved, renamed, slot_of, resized, overwritten, with_bytes, with_client, with_node, with_opened, emptied, after_opening, written, inode_at, done}
 use Rattle.ll_seq.specs.Step.{step, first_or, refusals, client_of, IsAnswer}
 
 -- ---- refusals
@@ -51,6 +54,13 @@ joined (x ∷ xs) ys h k = (h.0, joined xs ys h.1 k)
 if_refused : (b : Bool) (e : Errno) → Fine e → AllFine (refuse b e)
 if_refused true e fine = (fine, tt)
 if_refused false e fine = tt
+
+three : (a b c : Bool) (x y z : Errno) → Fine x → Fine y → Fine z → AllFine (refuse a x ++ refuse b y ++ refuse c z)
+three a b c x y z f g h = joined (refuse a x ++ refuse b y) (refuse c z) (joined (refuse a x) (refuse b y) (if_refused a x f) (if_refused b y g)) (if_refused c z h)
+
+when_fine : (b : Bool) (errs : List Errno) → AllFine errs → AllFine (when b errs)
+when_fine true errs h = h
+when_fine false errs h = tt
 
 first_fine : (errs : List Errno) (e : Errno) → AllFine errs → slice_get errs 0 ≡ Some e → Fine e
 first_fine [] e h is = absurd cc
@@ -117,27 +127,36 @@ abbrev Settles : Reply → Type 0
 Settles (Refused errno) = Fine errno
 Settles _ = ⊤
 
-abbrev AllSettle : List Reply → Type 0
-AllSettle replies = AllByRecursion Settles replies
+abbrev is_spawned : Reply → Bool
+is_spawned (Spawned number) = true
+is_spawned _ = false
 
-together : (xs ys : List Reply) → AllSettle xs → AllSettle ys → AllSettle (xs ++ ys)
+-- what a refusal answers
+abbrev Refuses : Reply → Type 0
+Refuses r = Settles r × (is_spawned r ≡ false)
+
+abbrev AllRefuse : List Reply → Type 0
+AllRefuse replies = AllByRecursion Refuses replies
+
+together : (xs ys : List Reply) → AllRefuse xs → AllRefuse ys → AllRefuse (xs ++ ys)
 together [] ys h k = k
 together (x ∷ xs) ys h k = (h.0, together xs ys h.1 k)
 
-refused_all : (errs : List Errno) → AllFine errs → AllSettle (map Refused errs)
+refused_all : (errs : List Errno) → AllFine errs → AllRefuse (map Refused errs)
 refused_all [] h = tt
-refused_all (e ∷ errs) h = (h.0, refused_all errs h.1)
+refused_all (e ∷ errs) h = ((h.0, refl), refused_all errs h.1)
 
-denied_all : (ds : List Denial) → AllSettle (map Denied ds)
+denied_all : (ds : List Denial) → AllRefuse (map Denied ds)
 denied_all [] = tt
-denied_all (d ∷ ds) = (tt, denied_all ds)
+denied_all (d ∷ ds) = ((tt, refl), denied_all ds)
 
-answered : (s : State) (xs : List Reply) (o : Reply × State) → AllSettle xs → Settles o.0 → Settles (first_or s xs o).0
-answered s [] o h fine = fine
-answered s (x ∷ xs) o h fine = h.0
+-- a refusal, which keeps the state, or what is done
+refused_or : (P : Reply → State → Type 0) (s : State) (xs : List Reply) (o : Reply × State) → AllRefuse xs → ((r : Reply) → Refuses r → P r s) → P o.0 o.1 → P (first_or s xs o).0 (first_or s xs o).1
+refused_or P s [] o h refused does = does
+refused_or P s (x ∷ xs) o h refused does = refused x h.0
 
 all_stages : (t n r w e : List Errno) (d : List Denial) (k l : List Errno) → AllFine t → AllFine n → AllFine r → AllFine w → AllFine e → AllFine k → AllFine l
-    → AllSettle (map Refused t ++ map Refused n ++ map Refused r ++ map Refused w ++ map Refused e ++ map Denied d ++ map Refused k ++ map Refused l)
+    → AllRefuse (map Refused t ++ map Refused n ++ map Refused r ++ map Refused w ++ map Refused e ++ map Denied d ++ map Refused k ++ map Refused l)
 all_stages t n r w e d k l ht hn hr hw he hk hl =
     let a2 = together (map Refused t) (map Refused n) (refused_all t ht) (refused_all n hn) in
     let a3 = together (map Refused t ++ map Refused n) (map Refused r) a2 (refused_all r hr) in
@@ -150,85 +169,136 @@ all_stages t n r w e d k l ht hn hr hw he hk hl =
 text_fine : (call : Call) → AllFine (text_refusals call)
 text_fine (Make kind t) = target_fine t
 text_fine (Open mode t) = target_fine t
+text_fine (Read fd offset count) = if_refused (nat_lt 4096 count) EINVAL (omega arith, omega arith)
+text_fine (Write fd offset bytes) = tt
+text_fine (Ftruncate fd size) = tt
+text_fine (Close fd) = tt
 text_fine (Truncate t size) = target_fine t
 text_fine (ReadDir t) = target_fine t
 text_fine (Stat t) = target_fine t
 text_fine (Exec t) = target_fine t
 text_fine (Unlink t) = target_fine t
 text_fine (Rmdir t) = target_fine t
+text_fine (Rename o n) = joined (bad_text o) (bad_text n) (target_fine o) (target_fine n)
+text_fine (Link o n) = joined (bad_text o) (bad_text n) (target_fine o) (target_fine n)
 text_fine (Ruleset rights) = tt
 text_fine (Allow rs t rights) = target_fine t
 text_fine (Confine rs) = tt
+text_fine Spawn = tt
 text_fine Connect = tt
+
+without_fine : (c : Client) (fd : ℕ) (allows : Descriptor → Bool) (e : Errno) → Fine e → AllFine (without c fd allows e)
+without_fine c fd allows e fine = joined (refuse (is_none (get c.descriptors fd)) EBADF) (refuse (not (option_map_or allows (get c.descriptors fd) true)) e)
+    (if_refused (is_none (get c.descriptors fd)) EBADF (omega arith, omega arith)) (if_refused (not (option_map_or allows (get c.descriptors fd) true)) e fine)
 
 number_fine : (c : Client) (call : Call) → AllFine (number_refusals c call)
 number_fine c (Make kind t) = tt
 number_fine c (Open mode t) = tt
+number_fine c (Read fd offset count) = without_fine c fd (λ d. d.reads) EBADF (omega arith, omega arith)
+number_fine c (Write fd offset bytes) = without_fine c fd (λ d. d.writes) EBADF (omega arith, omega arith)
+number_fine c (Ftruncate fd size) = without_fine c fd (λ d. d.writes) EINVAL (omega arith, omega arith)
+number_fine c (Close fd) = if_refused (is_none (get c.descriptors fd)) EBADF (omega arith, omega arith)
 number_fine c (Truncate t size) = tt
 number_fine c (ReadDir t) = tt
 number_fine c (Stat t) = tt
 number_fine c (Exec t) = tt
 number_fine c (Unlink t) = tt
 number_fine c (Rmdir t) = tt
+number_fine c (Rename o n) = tt
+number_fine c (Link o n) = tt
 number_fine c (Ruleset rights) = tt
 number_fine c (Allow rs t rights) = if_refused (is_none (slice_get c.rulesets rs)) EBADF (omega arith, omega arith)
 number_fine c (Confine rs) = if_refused (is_none (slice_get c.rulesets rs)) EBADF (omega arith, omega arith)
+number_fine c Spawn = tt
 number_fine c Connect = tt
+
+lying_fine : (o n : Path) (above : Errno) → Fine above → AllFine (lying o n above)
+lying_fine o n above fine = three (paths.is_root o || paths.is_root n) (paths.is_beneath o n) (paths.is_beneath n o) EBUSY EINVAL above (omega arith, omega arith) (omega arith, omega arith) fine
 
 relation_fine : (call : Call) → AllFine (relation_refusals call)
 relation_fine (Make kind t) = if_refused (paths.is_root (path_of t)) EBUSY (omega arith, omega arith)
 relation_fine (Open mode t) = tt
+relation_fine (Read fd offset count) = tt
+relation_fine (Write fd offset bytes) = tt
+relation_fine (Ftruncate fd size) = tt
+relation_fine (Close fd) = tt
 relation_fine (Truncate t size) = tt
 relation_fine (ReadDir t) = tt
 relation_fine (Stat t) = tt
 relation_fine (Exec t) = tt
 relation_fine (Unlink t) = if_refused (paths.is_root (path_of t)) EBUSY (omega arith, omega arith)
 relation_fine (Rmdir t) = if_refused (paths.is_root (path_of t)) EBUSY (omega arith, omega arith)
+relation_fine (Rename o n) = lying_fine (path_of o) (path_of n) ENOTEMPTY (omega arith, omega arith)
+relation_fine (Link o n) = lying_fine (path_of o) (path_of n) EEXIST (omega arith, omega arith)
 relation_fine (Ruleset rights) = tt
 relation_fine (Allow rs t rights) = tt
 relation_fine (Confine rs) = tt
+relation_fine Spawn = tt
 relation_fine Connect = tt
+
+ways_fine : (s : State) (o n : Target) → AllFine (way_to s o ++ way_to s n)
+ways_fine s o n = joined (way_to s o) (way_to s n) (way_fine s (paths.parent (path_of o)) root) (way_fine s (paths.parent (path_of n)) root)
 
 walk_fine : (s : State) (call : Call) → AllFine (walk_refusals s call)
 walk_fine s (Make kind t) = way_fine s (paths.parent (path_of t)) root
 walk_fine s (Open mode t) = way_fine s (paths.parent (path_of t)) root
+walk_fine s (Read fd offset count) = tt
+walk_fine s (Write fd offset bytes) = tt
+walk_fine s (Ftruncate fd size) = tt
+walk_fine s (Close fd) = tt
 walk_fine s (Truncate t size) = way_fine s (paths.parent (path_of t)) root
 walk_fine s (ReadDir t) = way_fine s (paths.parent (path_of t)) root
 walk_fine s (Stat t) = way_fine s (paths.parent (path_of t)) root
 walk_fine s (Exec t) = way_fine s (paths.parent (path_of t)) root
 walk_fine s (Unlink t) = way_fine s (paths.parent (path_of t)) root
 walk_fine s (Rmdir t) = way_fine s (paths.parent (path_of t)) root
+walk_fine s (Rename o n) = ways_fine s o n
+walk_fine s (Link o n) = ways_fine s o n
 walk_fine s (Ruleset rights) = tt
 walk_fine s (Allow rs t rights) = way_fine s (paths.parent (path_of t)) root
 walk_fine s (Confine rs) = tt
+walk_fine s Spawn = tt
 walk_fine s Connect = tt
 
 existence_fine : (s : State) (call : Call) → AllFine (existence_refusals s call)
 existence_fine s (Make kind t) = if_refused (is_some (named s (path_of t))) EEXIST (omega arith, omega arith)
-existence_fine s (Open mode t) = if_refused (is_none (named s (path_of t))) ENOENT (omega arith, omega arith)
+existence_fine s (Open mode t) = joined (when (not (creates mode.creation)) (missing s t)) (when (is_exclusive mode.creation) (present s t))
+    (when_fine (not (creates mode.creation)) (missing s t) (if_refused (is_none (named s (path_of t))) ENOENT (omega arith, omega arith)))
+    (when_fine (is_exclusive mode.creation) (present s t) (if_refused (is_some (named s (path_of t))) EEXIST (omega arith, omega arith)))
+existence_fine s (Read fd offset count) = tt
+existence_fine s (Write fd offset bytes) = tt
+existence_fine s (Ftruncate fd size) = tt
+existence_fine s (Close fd) = tt
 existence_fine s (Truncate t size) = if_refused (is_none (named s (path_of t))) ENOENT (omega arith, omega arith)
 existence_fine s (ReadDir t) = if_refused (is_none (named s (path_of t))) ENOENT (omega arith, omega arith)
 existence_fine s (Stat t) = if_refused (is_none (named s (path_of t))) ENOENT (omega arith, omega arith)
 existence_fine s (Exec t) = if_refused (is_none (named s (path_of t))) ENOENT (omega arith, omega arith)
 existence_fine s (Unlink t) = if_refused (is_none (named s (path_of t))) ENOENT (omega arith, omega arith)
 existence_fine s (Rmdir t) = if_refused (is_none (named s (path_of t))) ENOENT (omega arith, omega arith)
+existence_fine s (Rename o n) = if_refused (is_none (named s (path_of o))) ENOENT (omega arith, omega arith)
+existence_fine s (Link o n) = joined (refuse (is_none (named s (path_of o))) ENOENT) (refuse (is_some (named s (path_of n))) EEXIST)
+    (if_refused (is_none (named s (path_of o))) ENOENT (omega arith, omega arith)) (if_refused (is_some (named s (path_of n))) EEXIST (omega arith, omega arith))
 existence_fine s (Ruleset rights) = tt
 existence_fine s (Allow rs t rights) = if_refused (is_none (named s (path_of t))) ENOENT (omega arith, omega arith)
 existence_fine s (Confine rs) = tt
+existence_fine s Spawn = tt
 existence_fine s Connect = tt
 
 create_fine : (a b : Bool) → AllFine (refuse a EINVAL ++ refuse b ENOMSG)
 create_fine a b = joined (refuse a EINVAL) (refuse b ENOMSG) (if_refused a EINVAL (omega arith, omega arith)) (if_refused b ENOMSG (omega arith, omega arith))
 
-rule_fine : (a b c : Bool) → AllFine (refuse a ENOMSG ++ refuse b EINVAL ++ refuse c EINVAL)
-rule_fine a b c =
-    joined (refuse a ENOMSG ++ refuse b EINVAL) (refuse c EINVAL)
-    (joined (refuse a ENOMSG) (refuse b EINVAL) (if_refused a ENOMSG (omega arith, omega arith)) (if_refused b EINVAL (omega arith, omega arith)))
-    (if_refused c EINVAL (omega arith, omega arith))
+replace_fine : (s : State) (inode replaced : ℕ) → AllFine (replace_refusals s inode replaced)
+replace_fine s inode replaced = when_fine (not (inode == replaced)) _
+    (three (is_dir (kind_or_file s replaced) && not (is_dir (kind_or_file s inode))) (is_dir (kind_or_file s inode) && not (is_dir (kind_or_file s replaced)))
+    (is_dir (kind_or_file s replaced) && has_names s replaced) EISDIR ENOTDIR ENOTEMPTY (omega arith, omega arith) (omega arith, omega arith) (omega arith, omega arith))
 
 kind_fine : (s : State) (c : Client) (call : Call) → AllFine (kind_refusals s c call)
 kind_fine s c (Make kind t) = tt
-kind_fine s c (Open mode t) = open_fine (kind_at s (path_of t))
+kind_fine s c (Open mode t) = when_fine (is_some (named s (path_of t))) (not_to_open (kind_at s (path_of t))) (open_fine (kind_at s (path_of t)))
+kind_fine s c (Read fd offset count) = tt
+kind_fine s c (Write fd offset bytes) = tt
+kind_fine s c (Ftruncate fd size) = tt
+kind_fine s c (Close fd) = tt
 kind_fine s c (Truncate t size) = truncate_fine (kind_at s (path_of t))
 kind_fine s c (ReadDir t) = if_refused (not (is_dir_at s t)) ENOTDIR (omega arith, omega arith)
 kind_fine s c (Stat t) = tt
@@ -236,28 +306,45 @@ kind_fine s c (Exec t) = open_fine (kind_at s (path_of t))
 kind_fine s c (Unlink t) = if_refused (is_dir_at s t) EISDIR (omega arith, omega arith)
 kind_fine s c (Rmdir t) = joined (refuse (not (is_dir_at s t)) ENOTDIR) (refuse (has_names s (inode_of s (path_of t))) ENOTEMPTY)
     (if_refused (not (is_dir_at s t)) ENOTDIR (omega arith, omega arith)) (if_refused (has_names s (inode_of s (path_of t))) ENOTEMPTY (omega arith, omega arith))
+kind_fine s c (Rename o n) = onward_fine (replace_refusals s (inode_of s (path_of o))) (named s (path_of n)) (replace_fine s (inode_of s (path_of o)))
+kind_fine s c (Link o n) = if_refused (is_dir_at s o) EPERM (omega arith, omega arith)
 kind_fine s c (Ruleset rights) = create_fine (not (is_within rights.0 all_set)) (rights.0 == 0)
 kind_fine s c (Allow rs t rights) =
-    rule_fine (rights.0 == 0) (not (is_within rights.0 (ruleset_at c rs).handled)) (not (is_dir (kind_at s (path_of t))) && not (is_within rights.0 file_set))
+    three (rights.0 == 0) (not (is_within rights.0 (ruleset_at c rs).handled)) (not (is_dir (kind_at s (path_of t))) && not (is_within rights.0 file_set)) ENOMSG EINVAL EINVAL
+    (omega arith, omega arith) (omega arith, omega arith) (omega arith, omega arith)
 kind_fine s c (Confine rs) = tt
+kind_fine s c Spawn = tt
 kind_fine s c Connect = tt
 
+space_fine : (s : State) (directory : ℕ) → AllFine (no_space s directory)
+space_fine s directory = if_refused (is_crowded s directory || nat_le s.room (len s.nodes)) ENOSPC (omega arith, omega arith)
+
 limit_fine : (s : State) (c : Client) (call : Call) → AllFine (limit_refusals s c call)
-limit_fine s c (Make kind t) = if_refused (is_crowded s (directory_of s (path_of t)) || nat_le s.room (len s.nodes)) ENOSPC (omega arith, omega arith)
-limit_fine s c (Open mode t) = if_refused (is_none (lowest_free c.descriptors)) EMFILE (omega arith, omega arith)
+limit_fine s c (Make kind t) = space_fine s (directory_of s (path_of t))
+limit_fine s c (Open mode t) = joined (refuse (is_none (lowest_free c.descriptors)) EMFILE) (when (is_none (named s (path_of t))) (no_space s (directory_of s (path_of t))))
+    (if_refused (is_none (lowest_free c.descriptors)) EMFILE (omega arith, omega arith))
+    (when_fine (is_none (named s (path_of t))) (no_space s (directory_of s (path_of t))) (space_fine s (directory_of s (path_of t))))
+limit_fine s c (Read fd offset count) = tt
+limit_fine s c (Write fd offset bytes) = if_refused (nat_lt 0 (length bytes) && is_too_long (offset + length bytes)) EFBIG (omega arith, omega arith)
+limit_fine s c (Ftruncate fd size) = if_refused (is_too_long size) EFBIG (omega arith, omega arith)
+limit_fine s c (Close fd) = tt
 limit_fine s c (Truncate t size) = if_refused (is_too_long size) EFBIG (omega arith, omega arith)
 limit_fine s c (ReadDir t) = tt
 limit_fine s c (Stat t) = tt
 limit_fine s c (Exec t) = tt
 limit_fine s c (Unlink t) = tt
 limit_fine s c (Rmdir t) = tt
+limit_fine s c (Rename o n) = if_refused (enters s o n && is_crowded s (directory_of s (path_of n))) ENOSPC (omega arith, omega arith)
+limit_fine s c (Link o n) = joined (refuse (has_many_names s (inode_of s (path_of o))) EMLINK) (refuse (is_crowded s (directory_of s (path_of n))) ENOSPC)
+    (if_refused (has_many_names s (inode_of s (path_of o))) EMLINK (omega arith, omega arith)) (if_refused (is_crowded s (directory_of s (path_of n))) ENOSPC (omega arith, omega arith))
 limit_fine s c (Ruleset rights) = if_refused (nat_le 16 (length c.rulesets)) EMFILE (omega arith, omega arith)
 limit_fine s c (Allow rs t rights) =
     if_refused (nat_le 256 (len (ruleset_at c rs).rules) && not (has (ruleset_at c rs).rules (inode_of s (path_of t)))) E2BIG (omega arith, omega arith)
 limit_fine s c (Confine rs) = if_refused (nat_le 16 (length c.domain)) E2BIG (omega arith, omega arith)
+limit_fine s c Spawn = if_refused (nat_le 64 (len s.clients)) EMFILE (omega arith, omega arith)
 limit_fine s c Connect = if_refused (nat_le 64 (len s.clients)) EMFILE (omega arith, omega arith)
 
-all_refusals : (s : State) (c : Client) (call : Call) → AllSettle (refusals s c call)
+all_refusals : (s : State) (c : Client) (call : Call) → AllRefuse (refusals s c call)
 all_refusals s c call =
     all_stages (text_refusals call) (number_refusals c call) (relation_refusals call) (walk_refusals s call) (existence_refusals s call) (call_denials s c call) (kind_refusals s c call) (limit_refusals s c call)
     (text_fine call) (number_fine c call) (relation_fine call) (walk_fine s call) (existence_fine s call) (kind_fine s c call) (limit_fine s c call)
@@ -265,26 +352,36 @@ all_refusals s c call =
 done_settles : (s : State) (number : ℕ) (c : Client) (call : Call) (fresh : ℕ) → Settles (done s number c call fresh).0
 done_settles s number c (Make kind t) fresh = tt
 done_settles s number c (Open mode t) fresh = tt
+done_settles s number c (Read fd offset count) fresh = tt
+done_settles s number c (Write fd offset bytes) fresh = tt
+done_settles s number c (Ftruncate fd size) fresh = tt
+done_settles s number c (Close fd) fresh = tt
 done_settles s number c (Truncate t size) fresh = tt
 done_settles s number c (ReadDir t) fresh = tt
 done_settles s number c (Stat t) fresh = tt
 done_settles s number c (Exec t) fresh = tt
 done_settles s number c (Unlink t) fresh = tt
 done_settles s number c (Rmdir t) fresh = tt
+done_settles s number c (Rename o n) fresh = tt
+done_settles s number c (Link o n) fresh = tt
 done_settles s number c (Ruleset rights) fresh = tt
 done_settles s number c (Allow rs t rights) fresh = tt
 done_settles s number c (Confine rs) fresh = tt
+done_settles s number c Spawn fresh = tt
 done_settles s number c Connect fresh = tt
 
 step-settles : (s : State) (number : ℕ) (call : Call) (fresh : ℕ) → Settles (step s number call fresh).0
-step-settles s number call fresh = answered s (refusals s (client_of s number) call) (done s number (client_of s number) call fresh) (all_refusals s (client_of s number) call) (done_settles s number (client_of s number) call fresh)
+step-settles s number call fresh = refused_or (λ r z. Settles r) s (refusals s (client_of s number) call) (done s number (client_of s number) call fresh) (all_refusals s (client_of s number) call) (λ r refuses. refuses.0) (done_settles s number (client_of s number) call fresh)
 
 settled_answer : (r : Reply) → Settles r → IsAnswer r
 settled_answer Done h = tt
 settled_answer (Opened n) h = tt
+settled_answer (Bytes bytes) h = tt
+settled_answer (Wrote n) h = tt
 settled_answer (Listed names) h = tt
 settled_answer (Found status) h = tt
 settled_answer (Created n) h = tt
+settled_answer (Spawned n) h = tt
 settled_answer (Denied d) h = tt
 settled_answer (Refused errno) h = inl h
 
@@ -292,10 +389,6 @@ pub step-IsAnswer : (s : State) (number : ℕ) (call : Call) (fresh : ℕ) → I
 step-IsAnswer s number call fresh = settled_answer (step s number call fresh).0 (step-settles s number call fresh)
 
 -- ---- the state after
-
-kept_or : (P : State → Type 0) (s : State) (xs : List Reply) (o : Reply × State) → P s → P o.1 → P (first_or s xs o).1
-kept_or P s [] o h k = k
-kept_or P s (x ∷ xs) o h k = h
 
 -- what bytes and lost names leave alone
 record Beside (s t : State) : Type 0 where
@@ -309,54 +402,111 @@ bytes_beside s inode bytes = of (get s.nodes inode)
     of None = record { clients = refl; next = refl }
     of (Some n) = record { clients = refl; next = refl }
 
-emptied_beside : (s : State) (mode : Mode) (path : Path) → Beside s (emptied s mode path)
-emptied_beside s mode path = of mode.truncate
+emptied_beside : (s : State) (mode : Mode) (inode : ℕ) → Beside s (emptied s mode inode)
+emptied_beside s mode inode = of mode.truncate
   where
-    of : (b : Bool) → Beside s (if b then with_bytes s (inode_of s path) [] else s)
-    of true = bytes_beside s (inode_of s path) []
+    of : (b : Bool) → Beside s (if b then with_bytes s inode [] else s)
+    of true = bytes_beside s inode []
     of false = record { clients = refl; next = refl }
 
-gone_beside : (s : State) (at : Slot) (inode : ℕ) → Beside s (without_name s at inode)
-gone_beside s at inode = of (lives (record s { entries = remove s.entries at }) inode)
+written_beside : (s : State) (inode offset : ℕ) (bytes : List ℕ) → Beside s (written s inode offset bytes)
+written_beside s inode offset bytes = of (length bytes == 0)
   where
-    of : (b : Bool) → Beside s (if b then record s { entries = remove s.entries at } else record s { entries = remove s.entries at; nodes = remove s.nodes inode })
+    of : (b : Bool) → Beside s (if b then s else with_bytes s inode (overwritten (bytes_of s inode) offset bytes))
+    of true = record { clients = refl; next = refl }
+    of false = bytes_beside s inode (overwritten (bytes_of s inode) offset bytes)
+
+-- where a name went, its node may have gone with it
+let_go_beside : (s : State) (entries : Map slot_cmp ℕ) (inode : ℕ) → Beside s (let_go (record s { entries = entries }) inode)
+let_go_beside s entries inode = of (lives (record s { entries = entries }) inode)
+  where
+    of : (b : Bool) → Beside s (if b then record s { entries = entries } else record s { entries = entries; nodes = remove s.nodes inode })
     of true = record { clients = refl; next = refl }
     of false = record { clients = refl; next = refl }
 
--- the clients stand as before, or the caller or the new client has changed
-abbrev Touches : State → ℕ → ℕ → Map nat_cmp Client → Type 0
-Touches s number fresh clients = (clients ≡ s.clients) ⊎ ((k : ℕ) × (x : Client) × ((k ≡ number) ⊎ (k ≡ fresh)) × (clients ≡ insert s.clients k x))
+gone_beside : (s : State) (at : Slot) (inode : ℕ) → Beside s (without_name s at inode)
+gone_beside s at inode = let_go_beside s (remove s.entries at) inode
 
-own : (s : State) (number fresh : ℕ) (x : Client) (clients : Map nat_cmp Client) → clients ≡ insert s.clients number x → Touches s number fresh clients
-own s number fresh x clients is = inr (number, x, inl refl, is)
+renamed_beside : (s : State) (old new : Slot) (inode : ℕ) (replaced : Option ℕ) → Beside s (renamed s old new inode replaced)
+renamed_beside s old new inode None = record { clients = refl; next = refl }
+renamed_beside s old new inode (Some replaced) = of (inode == replaced)
+  where
+    of : (b : Bool) → Beside s (if b then s else let_go (with_moved s old new inode) replaced)
+    of true = record { clients = refl; next = refl }
+    of false = let_go_beside s (insert (remove s.entries old) new inode) replaced
 
-done_clients : (s : State) (number : ℕ) (c : Client) (call : Call) (fresh : ℕ) → Touches s number fresh (done s number c call fresh).1.clients
-done_clients s number c (Make kind t) fresh = inl refl
-done_clients s number c (Open mode t) fresh = own s number fresh _ _ (ap (λ m. insert m number (with_opened s c mode (path_of t))) (emptied_beside s mode (path_of t)).clients)
-done_clients s number c (Truncate t size) fresh = inl (bytes_beside s (inode_of s (path_of t)) (resized (bytes_of s (inode_of s (path_of t))) size)).clients
-done_clients s number c (ReadDir t) fresh = inl refl
-done_clients s number c (Stat t) fresh = inl refl
-done_clients s number c (Exec t) fresh = inl refl
-done_clients s number c (Unlink t) fresh = inl (gone_beside s (slot_of s (path_of t)) (inode_of s (path_of t))).clients
-done_clients s number c (Rmdir t) fresh = inl (gone_beside s (slot_of s (path_of t)) (inode_of s (path_of t))).clients
-done_clients s number c (Ruleset rights) fresh = own s number fresh _ _ refl
-done_clients s number c (Allow rs t rights) fresh = own s number fresh _ _ refl
-done_clients s number c (Confine rs) fresh = own s number fresh _ _ refl
-done_clients s number c Connect fresh = own s number fresh _ _ refl
+-- the clients stand as before, or the caller has changed, or there is a new one, which is told
+abbrev Touches : State → ℕ → ℕ → Reply → Map nat_cmp Client → Type 0
+Touches s number fresh r clients =
+    ((is_spawned r ≡ false) × ((clients ≡ s.clients) ⊎ ((x : Client) × (clients ≡ insert s.clients number x))))
+    ⊎ ((r ≡ Spawned fresh) × ((x : Client) × (clients ≡ insert s.clients fresh x)))
 
-step_clients : (s : State) (number : ℕ) (call : Call) (fresh : ℕ) → Touches s number fresh (step s number call fresh).1.clients
-step_clients s number call fresh = kept_or (λ z. Touches s number fresh z.clients) s (refusals s (client_of s number) call) (done s number (client_of s number) call fresh) (inl refl) (done_clients s number (client_of s number) call fresh)
+stand : (s : State) (number fresh : ℕ) (r : Reply) (clients : Map nat_cmp Client) → is_spawned r ≡ false → clients ≡ s.clients → Touches s number fresh r clients
+stand s number fresh r clients quiet is = inl (quiet, inl is)
+
+own : (s : State) (number fresh : ℕ) (r : Reply) (x : Client) (clients : Map nat_cmp Client) → is_spawned r ≡ false → clients ≡ insert s.clients number x → Touches s number fresh r clients
+own s number fresh r x clients quiet is = inl (quiet, inr (x, is))
+
+opening_clients : (s : State) (number : ℕ) (c : Client) (mode : Mode) (path : Path) (fresh : ℕ) (r : Reply) → is_spawned r ≡ false → Touches s number fresh r (after_opening s number c mode path).clients
+opening_clients s number c mode path fresh r quiet = of (is_none (named s path))
+  where
+    of : (b : Bool) → Touches s number fresh r (if b then with_client (with_node s Reg (slot_of s path)) number (with_opened s c mode path s.next)
+        else with_client (emptied s mode (inode_of s path)) number (with_opened s c mode path (inode_of s path))).clients
+    of true = own s number fresh r (with_opened s c mode path s.next) _ quiet refl
+    of false = own s number fresh r (with_opened s c mode path (inode_of s path)) _ quiet
+        (ap (λ m. insert m number (with_opened s c mode path (inode_of s path))) (emptied_beside s mode (inode_of s path)).clients)
+
+closed_clients : (s : State) (number : ℕ) (x : Client) (inode : ℕ) → (let_go (with_client s number x) inode).clients ≡ insert s.clients number x
+closed_clients s number x inode = of (lives (with_client s number x) inode)
+  where
+    of : (b : Bool) → (if b then with_client s number x else record s { clients = insert s.clients number x; nodes = remove s.nodes inode }).clients ≡ insert s.clients number x
+    of true = refl
+    of false = refl
+
+done_clients : (s : State) (number : ℕ) (c : Client) (call : Call) (fresh : ℕ) → Touches s number fresh (done s number c call fresh).0 (done s number c call fresh).1.clients
+done_clients s number c (Make kind t) fresh = stand s number fresh _ _ refl refl
+done_clients s number c (Open mode t) fresh = opening_clients s number c mode (path_of t) fresh (Opened (unwrap_or (lowest_free c.descriptors) 0)) refl
+done_clients s number c (Read fd offset count) fresh = stand s number fresh _ _ refl refl
+done_clients s number c (Write fd offset bytes) fresh = stand s number fresh _ _ refl (written_beside s (inode_at c fd) offset bytes).clients
+done_clients s number c (Ftruncate fd size) fresh = stand s number fresh _ _ refl (bytes_beside s (inode_at c fd) (resized (bytes_of s (inode_at c fd)) size)).clients
+done_clients s number c (Close fd) fresh = own s number fresh Done _ _ refl (closed_clients s number (record c { descriptors = remove c.descriptors fd }) (inode_at c fd))
+done_clients s number c (Truncate t size) fresh = stand s number fresh _ _ refl (bytes_beside s (inode_of s (path_of t)) (resized (bytes_of s (inode_of s (path_of t))) size)).clients
+done_clients s number c (ReadDir t) fresh = stand s number fresh _ _ refl refl
+done_clients s number c (Stat t) fresh = stand s number fresh _ _ refl refl
+done_clients s number c (Exec t) fresh = stand s number fresh _ _ refl refl
+done_clients s number c (Unlink t) fresh = stand s number fresh _ _ refl (gone_beside s (slot_of s (path_of t)) (inode_of s (path_of t))).clients
+done_clients s number c (Rmdir t) fresh = stand s number fresh _ _ refl (gone_beside s (slot_of s (path_of t)) (inode_of s (path_of t))).clients
+done_clients s number c (Rename o n) fresh = stand s number fresh _ _ refl (renamed_beside s (slot_of s (path_of o)) (slot_of s (path_of n)) (inode_of s (path_of o)) (named s (path_of n))).clients
+done_clients s number c (Link o n) fresh = stand s number fresh _ _ refl refl
+done_clients s number c (Ruleset rights) fresh = own s number fresh _ _ _ refl refl
+done_clients s number c (Allow rs t rights) fresh = own s number fresh _ _ _ refl refl
+done_clients s number c (Confine rs) fresh = own s number fresh _ _ _ refl refl
+done_clients s number c Spawn fresh = inr (refl, (new_client c.domain, refl))
+done_clients s number c Connect fresh = own s number fresh _ _ _ refl refl
+
+step_clients : (s : State) (number : ℕ) (call : Call) (fresh : ℕ) → Touches s number fresh (step s number call fresh).0 (step s number call fresh).1.clients
+step_clients s number call fresh =
+    refused_or (λ r z. Touches s number fresh r z.clients) s (refusals s (client_of s number) call) (done s number (client_of s number) call fresh) (all_refusals s (client_of s number) call)
+    (λ r refuses. stand s number fresh r s.clients refuses.1 refl) (done_clients s number (client_of s number) call fresh)
 
 still_there : (b : Bool) (o : Option Client) (c : Client) → is_some o ≡ true → is_some (cond b (Some c) o) ≡ true
 still_there true o c h = refl
 still_there false o c h = h
 
+has_inserted : (m : Map nat_cmp Client) (k : ℕ) (x : Client) (other : ℕ) → has (insert m k x) other ≡ is_some (cond (eq_by_cmp nat_cmp other k) (Some x) (get m other))
+has_inserted m k x other = ap is_some (get-insert nat_cmp_total nat_cmp-IsAntisymmetric m k x other)
+
+stays : (m : Map nat_cmp Client) (k : ℕ) (x : Client) (clients : Map nat_cmp Client) (other : ℕ) → clients ≡ insert m k x → has m other ≡ true → has clients other ≡ true
+stays m k x clients other is h = ap (λ (n : Map nat_cmp Client). has n other) is ∙ has_inserted m k x other ∙ still_there (eq_by_cmp nat_cmp other k) (get m other) x h
+
 pub step-clients_stay : (s : State) (number : ℕ) (call : Call) (fresh other : ℕ) → has s.clients other ≡ true → has (step s number call fresh).1.clients other ≡ true
 step-clients_stay s number call fresh other h =
     elim (step_clients s number call fresh) [
-      | inl same ↦ ap (λ (m : Map nat_cmp Client). has m other) same ∙ h
-      | inr made ↦ ap (λ (m : Map nat_cmp Client). has m other) made.3
-          ∙ ap is_some (get-insert nat_cmp_total nat_cmp-IsAntisymmetric s.clients made.0 made.1 other) ∙ still_there (eq_by_cmp nat_cmp other made.0) (get s.clients other) made.1 h
+      | inl quiet ↦ elim quiet.1 [
+        | inl same ↦ ap (λ (m : Map nat_cmp Client). has m other) same ∙ h
+        | inr made ↦ stays s.clients number made.0 _ other made.1 h
+      ]
+      | inr made ↦ stays s.clients fresh made.1.0 _ other made.1.1 h
     ]
 
 beside : (b : Bool) (o : Option Client) (c : Client) → b ≡ false → is_some (cond b (Some c) o) ≡ is_some o
@@ -370,44 +520,90 @@ unequal m n differ = of (eq_by_cmp nat_cmp m n) refl
     of true e = absurd (differ (nat_cmp-IsAntisymmetric m n (equal_at _ e)))
     of false e = refl
 
-neither : (k other number fresh : ℕ) → (k ≡ number) ⊎ (k ≡ fresh) → other ≢ number → other ≢ fresh → other ≢ k
-neither k other number fresh (inl is) a b same = a (same ∙ is)
-neither k other number fresh (inr is) a b same = b (same ∙ is)
+untouched : (m : Map nat_cmp Client) (k : ℕ) (x : Client) (clients : Map nat_cmp Client) (other : ℕ) → clients ≡ insert m k x → other ≢ k → has clients other ≡ has m other
+untouched m k x clients other is differ =
+    ap (λ (n : Map nat_cmp Client). has n other) is ∙ has_inserted m k x other ∙ beside (eq_by_cmp nat_cmp other k) (get m other) x (unequal other k differ)
 
-pub step-no_other : (s : State) (number : ℕ) (call : Call) (fresh other : ℕ) → other ≢ number → other ≢ fresh → has (step s number call fresh).1.clients other ≡ has s.clients other
-step-no_other s number call fresh other a b =
+-- other clients stand as before, but for one that is told as spawned
+pub step-no_other : (s : State) (number : ℕ) (call : Call) (fresh other : ℕ) → other ≢ number → (step s number call fresh).0 ≢ Spawned other
+    → has (step s number call fresh).1.clients other ≡ has s.clients other
+step-no_other s number call fresh other a told =
     elim (step_clients s number call fresh) [
-      | inl same ↦ ap (λ (m : Map nat_cmp Client). has m other) same
-      | inr made ↦ ap (λ (m : Map nat_cmp Client). has m other) made.3
-          ∙ ap is_some (get-insert nat_cmp_total nat_cmp-IsAntisymmetric s.clients made.0 made.1 other)
-          ∙ beside (eq_by_cmp nat_cmp other made.0) (get s.clients other) made.1 (unequal other made.0 (neither made.0 other number fresh made.2 a b))
+      | inl quiet ↦ elim quiet.1 [
+        | inl same ↦ ap (λ (m : Map nat_cmp Client). has m other) same
+        | inr made ↦ untouched s.clients number made.0 _ other made.1 a
+      ]
+      | inr made ↦ untouched s.clients fresh made.1.0 _ other made.1.1 (λ same. told (made.0 ∙ ap Spawned (sym same)))
     ]
+
+no_spawn : (r : Reply) (number : ℕ) → is_spawned r ≡ false → r ≡ Spawned number → ⊥
+no_spawn r number quiet is = false≢true (sym quiet ∙ ap is_spawned is)
+
+-- a spawned client has the fresh number, and is there
+pub step-spawned : (s : State) (number : ℕ) (call : Call) (fresh told : ℕ) → (step s number call fresh).0 ≡ Spawned told → (told ≡ fresh) × (has (step s number call fresh).1.clients told ≡ true)
+step-spawned s number call fresh told is =
+    elim (step_clients s number call fresh) [
+      | inl quiet ↦ absurd (no_spawn _ told quiet.0 is)
+      | inr made ↦ (
+          let same : told ≡ fresh = (let both : Spawned told ≡ Spawned fresh = sym is ∙ made.0 in cc) in (
+            same,
+            ap (λ (m : Map nat_cmp Client). has m told) made.1.1 ∙ ap (λ k. has (insert s.clients fresh made.1.0) k) same
+                ∙ ap is_some (get-insert_same nat_cmp_total nat_cmp-IsAntisymmetric s.clients fresh made.1.0),
+          ))
+    ]
+
+opening_next : (s : State) (number : ℕ) (c : Client) (mode : Mode) (path : Path) → (after_opening s number c mode path).next ≤ s.next + 1
+opening_next s number c mode path = of (is_none (named s path))
+  where
+    of : (b : Bool) → (if b then with_client (with_node s Reg (slot_of s path)) number (with_opened s c mode path s.next)
+        else with_client (emptied s mode (inode_of s path)) number (with_opened s c mode path (inode_of s path))).next ≤ s.next + 1
+    of true = omega arith
+    of false = omega (arith, (emptied_beside s mode (inode_of s path)).next)
+
+closed_next : (s : State) (number : ℕ) (x : Client) (inode : ℕ) → (let_go (with_client s number x) inode).next ≡ s.next
+closed_next s number x inode = of (lives (with_client s number x) inode)
+  where
+    of : (b : Bool) → (if b then with_client s number x else record s { clients = insert s.clients number x; nodes = remove s.nodes inode }).next ≡ s.next
+    of true = refl
+    of false = refl
 
 done_next : (s : State) (number : ℕ) (c : Client) (call : Call) (fresh : ℕ) → (done s number c call fresh).1.next ≤ s.next + 1
 done_next s number c (Make kind t) fresh = omega arith
-done_next s number c (Open mode t) fresh = omega (arith, (emptied_beside s mode (path_of t)).next)
+done_next s number c (Open mode t) fresh = opening_next s number c mode (path_of t)
+done_next s number c (Read fd offset count) fresh = omega arith
+done_next s number c (Write fd offset bytes) fresh = omega (arith, (written_beside s (inode_at c fd) offset bytes).next)
+done_next s number c (Ftruncate fd size) fresh = omega (arith, (bytes_beside s (inode_at c fd) (resized (bytes_of s (inode_at c fd)) size)).next)
+done_next s number c (Close fd) fresh = omega (arith, closed_next s number (record c { descriptors = remove c.descriptors fd }) (inode_at c fd))
 done_next s number c (Truncate t size) fresh = omega (arith, (bytes_beside s (inode_of s (path_of t)) (resized (bytes_of s (inode_of s (path_of t))) size)).next)
 done_next s number c (ReadDir t) fresh = omega arith
 done_next s number c (Stat t) fresh = omega arith
 done_next s number c (Exec t) fresh = omega arith
 done_next s number c (Unlink t) fresh = omega (arith, (gone_beside s (slot_of s (path_of t)) (inode_of s (path_of t))).next)
 done_next s number c (Rmdir t) fresh = omega (arith, (gone_beside s (slot_of s (path_of t)) (inode_of s (path_of t))).next)
+done_next s number c (Rename o n) fresh = omega (arith, (renamed_beside s (slot_of s (path_of o)) (slot_of s (path_of n)) (inode_of s (path_of o)) (named s (path_of n))).next)
+done_next s number c (Link o n) fresh = omega arith
 done_next s number c (Ruleset rights) fresh = omega arith
 done_next s number c (Allow rs t rights) fresh = omega arith
 done_next s number c (Confine rs) fresh = omega arith
+done_next s number c Spawn fresh = omega arith
 done_next s number c Connect fresh = omega arith
 
 pub step-next : (s : State) (number : ℕ) (call : Call) (fresh : ℕ) → (step s number call fresh).1.next ≤ s.next + 1
-step-next s number call fresh = kept_or (λ z. z.next ≤ s.next + 1) s (refusals s (client_of s number) call) (done s number (client_of s number) call fresh) (omega arith) (done_next s number (client_of s number) call fresh)
+step-next s number call fresh =
+    refused_or (λ r z. z.next ≤ s.next + 1) s (refusals s (client_of s number) call) (done s number (client_of s number) call fresh) (all_refusals s (client_of s number) call)
+    (λ r refuses. omega arith) (done_next s number (client_of s number) call fresh)
 
 -- ---- want of memory or a step
 
 not_starved : (r : Reply) → Settles r → r ≢ Refused NoMemory
 not_starved Done h e = absurd cc
 not_starved (Opened n) h e = absurd cc
+not_starved (Bytes bytes) h e = absurd cc
+not_starved (Wrote n) h e = absurd cc
 not_starved (Listed names) h e = absurd cc
 not_starved (Found status) h e = absurd cc
 not_starved (Created n) h e = absurd cc
+not_starved (Spawned n) h e = absurd cc
 not_starved (Denied d) h e = absurd cc
 not_starved (Refused errno) h e = (let same : errno ≡ NoMemory = cc in let number = ap errno_number same in omega (arith, h.1))
 

@@ -12,6 +12,7 @@ use Rattle.ll_decide.specs.declared.denial.Cause.TheVariants.{EACCES}
 use Rattle.ll_decide.specs.declared.denial.Place.TheVariants.{At}
 use Rattle.ll_seq.specs.declared.call.AccessMode.{AccessMode}
 use Rattle.ll_seq.specs.declared.call.AccessMode.TheVariants.{Read, Write, ReadWrite}
+use Rattle.ll_seq.specs.declared.call.Creation.TheVariants.{Never}
 use Rattle.ll_seq.specs.declared.call.Mode.{Mode}
 use Rattle.ll_seq.specs.declared.call.Call.{Call}
 use Rattle.ll_seq.specs.declared.call.Call.TheVariants.{Make, Open, Ruleset, Allow, Confine, Connect}
@@ -43,7 +44,7 @@ abbrev path : List ℕ → Target
 path text = Good (names_in text)
 
 abbrev mode : AccessMode → Mode
-mode access = record { access = access; truncate = false }
+mode access = record { access = access; truncate = false; creation = Never }
 
 abbrev set : ℕ → Access
 set rights = record { 0 = rights }

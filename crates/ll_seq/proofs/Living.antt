@@ -1,24 +1,23 @@
 -- Nodes that change or go, and what stays.
-use Rattle.std.specs.Prelude.{◌≡◌, ℕ, ◌<◌, Bool, true, false, cond, if◌then◌else◌, List, [], Option, Some, None, unwrap_or, refl}
+use Rattle.std.specs.Prelude.{◌≡◌, ℕ, ◌<◌, Bool, true, false, cond, if◌then◌else◌, List, [], Option, Some, None, is_some, unwrap_or, refl}
 use Rattle.std.specs.Option.{option_map_or}
 use Rattle.std.proofs.Common.{ap, sym, ◌∙◌, inl, inr, arith}
 use Rattle.std.specs.Ordering.{nat_cmp, eq_by_cmp}
 use Rattle.std.specs.Cmp.{nat_cmp_total}
 use Rattle.std.specs.FinMap.{nat_cmp-IsAntisymmetric}
-use Rattle.ll_rights.specs.Map.{Map, get, insert, remove}
-use Rattle.ll_rights.proofs.Maps.{get-remove, got_inserted}
+use Rattle.ll_rights.specs.Map.{Map, get, has, insert, remove}
+use Rattle.ll_rights.proofs.Maps.{get-remove, get-insert_same, got_inserted}
 use Rattle.ll_seq.specs.declared.client.Client.{Client}
 use Rattle.ll_seq.specs.declared.client.Descriptor.{Descriptor}
 use Rattle.ll_seq.specs.declared.call.Mode.{Mode}
 use Rattle.ll_seq.specs.declared.node.Node.{Node}
 use Rattle.ll_path.specs.Path.{Path}
-use Rattle.ll_seq.specs.Call.{reads, writes}
-use Rattle.ll_seq.specs.State.{State, bytes_of}
-use Rattle.ll_seq.specs.Tree.{inode_of}
-use Rattle.ll_seq.specs.Asked.{kept_at}
+use Rattle.ll_seq.specs.State.{State, bytes_of, new_client}
 use Rattle.ll_seq.specs.Stages.{lowest_free}
-use Rattle.ll_seq.specs.Effects.{with_bytes, with_client, emptied, with_opened}
+use Rattle.ll_seq.specs.Effects.{with_bytes, with_client, emptied, opened, with_opened}
+use Rattle.ll_seq.specs.Step.{client_of}
 use Rattle.ll_seq.specs.Tables.{IsBelow}
+use Rattle.ll_seq.proofs.Tables.{remove-insert, insert_back}
 
 -- ---- numbers stay below the next
 
@@ -64,17 +63,33 @@ bytes_and_client s inode bytes number c = of (get s.nodes inode)
     of None = refl
     of (Some n) = refl
 
-pub emptied_client : (s : State) (mode : Mode) (path : Path) (inode number : ℕ) (c : Client) → mode.truncate ≡ true → inode_of s path ≡ inode
-    → with_bytes (with_client s number c) inode [] ≡ with_client (emptied s mode path) number c
-emptied_client s mode path inode number c truncates is =
-    bytes_and_client s inode [] number c ∙ (λ i. with_client (with_bytes s (sym is i) []) number c)
-    ∙ ap (λ b. with_client (if b then with_bytes s (inode_of s path) [] else s) number c) (sym truncates)
+pub emptied_client : (s : State) (mode : Mode) (inode number : ℕ) (c : Client) → mode.truncate ≡ true → with_bytes (with_client s number c) inode [] ≡ with_client (emptied s mode inode) number c
+emptied_client s mode inode number c truncates =
+    bytes_and_client s inode [] number c ∙ ap (λ b. with_client (if b then with_bytes s inode [] else s) number c) (sym truncates)
 
-pub kept_client : (s : State) (mode : Mode) (path : Path) (number : ℕ) (c : Client) → mode.truncate ≡ false → with_client s number c ≡ with_client (emptied s mode path) number c
-kept_client s mode path number c keeps = ap (λ b. with_client (if b then with_bytes s (inode_of s path) [] else s) number c) (sym keeps)
+pub kept_client : (s : State) (mode : Mode) (inode number : ℕ) (c : Client) → mode.truncate ≡ false → with_client s number c ≡ with_client (emptied s mode inode) number c
+kept_client s mode inode number c keeps = ap (λ b. with_client (if b then with_bytes s inode [] else s) number c) (sym keeps)
 
-pub opened_is : (s : State) (c : Client) (mode : Mode) (path : Path) (inode number : ℕ) (d : Descriptor) → lowest_free c.descriptors ≡ Some number → inode_of s path ≡ inode
-    → d ≡ record { inode = inode; reads = reads mode.access; writes = writes mode.access; kept = kept_at s c.domain path }
-    → record c { descriptors = insert c.descriptors number d } ≡ with_opened s c mode path
-opened_is s c mode path inode number d free is made =
-    (λ i. record c { descriptors = insert c.descriptors (unwrap_or (sym free i) 0) ((made ∙ ap (λ j. record { inode = j; reads = reads mode.access; writes = writes mode.access; kept = kept_at s c.domain path }) (sym is)) i) })
+pub opened_is : (s : State) (c : Client) (mode : Mode) (path : Path) (inode number : ℕ) (d : Descriptor) → lowest_free c.descriptors ≡ Some number → d ≡ opened s c mode path inode
+    → record c { descriptors = insert c.descriptors number d } ≡ with_opened s c mode path inode
+opened_is s c mode path inode number d free made = λ i. record c { descriptors = insert c.descriptors (unwrap_or (sym free i) 0) (made i) }
+
+-- ---- a descriptor given back
+
+module _ (s a : State) (n number : ℕ) (c : Client) (d : Descriptor) (taken : a ≡ with_client s n (record c { descriptors = insert c.descriptors number d })) where
+  abbrev holder : Client
+  holder = record c { descriptors = insert c.descriptors number d }
+
+  got_holder : get a.clients n ≡ Some holder
+  got_holder = ap (λ (z : State). get z.clients n) taken ∙ get-insert_same nat_cmp_total nat_cmp-IsAntisymmetric s.clients n holder
+
+  pub holder_there : has a.clients n ≡ true
+  holder_there = ap is_some got_holder
+
+  pub given_back : (after : State) → get s.clients n ≡ Some c → get c.descriptors number ≡ None
+      → after ≡ with_client a n (record (client_of a n) { descriptors = remove (client_of a n).descriptors number }) → after ≡ s
+  given_back after there free is =
+      is ∙ ap (λ (x : Client). with_client a n (record x { descriptors = remove x.descriptors number })) (ap (λ o. unwrap_or o (new_client [])) got_holder)
+      ∙ ap (λ m. with_client a n (record c { descriptors = m })) (remove-insert c.descriptors number d free)
+      ∙ ap (λ z. with_client z n c) taken
+      ∙ ap (λ m. record s { clients = m }) (insert_back nat_cmp_total nat_cmp-IsAntisymmetric s.clients n c holder there)

@@ -13,7 +13,7 @@ use Rattle.ll_seq.specs.Asked.{call_denials}
 use Rattle.ll_seq.specs.Stages.{text_refusals, number_refusals, relation_refusals, walk_refusals, existence_refusals, kind_refusals, limit_refusals}
 use Rattle.ll_seq.specs.Effects.{done}
 use Rattle.ll_seq.specs.Step.{step, first_or, refusals, client_of}
-use Rattle.ll_seq.specs.Deciding.{Comes}
+use Rattle.ll_seq.specs.Deciding.{Comes, ComesBy}
 use Rattle.ll_seq.specs.Fails.{Fails}
 
 -- ---- lists
@@ -105,8 +105,11 @@ module _ (s : State) (n : ℕ) (call : Call) where
       pub refused_after : (e : Errno) → slice_get late 0 ≡ Some e → Comes s n call (Refused e) s
       refused_after e h fresh = inl (sym (step_in_parts fresh [] [] late free (none_first policy allowed) refl ∙ alone late _ e h))
 
+      pub does_by : late ≡ [] → (fresh : ℕ) (reply : Reply) (after : State) → ◌≡◌ {A = Reply × State} (reply, after) (done s n (client_of s n) call fresh) → ComesBy fresh s n call reply after
+      does_by fits fresh reply after same = inl (same ∙ sym (step_in_parts fresh [] [] [] free (none_first policy allowed) fits))
+
       pub does : late ≡ [] → (reply : Reply) (after : State) → ((fresh : ℕ) → ◌≡◌ {A = Reply × State} (reply, after) (done s n (client_of s n) call fresh)) → Comes s n call reply after
-      does fits reply after same fresh = inl (same fresh ∙ sym (step_in_parts fresh [] [] [] free (none_first policy allowed) fits))
+      does fits reply after same fresh = does_by fits fresh reply after (same fresh)
 
       pub starves : late ≡ [] → (after : State) → after ≡ s → Comes s n call (Refused NoMemory) after
       starves fits after same fresh = inr (refl, same, in_parts ∙ (λ i. parts (free i) (none_first policy allowed i) (fits i)))

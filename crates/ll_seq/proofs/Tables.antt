@@ -1,5 +1,5 @@
 -- Tables of rows in order.
-use Rattle.std.proofs.Common.{◌≡◌, ℕ, suc, ◌<◌, Bool, true, false, cond, List, ◌∷◌, length, drop, get_or, Option, Some, None, refl, ap, sym, ◌∙◌, ◌+◌, inl, inr, arith}
+use Rattle.std.proofs.Common.{◌≡◌, ◌≢◌, ℕ, suc, ◌<◌, Bool, true, false, cond, List, ◌∷◌, length, drop, get_or, Option, Some, None, refl, ap, sym, ◌∙◌, ◌+◌, inl, inr, arith}
 use Rattle.std.specs.Prelude.{is_some, slice_get, slice_set, remove as remove_at}
 use Rattle.std.specs.declared.cmp.Ordering.{Ordering}
 use Rattle.std.specs.Ordering.{nat_cmp, is_eq, eq_by_cmp}
@@ -48,6 +48,10 @@ module _ {K V : Type 0} {R : K → K → Ordering} where
   got_row rows seen m k i row is s same found value =
       got rows seen m k is s same ∙ found.1 ∙ ap (λ (r : K × V). Some r.1) (sym (row_at rows seen k i row found.0 same found.2 value))
 
+-- keys at which a map answers differently are two
+pub two_keys : {K V : Type 0} {R : K → K → Ordering} (m : Map R V) (k j : K) (x y : Option V) → get m k ≡ x → get m j ≡ y → x ≢ y → k ≢ j
+two_keys m k j x y at_k at_j differ same = differ (sym at_k ∙ ap (get m) same ∙ at_j)
+
 module _ {K V : Type 0} {R : K → K → Ordering} (o : IsTotalOrder R) (exact : IsAntisymmetric R) where
   stays : (m : Map R V) (k q : K) (b : Bool) → get m k ≡ None → eq_by_cmp R q k ≡ b → cond b None (get m q) ≡ get m q
   stays m k q true none tied = sym none ∙ ap (get m) (sym (exact q k (equal_at _ tied)))
@@ -65,6 +69,32 @@ module _ {K V : Type 0} {R : K → K → Ordering} (o : IsTotalOrder R) (exact :
   pub as_before : (rows seen : List (K × V)) (m : Map R V) (k : K) → from_sorted rows ≡ m → is_sorted R rows ≡ true → seen ≡ rows → find R k seen ≡ None → m ≡ remove m k
   as_before rows seen m k is s same none = sym (remove-absent m k (got rows seen m k is s same ∙ none))
 
+  -- a key's value put in the place of another one, and put back
+  put_back : (m : Map R V) (k q : K) (v w : V) (b : Bool) → get m k ≡ Some v → eq_by_cmp R q k ≡ b → cond b (Some v) (cond b (Some w) (get m q)) ≡ get m q
+  put_back m k q v w true there tied = sym there ∙ ap (get m) (sym (exact q k (equal_at _ tied)))
+  put_back m k q v w false there tied = refl
+
+  pub insert_back : (m : Map R V) (k : K) (v w : V) → get m k ≡ Some v → insert (insert m k w) k v ≡ m
+  insert_back m k v w there =
+      same_list_map _ _ (same_map o exact (insert (insert m k w) k v) m (λ q.
+      get-insert o exact (insert m k w) k v q
+      ∙ ap (λ x. cond (eq_by_cmp R q k) (Some v) x) (get-insert o exact m k w q)
+      ∙ put_back m k q v w (eq_by_cmp R q k) there refl))
+
+  -- a key put in and another one taken out, in any order
+  apart : (a b : Bool) (v : V) (x : Option V) → (a ≡ true → b ≡ true → ⊥) → cond a None (cond b (Some v) x) ≡ cond b (Some v) (cond a None x)
+  apart true true v x differ = absurd (differ refl refl)
+  apart true false v x differ = refl
+  apart false b v x differ = refl
+
+  pub remove-insert_other : (m : Map R V) (k j : K) (v : V) → (k ≢ j) → remove (insert m k v) j ≡ insert (remove m j) k v
+  remove-insert_other m k j v differ =
+      same_list_map _ _ (same_map o exact (remove (insert m k v) j) (insert (remove m j) k v) (λ q.
+      get-remove o exact (insert m k v) j q
+      ∙ ap (λ x. cond (eq_by_cmp R q j) None x) (get-insert o exact m k v q)
+      ∙ apart (eq_by_cmp R q j) (eq_by_cmp R q k) v (get m q) (λ at_j at_k. differ (sym (exact q k (equal_at _ at_k)) ∙ exact q j (equal_at _ at_j)))
+      ∙ sym (get-insert o exact (remove m j) k v q ∙ ap (λ x. cond (eq_by_cmp R q k) (Some v) x) (get-remove o exact m j q))))
+
 module _ {V : Type 0} where
   back_again : (m : Map nat_cmp V) (k q : ℕ) (v : V) (b : Bool) → get m k ≡ None → eq_by_cmp nat_cmp q k ≡ b → cond b None (cond b (Some v) (get m q)) ≡ get m q
   back_again m k q v true none tied = sym none ∙ ap (get m) (sym (nat_cmp-IsAntisymmetric q k (equal_at _ tied)))
@@ -79,23 +109,38 @@ module _ {V : Type 0} where
 
 -- ---- a row with another value
 
-pub record Changed {V : Type 0} (rows : List (ℕ × V)) (m : Map nat_cmp V) (k i : ℕ) (row : ℕ × V) (w : V) : Type 0 where
-  pub got : get m k ≡ Some row.1
-  pub sorted : is_sorted nat_cmp (slice_set rows i (row.0, w)) ≡ true
-  pub whole : from_sorted (slice_set rows i (row.0, w)) ≡ insert m k w
+module _ {K V : Type 0} {R : K → K → Ordering} (o : IsTotalOrder R) where
+  pub record Changed (rows : List (K × V)) (m : Map R V) (k : K) (i : ℕ) (row : K × V) (w : V) : Type 0 where
+    pub got : get m k ≡ Some row.1
+    pub sorted : is_sorted R (slice_set rows i (row.0, w)) ≡ true
+    pub whole : from_sorted (slice_set rows i (row.0, w)) ≡ insert m k w
 
-module _ {V : Type 0} where
-  pub changed : (rows seen : List (ℕ × V)) (m : Map nat_cmp V) (k i : ℕ) (row : ℕ × V) (w : V) → from_sorted rows ≡ m → is_sorted nat_cmp rows ≡ true → seen ≡ rows
-      → (v : V) × (find nat_cmp k seen ≡ Some v) × (slice_get seen i ≡ Some (k, v)) → row ≡ get_or rows i row → Changed rows m k i row w
+  pub changed : (rows seen : List (K × V)) (m : Map R V) (k : K) (i : ℕ) (row : K × V) (w : V) → from_sorted rows ≡ m → is_sorted R rows ≡ true → seen ≡ rows
+      → (v : V) × (find R k seen ≡ Some v) × (slice_get seen i ≡ Some (k, v)) → row ≡ get_or rows i row → Changed rows m k i row w
   changed rows seen m k i row w is s same found value =
       let row_is = row_at rows seen k i row found.0 same found.2 value in
-      let over = replaced nat_cmp_total rows (slice_set rows i (row.0, w)) m k found.0 w i is s (ap (λ rs. slice_get rs i) (sym same) ∙ found.2) (ap (λ (r : ℕ × V). slice_set rows i (r.0, w)) row_is) in
+      let over = replaced o rows (slice_set rows i (row.0, w)) m k found.0 w i is s (ap (λ rs. slice_get rs i) (sym same) ∙ found.2) (ap (λ (r : K × V). slice_set rows i (r.0, w)) row_is) in
       record {
         got = got_row rows seen m k i row is s same found value;
         sorted = over.0;
         whole = over.1;
       }
 
+-- ---- the value of a key changed by what it was
+
+abbrev pub instead : {K V : Type 0} {R : K → K → Ordering} → Map R V → K → V → Map R V
+instead {V = V} m k w = option_map_or (λ (old : V). insert m k w) (get m k) m
+
+module _ {K V : Type 0} {R : K → K → Ordering} where
+  pub instead_there : (m after : Map R V) (k : K) (v w : V) → get m k ≡ Some v → after ≡ insert m k w → after ≡ instead m k w
+  instead_there m after k v w there is = is ∙ sym (ap (λ o. option_map_or (λ (old : V). insert m k w) o m) there)
+
+  pub instead_absent : (m : Map R V) (k : K) (w : V) → get m k ≡ None → m ≡ instead m k w
+  instead_absent m k w missing = sym (ap (λ o. option_map_or (λ (old : V). insert m k w) o m) missing)
+
+-- ---- numbers that are missing
+
+module _ {V : Type 0} where
   pub not_missing : (rows seen : List (ℕ × V)) (m : Map nat_cmp V) (k : ℕ) → from_sorted rows ≡ m → is_sorted nat_cmp rows ≡ true → seen ≡ rows → has m k ≡ true → find nat_cmp k seen ≡ None → ⊥
   not_missing rows seen m k is s same there none =
       let gone : get m k ≡ None = got rows seen m k is s same ∙ none in

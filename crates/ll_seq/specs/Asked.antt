@@ -1,19 +1,23 @@
 -- What a call asks of each layer.
-use Rattle.std.specs.Prelude.{ℕ, Bool, List, [], ◌∷◌, ◌++◌, Option, None, option_map}
-use Rattle.ll_rights.specs.Kind.{make_right}
+use Rattle.std.specs.Prelude.{ℕ, Bool, not, List, [], ◌∷◌, ◌++◌, Option, Some, None, is_some, ◌==◌, ◌&&◌, option_map, option_and_then, option_to_list, if◌then◌else◌}
+use Rattle.ll_rights.specs.Kind.{make_right, remove_right, relevant}
+use Rattle.ll_rights.specs.Map.{get}
 use Rattle.ll_rights.specs.Right as right
 use Rattle.ll_path.specs.Path.{Path, parent}
 use Rattle.ll_rules.specs.Layer.{Layer, grants_on}
+use Rattle.ll_decide.specs.declared.denial.Cause.TheVariants.{EACCES}
 use Rattle.ll_decide.specs.declared.denial.Denial.{Denial}
 use Rattle.ll_decide.specs.declared.denial.Place.{Place}
-use Rattle.ll_decide.specs.declared.denial.Place.TheVariants.{At}
-use Rattle.ll_decide.specs.Verdict.{Ask, when, all_denials, verdict}
+use Rattle.ll_decide.specs.declared.denial.Place.TheVariants.{At, Old, New}
+use Rattle.ll_decide.specs.Verdict.{Ask, Move, when, all_denials, verdict}
 use Rattle.ll_seq.specs.declared.client.Client.{Client}
+use Rattle.ll_seq.specs.declared.client.Descriptor.{Descriptor}
+use Rattle.ll_seq.specs.declared.call.Mode.{Mode}
 use Rattle.ll_seq.specs.declared.call.Call.{Call}
-use Rattle.ll_seq.specs.declared.call.Call.TheVariants.{Make, Open, Truncate, ReadDir, Exec, Unlink, Rmdir}
+use Rattle.ll_seq.specs.declared.call.Call.TheVariants.{Make, Open, Ftruncate, Truncate, ReadDir, Exec, Unlink, Rmdir, Rename, Link}
 use Rattle.ll_seq.specs.Call.{reads, writes, path_of}
 use Rattle.ll_seq.specs.State.{State}
-use Rattle.ll_seq.specs.Tree.{ancestors}
+use Rattle.ll_seq.specs.Tree.{ancestors, named, directory_of, kind_at}
 
 -- the layer grants the right on the path. landlock.rst, "Landlock rules"
 abbrev pub grants : State → Layer → Path → ℕ → Bool
@@ -22,23 +26,61 @@ grants s layer path right = grants_on layer (ancestors s path) right
 abbrev pub ask : Path → ℕ → Place → Ask Path
 ask path right place = record { path = path; right = right; place = place }
 
+-- the last names of the paths stand in different directories
+abbrev pub parents_differ : State → Path → Path → Bool
+parents_differ s old new = not (directory_of s old == directory_of s new)
+
+-- linux/landlock.h, LANDLOCK_ACCESS_FS_REFER: on the directory that is left and on the one that is entered
+abbrev pub refer_asked : State → Path → Path → List (Ask Path)
+refer_asked s old new = when (parents_differ s old new) (ask (parent old) right.refer Old ∷ ask (parent new) right.refer New ∷ [])
+
+-- the name that a rename replaces is removed too
+abbrev pub replaced_asked : State → Path → List (Ask Path)
+replaced_asked s new = when (is_some (named s new)) (ask (parent new) (remove_right (kind_at s new)) New ∷ [])
+
+-- A missing file is made: that is asked of its directory, and the rest of the path as it will be. A new file isn't truncated
+abbrev pub opening_asked : Mode → Path → Bool → List (Ask Path)
+opening_asked mode path exists =
+    when (not exists) (ask (parent path) right.make_reg At ∷ [])
+    ++ when (reads mode.access) (ask path right.read_file At ∷ [])
+    ++ when (writes mode.access) (ask path right.write_file At ∷ [])
+    ++ when (mode.truncate && exists) (ask path right.truncate At ∷ [])
+
 -- linux/landlock.h, "Filesystem flags": what each right allows. An exec opens the file for reading
-abbrev pub asked : Call → List (Ask Path)
-asked (Make kind target) = ask (parent (path_of target)) (make_right kind) At ∷ []
-asked (Open mode target) =
-    when (reads mode.access) (ask (path_of target) right.read_file At ∷ [])
-    ++ when (writes mode.access) (ask (path_of target) right.write_file At ∷ [])
-    ++ when mode.truncate (ask (path_of target) right.truncate At ∷ [])
-asked (Truncate target size) = ask (path_of target) right.truncate At ∷ []
-asked (ReadDir target) = ask (path_of target) right.read_dir At ∷ []
-asked (Exec target) = ask (path_of target) right.execute At ∷ ask (path_of target) right.read_file At ∷ []
-asked (Unlink target) = ask (parent (path_of target)) right.remove_file At ∷ []
-asked (Rmdir target) = ask (parent (path_of target)) right.remove_dir At ∷ []
-asked _ = []
+abbrev pub asked : State → Call → List (Ask Path)
+asked s (Make kind target) = ask (parent (path_of target)) (make_right kind) At ∷ []
+asked s (Open mode target) = opening_asked mode (path_of target) (is_some (named s (path_of target)))
+asked s (Truncate target size) = ask (path_of target) right.truncate At ∷ []
+asked s (ReadDir target) = ask (path_of target) right.read_dir At ∷ []
+asked s (Exec target) = ask (path_of target) right.execute At ∷ ask (path_of target) right.read_file At ∷ []
+asked s (Unlink target) = ask (parent (path_of target)) right.remove_file At ∷ []
+asked s (Rmdir target) = ask (parent (path_of target)) right.remove_dir At ∷ []
+asked s (Rename old new) =
+    ask (parent (path_of old)) (remove_right (kind_at s (path_of old))) Old
+    ∷ ask (parent (path_of new)) (make_right (kind_at s (path_of old))) New
+    ∷ replaced_asked s (path_of new) ++ refer_asked s (path_of old) (path_of new)
+asked s (Link old new) = ask (parent (path_of new)) (make_right (kind_at s (path_of old))) New ∷ refer_asked s (path_of old) (path_of new)
+asked s _ = []
+
+-- Between directories the node moves, and may gain no right that means something for it
+abbrev pub move_between : State → Path → Path → Option (Move Path)
+move_between s old new = if parents_differ s old new then Some (record { from = old; into = parent new; relevant = relevant (kind_at s old) }) else None
+
+abbrev pub moved : State → Call → Option (Move Path)
+moved s (Rename old new) = move_between s (path_of old) (path_of new)
+moved s (Link old new) = move_between s (path_of old) (path_of new)
+moved s _ = None
+
+-- whether a descriptor's file may be truncated stands since it was opened. landlock.rst, "Truncating files"
+abbrev pub kept_denials : Option Descriptor → List Denial
+kept_denials descriptor =
+    option_to_list (option_map (λ (layer : ℕ). record { cause = EACCES; layer = layer; right = right.truncate; place = At })
+    (option_and_then (λ (d : Descriptor). d.kept) descriptor))
 
 -- the denials of a call, of which the first is given
 abbrev pub call_denials : State → Client → Call → List Denial
-call_denials s c call = all_denials (grants s) c.domain (asked call) None
+call_denials s c (Ftruncate number size) = kept_denials (get c.descriptors number)
+call_denials s c call = all_denials (grants s) c.domain (asked s call) (moved s call)
 
 -- What an opening keeps: the number of the oldest layer that would deny truncate on the path, if there is one.
 -- landlock.rst, "Truncating files"

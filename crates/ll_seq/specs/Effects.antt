@@ -1,16 +1,17 @@
 -- What a call that isn't refused answers and does.
-use Rattle.std.specs.Prelude.{ℕ, ◌+◌, ◌-◌, Bool, not, ◌||◌, List, [], ◌∷◌, ◌++◌, length, take, replicate, ◌==◌, unwrap_or, slice_set, if◌then◌else◌}
+use Rattle.std.specs.Prelude.{ℕ, ◌+◌, ◌-◌, Bool, not, ◌||◌, Option, Some, None, List, [], ◌∷◌, ◌++◌, length, take, drop, replicate, is_none, ◌==◌, unwrap_or, slice_set, if◌then◌else◌}
 use Rattle.std.specs.Option.{option_map_or}
 use Rattle.ll_rights.specs.declared.kind.Kind.{Kind}
+use Rattle.ll_rights.specs.declared.kind.Kind.TheVariants.{Reg}
 use Rattle.ll_rights.specs.Kind.{is_dir}
 use Rattle.ll_rights.specs.Map.{get, insert, remove}
 use Rattle.ll_path.specs.Path.{Path, last_name}
 use Rattle.ll_rules.specs.Rules.{new_ruleset, with_rule}
 use Rattle.ll_seq.specs.declared.call.Mode.{Mode}
 use Rattle.ll_seq.specs.declared.call.Call.{Call}
-use Rattle.ll_seq.specs.declared.call.Call.TheVariants.{Make, Open, Truncate, ReadDir, Stat, Exec, Unlink, Rmdir, Ruleset, Allow, Confine, Connect}
+use Rattle.ll_seq.specs.declared.call.Call.TheVariants.{Make, Open, Read, Write, Ftruncate, Close, Truncate, ReadDir, Stat, Exec, Unlink, Rmdir, Rename, Link, Ruleset, Allow, Confine, Spawn, Connect}
 use Rattle.ll_seq.specs.declared.reply.Reply.{Reply}
-use Rattle.ll_seq.specs.declared.reply.Reply.TheVariants.{Done, Opened, Listed, Found, Created}
+use Rattle.ll_seq.specs.declared.reply.Reply.TheVariants.{Done, Opened, Bytes, Wrote, Listed, Found, Created, Spawned}
 use Rattle.ll_seq.specs.declared.client.Client.{Client}
 use Rattle.ll_seq.specs.declared.client.Descriptor.{Descriptor}
 use Rattle.ll_seq.specs.declared.entries.Slot.{Slot}
@@ -18,7 +19,7 @@ use Rattle.ll_seq.specs.declared.node.Node.{Node}
 use Rattle.ll_seq.specs.declared.reply.Status.{Status}
 use Rattle.ll_seq.specs.Call.{reads, writes, path_of}
 use Rattle.ll_seq.specs.State.{State, root, slot, empty_node, new_client, bytes_of, names_in, name_count, is_open}
-use Rattle.ll_seq.specs.Tree.{inode_of, directory_of, kind_at}
+use Rattle.ll_seq.specs.Tree.{named, inode_of, directory_of, kind_at}
 use Rattle.ll_seq.specs.Asked.{kept_at}
 use Rattle.ll_seq.specs.Stages.{lowest_free, ruleset_at}
 
@@ -40,9 +41,26 @@ let_go s inode = if lives s inode then s else record s { nodes = remove s.nodes 
 abbrev pub without_name : State → Slot → ℕ → State
 without_name s at inode = let_go (record s { entries = remove s.entries at }) inode
 
+-- the inode has one name more. link(2)
+abbrev pub with_name : State → Slot → ℕ → State
+with_name s at inode = record s { entries = insert s.entries at inode }
+
+-- the inode has the new name in the place of the old one
+abbrev pub with_moved : State → Slot → Slot → ℕ → State
+with_moved s old new inode = with_name (record s { entries = remove s.entries old }) new inode
+
+-- What the new name stood for, if anything, loses it in the same step. One node under both names keeps both. rename(2)
+abbrev pub renamed : State → Slot → Slot → ℕ → Option ℕ → State
+renamed s old new inode None = with_moved s old new inode
+renamed s old new inode (Some replaced) = if inode == replaced then s else let_go (with_moved s old new inode) replaced
+
 -- cut to the length, or filled with zeros to it. truncate(2)
 abbrev pub resized : List ℕ → ℕ → List ℕ
 resized bytes size = take size (bytes ++ replicate (size - length bytes) 0)
+
+-- these bytes from the offset on, over what stood there. A gap before them is zeros. write(2), lseek(2)
+abbrev pub overwritten : List ℕ → ℕ → List ℕ → List ℕ
+overwritten old offset bytes = resized old offset ++ bytes ++ drop (offset + length bytes) old
 
 abbrev pub with_bytes : State → ℕ → List ℕ → State
 with_bytes s inode bytes = option_map_or (λ (n : Node). record s { nodes = insert s.nodes inode (record n { bytes = bytes }) }) (get s.nodes inode) s
@@ -54,29 +72,52 @@ status_of s inode kind = record { inode = inode; kind = kind; size = length (byt
 abbrev pub with_client : State → ℕ → Client → State
 with_client s number c = record s { clients = insert s.clients number c }
 
-abbrev pub opened : State → Client → Mode → Path → Descriptor
-opened s c mode path = record { inode = inode_of s path; reads = reads mode.access; writes = writes mode.access; kept = kept_at s c.domain path }
+-- the inode of the descriptor's file
+abbrev pub inode_at : Client → ℕ → ℕ
+inode_at c number = option_map_or (λ (d : Descriptor). d.inode) (get c.descriptors number) 0
+
+-- what an opening of the path gives; the inode is that of the file
+abbrev pub opened : State → Client → Mode → Path → ℕ → Descriptor
+opened s c mode path inode = record { inode = inode; reads = reads mode.access; writes = writes mode.access; kept = kept_at s c.domain path }
 
 -- the lowest free descriptor becomes the file's. open(2)
-abbrev pub with_opened : State → Client → Mode → Path → Client
-with_opened s c mode path = record c { descriptors = insert c.descriptors (unwrap_or (lowest_free c.descriptors) 0) (opened s c mode path) }
+abbrev pub with_opened : State → Client → Mode → Path → ℕ → Client
+with_opened s c mode path inode = record c { descriptors = insert c.descriptors (unwrap_or (lowest_free c.descriptors) 0) (opened s c mode path inode) }
 
--- the tree that an opening leaves: with t the file is empty
-abbrev pub emptied : State → Mode → Path → State
-emptied s mode path = if mode.truncate then with_bytes s (inode_of s path) [] else s
+-- the tree that an opening of a file leaves that is there: with t the file is empty
+abbrev pub emptied : State → Mode → ℕ → State
+emptied s mode inode = if mode.truncate then with_bytes s inode [] else s
+
+-- a missing file is made
+abbrev pub after_opening : State → ℕ → Client → Mode → Path → State
+after_opening s number c mode path =
+    if is_none (named s path)
+    then with_client (with_node s Reg (slot_of s path)) number (with_opened s c mode path s.next)
+    else with_client (emptied s mode (inode_of s path)) number (with_opened s c mode path (inode_of s path))
+
+-- no bytes change nothing. write(2)
+abbrev pub written : State → ℕ → ℕ → List ℕ → State
+written s inode offset bytes = if length bytes == 0 then s else with_bytes s inode (overwritten (bytes_of s inode) offset bytes)
 
 -- the reply and the next state. number: the caller's. fresh: the number that a spawned client gets
 abbrev pub done : State → ℕ → Client → Call → ℕ → Reply × State
 done s number c (Make kind target) fresh = (Done, with_node s kind (slot_of s (path_of target)))
-done s number c (Open mode target) fresh = (Opened (unwrap_or (lowest_free c.descriptors) 0), with_client (emptied s mode (path_of target)) number (with_opened s c mode (path_of target)))
+done s number c (Open mode target) fresh = (Opened (unwrap_or (lowest_free c.descriptors) 0), after_opening s number c mode (path_of target))
+done s number c (Read fd offset count) fresh = (Bytes (take count (drop offset (bytes_of s (inode_at c fd)))), s)
+done s number c (Write fd offset bytes) fresh = (Wrote (length bytes), written s (inode_at c fd) offset bytes)
+done s number c (Ftruncate fd size) fresh = (Done, with_bytes s (inode_at c fd) (resized (bytes_of s (inode_at c fd)) size))
+done s number c (Close fd) fresh = (Done, let_go (with_client s number (record c { descriptors = remove c.descriptors fd })) (inode_at c fd))
 done s number c (Truncate target size) fresh = (Done, with_bytes s (inode_of s (path_of target)) (resized (bytes_of s (inode_of s (path_of target))) size))
 done s number c (ReadDir target) fresh = (Listed (names_in s (inode_of s (path_of target))), s)
 done s number c (Stat target) fresh = (Found (status_of s (inode_of s (path_of target)) (kind_at s (path_of target))), s)
 done s number c (Exec target) fresh = (Done, s)
 done s number c (Unlink target) fresh = (Done, without_name s (slot_of s (path_of target)) (inode_of s (path_of target)))
 done s number c (Rmdir target) fresh = (Done, without_name s (slot_of s (path_of target)) (inode_of s (path_of target)))
+done s number c (Rename old new) fresh = (Done, renamed s (slot_of s (path_of old)) (slot_of s (path_of new)) (inode_of s (path_of old)) (named s (path_of new)))
+done s number c (Link old new) fresh = (Done, with_name s (slot_of s (path_of new)) (inode_of s (path_of old)))
 done s number c (Ruleset rights) fresh = (Created (length c.rulesets), with_client s number (record c { rulesets = c.rulesets ++ new_ruleset rights.0 ∷ [] }))
 done s number c (Allow rs target rights) fresh =
     (Done, with_client s number (record c { rulesets = slice_set c.rulesets rs (with_rule (ruleset_at c rs) (inode_of s (path_of target)) rights.0) }))
 done s number c (Confine rs) fresh = (Done, with_client s number (record c { domain = c.domain ++ ruleset_at c rs ∷ [] }))
+done s number c Spawn fresh = (Spawned fresh, with_client s fresh (new_client c.domain))
 done s number c Connect fresh = (Done, with_client s number (new_client []))

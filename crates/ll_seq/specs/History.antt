@@ -4,7 +4,7 @@ use Rattle.ll_rights.specs.Map.{has}
 use Rattle.ll_seq.specs.declared.call.Call.{Call}
 use Rattle.ll_seq.specs.declared.call.Call.TheVariants.{Connect}
 use Rattle.ll_seq.specs.declared.reply.Reply.{Reply}
-use Rattle.ll_seq.specs.declared.reply.Reply.TheVariants.{Done}
+use Rattle.ll_seq.specs.declared.reply.Reply.TheVariants.{Done, Spawned}
 use Rattle.ll_seq.specs.declared.reply.Entry.{Entry}
 use Rattle.ll_seq.specs.State.{State}
 use Rattle.ll_seq.specs.Step.{step}
@@ -13,9 +13,13 @@ abbrev pub is_connect : Call → Bool
 is_connect Connect = true
 is_connect _ = false
 
--- no call of an entry brings another client yet, so which number it would get doesn't matter
+-- the number that a spawned client got
+abbrev pub fresh_of : Reply → ℕ
+fresh_of (Spawned number) = number
+fresh_of _ = 0
+
 abbrev pub outcome_of : State → Entry → Reply × State
-outcome_of s e = step s e.client e.call 0
+outcome_of s e = step s e.client e.call (fresh_of e.reply)
 
 abbrev pub after : State → Entry → State
 after s e = (outcome_of s e).1
@@ -25,6 +29,8 @@ pub record MayStand (s : State) (e : Entry) : Type 0 where
   -- the caller is there, but for a connect, which brings it
   pub caller : has s.clients e.client ≡ not (is_connect e.call)
   pub connected : IsTrue (is_connect e.call) → e.reply ≡ Done
+  -- a spawned client's number is one that no client had
+  pub spawned : (number : ℕ) → e.reply ≡ Spawned number → has s.clients number ≡ false
   pub answered : (outcome_of s e).0 ≡ e.reply
 
 -- the entries are the calls of one tree, one after the other, each with the reply that it got

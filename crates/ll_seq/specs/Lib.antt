@@ -5,6 +5,8 @@ pub mod Deciding
 pub mod Effects
 pub mod Fails
 pub mod History
+pub mod Reach
+pub mod Reaching
 pub mod Stages
 pub mod State
 pub mod Step

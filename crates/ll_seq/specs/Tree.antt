@@ -31,6 +31,10 @@ ancestors s path = chain_from s path root
 abbrev pub directory_of : State → Path → ℕ
 directory_of s path = inode_of s (parent path)
 
--- the kind of the node that the path names. (No path lacks one where this is asked)
+-- the node's kind. (No number is without a node where this is asked)
+abbrev pub kind_or_file : State → ℕ → Kind
+kind_or_file s inode = unwrap_or (kind_of s inode) Reg
+
+-- the kind of the node that the path names
 abbrev pub kind_at : State → Path → Kind
-kind_at s path = unwrap_or (kind_of s (inode_of s path)) Reg
+kind_at s path = kind_or_file s (inode_of s path)

@@ -108,12 +108,12 @@ impl Client {
     ghost use Rattle.ll_seq.specs.State.{new_client};
     ghost use Rattle.ll_seq.specs.Stages.{lowest_free, ruleset_at};
 
-    /// A client without layers.
-    pub fn new(alloc: Global) -> Client
-        ensures { result ≡ new_client [] }
+    /// A client under these layers, without rulesets and descriptors.
+    pub fn new(alloc: Global, domain: Domain) -> Client
+        ensures { result ≡ new_client domain }
     {
         Client {
-            domain: Domain::empty(alloc),
+            domain,
             rulesets: Rulesets::new(alloc),
             descriptors: Table::new(alloc),
         }

@@ -3,7 +3,7 @@
 ghost use Rattle.std.specs.Prelude.{◌≡◌, ◌+◌, ◌<◌, [], ◌∷◌, ◌++◌, ◌==◌, ℕ, length, nat_le, IfOk, IfErr, OnOk, OnErr, Some, true, slice_get, slice_set, is_none};
 ghost use Rattle.std.specs.List.{list_any};
 ghost use Rattle.ll_rights.specs.Errno.{refuse};
-ghost use Rattle.ll_rights.specs.Map.{get, has, insert, entries};
+ghost use Rattle.ll_rights.specs.Map.{get, has, insert, remove, entries};
 ghost use Rattle.ll_rules.specs.Layer.{Layer};
 ghost use Rattle.ll_rules.specs.Rules.{create_refusals, new_ruleset, rule_refusals, rule_limit, with_rule, layer_limit};
 ghost use Rattle.ll_seq.specs.Stages.{lowest_free, ruleset_at};
@@ -57,6 +57,18 @@ impl Table<Client> {
         };
         let row = &mut self.rows[i];
         row.1.open(descriptor)
+    }
+
+    /// Frees the client's descriptor.
+    pub(crate) fn close(&mut self, client: u64, number: u64)
+        requires { has self.old client ≡ true }
+        ensures { (c : record_of.Client) → get self.old client ≡ Some c → self.new ≡ insert self.old client (record c { descriptors = remove c.descriptors number }) }
+    {
+        let Some(i) = index_of(&self.rows, client) else {
+            unreachable!();
+        };
+        let row = &mut self.rows[i];
+        row.1.descriptors.remove(number);
     }
 
     /// Makes a ruleset of the client's that handles these rights.

@@ -1,6 +1,6 @@
 //! Directory entries.
 
-ghost use Rattle.std.specs.Prelude.{◌≡◌, ◌+◌, ◌<◌, ℕ, Some, None, IfSome, IfNone, IfOk, OnOk, OnErr, length, slice_get};
+ghost use Rattle.std.specs.Prelude.{◌≡◌, ◌+◌, ◌^◌, ◌<◌, ℕ, Some, None, IfSome, IfNone, IfOk, OnOk, OnErr, length, slice_get};
 ghost use Rattle.std.specs.FinMap.Entries.{find};
 ghost use Rattle.ll_rights.proofs.Places.{place};
 ghost use Rattle.ll_seq.specs.State.{slot, slot_cmp};
@@ -78,6 +78,7 @@ fn place_of(rows: &[(Slot, u64)], directory: u64, name: &str) -> usize
 
 impl Entries {
     ghost use Rattle.std.specs.Prelude.{filter, map, ◌==◌};
+    ghost use Rattle.std.specs.Option.{option_map_or};
     ghost use Rattle.ll_rights.specs.Map.{empty, get, insert, remove, entries};
     ghost use Rattle.ll_seq.specs.declared.entries.Slot as slots;
 
@@ -95,6 +96,21 @@ impl Entries {
     {
         let i = index_of(&self.rows, directory, name)?;
         Some(self.rows[i].1)
+    }
+
+    /// How many entries there are.
+    pub(crate) fn len(&self) -> usize
+        ensures len { result ≡ length (entries self.now) }
+        ensures most { result < 2 ^ 63 }
+    {
+        self.rows.len()
+    }
+
+    /// The entries in order.
+    pub(crate) fn rows(&self) -> &[(Slot, u64)]
+        ensures { result.now ≡ entries self.now }
+    {
+        self.rows.as_slice()
     }
 
     /// How many names the directory has.
@@ -136,6 +152,16 @@ impl Entries {
         let place = place_of(&self.rows, directory, name.as_str());
         self.rows.insert(place, (Slot { directory, name }, inode))?;
         Ok(())
+    }
+
+    /// Another inode under a name that the directory has. Without the name nothing happens.
+    pub fn replace(&mut self, directory: u64, name: &str, inode: u64)
+        ensures { self.new ≡ option_map_or (λ (old : ℕ). insert self.old (slot directory name.now) inode) (get self.old (slot directory name.now)) self.old }
+    {
+        if let Some(i) = index_of(&self.rows, directory, name) {
+            let row = &mut self.rows[i];
+            row.1 = inode;
+        }
     }
 
     /// Forgets the name, if the directory has it.

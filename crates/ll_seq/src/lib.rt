@@ -15,7 +15,7 @@ mod table;
 #[cfg(test)]
 mod tests;
 
-pub use call::{AccessMode, Call, Mode};
+pub use call::{AccessMode, Call, Creation, Mode};
 pub use client::{Client, Descriptor, Rulesets};
 pub use entries::{Entries, Slot};
 pub use listing::Listing;

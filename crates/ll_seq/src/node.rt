@@ -1,7 +1,8 @@
 //! Nodes.
 
-ghost use Rattle.std.specs.Prelude.{◌≡◌, OnOk, OnErr};
+ghost use Rattle.std.specs.Prelude.{◌≡◌, ◌+◌, ◌^◌, ◌<◌, ◌≤◌, ◌-◌, ◌++◌, OnOk, OnErr, IfOk, length, take, drop, replicate};
 
+use ll_path::Data;
 use ll_rights::Kind;
 use std::alloc::{AllocError, Global};
 use std::marker::Model;
@@ -20,9 +21,18 @@ impl Model for Content {
     ghost view = { λ content. content.bytes.items };
 }
 
+// The bytes from the offset on, in the place of as many.
+fn put_in(all: &mut [u8], offset: usize, bytes: &[u8])
+    requires { offset + length bytes.now ≤ length all.old }
+    ensures { all.new ≡ take offset all.old ++ (bytes.now ++ drop (offset + length bytes.now) all.old) }
+{
+    let end = offset + bytes.len();
+    all[offset..end].copy_from_slice(bytes);
+}
+
 impl Content {
-    ghost use Rattle.std.specs.Prelude.{[], length};
-    ghost use Rattle.ll_seq.specs.Effects.{resized};
+    ghost use Rattle.std.specs.Prelude.{[]};
+    ghost use Rattle.ll_seq.specs.Effects.{resized, overwritten};
 
     pub fn empty(alloc: Global) -> Content
         ensures { result ≡ [] }
@@ -44,6 +54,50 @@ impl Content {
         ensures err { OnErr result (self.new ≡ self.old) }
     {
         self.bytes.resize(len, 0)
+    }
+
+    /// At most so many bytes from the offset on: fewer or none at the end.
+    pub fn read(&self, alloc: Global, offset: usize, count: usize) -> Result<Data, AllocError>
+        requires { count ≤ 4096 }
+        ensures { IfOk result (λ read. read ≡ take count (drop offset self.now)) }
+    {
+        let bytes = self.bytes.as_slice();
+        let (_, rest) = bytes.split_at(offset.min(bytes.len()));
+        let (front, _) = rest.split_at(count.min(rest.len()));
+        let copy = Vec::from_slice(alloc, front)?;
+        match Data::new(copy) {
+            Ok(data) => Ok(data),
+            Err(_) => unreachable!(),
+        }
+    }
+
+    /// Puts the bytes in from the offset on, over what stands there. A gap before them is zeros.
+    pub fn write(&mut self, offset: usize, bytes: &[u8]) -> Result<(), AllocError>
+        requires { offset + length bytes.now < 2 ^ 64 }
+        ensures ok { OnOk result (self.new ≡ overwritten self.old offset bytes.now) }
+        ensures err { OnErr result (self.new ≡ self.old) }
+    {
+        self.grow(offset + bytes.len())?;
+        self.put(offset, bytes);
+        Ok(())
+    }
+
+    /// Zeros behind the bytes, so that there are at least so many.
+    fn grow(&mut self, len: usize) -> Result<(), AllocError>
+        ensures ok { OnOk result (self.new ≡ self.old ++ replicate (len - length self.old) 0) }
+        ensures err { OnErr result (self.new ≡ self.old) }
+    {
+        if self.bytes.len() < len {
+            self.bytes.resize(len, 0)?;
+        }
+        Ok(())
+    }
+
+    fn put(&mut self, offset: usize, bytes: &[u8])
+        requires { offset + length bytes.now ≤ length self.old }
+        ensures { self.new ≡ take offset self.old ++ (bytes.now ++ drop (offset + length bytes.now) self.old) }
+    {
+        put_in(self.bytes.as_mut_slice(), offset, bytes);
     }
 
     pub fn clear(&mut self)

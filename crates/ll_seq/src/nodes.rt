@@ -1,9 +1,9 @@
 //! What happens to the bytes of nodes.
 
-ghost use Rattle.std.specs.Prelude.{◌≡◌, [], OnOk, OnErr};
+ghost use Rattle.std.specs.Prelude.{◌≡◌, ◌+◌, ◌^◌, ◌<◌, [], OnOk, OnErr, length};
 ghost use Rattle.std.specs.Option.{option_map_or};
 ghost use Rattle.ll_rights.specs.Map.{get, insert};
-ghost use Rattle.ll_seq.specs.Effects.{resized};
+ghost use Rattle.ll_seq.specs.Effects.{resized, overwritten};
 ghost use Rattle.ll_seq.specs.declared.node.Node as record_of;
 
 use crate::node::Node;
@@ -21,6 +21,24 @@ impl Table<Node> {
         };
         let row = &mut self.rows[i];
         row.1.bytes.set_len(len)
+    }
+
+    /// Puts the bytes into the node's from the offset on. Without such a node nothing happens.
+    pub(crate) fn write(
+        &mut self,
+        inode: u64,
+        offset: usize,
+        bytes: &[u8],
+    ) -> Result<(), AllocError>
+        requires { offset + length bytes.now < 2 ^ 64 }
+        ensures ok { OnOk result (self.new ≡ option_map_or (λ (n : record_of.Node). insert self.old inode (record n { bytes = overwritten n.bytes offset bytes.now })) (get self.old inode) self.old) }
+        ensures err { OnErr result (self.new ≡ self.old) }
+    {
+        let Some(i) = index_of(&self.rows, inode) else {
+            return Ok(());
+        };
+        let row = &mut self.rows[i];
+        row.1.bytes.write(offset, bytes)
     }
 
     /// Takes the node's bytes away. Without such a node nothing happens.

@@ -1,15 +1,18 @@
 //! The plain tree.
 
+mod descriptors;
 mod files;
+mod moves;
 mod names;
 mod policy;
+mod reach;
 mod rulesets;
 mod walk;
 
-ghost use Rattle.std.specs.Prelude.{◌≡◌, ◌≢◌, ◌<◌, ◌≤◌, ◌+◌, ◌-◌, ◌^◌, ℕ, [], true, not, IfOk};
+ghost use Rattle.std.specs.Prelude.{◌≡◌, ◌≢◌, ◌<◌, ◌≤◌, ◌+◌, ◌-◌, ◌^◌, ℕ, [], true, false, not, IfOk};
 ghost use Rattle.ll_rights.specs.Map.{has};
 ghost use Rattle.ll_seq.specs.State.{State, start};
-ghost use Rattle.ll_seq.specs.Deciding.{Comes};
+ghost use Rattle.ll_seq.specs.Deciding.{ComesBy};
 ghost use Rattle.ll_seq.specs.Step.{step, refusals, client_of, IsAnswer};
 ghost use Rattle.ll_seq.specs.History.{is_connect};
 ghost use Rattle.ll_seq.specs.declared.reply.Reply.{Reply};
@@ -76,9 +79,10 @@ impl Plain {
     }
 
     /// Makes the client's call. The reply and the state after are those of one step, or want of memory is answered and
-    /// nothing has changed. `fresh` is the number that a spawned client would get.
+    /// nothing has changed. `fresh` is the number that a spawned client would get, which no client has.
     pub fn apply(&mut self, client: u64, call: &Call, fresh: u64) -> Reply
         requires caller { has self.old.clients client ≡ not (is_connect call.now) }
+        requires fresh { has self.old.clients fresh ≡ false }
         requires next { self.old.next < 2 ^ 64 - 1 }
 
         ensures step { result ≢ Reply.Refused Errno.NoMemory → ◌≡◌ {A = Reply × State} (result, self.new) (step self.old client call.now fresh) }
@@ -90,29 +94,38 @@ impl Plain {
         // What follows from these for every call.
         ensures answers { IsAnswer result }
         ensures clients_stay { (other : ℕ) → has self.old.clients other ≡ true → has self.new.clients other ≡ true }
-        ensures no_other_client { (other : ℕ) → other ≢ client → other ≢ fresh → has self.new.clients other ≡ has self.old.clients other }
+        ensures no_other_client { (other : ℕ) → other ≢ client → result ≢ Reply.Spawned other → has self.new.clients other ≡ has self.old.clients other }
+        ensures spawned { (number : ℕ) → result ≡ Reply.Spawned number → (number ≡ fresh) × (has self.new.clients number ≡ true) }
         ensures numbers { self.new.next ≤ self.old.next + 1 }
     {
-        self.reply(client, call)
+        self.reply(client, call, fresh)
     }
 
-    fn reply(&mut self, client: u64, call: &Call) -> Reply
+    fn reply(&mut self, client: u64, call: &Call, fresh: u64) -> Reply
         requires caller { has self.old.clients client ≡ not (is_connect call.now) }
+        requires fresh { has self.old.clients fresh ≡ false }
         requires next { self.old.next < 2 ^ 64 - 1 }
-        ensures { Comes self.old client call.now result self.new }
+        ensures { ComesBy fresh self.old client call.now result self.new }
     {
         match call {
             Call::Make(kind, target) => self.make(client, *kind, target),
             Call::Open(mode, target) => self.open(client, *mode, target),
+            Call::Read(number, offset, count) => self.read(client, *number, *offset, *count),
+            Call::Write(number, offset, bytes) => self.write(client, *number, *offset, bytes),
+            Call::Ftruncate(number, size) => self.ftruncate(client, *number, *size),
+            Call::Close(number) => self.close(client, *number),
             Call::Truncate(target, size) => self.truncate(client, target, *size),
             Call::ReadDir(target) => self.read_dir(client, target),
             Call::Stat(target) => self.stat(client, target),
             Call::Exec(target) => self.exec(client, target),
             Call::Unlink(target) => self.unlink(client, target),
             Call::Rmdir(target) => self.rmdir(client, target),
+            Call::Rename(old, new) => self.rename(client, old, new),
+            Call::Link(old, new) => self.link(client, old, new),
             Call::Ruleset(rights) => self.create_ruleset(client, *rights),
             Call::Allow(number, target, rights) => self.allow(client, *number, target, *rights),
             Call::Confine(number) => self.confine(client, *number),
+            Call::Spawn => self.spawn(client, fresh),
             Call::Connect => self.connect(client),
         }
     }

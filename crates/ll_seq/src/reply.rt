@@ -3,6 +3,7 @@
 use crate::call::Call;
 use crate::listing::Listing;
 use ll_decide::Denial;
+use ll_path::Data;
 use ll_rights::{Errno, Kind};
 
 /// What a node is. A directory's links are 1, another node's the number of its names.
@@ -21,11 +22,17 @@ pub enum Reply {
     Done,
     /// The descriptor's number.
     Opened(u64),
+    /// Bytes of a file.
+    Bytes(Data),
+    /// How many bytes were written.
+    Wrote(u64),
     /// The names in the directory, rising by bytes.
     Listed(Listing),
     Found(Status),
     /// The ruleset's number.
     Created(u64),
+    /// The new client's number.
+    Spawned(u64),
     Refused(Errno),
     Denied(Denial),
 }

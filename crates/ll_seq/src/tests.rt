@@ -6,9 +6,9 @@ ghost use Rattle.std.specs.Prelude.{◌≡◌, ◌≤◌, ◌+◌, true, false, 
 ghost use Rattle.ll_rights.specs.Map.{has};
 ghost use Rattle.ll_seq.specs.History.{is_connect};
 
-use crate::{AccessMode, Call, Mode, Plain, Reply};
+use crate::{AccessMode, Call, Creation, Mode, Plain, Reply};
 use ll_decide::{Cause, Denial, Place};
-use ll_path::{Target, Word};
+use ll_path::{Data, Target, Word};
 use ll_rights::{Access, Errno, Kind, Right};
 use std::alloc::{AllocError, Global};
 use std::process::Abort;
@@ -24,22 +24,29 @@ macro_rules! again {
     };
 }
 
+mod clients;
+mod descriptors;
+mod moves;
 mod paths;
+mod reach;
 mod tables;
 
 const READ: Mode = Mode {
     access: AccessMode::Read,
     truncate: false,
+    creation: Creation::Never,
 };
 
 const WRITE: Mode = Mode {
     access: AccessMode::Write,
     truncate: false,
+    creation: Creation::Never,
 };
 
 const READ_WRITE: Mode = Mode {
     access: AccessMode::ReadWrite,
     truncate: false,
+    creation: Creation::Never,
 };
 
 fn target(alloc: Global, text: &str) -> Result<Target, Fail> {
@@ -47,17 +54,28 @@ fn target(alloc: Global, text: &str) -> Result<Target, Fail> {
     Ok(Target::read(Word::new(text)?))
 }
 
+fn data(alloc: Global, bytes: &[u8]) -> Result<Data, Fail> {
+    let copy = again!(Vec::from_slice(alloc, bytes))?;
+    Ok(Data::new(copy)?)
+}
+
 /// A call whose path is still a text, and whose set of rights a number.
 #[derive(Clone, Copy, Debug)]
 enum Ask<'a> {
     Make(Kind, &'a str),
     Open(Mode, &'a str),
+    Read(u64, u64, u64),
+    Write(u64, u64, &'a [u8]),
+    Ftruncate(u64, u64),
+    Close(u64),
     Truncate(&'a str, u64),
     ReadDir(&'a str),
     Stat(&'a str),
     Exec(&'a str),
     Unlink(&'a str),
     Rmdir(&'a str),
+    Rename(&'a str, &'a str),
+    Link(&'a str, &'a str),
     Ruleset(u64),
     Allow(u64, &'a str, u64),
     Confine(u64),
@@ -70,12 +88,20 @@ impl Ask<'_> {
         match self {
             Ask::Make(kind, text) => Ok(Call::Make(kind, target(alloc, text)?)),
             Ask::Open(mode, text) => Ok(Call::Open(mode, target(alloc, text)?)),
+            Ask::Read(number, offset, count) => Ok(Call::Read(number, offset, count)),
+            Ask::Write(number, offset, bytes) => {
+                Ok(Call::Write(number, offset, data(alloc, bytes)?))
+            }
+            Ask::Ftruncate(number, size) => Ok(Call::Ftruncate(number, size)),
+            Ask::Close(number) => Ok(Call::Close(number)),
             Ask::Truncate(text, size) => Ok(Call::Truncate(target(alloc, text)?, size)),
             Ask::ReadDir(text) => Ok(Call::ReadDir(target(alloc, text)?)),
             Ask::Stat(text) => Ok(Call::Stat(target(alloc, text)?)),
             Ask::Exec(text) => Ok(Call::Exec(target(alloc, text)?)),
             Ask::Unlink(text) => Ok(Call::Unlink(target(alloc, text)?)),
             Ask::Rmdir(text) => Ok(Call::Rmdir(target(alloc, text)?)),
+            Ask::Rename(old, new) => Ok(Call::Rename(target(alloc, old)?, target(alloc, new)?)),
+            Ask::Link(old, new) => Ok(Call::Link(target(alloc, old)?, target(alloc, new)?)),
             Ask::Ruleset(rights) => Ok(Call::Ruleset(Access(rights))),
             Ask::Allow(number, text, rights) => {
                 Ok(Call::Allow(number, target(alloc, text)?, Access(rights)))
@@ -92,6 +118,7 @@ struct Session {
     tree: Plain,
     calls: u32,
     ghost connected: { has tree.clients 1 ≡ true },
+    ghost free: { has tree.clients 2 ≡ false },
     ghost numbers: { tree.next ≤ calls + 3 },
 }
 
@@ -101,7 +128,7 @@ impl Session {
         requires most { nodes ≤ 4096 }
     {
         let mut tree = Plain::new(alloc, nodes)?;
-        let Reply::Done = tree.apply(1, &Call::Connect, 0) else {
+        let Reply::Done = tree.apply(1, &Call::Connect, 2) else {
             return Err(AllocError);
         };
         Ok(Session {
@@ -122,7 +149,7 @@ impl Session {
         requires { is_connect call.now ≡ false }
     {
         assert!(rt; self.calls < 1_000_000);
-        let reply = self.tree.apply(1, call, 0);
+        let reply = self.tree.apply(1, call, 2);
         self.calls += 1;
         reply
     }
@@ -149,8 +176,10 @@ fn is_same(reply: &Reply, want: &Reply) -> bool {
     match (reply, want) {
         (Reply::Done, Reply::Done) => true,
         (Reply::Opened(number), Reply::Opened(wanted)) => number == wanted,
+        (Reply::Wrote(count), Reply::Wrote(wanted)) => count == wanted,
         (Reply::Found(status), Reply::Found(wanted)) => status == wanted,
         (Reply::Created(number), Reply::Created(wanted)) => number == wanted,
+        (Reply::Spawned(number), Reply::Spawned(wanted)) => number == wanted,
         (Reply::Refused(errno), Reply::Refused(wanted)) => errno == wanted,
         (Reply::Denied(denial), Reply::Denied(wanted)) => denial == wanted,
         _ => false,

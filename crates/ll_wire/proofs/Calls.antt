@@ -10,13 +10,14 @@ use Rattle.ll_rights.specs.declared.access.Access.{Access}
 use Rattle.ll_rights.specs.Kind.{kind_text}
 use Rattle.ll_rights.specs.Access.{access_text}
 use Rattle.ll_path.specs.declared.target.Target.{Target}
+use Rattle.ll_path.specs.Word.{IsWord}
 use Rattle.ll_path.specs.Target.{target_text}
 use Rattle.ll_seq.specs.declared.call.Mode.{Mode}
 use Rattle.ll_seq.specs.declared.call.Call.{Call}
-use Rattle.ll_seq.specs.declared.call.Call.TheVariants.{Make, Open, Truncate, ReadDir, Stat, Exec, Unlink, Rmdir, Ruleset, Allow, Confine}
-use Rattle.ll_wire.specs.Grammar.{mode_text, SpellsTarget}
-use Rattle.ll_wire.specs.Reads.{Reads, SpellsOneTarget, SpellsCall, SpellsNumber, SpellsRights}
-use Rattle.ll_wire.proofs.Targets.{text_is, own_text}
+use Rattle.ll_seq.specs.declared.call.Call.TheVariants.{Make, Open, Read, Write, Ftruncate, Close, Truncate, ReadDir, Stat, Exec, Unlink, Rmdir, Rename, Link, Ruleset, Allow, Confine, Spawn}
+use Rattle.ll_wire.specs.Grammar.{mode_text, SpellsTarget, IsData, data_text}
+use Rattle.ll_wire.specs.Reads.{Reads, SpellsOneTarget, SpellsTwoTargets, SpellsCall, SpellsNumber, SpellsRights, SpellsData}
+use Rattle.ll_wire.proofs.Targets.{text_is, own_text, some_target}
 
 -- whether the first token is the name
 abbrev first_is : List ℕ → List (List ℕ) → Bool
@@ -32,6 +33,26 @@ pub open_is : (args : List (List ℕ)) (call : Call) → SpellsCall (codes "open
     → (mode : Mode) × (target : Target) × SpellsTarget (target_text target) target × (args ≡ mode_text mode ∷ target_text target ∷ []) × (call ≡ Open mode target)
 open_is args (Open mode target) h = (mode, target, h.0, cc, refl)
 open_is args call h = absurd (false≢true (sym (ap (first_is (codes "open")) h.1)))
+
+pub read_is : (args : List (List ℕ)) (call : Call) → SpellsCall (codes "read" ∷ args) call
+    → (fd : ℕ) × (offset : ℕ) × (count : ℕ) × (fd < 2 ^ 64) × (offset < 2 ^ 64) × (count < 2 ^ 64) × (args ≡ decimal fd ∷ decimal offset ∷ decimal count ∷ []) × (call ≡ Read fd offset count)
+read_is args (Read fd offset count) h = (fd, offset, count, h.0.0, h.0.1, h.0.2, cc, refl)
+read_is args call h = absurd (false≢true (sym (ap (first_is (codes "read")) h.1)))
+
+pub write_is : (args : List (List ℕ)) (call : Call) → SpellsCall (codes "write" ∷ args) call
+    → (fd : ℕ) × (offset : ℕ) × (bytes : List ℕ) × (fd < 2 ^ 64) × (offset < 2 ^ 64) × IsData bytes × (args ≡ decimal fd ∷ decimal offset ∷ data_text bytes ∷ []) × (call ≡ Write fd offset bytes)
+write_is args (Write fd offset bytes) h = (fd, offset, bytes, h.0.0, h.0.1, h.0.2, cc, refl)
+write_is args call h = absurd (false≢true (sym (ap (first_is (codes "write")) h.1)))
+
+pub ftruncate_is : (args : List (List ℕ)) (call : Call) → SpellsCall (codes "ftruncate" ∷ args) call
+    → (fd : ℕ) × (size : ℕ) × (fd < 2 ^ 64) × (size < 2 ^ 64) × (args ≡ decimal fd ∷ decimal size ∷ []) × (call ≡ Ftruncate fd size)
+ftruncate_is args (Ftruncate fd size) h = (fd, size, h.0.0, h.0.1, cc, refl)
+ftruncate_is args call h = absurd (false≢true (sym (ap (first_is (codes "ftruncate")) h.1)))
+
+pub close_is : (args : List (List ℕ)) (call : Call) → SpellsCall (codes "close" ∷ args) call
+    → (fd : ℕ) × (fd < 2 ^ 64) × (args ≡ decimal fd ∷ []) × (call ≡ Close fd)
+close_is args (Close fd) h = (fd, h.0, cc, refl)
+close_is args call h = absurd (false≢true (sym (ap (first_is (codes "close")) h.1)))
 
 pub truncate_is : (args : List (List ℕ)) (call : Call) → SpellsCall (codes "truncate" ∷ args) call
     → (target : Target) × (size : ℕ) × SpellsTarget (target_text target) target × (size < 2 ^ 64) × (args ≡ target_text target ∷ decimal size ∷ []) × (call ≡ Truncate target size)
@@ -62,6 +83,18 @@ pub rmdir_is : IsOfTarget (codes "rmdir") Rmdir
 rmdir_is args (Rmdir target) h = (target, (h.0, cc), refl)
 rmdir_is args call h = absurd (false≢true (sym (ap (first_is (codes "rmdir")) h.1)))
 
+-- the call of this name is that of two targets
+abbrev pub IsOfTargets : List ℕ → (Target × Target → Call) → Type 0
+IsOfTargets name make = (args : List (List ℕ)) (call : Call) → SpellsCall (name ∷ args) call → (targets : Target × Target) × SpellsTwoTargets args targets × (call ≡ make targets)
+
+pub rename_is : IsOfTargets (codes "rename") (λ targets. Rename targets.0 targets.1)
+rename_is args (Rename old new) h = ((old, new), (h.0.0, h.0.1, cc), refl)
+rename_is args call h = absurd (false≢true (sym (ap (first_is (codes "rename")) h.1)))
+
+pub link_is : IsOfTargets (codes "link") (λ targets. Link targets.0 targets.1)
+link_is args (Link old new) h = ((old, new), (h.0.0, h.0.1, cc), refl)
+link_is args call h = absurd (false≢true (sym (ap (first_is (codes "link")) h.1)))
+
 pub ruleset_is : (args : List (List ℕ)) (call : Call) → SpellsCall (codes "ruleset" ∷ args) call
     → (rights : Access) × (args ≡ access_text rights.0 ∷ []) × (call ≡ Ruleset rights)
 ruleset_is args (Ruleset rights) h = (rights, cc, refl)
@@ -78,18 +111,22 @@ pub confine_is : (args : List (List ℕ)) (call : Call) → SpellsCall (codes "c
 confine_is args (Confine number) h = (number, h.0, cc, refl)
 confine_is args call h = absurd (false≢true (sym (ap (first_is (codes "confine")) h.1)))
 
+pub spawn_is : (args : List (List ℕ)) (call : Call) → SpellsCall (codes "spawn" ∷ args) call → (args ≡ []) × (call ≡ Spawn)
+spawn_is args Spawn h = (cc, refl)
+spawn_is args call h = absurd (false≢true (sym (ap (first_is (codes "spawn")) h.1)))
+
 -- where a part can't be read, the whole can't, for the same reason
 fails : {V W : Type 0} (P : V → Type 0) (Q : W → Type 0) (e : Errno) → ((w : W) → Q w → (v : V) × P v) → ((v : V) → P v → (w : W) × Q w) → Reads P (Err e) → Reads Q (Err e)
 fails P Q e part whole (inl h) = inl (h.0, λ w is. let v = part w is in h.1 v.0 v.1)
 fails P Q e part whole (inr h) = let w = whole h.1 h.2 in inr (h.0, w.0, w.1)
 
 -- where a part is read, the whole that is made of it is
-whole_reads : {V W : Type 0} (P : V → Type 0) (Q : W → Type 0) (make : V → W) → ((w : W) → Q w → (v : V) × P v) → ((v : V) → P v → Q (make v))
+pub whole_reads : {V W : Type 0} (P : V → Type 0) (Q : W → Type 0) (make : V → W) → ((w : W) → Q w → (v : V) × P v) → ((v : V) → P v → Q (make v))
     → (r : Result V Errno) (s : Result W Errno) → MatchResult r (λ v. s ≡ Ok (make v)) (λ e. s ≡ Err e) → Reads P r → Reads Q s
 whole_reads P Q make part whole (Ok v) s e h = rw e (whole v h)
 whole_reads P Q make part whole (Err d) s e h = rw e (fails P Q d part (λ v is. (make v, whole v is)) h)
 
-same_err : {V : Type 0} (r : Result V Errno) → MatchResult r (λ v. r ≡ Ok v) (λ e. r ≡ Err e)
+pub same_err : {V : Type 0} (r : Result V Errno) → MatchResult r (λ v. r ≡ Ok v) (λ e. r ≡ Err e)
 same_err (Ok v) = refl
 same_err (Err e) = refl
 
@@ -106,6 +143,35 @@ pub call_reads : (name : List ℕ) (make : Target → Call) → IsOfTarget name 
 call_reads name make is own tokens args r s parts m h = whole_reads (SpellsOneTarget args) (SpellsCall tokens) make
     (λ call k. let o = is args call (k.0, sym parts ∙ k.1) in (o.0, o.1))
     (λ target k. let spelled = own target k.0 in (spelled.0, parts ∙ ap (λ (x : List (List ℕ)). name ∷ x) k.1 ∙ spelled.1))
+    r s m h
+
+-- where one of two words can't be read, neither can both
+pub first_fails : (args : List (List ℕ)) (first second : List ℕ) (e : Errno) → args ≡ first ∷ second ∷ [] → IsWord second
+    → Reads (SpellsTarget first) (Err e) → Reads (SpellsTwoTargets args) (Err e)
+first_fails args first second e parts word = fails (SpellsTarget first) (SpellsTwoTargets args) e
+    (λ targets is. let same : target_text targets.0 ≡ first = cc in (targets.0, subst (λ (w : List ℕ). SpellsTarget w targets.0) same is.0))
+    (λ target is. let same = text_is first target is in let other = some_target second in let same_other = text_is second other.0 (word, other.1) in
+    ((target, other.0), (own_text first target is, own_text second other.0 (word, other.1), cc)))
+
+pub second_fails : (args : List (List ℕ)) (first second : List ℕ) (one : Target) (e : Errno) → args ≡ first ∷ second ∷ [] → SpellsTarget first one
+    → Reads (SpellsTarget second) (Err e) → Reads (SpellsTwoTargets args) (Err e)
+second_fails args first second one e parts h = fails (SpellsTarget second) (SpellsTwoTargets args) e
+    (λ targets is. let same : target_text targets.1 ≡ second = cc in (targets.1, subst (λ (w : List ℕ). SpellsTarget w targets.1) same is.1))
+    (λ target is. let same = text_is second target is in let same_one = text_is first one h in
+    ((one, target), (own_text first one h, own_text second target is, cc)))
+
+pub both_read : (args : List (List ℕ)) (first second : List ℕ) (one two : Target) → args ≡ first ∷ second ∷ [] → SpellsTarget first one → SpellsTarget second two → SpellsTwoTargets args (one, two)
+both_read args first second one two parts h k =
+    let same_one = text_is first one h in let same_two = text_is second two k in (own_text first one h, own_text second two k, cc)
+
+-- a call of two targets, by the reader of them
+pub pair_reads : (name : List ℕ) (make : Target × Target → Call) → IsOfTargets name make
+    → ((targets : Target × Target) → SpellsTarget (target_text targets.0) targets.0 → SpellsTarget (target_text targets.1) targets.1 → SpellsCall (name ∷ target_text targets.0 ∷ target_text targets.1 ∷ []) (make targets))
+    → (tokens args : List (List ℕ)) (r : Result (Target × Target) Errno) (s : Result Call Errno) → tokens ≡ name ∷ args → MatchResult r (λ targets. s ≡ Ok (make targets)) (λ e. s ≡ Err e)
+    → Reads (SpellsTwoTargets args) r → Reads (SpellsCall tokens) s
+pair_reads name make is own tokens args r s parts m h = whole_reads (SpellsTwoTargets args) (SpellsCall tokens) make
+    (λ call k. let o = is args call (k.0, sym parts ∙ k.1) in (o.0, o.1))
+    (λ targets k. let spelled = own targets k.0 k.1 in (spelled.0, parts ∙ ap (λ (x : List (List ℕ)). name ∷ x) k.2 ∙ spelled.1))
     r s m h
 
 pub make_fails : (args : List (List ℕ)) (kind : Kind) (path : List ℕ) (e : Errno) → args ≡ kind_text kind ∷ path ∷ []
@@ -131,3 +197,9 @@ pub allow_fails : (args : List (List ℕ)) (ruleset_word path rights_word : List
 allow_fails args ruleset_word path rights_word number rights e parts n r = fails (SpellsTarget path) (SpellsCall (codes "allow" ∷ args)) e
     (λ call is. let m = allow_is args call is in let same : target_text m.1 ≡ path = cc in (m.1, subst (λ (w : List ℕ). SpellsTarget w m.1) same m.4))
     (λ target is. let same = text_is path target is in (Allow number target rights, ((n.0, own_text path target is, r.0), cc)))
+
+pub write_fails : (args : List (List ℕ)) (fd_word offset_word word : List ℕ) (fd offset : ℕ) (e : Errno) → args ≡ fd_word ∷ offset_word ∷ word ∷ []
+    → SpellsNumber fd_word fd → SpellsNumber offset_word offset → Reads (SpellsData word) (Err e) → Reads (SpellsCall (codes "write" ∷ args)) (Err e)
+write_fails args fd_word offset_word word fd offset e parts f o = fails (SpellsData word) (SpellsCall (codes "write" ∷ args)) e
+    (λ call is. let m = write_is args call is in (m.2, (m.5, cc)))
+    (λ bytes is. (Write fd offset bytes, ((f.0, o.0, is.0), cc)))

@@ -1,5 +1,7 @@
 pub mod Answered
 pub mod Calls
+pub mod Clients
+pub mod Digits
 pub mod Joined
 pub mod Lines
 pub mod Numbers

@@ -1,5 +1,5 @@
 -- The tokens of a call are visible bytes, so a line is cut at its spaces.
-use Rattle.std.proofs.Common.{◌≡◌, ℕ, suc, zero, ◌+◌, ◌^◌, ◌<◌, Bool, true, false, ◌&&◌, leb, List, [], ◌∷◌, ◌++◌, map, refl, ap, ◌∙◌, arith, codes, inl, inr}
+use Rattle.std.proofs.Common.{◌≡◌, ℕ, suc, zero, ◌+◌, ◌^◌, ◌<◌, ◌≤◌, Bool, true, false, ◌&&◌, leb, List, [], ◌∷◌, ◌++◌, map, refl, ap, ◌∙◌, arith, codes, inl, inr}
 use Rattle.std.specs.Prelude.{◌==◌, if◌then◌else◌, nat_lt}
 use Rattle.std.specs.List.{slice_split, AllByRecursion, join_with_byte}
 use Rattle.std.specs.Fmt.{decimal}
@@ -22,10 +22,14 @@ use Rattle.ll_rights.proofs.Names.{names_yes, names_no, names_end, text_none, te
 use Rattle.ll_path.specs.Word.{IsVisible}
 use Rattle.ll_seq.specs.declared.call.AccessMode.{AccessMode}
 use Rattle.ll_seq.specs.declared.call.AccessMode.TheVariants as ways
+use Rattle.ll_seq.specs.declared.call.Creation.{Creation}
+use Rattle.ll_seq.specs.declared.call.Creation.TheVariants.{Never, IfMissing, Exclusive}
 use Rattle.ll_seq.specs.declared.call.Mode.{Mode}
 use Rattle.ll_seq.specs.declared.call.Call.{Call}
 use Rattle.ll_seq.specs.declared.call.Call.TheVariants as calls
-use Rattle.ll_wire.specs.Grammar.{way_text, truncate_text, mode_text, call_tokens, IsCall}
+use Rattle.ll_wire.specs.Grammar.{way_text, truncate_text, creation_text, mode_text, IsData, data_text, call_tokens, IsCall, client_tokens, IsClient}
+use Rattle.ll_wire.specs.Reads.{IsDigit}
+use Rattle.ll_wire.proofs.Digits.{data_digits}
 
 abbrev pub IsToken : List ℕ → Type 0
 IsToken token = AllByRecursion IsVisible token
@@ -61,7 +65,7 @@ digits_token (d ∷ ds) h = let r = digit_from_value d h.0 in ((omega arith, ome
 number_token : (n : ℕ) → n < 2 ^ 64 → IsToken (decimal n)
 number_token n h = digits_token (decimal n) (decimal_is_IsNumeral n h).0.1
 
-all_append : (P : ℕ → Type 0) (xs ys : List ℕ) → AllByRecursion P xs → AllByRecursion P ys → AllByRecursion P (xs ++ ys)
+all_append : {A : Type 0} (P : A → Type 0) (xs ys : List A) → AllByRecursion P xs → AllByRecursion P ys → AllByRecursion P (xs ++ ys)
 all_append P [] ys h k = k
 all_append P (x ∷ xs) ys h k = (h.0, all_append P xs ys h.1 k)
 
@@ -76,8 +80,31 @@ truncate_token : (truncate : Bool) → IsToken (truncate_text truncate)
 truncate_token true = visible_is (codes "t") refl
 truncate_token false = tt
 
+creation_token : (creation : Creation) → IsToken (creation_text creation)
+creation_token Never = tt
+creation_token IfMissing = visible_is (codes "c") refl
+creation_token Exclusive = visible_is (codes "cx") refl
+
 mode_token : (mode : Mode) → IsToken (mode_text mode)
-mode_token mode = all_append IsVisible (way_text mode.access) (truncate_text mode.truncate) (way_token mode.access) (truncate_token mode.truncate)
+mode_token mode = all_append IsVisible (way_text mode.access ++ truncate_text mode.truncate) (creation_text mode.creation)
+    (all_append IsVisible (way_text mode.access) (truncate_text mode.truncate) (way_token mode.access) (truncate_token mode.truncate))
+    (creation_token mode.creation)
+
+-- ---- bytes
+
+digit_is_visible : (c : ℕ) → IsDigit c → IsVisible c
+digit_is_visible c (inl h) = (omega arith, omega arith)
+digit_is_visible c (inr h) = (omega arith, omega arith)
+
+digits_are_token : (text : List ℕ) → AllByRecursion IsDigit text → IsToken text
+digits_are_token [] h = tt
+digits_are_token (c ∷ text) h = (digit_is_visible c h.0, digits_are_token text h.1)
+
+data_token : (bytes : List ℕ) → IsData bytes → IsToken (data_text bytes)
+data_token bytes h = elim (data_digits bytes h) [
+  | inl none ↦ rw none (visible_is (codes "-") refl)
+  | inr digits ↦ digits_are_token (data_text bytes) digits
+]
 
 -- ---- sets of rights
 
@@ -122,19 +149,36 @@ rights_token set = elim (cases_lt 0 set) [
 
 -- ---- calls
 
-pub call_is_tokens : (call : Call) → IsCall call → AllByRecursion IsToken (call_tokens call)
+call_is_tokens : (call : Call) → IsCall call → AllByRecursion IsToken (call_tokens call)
 call_is_tokens (calls.Make kind target) h = (visible_is (codes "make") refl, (kind_token kind, (h.0.2, tt)))
 call_is_tokens (calls.Open mode target) h = (visible_is (codes "open") refl, (mode_token mode, (h.0.2, tt)))
+call_is_tokens (calls.Read fd offset count) h = (visible_is (codes "read") refl, (number_token fd h.0, (number_token offset h.1, (number_token count h.2, tt))))
+call_is_tokens (calls.Write fd offset bytes) h = (visible_is (codes "write") refl, (number_token fd h.0, (number_token offset h.1, (data_token bytes h.2, tt))))
+call_is_tokens (calls.Ftruncate fd size) h = (visible_is (codes "ftruncate") refl, (number_token fd h.0, (number_token size h.1, tt)))
+call_is_tokens (calls.Close fd) h = (visible_is (codes "close") refl, (number_token fd h, tt))
 call_is_tokens (calls.Truncate target size) h = (visible_is (codes "truncate") refl, (h.0.0.2, (number_token size h.1, tt)))
 call_is_tokens (calls.ReadDir target) h = (visible_is (codes "list") refl, (h.0.2, tt))
 call_is_tokens (calls.Stat target) h = (visible_is (codes "stat") refl, (h.0.2, tt))
 call_is_tokens (calls.Exec target) h = (visible_is (codes "exec") refl, (h.0.2, tt))
 call_is_tokens (calls.Unlink target) h = (visible_is (codes "unlink") refl, (h.0.2, tt))
 call_is_tokens (calls.Rmdir target) h = (visible_is (codes "rmdir") refl, (h.0.2, tt))
+call_is_tokens (calls.Rename old new) h = (visible_is (codes "rename") refl, (h.0.0.2, (h.1.0.2, tt)))
+call_is_tokens (calls.Link old new) h = (visible_is (codes "link") refl, (h.0.0.2, (h.1.0.2, tt)))
 call_is_tokens (calls.Ruleset rights) h = (visible_is (codes "ruleset") refl, (rights_token rights.0, tt))
 call_is_tokens (calls.Allow number target rights) h = (visible_is (codes "allow") refl, (number_token number h.0, (h.1.0.2, (rights_token rights.0, tt))))
 call_is_tokens (calls.Confine number) h = (visible_is (codes "confine") refl, (number_token number h, tt))
+call_is_tokens calls.Spawn h = (visible_is (codes "spawn") refl, tt)
 call_is_tokens calls.Connect h = absurd h
+
+client_is_tokens : (client : ℕ) → client ≤ 64 → AllByRecursion IsToken (client_tokens client)
+client_is_tokens client h = of (client == 1)
+  where
+    of : (b : Bool) → AllByRecursion IsToken (if b then [] else (64 ∷ decimal client) ∷ [])
+    of true = tt
+    of false = (((omega arith, omega arith), number_token client (omega arith)), tt)
+
+pub command_is_tokens : (client : ℕ) (call : Call) → IsClient client → IsCall call → AllByRecursion IsToken (client_tokens client ++ call_tokens call)
+command_is_tokens client call h k = all_append IsToken (client_tokens client) (call_tokens call) (client_is_tokens client h.1) (call_is_tokens call k)
 
 -- ---- lines
 

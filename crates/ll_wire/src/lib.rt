@@ -1,6 +1,7 @@
 //! The lines of a session: commands, read, and replies, written. `specs/Grammar.antt` spells each.
 #![tactic(auto)]
 
+mod bytes;
 mod read;
 #[cfg(test)]
 mod tests;

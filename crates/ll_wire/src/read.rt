@@ -1,13 +1,14 @@
 //! Reading commands.
 
-ghost use Rattle.std.specs.Prelude.{◌≡◌, ◌∷◌, map, codes};
+ghost use Rattle.std.specs.Prelude.{◌≡◌, ◌≤◌, ◌∷◌, map, codes};
 ghost use Rattle.ll_wire.specs.Grammar.{mode_text, SpellsTarget, SpellsCommand};
-ghost use Rattle.ll_wire.specs.Reads.{Reads, Finds, SpellsOneTarget, SpellsCall};
+ghost use Rattle.ll_wire.specs.Reads.{Reads, Finds, SpellsOneTarget, SpellsTwoTargets, SpellsCall, SpellsTokens};
 
-use crate::token::{body_of, number_of, tokens_of};
+use crate::bytes::data_of;
+use crate::token::{body_of, client_of, number_of, tokens_of};
 use ll_path::{Target, Word};
 use ll_rights::{Access, Errno, Kind};
-use ll_seq::{AccessMode, Call, Mode};
+use ll_seq::{AccessMode, Call, Creation, Mode};
 use std::alloc::Global;
 
 /// How many bytes a command line has at most, its line feed included.
@@ -22,15 +23,24 @@ fn mode_of(text: &str) -> Option<Mode>
         [b'w', letters @ ..] => (AccessMode::Write, letters),
         _ => return None,
     };
-    let truncate = match letters {
-        [] => false,
-        b"t" => true,
+    let (truncate, letters) = match letters {
+        [b't', letters @ ..] => (true, letters),
+        _ => (false, letters),
+    };
+    let creation = match letters {
+        [] => Creation::Never,
+        b"c" => Creation::IfMissing,
+        b"cx" => Creation::Exclusive,
         _ => return None,
     };
-    Some(Mode { access, truncate })
+    Some(Mode {
+        access,
+        truncate,
+        creation,
+    })
 }
 
-// The only part of a call that takes memory, so it is read last.
+// Takes memory, so it is read after all that takes none.
 fn target_of(alloc: Global, text: &str) -> Result<Target, Errno>
     ensures { Reads (SpellsTarget text.now) result }
 {
@@ -76,6 +86,60 @@ fn open(alloc: Global, args: &[&str]) -> Result<Call, Errno>
     }
 }
 
+fn read(args: &[&str]) -> Result<Call, Errno>
+    ensures { Reads (SpellsCall (codes "read" ∷ map (λ t. t.now) args.now)) result }
+{
+    let [fd, offset, count] = args else {
+        return Err(Errno::BadLine);
+    };
+    match (number_of(fd), number_of(offset), number_of(count)) {
+        (Some(fd), Some(offset), Some(count)) => Ok(Call::Read(fd, offset, count)),
+        _ => Err(Errno::BadLine),
+    }
+}
+
+fn write(alloc: Global, args: &[&str]) -> Result<Call, Errno>
+    ensures { Reads (SpellsCall (codes "write" ∷ map (λ t. t.now) args.now)) result }
+{
+    let [fd, offset, bytes] = args else {
+        return Err(Errno::BadLine);
+    };
+    let Some(fd) = number_of(fd) else {
+        return Err(Errno::BadLine);
+    };
+    let Some(offset) = number_of(offset) else {
+        return Err(Errno::BadLine);
+    };
+    match data_of(alloc, bytes) {
+        Ok(bytes) => Ok(Call::Write(fd, offset, bytes)),
+        Err(errno) => Err(errno),
+    }
+}
+
+fn ftruncate(args: &[&str]) -> Result<Call, Errno>
+    ensures { Reads (SpellsCall (codes "ftruncate" ∷ map (λ t. t.now) args.now)) result }
+{
+    let [fd, size] = args else {
+        return Err(Errno::BadLine);
+    };
+    match (number_of(fd), number_of(size)) {
+        (Some(fd), Some(size)) => Ok(Call::Ftruncate(fd, size)),
+        _ => Err(Errno::BadLine),
+    }
+}
+
+fn close(args: &[&str]) -> Result<Call, Errno>
+    ensures { Reads (SpellsCall (codes "close" ∷ map (λ t. t.now) args.now)) result }
+{
+    let [fd] = args else {
+        return Err(Errno::BadLine);
+    };
+    let Some(fd) = number_of(fd) else {
+        return Err(Errno::BadLine);
+    };
+    Ok(Call::Close(fd))
+}
+
 fn truncate(alloc: Global, args: &[&str]) -> Result<Call, Errno>
     ensures { Reads (SpellsCall (codes "truncate" ∷ map (λ t. t.now) args.now)) result }
 {
@@ -99,6 +163,22 @@ fn only_target(alloc: Global, args: &[&str]) -> Result<Target, Errno>
         return Err(Errno::BadLine);
     };
     target_of(alloc, path)
+}
+
+// The targets of a call that names two paths and nothing else. Both words are known to be words
+// before memory is taken for one.
+fn two_targets(alloc: Global, args: &[&str]) -> Result<(Target, Target), Errno>
+    ensures { Reads (SpellsTwoTargets (map (λ t. t.now) args.now)) result }
+{
+    let [first, second] = args else {
+        return Err(Errno::BadLine);
+    };
+    if !Word::fits(second) {
+        return Err(Errno::BadLine);
+    }
+    let first = target_of(alloc, first)?;
+    let second = target_of(alloc, second)?;
+    Ok((first, second))
 }
 
 fn ruleset(args: &[&str]) -> Result<Call, Errno>
@@ -143,6 +223,15 @@ fn confine(args: &[&str]) -> Result<Call, Errno>
     Ok(Call::Confine(ruleset))
 }
 
+fn spawn(args: &[&str]) -> Result<Call, Errno>
+    ensures { Reads (SpellsCall (codes "spawn" ∷ map (λ t. t.now) args.now)) result }
+{
+    if !args.is_empty() {
+        return Err(Errno::BadLine);
+    }
+    Ok(Call::Spawn)
+}
+
 fn call_of(alloc: Global, tokens: &[&str]) -> Result<Call, Errno>
     ensures { Reads (SpellsCall (map (λ t. t.now) tokens.now)) result }
 {
@@ -152,23 +241,46 @@ fn call_of(alloc: Global, tokens: &[&str]) -> Result<Call, Errno>
     match *name {
         "make" => make(alloc, args),
         "open" => open(alloc, args),
+        "read" => read(args),
+        "write" => write(alloc, args),
+        "ftruncate" => ftruncate(args),
+        "close" => close(args),
         "truncate" => truncate(alloc, args),
         "list" => only_target(alloc, args).map(Call::ReadDir),
         "stat" => only_target(alloc, args).map(Call::Stat),
         "exec" => only_target(alloc, args).map(Call::Exec),
         "unlink" => only_target(alloc, args).map(Call::Unlink),
         "rmdir" => only_target(alloc, args).map(Call::Rmdir),
+        "rename" => two_targets(alloc, args).map(|(old, new)| Call::Rename(old, new)),
+        "link" => two_targets(alloc, args).map(|(old, new)| Call::Link(old, new)),
         "ruleset" => ruleset(args),
         "allow" => allow(alloc, args),
         "confine" => confine(args),
+        "spawn" => spawn(args),
         _ => Err(Errno::BadLine),
     }
 }
 
-/// The call that a line spells, and which client of the session makes it (the first is 1).
-/// `BadLine` where it spells none, and `NoMemory` where it spells one that finds no room.
-pub fn read_command(alloc: Global, line: &[u8]) -> Result<(usize, Call), Errno>
-    ensures { Reads (λ v. SpellsCommand line.now v.0 v.1) result }
+// The client whose name comes first, or the first client, and its call, if there is such a client.
+fn command_of(alloc: Global, tokens: &[&str], clients: u64) -> Result<(u64, Call), Errno>
+    requires { 1 ≤ clients }
+    ensures { Reads (λ v. SpellsTokens (map (λ t. t.now) tokens.now) v.0 v.1 × (v.0 ≤ clients)) result }
+{
+    let [first, others @ ..] = tokens else {
+        return Err(Errno::BadLine);
+    };
+    match client_of(first) {
+        None => call_of(alloc, tokens).map(|call| (1, call)),
+        Some(client) if client <= clients => call_of(alloc, others).map(|call| (client, call)),
+        Some(_) => Err(Errno::BadLine),
+    }
+}
+
+/// The call that a line spells, and which of the session's clients makes it (the first is 1).
+/// `BadLine` where it spells none of one of them, and `NoMemory` where it spells one that finds no room.
+pub fn read_command(alloc: Global, line: &[u8], clients: u64) -> Result<(u64, Call), Errno>
+    requires { 1 ≤ clients }
+    ensures { Reads (λ v. SpellsCommand line.now v.0 v.1 × (v.0 ≤ clients)) result }
 {
     if line.len() > LINE_LIMIT {
         return Err(Errno::BadLine);
@@ -180,8 +292,5 @@ pub fn read_command(alloc: Global, line: &[u8]) -> Result<(usize, Call), Errno>
     let Some(count) = tokens_of(body, &mut tokens) else {
         return Err(Errno::BadLine);
     };
-    match call_of(alloc, &tokens[..count]) {
-        Ok(call) => Ok((1, call)),
-        Err(errno) => Err(errno),
-    }
+    command_of(alloc, &tokens[..count], clients)
 }

@@ -6,9 +6,14 @@ use crate::{command_text, read_command, reply_text};
 use ll_decide::{Cause, Denial, Place};
 use ll_path::{BadPath, Name, Target};
 use ll_rights::{Access, Errno, Kind, Right};
-use ll_seq::{AccessMode, Call, Listing, Mode, Reply, Status};
+use ll_seq::{AccessMode, Call, Creation, Listing, Mode, Reply, Status};
 use std::alloc::{AllocError, Global};
 use std::test::Fail;
+
+mod clients;
+mod descriptors;
+
+const MOST_CLIENTS: u64 = 64;
 
 // Whether the target is the good path of this text.
 fn is_path(target: &Target, text: &str) -> bool {
@@ -24,7 +29,7 @@ fn is_bad(target: &Target, reason: Errno) -> bool {
 fn reads<F: Fn(&Call) -> bool + Drop>(alloc: Global, line: &[u8], is_wanted: F) -> bool
     requires { F.IsAlwaysCallable is_wanted }
 {
-    let Ok((client, call)) = read_command(alloc, line) else {
+    let Ok((client, call)) = read_command(alloc, line, MOST_CLIENTS) else {
         return false;
     };
     client == 1 && is_wanted(&call)
@@ -52,23 +57,37 @@ fn make(rt: HostRuntime) {
     }
 }
 
-fn is_open(call: &Call, access: AccessMode, truncate: bool) -> bool {
-    let want = Mode { access, truncate };
+fn is_open(call: &Call, access: AccessMode, truncate: bool, creation: Creation) -> bool {
+    let want = Mode {
+        access,
+        truncate,
+        creation,
+    };
     matches!(call, Call::Open(mode, target) if *mode == want && is_path(target, "/a/b"))
 }
 
 #[test]
 fn open(rt: HostRuntime) {
-    for (line, access, truncate) in [
-        (b"open r /a/b\n".as_slice(), AccessMode::Read, false),
-        (b"open w /a/b\n", AccessMode::Write, false),
-        (b"open rw /a/b\n", AccessMode::ReadWrite, false),
-        (b"open rt /a/b\n", AccessMode::Read, true),
-        (b"open wt /a/b\n", AccessMode::Write, true),
-        (b"open rwt /a/b\n", AccessMode::ReadWrite, true),
+    use AccessMode::{Read, ReadWrite, Write};
+    use Creation::{Exclusive, IfMissing, Never};
+    for (line, access, truncate, creation) in [
+        (b"open r /a/b\n".as_slice(), Read, false, Never),
+        (b"open w /a/b\n", Write, false, Never),
+        (b"open rw /a/b\n", ReadWrite, false, Never),
+        (b"open rt /a/b\n", Read, true, Never),
+        (b"open wt /a/b\n", Write, true, Never),
+        (b"open rwt /a/b\n", ReadWrite, true, Never),
+        (b"open rc /a/b\n", Read, false, IfMissing),
+        (b"open wcx /a/b\n", Write, false, Exclusive),
+        (b"open rwtc /a/b\n", ReadWrite, true, IfMissing),
+        (b"open wtcx /a/b\n", Write, true, Exclusive),
     ] {
         assert!(rt;
-            reads(rt.alloc(), line, |call| is_open(call, access, truncate)),
+            reads(
+                rt.alloc(),
+                line,
+                |call| is_open(call, access, truncate, creation)
+            ),
             "{line:?}"
         );
     }
@@ -118,6 +137,37 @@ fn calls_of_one_path(rt: HostRuntime) {
             "{line:?}"
         );
     }
+}
+
+// Whether the call is of this name and names these two paths alone.
+fn is_of_paths(call: &Call, name: &str, first: &str, second: &str) -> bool {
+    match call {
+        Call::Rename(old, new) => name == "rename" && is_path(old, first) && is_path(new, second),
+        Call::Link(old, new) => name == "link" && is_path(old, first) && is_path(new, second),
+        _ => false,
+    }
+}
+
+#[test]
+fn calls_of_two_paths(rt: HostRuntime) {
+    for (line, name, first, second) in [
+        (b"rename /a/b /c\n".as_slice(), "rename", "/a/b", "/c"),
+        (b"link /c /a/b\n", "link", "/c", "/a/b"),
+    ] {
+        assert!(rt;
+            reads(
+                rt.alloc(),
+                line,
+                |call| is_of_paths(call, name, first, second)
+            ),
+            "{line:?}"
+        );
+    }
+}
+
+// Whether the call renames one word to another, and both are no paths for this reason.
+fn renames_nothing(call: &Call, reason: Errno) -> bool {
+    matches!(call, Call::Rename(old, new) if is_bad(old, reason) && is_bad(new, reason))
 }
 
 fn is_ruleset(call: &Call, want: u64) -> bool {
@@ -192,20 +242,28 @@ fn bad_paths_are_targets(rt: HostRuntime) -> Result<(), Fail> {
     }
     let longer = long_line(rt.alloc(), "make dir ", "x", 8_001)?;
     assert!(rt; is_bad_line(rt.alloc(), longer.as_bytes()));
+    let line = b"rename x y\n";
+    assert!(rt;
+        reads(
+            rt.alloc(),
+            line,
+            |call| renames_nothing(call, Errno::EINVAL)
+        )
+    );
     Ok(())
 }
 
-// Whether the line spells a command of the first client, and the command's spelling is the line.
+// Whether the line spells a command, and the command's spelling is the line.
 fn is_written_back(alloc: Global, line: &[u8]) -> Result<bool, AllocError> {
-    let Ok((client, call)) = read_command(alloc, line) else {
+    let Ok((client, call)) = read_command(alloc, line, MOST_CLIENTS) else {
         return Ok(false);
     };
-    let text = command_text(alloc, &call)?;
-    Ok(client == 1 && text.as_bytes() == line)
+    let text = command_text(alloc, client, &call)?;
+    Ok(text.as_bytes() == line)
 }
 
 fn is_bad_line(alloc: Global, line: &[u8]) -> bool {
-    matches!(read_command(alloc, line), Err(Errno::BadLine))
+    matches!(read_command(alloc, line, MOST_CLIENTS), Err(Errno::BadLine))
 }
 
 #[test]
@@ -231,6 +289,17 @@ fn other_lines_are_bad(rt: HostRuntime) {
         b"stat\n",
         b"stat /a /b\n",
         b"list  /\n",
+        b"rename\n",
+        b"rename /a\n",
+        b"rename /a \n",
+        b"rename /a /b /c\n",
+        b"rename /a /b\x01c\n",
+        b"rename /a\x01c /b\n",
+        b"link\n",
+        b"link /a\n",
+        b"link /a /b /c\n",
+        b"link /a /b\x7fc\n",
+        b"link /a\tc /b\n",
         b"names\n",
         b"@1 make dir /a\n",
         b"open tr /f\n",
@@ -238,6 +307,15 @@ fn other_lines_are_bad(rt: HostRuntime) {
         b"open rtt /f\n",
         b"open wr /f\n",
         b"open dir /f\n",
+        b"open rx /f\n",
+        b"open rtx /f\n",
+        b"open rxc /f\n",
+        b"open rct /f\n",
+        b"open rcc /f\n",
+        b"open rcxx /f\n",
+        b"open wcxt /f\n",
+        b"open cr /f\n",
+        b"open cx /f\n",
         b"ruleset read_file,write_file\n",
         b"ruleset 0x4\n",
         b"allow 0 /\n",
@@ -330,6 +408,11 @@ fn lines_on_paths_are_written_back(rt: HostRuntime) -> Result<(), Fail> {
         b"open r /a/b/f\n",
         b"exec /a/b/f\n",
         b"exec /a\n",
+        b"rename /a/f /b/f\n",
+        b"rename x /b\n",
+        b"rename /a /b/..\n",
+        b"link /f /g\n",
+        b"link /f x\n",
     ] {
         assert!(rt; is_written_back(rt.alloc(), line)?, "{line:?}");
     }
@@ -356,6 +439,36 @@ fn long_lines_are_written_back(rt: HostRuntime) -> Result<(), Fail> {
     Ok(())
 }
 
+// A rename of one word to another, each an x this many times over.
+fn long_rename(alloc: Global, old: u32, new: u32) -> Result<String, AllocError> {
+    let mut line = String::from_str(alloc, "rename ")?;
+    for _ in 0..old {
+        line.push_str("x")?;
+    }
+    line.push_str(" ")?;
+    for _ in 0..new {
+        line.push_str("x")?;
+    }
+    line.push_str("\n")?;
+    Ok(line)
+}
+
+#[test]
+fn two_long_words(rt: HostRuntime) -> Result<(), Fail> {
+    for (old, new, is_line) in [
+        (8_000, 8_000, true),
+        (8_000, 8_001, false),
+        (8_001, 8_000, false),
+        (1, 8_001, false),
+        (8_001, 1, false),
+    ] {
+        let line = long_rename(rt.alloc(), old, new)?;
+        assert_eq!(rt; is_written_back(rt.alloc(), line.as_bytes())?, is_line);
+        assert_eq!(rt; is_bad_line(rt.alloc(), line.as_bytes()), !is_line);
+    }
+    Ok(())
+}
+
 #[test]
 fn each_mode_is_written_back(rt: HostRuntime) -> Result<(), Fail> {
     for line in [
@@ -365,6 +478,18 @@ fn each_mode_is_written_back(rt: HostRuntime) -> Result<(), Fail> {
         b"open rt /f\n",
         b"open wt /f\n",
         b"open rwt /f\n",
+        b"open rc /f\n",
+        b"open wc /f\n",
+        b"open rwc /f\n",
+        b"open rtc /f\n",
+        b"open wtc /f\n",
+        b"open rwtc /f\n",
+        b"open rcx /f\n",
+        b"open wcx /f\n",
+        b"open rwcx /f\n",
+        b"open rtcx /f\n",
+        b"open wtcx /f\n",
+        b"open rwtcx /f\n",
     ] {
         assert!(rt; is_written_back(rt.alloc(), line)?, "{line:?}");
     }

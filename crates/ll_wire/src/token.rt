@@ -3,7 +3,7 @@
 ghost use Rattle.std.specs.Prelude.{◌≡◌, ◌≢◌, ◌<◌, ◌≤◌, ◌==◌, ◌∷◌, [], ◌++◌, ℕ, List, map, length, take, slice_index, MatchBool, IfSome, IfNone};
 ghost use Rattle.std.specs.List.{slice_split};
 ghost use Rattle.std.specs.Str.{IsAscii};
-ghost use Rattle.ll_wire.specs.Reads.{Finds, SpellsNumber};
+ghost use Rattle.ll_wire.specs.Reads.{Finds, SpellsNumber, NamesClient};
 
 // What stands before the line feed.
 pub(crate) fn body_of(line: &[u8]) -> Option<&str>
@@ -55,4 +55,15 @@ pub(crate) fn number_of(token: &str) -> Option<u64>
         return None;
     }
     token.parse::<u64>().ok()
+}
+
+// The first client's number is never written.
+pub(crate) fn client_of(token: &str) -> Option<u64>
+    ensures { Finds (NamesClient token.now) result }
+{
+    let number = number_of(token.strip_prefix('@')?)?;
+    if number < 2 || number > 64 {
+        return None;
+    }
+    Some(number)
 }

@@ -1,12 +1,13 @@
 //! Writing commands and replies.
 
-ghost use Rattle.std.specs.Prelude.{◌≡◌, [], ◌∷◌, ◌++◌, map, codes, IfOk, OnOk, string_bytes};
-ghost use Rattle.ll_wire.specs.Grammar.{line_of, mode_text, call_tokens, IsCall, IsReply, reply_line};
+ghost use Rattle.std.specs.Prelude.{◌≡◌, [], ◌∷◌, ◌++◌, map, decimal, codes, IfOk, OnOk, string_bytes};
+ghost use Rattle.ll_wire.specs.Grammar.{line_of, mode_text, call_tokens, IsCall, client_tokens, IsClient, IsReply, reply_line};
 
+use crate::bytes::data_text;
 use ll_decide::Denial;
-use ll_path::{Name, Target};
+use ll_path::{Data, Name, Target};
 use ll_rights::Access;
-use ll_seq::{AccessMode, Call, Mode, Reply, Status};
+use ll_seq::{AccessMode, Call, Creation, Mode, Reply, Status};
 use std::alloc::{AllocError, Global};
 
 fn push_token(text: &mut String, token: &str) -> Result<(), AllocError>
@@ -45,7 +46,19 @@ fn mode_text(alloc: Global, mode: Mode) -> Result<String, AllocError>
     if mode.truncate {
         text.push_str("t")?;
     }
+    text.push_str(match mode.creation {
+        Creation::Never => "",
+        Creation::IfMissing => "c",
+        Creation::Exclusive => "cx",
+    })?;
     Ok(text)
+}
+
+fn number_text(alloc: Global, name: &str, number: u64) -> Result<String, AllocError>
+    ensures { IfOk result (λ text. string_bytes text ≡ line_of (name.now ∷ decimal number ∷ [])) }
+{
+    let number = number.to_string(alloc)?;
+    line_text(alloc, name, &[number.as_str()])
 }
 
 // A call's name and two tokens. They share a lifetime, since an array of references has one.
@@ -67,6 +80,46 @@ fn three_args<'a>(
     line_text(alloc, name, &[one, two, three])
 }
 
+fn open_text(alloc: Global, mode: Mode, target: &Target) -> Result<String, AllocError>
+    ensures { IfOk result (λ text. string_bytes text ≡ line_of (call_tokens (Call.Open mode target.now))) }
+{
+    let mode = mode_text(alloc, mode)?;
+    two_args(alloc, "open", mode.as_str(), target.as_str())
+}
+
+fn read_text(alloc: Global, fd: u64, offset: u64, count: u64) -> Result<String, AllocError>
+    ensures { IfOk result (λ text. string_bytes text ≡ line_of (call_tokens (Call.Read fd offset count))) }
+{
+    let fd = fd.to_string(alloc)?;
+    let offset = offset.to_string(alloc)?;
+    let count = count.to_string(alloc)?;
+    three_args(alloc, "read", fd.as_str(), offset.as_str(), count.as_str())
+}
+
+fn write_text(alloc: Global, fd: u64, offset: u64, bytes: &Data) -> Result<String, AllocError>
+    ensures { IfOk result (λ text. string_bytes text ≡ line_of (call_tokens (Call.Write fd offset bytes.now))) }
+{
+    let fd = fd.to_string(alloc)?;
+    let offset = offset.to_string(alloc)?;
+    let bytes = data_text(alloc, bytes)?;
+    three_args(alloc, "write", fd.as_str(), offset.as_str(), bytes.as_str())
+}
+
+fn ftruncate_text(alloc: Global, fd: u64, size: u64) -> Result<String, AllocError>
+    ensures { IfOk result (λ text. string_bytes text ≡ line_of (call_tokens (Call.Ftruncate fd size))) }
+{
+    let fd = fd.to_string(alloc)?;
+    let size = size.to_string(alloc)?;
+    two_args(alloc, "ftruncate", fd.as_str(), size.as_str())
+}
+
+fn truncate_text(alloc: Global, target: &Target, size: u64) -> Result<String, AllocError>
+    ensures { IfOk result (λ text. string_bytes text ≡ line_of (call_tokens (Call.Truncate target.now size))) }
+{
+    let size = size.to_string(alloc)?;
+    two_args(alloc, "truncate", target.as_str(), size.as_str())
+}
+
 fn allow_text(
     alloc: Global,
     number: u64,
@@ -86,37 +139,58 @@ fn allow_text(
     )
 }
 
-/// The one spelling of a call of the session's first client.
-pub fn command_text(alloc: Global, call: &Call) -> Result<String, AllocError>
+fn call_text(alloc: Global, call: &Call) -> Result<String, AllocError>
     requires { IsCall call.now }
     ensures { IfOk result (λ text. string_bytes text ≡ line_of (call_tokens call.now)) }
 {
     match call {
         Call::Make(kind, target) => two_args(alloc, "make", kind.text(), target.as_str()),
-        Call::Open(mode, target) => {
-            let mode = mode_text(alloc, *mode)?;
-            two_args(alloc, "open", mode.as_str(), target.as_str())
-        }
-        Call::Truncate(target, size) => {
-            let size = size.to_string(alloc)?;
-            two_args(alloc, "truncate", target.as_str(), size.as_str())
-        }
+        Call::Open(mode, target) => open_text(alloc, *mode, target),
+        Call::Read(fd, offset, count) => read_text(alloc, *fd, *offset, *count),
+        Call::Write(fd, offset, bytes) => write_text(alloc, *fd, *offset, bytes),
+        Call::Ftruncate(fd, size) => ftruncate_text(alloc, *fd, *size),
+        Call::Close(fd) => number_text(alloc, "close", *fd),
+        Call::Truncate(target, size) => truncate_text(alloc, target, *size),
         Call::ReadDir(target) => line_text(alloc, "list", &[target.as_str()]),
         Call::Stat(target) => line_text(alloc, "stat", &[target.as_str()]),
         Call::Exec(target) => line_text(alloc, "exec", &[target.as_str()]),
         Call::Unlink(target) => line_text(alloc, "unlink", &[target.as_str()]),
         Call::Rmdir(target) => line_text(alloc, "rmdir", &[target.as_str()]),
+        Call::Rename(old, new) => two_args(alloc, "rename", old.as_str(), new.as_str()),
+        Call::Link(old, new) => two_args(alloc, "link", old.as_str(), new.as_str()),
         Call::Ruleset(rights) => {
             let rights = rights.text(alloc)?;
             line_text(alloc, "ruleset", &[rights.as_str()])
         }
         Call::Allow(number, target, rights) => allow_text(alloc, *number, target, *rights),
-        Call::Confine(number) => {
-            let number = number.to_string(alloc)?;
-            line_text(alloc, "confine", &[number.as_str()])
-        }
+        Call::Confine(number) => number_text(alloc, "confine", *number),
+        Call::Spawn => line_text(alloc, "spawn", &[]),
         Call::Connect => unreachable!(),
     }
+}
+
+/// The one spelling of a command.
+pub fn command_text(alloc: Global, client: u64, call: &Call) -> Result<String, AllocError>
+    requires client { IsClient client }
+    requires call { IsCall call.now }
+    ensures { IfOk result (λ text. string_bytes text ≡ line_of (client_tokens client ++ call_tokens call.now)) }
+{
+    let text = call_text(alloc, call)?;
+    if client == 1 {
+        return Ok(text);
+    }
+    let client = client.to_string(alloc)?;
+    let mut line = String::from_str(alloc, "@")?;
+    line.push_str(client.as_str())?;
+    push_token(&mut line, text.as_str())?;
+    Ok(line)
+}
+
+fn bytes_text(alloc: Global, bytes: &Data) -> Result<String, AllocError>
+    ensures { IfOk result (λ text. string_bytes text ≡ reply_line (Reply.Bytes bytes.now)) }
+{
+    let bytes = data_text(alloc, bytes)?;
+    line_text(alloc, "data", &[bytes.as_str()])
 }
 
 fn names_text(alloc: Global, names: &[Name]) -> Result<String, AllocError>
@@ -164,16 +238,13 @@ pub fn reply_text(alloc: Global, reply: &Reply) -> Result<String, AllocError>
 {
     match reply {
         Reply::Done => line_text(alloc, "ok", &[]),
-        Reply::Opened(number) => {
-            let number = number.to_string(alloc)?;
-            line_text(alloc, "fd", &[number.as_str()])
-        }
+        Reply::Opened(number) => number_text(alloc, "fd", *number),
+        Reply::Bytes(bytes) => bytes_text(alloc, bytes),
+        Reply::Wrote(count) => number_text(alloc, "wrote", *count),
         Reply::Listed(listing) => names_text(alloc, listing.names()),
         Reply::Found(status) => status_text(alloc, status),
-        Reply::Created(number) => {
-            let number = number.to_string(alloc)?;
-            line_text(alloc, "ruleset", &[number.as_str()])
-        }
+        Reply::Created(number) => number_text(alloc, "ruleset", *number),
+        Reply::Spawned(number) => number_text(alloc, "client", *number),
         Reply::Refused(errno) => {
             let number = errno.number().to_string(alloc)?;
             line_text(alloc, "refused", &[number.as_str(), errno.text()])

@@ -4,34 +4,21 @@ use super::replies_over;
 use crate::options::Options;
 use std::test::Fail;
 
-const RUN: &[&str] = &["landtree", "run", "-"];
+pub(super) const RUN: &[&str] = &["landtree", "run", "-"];
 
-// What is written for a script that the words run.
-fn run_by(rt: &HostRuntime, words: &[&str], script: &[u8]) -> Result<Vec<u8>, Fail> {
-    match Options::read(rt.alloc(), words) {
-        Ok(Some(options)) => replies_over(rt, &options.setup, script),
-        _ => Err(Fail::from("the words are refused")),
-    }
-}
+/// A name, the program's words, the script and what is written for it.
+pub(super) type Example = (
+    &'static str,
+    &'static [&'static str],
+    &'static [u8],
+    &'static [u8],
+);
 
-// Each part so many times.
-fn repeated(rt: &HostRuntime, parts: &[(&[u8], usize)]) -> Result<Vec<u8>, Fail> {
-    let mut script = Vec::new(rt.alloc());
-    for (part, times) in parts {
-        for _ in 0..*times {
-            script.extend_from_slice(part)?;
-        }
-    }
-    Ok(script)
-}
-
-#[test]
-fn examples(rt: HostRuntime) -> Result<(), Fail> {
-    let examples: [(&str, &[&str], &[u8], &[u8]); 7] = [
-        (
-            "union-along-the-path",
-            RUN,
-            b"\
+pub(super) const EXAMPLES: &[Example] = &[
+    (
+        "union-along-the-path",
+        RUN,
+        b"\
 make dir /a
 make dir /a/b
 make reg /a/b/f
@@ -43,7 +30,7 @@ open r /a/b/f
 exec /a/b/f
 exec /a
 ",
-            b"\
+        b"\
 ok
 ok
 ok
@@ -55,29 +42,29 @@ fd 0
 ok
 denied EACCES layer 1 execute at
 ",
-        ),
-        (
-            "two-nodes",
-            &["landtree", "run", "-", "--nodes", "2"],
-            b"\
+    ),
+    (
+        "two-nodes",
+        &["landtree", "run", "-", "--nodes", "2"],
+        b"\
 make reg /a
 make reg /b
 unlink /a
 make reg /b
 stat /b
 ",
-            b"\
+        b"\
 ok
 refused 13 ENOSPC
 ok
 ok
 stat 3 reg 0 1
 ",
-        ),
-        (
-            "roots-kinds-and-paths",
-            RUN,
-            b"\
+    ),
+    (
+        "roots-kinds-and-paths",
+        RUN,
+        b"\
 make dir /
 stat /a/
 make reg /f
@@ -90,7 +77,7 @@ open r /p
 unlink /
 list /
 ",
-            b"\
+        b"\
 refused 10 EBUSY
 refused 8 EINVAL
 ok
@@ -103,11 +90,11 @@ refused 18 ENXIO
 refused 10 EBUSY
 names f p s
 ",
-        ),
-        (
-            "place-of-one-path-is-at",
-            RUN,
-            b"\
+    ),
+    (
+        "place-of-one-path-is-at",
+        RUN,
+        b"\
 make dir /d
 ruleset remove_file,make_reg
 allow 0 /d make_reg
@@ -118,7 +105,7 @@ make reg /g
 make fifo /g
 rmdir /g
 ",
-            b"\
+        b"\
 ok
 ruleset 0
 ok
@@ -129,114 +116,50 @@ denied EACCES layer 1 make_reg at
 ok
 refused 5 ENOTDIR
 ",
-        ),
-        (
-            "truncate-too-long",
-            RUN,
-            b"\
+    ),
+    (
+        "truncate-too-long",
+        RUN,
+        b"\
 make reg /f
 truncate /f 65537
 truncate /f 65536
 stat /f
 ",
-            b"\
+        b"\
 ok
 refused 16 EFBIG
 ok
 stat 2 reg 65536 1
 ",
-        ),
-        (
-            "malformed-crlf",
-            RUN,
-            b"stat /\r\n",
-            b"refused 23 BadLine\n",
-        ),
-        (
-            "malformed-empty-line",
-            RUN,
-            b"stat /\n\n",
-            b"stat 1 dir 0 1\nrefused 23 BadLine\n",
-        ),
-    ];
-    for (name, words, script, want) in examples {
-        let out = run_by(&rt, words, script)?;
-        assert_eq!(rt; out.as_slice(), want, "{name}");
+    ),
+    (
+        "malformed-crlf",
+        RUN,
+        b"stat /\r\n",
+        b"refused 23 BadLine\n",
+    ),
+    (
+        "malformed-empty-line",
+        RUN,
+        b"stat /\n\n",
+        b"stat 1 dir 0 1\nrefused 23 BadLine\n",
+    ),
+];
+
+/// What is written for a script that the words run.
+pub(super) fn run_by(rt: &HostRuntime, words: &[&str], script: &[u8]) -> Result<Vec<u8>, Fail> {
+    match Options::read(rt.alloc(), words) {
+        Ok(Some(options)) => replies_over(rt, &options.setup, script),
+        _ => Err(Fail::from("the words are refused")),
     }
-    Ok(())
 }
 
 #[test]
-fn path_texts(rt: HostRuntime) -> Result<(), Fail> {
-    let parts: [(&[u8], usize); 13] = [
-        (
-            b"\
-stat /
-stat /a/b
-stat a
-stat //
-stat /a//b
-stat /a/
-stat /a/..
-stat /",
-            1,
-        ),
-        (b"x", 255),
-        (b"\nstat /", 1),
-        (b"x", 256),
-        (b"\nstat ", 1),
-        (b"/a", 64),
-        (b"\nstat ", 1),
-        (b"/a", 65),
-        (b"\nstat /./", 1),
-        (b"x", 256),
-        (b"\nstat ", 1),
-        (b"x", 4096),
-        (b"\n", 1),
-    ];
-    let script = repeated(&rt, parts.as_slice())?;
-    let out = run_by(&rt, RUN, script.as_slice())?;
-    let want: &[u8] = b"\
-stat 1 dir 0 1
-refused 3 ENOENT
-refused 8 EINVAL
-refused 8 EINVAL
-refused 8 EINVAL
-refused 8 EINVAL
-refused 8 EINVAL
-refused 3 ENOENT
-refused 15 ENAMETOOLONG
-refused 3 ENOENT
-refused 15 ENAMETOOLONG
-refused 8 EINVAL
-refused 15 ENAMETOOLONG
-";
-    assert_eq!(rt; out.as_slice(), want);
-    Ok(())
-}
-
-#[test]
-fn malformed_word(rt: HostRuntime) -> Result<(), Fail> {
-    let parts: [(&[u8], usize); 5] = [
-        (b"stat ", 1),
-        (b"x", 8000),
-        (b"\nstat ", 1),
-        (b"x", 8001),
-        (b"\n", 1),
-    ];
-    let script = repeated(&rt, parts.as_slice())?;
-    let out = run_by(&rt, RUN, script.as_slice())?;
-    let want: &[u8] = b"refused 15 ENAMETOOLONG\nrefused 23 BadLine\n";
-    assert_eq!(rt; out.as_slice(), want);
-    Ok(())
-}
-
-#[test]
-fn malformed_long(rt: HostRuntime) -> Result<(), Fail> {
-    let parts: [(&[u8], usize); 2] = [(b"x", 20000), (b"\nstat /\n", 1)];
-    let script = repeated(&rt, parts.as_slice())?;
-    let out = run_by(&rt, RUN, script.as_slice())?;
-    let want: &[u8] = b"refused 23 BadLine\nstat 1 dir 0 1\n";
-    assert_eq!(rt; out.as_slice(), want);
+fn examples(rt: HostRuntime) -> Result<(), Fail> {
+    for (name, words, script, want) in EXAMPLES {
+        let out = run_by(&rt, words, script)?;
+        assert_eq!(rt; out.as_slice(), *want, "{name}");
+    }
     Ok(())
 }

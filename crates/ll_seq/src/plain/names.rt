@@ -5,7 +5,7 @@ ghost use Rattle.ll_rights.specs.Map.{len};
 ghost use Rattle.ll_path.specs.Name.{IsName};
 ghost use Rattle.ll_seq.specs.State.{child, slot};
 ghost use Rattle.ll_seq.specs.Stages.{has_names, is_crowded};
-ghost use Rattle.ll_seq.specs.Effects.{lives, with_node, without_name};
+ghost use Rattle.ll_seq.specs.Effects.{let_go, lives, with_node, without_name};
 ghost use Rattle.ll_seq.specs.Deciding.{Comes};
 ghost use Rattle.ll_seq.specs.declared.call.Call.TheVariants as calls;
 
@@ -20,15 +20,22 @@ use std::alloc::AllocError;
 const MOST_ENTRIES: usize = 1024;
 
 impl Plain {
+    /// Whether the directory has no room for one entry more.
+    pub(super) fn is_crowded(&self, directory: u64) -> bool
+        ensures { result ≡ is_crowded self.now directory }
+    {
+        MOST_ENTRIES <= self.entries.count_in(directory)
+    }
+
     /// Whether the directory or the tree has no room for one more.
-    fn is_full(&self, directory: u64) -> bool
+    pub(super) fn is_full(&self, directory: u64) -> bool
         ensures { result ≡ (is_crowded self.now directory || nat_le self.now.room (len self.now.nodes)) }
     {
-        MOST_ENTRIES <= self.entries.count_in(directory) || self.room <= self.nodes.len()
+        self.is_crowded(directory) || self.room <= self.nodes.len()
     }
 
     /// A new empty node with this name, which the directory doesn't have.
-    fn add(&mut self, directory: u64, name: &str, kind: Kind) -> Result<(), AllocError>
+    pub(super) fn add(&mut self, directory: u64, name: &str, kind: Kind) -> Result<(), AllocError>
         requires next { self.old.next < 2 ^ 64 - 1 }
         requires name { IsName name.now }
         requires missing { child self.old directory name.now ≡ None }
@@ -84,6 +91,13 @@ impl Plain {
         ensures { self.new ≡ without_name self.old (slot directory name.now) inode }
     {
         self.entries.remove(directory, name);
+        self.let_go(inode);
+    }
+
+    /// Takes away the node that lost a name, where nothing keeps it alive.
+    pub(super) fn let_go(&mut self, inode: u64)
+        ensures { self.new ≡ let_go self.old inode }
+    {
         if !self.lives(inode) {
             self.nodes.remove(inode);
         }
@@ -110,7 +124,7 @@ impl Plain {
         Reply::Done
     }
 
-    fn has_names(&self, directory: u64) -> bool
+    pub(super) fn has_names(&self, directory: u64) -> bool
         ensures { result ≡ has_names self.now directory }
     {
         self.entries.count_in(directory) != 0

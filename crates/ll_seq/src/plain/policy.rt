@@ -1,18 +1,17 @@
 //! What the layers grant, asked of whole paths.
 
-ghost use Rattle.std.specs.Prelude.{◌≡◌, map, slice_get, Option, None};
-ghost use Rattle.ll_rights.specs.declared.errno.Errno.{Errno};
-ghost use Rattle.ll_decide.specs.Verdict.{denials, lacks, places, verdict};
-ghost use Rattle.ll_decide.specs.declared.denial.Place.TheVariants.{At};
+ghost use Rattle.std.specs.Prelude.{◌≡◌, map, option_map, slice_get, Option, Some, None};
+ghost use Rattle.ll_decide.specs.Verdict.{denials, gain_denials, gains, lacks, places, verdict};
+ghost use Rattle.ll_decide.specs.declared.denial.Place.TheVariants.{At, Old, New};
 ghost use Rattle.ll_path.specs.Path.{parent};
 ghost use Rattle.ll_seq.specs.Asked.{ask, grants, kept_at};
 ghost use Rattle.ll_seq.specs.Step.{client_of};
-ghost use Rattle.ll_seq.specs.Deciding.{ask_of, spot, of_right, of_layer};
+ghost use Rattle.ll_seq.specs.Deciding.{ask_of, move_of, spot, fails, of_right, of_layer, of_all};
 
 use crate::plain::{Plain, ROOT};
 use ll_decide::{Cause, Denial, Place};
 use ll_path::{Names, Path};
-use ll_rights::Right;
+use ll_rights::{Kind, Right};
 use ll_rules::{Domain, Layer};
 
 /// Whether a right is asked on a path itself or on its parent.
@@ -46,11 +45,31 @@ impl<'a> Asked<'a> {
     pub(super) fn at_parent(path: &'a Path, right: Right) -> Asked<'a>
         ensures { ask_of result ≡ ask (parent path.now) right At }
     {
+        Asked::on_parent(path, right, Place::At)
+    }
+
+    /// On the directory that is left.
+    pub(super) fn at_old_parent(path: &'a Path, right: Right) -> Asked<'a>
+        ensures { ask_of result ≡ ask (parent path.now) right Old }
+    {
+        Asked::on_parent(path, right, Place::Old)
+    }
+
+    /// On the directory that is entered.
+    pub(super) fn at_new_parent(path: &'a Path, right: Right) -> Asked<'a>
+        ensures { ask_of result ≡ ask (parent path.now) right New }
+    {
+        Asked::on_parent(path, right, Place::New)
+    }
+
+    fn on_parent(path: &'a Path, right: Right, place: Place) -> Asked<'a>
+        ensures { ask_of result ≡ ask (parent path.now) right place }
+    {
         Asked {
             path,
             on: On::Parent,
             right,
-            place: Place::At,
+            place,
         }
     }
 
@@ -63,6 +82,34 @@ impl<'a> Asked<'a> {
         }
     }
 }
+
+/// A node of this kind that gets a name in another directory: its own path, and the new one.
+#[derive(Clone, Copy)]
+pub struct Moving<'a> {
+    pub old: &'a Path,
+    pub new: &'a Path,
+    pub kind: Kind,
+}
+
+/// Why a layer denies a right in a place.
+#[derive(Clone, Copy)]
+enum Ground<'a> {
+    /// It doesn't grant what is asked so.
+    Lacks(&'a [Asked<'a>]),
+    /// The node would gain the right.
+    Gains(&'a Moving<'a>),
+}
+
+/// Which denials are looked for.
+#[derive(Clone, Copy)]
+struct Search<'a> {
+    cause: Cause,
+    rights: &'a [Right],
+    places: &'a [Place],
+    ground: Ground<'a>,
+}
+
+const PLACES: [Place; 3] = [Place::At, Place::Old, Place::New];
 
 /// All rights but refer.
 const BUT_REFER: [Right; 14] = [
@@ -115,49 +162,70 @@ impl Plain {
         false
     }
 
+    /// Whether the node would have the right in its new directory, and doesn't have it by its own path.
+    fn gains(&self, layer: &Layer, moving: &Moving<'_>, right: Right) -> bool
+        ensures { result ≡ gains (grants self.now) (move_of moving.now) layer.now right New }
+    {
+        moving.kind.relevant().holds(right)
+            && self.grants(layer, moving.new.parent(), right)
+            && !self.grants(layer, moving.old.names(), right)
+    }
+
+    fn fails(&self, layer: &Layer, ground: Ground<'_>, right: Right, place: Place) -> bool
+        ensures { result ≡ fails self.now ground.entry layer.now right place }
+    {
+        match ground {
+            Ground::Lacks(asks) => self.lacks(layer, asks, right, place),
+            Ground::Gains(moving) => self.gains(layer, moving, right),
+        }
+    }
+
     fn right_denial(
         &self,
-        cause: Cause,
+        search: &Search<'_>,
         layer: &Layer,
         number: u64,
         right: Right,
-        asks: &[Asked<'_>],
     ) -> Option<Denial>
-        ensures { result ≡ slice_get (of_right self.now cause layer.now number (map ask_of asks.now) right) 0 }
+        ensures { result ≡ slice_get (of_right self.now search.now layer.now number right) 0 }
     {
-        for place in [Place::At, Place::Old, Place::New] {
-            if self.lacks(layer, asks, right, place) {
+        for place in search.places {
+            if self.fails(layer, search.ground, right, *place) {
                 return Some(Denial {
-                    cause,
+                    cause: search.cause,
                     layer: number,
                     right,
-                    place,
+                    place: *place,
                 });
             }
         }
         None
     }
 
-    fn layer_denial(
-        &self,
-        cause: Cause,
-        layer: &Layer,
-        number: u64,
-        rights: &[Right],
-        asks: &[Asked<'_>],
-    ) -> Option<Denial>
-        ensures { result ≡ slice_get (of_layer self.now cause layer.now number rights.now (map ask_of asks.now)) 0 }
+    fn layer_denial(&self, search: &Search<'_>, layer: &Layer, number: u64) -> Option<Denial>
+        ensures { result ≡ slice_get (of_layer self.now search.now (number, layer.now)) 0 }
     {
-        for right in rights {
-            if let Some(denial) = self.right_denial(cause, layer, number, *right, asks) {
+        for right in search.rights {
+            if let Some(denial) = self.right_denial(search, layer, number, *right) {
                 return Some(denial);
             }
         }
         None
     }
 
-    /// The oldest layer's least denial for want of some of these rights.
-    fn first_denial(
+    /// The oldest layer's least denial.
+    fn first_denial(&self, search: &Search<'_>, domain: &Domain) -> Option<Denial>
+        ensures { result ≡ slice_get (of_all self.now search.now domain.now) 0 }
+    {
+        for (i, layer) in domain.layers().iter().enumerate() {
+            if let Some(denial) = self.layer_denial(search, layer, i as u64 + 1) {
+                return Some(denial);
+            }
+        }
+        None
+    }
+
+    fn missing(
         &self,
         cause: Cause,
         domain: &Domain,
@@ -166,29 +234,50 @@ impl Plain {
     ) -> Option<Denial>
         ensures { result ≡ slice_get (denials cause domain.now rights.now places (lacks (grants self.now) (map ask_of asks.now))) 0 }
     {
-        for (i, layer) in domain.layers().iter().enumerate() {
-            if let Some(denial) = self.layer_denial(cause, layer, i as u64 + 1, rights, asks) {
-                return Some(denial);
-            }
-        }
-        None
+        let search = Search {
+            cause,
+            rights,
+            places: &PLACES,
+            ground: Ground::Lacks(asks),
+        };
+        self.first_denial(&search, domain)
     }
 
-    /// What the domain denies where these rights are asked.
-    fn denial(&self, domain: &Domain, asks: &[Asked<'_>]) -> Option<Denial>
-        ensures { result ≡ verdict (grants self.now) domain.now (map ask_of asks.now) None }
+    fn gained(&self, domain: &Domain, moving: &Moving<'_>) -> Option<Denial>
+        ensures { result ≡ slice_get (gain_denials (grants self.now) domain.now (Some (move_of moving.now))) 0 }
     {
-        if let Some(denial) = self.first_denial(Cause::EACCES, domain, &BUT_REFER, asks) {
+        let search = Search {
+            cause: Cause::EXDEV,
+            rights: &Right::ALL,
+            places: &[Place::New],
+            ground: Ground::Gains(moving),
+        };
+        self.first_denial(&search, domain)
+    }
+
+    /// What the domain denies where these rights are asked, and a node moves.
+    fn denial(
+        &self,
+        domain: &Domain,
+        asks: &[Asked<'_>],
+        moving: Option<Moving<'_>>,
+    ) -> Option<Denial>
+        ensures { result ≡ verdict (grants self.now) domain.now (map ask_of asks.now) (option_map move_of moving.entry) }
+    {
+        if let Some(denial) = self.missing(Cause::EACCES, domain, &BUT_REFER, asks) {
             return Some(denial);
         }
-        self.first_denial(Cause::EXDEV, domain, &[Right::REFER], asks)
+        if let Some(denial) = self.missing(Cause::EXDEV, domain, &[Right::REFER], asks) {
+            return Some(denial);
+        }
+        self.gained(domain, &moving?)
     }
 
     /// The number of the oldest layer that doesn't grant truncate on the path.
     fn kept(&self, domain: &Domain, path: &Path) -> Option<u64>
         ensures { result ≡ kept_at self.now domain.now path.now }
     {
-        match self.denial(domain, &[Asked::at(path, Right::TRUNCATE)]) {
+        match self.denial(domain, &[Asked::at(path, Right::TRUNCATE)], None) {
             None => None,
             Some(denial) => Some(denial.layer),
         }
@@ -200,7 +289,22 @@ impl Plain {
     {
         match self.clients.get(client) {
             None => None,
-            Some(record) => self.denial(&record.domain, asks),
+            Some(record) => self.denial(&record.domain, asks, None),
+        }
+    }
+
+    /// The same where a node moves to another directory besides.
+    pub(super) fn denied_move(
+        &self,
+        client: u64,
+        asks: &[Asked<'_>],
+        moving: Moving<'_>,
+    ) -> Option<Denial>
+        ensures { result ≡ verdict (grants self.now) (client_of self.now client).domain (map ask_of asks.now) (Some (move_of moving.entry)) }
+    {
+        match self.clients.get(client) {
+            None => None,
+            Some(record) => self.denial(&record.domain, asks, Some(moving)),
         }
     }
 

@@ -1,9 +1,9 @@
 //! Calls of clients on themselves.
 
-ghost use Rattle.std.specs.Prelude.{◌≡◌, true, false, slice_get, is_some};
+ghost use Rattle.std.specs.Prelude.{◌≡◌, true, false, slice_get, is_some, IfOk};
 ghost use Rattle.ll_rights.specs.Map.{has};
 ghost use Rattle.ll_seq.specs.Step.{client_of};
-ghost use Rattle.ll_seq.specs.Deciding.{Comes};
+ghost use Rattle.ll_seq.specs.Deciding.{Comes, ComesBy};
 ghost use Rattle.ll_seq.specs.declared.call.Call.TheVariants as calls;
 
 use crate::client::Client;
@@ -11,6 +11,8 @@ use crate::plain::Plain;
 use crate::reply::Reply;
 use ll_path::Target;
 use ll_rights::{Access, Errno};
+use ll_rules::Domain;
+use std::alloc::AllocError;
 
 const MOST_CLIENTS: usize = 64;
 
@@ -76,6 +78,34 @@ impl Plain {
         Reply::Done
     }
 
+    pub(super) fn spawn(&mut self, client: u64, fresh: u64) -> Reply
+        requires caller { has self.old.clients client ≡ true }
+        requires fresh { has self.old.clients fresh ≡ false }
+        ensures { ComesBy fresh self.old client calls.Spawn result self.new }
+    {
+        if MOST_CLIENTS <= self.clients.len() {
+            return Reply::Refused(Errno::EMFILE);
+        }
+        let Ok(domain) = self.domain_of(client) else {
+            return Reply::Refused(Errno::NoMemory);
+        };
+        let child = Client::new(self.alloc, domain);
+        if let Err(_) = self.clients.insert(fresh, child) {
+            return Reply::Refused(Errno::NoMemory);
+        }
+        Reply::Spawned(fresh)
+    }
+
+    /// The client's layers once more.
+    fn domain_of(&self, client: u64) -> Result<Domain, AllocError>
+        ensures { IfOk result (λ domain. domain ≡ (client_of self.now client).domain) }
+    {
+        match self.clients.get(client) {
+            None => Ok(Domain::empty(self.alloc)),
+            Some(record) => record.domain.copy(),
+        }
+    }
+
     pub(super) fn connect(&mut self, client: u64) -> Reply
         requires { has self.old.clients client ≡ false }
         ensures { Comes self.old client calls.Connect result self.new }
@@ -83,7 +113,7 @@ impl Plain {
         if MOST_CLIENTS <= self.clients.len() {
             return Reply::Refused(Errno::EMFILE);
         }
-        let record = Client::new(self.alloc);
+        let record = Client::new(self.alloc, Domain::empty(self.alloc));
         if let Err(_) = self.clients.insert(client, record) {
             return Reply::Refused(Errno::NoMemory);
         }

@@ -1,15 +1,15 @@
 //! Walks from the root.
 
-ghost use Rattle.std.specs.Prelude.{◌≡◌, ◌++◌, [], Some, slice_get, IfOk, IfErr, is_none, unwrap_or};
+ghost use Rattle.std.specs.Prelude.{◌≡◌, ◌==◌, ◌++◌, [], Some, slice_get, IfOk, IfErr, is_none, unwrap_or};
 ghost use Rattle.ll_rights.specs.declared.kind.Kind.{Kind};
 ghost use Rattle.ll_rights.specs.Errno.{refuse};
 ghost use Rattle.ll_rights.specs.Kind.{is_dir};
-ghost use Rattle.ll_path.specs.Name.{IsName};
-ghost use Rattle.ll_path.specs.Path.{parent, last_name, is_root};
+ghost use Rattle.ll_path.specs.Path.{parent, is_root};
 ghost use Rattle.ll_seq.specs.Call.{path_of};
 ghost use Rattle.ll_seq.specs.State.{child, kind_of, root};
-ghost use Rattle.ll_seq.specs.Tree.{named, directory_of};
+ghost use Rattle.ll_seq.specs.Tree.{named};
 ghost use Rattle.ll_seq.specs.Stages.{bad_text, in_the_way, way_to, missing};
+ghost use Rattle.ll_seq.specs.Deciding.{Stands};
 
 use crate::plain::{Plain, ROOT};
 use ll_path::{Names, Path, Target};
@@ -21,6 +21,15 @@ pub struct Spot<'a> {
     pub path: &'a Path,
     pub directory: u64,
     pub name: &'a str,
+}
+
+impl Spot<'_> {
+    /// Whether both names stand in one directory.
+    pub(super) fn is_beside(&self, other: &Spot<'_>) -> bool
+        ensures { result ≡ (self.now.directory == other.now.directory) }
+    {
+        self.directory == other.directory
+    }
 }
 
 impl Plain {
@@ -71,22 +80,31 @@ impl Plain {
         Ok(directory)
     }
 
+    /// The inode that the path names, if there is one, or what is in the way.
+    pub(super) fn seek(&self, path: &Path) -> Result<Option<u64>, Errno>
+        ensures way { IfOk result (λ inode. in_the_way self.now (parent path.now) root ≡ []) }
+        ensures found { IfOk result (λ inode. named self.now path.now ≡ inode) }
+        ensures refused { IfErr result (λ errno. slice_get (in_the_way self.now (parent path.now) root) 0 ≡ Some errno) }
+    {
+        let Some((parent, last)) = path.split_last() else {
+            return Ok(Some(ROOT));
+        };
+        match self.walk(parent) {
+            Err(errno) => Err(errno),
+            Ok(directory) => Ok(self.child(directory, last)),
+        }
+    }
+
     /// The inode that the path names, or why there is none.
     pub(super) fn look_up(&self, path: &Path) -> Result<u64, Errno>
         ensures way { IfOk result (λ inode. in_the_way self.now (parent path.now) root ≡ []) }
         ensures found { IfOk result (λ inode. named self.now path.now ≡ Some inode) }
         ensures refused { IfErr result (λ errno. slice_get (in_the_way self.now (parent path.now) root ++ refuse (is_none (named self.now path.now)) Errno.ENOENT) 0 ≡ Some errno) }
     {
-        let Some((parent, last)) = path.split_last() else {
-            return Ok(ROOT);
-        };
-        let directory = match self.walk(parent) {
-            Ok(directory) => directory,
-            Err(errno) => return Err(errno),
-        };
-        match self.child(directory, last) {
-            Some(inode) => Ok(inode),
-            None => Err(Errno::ENOENT),
+        match self.seek(path) {
+            Err(errno) => Err(errno),
+            Ok(None) => Err(Errno::ENOENT),
+            Ok(Some(inode)) => Ok(inode),
         }
     }
 
@@ -107,19 +125,12 @@ impl Plain {
         }
     }
 
-    /// Where the last name of the path stands that the target spells, or why it stands nowhere. The root's has no place.
-    pub(super) fn find_spot<'a>(&self, target: &'a Target) -> Result<Spot<'a>, Errno>
-        ensures path { IfOk result (λ spot. spot.path.now ≡ path_of target.now) }
-        ensures name { IfOk result (λ spot. (spot.name.now ≡ last_name (path_of target.now)) × IsName spot.name.now) }
-        ensures free { IfOk result (λ spot. bad_text target.now ++ (refuse (is_root (path_of target.now)) Errno.EBUSY ++ way_to self.now target.now) ≡ []) }
-        ensures directory { IfOk result (λ spot. spot.directory ≡ directory_of self.now (path_of target.now)) }
-        ensures child { IfOk result (λ spot. named self.now (path_of target.now) ≡ child self.now spot.directory spot.name.now) }
-        ensures refused { IfErr result (λ errno. slice_get (bad_text target.now ++ (refuse (is_root (path_of target.now)) Errno.EBUSY ++ way_to self.now target.now)) 0 ≡ Some errno) }
+    /// Where the last name of the path stands, or what is in the way. The root's has no place.
+    pub(super) fn spot<'a>(&self, path: &'a Path) -> Result<Spot<'a>, Errno>
+        ensures stands { IfOk result (λ spot. Stands self.now path.now spot) }
+        ensures free { IfOk result (λ spot. refuse (is_root path.now) Errno.EBUSY ++ in_the_way self.now (parent path.now) root ≡ []) }
+        ensures refused { IfErr result (λ errno. slice_get (refuse (is_root path.now) Errno.EBUSY ++ in_the_way self.now (parent path.now) root) 0 ≡ Some errno) }
     {
-        let path = match target {
-            Target::Bad(bad) => return Err(bad.errno),
-            Target::Good(path) => path,
-        };
         let Some((parent, name)) = path.split_last() else {
             return Err(Errno::EBUSY);
         };
@@ -130,6 +141,18 @@ impl Plain {
                 directory,
                 name,
             }),
+        }
+    }
+
+    /// Where the last name of the path stands that the target spells, or why it stands nowhere.
+    pub(super) fn find_spot<'a>(&self, target: &'a Target) -> Result<Spot<'a>, Errno>
+        ensures stands { IfOk result (λ spot. Stands self.now (path_of target.now) spot) }
+        ensures free { IfOk result (λ spot. bad_text target.now ++ (refuse (is_root (path_of target.now)) Errno.EBUSY ++ way_to self.now target.now) ≡ []) }
+        ensures refused { IfErr result (λ errno. slice_get (bad_text target.now ++ (refuse (is_root (path_of target.now)) Errno.EBUSY ++ way_to self.now target.now)) 0 ≡ Some errno) }
+    {
+        match target {
+            Target::Bad(bad) => Err(bad.errno),
+            Target::Good(path) => self.spot(path),
         }
     }
 }

@@ -1,7 +1,7 @@
 //! Calls of one path.
 
 use super::{Ask, READ, READ_WRITE, Session, WRITE, denied, numbered};
-use crate::{AccessMode, Mode, Reply, Status};
+use crate::{AccessMode, Creation, Mode, Reply, Status};
 use ll_rights::{Errno, Kind, Right};
 use std::process::Abort;
 use std::test::Fail;
@@ -9,9 +9,10 @@ use std::test::Fail;
 const READ_EMPTIED: Mode = Mode {
     access: AccessMode::Read,
     truncate: true,
+    creation: Creation::Never,
 };
 
-fn found(inode: u64, kind: Kind, size: u64, links: u64) -> Reply {
+pub(super) fn found(inode: u64, kind: Kind, size: u64, links: u64) -> Reply {
     Reply::Found(Status {
         inode,
         kind,
@@ -21,7 +22,7 @@ fn found(inode: u64, kind: Kind, size: u64, links: u64) -> Reply {
 }
 
 /// Lists the directory, and compares the names with these.
-fn check_names(
+pub(super) fn check_names(
     session: &mut Session,
     rt: &impl Abort,
     path: &str,

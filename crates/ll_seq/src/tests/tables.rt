@@ -3,7 +3,7 @@
 use crate::{Client, Content, Descriptor, Entries, Listing, Node, Rulesets, Table};
 use ll_path::Name;
 use ll_rights::{Access, Errno, Kind, Right};
-use ll_rules::Ruleset;
+use ll_rules::{Domain, Ruleset};
 use std::alloc::{AllocError, Global};
 use std::test::Fail;
 
@@ -185,7 +185,7 @@ const READER: Descriptor = Descriptor {
 
 #[test]
 fn clients_open(rt: HostRuntime) {
-    let mut client = Client::new(rt.alloc());
+    let mut client = Client::new(rt.alloc(), Domain::empty(rt.alloc()));
     assert_eq!(rt; again!(client.open(READER)), Ok(0));
     assert_eq!(rt; client.lowest_free(), Some(1));
     assert_eq!(rt; client.descriptors.get(0).copied(), Some(READER));
@@ -195,7 +195,7 @@ fn add_client(alloc: Global, clients: &mut Table<Client>, number: u64) -> Result
     if clients.get(number).is_some() {
         return Ok(());
     }
-    clients.insert(number, Client::new(alloc))
+    clients.insert(number, Client::new(alloc, Domain::empty(alloc)))
 }
 
 #[test]
@@ -214,7 +214,7 @@ fn files_are_open(rt: HostRuntime) -> Result<(), Fail> {
 
 #[test]
 fn clients_confine(rt: HostRuntime) {
-    let mut client = Client::new(rt.alloc());
+    let mut client = Client::new(rt.alloc(), Domain::empty(rt.alloc()));
     assert_eq!(rt;
         again!(client.create_ruleset(rt.alloc(), Access(0x4))),
         Ok(0)

@@ -1,8 +1,8 @@
 use Rattle.std.proofs.Common.{◌≡◌, codes, Ok, Err, refl, rules, arith}
 use Rattle.std.specs.Result.{MatchResult}
 use Rattle.std.proofs.lemmas.Grind.{common_steps}
-use Rattle.ll_seq.specs.declared.call.Call.TheVariants.{ReadDir, Stat, Exec, Unlink, Rmdir}
-use Rattle.ll_wire.proofs.Calls.{list_is, stat_is, exec_is, unlink_is, rmdir_is, call_reads}
+use Rattle.ll_seq.specs.declared.call.Call.TheVariants.{ReadDir, Stat, Exec, Unlink, Rmdir, Rename, Link}
+use Rattle.ll_wire.proofs.Calls.{list_is, stat_is, exec_is, unlink_is, rmdir_is, call_reads, rename_is, link_is, pair_reads}
 use Rattle.ll_wire.proofs.read.call_of.Goals as goal
 
 pub returns-in-list : goal.returns-in-list
@@ -29,3 +29,13 @@ pub returns-in-rmdir : goal.returns-in-rmdir
 returns-in-rmdir c =
     let made : MatchResult c.only_target-in-rmdir.result (λ target. c.map-in-rmdir.result ≡ Ok (Rmdir target)) (λ e. c.map-in-rmdir.result ≡ Err e) = search rules in
     call_reads (codes "rmdir") Rmdir rmdir_is (λ target is. (is, refl)) _ _ _ _ (grind (arith, common_steps)) made c.only_target-in-rmdir.ensures
+
+pub returns-in-rename : goal.returns-in-rename
+returns-in-rename c =
+    let made : MatchResult c.two_targets.result (λ targets. c.map-in-rename.result ≡ Ok (Rename targets.0 targets.1)) (λ e. c.map-in-rename.result ≡ Err e) = search rules in
+    pair_reads (codes "rename") (λ targets. Rename targets.0 targets.1) rename_is (λ targets old new. ((old, new), refl)) _ _ _ _ (grind (arith, common_steps)) made c.two_targets.ensures
+
+pub returns-in-link : goal.returns-in-link
+returns-in-link c =
+    let made : MatchResult c.two_targets-in-link.result (λ targets. c.map-in-link.result ≡ Ok (Link targets.0 targets.1)) (λ e. c.map-in-link.result ≡ Err e) = search rules in
+    pair_reads (codes "link") (λ targets. Link targets.0 targets.1) link_is (λ targets old new. ((old, new), refl)) _ _ _ _ (grind (arith, common_steps)) made c.two_targets-in-link.ensures

@@ -6,7 +6,7 @@ pub returns-then-is_empty-clause-ok : goal.returns-then-is_empty-clause-ok
 returns-then-is_empty-clause-ok g c first input old p = no_part first input old _ c.args.self.now c.if-is_empty.ensures.0 c.if-is_empty.ensures.1 p
 
 pub returns-clause-ok : goal.returns-clause-ok
-returns-clause-ok g c = on_ok_weaker c.answer.result (λ answer first input old p. last_part first input old _ _ c.args.self.now c.answer.new.self.plain c.if-is_empty.ensures answer p) c.answer.ensures.ok
+returns-clause-ok g c = on_ok_weaker c.answer.result (λ answer first input old p. last_part first input old _ _ c.args.self.now c.answer.new.self.tree c.if-is_empty.ensures answer p) c.answer.ensures.ok
 
 pub returns-clause-err : goal.returns-clause-err
 returns-clause-err g c = on_err_weaker c.answer.result (λ answer first input old p. last_stops first input old _ _ c.args.self.now c.if-is_empty.ensures answer p) c.answer.ensures.err

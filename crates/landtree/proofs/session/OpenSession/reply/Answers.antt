@@ -5,13 +5,14 @@ use Rattle.landtree.proofs.Replies.{called, spells_none, too_long, not_read}
 use Rattle.landtree.proofs.session.OpenSession.reply.Goals as goal
 
 pub returns-then-self-clause-answers : goal.returns-then-self-clause-answers
-returns-then-self-clause-answers c s piece held stands = spells_none s piece _ (too_long c.args.self.now.line piece c.if-self.true held) stands
+returns-then-self-clause-answers c s piece held stands = spells_none s piece _ (too_long c.args.self.now.line piece c.args.self.now.tree.clients c.if-self.true held) stands
 
 pub returns-in-Ok-clause-answers : goal.returns-in-Ok-clause-answers
 returns-in-Ok-clause-answers c s piece held stands =
     let same = c.deref.ensures.value ∙ kept c.args.self.now.line piece c.if-self.false held in
-    called s piece c.args.self.now.plain c.apply.new.self c.in-Ok.field-0-0 c.in-Ok.call c.apply.result 0 stands
-    (subst (λ (p : List ℕ). SpellsCommand p c.in-Ok.field-0-0 c.in-Ok.call) same c.in-Ok.ensures) c.apply.ensures.step c.apply.ensures.no_memory
+    called s piece c.args.self.now.tree c.call.new.self c.in-Ok.client c.in-Ok.call c.call.result stands
+    (subst (λ (p : List ℕ). SpellsCommand p c.in-Ok.client c.in-Ok.call) same c.in-Ok.ensures.0, c.in-Ok.ensures.1)
+    (record { free = c.call.ensures.fresh; step = c.call.ensures.step; no_memory = c.call.ensures.no_memory; clients = c.call.ensures.clients; spawned = c.call.ensures.spawned })
 
 pub returns-in-Err-clause-answers : goal.returns-in-Err-clause-answers
 returns-in-Err-clause-answers c s piece held stands =

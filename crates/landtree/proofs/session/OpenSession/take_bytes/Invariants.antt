@@ -1,11 +1,11 @@
-use Rattle.std.proofs.Common.{◌++◌, ◌+◌, ◌≤◌, List, ℕ, drop, Option}
+use Rattle.std.proofs.Common.{◌++◌, ◌+◌, ◌*◌, ◌≤◌, List, ℕ, drop, Option}
 use Rattle.landtree.specs.Transcript.{Session}
-use Rattle.landtree.specs.Progress.{Progress}
+use Rattle.landtree.specs.Progress.{used, Progress}
 use Rattle.landtree.proofs.session.OpenSession.take_bytes.Given as goal
 
 abbrev pub invariant-loop-byte : goal.invariant-loop-byte
 invariant-loop-byte g l = record {
-  numbers : l.self.plain.next ≤ l.fn.self.plain.next + l.byte-index;
+  numbers : used l.self.tree ≤ used l.fn.self.tree + 2 * l.byte-index;
   progress : (first : Session) (input rest : List ℕ) (old : Option (List ℕ))
       → Progress first input (l.bytes ++ rest) old (g.W.Write.contents l.fn.writer) l.fn.self
       → Progress first input (drop l.byte-index l.bytes ++ rest) old (g.W.Write.contents l.writer) l.self;

@@ -1,15 +1,14 @@
-use Rattle.std.proofs.Common.{ℕ, ◌∙◌, sym, map}
-use Rattle.ll_rules.specs.Layer.{Layer}
-use Rattle.ll_seq.specs.Deciding.{ask_of, of_layer}
+use Rattle.std.proofs.Common.{◌∙◌, sym}
+use Rattle.ll_seq.specs.Deciding.{of_layer}
 use Rattle.ll_seq.proofs.Denials.{counted_here, counted_later}
 use Rattle.ll_seq.proofs.plain.Plain.first_denial.Goals as goal
 
 pub returns-in-Some : goal.returns-in-Some
 returns-in-Some c =
-    sym (counted_here (λ (k : ℕ × Layer). of_layer c.args.self.now c.args.cause k.1 k.0 c.args.rights.now (map ask_of c.args.asks.now)) c.layers-layer-items.result.now c.loop-i.i
+    sym (counted_here (of_layer c.args.self.now c.args.search.now) c.layers-layer-items.result.now c.loop-i.i
     c.layer-item.result c.in-Some.denial _ c.loop-i-test.true c.layer-item.is (sym c.layer_denial.ensures ∙ c.in-Some.is) c.loop-i.invariant)
 
 pub loop-i-preserved : goal.loop-i-preserved
 loop-i-preserved c =
-    counted_later (λ (k : ℕ × Layer). of_layer c.args.self.now c.args.cause k.1 k.0 c.args.rights.now (map ask_of c.args.asks.now)) c.layers-layer-items.result.now c.loop-i.i
+    counted_later (of_layer c.args.self.now c.args.search.now) c.layers-layer-items.result.now c.loop-i.i
     c.layer-item.result _ c.loop-i-test.true c.layer-item.is (sym c.layer_denial.ensures ∙ c.in_default.is) c.loop-i.invariant

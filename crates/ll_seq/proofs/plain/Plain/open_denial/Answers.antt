@@ -1,6 +1,6 @@
 use Rattle.std.proofs.Common.{ap, sym, ◌∙◌}
-use Rattle.std.specs.Prelude.{Bool, List, [], ◌∷◌, ◌++◌, None}
-use Rattle.ll_path.specs.Path.{Path}
+use Rattle.std.specs.Prelude.{Bool, true, not, ◌&&◌, List, [], ◌∷◌, ◌++◌, None}
+use Rattle.ll_path.specs.Path.{Path, parent}
 use Rattle.ll_rights.specs.Right as right
 use Rattle.ll_decide.specs.declared.denial.Place.TheVariants.{At}
 use Rattle.ll_decide.specs.Verdict.{Ask, when, verdict}
@@ -12,7 +12,8 @@ use Rattle.ll_seq.proofs.plain.Plain.open_denial.Goals as goal
 
 abbrev asks : Path → AccessMode → Bool → List (Ask Path)
 asks path access truncates =
-    when (reads access) (ask path right.read_file At ∷ []) ++ when (writes access) (ask path right.write_file At ∷ []) ++ when truncates (ask path right.truncate At ∷ [])
+    when (not true) (ask (parent path) right.make_reg At ∷ [])
+    ++ when (reads access) (ask path right.read_file At ∷ []) ++ when (writes access) (ask path right.write_file At ∷ []) ++ when (truncates && true) (ask path right.truncate At ∷ [])
 
 pub returns-in-Read-true : goal.returns-in-Read-true
 returns-in-Read-true c =
