@@ -1,0 +1,290 @@
+-- How each call that isn't refused changes the tree.
+use Rattle.std.specs.Prelude.{◌≡◌, ◌≢◌, ◌⊎◌, ℕ, ◌<◌, Bool, true, false, cond, not, ◌||◌, ◌==◌, List, [], ◌∷◌, ◌++◌, length, Option, Some, None, option_map, option_and_then, filter, refl, Contains}
+use Rattle.std.specs.Option.{option_map_or}
+use Rattle.std.specs.Ordering.{eq_by_cmp}
+use Rattle.std.specs.Cmp.{nat_cmp_total}
+use Rattle.std.specs.FinMap.{nat_cmp-IsAntisymmetric}
+use Rattle.std.specs.FinMap.Entries.{find}
+use Rattle.std.proofs.Common.{sym, subst, ap, ◌∙◌, inl, inr, arith}
+use Rattle.std.proofs.lemmas.Bool.{eq-eqb, eqb-true}
+use Rattle.ll_rights.specs.declared.kind.Kind.{Kind}
+use Rattle.ll_rights.specs.Map.{get, insert, remove, entries}
+use Rattle.ll_rights.proofs.Maps.{get-insert_same, get-insert_other, get-remove_other, insert_cases, got_inserted, got_left}
+use Rattle.ll_path.specs.Path.{Path, parent, last_name, is_root, is_beneath}
+use Rattle.ll_rules.specs.Layer.{Layer}
+use Rattle.ll_seq.specs.declared.client.Client.{Client}
+use Rattle.ll_seq.specs.declared.entries.Slot.{Slot}
+use Rattle.ll_seq.specs.declared.node.Node.{Node}
+use Rattle.ll_seq.specs.State.{Name, slot, slot_cmp, State, child, root, kind_of, empty_node, name_count, is_open}
+use Rattle.ll_seq.specs.Tree.{end_from, named, inode_of}
+use Rattle.ll_seq.specs.Asked.{grants}
+use Rattle.ll_seq.specs.Effects.{slot_of, lives, let_go, with_name, with_moved, with_node, without_name, with_bytes, with_client}
+use Rattle.ll_seq.specs.Reach.{is_relevant}
+use Rattle.ll_seq.proofs.Slots.{slot_total, slot_exact}
+use Rattle.ll_laws.proofs.Chains.{same_Some, NotFile, end_append}
+use Rattle.ll_laws.proofs.Trees.{IsTree, Shrinks, Adds, Moves, Change, shrinks, adds, moves, only_path, At}
+use Rattle.ll_laws.proofs.Stages.{neither, inode_is, parent_last, last_child, beneath_append}
+
+-- ---- the same tree
+
+pub same_tree : (s t : State) → t.entries ≡ s.entries → ((i : ℕ) → kind_of t i ≡ kind_of s i) → t.next ≡ s.next → Shrinks s t
+same_tree s t e k n = record {
+  entries = λ d m x c. ap (λ es. get es (slot d m)) (sym e) ∙ c;
+  kinds = λ i j f. sym (k i) ∙ f;
+  kept = λ d m x c. k x;
+  top = k root;
+  next = n;
+}
+
+-- what isn't of the tree may change after
+pub more_change : (s t u : State) (domain : List Layer) → u.entries ≡ t.entries → u.nodes ≡ t.nodes → u.next ≡ t.next → Change s t domain → Change s u domain
+more_change s t u domain a b c h =
+    subst (λ z. Change s z domain)
+    (λ i. record { entries = sym a i; nodes = sym b i; next = sym c i; room = u.room; clients = u.clients })
+    (alike h)
+  where
+    v : State
+    v = record { entries = t.entries; nodes = t.nodes; next = t.next; room = u.room; clients = u.clients }
+
+    alike : Change s t domain → Change s v domain
+    alike (shrinks g) = shrinks (record { entries = g.entries; kinds = g.kinds; kept = g.kept; top = g.top; next = g.next })
+    alike (adds d n g) = adds d n (record { more = record { entries = g.more.entries; away = g.more.away }; kinds = g.kinds; kept = g.kept; fresh = g.fresh; next = g.next; dir = g.dir; below = g.below })
+    alike (moves Fresh g) =
+        moves Fresh (record { more = record { entries = g.more.entries; away = g.more.away }; alone = g.alone; kinds = g.kinds; kept = g.kept; top = g.top; next = g.next; dir = g.dir; below = g.below; not_root = g.not_root; node = g.node; held = g.held })
+
+-- ---- a node that goes
+
+no_name_in : (es : List (Slot × ℕ)) (q : Slot) (i : ℕ) → length (filter (λ (e : Slot × ℕ). e.1 == i) es) ≡ 0 → find slot_cmp q es ≢ Some i
+no_name_in [] q i none f = cc
+no_name_in (e ∷ es) q i none f =
+    elim (e.1 == i) as (λ b. (e.1 == i) ≡ b → length (cond b (e ∷ filter (λ (x : Slot × ℕ). x.1 == i) es) (filter (λ (x : Slot × ℕ). x.1 == i) es)) ≡ 0 → ⊥) [
+      | true ↦ λ h g. omega arith
+      | false ↦ λ h g. elim (eq_by_cmp slot_cmp q e.0) as (λ b. cond b (Some e.1) (find slot_cmp q es) ≡ Some i → ⊥) [
+        | true ↦ λ k. cc (sym h ∙ eq-eqb e.1 i (same_Some e.1 i k))
+        | false ↦ λ k. no_name_in es q i g k
+      ] f
+    ] refl none
+
+no_name : (s : State) (d : ℕ) (n : Name) (i : ℕ) → (name_count s i == 0) ≡ true → child s d n ≢ Some i
+unfolding get entries
+no_name s d n i e = no_name_in s.entries.list (slot d n) i (eqb-true _ _ e)
+
+pub shrinks_itself : (s : State) → Shrinks s s
+shrinks_itself s = same_tree s s refl (λ i. refl) refl
+
+gone : (s : State) (i : ℕ) → (i == root) ≡ false → (name_count s i == 0) ≡ true → Shrinks s (record s { nodes = remove s.nodes i })
+gone s i top none = record {
+  entries = λ d m x c. c;
+  kinds = λ j k f. by j k (get (remove s.nodes i) j) refl f;
+  kept = λ d m x c. ap (option_map (λ (n : Node). n.kind)) (get-remove_other nat_cmp_total nat_cmp-IsAntisymmetric s.nodes i x (λ is. no_name s d m i none (c ∙ ap Some is)));
+  top = ap (option_map (λ (n : Node). n.kind)) (get-remove_other nat_cmp_total nat_cmp-IsAntisymmetric s.nodes i root (λ is. cc (sym top ∙ eq-eqb i root (sym is))));
+  next = refl;
+}
+  where
+    by : (j : ℕ) (k : Kind) (o : Option Node) → get (remove s.nodes i) j ≡ o → option_map (λ (n : Node). n.kind) o ≡ Some k → kind_of s j ≡ Some k
+    by j k None is f = absurd (cc f)
+    by j k (Some n) is f = ap (option_map (λ (n : Node). n.kind)) (got_left nat_cmp_total nat_cmp-IsAntisymmetric s.nodes i j n is).0 ∙ f
+
+-- what doesn't live is no root and has no name
+dead : (s : State) (i : ℕ) → lives s i ≡ false → ((i == root) ≡ false) × ((name_count s i == 0) ≡ true)
+dead s i e =
+    let unnamed = neither ((i == root) || not (name_count s i == 0)) (is_open s i) e in
+    let below = neither (i == root) (not (name_count s i == 0)) unnamed.0 in
+    (below.0, by (name_count s i == 0) below.1)
+  where
+    by : (b : Bool) → not b ≡ false → b ≡ true
+    by true f = refl
+    by false f = absurd (cc f)
+
+pub let_go_shrinks : (s : State) (i : ℕ) → Shrinks s (let_go s i)
+let_go_shrinks s i =
+    elim (lives s i) as (λ b. lives s i ≡ b → Shrinks s (cond b s (record s { nodes = remove s.nodes i }))) [
+      | true ↦ λ e. shrinks_itself s
+      | false ↦ λ e. let w = dead s i e in gone s i w.0 w.1
+    ] refl
+
+shrinks_after : (s t u : State) → Shrinks s t → Shrinks t u → Shrinks s u
+shrinks_after s t u g h = record {
+  entries = λ d m x c. g.entries d m x (h.entries d m x c);
+  kinds = λ i k f. g.kinds i k (h.kinds i k f);
+  kept = λ d m x c. h.kept d m x c ∙ g.kept d m x (h.entries d m x c);
+  top = h.top ∙ g.top;
+  next = h.next ∙ g.next;
+}
+
+moves_after : (s t u : State) (domain : List Layer) (Fresh : ℕ → Name → ℕ → Type 0) → Moves s t domain Fresh → Shrinks t u → Moves s u domain Fresh
+moves_after s t u domain Fresh g h = record {
+  more = record { entries = λ e m x c. g.more.entries e m x (h.entries e m x c); away = g.more.away };
+  alone = λ d n o w f e m c. g.alone d n o w f e m (h.entries e m o c);
+  kinds = λ i k f. g.kinds i k (h.kinds i k f);
+  kept = λ e m x c. h.kept e m x c ∙ g.kept e m x (h.entries e m x c);
+  top = h.top ∙ g.top;
+  next = h.next ∙ g.next;
+  dir = g.dir;
+  below = g.below;
+  not_root = g.not_root;
+  node = g.node;
+  held = g.held;
+}
+
+-- ---- a name that goes
+
+pub without_name_shrinks : (s : State) (at : Slot) (i : ℕ) → Shrinks s (without_name s at i)
+without_name_shrinks s at i =
+    shrinks_after s left (let_go left i) (record {
+      entries = λ d m x c. (got_left slot_total slot_exact s.entries at (slot d m) x c).0;
+      kinds = λ j k f. f;
+      kept = λ d m x c. refl;
+      top = refl;
+      next = refl;
+    }) (let_go_shrinks left i)
+  where
+    left : State
+    left = record s { entries = remove s.entries at }
+
+pub close_shrinks : (s : State) (number : ℕ) (c : Client) (i : ℕ) → Shrinks s (let_go (with_client s number c) i)
+close_shrinks s number c i = shrinks_after s (with_client s number c) _ (same_tree s (with_client s number c) refl (λ j. refl) refl) (let_go_shrinks (with_client s number c) i)
+
+-- ---- bytes
+
+pub with_bytes_shrinks : (s : State) (i : ℕ) (bytes : List ℕ) → Shrinks s (with_bytes s i bytes)
+with_bytes_shrinks s i bytes =
+    elim (get s.nodes i) as (λ o. get s.nodes i ≡ o → Shrinks s (option_map_or (λ (n : Node). record s { nodes = insert s.nodes i (record n { bytes = bytes }) }) o s)) [
+      | None ↦ λ e. shrinks_itself s
+      | Some n ↦ λ e. same_tree s (record s { nodes = insert s.nodes i (record n { bytes = bytes }) }) refl (kept n e) refl
+    ] refl
+  where
+    kept : (n : Node) → get s.nodes i ≡ Some n → (j : ℕ) → option_map (λ (m : Node). m.kind) (get (insert s.nodes i (record n { bytes = bytes })) j) ≡ kind_of s j
+    kept n e j = elim (insert_cases nat_cmp_total nat_cmp-IsAntisymmetric s.nodes i (record n { bytes = bytes }) j) [
+      | inl a ↦ ap (option_map (λ (m : Node). m.kind)) a.1 ∙ sym (ap (option_map (λ (m : Node). m.kind)) (ap (get s.nodes) a.0 ∙ e))
+      | inr a ↦ ap (option_map (λ (m : Node). m.kind)) a.1
+    ]
+
+-- ---- a node or a name that comes
+
+-- what is asked of the place of a new name
+pub record IsPlace (s : State) (p : Path) (d : ℕ) : Type 0 where
+  pub not_root : is_root p ≡ false
+  pub dir : NotFile s d
+  pub named : named s (parent p) ≡ Some d
+
+slot_is : (s : State) (p : Path) (d : ℕ) → IsPlace s p d → slot_of s p ≡ slot d (last_name p)
+slot_is s p d h = ap (λ i. slot i (last_name p)) (inode_is s (parent p) d h.named)
+
+pub end_below : (s : State) → IsTree s → (q : Path) (i x : ℕ) → i < s.next → end_from s q i ≡ Some x → x < s.next
+end_below s t [] i x h e = let w = same_Some i x e in omega arith
+end_below s t (m ∷ q) i x h e =
+    elim (child s i m) as (λ c. child s i m ≡ c → option_and_then (end_from s q) c ≡ Some x → x < s.next) [
+      | None ↦ λ is g. absurd (cc g)
+      | Some j ↦ λ is g. let w = t.old i m j is in end_below s t q j x w.1 g
+    ] refl e
+
+pub new_adds : (s : State) (kind : Kind) (p : Path) (d : ℕ) → IsTree s → IsPlace s p d → Adds s (with_node s kind (slot_of s p)) d (last_name p)
+new_adds s kind p d t h =
+    let below : d < s.next = end_below s t (parent p) root d t.above h.named in
+    record {
+      more = record {
+        entries = λ e m x c. elim (got_inserted slot_total slot_exact s.entries (slot_of s p) s.next (slot e m) x c) [
+          | inl a ↦ let is : slot e m ≡ slot d (last_name p) = a.0 ∙ slot_is s p d h in inr (ap (λ (q : Slot). q.directory) is, ap (λ (q : Slot). q.name) is, a.1)
+          | inr a ↦ inl a
+        ];
+        away = λ f m y w g n z v q e. nowhere q below (ap (end_from s q) (sym w.2) ∙ e ∙ ap Some v.0);
+      };
+      kinds = λ i k f. elim (insert_cases nat_cmp_total nat_cmp-IsAntisymmetric s.nodes s.next (empty_node kind) i) [
+        | inl a ↦ inl a.0
+        | inr a ↦ inr (sym (ap (option_map (λ (n : Node). n.kind)) a.1) ∙ f)
+      ];
+      kept = λ i k f. let w = t.nodes i k f in
+          ap (option_map (λ (n : Node). n.kind)) (get-insert_other nat_cmp_total nat_cmp-IsAntisymmetric s.nodes s.next (empty_node kind) i (λ is. omega arith)) ∙ f;
+      fresh = (kind, ap (option_map (λ (n : Node). n.kind)) (get-insert_same nat_cmp_total nat_cmp-IsAntisymmetric s.nodes s.next (empty_node kind)));
+      next = refl;
+      dir = h.dir;
+      below = below;
+    }
+  where
+    nowhere : (q : Path) → d < s.next → end_from s q s.next ≡ Some d → ⊥
+    nowhere [] b e = let w = same_Some _ _ e in omega arith
+    nowhere (m ∷ q) b e =
+        elim (child s s.next m) as (λ c. child s s.next m ≡ c → option_and_then (end_from s q) c ≡ Some d → ⊥) [
+          | None ↦ λ is g. cc g
+          | Some j ↦ λ is g. let w = t.old s.next m j is in omega arith
+        ] refl e
+
+-- what is known of a node that gets another name
+pub record IsMove (s : State) (domain : List Layer) (from to : Path) (c d o : ℕ) : Type 0 where
+  pub here : IsPlace s from c
+  pub there : IsPlace s to d
+  pub at : named s from ≡ Some o
+  pub apart : is_beneath from to ≡ false
+  pub held : (layer : Layer) → Contains domain layer → (right : ℕ) → is_relevant (kind_of s o) right ≡ true → grants s layer (parent to) right ≡ true → grants s layer from right ≡ true
+
+module _ (s : State) (domain : List Layer) (from to : Path) (c d o : ℕ) (t : IsTree s) (h : IsMove s domain from to c d o) where
+  old_entry : child s c (last_name from) ≡ Some o
+  old_entry = last_child s from c o h.here.not_root h.here.named h.at
+
+  -- the new place isn't beneath the node
+  not_beneath : (q : Path) → end_from s q o ≢ Some d
+  not_beneath q e =
+      let is : from ++ q ≡ parent to = only_path s t (from ++ q) (parent to) d h.there.dir (end_append s from q root o h.at ∙ e) h.there.named in
+      let whole : to ≡ (from ++ q) ++ last_name to ∷ [] = parent_last to h.there.not_root ∙ ap (λ (r : Path). r ++ last_name to ∷ []) (sym is) in
+      absurd (cc (sym h.apart ∙ ap (is_beneath from) whole ∙ beneath_append from q (last_name to)))
+
+  abbrev new_entry : ℕ → Name → ℕ → Type 0
+  new_entry = At d (last_name to) o
+
+  -- a state in which the entries are those of s, some of them, and the new one
+  moved : (u : State) → u.nodes ≡ s.nodes → u.next ≡ s.next
+      → ((e : ℕ) (m : Name) (x : ℕ) → child u e m ≡ Some x → (child s e m ≡ Some x) ⊎ new_entry e m x)
+      → ((e : ℕ) (m : Name) → child u e m ≡ Some o → NotFile s o → (e ≡ d) × (m ≡ last_name to))
+      → Moves s u domain new_entry
+  moved u nodes next entries lost = record {
+    more = record { entries = entries; away = λ f m y w g n z v q e. not_beneath q (ap (end_from s q) (sym w.2) ∙ e ∙ ap Some v.0) };
+    alone = λ f m y w file g n e.
+        let r = lost g n (e ∙ ap Some w.2) (subst (NotFile s) w.2 file) in
+        (r.0 ∙ sym w.0, r.1 ∙ sym w.1);
+    kinds = λ i k f. ap (λ m. option_map (λ (n : Node). n.kind) (get m i)) (sym nodes) ∙ f;
+    kept = λ e m x g. ap (λ y. option_map (λ (n : Node). n.kind) (get y x)) nodes;
+    top = ap (λ y. option_map (λ (n : Node). n.kind) (get y root)) nodes;
+    next = next;
+    dir = λ f m y w. subst (NotFile s) (sym w.0) h.there.dir;
+    below = λ f m y w. let v = w.0 in let z = end_below s t (parent to) root d t.above h.there.named in omega arith;
+    not_root = λ f m y w is. t.rootless c (last_name from) (old_entry ∙ ap Some (sym w.2 ∙ is));
+    node = λ f m y w. let k = t.known c (last_name from) o old_entry in (k.0, ap (kind_of s) w.2 ∙ k.1);
+    held = λ layer l f m y w p e.
+        let same : p ≡ parent to = only_path s t p (parent to) d h.there.dir (e ∙ ap Some w.0) h.there.named in
+        (from, h.at ∙ ap Some (sym w.2), λ right r g. h.held layer l right (ap (λ z. is_relevant (kind_of s z) right) (sym w.2) ∙ r) (ap (λ z. grants s layer z right) (sym same) ∙ g));
+  }
+
+  new_slot : (e : ℕ) (m : Name) → slot e m ≡ slot_of s to → (e ≡ d) × (m ≡ last_name to)
+  new_slot e m is =
+      let same : slot e m ≡ slot d (last_name to) = is ∙ slot_is s to d h.there in
+      (ap (λ (q : Slot). q.directory) same, ap (λ (q : Slot). q.name) same)
+
+  pub link_moves : (NotFile s o → ⊥) → Moves s (with_name s (slot_of s to) (inode_of s from)) domain new_entry
+  link_moves file = moved (with_name s (slot_of s to) (inode_of s from)) refl refl
+      (λ e m x g. elim (got_inserted slot_total slot_exact s.entries (slot_of s to) (inode_of s from) (slot e m) x g) [
+        | inl a ↦ let w = new_slot e m a.0 in inr (w.0, w.1, a.1 ∙ inode_is s from o h.at)
+        | inr a ↦ inl a
+      ])
+      (λ e m g f. absurd (file f))
+
+  abbrev renamed_before : State
+  renamed_before = with_moved s (slot_of s from) (slot_of s to) (inode_of s from)
+
+  pub renamed_moves : Moves s renamed_before domain new_entry
+  renamed_moves = moved renamed_before refl refl
+      (λ e m x g. elim (got_inserted slot_total slot_exact (remove s.entries (slot_of s from)) (slot_of s to) (inode_of s from) (slot e m) x g) [
+        | inl a ↦ let w = new_slot e m a.0 in inr (w.0, w.1, a.1 ∙ inode_is s from o h.at)
+        | inr a ↦ inl (got_left slot_total slot_exact s.entries (slot_of s from) (slot e m) x a).0
+      ])
+      (λ e m g f. elim (got_inserted slot_total slot_exact (remove s.entries (slot_of s from)) (slot_of s to) (inode_of s from) (slot e m) o g) [
+        | inl a ↦ new_slot e m a.0
+        | inr a ↦
+            let w = got_left slot_total slot_exact s.entries (slot_of s from) (slot e m) o a in
+            let same = t.one e m c (last_name from) o f w.0 old_entry in
+            absurd (w.1 ((λ i. slot (same.0 i) (same.1 i)) ∙ sym (slot_is s from c h.here)))
+      ])
+
+  -- another node had the name, and loses it
+  pub replaced_moves : (r : ℕ) → Moves s (let_go renamed_before r) domain new_entry
+  replaced_moves r = moves_after s renamed_before (let_go renamed_before r) domain new_entry renamed_moves (let_go_shrinks renamed_before r)

@@ -1,0 +1,348 @@
+-- No call lets a layer reach more, and so no history does.
+use Rattle.std.specs.Prelude.{◌≡◌, ℕ, ◌<◌, ◌≤◌, Bool, true, false, cond, not, ◌||◌, ◌&&◌, ◌==◌, List, [], ◌∷◌, ◌++◌, map, length, Option, Some, None, unwrap_or, is_none, option_map, refl, Contains, IsTrue}
+use Rattle.std.specs.List.{list_any}
+use Rattle.std.specs.Ordering.{nat_cmp}
+use Rattle.std.specs.Cmp.{nat_cmp_total}
+use Rattle.std.specs.FinMap.{nat_cmp-IsAntisymmetric}
+use Rattle.std.proofs.Common.{sym, subst, ap, ◌∙◌, inl, inr, arith}
+use Rattle.std.proofs.lemmas.Bool.{eqb-true}
+use Rattle.ll_rights.specs.declared.kind.Kind.{Kind}
+use Rattle.ll_rights.specs.declared.kind.Kind.TheVariants.{Reg, Dir}
+use Rattle.ll_rights.specs.declared.errno.Errno.{Errno}
+use Rattle.ll_rights.specs.declared.errno.Errno.TheVariants.{EBUSY, EINVAL, ENOTEMPTY, EEXIST, ENOENT, EPERM}
+use Rattle.ll_rights.specs.Errno.{refuse}
+use Rattle.ll_rights.specs.Kind.{relevant, is_dir}
+use Rattle.ll_rights.specs.Map.{empty}
+use Rattle.ll_rights.specs.Right.{all_rights, refer}
+use Rattle.ll_rights.specs.Access.{holds}
+use Rattle.ll_rights.proofs.Maps.{get-empty, get-insert_same, insert_cases}
+use Rattle.ll_path.specs.Path.{Path, parent, last_name, is_root, is_beneath}
+use Rattle.ll_path.specs.declared.target.Target.{Target}
+use Rattle.ll_rules.specs.Layer.{Layer, has_rule}
+use Rattle.ll_decide.specs.declared.denial.Cause.TheVariants.{EACCES, EXDEV}
+use Rattle.ll_decide.specs.declared.denial.Place.TheVariants.{New}
+use Rattle.ll_decide.specs.Verdict.{Ask, Move, all_denials, gains, gain_denials, denials, rights_without_refer, places, lacks}
+use Rattle.ll_seq.specs.declared.client.Client.{Client}
+use Rattle.ll_seq.specs.declared.node.Node.{Node}
+use Rattle.ll_seq.specs.declared.call.Mode.{Mode}
+use Rattle.ll_seq.specs.declared.call.Call.{Call}
+use Rattle.ll_seq.specs.declared.call.Call.TheVariants.{Make, Open, Read, Write, Ftruncate, Close, Truncate, ReadDir, Stat, Exec, Unlink, Rmdir, Rename, Link, Ruleset, Allow, Confine, Spawn, Connect}
+use Rattle.ll_seq.specs.declared.reply.Reply.{Reply}
+use Rattle.ll_seq.specs.declared.reply.Reply.TheVariants.{Done, Refused, Denied}
+use Rattle.ll_seq.specs.declared.reply.Entry.{Entry}
+use Rattle.ll_seq.specs.Call.{path_of}
+use Rattle.ll_seq.specs.State.{Name, slot, slot_cmp, State, child, root, kind_of, start, empty_node, bytes_of}
+use Rattle.ll_seq.specs.Tree.{named, inode_of, ancestors, kind_or_file, kind_at}
+use Rattle.ll_seq.specs.Asked.{grants, parents_differ, move_between, asked, call_denials}
+use Rattle.ll_seq.specs.Stages.{lying, in_the_way, way_to, missing, present, text_refusals, number_refusals, relation_refusals, walk_refusals, existence_refusals, kind_refusals, limit_refusals}
+use Rattle.ll_seq.specs.Effects.{done, slot_of, let_go, with_moved, renamed, with_node, with_opened, emptied, with_bytes, with_client, overwritten, inode_at}
+use Rattle.ll_seq.specs.Step.{step, refusals, first_or, client_of}
+use Rattle.ll_seq.specs.History.{MayStand, IsLegal, state_after, after}
+use Rattle.ll_seq.specs.Reach.{InReach, is_relevant}
+use Rattle.ll_laws.specs.NoGain.{is_move, MovesUnder, NoGain}
+use Rattle.ll_laws.proofs.Chains.{or_split, NotFile, chain_front}
+use Rattle.ll_laws.proofs.Relevant.{is_one_of_all}
+use Rattle.ll_laws.proofs.Trees.{IsTree, root_dir, Change, shrinks, adds, moves, only_path, tree_kept, reach_kept, granted_on}
+use Rattle.ll_laws.proofs.Stages.{nil_left, nil_right, nil_map, not_refused, neither, walked, inode_is, parent_last, last_child, IsIn, IsIn-contains, none_denied}
+use Rattle.ll_laws.proofs.Changes.{same_tree, more_change, shrinks_itself, without_name_shrinks, close_shrinks, with_bytes_shrinks, IsPlace, IsMove, end_below, new_adds, link_moves, renamed_moves, replaced_moves}
+
+pub record Passes (s : State) (c : Client) (call : Call) : Type 0 where
+  pub numbers : number_refusals c call ≡ []
+  pub relation : relation_refusals call ≡ []
+  pub way : walk_refusals s call ≡ []
+  pub existence : existence_refusals s call ≡ []
+  pub policy : call_denials s c call ≡ []
+  pub kinds : kind_refusals s c call ≡ []
+
+pub passes : (s : State) (c : Client) (call : Call) → refusals s c call ≡ [] → Passes s c call
+passes s c call e =
+    let t = map Refused (text_refusals call) in
+    let n = map Refused (number_refusals c call) in
+    let r = map Refused (relation_refusals call) in
+    let w = map Refused (walk_refusals s call) in
+    let x = map Refused (existence_refusals s call) in
+    let d = map Denied (call_denials s c call) in
+    let k = map Refused (kind_refusals s c call) in
+    let l = map Refused (limit_refusals s c call) in
+    let to_k : t ++ n ++ r ++ w ++ x ++ d ++ k ≡ [] = nil_left _ l e in
+    let to_d : t ++ n ++ r ++ w ++ x ++ d ≡ [] = nil_left _ k to_k in
+    let to_x : t ++ n ++ r ++ w ++ x ≡ [] = nil_left _ d to_d in
+    let to_w : t ++ n ++ r ++ w ≡ [] = nil_left _ x to_x in
+    let to_r : t ++ n ++ r ≡ [] = nil_left _ w to_w in
+    let to_n : t ++ n ≡ [] = nil_left _ r to_r in
+    record {
+      numbers = nil_map Refused _ (nil_right t n to_n);
+      relation = nil_map Refused _ (nil_right (t ++ n) r to_r);
+      way = nil_map Refused _ (nil_right (t ++ n ++ r) w to_w);
+      existence = nil_map Refused _ (nil_right (t ++ n ++ r ++ w) x to_x);
+      policy = nil_map Denied _ (nil_right (t ++ n ++ r ++ w ++ x) d to_d);
+      kinds = nil_map Refused _ (nil_right (t ++ n ++ r ++ w ++ x ++ d) k to_k);
+    }
+
+place_of : (s : State) → IsTree s → (p : Path) → is_root p ≡ false → in_the_way s (parent p) root ≡ [] → (d : ℕ) × IsPlace s p d
+place_of s t p r w = let x = walked s (parent p) root (root_dir s t) w in (x.0, record { not_root = r; dir = x.2; named = x.1 })
+
+pub there_is : (s : State) (p : Path) → is_none (named s p) ≡ false → (x : ℕ) × (named s p ≡ Some x)
+there_is s p e = elim (named s p) as (λ o. is_none o ≡ false → (x : ℕ) × (o ≡ Some x)) [ None ↦ λ g. absurd (cc g) | Some x ↦ λ g. (x, refl) ] e
+
+-- ---- nothing is gained by a move
+
+any_in : (xs : List ℕ) (right : ℕ) → list_any (λ r. r == right) xs ≡ true → IsIn xs right
+any_in [] right e = absurd (cc e)
+any_in (x ∷ xs) right e = elim (or_split (x == right) (list_any (λ r. r == right) xs) e) [ inl a ↦ inl (eqb-true x right a) | inr a ↦ inr (any_in xs right a) ]
+
+third : (a b c : Bool) → (a && b && not c) ≡ false → a ≡ true → b ≡ true → c ≡ true
+third true true true e f g = refl
+third true true false e f g = absurd (cc e)
+third true false c e f g = absurd (cc g)
+third false b c e f g = absurd (cc f)
+
+held_of : (s : State) (domain : List Layer) (from to : Path) (c d o : ℕ) → IsTree s → IsPlace s from c → IsPlace s to d → named s from ≡ Some o → gain_denials (grants s) domain (move_between s from to) ≡ []
+    → (layer : Layer) → Contains domain layer → (right : ℕ) → is_relevant (kind_of s o) right ≡ true → grants s layer (parent to) right ≡ true → grants s layer from right ≡ true
+held_of s domain from to c d o t here there at none layer l right r g =
+    elim (parents_differ s from to) as (λ b. parents_differ s from to ≡ b → gain_denials (grants s) domain (cond b (Some move) None) ≡ [] → grants s layer from right ≡ true) [
+      | true ↦ λ e denied.
+          let not_gained : gains (grants s) move layer right New ≡ false =
+          none_denied EXDEV domain all_rights (New ∷ []) (gains (grants s) move) denied layer l right (any_in all_rights right (is_one_of_all (kind_of s o) right r)) New (inl refl) in
+          third _ _ _ not_gained (relevant_at (kind_of s o) refl r) g
+      | false ↦ λ e denied.
+          let same : c ≡ d = sym (inode_is s (parent from) c here.named) ∙ eqb-true _ _ (not_not _ e) ∙ inode_is s (parent to) d there.named in
+          let parents : parent from ≡ parent to = only_path s t (parent from) (parent to) d there.dir (here.named ∙ ap Some same) there.named in
+          granted_on layer (ancestors s (parent to)) (ancestors s from) right (λ restricted h.
+          ap (λ p. list_any (has_rule layer right) (ancestors s p)) (parent_last from here.not_root)
+          ∙ chain_front s (has_rule layer right) (parent from) (last_name from ∷ []) root c here.named (ap (λ p. list_any (has_rule layer right) (ancestors s p)) parents ∙ h)) g
+    ] refl none
+  where
+    move : Move Path
+    move = record { from = from; into = parent to; relevant = relevant (kind_at s from) }
+
+    not_not : (b : Bool) → not b ≡ false → b ≡ true
+    not_not true h = refl
+    not_not false h = absurd (cc h)
+
+    relevant_at : (k : Option Kind) → kind_of s o ≡ k → is_relevant k right ≡ true → holds (relevant (kind_at s from)) right ≡ true
+    relevant_at None is h = absurd (cc h)
+    relevant_at (Some k) is h =
+        ap (λ i. holds (relevant (kind_or_file s i)) right) (inode_is s from o at)
+        ∙ ap (λ z. holds (relevant (unwrap_or z Reg)) right) is ∙ h
+
+-- ---- a rename or a link that isn't refused
+
+not_gained : (s : State) (domain : List Layer) (asks : List (Ask Path)) (move : Option (Move Path)) → all_denials (grants s) domain asks move ≡ [] → gain_denials (grants s) domain move ≡ []
+not_gained s domain asks move = nil_right (denials EACCES domain rights_without_refer places (lacks (grants s) asks) ++ denials EXDEV domain (refer ∷ []) places (lacks (grants s) asks)) (gain_denials (grants s) domain move)
+
+-- neither path is the root, and the new one isn't beneath the old one
+not_lying : (from to : Path) (above : Errno) → lying from to above ≡ [] → (is_root from ≡ false) × (is_root to ≡ false) × (is_beneath from to ≡ false)
+not_lying from to above e =
+    let busy = refuse (is_root from || is_root to) EBUSY in
+    let beneath = refuse (is_beneath from to) EINVAL in
+    let both : busy ++ beneath ≡ [] = nil_left (busy ++ beneath) (refuse (is_beneath to from) above) e in
+    let roots = neither _ _ (not_refused _ EBUSY (nil_left busy beneath both)) in
+    (roots.0, roots.1, not_refused _ EINVAL (nil_right busy beneath both))
+
+-- the directories of both names, and the node that gets the new one
+record Moved (s : State) (layers : List Layer) (from to : Path) : Type 0 where
+  left : ℕ
+  entered : ℕ
+  node : ℕ
+  is : IsMove s layers from to left entered node
+
+-- the layers given let nothing be gained, if the caller is under them
+module _ (s : State) (t : IsTree s) (number : ℕ) (c : Client) (old new : Target) (fresh : ℕ) (layers : List Layer) (sub : (layer : Layer) → Contains layers layer → Contains c.domain layer) where
+  abbrev from : Path
+  from = path_of old
+
+  abbrev to : Path
+  to = path_of new
+
+  move_of : (above : Errno) → lying from to above ≡ [] → way_to s old ++ way_to s new ≡ [] → is_none (named s from) ≡ false → gain_denials (grants s) c.domain (move_between s from to) ≡ [] → Moved s layers from to
+  move_of above relation way existence policy =
+      let apart = not_lying from to above relation in
+      let here = place_of s t from apart.0 (nil_left (way_to s old) (way_to s new) way) in
+      let there = place_of s t to apart.1 (nil_right (way_to s old) (way_to s new) way) in
+      let node = there_is s from existence in
+      record {
+        left = here.0;
+        entered = there.0;
+        node = node.0;
+        is = record {
+          here = here.1;
+          there = there.1;
+          at = node.1;
+          apart = apart.2;
+          held = λ layer l. held_of s c.domain from to here.0 there.0 node.0 t here.1 there.1 node.1 policy layer (sub layer l);
+        };
+      }
+
+  rename_change : Passes s c (Rename old new) → Change s (done s number c (Rename old new) fresh).1 layers
+  rename_change h =
+      elim (named s to) as (λ r. Change s (renamed s (slot_of s from) (slot_of s to) (inode_of s from) r) layers) [
+        | None ↦ moves _ (renamed_moves s layers from to m.left m.entered m.node t m.is)
+        | Some r ↦ elim (inode_of s from == r) as (λ b. Change s (cond b s (let_go (with_moved s (slot_of s from) (slot_of s to) (inode_of s from)) r)) layers) [
+          | true ↦ shrinks (shrinks_itself s)
+          | false ↦ moves _ (replaced_moves s layers from to m.left m.entered m.node t m.is r)
+        ]
+      ]
+    where
+      m : Moved s layers from to
+      m = move_of ENOTEMPTY h.relation h.way (not_refused _ ENOENT h.existence) (not_gained s c.domain (asked s (Rename old new)) (move_between s from to) h.policy)
+
+  link_change : Passes s c (Link old new) → Change s (done s number c (Link old new) fresh).1 layers
+  link_change h = moves _ (link_moves s layers from to m.left m.entered m.node t m.is no_dir)
+    where
+      m : Moved s layers from to
+      m = move_of EEXIST h.relation h.way (not_refused _ ENOENT (nil_left (missing s old) (present s new) h.existence)) (not_gained s c.domain (asked s (Link old new)) (move_between s from to) h.policy)
+
+      -- what is linked is a node, and no directory
+      known : (k : Kind) × (kind_of s m.node ≡ Some k)
+      known = t.known m.left (last_name from) m.node (last_child s from m.left m.node m.is.here.not_root m.is.here.named m.is.at)
+
+      no_dir : NotFile s m.node → ⊥
+      no_dir f =
+          let dir : kind_of s m.node ≡ Some Dir = known.1 ∙ ap Some (f known.0 known.1) in
+          let is : is_dir (kind_at s from) ≡ true = ap (λ i. is_dir (kind_or_file s i)) (inode_is s from m.node m.is.at) ∙ ap (λ k. is_dir (unwrap_or k Reg)) dir in
+          cc (sym is ∙ not_refused _ EPERM h.kinds)
+
+-- ---- each call
+
+make_change : (s : State) (number : ℕ) (c : Client) (kind : Kind) (a : Target) (fresh : ℕ) → (layers : List Layer) → IsTree s → Passes s c (Make kind a) → Change s (done s number c (Make kind a) fresh).1 layers
+make_change s number c kind a fresh layers t h =
+    let w = place_of s t (path_of a) (not_refused _ EBUSY h.relation) h.way in
+    adds _ _ (new_adds s kind (path_of a) w.0 t w.1)
+
+-- a name that is missing is none of the root
+missing_root : (s : State) (p : Path) → is_none (named s p) ≡ true → is_root p ≡ false
+missing_root s [] e = absurd (cc e)
+missing_root s (n ∷ p) e = refl
+
+open_change : (s : State) (number : ℕ) (c : Client) (mode : Mode) (a : Target) (fresh : ℕ) → (layers : List Layer) → IsTree s → Passes s c (Open mode a) → Change s (done s number c (Open mode a) fresh).1 layers
+open_change s number c mode a fresh layers t h =
+    elim (is_none (named s (path_of a))) as (λ b. is_none (named s (path_of a)) ≡ b → Change s (cond b (with_client (with_node s Reg (slot_of s (path_of a))) number (with_opened s c mode (path_of a) s.next)) (with_client (emptied s mode (inode_of s (path_of a))) number (with_opened s c mode (path_of a) (inode_of s (path_of a))))) layers) [
+      | true ↦ λ e.
+          let w = place_of s t (path_of a) (missing_root s (path_of a) e) h.way in
+          more_change s (with_node s Reg (slot_of s (path_of a))) _ layers refl refl refl (adds _ _ (new_adds s Reg (path_of a) w.0 t w.1))
+      | false ↦ λ e. more_change s (emptied s mode (inode_of s (path_of a))) _ layers refl refl refl
+          (elim mode.truncate as (λ b. Change s (cond b (with_bytes s (inode_of s (path_of a)) []) s) layers) [
+            | true ↦ shrinks (with_bytes_shrinks s (inode_of s (path_of a)) [])
+            | false ↦ shrinks (shrinks_itself s)
+          ])
+    ] refl
+
+-- a client changes, and the tree doesn't
+client_change : (s : State) (number : ℕ) (c : Client) (domain : List Layer) → Change s (with_client s number c) domain
+client_change s number c domain = shrinks (same_tree s (with_client s number c) refl (λ i. refl) refl)
+
+itself : (s : State) (domain : List Layer) → Change s s domain
+itself s domain = shrinks (shrinks_itself s)
+
+done_change : (s : State) (number : ℕ) (c : Client) (call : Call) (fresh : ℕ) (layers : List Layer) → (IsTrue (is_move call) → (layer : Layer) → Contains layers layer → Contains c.domain layer) → IsTree s → Passes s c call → Change s (done s number c call fresh).1 layers
+done_change s number c (Make kind p) fresh layers sub t h = make_change s number c kind p fresh layers t h
+done_change s number c (Open mode p) fresh layers sub t h = open_change s number c mode p fresh layers t h
+done_change s number c (Read fd offset count) fresh layers sub t h = itself s layers
+done_change s number c (Write fd offset bytes) fresh layers sub t h =
+    elim (length bytes == 0) as (λ b. Change s (cond b s (with_bytes s (inode_at c fd) (overwritten (bytes_of s (inode_at c fd)) offset bytes))) layers) [
+      | true ↦ itself s layers
+      | false ↦ shrinks (with_bytes_shrinks s _ _)
+    ]
+done_change s number c (Ftruncate fd size) fresh layers sub t h = shrinks (with_bytes_shrinks s _ _)
+done_change s number c (Truncate p size) fresh layers sub t h = shrinks (with_bytes_shrinks s _ _)
+done_change s number c (Close fd) fresh layers sub t h = shrinks (close_shrinks s number _ _)
+done_change s number c (ReadDir p) fresh layers sub t h = itself s layers
+done_change s number c (Stat p) fresh layers sub t h = itself s layers
+done_change s number c (Exec p) fresh layers sub t h = itself s layers
+done_change s number c (Unlink p) fresh layers sub t h = shrinks (without_name_shrinks s _ _)
+done_change s number c (Rmdir p) fresh layers sub t h = shrinks (without_name_shrinks s _ _)
+done_change s number c (Rename o n) fresh layers sub t h = rename_change s t number c o n fresh layers (sub refl) h
+done_change s number c (Link o n) fresh layers sub t h = link_change s t number c o n fresh layers (sub refl) h
+done_change s number c (Ruleset rights) fresh layers sub t h = client_change s number _ layers
+done_change s number c (Allow rs p rights) fresh layers sub t h = client_change s number _ layers
+done_change s number c (Confine rs) fresh layers sub t h = client_change s number _ layers
+done_change s number c Spawn fresh layers sub t h = client_change s fresh _ layers
+done_change s number c Connect fresh layers sub t h = client_change s number _ layers
+
+-- ---- whole histories
+
+done_move : (s : State) (number : ℕ) (c : Client) (call : Call) (fresh : ℕ) → IsTrue (is_move call) → (done s number c call fresh).0 ≡ Done
+done_move s number c (Rename o n) fresh e = refl
+done_move s number c (Link o n) fresh e = refl
+done_move s number c _ fresh e = absurd (cc e)
+
+-- a call changes the tree in one of the three ways
+step_change : (s : State) (number : ℕ) (call : Call) (fresh : ℕ) (layers : List Layer)
+    → (IsTrue (is_move call) → (step s number call fresh).0 ≡ Done → (layer : Layer) → Contains layers layer → Contains (client_of s number).domain layer)
+    → IsTree s → Change s (step s number call fresh).1 layers
+step_change s number call fresh layers sub t = by (refusals s (client_of s number) call) refl
+  where
+    by : (rs : List Reply) → refusals s (client_of s number) call ≡ rs → Change s (first_or s rs (done s number (client_of s number) call fresh)).1 layers
+    by [] e = done_change s number (client_of s number) call fresh layers (λ m. sub m (ap (λ rs. (first_or s rs (done s number (client_of s number) call fresh)).0) e ∙ done_move s number (client_of s number) call fresh m)) t (passes s (client_of s number) call e)
+    by (r ∷ rs) e = itself s layers
+
+pub start_tree : (room : ℕ) → IsTree (start room)
+start_tree room = record {
+  dirs = λ d n x c. absurd (none d n x c);
+  one = λ d n e m x f c g. absurd (none d n x c);
+  rootless = λ d n c. none d n root c;
+  known = λ d n x c. absurd (none d n x c);
+  old = λ d n x c. absurd (none d n x c);
+  nodes = λ i k e. elim (insert_cases nat_cmp_total nat_cmp-IsAntisymmetric empty root (empty_node Dir) i) [
+    | inl a ↦ let w : i ≡ 1 = a.0 in omega arith
+    | inr a ↦ absurd (cc (sym e ∙ ap (option_map (λ (n : Node). n.kind)) (a.1 ∙ get-empty Node nat_cmp i)))
+  ];
+  above = omega arith;
+  root_node = ap (option_map (λ (n : Node). n.kind)) (get-insert_same nat_cmp_total nat_cmp-IsAntisymmetric empty root (empty_node Dir));
+}
+  where
+    none : (d : ℕ) (n : Name) (x : ℕ) → child (start room) d n ≡ Some x → ⊥
+    none d n x c = cc (sym (get-empty ℕ slot_cmp (slot d n)) ∙ c)
+
+no_layer : (layer : Layer) → Contains [] layer → ⊥
+no_layer layer c = IsIn-contains [] layer c
+
+pub kept_tree : (s : State) (e : Entry) → IsTree s → IsTree (after s e)
+kept_tree s e t = tree_kept s (after s e) [] t (step_change s e.client e.call _ [] (λ m d layer c. absurd (no_layer layer c)) t)
+
+pub after_tree : (s : State) (es : List Entry) → IsTree s → IsTree (state_after s es)
+after_tree s [] t = t
+after_tree s (e ∷ es) t = after_tree (after s e) es (kept_tree s e t)
+
+next_rises : (s t : State) (layers : List Layer) → Change s t layers → s.next ≤ t.next
+next_rises s t layers (shrinks h) = let w = h.next in omega arith
+next_rises s t layers (adds d n h) = let w = h.next in omega arith
+next_rises s t layers (moves entries h) = let w = h.next in omega arith
+
+-- one entry
+pub one_entry : (s : State) (e : Entry) (layer : Layer) (x right : ℕ) → IsTree s → MayStand s e
+    → (IsTrue (is_move e.call) → e.reply ≡ Done → Contains (client_of s e.client).domain layer)
+    → x < s.next → (x < (after s e).next) × (InReach (after s e) layer x right → InReach s layer x right)
+one_entry s e layer x right t m under small =
+    (let w = next_rises s (after s e) (layer ∷ []) change in omega arith, reach_kept s (after s e) (layer ∷ []) layer x right t change (0, omega arith, refl) small)
+  where
+    only : (l : Layer) → Contains (layer ∷ []) l → layer ≡ l
+    only l c = elim (IsIn-contains (layer ∷ []) l c) [ inl a ↦ a | inr a ↦ absurd a ]
+
+    change : Change s (after s e) (layer ∷ [])
+    change = step_change s e.client e.call _ (layer ∷ []) (λ i d l c. subst (Contains (client_of s e.client).domain) (only l c) (under i (sym m.answered ∙ d))) t
+
+late_entries : (s : State) (es : List Entry) (layer : Layer) (x right : ℕ) → IsTree s → IsLegal s es → MovesUnder layer s es → x < s.next → InReach (state_after s es) layer x right → InReach s layer x right
+late_entries s [] layer x right t l u small r = r
+late_entries s (e ∷ es) layer x right t l u small r =
+    let w = one_entry s e layer x right t l.0 u.0 small in
+    w.1 (late_entries (after s e) es layer x right (kept_tree s e t) l.1 u.1 w.0 r)
+
+pub after_append : (s : State) (early late : List Entry) → state_after s (early ++ late) ≡ state_after (state_after s early) late
+after_append s [] late = refl
+after_append s (e ∷ early) late = after_append (after s e) early late
+
+pub legal_late : (s : State) (early late : List Entry) → IsLegal s (early ++ late) → IsLegal (state_after s early) late
+legal_late s [] late l = l
+legal_late s (e ∷ early) late l = legal_late (after s e) early late l.1
+
+pub named_below : (s : State) → IsTree s → (p : Path) (x : ℕ) → named s p ≡ Some x → x < s.next
+named_below s t p x e = end_below s t p root x t.above e
+
+pub no_gain : NoGain
+no_gain room early late legal layer under inode has right r =
+    let s = state_after (start room) early in
+    let t = after_tree (start room) early (start_tree room) in
+    late_entries s late layer inode right t (legal_late (start room) early late legal) under (named_below s t has.0 inode has.1)
+    (subst (λ z. InReach z layer inode right) (after_append (start room) early late) r)

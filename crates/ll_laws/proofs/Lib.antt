@@ -1,0 +1,9 @@
+pub mod Chains
+pub mod Relevant
+pub mod Trees
+pub mod Stages
+pub mod Changes
+pub mod Gain
+pub mod Asked
+pub mod Clients
+pub mod Withheld

@@ -1,0 +1,64 @@
+-- Which bytes clients under a layer may read and change of an inode that none of them has open. own
+use Rattle.std.specs.Prelude.{◌≡◌, ◌≢◌, ◌⊎◌, ℕ, true, List, [], ◌∷◌, ◌++◌, Option, Some, None, ⊤, Contains}
+use Rattle.ll_rights.specs.Map.{get, has}
+use Rattle.ll_rights.specs.Right as right
+use Rattle.ll_rules.specs.Layer.{Layer}
+use Rattle.ll_seq.specs.declared.call.Call.{Call}
+use Rattle.ll_seq.specs.declared.call.Call.TheVariants.{Read}
+use Rattle.ll_seq.specs.declared.client.Client.{Client}
+use Rattle.ll_seq.specs.declared.client.Descriptor.{Descriptor}
+use Rattle.ll_seq.specs.declared.node.Node.{Node}
+use Rattle.ll_seq.specs.declared.reply.Reply.{Reply}
+use Rattle.ll_seq.specs.declared.reply.Reply.TheVariants.{Bytes, Spawned}
+use Rattle.ll_seq.specs.declared.reply.Entry.{Entry}
+use Rattle.ll_seq.specs.State.{State, start}
+use Rattle.ll_seq.specs.Effects.{inode_at}
+use Rattle.ll_seq.specs.Step.{client_of}
+use Rattle.ll_seq.specs.History.{IsLegal, state_after, after}
+use Rattle.ll_seq.specs.Reach.{InReach, HasName}
+use Rattle.ll_laws.specs.NoGain.{MovesUnder}
+
+-- the inode from which a read was answered
+abbrev pub bytes_read : Client → Call → Reply → Option ℕ
+bytes_read c (Read fd offset count) (Bytes bytes) = Some (inode_at c fd)
+bytes_read c _ _ = None
+
+abbrev pub read_from : State → Entry → Option ℕ
+read_from s e = bytes_read (client_of s e.client) e.call e.reply
+
+-- the node lives on with other bytes
+pub record ChangesBytes (s t : State) (inode : ℕ) : Type 0 where
+  pub old : Node
+  pub new : Node
+  pub before : get s.nodes inode ≡ Some old
+  pub after : get t.nodes inode ≡ Some new
+  pub differ : old.bytes ≢ new.bytes
+
+-- the client is there, and the layer is in its domain
+pub record IsConfined (layer : Layer) (s : State) (client : ℕ) : Type 0 where
+  pub there : has s.clients client ≡ true
+  pub under : Contains (client_of s client).domain layer
+
+-- those who were confined, and whom one of them spawned by this entry
+abbrev pub Confined : (ℕ → Type 0) → Entry → ℕ → Type 0
+Confined Was e client = Was client ⊎ (Was e.client × (e.reply ≡ Spawned client))
+
+-- While the entries are made, no confined client reads from the inode unless read_file was in reach at the cut, and none
+-- changes its bytes unless write_file or truncate was
+abbrev pub Withheld : Layer → ℕ → State → (ℕ → Type 0) → State → List Entry → Type 0
+Withheld layer inode cut Was s [] = ⊤
+Withheld layer inode cut Was s (e ∷ es) =
+    (Was e.client → read_from s e ≡ Some inode → InReach cut layer inode right.read_file)
+    × (Was e.client → ChangesBytes s (after s e) inode → InReach cut layer inode right.write_file ⊎ InReach cut layer inode right.truncate)
+    × Withheld layer inode cut (Confined Was e) (after s e) es
+
+-- Cut a legal history in two. Of an inode that no client under the layer has open at the cut the bytes are withheld from
+-- all of them, and from whom they spawn, where each move after it is made under the layer
+abbrev pub BytesAreWithheld : Type 0
+BytesAreWithheld =
+    (room : ℕ) (early late : List Entry) → IsLegal (start room) (early ++ late) →
+    let cut = state_after (start room) early in
+    (layer : Layer) → MovesUnder layer cut late →
+    (inode : ℕ) → HasName cut inode →
+    ((client : ℕ) → IsConfined layer cut client → (fd : ℕ) (d : Descriptor) → get (client_of cut client).descriptors fd ≡ Some d → d.inode ≢ inode) →
+    Withheld layer inode cut (IsConfined layer cut) cut late
