@@ -145,11 +145,13 @@ impl Session {
         again!(Session::start(alloc, nodes))
     }
 
+    /// Makes the call, which doesn't spawn.
     fn apply(&mut self, rt: &impl Abort, call: &Call) -> Reply
         requires { is_connect call.now ≡ false }
     {
         assert!(rt; self.calls < 1_000_000);
         let reply = self.tree.apply(1, call, 2);
+        assert!(rt; !matches!(&reply, Reply::Spawned(_)));
         self.calls += 1;
         reply
     }
