@@ -30,5 +30,5 @@ invariant_of-result c =
     record {
       connected = ap (λ (s : State). has s.clients 1) after ∙ somebody;
       numbers = subst (λ (s : State). c.apply.new.self.next ≤ s.next + 1) c.in_ok-tree.ensures c.in-Done.ensures.numbers;
-      free = λ number above. c.in-Done.ensures.no_other_client number (omega arith) (omega arith) ∙ ap (λ (s : State). has s.clients number) c.in_ok-tree.ensures ∙ nobody number;
+      free = λ number above. c.in-Done.ensures.no_other_client number (omega arith) (λ e. absurd cc) ∙ ap (λ (s : State). has s.clients number) c.in_ok-tree.ensures ∙ nobody number;
     }
