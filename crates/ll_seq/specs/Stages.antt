@@ -47,7 +47,7 @@ text_refusals _ = []
 
 -- ---- The caller's numbers. read(2), write(2), close(2), landlock_add_rule(2), landlock_restrict_self(2): EBADF; ftruncate(2): EINVAL
 
--- the client has the descriptor, and it allows this
+-- the client lacks the descriptor, or it doesn't allow this
 abbrev pub without : Client → ℕ → (Descriptor → Bool) → Errno → List Errno
 without c number allows errno = refuse (is_none (get c.descriptors number)) EBADF ++ refuse (not (option_map_or allows (get c.descriptors number) true)) errno
 
