@@ -11,7 +11,8 @@ ghost use Rattle.landtree.specs.Transcript.{brought};
 ghost use Rattle.landtree.specs.Run.{connected};
 
 use crate::fault::SessionFault;
-use ll_seq::{Call, Plain, Reply};
+use ll_plain::Plain;
+use ll_seq::{Call, Reply};
 use std::alloc::Global;
 
 /// The number of the session's first client.

@@ -14,7 +14,6 @@ use Rattle.ll_rights.specs.Map.{Map, entries, get, has, insert, remove, from_sor
 use Rattle.ll_rights.proofs.Maps.{equal_at, same_map, got_inserted, get-insert, get-remove, get-from_sorted, entries-from_sorted}
 use Rattle.ll_rights.proofs.Places.{replaced, taken}
 use Rattle.ll_seq.specs.declared.node.Node.{Node}
-use Rattle.ll_seq.specs.Tables.{IsBelow}
 
 module _ {K V : Type 0} {R : K → K → Ordering} (o : IsTotalOrder R) where
   first_has : (n k : K) (v : V) (rows : List (K × V)) → k ≡ n → find R n ((k, v) ∷ rows) ≡ Some v
@@ -158,19 +157,3 @@ bytes_changed f m after k node bytes there is new =
 
 pub no_bytes : (f : List ℕ → List ℕ) (m : Map nat_cmp Node) (k : ℕ) → get m k ≡ None → m ≡ with_bytes_by f m k
 no_bytes f m k missing = sym (ap (λ o. option_map_or (λ (n : Node). insert m k (record n { bytes = f n.bytes })) o m) missing)
-
--- ---- numbers that no node has yet
-
-pub next_is_new : (nodes : Map nat_cmp Node) (next : ℕ) → IsBelow nodes next → get nodes next ≡ None
-next_is_new nodes next below = at (get nodes next) refl
-  where
-    at : (o : Option Node) → get nodes next ≡ o → o ≡ None
-    at None e = refl
-    at (Some node) e = absurd (let less = below next node e in omega arith)
-
-pub one_above : (nodes after : Map nat_cmp Node) (next : ℕ) (node : Node) → IsBelow nodes next → after ≡ insert nodes next node → IsBelow after (next + 1)
-one_above nodes after next node below is inode other e =
-    elim (got_inserted nat_cmp_total nat_cmp-IsAntisymmetric nodes next node inode other (ap (λ m. get m inode) (sym is) ∙ e)) [
-      | inl a ↦ (let same = a.0 in omega arith)
-      | inr a ↦ (let less = below inode other a in omega arith)
-    ]

@@ -1,14 +1,11 @@
 pub mod Asked
 pub mod Call
 pub mod Codes
-pub mod Deciding
 pub mod Effects
 pub mod Fails
 pub mod History
 pub mod Reach
-pub mod Reaching
 pub mod Stages
 pub mod State
 pub mod Step
-pub mod Tables
 pub mod Tree

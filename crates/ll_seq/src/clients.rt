@@ -18,7 +18,7 @@ use std::alloc::Global;
 
 impl Table<Descriptor> {
     /// Whether one of them is the inode's.
-    pub(crate) fn is_open(&self, inode: u64) -> bool
+    pub fn is_open(&self, inode: u64) -> bool
         ensures { result ≡ list_any (λ (d : ℕ × file.Descriptor). d.1.inode == inode) (entries self.now) }
     {
         for row in &self.rows {
@@ -32,7 +32,7 @@ impl Table<Descriptor> {
 
 impl Table<Client> {
     /// Whether one of them has the inode open.
-    pub(crate) fn has_open(&self, inode: u64) -> bool
+    pub fn has_open(&self, inode: u64) -> bool
         ensures { result ≡ list_any (λ (c : ℕ × record_of.Client). list_any (λ (d : ℕ × file.Descriptor). d.1.inode == inode) (entries c.1.descriptors)) (entries self.now) }
     {
         for row in &self.rows {
@@ -44,7 +44,7 @@ impl Table<Client> {
     }
 
     /// Opens a file at the client's lowest free descriptor.
-    pub(crate) fn open(&mut self, client: u64, descriptor: Descriptor) -> Result<u64, Errno>
+    pub fn open(&mut self, client: u64, descriptor: Descriptor) -> Result<u64, Errno>
         requires { has self.old client ≡ true }
         ensures ok { IfOk result (λ number. (c : record_of.Client) → get self.old client ≡ Some c
             → (lowest_free c.descriptors ≡ Some number) × (self.new ≡ insert self.old client (record c { descriptors = insert c.descriptors number descriptor }))) }
@@ -60,7 +60,7 @@ impl Table<Client> {
     }
 
     /// Frees the client's descriptor.
-    pub(crate) fn close(&mut self, client: u64, number: u64)
+    pub fn close(&mut self, client: u64, number: u64)
         requires { has self.old client ≡ true }
         ensures { (c : record_of.Client) → get self.old client ≡ Some c → self.new ≡ insert self.old client (record c { descriptors = remove c.descriptors number }) }
     {
@@ -72,7 +72,7 @@ impl Table<Client> {
     }
 
     /// Makes a ruleset of the client's that handles these rights.
-    pub(crate) fn create_ruleset(
+    pub fn create_ruleset(
         &mut self,
         alloc: Global,
         client: u64,
@@ -94,7 +94,7 @@ impl Table<Client> {
     }
 
     /// A rule of the client's ruleset of this number, which is there, on the inode of a node of this kind.
-    pub(crate) fn allow(
+    pub fn allow(
         &mut self,
         client: u64,
         number: u64,
@@ -119,7 +119,7 @@ impl Table<Client> {
     }
 
     /// Enforces the client's ruleset of this number, which is there.
-    pub(crate) fn confine(&mut self, client: u64, number: u64) -> Result<(), Errno>
+    pub fn confine(&mut self, client: u64, number: u64) -> Result<(), Errno>
         requires there { has self.old client ≡ true }
         requires made { (c : record_of.Client) → get self.old client ≡ Some c → number < length c.rulesets }
         ensures ok { OnOk result ((c : record_of.Client) → get self.old client ≡ Some c → (layer_limit c.domain ≡ [])

@@ -99,7 +99,7 @@ impl Entries {
     }
 
     /// How many entries there are.
-    pub(crate) fn len(&self) -> usize
+    pub fn len(&self) -> usize
         ensures len { result ≡ length (entries self.now) }
         ensures most { result < 2 ^ 63 }
     {
@@ -107,7 +107,7 @@ impl Entries {
     }
 
     /// The entries in order.
-    pub(crate) fn rows(&self) -> &[(Slot, u64)]
+    pub fn rows(&self) -> &[(Slot, u64)]
         ensures { result.now ≡ entries self.now }
     {
         self.rows.as_slice()

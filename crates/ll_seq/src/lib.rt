@@ -1,5 +1,5 @@
-//! The sequential tree: calls and their replies, the definitions of what each call does (in `specs/`), and a plain tree
-//! that does it.
+//! The sequential tree: calls and their replies, the definitions of what each call does (in `specs/`), and the tables
+//! that hold a tree.
 #![tactic(auto)]
 
 mod call;
@@ -9,7 +9,6 @@ mod entries;
 mod listing;
 mod node;
 mod nodes;
-mod plain;
 mod reply;
 mod table;
 #[cfg(test)]
@@ -20,6 +19,5 @@ pub use client::{Client, Descriptor, Rulesets};
 pub use entries::{Entries, Slot};
 pub use listing::Listing;
 pub use node::{Content, Node};
-pub use plain::Plain;
 pub use reply::{Entry, Reply, Status};
 pub use table::Table;

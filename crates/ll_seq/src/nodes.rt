@@ -12,7 +12,7 @@ use std::alloc::AllocError;
 
 impl Table<Node> {
     /// Cuts the node's bytes to this length, or fills them with zeros to it. Without such a node nothing happens.
-    pub(crate) fn set_len(&mut self, inode: u64, len: usize) -> Result<(), AllocError>
+    pub fn set_len(&mut self, inode: u64, len: usize) -> Result<(), AllocError>
         ensures ok { OnOk result (self.new ≡ option_map_or (λ (n : record_of.Node). insert self.old inode (record n { bytes = resized n.bytes len })) (get self.old inode) self.old) }
         ensures err { OnErr result (self.new ≡ self.old) }
     {
@@ -24,12 +24,7 @@ impl Table<Node> {
     }
 
     /// Puts the bytes into the node's from the offset on. Without such a node nothing happens.
-    pub(crate) fn write(
-        &mut self,
-        inode: u64,
-        offset: usize,
-        bytes: &[u8],
-    ) -> Result<(), AllocError>
+    pub fn write(&mut self, inode: u64, offset: usize, bytes: &[u8]) -> Result<(), AllocError>
         requires { offset + length bytes.now < 2 ^ 64 }
         ensures ok { OnOk result (self.new ≡ option_map_or (λ (n : record_of.Node). insert self.old inode (record n { bytes = overwritten n.bytes offset bytes.now })) (get self.old inode) self.old) }
         ensures err { OnErr result (self.new ≡ self.old) }
@@ -42,7 +37,7 @@ impl Table<Node> {
     }
 
     /// Takes the node's bytes away. Without such a node nothing happens.
-    pub(crate) fn clear(&mut self, inode: u64)
+    pub fn clear(&mut self, inode: u64)
         ensures { self.new ≡ option_map_or (λ (n : record_of.Node). insert self.old inode (record n { bytes = [] })) (get self.old inode) self.old }
     {
         if let Some(i) = index_of(&self.rows, inode) {
