@@ -97,7 +97,7 @@ third true true false e f g = absurd (cc e)
 third true false c e f g = absurd (cc g)
 third false b c e f g = absurd (cc f)
 
-held_of : (s : State) (domain : List Layer) (from to : Path) (c d o : ℕ) → IsTree s → IsPlace s from c → IsPlace s to d → named s from ≡ Some o → gain_denials (grants s) domain (move_between s from to) ≡ []
+held_of : (s : State) (domain : List Layer) (from to : Path) (c d o : ℕ) → IsTree s → IsPlace s from c → IsPlace s to d → named s from ≡ Some o → gain_denials (grants s) domain (move_between from to (kind_at s from) (parents_differ s from to)) ≡ []
     → (layer : Layer) → Contains domain layer → (right : ℕ) → is_relevant (kind_of s o) right ≡ true → grants s layer (parent to) right ≡ true → grants s layer from right ≡ true
 held_of s domain from to c d o t here there at none layer l right r g =
     elim (parents_differ s from to) as (λ b. parents_differ s from to ≡ b → gain_denials (grants s) domain (cond b (Some move) None) ≡ [] → grants s layer from right ≡ true) [
@@ -155,7 +155,7 @@ module _ (s : State) (t : IsTree s) (number : ℕ) (c : Client) (old new : Targe
   abbrev to : Path
   to = path_of new
 
-  move_of : (above : Errno) → lying from to above ≡ [] → way_to s old ++ way_to s new ≡ [] → is_none (named s from) ≡ false → gain_denials (grants s) c.domain (move_between s from to) ≡ [] → Moved s layers from to
+  move_of : (above : Errno) → lying from to above ≡ [] → way_to s old ++ way_to s new ≡ [] → is_none (named s from) ≡ false → gain_denials (grants s) c.domain (move_between from to (kind_at s from) (parents_differ s from to)) ≡ [] → Moved s layers from to
   move_of above relation way existence policy =
       let apart = not_lying from to above relation in
       let here = place_of s t from apart.0 (nil_left (way_to s old) (way_to s new) way) in
@@ -185,13 +185,13 @@ module _ (s : State) (t : IsTree s) (number : ℕ) (c : Client) (old new : Targe
       ]
     where
       m : Moved s layers from to
-      m = move_of ENOTEMPTY h.relation h.way (not_refused _ ENOENT h.existence) (not_gained s c.domain (asked s (Rename old new)) (move_between s from to) h.policy)
+      m = move_of ENOTEMPTY h.relation h.way (not_refused _ ENOENT h.existence) (not_gained s c.domain (asked s (Rename old new)) (move_between from to (kind_at s from) (parents_differ s from to)) h.policy)
 
   link_change : Passes s c (Link old new) → Change s (done s number c (Link old new) fresh).1 layers
   link_change h = moves _ (link_moves s layers from to m.left m.entered m.node t m.is no_dir)
     where
       m : Moved s layers from to
-      m = move_of EEXIST h.relation h.way (not_refused _ ENOENT (nil_left (missing s old) (present s new) h.existence)) (not_gained s c.domain (asked s (Link old new)) (move_between s from to) h.policy)
+      m = move_of EEXIST h.relation h.way (not_refused _ ENOENT (nil_left (missing s old) (present s new) h.existence)) (not_gained s c.domain (asked s (Link old new)) (move_between from to (kind_at s from) (parents_differ s from to)) h.policy)
 
       -- what is linked is a node, and no directory
       known : (k : Kind) × (kind_of s m.node ≡ Some k)

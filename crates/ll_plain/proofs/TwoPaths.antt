@@ -1,5 +1,5 @@
 -- Calls of two paths.
-use Rattle.std.specs.Prelude.{◌≡◌, ◌≢◌, ℕ, List, [], ◌∷◌, ◌++◌, Option, Some, None, is_some, option_map, slice_get, unwrap_or, ◌==◌, if◌then◌else◌, refl}
+use Rattle.std.specs.Prelude.{◌≡◌, ◌≢◌, ℕ, List, [], ◌∷◌, ◌++◌, Option, Some, None, not, option_map, slice_get, unwrap_or, ◌==◌, if◌then◌else◌, refl}
 use Rattle.std.specs.Option.{option_map_or}
 use Rattle.std.proofs.Common.{ap, sym, ◌∙◌}
 use Rattle.std.proofs.lemmas.Bool.{ne_eqb}
@@ -18,11 +18,11 @@ use Rattle.ll_seq.specs.declared.call.Call.TheVariants.{Rename, Link}
 use Rattle.ll_seq.specs.Call.{path_of}
 use Rattle.ll_seq.specs.State.{State, slot, slot_cmp}
 use Rattle.ll_seq.specs.Tree.{named, inode_of, kind_or_file, kind_at}
-use Rattle.ll_seq.specs.Asked.{ask, grants, asked, call_denials, move_between, refer_asked}
+use Rattle.ll_seq.specs.Asked.{grants, asked, call_denials, link_asked, move_between, parents_differ, rename_asked}
 use Rattle.ll_seq.specs.Stages.{kind_refusals, limit_refusals}
 use Rattle.ll_seq.specs.Effects.{let_go, renamed, slot_of, with_name, with_moved}
 use Rattle.ll_seq.specs.Step.{client_of}
-use Rattle.ll_plain.specs.Deciding.{Stands, between, link_asks, rename_asks, link_refusals, move_refusals}
+use Rattle.ll_plain.specs.Deciding.{Stands, link_refusals, move_refusals}
 use Rattle.ll_plain.proofs.Calls.{told}
 use Rattle.ll_seq.proofs.Slots.{slot_total, slot_exact}
 use Rattle.ll_seq.proofs.Tables.{two_keys, remove-insert_other, instead}
@@ -37,38 +37,30 @@ module _ (s : State) (old new : Target) (from into : Spot) (at_old : Stands s (p
   kind_is : (kind : Kind) → kind ≡ kind_or_file s inode → kind ≡ kind_or_file s (inode_of s (path_of old))
   kind_is kind k = k ∙ ap (λ o. kind_or_file s (unwrap_or o 0)) (sym is_old)
 
-  replaced_is : (o : Option ℕ) → option_map_or (λ other. ask (parent (path_of new)) (remove_right other) New ∷ []) (option_map (kind_or_file s) o) []
-      ≡ when (is_some o) (ask (parent (path_of new)) (remove_right (kind_or_file s (unwrap_or o 0))) New ∷ [])
-  replaced_is None = refl
-  replaced_is (Some other) = refl
+  -- what they ask is what their definitions say
+  pub rename_asks : (kind : Kind) (other : Option Kind) → kind ≡ kind_or_file s inode → other ≡ option_map (kind_or_file s) (named s (path_of new))
+      → rename_asked from.path.now into.path.now kind other (not (from.directory == into.directory)) ≡ asked s (Rename old new)
+  rename_asks kind other k o = λ i. rename_asked (at_old.path i) (at_new.path i) (kind_is kind k i) (o i) (not (at_old.directory i == at_new.directory i))
 
-  -- what a rename asks is what its definition says
-  pub rename_asked : (kind : Kind) (other : Option Kind) → kind ≡ kind_or_file s inode → other ≡ option_map (kind_or_file s) (named s (path_of new))
-      → rename_asks from.path.now into.path.now kind other (from.directory == into.directory) ≡ asked s (Rename old new)
-  rename_asked kind other k o =
-      (λ i. rename_asks (at_old.path i) (at_new.path i) (kind_is kind k i) (o i) (at_old.directory i == at_new.directory i))
-      ∙ (λ i. ask (parent (path_of old)) (remove_right (kind_at s (path_of old))) Old
-      ∷ ask (parent (path_of new)) (make_right (kind_at s (path_of old))) New
-      ∷ replaced_is (named s (path_of new)) i ++ refer_asked s (path_of old) (path_of new))
+  pub link_asks : (kind : Kind) → kind ≡ kind_or_file s inode → link_asked from.path.now into.path.now kind (not (from.directory == into.directory)) ≡ asked s (Link old new)
+  link_asks kind k = λ i. link_asked (at_old.path i) (at_new.path i) (kind_is kind k i) (not (at_old.directory i == at_new.directory i))
 
-  pub link_asked : (kind : Kind) → kind ≡ kind_or_file s inode → link_asks from.path.now into.path.now kind (from.directory == into.directory) ≡ asked s (Link old new)
-  link_asked kind k = λ i. link_asks (at_old.path i) (at_new.path i) (kind_is kind k i) (at_old.directory i == at_new.directory i)
-
-  pub moves_so : (kind : Kind) → kind ≡ kind_or_file s inode → between from.path.now into.path.now kind (from.directory == into.directory) ≡ move_between s (path_of old) (path_of new)
-  moves_so kind k = λ i. between (at_old.path i) (at_new.path i) (kind_is kind k i) (at_old.directory i == at_new.directory i)
+  pub moves_so : (kind : Kind) → kind ≡ kind_or_file s inode
+      → move_between from.path.now into.path.now kind (not (from.directory == into.directory)) ≡ move_between (path_of old) (path_of new) (kind_at s (path_of old)) (parents_differ s (path_of old) (path_of new))
+  moves_so kind k = λ i. move_between (at_old.path i) (at_new.path i) (kind_is kind k i) (not (at_old.directory i == at_new.directory i))
 
   -- the first denial of either call
   pub rename_told : (n : ℕ) (answer : Option Denial) (kind : Kind) (other : Option Kind) → kind ≡ kind_or_file s inode → other ≡ option_map (kind_or_file s) (named s (path_of new))
-      → answer ≡ verdict (grants s) (client_of s n).domain (rename_asks from.path.now into.path.now kind other (from.directory == into.directory)) (between from.path.now into.path.now kind (from.directory == into.directory))
+      → answer ≡ verdict (grants s) (client_of s n).domain (rename_asked from.path.now into.path.now kind other (not (from.directory == into.directory))) (move_between from.path.now into.path.now kind (not (from.directory == into.directory)))
       → slice_get (call_denials s (client_of s n) (Rename old new)) 0 ≡ answer
   rename_told n answer kind other k o is =
-      told s n (Rename old new) (asked s (Rename old new)) answer (decided s (client_of s n).domain answer _ _ _ _ is (rename_asked kind other k o) (moves_so kind k)) refl
+      told s n (Rename old new) (asked s (Rename old new)) answer (decided s (client_of s n).domain answer _ _ _ _ is (rename_asks kind other k o) (moves_so kind k)) refl
 
   pub link_told : (n : ℕ) (answer : Option Denial) (kind : Kind) → kind ≡ kind_or_file s inode
-      → answer ≡ verdict (grants s) (client_of s n).domain (link_asks from.path.now into.path.now kind (from.directory == into.directory)) (between from.path.now into.path.now kind (from.directory == into.directory))
+      → answer ≡ verdict (grants s) (client_of s n).domain (link_asked from.path.now into.path.now kind (not (from.directory == into.directory))) (move_between from.path.now into.path.now kind (not (from.directory == into.directory)))
       → slice_get (call_denials s (client_of s n) (Link old new)) 0 ≡ answer
   link_told n answer kind k is =
-      told s n (Link old new) (asked s (Link old new)) answer (decided s (client_of s n).domain answer _ _ _ _ is (link_asked kind k) (moves_so kind k)) refl
+      told s n (Link old new) (asked s (Link old new)) answer (decided s (client_of s n).domain answer _ _ _ _ is (link_asks kind k) (moves_so kind k)) refl
 
   -- ---- afterwards
 

@@ -30,7 +30,7 @@ use Rattle.ll_plain.specs.declared.walk.Spot.{Spot}
 use Rattle.ll_seq.specs.Call.{path_of}
 use Rattle.ll_seq.specs.State.{State, child}
 use Rattle.ll_seq.specs.Tree.{named, directory_of, kind_or_file}
-use Rattle.ll_seq.specs.Stages.{bad_text, lying, way_to, replace_refusals, is_crowded, has_many_names}
+use Rattle.ll_seq.specs.Stages.{bad_text, lying, way_to, replace_refusals, is_crowded, enters, has_many_names}
 use Rattle.ll_seq.specs.Asked.{ask, grants}
 use Rattle.ll_seq.specs.Step.{step, refusals, client_of}
 
@@ -69,27 +69,10 @@ spot a = spot_on a.on a.path.now
 abbrev pub ask_of : code.Asked → Ask Path
 ask_of a = record { path = spot a; right = a.right; place = a.place }
 
--- refer on both directories, unless it is one
-abbrev pub refer_asks : Path → Path → Bool → List (Ask Path)
-refer_asks old new within = when (not within) (ask (parent old) right.refer Old ∷ ask (parent new) right.refer New ∷ [])
-
--- what a rename asks of a node of this kind, where one of the other kind has the new name
-abbrev pub rename_asks : Path → Path → Kind → Option Kind → Bool → List (Ask Path)
-rename_asks old new kind replaced within =
-    ask (parent old) (remove_right kind) Old
-    ∷ ask (parent new) (make_right kind) New
-    ∷ option_map_or (λ other. ask (parent new) (remove_right other) New ∷ []) replaced [] ++ refer_asks old new within
-
-abbrev pub link_asks : Path → Path → Kind → Bool → List (Ask Path)
-link_asks old new kind within = ask (parent new) (make_right kind) New ∷ refer_asks old new within
-
-abbrev pub between : Path → Path → Kind → Bool → Option (Move Path)
-between old new kind within = if not within then Some (record { from = old; into = parent new; relevant = relevant kind }) else None
-
 -- what refuses a rename and a link after policy
 abbrev pub move_refusals : State → ℕ → Option ℕ → ℕ → ℕ → List Errno
 move_refusals s inode replaced from into =
-    option_map_or (replace_refusals s inode) replaced [] ++ refuse ((is_none replaced && not (from == into)) && is_crowded s into) ENOSPC
+    option_map_or (replace_refusals s inode) replaced [] ++ refuse (enters replaced from into && is_crowded s into) ENOSPC
 
 abbrev pub link_refusals : State → ℕ → ℕ → List Errno
 link_refusals s inode into = refuse (is_dir (kind_or_file s inode)) EPERM ++ (refuse (has_many_names s inode) EMLINK ++ refuse (is_crowded s into) ENOSPC)

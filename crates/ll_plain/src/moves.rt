@@ -1,17 +1,17 @@
 //! Calls on two paths.
 
-ghost use Rattle.std.specs.Prelude.{◌≡◌, ◌≢◌, ◌==◌, ◌++◌, [], Some, None, OnOk, OnErr, IfOk, IfErr, option_map, slice_get};
+ghost use Rattle.std.specs.Prelude.{◌≡◌, ◌≢◌, ◌==◌, ◌++◌, [], Some, None, OnOk, OnErr, IfOk, IfErr, not, option_map, slice_get};
 ghost use Rattle.ll_path.specs.Name.{IsName};
 ghost use Rattle.ll_decide.specs.Verdict.{verdict};
 ghost use Rattle.ll_seq.specs.Call.{path_of};
 ghost use Rattle.ll_seq.specs.State.{child, slot};
 ghost use Rattle.ll_seq.specs.Tree.{kind_or_file};
-ghost use Rattle.ll_seq.specs.Asked.{grants};
+ghost use Rattle.ll_seq.specs.Asked.{grants, link_asked, move_between, rename_asked};
 ghost use Rattle.ll_seq.specs.Stages.{bad_text, lying, replace_refusals};
 ghost use Rattle.ll_seq.specs.Effects.{renamed, with_name};
 ghost use Rattle.ll_seq.specs.Step.{client_of};
 ghost use Rattle.ll_seq.specs.Fails.{Fails};
-ghost use Rattle.ll_plain.specs.Deciding.{Comes, Stands, between, leading, link_asks, link_refusals, move_refusals, rename_asks};
+ghost use Rattle.ll_plain.specs.Deciding.{Comes, Stands, leading, link_refusals, move_refusals};
 ghost use Rattle.ll_seq.specs.declared.call.Call.TheVariants as calls;
 
 use crate::Plain;
@@ -96,7 +96,7 @@ impl Plain {
         kind: Kind,
         replaced: Option<Kind>,
     ) -> Option<Denial>
-        ensures { result ≡ verdict (grants self.now) (client_of self.now client).domain (rename_asks old.now.path.now new.now.path.now kind replaced (old.now.directory == new.now.directory)) (between old.now.path.now new.now.path.now kind (old.now.directory == new.now.directory)) }
+        ensures { result ≡ verdict (grants self.now) (client_of self.now client).domain (rename_asked old.now.path.now new.now.path.now kind replaced (not (old.now.directory == new.now.directory))) (move_between old.now.path.now new.now.path.now kind (not (old.now.directory == new.now.directory))) }
     {
         let leave = Asked::at_old_parent(old.path, kind.remove_right());
         let enter = Asked::at_new_parent(new.path, kind.make_right());
@@ -126,7 +126,7 @@ impl Plain {
 
     /// What the client's layers deny where a node of this kind gets a further name.
     fn link_denial(&self, client: u64, old: &Spot<'_>, new: &Spot<'_>, kind: Kind) -> Option<Denial>
-        ensures { result ≡ verdict (grants self.now) (client_of self.now client).domain (link_asks old.now.path.now new.now.path.now kind (old.now.directory == new.now.directory)) (between old.now.path.now new.now.path.now kind (old.now.directory == new.now.directory)) }
+        ensures { result ≡ verdict (grants self.now) (client_of self.now client).domain (link_asked old.now.path.now new.now.path.now kind (not (old.now.directory == new.now.directory))) (move_between old.now.path.now new.now.path.now kind (not (old.now.directory == new.now.directory))) }
     {
         let enter = Asked::at_new_parent(new.path, kind.make_right());
         if old.is_beside(new) {

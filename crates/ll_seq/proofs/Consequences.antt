@@ -334,7 +334,7 @@ limit_fine s c (Stat t) = tt
 limit_fine s c (Exec t) = tt
 limit_fine s c (Unlink t) = tt
 limit_fine s c (Rmdir t) = tt
-limit_fine s c (Rename o n) = if_refused (enters s o n && is_crowded s (directory_of s (path_of n))) ENOSPC (omega arith, omega arith)
+limit_fine s c (Rename o n) = if_refused (enters (named s (path_of n)) (directory_of s (path_of o)) (directory_of s (path_of n)) && is_crowded s (directory_of s (path_of n))) ENOSPC (omega arith, omega arith)
 limit_fine s c (Link o n) = joined (refuse (has_many_names s (inode_of s (path_of o))) EMLINK) (refuse (is_crowded s (directory_of s (path_of n))) ENOSPC)
     (if_refused (has_many_names s (inode_of s (path_of o))) EMLINK (omega arith, omega arith)) (if_refused (is_crowded s (directory_of s (path_of n))) ENOSPC (omega arith, omega arith))
 limit_fine s c (Ruleset rights) = if_refused (nat_le 16 (length c.rulesets)) EMFILE (omega arith, omega arith)

@@ -1,5 +1,7 @@
 -- What a call asks of each layer.
 use Rattle.std.specs.Prelude.{ℕ, Bool, not, List, [], ◌∷◌, ◌++◌, Option, Some, None, is_some, ◌==◌, ◌&&◌, option_map, option_and_then, option_to_list, if◌then◌else◌}
+use Rattle.std.specs.Option.{option_map_or}
+use Rattle.ll_rights.specs.declared.kind.Kind.{Kind}
 use Rattle.ll_rights.specs.Kind.{make_right, remove_right, relevant}
 use Rattle.ll_rights.specs.Map.{get}
 use Rattle.ll_rights.specs.Right as right
@@ -17,7 +19,7 @@ use Rattle.ll_seq.specs.declared.call.Call.{Call}
 use Rattle.ll_seq.specs.declared.call.Call.TheVariants.{Make, Open, Ftruncate, Truncate, ReadDir, Exec, Unlink, Rmdir, Rename, Link}
 use Rattle.ll_seq.specs.Call.{reads, writes, path_of}
 use Rattle.ll_seq.specs.State.{State}
-use Rattle.ll_seq.specs.Tree.{ancestors, named, directory_of, kind_at}
+use Rattle.ll_seq.specs.Tree.{ancestors, named, directory_of, kind_or_file, kind_at}
 
 -- the layer grants the right on the path. landlock.rst, "Landlock rules"
 abbrev pub grants : State → Layer → Path → ℕ → Bool
@@ -30,13 +32,20 @@ ask path right place = record { path = path; right = right; place = place }
 abbrev pub parents_differ : State → Path → Path → Bool
 parents_differ s old new = not (directory_of s old == directory_of s new)
 
--- linux/landlock.h, LANDLOCK_ACCESS_FS_REFER: on the directory that is left and on the one that is entered
-abbrev pub refer_asked : State → Path → Path → List (Ask Path)
-refer_asked s old new = when (parents_differ s old new) (ask (parent old) right.refer Old ∷ ask (parent new) right.refer New ∷ [])
+-- Between directories, refer on the one that is left and on the one that is entered. linux/landlock.h, LANDLOCK_ACCESS_FS_REFER
+abbrev pub refer_asked : Path → Path → Bool → List (Ask Path)
+refer_asked old new between = when between (ask (parent old) right.refer Old ∷ ask (parent new) right.refer New ∷ [])
 
--- the name that a rename replaces is removed too
-abbrev pub replaced_asked : State → Path → List (Ask Path)
-replaced_asked s new = when (is_some (named s new)) (ask (parent new) (remove_right (kind_at s new)) New ∷ [])
+-- A node of this kind loses a name and gets one, in the place of a node of the other kind, if there is one, which loses its name too
+abbrev pub rename_asked : Path → Path → Kind → Option Kind → Bool → List (Ask Path)
+rename_asked old new kind replaced between =
+    ask (parent old) (remove_right kind) Old
+    ∷ ask (parent new) (make_right kind) New
+    ∷ option_map_or (λ other. ask (parent new) (remove_right other) New ∷ []) replaced [] ++ refer_asked old new between
+
+-- a node of this kind gets a further name
+abbrev pub link_asked : Path → Path → Kind → Bool → List (Ask Path)
+link_asked old new kind between = ask (parent new) (make_right kind) New ∷ refer_asked old new between
 
 -- A missing file is made: that is asked of its directory, and the rest of the path as it will be. A new file isn't truncated
 abbrev pub opening_asked : Mode → Path → Bool → List (Ask Path)
@@ -56,19 +65,18 @@ asked s (Exec target) = ask (path_of target) right.execute At ∷ ask (path_of t
 asked s (Unlink target) = ask (parent (path_of target)) right.remove_file At ∷ []
 asked s (Rmdir target) = ask (parent (path_of target)) right.remove_dir At ∷ []
 asked s (Rename old new) =
-    ask (parent (path_of old)) (remove_right (kind_at s (path_of old))) Old
-    ∷ ask (parent (path_of new)) (make_right (kind_at s (path_of old))) New
-    ∷ replaced_asked s (path_of new) ++ refer_asked s (path_of old) (path_of new)
-asked s (Link old new) = ask (parent (path_of new)) (make_right (kind_at s (path_of old))) New ∷ refer_asked s (path_of old) (path_of new)
+    rename_asked (path_of old) (path_of new) (kind_at s (path_of old)) (option_map (kind_or_file s) (named s (path_of new)))
+    (parents_differ s (path_of old) (path_of new))
+asked s (Link old new) = link_asked (path_of old) (path_of new) (kind_at s (path_of old)) (parents_differ s (path_of old) (path_of new))
 asked s _ = []
 
--- Between directories the node moves, and may gain no right that means something for it
-abbrev pub move_between : State → Path → Path → Option (Move Path)
-move_between s old new = if parents_differ s old new then Some (record { from = old; into = parent new; relevant = relevant (kind_at s old) }) else None
+-- Between directories a node of this kind moves, and may gain no right that means something for it
+abbrev pub move_between : Path → Path → Kind → Bool → Option (Move Path)
+move_between old new kind between = if between then Some (record { from = old; into = parent new; relevant = relevant kind }) else None
 
 abbrev pub moved : State → Call → Option (Move Path)
-moved s (Rename old new) = move_between s (path_of old) (path_of new)
-moved s (Link old new) = move_between s (path_of old) (path_of new)
+moved s (Rename old new) = move_between (path_of old) (path_of new) (kind_at s (path_of old)) (parents_differ s (path_of old) (path_of new))
+moved s (Link old new) = move_between (path_of old) (path_of new) (kind_at s (path_of old)) (parents_differ s (path_of old) (path_of new))
 moved s _ = None
 
 -- whether a descriptor's file may be truncated stands since it was opened. landlock.rst, "Truncating files"

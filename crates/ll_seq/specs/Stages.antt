@@ -23,7 +23,6 @@ use Rattle.ll_seq.specs.declared.call.Call.TheVariants.{Make, Open, Read, Write,
 use Rattle.ll_seq.specs.Call.{creates, is_exclusive, path_of}
 use Rattle.ll_seq.specs.State.{State, child, kind_of, names_in, name_count, root}
 use Rattle.ll_seq.specs.Tree.{named, inode_of, directory_of, kind_or_file, kind_at}
-use Rattle.ll_seq.specs.Asked.{parents_differ}
 
 -- ---- Text: a word that is no path, or more bytes than a read gives
 abbrev pub bad_text : Target → List Errno
@@ -186,9 +185,9 @@ no_space s directory = refuse (is_crowded s directory || nat_le s.room (len s.no
 abbrev pub has_many_names : State → ℕ → Bool
 has_many_names s inode = nat_le 1000 (name_count s inode)
 
--- a directory gets one entry more
-abbrev pub enters : State → Target → Target → Bool
-enters s old new = is_none (named s (path_of new)) && parents_differ s (path_of old) (path_of new)
+-- a rename that replaces nothing gives another directory one entry more
+abbrev pub enters : Option ℕ → ℕ → ℕ → Bool
+enters replaced from into = is_none replaced && not (from == into)
 
 -- a file has at most 65,536 bytes. truncate(2), write(2): EFBIG
 abbrev pub is_too_long : ℕ → Bool
@@ -210,7 +209,8 @@ limit_refusals s c (Open mode target) =
 limit_refusals s c (Write number offset bytes) = refuse (nat_lt 0 (length bytes) && is_too_long (offset + length bytes)) EFBIG
 limit_refusals s c (Ftruncate number size) = refuse (is_too_long size) EFBIG
 limit_refusals s c (Truncate target size) = refuse (is_too_long size) EFBIG
-limit_refusals s c (Rename old new) = refuse (enters s old new && is_crowded s (directory_of s (path_of new))) ENOSPC
+limit_refusals s c (Rename old new) =
+    refuse (enters (named s (path_of new)) (directory_of s (path_of old)) (directory_of s (path_of new)) && is_crowded s (directory_of s (path_of new))) ENOSPC
 limit_refusals s c (Link old new) = refuse (has_many_names s (inode_of s (path_of old))) EMLINK ++ refuse (is_crowded s (directory_of s (path_of new))) ENOSPC
 limit_refusals s c (Ruleset rights) = refuse (nat_le 16 (length c.rulesets)) EMFILE
 limit_refusals s c (Allow number target rights) = rule_limit (ruleset_at c number) (inode_of s (path_of target))
