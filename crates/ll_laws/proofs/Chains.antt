@@ -3,27 +3,17 @@ use Rattle.std.specs.Prelude.{◌≡◌, ◌≢◌, ◌⊎◌, ℕ, Bool, true, 
 use Rattle.std.specs.Option.{option_map_or}
 use Rattle.std.specs.List.{list_any}
 use Rattle.std.proofs.Common.{sym, subst, ap, ◌∙◌, inl, inr, append_assoc}
+use Rattle.std.proofs.lemmas.List.{append-nil}
 use Rattle.std.proofs.lemmas.List.Folds.{list_any-append}
 use Rattle.ll_rights.specs.declared.kind.Kind.{Kind}
 use Rattle.ll_rights.specs.declared.kind.Kind.TheVariants.{Dir}
 use Rattle.ll_path.specs.Path.{Path}
 use Rattle.ll_seq.specs.State.{Name, State, child, root, kind_of}
 use Rattle.ll_seq.specs.Tree.{end_from, chain_from}
+use Rattle.ll_seq.proofs.Parted.{or_split, or_left, or_right, end_push, chain_push}
 
 pub same_Some : {A : Type 0} (x y : A) → Some x ≡ Some y → x ≡ y
 same_Some x y e = ap (λ o. unwrap_or o x) e
-
-pub or_split : (a b : Bool) → (a || b) ≡ true → (a ≡ true) ⊎ (b ≡ true)
-or_split true b e = inl refl
-or_split false b e = inr e
-
-pub or_left : (a b : Bool) → a ≡ true → (a || b) ≡ true
-or_left true b e = refl
-or_left false b e = cc
-
-pub or_right : (a b : Bool) → b ≡ true → (a || b) ≡ true
-or_right true b e = refl
-or_right false b e = e
 
 pub or_map : (a b c : Bool) → (b ≡ true → c ≡ true) → (a || b) ≡ true → (a || c) ≡ true
 or_map true b c f e = refl
@@ -34,10 +24,6 @@ pub or_not : (b c : Bool) → (b ≡ true → c ≡ true) → (not b || c) ≡ t
 or_not true c f = f refl
 or_not false c f = refl
 
-pub append_nil : {A : Type 0} (xs : List A) → xs ++ [] ≡ xs
-append_nil [] = refl
-append_nil (x ∷ xs) = ap (λ ys. x ∷ ys) (append_nil xs)
-
 -- the inode may have entries in it
 abbrev pub NotFile : State → ℕ → Type 0
 NotFile s inode = (k : Kind) → kind_of s inode ≡ Some k → k ≡ Dir
@@ -45,19 +31,7 @@ NotFile s inode = (k : Kind) → kind_of s inode ≡ Some k → k ≡ Dir
 -- ---- parts of a chain
 
 module _ (s : State) where
-  pub end_append : (p q : Path) (i x : ℕ) → end_from s p i ≡ Some x → end_from s (p ++ q) i ≡ end_from s q x
-  end_append [] q i x e = ap (end_from s q) (same_Some i x e)
-  end_append (n ∷ p) q i x e =
-      elim (child s i n) as (λ c. option_and_then (end_from s p) c ≡ Some x → option_and_then (end_from s (p ++ q)) c ≡ end_from s q x) [
-        | None ↦ λ f. cc
-        | Some j ↦ λ f. end_append p q j x f
-      ] e
-
-  -- a chain of one entry more
-  pub end_push : (p : Path) (n : Name) (i x y : ℕ) → end_from s p i ≡ Some x → child s x n ≡ Some y → end_from s (p ++ n ∷ []) i ≡ Some y
-  end_push p n i x y e c = end_append p (n ∷ []) i x e ∙ ap (option_and_then (λ z. Some z)) c
-
-  -- its last entry
+  -- the last entry of a chain
   pub end_last : (p : Path) (n : Name) (i y : ℕ) → end_from s (p ++ n ∷ []) i ≡ Some y → (x : ℕ) × (end_from s p i ≡ Some x) × (child s x n ≡ Some y)
   end_last [] n i y e =
       (i, refl, elim (child s i n) as (λ c. option_and_then (λ z. Some z) c ≡ Some y → c ≡ Some y) [ None ↦ λ f. cc | Some j ↦ λ f. f ] e)
@@ -65,14 +39,6 @@ module _ (s : State) where
       elim (child s i m) as (λ c. option_and_then (end_from s (p ++ n ∷ [])) c ≡ Some y → (x : ℕ) × (option_and_then (end_from s p) c ≡ Some x) × (child s x n ≡ Some y)) [
         | None ↦ λ f. absurd (cc f)
         | Some j ↦ λ f. end_last p n j y f
-      ] e
-
-  pub chain_push : (p : Path) (n : Name) (i x y : ℕ) → end_from s p i ≡ Some x → child s x n ≡ Some y → chain_from s (p ++ n ∷ []) i ≡ chain_from s p i ++ y ∷ []
-  chain_push [] n i x y e c = ap (λ z. i ∷ option_map_or (λ (z : ℕ). z ∷ []) (child s z n) []) (same_Some i x e) ∙ ap (λ (o : Option ℕ). i ∷ option_map_or (λ (z : ℕ). z ∷ []) o []) c
-  chain_push (m ∷ p) n i x y e c =
-      elim (child s i m) as (λ o. option_and_then (end_from s p) o ≡ Some x → i ∷ option_map_or (chain_from s (p ++ n ∷ [])) o [] ≡ i ∷ option_map_or (chain_from s p) o [] ++ y ∷ []) [
-        | None ↦ λ f. absurd (cc f)
-        | Some j ↦ λ f. ap (λ zs. i ∷ zs) (chain_push p n j x y f c)
       ] e
 
   -- what is on either part of a chain is on the whole
@@ -100,7 +66,7 @@ pub data Snoc : Path → Type 0 where
   push : {p : Path} → Snoc p → (n : Name) → Snoc (p ++ n ∷ [])
 
 snoc_on : (q : Path) {p : Path} → Snoc p → Snoc (p ++ q)
-snoc_on [] {p} v = subst Snoc (sym (append_nil p)) v
+snoc_on [] {p} v = subst Snoc (sym (append-nil p)) v
 snoc_on (n ∷ q) {p} v = subst Snoc (append_assoc p (n ∷ []) q) (snoc_on q (push v n))
 
 pub snoc : (p : Path) → Snoc p
@@ -177,7 +143,7 @@ module _ (s t : State) (Fresh : ℕ → Name → ℕ → Type 0) (more : MoreEnt
       by (inr a) (inr new) = absurd (more.away a.directory a.name a.node a.new x m y new a.tail a.end)
 
   from_there : (q r : Path) (x y : ℕ) → end_from t r root ≡ Some x → Before s t Fresh r x → end_from t q x ≡ Some y → Before s t Fresh (r ++ q) y
-  from_there [] r x y e b h = subst (λ w. Before s t Fresh w y) (sym (append_nil r)) (subst (λ z. Before s t Fresh r z) (same_Some x y h) b)
+  from_there [] r x y e b h = subst (λ w. Before s t Fresh w y) (sym (append-nil r)) (subst (λ z. Before s t Fresh r z) (same_Some x y h) b)
   from_there (m ∷ q) r x y e b h =
       elim (child t x m) as (λ c. child t x m ≡ c → option_and_then (end_from t q) c ≡ Some y → Before s t Fresh (r ++ m ∷ q) y) [
         | None ↦ λ is g. absurd (cc g)

@@ -40,7 +40,8 @@ use Rattle.ll_seq.specs.Step.{step, refusals, first_or, client_of}
 use Rattle.ll_seq.specs.History.{MayStand, IsLegal, state_after, after}
 use Rattle.ll_seq.specs.Reach.{InReach, is_relevant}
 use Rattle.ll_laws.specs.NoGain.{is_move, MovesUnder, NoGain}
-use Rattle.ll_laws.proofs.Chains.{or_split, NotFile, chain_front}
+use Rattle.ll_laws.proofs.Chains.{NotFile, chain_front}
+use Rattle.ll_seq.proofs.Parted.{or_split}
 use Rattle.ll_laws.proofs.Relevant.{is_one_of_all}
 use Rattle.ll_laws.proofs.Trees.{IsTree, root_dir, Change, shrinks, adds, moves, only_path, tree_kept, reach_kept, granted_on}
 use Rattle.ll_laws.proofs.Stages.{nil_left, nil_right, nil_map, not_refused, neither, walked, inode_is, parent_last, last_child, IsIn, IsIn-contains, none_denied}

@@ -64,7 +64,8 @@ module _ (s : State) where
         })
       ]
 
-  chain_push : (p : Path) (n : Name) (i x y : ℕ) → end_from s p i ≡ Some x → child s x n ≡ Some y → chain_from s (p ++ n ∷ []) i ≡ chain_from s p i ++ y ∷ []
+  -- its chain has one inode more
+  pub chain_push : (p : Path) (n : Name) (i x y : ℕ) → end_from s p i ≡ Some x → child s x n ≡ Some y → chain_from s (p ++ n ∷ []) i ≡ chain_from s p i ++ y ∷ []
   chain_push [] n i x y e c = let same : i ≡ x = cc in ap (λ z. i ∷ option_map_or (λ (z : ℕ). z ∷ []) (child s z n) []) same ∙ ap (λ (o : Option ℕ). i ∷ option_map_or (λ (z : ℕ). z ∷ []) o []) c
   chain_push (m ∷ p) n i x y e c =
       elim (child s i m) as (λ o. option_and_then (end_from s p) o ≡ Some x → i ∷ option_map_or (chain_from s (p ++ n ∷ [])) o [] ≡ i ∷ option_map_or (chain_from s p) o [] ++ y ∷ []) [
