@@ -19,11 +19,6 @@ pub or_map : (a b c : Bool) → (b ≡ true → c ≡ true) → (a || b) ≡ tru
 or_map true b c f e = refl
 or_map false b c f e = f e
 
--- not (b) or c: c where b holds
-pub or_not : (b c : Bool) → (b ≡ true → c ≡ true) → (not b || c) ≡ true
-or_not true c f = f refl
-or_not false c f = refl
-
 -- the inode may have entries in it
 abbrev pub NotFile : State → ℕ → Type 0
 NotFile s inode = (k : Kind) → kind_of s inode ≡ Some k → k ≡ Dir

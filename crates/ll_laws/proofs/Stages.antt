@@ -37,10 +37,6 @@ pub not_refused : (b : Bool) (errno : Errno) → refuse b errno ≡ [] → b ≡
 not_refused true errno e = absurd (cc e)
 not_refused false errno e = refl
 
-pub nil_when : {A : Type 0} (b : Bool) (xs : List A) → b ≡ true → when b xs ≡ [] → xs ≡ []
-nil_when true xs e h = h
-nil_when false xs e h = absurd (cc e)
-
 pub neither : (a b : Bool) → (a || b) ≡ false → (a ≡ false) × (b ≡ false)
 neither true b e = absurd (cc e)
 neither false b e = (refl, e)

@@ -63,9 +63,6 @@ module _ (s : State) (t : Target) where
       → bad_text t ++ (refuse (is_root (path_of t)) EBUSY ++ (way_to s t ++ more)) ≡ []
   spot_free = front_free (bad_text t) (refuse (is_root (path_of t)) EBUSY) (way_to s t)
 
-  pub is_missing : named s (path_of t) ≡ None → slice_get (missing s t) 0 ≡ Some ENOENT
-  is_missing h = ap (λ o. slice_get (refuse (is_none o) ENOENT) 0) h
-
   pub not_missing : (inode : ℕ) → named s (path_of t) ≡ Some inode → missing s t ≡ []
   not_missing inode h = ap (λ o. refuse (is_none o) ENOENT) h
 

@@ -75,34 +75,6 @@ module _ (s : State) (layer : Layer) where
         let all : n ≡ length (entries s.entries) = omega arith in
         same_sort (Tried s steps inode n) (Leads s steps inode) (leads_there n) (λ p l. subst (λ k. Tried s steps inode k p) (sym all) (all_tried p l)) found f
 
-    -- without a step there is the root's own path alone
-    pub found_at_once : (found : Option Access) → steps ≡ 0 → Found s layer (Tried s steps inode 0) found → Found s layer (Leads s steps inode) found
-    found_at_once found none f = same_sort (Tried s steps inode 0) (Leads s steps inode) (leads_there 0) own found f
-      where
-        own : (p : Path) → Leads s steps inode p → Tried s steps inode 0 p
-        own [] l = let same : root ≡ inode = cc in inl (refl, sym same)
-        own (name ∷ p) l = let short = l.1 in absurd (omega arith)
-
-    -- ---- the start
-
-    pub start_root : (own : Access) → own.0 ≡ unwrap_or (get layer.rules inode) 0 → inode ≡ root → Found s layer (Tried s steps inode 0) (Some own)
-    start_root own is top = (
-      ([], inl (refl, top)),
-      λ right. (
-        λ h. ([], inl (refl, top), or_left (has_rule layer right root) false (ap (λ i. has_rule layer right i) (sym top) ∙ ap (λ n. holds n right) (sym is) ∙ h)),
-        λ w. elim w.1 [
-          | inl a ↦ elim (or_split (has_rule layer right root) false (ap (λ p. is_ruled s layer p right) (sym a.0) ∙ w.2)) [
-            | inl g ↦ ap (λ n. holds n right) is ∙ ap (λ i. has_rule layer right i) top ∙ g
-            | inr g ↦ absurd (cc g)
-          ]
-          | inr b ↦ absurd (omega (arith, b.1))
-        ],
-      ),
-    )
-
-    pub start_below : inode ≢ root → Found s layer (Tried s steps inode 0) None
-    start_below other p t = elim t [ inl a ↦ other a.1 | inr b ↦ omega (arith, b.1) ]
-
     -- ---- one row more
 
     more_or_here : (n : ℕ) (p : Path) → Tried s steps inode (n + 1) p → Tried s steps inode n p ⊎ ByEntry s steps inode n p

@@ -1,6 +1,6 @@
 use Rattle.std.proofs.Common.{◌∙◌, sym}
 use Rattle.ll_plain.specs.Deciding.{of_right}
-use Rattle.ll_plain.proofs.Denials.{found_here, found_later}
+use Rattle.ll_decide.proofs.Finding.{found_here, found_later}
 use Rattle.ll_plain.proofs.Plain.layer_denial.Goals as goal
 
 pub returns-in-Some : goal.returns-in-Some
