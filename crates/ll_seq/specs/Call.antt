@@ -1,4 +1,4 @@
--- The parts of calls.
+-- The parts of calls. open(2), "File access modes", O_CREAT and O_EXCL
 use Rattle.std.specs.Prelude.{Bool, true, false, []}
 use Rattle.ll_path.specs.Path.{Path}
 use Rattle.ll_path.specs.declared.target.Target.{Target}

@@ -1,4 +1,4 @@
--- What a call that isn't refused answers and does.
+-- What a call that isn't refused answers and does, by the manual of each call where one is named; the rest is own
 use Rattle.std.specs.Prelude.{ℕ, ◌+◌, ◌-◌, Bool, not, ◌||◌, Option, Some, None, List, [], ◌∷◌, ◌++◌, length, take, drop, replicate, is_none, ◌==◌, unwrap_or, slice_set, if◌then◌else◌}
 use Rattle.std.specs.Option.{option_map_or}
 use Rattle.ll_rights.specs.declared.kind.Kind.{Kind}

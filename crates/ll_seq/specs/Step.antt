@@ -1,4 +1,4 @@
--- One call: the first stage that refuses gives the reply, and a refusal keeps the state.
+-- One call: the first stage that refuses gives the reply, and a refusal keeps the state. own
 use Rattle.std.specs.Prelude.{◌≡◌, ℕ, ◌≤◌, ⊤, ◌⊎◌, List, [], ◌∷◌, ◌++◌, map, unwrap_or}
 use Rattle.ll_rights.specs.declared.errno.Errno.TheVariants.{NoMemory}
 use Rattle.ll_rights.specs.Errno.{errno_number}
