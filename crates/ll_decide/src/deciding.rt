@@ -90,10 +90,11 @@ fn gained(layers: usize, moved: &Moved<'_>) -> Option<Denial>
     search.first(layers)
 }
 
-const PLACES: [Place; 3] = [Place::At, Place::Old, Place::New];
+/// All places, in the order in which denials name them.
+pub const PLACES: [Place; 3] = [Place::At, Place::Old, Place::New];
 
-/// All rights but refer.
-const BUT_REFER: [Right; 14] = [
+/// All rights but refer, in the order of their numbers. A refer that is missing is told after these.
+pub const BUT_REFER: [Right; 14] = [
     Right::EXECUTE,
     Right::WRITE_FILE,
     Right::READ_FILE,

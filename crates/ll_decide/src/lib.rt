@@ -8,6 +8,6 @@ mod masks;
 #[cfg(test)]
 mod tests;
 
-pub use deciding::{Asked, Moved, verdict};
+pub use deciding::{Asked, BUT_REFER, Moved, PLACES, verdict};
 pub use denial::{Cause, Denial, Place};
 pub use masks::Masks;

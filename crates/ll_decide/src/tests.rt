@@ -167,11 +167,14 @@ fn moved(domain: &Domain, from: &Masks, into: &Masks, relevant: Access) -> Resul
     verdict(domain.len(), &[], Some(moved))
 }
 
+const READ: Right = Right::READ_FILE;
+
+const WRITE: Right = Right::WRITE_FILE;
+
+const REFER: Right = Right::REFER;
+
 #[test]
 fn denies_what_is_missing(rt: HostRuntime) -> Result<(), Fail> {
-    const READ: Right = Right::READ_FILE;
-    const WRITE: Right = Right::WRITE_FILE;
-    const REFER: Right = Right::REFER;
     let alloc = rt.alloc();
     let granted = [
         asked(alloc, &[], &[], READ, REFER)?,
@@ -193,7 +196,12 @@ fn denies_what_is_missing(rt: HostRuntime) -> Result<(), Fail> {
             Some((Cause::EACCES, 2, READ, Place::New)),
         ]
     );
-    // each layer has to grant each right
+    Ok(())
+}
+
+#[test]
+fn wants_each_right_of_each_layer(rt: HostRuntime) -> Result<(), Fail> {
+    let alloc = rt.alloc();
     let apart = [
         asked(alloc, &[READ_ONLY, WRITE_ONLY], &[2], READ, WRITE)?,
         asked(alloc, &[WRITE_ONLY, READ_ONLY], &[2], READ, WRITE)?,
@@ -244,48 +252,49 @@ fn grants(layer: &Layer, below: &[u64], right: Right) -> bool {
         || below.iter().any(|inode| layer.has_rule(right, *inode))
 }
 
-/// The domains of the worked examples, each over the same chains.
-#[test]
-fn masks_agree_with_grants_asked_upward(rt: HostRuntime) -> Result<(), Fail> {
-    let one_rule = Given {
+/// The domains of the worked examples.
+const DOMAINS: [&[Given<'static>]; 7] = [
+    &[],
+    &[Given {
         handled: 0x4,
         rules: &[(2, 0x4)],
-    };
-    let along_the_path = Given {
+    }],
+    &[Given {
         handled: 0x5,
         rules: &[(2, 0x4), (3, 0x1)],
-    };
-    let own_rule = Given {
+    }],
+    &[READS, NONE],
+    &[Given {
         handled: 0x2004,
         rules: &[(1, 0x2000), (4, 0x4), (3, 0x4)],
-    };
-    let reads = Given {
-        handled: 0x6,
-        rules: &[(2, 0x4)],
-    };
-    let writes = Given {
-        handled: 0x6,
-        rules: &[(2, 0x2)],
-    };
-    let removes = Given {
-        handled: 0x2020,
-        rules: &[(1, 0x2000), (2, 0x20)],
-    };
-    let refers = Given {
-        handled: 0x2000,
-        rules: &[],
-    };
-    let domains: [&[Given<'_>]; 7] = [
-        &[],
-        &[one_rule],
-        &[along_the_path],
-        &[READS, NONE],
-        &[own_rule],
-        &[reads, writes],
-        &[removes, refers],
-    ];
+    }],
+    &[
+        Given {
+            handled: 0x6,
+            rules: &[(2, 0x4)],
+        },
+        Given {
+            handled: 0x6,
+            rules: &[(2, 0x2)],
+        },
+    ],
+    &[
+        Given {
+            handled: 0x2020,
+            rules: &[(1, 0x2000), (2, 0x20)],
+        },
+        Given {
+            handled: 0x2000,
+            rules: &[],
+        },
+    ],
+];
+
+/// Each domain over the same chains.
+#[test]
+fn masks_agree_with_grants_asked_upward(rt: HostRuntime) -> Result<(), Fail> {
     let chains: [&[u64]; 6] = [&[], &[2], &[2, 3], &[4], &[4, 3], &[2, 4, 5]];
-    for layers in domains {
+    for layers in DOMAINS {
         let domain = domain(rt.alloc(), layers)?;
         for below in chains {
             let masks = over(rt.alloc(), &domain, below);

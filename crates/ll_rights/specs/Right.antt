@@ -50,10 +50,6 @@ abbrev pub all_rights : List ℕ
 all_rights = execute ∷ write_file ∷ read_file ∷ read_dir ∷ remove_dir ∷ remove_file ∷ make_char ∷ make_dir ∷ make_reg
     ∷ make_sock ∷ make_fifo ∷ make_block ∷ make_sym ∷ refer ∷ truncate ∷ []
 
--- those that mean something for a file that is no directory
-abbrev pub file_rights : List ℕ
-file_rights = execute ∷ write_file ∷ read_file ∷ truncate ∷ []
-
 -- the name of each right, that of number 0 first
 abbrev pub right_names : List (List ℕ)
 right_names = codes "execute" ∷ codes "write_file" ∷ codes "read_file" ∷ codes "read_dir" ∷ codes "remove_dir"
