@@ -1,376 +1,391 @@
 //! Calls of two paths.
 
-use super::paths::{check_names, found};
-use super::{Ask, READ, Session, denied};
-use ll_decide::{Cause, Denial, Place};
-use ll_rights::{Errno, Kind, Right};
-use ll_seq::Reply;
-use std::alloc::{AllocError, Global};
+use super::{Ask, Part, READ, Row, Want, check, check_parts};
+use ll_decide::{Cause, Place};
+use ll_rights::{Errno, Kind};
 use std::test::Fail;
 
-fn denied_in(place: Place, cause: Cause, layer: u64, right: Right) -> Reply {
-    Reply::Denied(Denial {
-        cause,
-        layer,
-        right,
-        place,
-    })
-}
+const A_RULE_MOVES_WITH_ITS_INODE: &[Row] = &[
+    (Ask::Make(Kind::Dir, "/a"), Want::Done),
+    (Ask::Make(Kind::Reg, "/a/f"), Want::Done),
+    (Ask::Ruleset(0x4), Want::Created(0)),
+    (Ask::Allow(0, "/a", 0x4), Want::Done),
+    (Ask::Confine(0), Want::Done),
+    (Ask::Rename("/a", "/c"), Want::Done),
+    (Ask::Make(Kind::Dir, "/a"), Want::Done),
+    (Ask::Make(Kind::Reg, "/a/f"), Want::Done),
+    (Ask::Open(READ, "/c/f"), Want::Opened(0)),
+    (Ask::Open(READ, "/a/f"), Want::Denied(1, "read_file")),
+];
 
 #[test]
 fn a_rule_moves_with_its_inode(rt: HostRuntime) -> Result<(), Fail> {
-    let rows = [
-        (Ask::Make(Kind::Dir, "/a"), Reply::Done),
-        (Ask::Make(Kind::Reg, "/a/f"), Reply::Done),
-        (Ask::Ruleset(0x4), Reply::Created(0)),
-        (Ask::Allow(0, "/a", 0x4), Reply::Done),
-        (Ask::Confine(0), Reply::Done),
-        (Ask::Rename("/a", "/c"), Reply::Done),
-        (Ask::Make(Kind::Dir, "/a"), Reply::Done),
-        (Ask::Make(Kind::Reg, "/a/f"), Reply::Done),
-        (Ask::Open(READ, "/c/f"), Reply::Opened(0)),
-        (Ask::Open(READ, "/a/f"), denied(1, Right::READ_FILE)),
-    ];
-    Session::new(rt.alloc(), 64)?.check(&rt, &rows)
+    check(&rt, rt.alloc(), 64, A_RULE_MOVES_WITH_ITS_INODE)
 }
+
+const GAIN_THROUGH_RENAME_AND_LINK: &[Row] = &[
+    (Ask::Make(Kind::Dir, "/priv"), Want::Done),
+    (Ask::Make(Kind::Reg, "/priv/f"), Want::Done),
+    (Ask::Make(Kind::Dir, "/pub"), Want::Done),
+    (Ask::Ruleset(0x2004), Want::Created(0)),
+    (Ask::Allow(0, "/", 0x2000), Want::Done),
+    (Ask::Allow(0, "/pub", 0x4), Want::Done),
+    (Ask::Confine(0), Want::Done),
+    (
+        Ask::Rename("/priv/f", "/pub/f"),
+        Want::DeniedIn(Place::New, Cause::EXDEV, 1, "read_file"),
+    ),
+    (
+        Ask::Link("/priv/f", "/pub/g"),
+        Want::DeniedIn(Place::New, Cause::EXDEV, 1, "read_file"),
+    ),
+];
 
 #[test]
 fn gain_through_rename_and_link(rt: HostRuntime) -> Result<(), Fail> {
-    let gained = Right::READ_FILE;
-    let rows = [
-        (Ask::Make(Kind::Dir, "/priv"), Reply::Done),
-        (Ask::Make(Kind::Reg, "/priv/f"), Reply::Done),
-        (Ask::Make(Kind::Dir, "/pub"), Reply::Done),
-        (Ask::Ruleset(0x2004), Reply::Created(0)),
-        (Ask::Allow(0, "/", 0x2000), Reply::Done),
-        (Ask::Allow(0, "/pub", 0x4), Reply::Done),
-        (Ask::Confine(0), Reply::Done),
-        (
-            Ask::Rename("/priv/f", "/pub/f"),
-            denied_in(Place::New, Cause::EXDEV, 1, gained),
-        ),
-        (
-            Ask::Link("/priv/f", "/pub/g"),
-            denied_in(Place::New, Cause::EXDEV, 1, gained),
-        ),
-    ];
-    Session::new(rt.alloc(), 64)?.check(&rt, &rows)
+    check(&rt, rt.alloc(), 64, GAIN_THROUGH_RENAME_AND_LINK)
 }
+
+const NO_GAIN_WITH_A_RULE_OF_ITS_OWN: &[Row] = &[
+    (Ask::Make(Kind::Dir, "/priv"), Want::Done),
+    (Ask::Make(Kind::Reg, "/priv/f"), Want::Done),
+    (Ask::Make(Kind::Dir, "/pub"), Want::Done),
+    (Ask::Ruleset(0x2004), Want::Created(0)),
+    (Ask::Allow(0, "/", 0x2000), Want::Done),
+    (Ask::Allow(0, "/pub", 0x4), Want::Done),
+    (Ask::Allow(0, "/priv/f", 0x4), Want::Done),
+    (Ask::Confine(0), Want::Done),
+    (Ask::Rename("/priv/f", "/pub/f"), Want::Done),
+    (Ask::Open(READ, "/pub/f"), Want::Opened(0)),
+];
 
 #[test]
 fn no_gain_with_a_rule_of_its_own(rt: HostRuntime) -> Result<(), Fail> {
-    let rows = [
-        (Ask::Make(Kind::Dir, "/priv"), Reply::Done),
-        (Ask::Make(Kind::Reg, "/priv/f"), Reply::Done),
-        (Ask::Make(Kind::Dir, "/pub"), Reply::Done),
-        (Ask::Ruleset(0x2004), Reply::Created(0)),
-        (Ask::Allow(0, "/", 0x2000), Reply::Done),
-        (Ask::Allow(0, "/pub", 0x4), Reply::Done),
-        (Ask::Allow(0, "/priv/f", 0x4), Reply::Done),
-        (Ask::Confine(0), Reply::Done),
-        (Ask::Rename("/priv/f", "/pub/f"), Reply::Done),
-        (Ask::Open(READ, "/pub/f"), Reply::Opened(0)),
-    ];
-    Session::new(rt.alloc(), 64)?.check(&rt, &rows)
+    check(&rt, rt.alloc(), 64, NO_GAIN_WITH_A_RULE_OF_ITS_OWN)
 }
+
+const GAIN_COMPARES_ALL_RIGHTS_FOR_A_DIRECTORY: &[Row] = &[
+    (Ask::Make(Kind::Dir, "/x"), Want::Done),
+    (Ask::Make(Kind::Dir, "/x/d"), Want::Done),
+    (Ask::Make(Kind::Reg, "/x/f"), Want::Done),
+    (Ask::Make(Kind::Dir, "/y"), Want::Done),
+    (Ask::Ruleset(0x2080), Want::Created(0)),
+    (Ask::Allow(0, "/", 0x2000), Want::Done),
+    (Ask::Allow(0, "/y", 0x80), Want::Done),
+    (Ask::Confine(0), Want::Done),
+    (
+        Ask::Rename("/x/d", "/y/d"),
+        Want::DeniedIn(Place::New, Cause::EXDEV, 1, "make_dir"),
+    ),
+    (Ask::Rename("/x/f", "/y/f"), Want::Done),
+];
 
 #[test]
 fn gain_compares_all_rights_for_a_directory(rt: HostRuntime) -> Result<(), Fail> {
-    let gained = Right::MAKE_DIR;
-    let rows = [
-        (Ask::Make(Kind::Dir, "/x"), Reply::Done),
-        (Ask::Make(Kind::Dir, "/x/d"), Reply::Done),
-        (Ask::Make(Kind::Reg, "/x/f"), Reply::Done),
-        (Ask::Make(Kind::Dir, "/y"), Reply::Done),
-        (Ask::Ruleset(0x2080), Reply::Created(0)),
-        (Ask::Allow(0, "/", 0x2000), Reply::Done),
-        (Ask::Allow(0, "/y", 0x80), Reply::Done),
-        (Ask::Confine(0), Reply::Done),
-        (
-            Ask::Rename("/x/d", "/y/d"),
-            denied_in(Place::New, Cause::EXDEV, 1, gained),
-        ),
-        (Ask::Rename("/x/f", "/y/f"), Reply::Done),
-    ];
-    Session::new(rt.alloc(), 64)?.check(&rt, &rows)
+    check(
+        &rt,
+        rt.alloc(),
+        64,
+        GAIN_COMPARES_ALL_RIGHTS_FOR_A_DIRECTORY,
+    )
 }
+
+const REFER_NOT_HANDLED: &[Row] = &[
+    (Ask::Make(Kind::Dir, "/a"), Want::Done),
+    (Ask::Make(Kind::Reg, "/a/f"), Want::Done),
+    (Ask::Make(Kind::Dir, "/b"), Want::Done),
+    (Ask::Ruleset(0x4), Want::Created(0)),
+    (Ask::Confine(0), Want::Done),
+    (
+        Ask::Rename("/a/f", "/b/f"),
+        Want::DeniedIn(Place::Old, Cause::EXDEV, 1, "refer"),
+    ),
+    (Ask::Rename("/a/f", "/a/g"), Want::Done),
+];
 
 #[test]
 fn refer_not_handled(rt: HostRuntime) -> Result<(), Fail> {
-    let refused = denied_in(Place::Old, Cause::EXDEV, 1, Right::REFER);
-    let rows = [
-        (Ask::Make(Kind::Dir, "/a"), Reply::Done),
-        (Ask::Make(Kind::Reg, "/a/f"), Reply::Done),
-        (Ask::Make(Kind::Dir, "/b"), Reply::Done),
-        (Ask::Ruleset(0x4), Reply::Created(0)),
-        (Ask::Confine(0), Reply::Done),
-        (Ask::Rename("/a/f", "/b/f"), refused),
-        (Ask::Rename("/a/f", "/a/g"), Reply::Done),
-    ];
-    Session::new(rt.alloc(), 64)?.check(&rt, &rows)
+    check(&rt, rt.alloc(), 64, REFER_NOT_HANDLED)
 }
+
+const REFER_ON_ONE_PARENT_ALONE: &[Row] = &[
+    (Ask::Make(Kind::Dir, "/a"), Want::Done),
+    (Ask::Make(Kind::Reg, "/a/f"), Want::Done),
+    (Ask::Make(Kind::Dir, "/b"), Want::Done),
+    (Ask::Ruleset(0x2020), Want::Created(0)),
+    (Ask::Allow(0, "/a", 0x2020), Want::Done),
+    (Ask::Confine(0), Want::Done),
+    (
+        Ask::Rename("/a/f", "/b/f"),
+        Want::DeniedIn(Place::New, Cause::EXDEV, 1, "refer"),
+    ),
+    (
+        Ask::Link("/a/f", "/b/f"),
+        Want::DeniedIn(Place::New, Cause::EXDEV, 1, "refer"),
+    ),
+    (Ask::Ruleset(0x20), Want::Created(1)),
+    (Ask::Confine(1), Want::Done),
+    (
+        Ask::Rename("/a/f", "/b/f"),
+        Want::DeniedIn(Place::Old, Cause::EACCES, 2, "remove_file"),
+    ),
+];
 
 /// It is asked on both parents, and told after other rights.
 #[test]
 fn refer_on_one_parent_alone(rt: HostRuntime) -> Result<(), Fail> {
-    let refused = denied_in(Place::New, Cause::EXDEV, 1, Right::REFER);
-    let again = denied_in(Place::New, Cause::EXDEV, 1, Right::REFER);
-    let missing = denied_in(Place::Old, Cause::EACCES, 2, Right::REMOVE_FILE);
-    let rows = [
-        (Ask::Make(Kind::Dir, "/a"), Reply::Done),
-        (Ask::Make(Kind::Reg, "/a/f"), Reply::Done),
-        (Ask::Make(Kind::Dir, "/b"), Reply::Done),
-        (Ask::Ruleset(0x2020), Reply::Created(0)),
-        (Ask::Allow(0, "/a", 0x2020), Reply::Done),
-        (Ask::Confine(0), Reply::Done),
-        (Ask::Rename("/a/f", "/b/f"), refused),
-        (Ask::Link("/a/f", "/b/f"), again),
-        (Ask::Ruleset(0x20), Reply::Created(1)),
-        (Ask::Confine(1), Reply::Done),
-        (Ask::Rename("/a/f", "/b/f"), missing),
-    ];
-    Session::new(rt.alloc(), 64)?.check(&rt, &rows)
+    check(&rt, rt.alloc(), 64, REFER_ON_ONE_PARENT_ALONE)
 }
+
+const EACCES_BEFORE_EXDEV: &[Row] = &[
+    (Ask::Make(Kind::Dir, "/a"), Want::Done),
+    (Ask::Make(Kind::Reg, "/a/f"), Want::Done),
+    (Ask::Make(Kind::Dir, "/b"), Want::Done),
+    (Ask::Ruleset(0x2024), Want::Created(0)),
+    (Ask::Allow(0, "/", 0x2000), Want::Done),
+    (Ask::Allow(0, "/b", 0x4), Want::Done),
+    (Ask::Confine(0), Want::Done),
+    (
+        Ask::Rename("/a/f", "/b/f"),
+        Want::DeniedIn(Place::Old, Cause::EACCES, 1, "remove_file"),
+    ),
+];
 
 #[test]
 fn eacces_before_exdev(rt: HostRuntime) -> Result<(), Fail> {
-    let refused = denied_in(Place::Old, Cause::EACCES, 1, Right::REMOVE_FILE);
-    let rows = [
-        (Ask::Make(Kind::Dir, "/a"), Reply::Done),
-        (Ask::Make(Kind::Reg, "/a/f"), Reply::Done),
-        (Ask::Make(Kind::Dir, "/b"), Reply::Done),
-        (Ask::Ruleset(0x2024), Reply::Created(0)),
-        (Ask::Allow(0, "/", 0x2000), Reply::Done),
-        (Ask::Allow(0, "/b", 0x4), Reply::Done),
-        (Ask::Confine(0), Reply::Done),
-        (Ask::Rename("/a/f", "/b/f"), refused),
-    ];
-    Session::new(rt.alloc(), 64)?.check(&rt, &rows)
+    check(&rt, rt.alloc(), 64, EACCES_BEFORE_EXDEV)
 }
+
+const RENAME_ONTO_THINGS: &[Row] = &[
+    (Ask::Make(Kind::Reg, "/f"), Want::Done),
+    (Ask::Link("/f", "/g"), Want::Done),
+    (Ask::Rename("/f", "/g"), Want::Done),
+    (Ask::ReadDir("/"), Want::Names(&["f", "g"])),
+    (Ask::Make(Kind::Dir, "/d"), Want::Done),
+    (Ask::Make(Kind::Dir, "/d/e"), Want::Done),
+    (Ask::Make(Kind::Dir, "/h"), Want::Done),
+    (Ask::Rename("/h", "/d"), Want::Refused(Errno::ENOTEMPTY)),
+    (Ask::Rename("/d", "/d/x"), Want::Refused(Errno::EINVAL)),
+    (Ask::Rename("/f", "/h"), Want::Refused(Errno::EISDIR)),
+    (Ask::Rename("/h", "/f"), Want::Refused(Errno::ENOTDIR)),
+    (Ask::Stat("/f"), Want::Found(2, Kind::Reg, 0, 2)),
+];
 
 #[test]
 fn rename_onto_things(rt: HostRuntime) -> Result<(), Fail> {
-    let mut session = Session::new(rt.alloc(), 64)?;
-    let rows = [
-        (Ask::Make(Kind::Reg, "/f"), Reply::Done),
-        (Ask::Link("/f", "/g"), Reply::Done),
-        (Ask::Rename("/f", "/g"), Reply::Done),
-    ];
-    session.check(&rt, &rows)?;
-    check_names(&mut session, &rt, "/", &["f", "g"])?;
-    let rows = [
-        (Ask::Make(Kind::Dir, "/d"), Reply::Done),
-        (Ask::Make(Kind::Dir, "/d/e"), Reply::Done),
-        (Ask::Make(Kind::Dir, "/h"), Reply::Done),
-        (Ask::Rename("/h", "/d"), Reply::Refused(Errno::ENOTEMPTY)),
-        (Ask::Rename("/d", "/d/x"), Reply::Refused(Errno::EINVAL)),
-        (Ask::Rename("/f", "/h"), Reply::Refused(Errno::EISDIR)),
-        (Ask::Rename("/h", "/f"), Reply::Refused(Errno::ENOTDIR)),
-        (Ask::Stat("/f"), found(2, Kind::Reg, 0, 2)),
-    ];
-    session.check(&rt, &rows)
+    check(&rt, rt.alloc(), 64, RENAME_ONTO_THINGS)
 }
 
 /// Two files in two directories. Only from the first one's may a file go.
-const TWO_FILES: [(Ask<'static>, Reply); 8] = [
-    (Ask::Make(Kind::Dir, "/e"), Reply::Done),
-    (Ask::Make(Kind::Reg, "/e/f"), Reply::Done),
-    (Ask::Make(Kind::Dir, "/d"), Reply::Done),
-    (Ask::Make(Kind::Reg, "/d/g"), Reply::Done),
-    (Ask::Ruleset(0x2020), Reply::Created(0)),
-    (Ask::Allow(0, "/", 0x2000), Reply::Done),
-    (Ask::Allow(0, "/e", 0x20), Reply::Done),
-    (Ask::Confine(0), Reply::Done),
+const TWO_FILES: &[Row] = &[
+    (Ask::Make(Kind::Dir, "/e"), Want::Done),
+    (Ask::Make(Kind::Reg, "/e/f"), Want::Done),
+    (Ask::Make(Kind::Dir, "/d"), Want::Done),
+    (Ask::Make(Kind::Reg, "/d/g"), Want::Done),
+    (Ask::Ruleset(0x2020), Want::Created(0)),
+    (Ask::Allow(0, "/", 0x2000), Want::Done),
+    (Ask::Allow(0, "/e", 0x20), Want::Done),
+    (Ask::Confine(0), Want::Done),
+];
+
+const REPLACED_NAME_IS_ASKED_TOO: &[Part] = &[
+    Part::By(1, TWO_FILES),
+    Part::By(
+        1,
+        &[
+            (
+                Ask::Rename("/e/f", "/d/g"),
+                Want::DeniedIn(Place::New, Cause::EACCES, 1, "remove_file"),
+            ),
+            (Ask::Ruleset(0x2000), Want::Created(1)),
+            (Ask::Confine(1), Want::Done),
+            (
+                Ask::Link("/e/f", "/d/h"),
+                Want::DeniedIn(Place::Old, Cause::EXDEV, 2, "refer"),
+            ),
+        ],
+    ),
 ];
 
 #[test]
 fn replaced_name_is_asked_too(rt: HostRuntime) -> Result<(), Fail> {
-    let mut session = Session::new(rt.alloc(), 64)?;
-    session.check(&rt, &TWO_FILES)?;
-    let replaced = denied_in(Place::New, Cause::EACCES, 1, Right::REMOVE_FILE);
-    let refused = denied_in(Place::Old, Cause::EXDEV, 2, Right::REFER);
-    let rows = [
-        (Ask::Rename("/e/f", "/d/g"), replaced),
-        (Ask::Ruleset(0x2000), Reply::Created(1)),
-        (Ask::Confine(1), Reply::Done),
-        (Ask::Link("/e/f", "/d/h"), refused),
-    ];
-    session.check(&rt, &rows)
+    check_parts(&rt, rt.alloc(), 64, REPLACED_NAME_IS_ASKED_TOO)
 }
+
+const A_DENIED_RENAME_KEEPS_BOTH_NAMES: &[Part] = &[
+    Part::By(1, TWO_FILES),
+    Part::By(
+        1,
+        &[
+            (
+                Ask::Rename("/e/f", "/d/g"),
+                Want::DeniedIn(Place::New, Cause::EACCES, 1, "remove_file"),
+            ),
+            (Ask::Stat("/e/f"), Want::Found(3, Kind::Reg, 0, 1)),
+            (Ask::Stat("/d/g"), Want::Found(5, Kind::Reg, 0, 1)),
+        ],
+    ),
+];
 
 #[test]
 fn a_denied_rename_keeps_both_names(rt: HostRuntime) -> Result<(), Fail> {
-    let mut session = Session::new(rt.alloc(), 64)?;
-    session.check(&rt, &TWO_FILES)?;
-    let replaced = denied_in(Place::New, Cause::EACCES, 1, Right::REMOVE_FILE);
-    let rows = [
-        (Ask::Rename("/e/f", "/d/g"), replaced),
-        (Ask::Stat("/e/f"), found(3, Kind::Reg, 0, 1)),
-        (Ask::Stat("/d/g"), found(5, Kind::Reg, 0, 1)),
-    ];
-    session.check(&rt, &rows)
+    check_parts(&rt, rt.alloc(), 64, A_DENIED_RENAME_KEEPS_BOTH_NAMES)
 }
+
+const A_NODE_ONTO_ITSELF: &[Row] = &[
+    (Ask::Make(Kind::Reg, "/f"), Want::Done),
+    (Ask::Make(Kind::Dir, "/d"), Want::Done),
+    (Ask::Link("/f", "/d/g"), Want::Done),
+    (Ask::Rename("/f", "/f"), Want::Done),
+    (Ask::Rename("/d", "/d"), Want::Done),
+    (Ask::Rename("/f", "/d/g"), Want::Done),
+    (Ask::Stat("/f"), Want::Found(2, Kind::Reg, 0, 2)),
+    (Ask::Stat("/d/g"), Want::Found(2, Kind::Reg, 0, 2)),
+    (Ask::Ruleset(0x20), Want::Created(0)),
+    (Ask::Confine(0), Want::Done),
+    (
+        Ask::Rename("/f", "/f"),
+        Want::DeniedIn(Place::Old, Cause::EACCES, 1, "remove_file"),
+    ),
+];
 
 /// Nothing is done then, but policy is asked.
 #[test]
 fn a_node_onto_itself(rt: HostRuntime) -> Result<(), Fail> {
-    let refused = denied_in(Place::Old, Cause::EACCES, 1, Right::REMOVE_FILE);
-    let rows = [
-        (Ask::Make(Kind::Reg, "/f"), Reply::Done),
-        (Ask::Make(Kind::Dir, "/d"), Reply::Done),
-        (Ask::Link("/f", "/d/g"), Reply::Done),
-        (Ask::Rename("/f", "/f"), Reply::Done),
-        (Ask::Rename("/d", "/d"), Reply::Done),
-        (Ask::Rename("/f", "/d/g"), Reply::Done),
-        (Ask::Stat("/f"), found(2, Kind::Reg, 0, 2)),
-        (Ask::Stat("/d/g"), found(2, Kind::Reg, 0, 2)),
-        (Ask::Ruleset(0x20), Reply::Created(0)),
-        (Ask::Confine(0), Reply::Done),
-        (Ask::Rename("/f", "/f"), refused),
-    ];
-    Session::new(rt.alloc(), 64)?.check(&rt, &rows)
+    check(&rt, rt.alloc(), 64, A_NODE_ONTO_ITSELF)
 }
+
+const A_REPLACED_FILE_GOES: &[Row] = &[
+    (Ask::Make(Kind::Reg, "/f"), Want::Done),
+    (Ask::Make(Kind::Reg, "/g"), Want::Done),
+    (Ask::Make(Kind::Reg, "/h"), Want::Refused(Errno::ENOSPC)),
+    (Ask::Rename("/f", "/g"), Want::Done),
+    (Ask::Stat("/f"), Want::Refused(Errno::ENOENT)),
+    (Ask::Stat("/g"), Want::Found(2, Kind::Reg, 0, 1)),
+    (Ask::Make(Kind::Reg, "/h"), Want::Done),
+    (Ask::Stat("/h"), Want::Found(4, Kind::Reg, 0, 1)),
+];
+
+const A_REPLACED_DIRECTORY_GOES: &[Row] = &[
+    (Ask::Make(Kind::Dir, "/a"), Want::Done),
+    (Ask::Make(Kind::Dir, "/b"), Want::Done),
+    (Ask::Make(Kind::Dir, "/c"), Want::Refused(Errno::ENOSPC)),
+    (Ask::Rename("/a", "/b"), Want::Done),
+    (Ask::Make(Kind::Dir, "/b/c"), Want::Done),
+    (Ask::Stat("/b/c"), Want::Found(4, Kind::Dir, 0, 1)),
+];
 
 #[test]
 fn a_replaced_node_goes(rt: HostRuntime) -> Result<(), Fail> {
-    let rows = [
-        (Ask::Make(Kind::Reg, "/f"), Reply::Done),
-        (Ask::Make(Kind::Reg, "/g"), Reply::Done),
-        (Ask::Make(Kind::Reg, "/h"), Reply::Refused(Errno::ENOSPC)),
-        (Ask::Rename("/f", "/g"), Reply::Done),
-        (Ask::Stat("/f"), Reply::Refused(Errno::ENOENT)),
-        (Ask::Stat("/g"), found(2, Kind::Reg, 0, 1)),
-        (Ask::Make(Kind::Reg, "/h"), Reply::Done),
-        (Ask::Stat("/h"), found(4, Kind::Reg, 0, 1)),
-    ];
-    Session::new(rt.alloc(), 3)?.check(&rt, &rows)?;
-    let rows = [
-        (Ask::Make(Kind::Dir, "/a"), Reply::Done),
-        (Ask::Make(Kind::Dir, "/b"), Reply::Done),
-        (Ask::Make(Kind::Dir, "/c"), Reply::Refused(Errno::ENOSPC)),
-        (Ask::Rename("/a", "/b"), Reply::Done),
-        (Ask::Make(Kind::Dir, "/b/c"), Reply::Done),
-        (Ask::Stat("/b/c"), found(4, Kind::Dir, 0, 1)),
-    ];
-    Session::new(rt.alloc(), 3)?.check(&rt, &rows)
+    check(&rt, rt.alloc(), 3, A_REPLACED_FILE_GOES)?;
+    check(&rt, rt.alloc(), 3, A_REPLACED_DIRECTORY_GOES)
 }
+
+const A_REPLACED_FILE_LIVES_ON: &[Row] = &[
+    (Ask::Make(Kind::Reg, "/f"), Want::Done),
+    (Ask::Make(Kind::Reg, "/open"), Want::Done),
+    (Ask::Make(Kind::Reg, "/g"), Want::Done),
+    (Ask::Link("/g", "/second"), Want::Done),
+    (Ask::Open(READ, "/open"), Want::Opened(0)),
+    (Ask::Rename("/f", "/open"), Want::Done),
+    (Ask::Make(Kind::Reg, "/x"), Want::Refused(Errno::ENOSPC)),
+    (Ask::Rename("/open", "/g"), Want::Done),
+    (Ask::Make(Kind::Reg, "/x"), Want::Refused(Errno::ENOSPC)),
+    (Ask::Stat("/g"), Want::Found(2, Kind::Reg, 0, 1)),
+    (Ask::Stat("/second"), Want::Found(4, Kind::Reg, 0, 1)),
+];
 
 #[test]
 fn a_replaced_file_lives_on(rt: HostRuntime) -> Result<(), Fail> {
-    let rows = [
-        (Ask::Make(Kind::Reg, "/f"), Reply::Done),
-        (Ask::Make(Kind::Reg, "/open"), Reply::Done),
-        (Ask::Make(Kind::Reg, "/g"), Reply::Done),
-        (Ask::Link("/g", "/second"), Reply::Done),
-        (Ask::Open(READ, "/open"), Reply::Opened(0)),
-        (Ask::Rename("/f", "/open"), Reply::Done),
-        (Ask::Make(Kind::Reg, "/x"), Reply::Refused(Errno::ENOSPC)),
-        (Ask::Rename("/open", "/g"), Reply::Done),
-        (Ask::Make(Kind::Reg, "/x"), Reply::Refused(Errno::ENOSPC)),
-        (Ask::Stat("/g"), found(2, Kind::Reg, 0, 1)),
-        (Ask::Stat("/second"), found(4, Kind::Reg, 0, 1)),
-    ];
-    Session::new(rt.alloc(), 4)?.check(&rt, &rows)
+    check(&rt, rt.alloc(), 4, A_REPLACED_FILE_LIVES_ON)
 }
+
+const REFUSALS_OF_TWO_PATHS: &[Row] = &[
+    (Ask::Make(Kind::Dir, "/d"), Want::Done),
+    (Ask::Make(Kind::Reg, "/f"), Want::Done),
+    (Ask::Rename("/f", "/x/"), Want::Refused(Errno::EINVAL)),
+    (Ask::Rename("/", "/x"), Want::Refused(Errno::EBUSY)),
+    (Ask::Link("/d", "/"), Want::Refused(Errno::EBUSY)),
+    (Ask::Link("/x", "/x/y"), Want::Refused(Errno::EINVAL)),
+    (Ask::Rename("/x/y", "/x"), Want::Refused(Errno::ENOTEMPTY)),
+    (Ask::Link("/x/y", "/x"), Want::Refused(Errno::EEXIST)),
+    (Ask::Rename("/x/y", "/f/x"), Want::Refused(Errno::ENOENT)),
+    (Ask::Rename("/f/x", "/x/y"), Want::Refused(Errno::ENOTDIR)),
+    (Ask::Rename("/x", "/f/x"), Want::Refused(Errno::ENOTDIR)),
+    (Ask::Rename("/x", "/f"), Want::Refused(Errno::ENOENT)),
+    (Ask::Link("/x", "/f"), Want::Refused(Errno::ENOENT)),
+    (Ask::Link("/d", "/f"), Want::Refused(Errno::EEXIST)),
+    (Ask::Link("/d", "/x"), Want::Refused(Errno::EPERM)),
+];
 
 #[test]
 fn refusals_of_two_paths(rt: HostRuntime) -> Result<(), Fail> {
-    let rows = [
-        (Ask::Make(Kind::Dir, "/d"), Reply::Done),
-        (Ask::Make(Kind::Reg, "/f"), Reply::Done),
-        (Ask::Rename("/f", "/x/"), Reply::Refused(Errno::EINVAL)),
-        (Ask::Rename("/", "/x"), Reply::Refused(Errno::EBUSY)),
-        (Ask::Link("/d", "/"), Reply::Refused(Errno::EBUSY)),
-        (Ask::Link("/x", "/x/y"), Reply::Refused(Errno::EINVAL)),
-        (Ask::Rename("/x/y", "/x"), Reply::Refused(Errno::ENOTEMPTY)),
-        (Ask::Link("/x/y", "/x"), Reply::Refused(Errno::EEXIST)),
-        (Ask::Rename("/x/y", "/f/x"), Reply::Refused(Errno::ENOENT)),
-        (Ask::Rename("/f/x", "/x/y"), Reply::Refused(Errno::ENOTDIR)),
-        (Ask::Rename("/x", "/f/x"), Reply::Refused(Errno::ENOTDIR)),
-        (Ask::Rename("/x", "/f"), Reply::Refused(Errno::ENOENT)),
-        (Ask::Link("/x", "/f"), Reply::Refused(Errno::ENOENT)),
-        (Ask::Link("/d", "/f"), Reply::Refused(Errno::EEXIST)),
-        (Ask::Link("/d", "/x"), Reply::Refused(Errno::EPERM)),
-    ];
-    Session::new(rt.alloc(), 64)?.check(&rt, &rows)
+    check(&rt, rt.alloc(), 64, REFUSALS_OF_TWO_PATHS)
 }
 
-/// The text with the number after it.
-fn with_number(alloc: Global, text: &str, number: u64) -> Result<String, AllocError> {
-    again!(format!(in alloc; "{text}{number}"))
-}
+const FULL_DIRECTORY: &[Part] = &[
+    Part::By(1, &[(Ask::Make(Kind::Dir, "/d"), Want::Done)]),
+    Part::Rounds(0, 1_024, &[(Ask::Make(Kind::Reg, "/d/e#"), Want::Done)]),
+    Part::By(
+        1,
+        &[
+            (Ask::Make(Kind::Reg, "/f"), Want::Done),
+            (Ask::Make(Kind::Reg, "/d/new"), Want::Refused(Errno::ENOSPC)),
+            (Ask::Rename("/f", "/d/new"), Want::Refused(Errno::ENOSPC)),
+            (Ask::Link("/f", "/d/new"), Want::Refused(Errno::ENOSPC)),
+            (Ask::Rename("/d/e0", "/d/new"), Want::Done),
+            (Ask::Rename("/f", "/d/e1"), Want::Done),
+            (Ask::Stat("/d/e1"), Want::Found(1_027, Kind::Reg, 0, 1)),
+            (Ask::Stat("/d/new"), Want::Found(3, Kind::Reg, 0, 1)),
+        ],
+    ),
+];
 
 #[test]
 fn full_directory(rt: HostRuntime) -> Result<(), Fail> {
-    let mut session = Session::new(rt.alloc(), 2_000)?;
-    session.check(&rt, &[(Ask::Make(Kind::Dir, "/d"), Reply::Done)])?;
-    for number in 0..1_024 {
-        let text = with_number(rt.alloc(), "/d/e", number)?;
-        session.check(&rt, &[(Ask::Make(Kind::Reg, text.as_str()), Reply::Done)])?;
-    }
-    let full = Errno::ENOSPC;
-    let rows = [
-        (Ask::Make(Kind::Reg, "/f"), Reply::Done),
-        (Ask::Make(Kind::Reg, "/d/new"), Reply::Refused(full)),
-        (Ask::Rename("/f", "/d/new"), Reply::Refused(full)),
-        (Ask::Link("/f", "/d/new"), Reply::Refused(full)),
-        (Ask::Rename("/d/e0", "/d/new"), Reply::Done),
-        (Ask::Rename("/f", "/d/e1"), Reply::Done),
-        (Ask::Stat("/d/e1"), found(1_027, Kind::Reg, 0, 1)),
-        (Ask::Stat("/d/new"), found(3, Kind::Reg, 0, 1)),
-    ];
-    session.check(&rt, &rows)
+    check_parts(&rt, rt.alloc(), 2_000, FULL_DIRECTORY)
 }
+
+const THOUSAND_NAMES: &[Part] = &[
+    Part::By(1, &[(Ask::Make(Kind::Reg, "/f"), Want::Done)]),
+    Part::Rounds(0, 999, &[(Ask::Link("/f", "/g#"), Want::Done)]),
+    Part::By(
+        1,
+        &[
+            (Ask::Stat("/f"), Want::Found(2, Kind::Reg, 0, 1_000)),
+            (Ask::Link("/f", "/z"), Want::Refused(Errno::EMLINK)),
+        ],
+    ),
+];
 
 #[test]
 fn thousand_names(rt: HostRuntime) -> Result<(), Fail> {
-    let mut session = Session::new(rt.alloc(), 1_024)?;
-    session.check(&rt, &[(Ask::Make(Kind::Reg, "/f"), Reply::Done)])?;
-    for number in 0..999 {
-        let text = with_number(rt.alloc(), "/g", number)?;
-        session.check(&rt, &[(Ask::Link("/f", text.as_str()), Reply::Done)])?;
-    }
-    let rows = [
-        (Ask::Stat("/f"), found(2, Kind::Reg, 0, 1_000)),
-        (Ask::Link("/f", "/z"), Reply::Refused(Errno::EMLINK)),
-    ];
-    session.check(&rt, &rows)
+    check_parts(&rt, rt.alloc(), 1_024, THOUSAND_NAMES)
 }
 
-/// The names so many times, one in the other.
-fn deep(alloc: Global, names: &str, times: usize) -> Result<String, AllocError> {
-    again!(names.repeat(alloc, times))
-}
-
-/// One text after the other.
-fn joined(alloc: Global, first: &str, second: &str) -> Result<String, AllocError> {
-    again!(format!(in alloc; "{first}{second}"))
-}
+const DEEP_MOVES: &[Part] = &[
+    Part::Rounds(1, 41, &[(Ask::Make(Kind::Dir, "/x*"), Want::Done)]),
+    Part::Rounds(1, 41, &[(Ask::Make(Kind::Dir, "/y*"), Want::Done)]),
+    Part::Rounds(
+        40,
+        41,
+        &[
+            (Ask::Rename("/x", "/y*/x"), Want::Done),
+            (
+                Ask::Stat("/y*/x/x/x/x/x/x/x/x/x/x/x/x/x/x/x/x/x/x/x/x/x/x/x/x"),
+                Want::Found(25, Kind::Dir, 0, 1),
+            ),
+            (
+                Ask::Stat("/y*/x/x/x/x/x/x/x/x/x/x/x/x/x/x/x/x/x/x/x/x/x/x/x/x/x"),
+                Want::Refused(Errno::ENAMETOOLONG),
+            ),
+            (Ask::Rename("/y*/x", "/x"), Want::Done),
+            (Ask::Stat("/x*"), Want::Found(41, Kind::Dir, 0, 1)),
+        ],
+    ),
+];
 
 #[test]
 fn deep_moves(rt: HostRuntime) -> Result<(), Fail> {
-    let alloc = rt.alloc();
-    let mut session = Session::new(alloc, 1_024)?;
-    for name in ["/x", "/y"] {
-        for times in 1..41 {
-            let text = deep(alloc, name, times)?;
-            session.check(&rt, &[(Ask::Make(Kind::Dir, text.as_str()), Reply::Done)])?;
-        }
-    }
-    let below = deep(alloc, "/y", 40)?;
-    let moved = joined(alloc, below.as_str(), "/x")?;
-    let deepest = joined(alloc, below.as_str(), deep(alloc, "/x", 24)?.as_str())?;
-    let deeper = joined(alloc, below.as_str(), deep(alloc, "/x", 25)?.as_str())?;
-    let back = deep(alloc, "/x", 40)?;
-    let rows = [
-        (Ask::Rename("/x", moved.as_str()), Reply::Done),
-        (Ask::Stat(deepest.as_str()), found(25, Kind::Dir, 0, 1)),
-        (
-            Ask::Stat(deeper.as_str()),
-            Reply::Refused(Errno::ENAMETOOLONG),
-        ),
-        (Ask::Rename(moved.as_str(), "/x"), Reply::Done),
-        (Ask::Stat(back.as_str()), found(41, Kind::Dir, 0, 1)),
-    ];
-    session.check(&rt, &rows)
+    check_parts(&rt, rt.alloc(), 1_024, DEEP_MOVES)
 }

@@ -1,220 +1,169 @@
 //! What layers grant on inodes, before and after a file is renamed.
 
-ghost use Rattle.std.specs.Prelude.{◌≡◌, ◌≤◌, ◌+◌, ℕ, true, false, IfOk};
-ghost use Rattle.ll_rights.specs.Map.{has};
-ghost use Rattle.ll_seq.specs.History.{is_connect};
-
-use crate::Plain;
-use ll_decide::{Cause, Denial, Place};
-use ll_path::{Target, Word};
-use ll_rights::{Access, Errno, Kind, Right};
+use super::{Ask, Row, Session, Want};
+use ll_decide::{Cause, Place};
+use ll_rights::{Access, Errno, Kind};
 use ll_rules::{Domain, Ruleset};
-use ll_seq::{Call, Reply};
-use std::alloc::{AllocError, Global};
+use std::alloc::Global;
 use std::process::Abort;
 use std::test::Fail;
 
-/// What the layer of these tests handles.
-const HANDLED: Access = Access(0x2004);
+/// `/priv` is inode 2, the file in it 3, and `/pub` 4.
+const YARD: &[Row] = &[
+    (Ask::Make(Kind::Dir, "/priv"), Want::Done),
+    (Ask::Make(Kind::Reg, "/priv/f"), Want::Done),
+    (Ask::Make(Kind::Dir, "/pub"), Want::Done),
+];
 
-fn target(alloc: Global, text: &str) -> Result<Target, Fail> {
-    let text = match String::from_str(alloc, text) {
-        Err(_) => String::from_str(alloc, text)?,
-        Ok(text) => text,
-    };
-    Ok(Target::read(Word::new(text)?))
+/// A layer's number, an inode's, and what the layer grants on the inode.
+type Reach = (usize, u64, Option<u64>);
+
+/// A rule on an inode of this kind, and its rights.
+type Rule = (u64, Kind, Access);
+
+/// What a layer handles, and its rules.
+type Handled = (Access, &'static [Rule]);
+
+/// A layer with a rule on the root and one on `/pub`.
+const PUBLIC: Handled = (
+    Access(0x2004),
+    &[(1, Kind::Dir, Access(0x2000)), (4, Kind::Dir, Access(0x4))],
+);
+
+/// The same with one on the file.
+const READABLE: Handled = (
+    Access(0x2004),
+    &[
+        (1, Kind::Dir, Access(0x2000)),
+        (4, Kind::Dir, Access(0x4)),
+        (3, Kind::Reg, Access(0x4)),
+    ],
+);
+
+const NOTHING_EXECUTED: Handled = (Access(0x1), &[]);
+
+fn ruleset(alloc: Global, layer: Handled) -> Result<Ruleset, Errno> {
+    let mut made = Ruleset::create(alloc, layer.0)?;
+    for (inode, kind, rights) in layer.1 {
+        again!(made.allow(*inode, *kind, *rights))?;
+    }
+    Ok(made)
 }
 
-/// A call whose paths are still texts. The ruleset is the client's only one.
-#[derive(Clone, Copy, Debug)]
-enum Act<'a> {
-    Make(Kind, &'a str),
-    Rename(&'a str, &'a str),
-    Ruleset(Access),
-    Allow(&'a str, Access),
-    Confine,
-}
-
-impl Act<'_> {
-    fn call(self, alloc: Global) -> Result<Call, Fail>
-        ensures { IfOk result (λ call. is_connect call ≡ false) }
-    {
-        match self {
-            Act::Make(kind, text) => Ok(Call::Make(kind, target(alloc, text)?)),
-            Act::Rename(old, new) => Ok(Call::Rename(target(alloc, old)?, target(alloc, new)?)),
-            Act::Ruleset(rights) => Ok(Call::Ruleset(rights)),
-            Act::Allow(text, rights) => Ok(Call::Allow(0, target(alloc, text)?, rights)),
-            Act::Confine => Ok(Call::Confine(0)),
-        }
-    }
-}
-
-/// A tree to which client 1 has connected, and how many calls it has made.
-#[derive(Drop)]
-struct Yard {
-    alloc: Global,
-    tree: Plain,
-    calls: u32,
-    ghost connected: { has tree.clients 1 ≡ true },
-    ghost numbers: { tree.next ≤ calls + 3 },
-    ghost free: { (number : ℕ) → calls + 2 ≤ number → has tree.clients number ≡ false },
-}
-
-impl Yard {
-    fn start(alloc: Global) -> Result<Yard, AllocError> {
-        let mut tree = Plain::new(alloc, 64)?;
-        let Reply::Done = tree.apply(1, &Call::Connect, 0) else {
-            return Err(AllocError);
-        };
-        Ok(Yard {
-            alloc,
-            tree,
-            calls: 0,
-        })
-    }
-
-    /// `/priv` is inode 2, the file in it 3, and `/pub` 4.
-    fn new(rt: &impl Abort, alloc: Global) -> Result<Yard, Fail> {
-        let mut yard = match Yard::start(alloc) {
-            Err(_) => Yard::start(alloc)?,
-            Ok(yard) => yard,
-        };
-        yard.act(rt, Act::Make(Kind::Dir, "/priv"))?;
-        yard.act(rt, Act::Make(Kind::Reg, "/priv/f"))?;
-        yard.act(rt, Act::Make(Kind::Dir, "/pub"))?;
-        Ok(yard)
-    }
-
-    fn apply(&mut self, rt: &impl Abort, call: &Call) -> Reply
-        requires { is_connect call.now ≡ false }
-    {
-        assert!(rt; self.calls < 1_000);
-        let reply = self.tree.apply(1, call, u64::from(self.calls) + 2);
-        self.calls += 1;
-        reply
-    }
-
-    fn reply(&mut self, rt: &impl Abort, act: Act<'_>) -> Result<Reply, Fail> {
-        let call = act.call(self.alloc)?;
-        match self.apply(rt, &call) {
-            Reply::Refused(Errno::NoMemory) => Ok(self.apply(rt, &call)),
-            reply => Ok(reply),
-        }
-    }
-
-    fn act(&mut self, rt: &impl Abort, act: Act<'_>) -> Result<(), Fail> {
-        match self.reply(rt, act)? {
-            Reply::Done | Reply::Created(0) => Ok(()),
-            _ => Err(Fail::from("refused")),
-        }
-    }
-
-    /// The layer handles read_file and refer, and has a rule on the root, one on `/pub` and perhaps one on the file.
-    fn confine(&mut self, rt: &impl Abort, readable: bool) -> Result<(), Fail> {
-        self.act(rt, Act::Ruleset(HANDLED))?;
-        self.act(rt, Act::Allow("/", Access::REFER))?;
-        self.act(rt, Act::Allow("/pub", Access::READ_FILE))?;
-        if readable {
-            self.act(rt, Act::Allow("/priv/f", Access::READ_FILE))?;
-        }
-        self.act(rt, Act::Confine)
-    }
-
-    fn check(
-        &self,
-        rt: &impl Abort,
-        domain: &Domain,
-        number: usize,
-        wanted: &[(u64, Option<u64>)],
-    ) {
-        assert!(rt; 1 <= number && number <= domain.len());
-        for (inode, want) in wanted {
-            let rights = self.tree.reach(domain, number, *inode);
-            assert_eq!(rt; rights.map(|rights| rights.0), *want, "{inode}");
-        }
-    }
-}
-
-fn allow(made: &mut Ruleset, inode: u64, kind: Kind, rights: Access) -> Result<(), Errno> {
-    match made.allow(inode, kind, rights) {
-        Err(_) => made.allow(inode, kind, rights),
-        done => done,
-    }
-}
-
-fn stack(domain: &mut Domain, made: &Ruleset) -> Result<(), Errno> {
-    match domain.stack(made) {
-        Err(_) => domain.stack(made),
-        done => done,
-    }
-}
-
-/// A domain of the layer under which a client confines itself.
-fn one_layer(alloc: Global, readable: bool) -> Result<Domain, Errno> {
-    let mut made = Ruleset::create(alloc, HANDLED)?;
-    allow(&mut made, 1, Kind::Dir, Access::REFER)?;
-    allow(&mut made, 4, Kind::Dir, Access::READ_FILE)?;
-    if readable {
-        allow(&mut made, 3, Kind::Reg, Access::READ_FILE)?;
-    }
+fn domain(alloc: Global, layers: &[Handled]) -> Result<Domain, Errno> {
     let mut domain = Domain::empty(alloc);
-    stack(&mut domain, &made)?;
+    for layer in layers {
+        let made = ruleset(alloc, *layer)?;
+        again!(domain.stack(&made))?;
+    }
     Ok(domain)
 }
 
-#[test]
-fn a_free_client_widens_reach(rt: HostRuntime) -> Result<(), Fail> {
-    let mut yard = Yard::new(&rt, rt.alloc())?;
-    let domain = one_layer(rt.alloc(), false)?;
-    let wanted = [
-        (1, Some(0x7ffb)),
-        (2, Some(0x7ffb)),
-        (3, Some(0x4003)),
-        (4, Some(0x7fff)),
-        (9, None),
-    ];
-    yard.check(&rt, &domain, 1, &wanted);
-    yard.act(&rt, Act::Rename("/priv/f", "/pub/f"))?;
-    yard.check(&rt, &domain, 1, &[(3, Some(0x4007))]);
+/// Client 1 makes the calls of the first list, and then the second tells what the layers grant.
+fn check(
+    rt: &impl Abort,
+    alloc: Global,
+    layers: &[Handled],
+    turns: &[(&[Row], &[Reach])],
+) -> Result<(), Fail> {
+    let mut session = Session::new(rt, alloc, 64)?;
+    session.check(rt, 1, 0, YARD)?;
+    let domain = domain(alloc, layers)?;
+    for (rows, wanted) in turns {
+        session.check(rt, 1, 0, rows)?;
+        session.check_reach(rt, &domain, wanted);
+    }
     Ok(())
 }
+
+impl Session {
+    fn check_reach(&self, rt: &impl Abort, domain: &Domain, wanted: &[Reach]) {
+        for (layer, inode, want) in wanted {
+            assert!(rt; 1 <= *layer && *layer <= domain.len());
+            let rights = self.tree.reach(domain, *layer, *inode);
+            assert_eq!(rt;
+                rights.map(|rights| rights.0),
+                *want,
+                "layer {layer}, inode {inode}"
+            );
+        }
+    }
+}
+
+const A_FREE_CLIENT_WIDENS_REACH: &[(&[Row], &[Reach])] = &[
+    (
+        &[],
+        &[
+            (1, 1, Some(0x7ffb)),
+            (1, 2, Some(0x7ffb)),
+            (1, 3, Some(0x4003)),
+            (1, 4, Some(0x7fff)),
+            (1, 9, None),
+        ],
+    ),
+    (
+        &[(Ask::Rename("/priv/f", "/pub/f"), Want::Done)],
+        &[(1, 3, Some(0x4007))],
+    ),
+];
+
+#[test]
+fn a_free_client_widens_reach(rt: HostRuntime) -> Result<(), Fail> {
+    check(&rt, rt.alloc(), &[PUBLIC], A_FREE_CLIENT_WIDENS_REACH)
+}
+
+const A_CONFINED_CLIENT_DOES_NOT: &[(&[Row], &[Reach])] = &[(
+    &[
+        (Ask::Ruleset(0x2004), Want::Created(0)),
+        (Ask::Allow(0, "/", 0x2000), Want::Done),
+        (Ask::Allow(0, "/pub", 0x4), Want::Done),
+        (Ask::Confine(0), Want::Done),
+        (
+            Ask::Rename("/priv/f", "/pub/f"),
+            Want::DeniedIn(Place::New, Cause::EXDEV, 1, "read_file"),
+        ),
+    ],
+    &[(1, 3, Some(0x4003))],
+)];
 
 #[test]
 fn a_confined_client_does_not(rt: HostRuntime) -> Result<(), Fail> {
-    let mut yard = Yard::new(&rt, rt.alloc())?;
-    yard.confine(&rt, false)?;
-    let want = Denial {
-        cause: Cause::EXDEV,
-        layer: 1,
-        right: Right::READ_FILE,
-        place: Place::New,
-    };
-    let Reply::Denied(denial) = yard.reply(&rt, Act::Rename("/priv/f", "/pub/f"))? else {
-        return Err(Fail::from("not denied"));
-    };
-    assert_eq!(rt; denial, want);
-    let domain = one_layer(rt.alloc(), false)?;
-    yard.check(&rt, &domain, 1, &[(3, Some(0x4003))]);
-    Ok(())
+    check(&rt, rt.alloc(), &[PUBLIC], A_CONFINED_CLIENT_DOES_NOT)
 }
+
+const WHAT_IS_READABLE_MAY_MOVE: &[(&[Row], &[Reach])] = &[
+    (
+        &[
+            (Ask::Ruleset(0x2004), Want::Created(0)),
+            (Ask::Allow(0, "/", 0x2000), Want::Done),
+            (Ask::Allow(0, "/pub", 0x4), Want::Done),
+            (Ask::Allow(0, "/priv/f", 0x4), Want::Done),
+            (Ask::Confine(0), Want::Done),
+        ],
+        &[(1, 3, Some(0x4007))],
+    ),
+    (
+        &[(Ask::Rename("/priv/f", "/pub/f"), Want::Done)],
+        &[(1, 3, Some(0x4007))],
+    ),
+];
 
 #[test]
 fn what_is_readable_may_move(rt: HostRuntime) -> Result<(), Fail> {
-    let mut yard = Yard::new(&rt, rt.alloc())?;
-    let domain = one_layer(rt.alloc(), true)?;
-    yard.confine(&rt, true)?;
-    yard.check(&rt, &domain, 1, &[(3, Some(0x4007))]);
-    yard.act(&rt, Act::Rename("/priv/f", "/pub/f"))?;
-    yard.check(&rt, &domain, 1, &[(3, Some(0x4007))]);
-    Ok(())
+    check(&rt, rt.alloc(), &[READABLE], WHAT_IS_READABLE_MAY_MOVE)
 }
+
+const LAYERS_ARE_ASKED_BY_NUMBER: &[(&[Row], &[Reach])] = &[(
+    &[],
+    &[(1, 3, Some(0x4003)), (2, 3, Some(0x4006))],
+)];
 
 #[test]
 fn layers_are_asked_by_number(rt: HostRuntime) -> Result<(), Fail> {
-    let yard = Yard::new(&rt, rt.alloc())?;
-    let mut domain = one_layer(rt.alloc(), false)?;
-    stack(&mut domain, &Ruleset::create(rt.alloc(), Access::EXECUTE)?)?;
-    yard.check(&rt, &domain, 1, &[(3, Some(0x4003))]);
-    yard.check(&rt, &domain, 2, &[(3, Some(0x4006))]);
-    Ok(())
+    check(
+        &rt,
+        rt.alloc(),
+        &[PUBLIC, NOTHING_EXECUTED],
+        LAYERS_ARE_ASKED_BY_NUMBER,
+    )
 }

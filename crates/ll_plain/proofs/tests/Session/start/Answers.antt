@@ -1,4 +1,4 @@
-use Rattle.std.proofs.Common.{◌≡◌, ℕ, ◌≤◌, ◌+◌, true, false, refl, ap, subst, ◌∙◌}
+use Rattle.std.proofs.Common.{◌≡◌, ℕ, ◌≤◌, ◌+◌, ◌∙◌, true, false, refl, ap, subst, arith}
 use Rattle.ll_rights.specs.Map.{empty, checked, entries, get, insert, has}
 use Rattle.ll_seq.specs.declared.call.Call.TheVariants.{Connect}
 use Rattle.ll_seq.specs.declared.reply.Reply.{Reply}
@@ -13,13 +13,9 @@ nobody : (nodes number : ℕ) → has (start nodes).clients number ≡ false
 unfolding empty get
 nobody nodes number = refl
 
-first : (nodes : ℕ) → has (connected nodes).clients 1 ≡ true
+somebody : (nodes : ℕ) → has (connected nodes).clients 1 ≡ true
 unfolding empty checked entries get insert
-first nodes = refl
-
-no_second : (nodes : ℕ) → has (connected nodes).clients 2 ≡ false
-unfolding empty checked entries get insert
-no_second nodes = refl
+somebody nodes = refl
 
 pub apply-requires-clause-caller : goal.apply-requires-clause-caller
 apply-requires-clause-caller c = ap (λ (s : State). has s.clients 1) c.in_ok-tree.ensures ∙ nobody c.args.nodes 1
@@ -31,4 +27,11 @@ pub invariant_of-result : goal.invariant_of-result
 invariant_of-result c =
     let after : c.apply.new.self ≡ connected c.args.nodes =
     ap (λ (p : Reply × State). p.1) (c.in-Done.ensures.step (λ e. absurd cc) ∙ ap (λ (s : State). step s 1 Connect 2) c.in_ok-tree.ensures) in
-    record { connected = ap (λ (s : State). has s.clients 1) after ∙ first c.args.nodes; free = ap (λ (s : State). has s.clients 2) after ∙ no_second c.args.nodes; numbers = subst (λ (s : State). c.apply.new.self.next ≤ s.next + 1) c.in_ok-tree.ensures c.in-Done.ensures.numbers }
+    record {
+      connected = λ number first last. let same : number ≡ 1 = omega arith in
+          ap (λ k. has c.apply.new.self.clients k) same ∙ ap (λ (s : State). has s.clients 1) after ∙ somebody c.args.nodes;
+      free = λ number more. c.in-Done.ensures.no_other_client number (λ same. omega arith) (λ e. absurd cc)
+          ∙ ap (λ (s : State). has s.clients number) c.in_ok-tree.ensures ∙ nobody c.args.nodes number;
+      few = omega arith;
+      numbers = subst (λ (s : State). c.apply.new.self.next ≤ s.next + 1) c.in_ok-tree.ensures c.in-Done.ensures.numbers;
+    }

@@ -2,7 +2,7 @@ use Rattle.std.proofs.Common.{◌≡◌, ◌+◌, ap, sym, ◌∙◌, arith, inl
 use Rattle.std.proofs.lemmas.Bool.{cases_lt}
 use Rattle.ll_rights.specs.Map.{has}
 use Rattle.ll_seq.specs.declared.reply.Reply.TheVariants.{Spawned}
-use Rattle.ll_plain.proofs.tests.clients.Clients.apply.Goals as goal
+use Rattle.ll_plain.proofs.tests.Session.apply.Goals as goal
 
 pub invariant_of-self : goal.invariant_of-self
 invariant_of-self g c =
