@@ -1,5 +1,8 @@
 -- How the program ends where it fails. own
-use Rattle.std.specs.Prelude.{ℕ}
+use Rattle.std.specs.Prelude.{ℕ, Option, Some, None, Result, Ok, Err}
+use Rattle.clap.specs.declared.error.kind.ErrorKind.{ErrorKind}
+use Rattle.clap.specs.declared.error.kind.ErrorKind.TheVariants.{DisplayHelp, DisplayVersion}
+use Rattle.clap.specs.declared.error.kind.ErrorKind.TheVariants as kind
 use Rattle.landtree.specs.declared.fault.RunFault.{RunFault}
 use Rattle.landtree.specs.declared.fault.RunFault.TheVariants as run
 use Rattle.landtree.specs.declared.fault.SessionFault.TheVariants as session
@@ -19,3 +22,15 @@ status_of Opening = 2
 status_of File = 1
 status_of Output = 1
 status_of NoMemory = 4
+
+-- the same of clap's error at the program's words; help and the version are no failure
+abbrev pub failure_by : ErrorKind → Option Failure
+failure_by DisplayHelp = None
+failure_by DisplayVersion = None
+failure_by kind.OutOfMemory = Some NoMemory
+failure_by _ = Some CommandLine
+
+-- the status at the program's end
+abbrev pub status_at : {T : Type 0} → Result T Failure → ℕ
+status_at (Ok _) = 0
+status_at (Err failure) = status_of failure

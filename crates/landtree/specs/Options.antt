@@ -1,7 +1,8 @@
 -- The words of the command line, as clap matches them: `landtree run SCRIPT`, with `--nodes N`. own
-use Rattle.std.specs.Prelude.{ℕ, List, [], ◌∷◌, Option, Some, None, option_and_then, option_map, codes, true, false, if◌then◌else◌}
+use Rattle.std.specs.Prelude.{◌≡◌, ◌⊎◌, ℕ, List, [], ◌∷◌, Option, Some, None, option_and_then, option_map, codes, true, false, if◌then◌else◌}
 use Rattle.std.specs.Str.Parse.{digits_value, without_leading_plus}
-use Rattle.clap.specs.Words.{App, Row, Rule, Text, first_of, new_app, new_rule, one_of, subcommand_of, with_rule, with_subcommand}
+use Rattle.clap.specs.declared.error.kind.ErrorKind.TheVariants.{DisplayHelp, DisplayVersion}
+use Rattle.clap.specs.Words.{App, IsAmong, Kinds, Row, Rule, Text, first_of, new_app, new_rule, one_of, subcommand_of, with_rule, with_subcommand}
 use Rattle.clap.specs.Simple.{on_top}
 use Rattle.clap.specs.ValueTests.{accepts}
 use Rattle.clap.specs.declared.builder.value_parser.ValueParser.{ValueParser}
@@ -35,3 +36,7 @@ asked rows = option_and_then (λ path. option_map (λ n. (path, n)) (option_and_
 -- the same of the subcommand that the words name
 abbrev pub asked_by : List Text → Option (Text × ℕ)
 asked_by words = option_and_then (λ named. asked named.1) (subcommand_of landtree words)
+
+-- Words with these faults end well: there is none, or help or the version is asked for
+abbrev pub EndsWell : Kinds → Type 0
+EndsWell faults = (faults ≡ []) ⊎ IsAmong DisplayHelp faults ⊎ IsAmong DisplayVersion faults

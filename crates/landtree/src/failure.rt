@@ -1,9 +1,11 @@
 //! What the program says where it fails.
 
 ghost use Rattle.std.specs.Prelude.{◌≡◌};
-ghost use Rattle.landtree.specs.Failure.{failure_of, status_of};
+ghost use Rattle.clap.specs.Words.{kind_of};
+ghost use Rattle.landtree.specs.Failure.{failure_by, failure_of, status_of};
 
 use crate::fault::{RunFault, SessionFault};
+use clap::error::ErrorKind;
 use thiserror::Error;
 
 /// Why the program ends with a status other than 0.
@@ -32,6 +34,17 @@ impl Failure {
             RunFault::Session(SessionFault::Write) => Failure::Output,
             RunFault::Session(SessionFault::NoMemory) => Failure::NoMemory,
             RunFault::Session(SessionFault::TooLong) => Failure::File,
+        }
+    }
+
+    /// What clap's error is for the program. None where it is a text to print, as help and the version are.
+    pub fn of_words(error: &clap::Error) -> Option<Failure>
+        ensures { result ≡ failure_by (kind_of error.now) }
+    {
+        match error.kind() {
+            ErrorKind::DisplayHelp | ErrorKind::DisplayVersion => None,
+            ErrorKind::OutOfMemory => Some(Failure::NoMemory),
+            _ => Some(Failure::CommandLine),
         }
     }
 

@@ -1,4 +1,5 @@
-//! Devices for tests. They give and take one byte at a time, and fail once their calls are used up.
+//! Devices for tests. They give and take one byte at a time, and fail once their calls are used up. The sink counts how
+//! often it failed.
 
 ghost use Rattle.std.specs.Prelude.{Some};
 
@@ -37,6 +38,7 @@ impl Read for Source<'_> {
 pub struct Sink {
     pub held: Vec<u8>,
     pub calls: usize,
+    pub failures: usize,
 }
 
 impl Write for Sink {
@@ -44,6 +46,7 @@ impl Write for Sink {
 
     fn write(&mut self, buf: &[u8]) -> io::Result<usize> {
         if self.calls == 0 {
+            self.failures = self.failures.saturating_add(1);
             return Err(io::Error::from(ErrorKind::Other));
         }
         self.calls -= 1;

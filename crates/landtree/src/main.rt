@@ -8,6 +8,7 @@ mod fuse;
 mod line;
 mod options;
 mod output;
+mod program;
 mod run;
 mod script;
 mod session;
@@ -16,10 +17,16 @@ mod setup;
 mod tests;
 mod tree;
 
-use clap::error::ErrorKind;
+ghost use Rattle.std.specs.Prelude.{◌≡◌, ◌⊎◌, map, Err, IfSome, OnOk};
+ghost use Rattle.std.specs.Process.{exit_status};
+ghost use Rattle.clap.specs.Words.{fault_of, kind_of};
+ghost use Rattle.landtree.specs.declared.failure.Failure.{Failure};
+ghost use Rattle.landtree.specs.Failure.{failure_by, status_at};
+ghost use Rattle.landtree.specs.Options.{landtree, EndsWell};
+
 use failure::Failure;
 use options::Options;
-use run::run_script;
+use program::perform;
 use script::ScriptFile;
 use std::process::ExitCode;
 use std::{env, io};
@@ -33,29 +40,38 @@ fn words_of(rt: &HostRuntime) -> Result<Vec<String>, Failure> {
 }
 
 // Where the words ask for no run: clap's help and version are texts to print.
-fn told(rt: &HostRuntime, error: &clap::Error) -> Result<(), Failure> {
-    if !error.use_stderr() {
-        return error.print(rt).map_err(|_| Failure::Output);
+fn told(rt: &HostRuntime, error: &clap::Error) -> Result<(), Failure>
+    ensures { IfSome (failure_by (kind_of error.now)) (λ failure. result ≡ Err failure) }
+{
+    match Failure::of_words(error) {
+        Some(failure) => Err(failure),
+        None => error.print(rt).map_err(|_| Failure::Output),
     }
-    if error.kind() == ErrorKind::OutOfMemory {
-        return Err(Failure::NoMemory);
-    }
-    Err(Failure::CommandLine)
 }
 
-fn perform(rt: &HostRuntime, options: &Options) -> Result<(), Failure> {
-    let setup = &options.setup;
+fn run_options(rt: &HostRuntime, options: &Options) -> Result<(), Failure> {
     let mut out = rt.stdout();
-    let ended = if options.script == "-" {
-        run_script(rt.alloc(), setup, &mut rt.stdin(), &mut out)
+    if options.script == "-" {
+        perform(rt.alloc(), options, &mut rt.stdin(), &mut out)
     } else {
         let mut script = ScriptFile::new(rt, options.script);
-        run_script(rt.alloc(), setup, &mut script, &mut out)
-    };
-    ended.map_err(Failure::of_run)
+        perform(rt.alloc(), options, &mut script, &mut out)
+    }
 }
 
-fn landtree(rt: &HostRuntime) -> Result<(), Failure> {
+fn run_words(rt: &HostRuntime, words: &[&str]) -> Result<(), Failure>
+    ensures ok { OnOk result (EndsWell (fault_of landtree (map (λ w. w.now) words.now))) }
+    ensures mistake { (EndsWell (fault_of landtree (map (λ w. w.now) words.now)) → ⊥)
+        → (result ≡ Err Failure.CommandLine) ⊎ (result ≡ Err Failure.NoMemory) }
+{
+    match Options::read(rt.alloc(), words) {
+        Ok(Some(options)) => run_options(rt, &options),
+        Ok(None) => Err(Failure::CommandLine),
+        Err(error) => told(rt, &error),
+    }
+}
+
+fn run_program(rt: &HostRuntime) -> Result<(), Failure> {
     let words = words_of(rt)?;
     let Ok(words) = words
         .iter()
@@ -64,19 +80,22 @@ fn landtree(rt: &HostRuntime) -> Result<(), Failure> {
     else {
         return Err(Failure::NoMemory);
     };
-    match Options::read(rt.alloc(), words.as_slice()) {
-        Ok(Some(options)) => perform(rt, &options),
-        Ok(None) => Err(Failure::CommandLine),
-        Err(error) => told(rt, &error),
-    }
+    run_words(rt, words.as_slice())
 }
 
-fn main(rt: HostRuntime) -> ExitCode {
-    match landtree(&rt) {
+// Says why the program fails, where it does. The status that it ends with.
+fn concluded(rt: &HostRuntime, ended: Result<(), Failure>) -> ExitCode
+    ensures { exit_status result ≡ status_at ended }
+{
+    match ended {
         Ok(()) => ExitCode::SUCCESS,
         Err(failure) => {
             let _ = eprintln!(rt; "{failure}");
             ExitCode::from(failure.status())
         }
     }
+}
+
+fn main(rt: HostRuntime) -> ExitCode {
+    concluded(&rt, run_program(&rt))
 }

@@ -298,13 +298,17 @@ fn writes_fail(rt: HostRuntime) -> Result<(), Fail> {
         let mut writer = Sink {
             held: Vec::new(rt.alloc()),
             calls,
+            failures: 0,
         };
         let ended = run_script(rt.alloc(), &SETUP, &mut reader, &mut writer);
         let taken = calls.min(TEN_REPLIES.len());
         if taken == TEN_REPLIES.len() {
             assert!(rt; ended.is_ok());
+            assert_eq!(rt; writer.failures, 0);
         } else {
             assert!(rt; matches!(ended, Err(RunFault::Session(SessionFault::Write))));
+            // No failed write is tried again.
+            assert_eq!(rt; writer.failures, 1);
         }
         assert_eq!(rt; writer.held.as_slice(), &TEN_REPLIES[..taken]);
     }

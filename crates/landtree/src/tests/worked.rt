@@ -1,7 +1,7 @@
 //! Worked examples of more calls: words, a script and what is written for it.
 
-use super::replies_over;
 use crate::options::Options;
+use crate::program::perform;
 use std::test::Fail;
 
 pub(super) const RUN: &[&str] = &["landtree", "run", "-"];
@@ -149,10 +149,13 @@ stat 2 reg 65536 1
 
 /// What is written for a script that the words run.
 pub(super) fn run_by(rt: &HostRuntime, words: &[&str], script: &[u8]) -> Result<Vec<u8>, Fail> {
-    match Options::read(rt.alloc(), words) {
-        Ok(Some(options)) => replies_over(rt, &options.setup, script),
-        _ => Err(Fail::from("the words are refused")),
-    }
+    let Ok(Some(options)) = Options::read(rt.alloc(), words) else {
+        return Err(Fail::from("the words are refused"));
+    };
+    let mut reader = script;
+    let mut out = Vec::new(rt.alloc());
+    perform(rt.alloc(), &options, &mut reader, &mut out)?;
+    Ok(out)
 }
 
 #[test]
