@@ -9,7 +9,7 @@ ghost use Rattle.ll_seq.specs.Step.{client_of};
 ghost use Rattle.ll_plain.specs.Deciding.{ask_of, move_of, spot, fails, of_right, of_layer, of_all};
 
 use crate::{Plain, ROOT};
-use ll_decide::{Cause, Denial, Place};
+use ll_decide::{BUT_REFER, Cause, Denial, PLACES, Place};
 use ll_path::{Names, Path};
 use ll_rights::{Kind, Right};
 use ll_rules::{Domain, Layer};
@@ -108,26 +108,6 @@ struct Search<'a> {
     places: &'a [Place],
     ground: Ground<'a>,
 }
-
-const PLACES: [Place; 3] = [Place::At, Place::Old, Place::New];
-
-/// All rights but refer.
-const BUT_REFER: [Right; 14] = [
-    Right::EXECUTE,
-    Right::WRITE_FILE,
-    Right::READ_FILE,
-    Right::READ_DIR,
-    Right::REMOVE_DIR,
-    Right::REMOVE_FILE,
-    Right::MAKE_CHAR,
-    Right::MAKE_DIR,
-    Right::MAKE_REG,
-    Right::MAKE_SOCK,
-    Right::MAKE_FIFO,
-    Right::MAKE_BLOCK,
-    Right::MAKE_SYM,
-    Right::TRUNCATE,
-];
 
 impl Plain {
     /// Whether the layer grants the right on the path.
