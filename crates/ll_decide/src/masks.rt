@@ -110,7 +110,9 @@ struct Mask {
 
 impl Default for Mask {
     // stands in the places that no layer takes
-    fn default() -> Mask {
+    fn default() -> Mask
+        ensures { result.rights.0 ≡ 0 }
+    {
         Mask { rights: Access(0) }
     }
 }

@@ -9,12 +9,6 @@ use Rattle.ll_path.specs.Name.{IsName, same_name}
 use Rattle.ll_path.specs.Path.{is_no_name, is_long_name}
 use Rattle.ll_path.proofs.Splits.{cut_at_slashes}
 
-pub same_name-true : (a b : List ℕ) → same_name a b ≡ true → a ≡ b
-same_name-true a b e = (bytes_eq-Decides a b).0 (texts_ties a b ∙ e)
-
-pub same_name-refl : (a : List ℕ) → same_name a a ≡ true
-same_name-refl a = sym (texts_ties a a) ∙ (bytes_eq-Decides a a).1 refl
-
 pub same_name-from_equal : (a b : List ℕ) → a ≡ b → same_name a b ≡ true
 same_name-from_equal a b e = sym (texts_ties a b) ∙ (bytes_eq-Decides a b).1 e
 

@@ -44,6 +44,25 @@ const NAMES: [&str; 15] = [
     "truncate",
 ];
 
+// Each constant has the bit of the flag of its name.
+const _: () = prove!(
+    1 << Right::EXECUTE.number == Access::EXECUTE.0
+        && 1 << Right::WRITE_FILE.number == Access::WRITE_FILE.0
+        && 1 << Right::READ_FILE.number == Access::READ_FILE.0
+        && 1 << Right::READ_DIR.number == Access::READ_DIR.0
+        && 1 << Right::REMOVE_DIR.number == Access::REMOVE_DIR.0
+        && 1 << Right::REMOVE_FILE.number == Access::REMOVE_FILE.0
+        && 1 << Right::MAKE_CHAR.number == Access::MAKE_CHAR.0
+        && 1 << Right::MAKE_DIR.number == Access::MAKE_DIR.0
+        && 1 << Right::MAKE_REG.number == Access::MAKE_REG.0
+        && 1 << Right::MAKE_SOCK.number == Access::MAKE_SOCK.0
+        && 1 << Right::MAKE_FIFO.number == Access::MAKE_FIFO.0
+        && 1 << Right::MAKE_BLOCK.number == Access::MAKE_BLOCK.0
+        && 1 << Right::MAKE_SYM.number == Access::MAKE_SYM.0
+        && 1 << Right::REFER.number == Access::REFER.0
+        && 1 << Right::TRUNCATE.number == Access::TRUNCATE.0
+);
+
 impl Right {
     pub const EXECUTE: Right = Right { number: 0 };
 
