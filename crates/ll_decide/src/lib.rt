@@ -10,4 +10,4 @@ mod tests;
 
 pub use deciding::{Asked, BUT_REFER, Moved, PLACES, verdict};
 pub use denial::{Cause, Denial, Place};
-pub use masks::Masks;
+pub use masks::{Masks, unrestricted};

@@ -32,6 +32,14 @@ impl Model for Masks {
 
 const ROOT: u64 = 1;
 
+/// What the layer grants on every path: the rights that it doesn't restrict.
+pub fn unrestricted(layer: &Layer) -> Access
+    ensures { IsMask result.0 layer.now [] }
+{
+    let restricted = layer.handled().with(Access::REFER);
+    Access(Access::ALL.0 & !restricted.0)
+}
+
 impl Masks {
     /// The masks over the chain of the root alone, which is inode 1.
     pub fn root(alloc: Global, domain: &Domain) -> Masks
@@ -51,7 +59,9 @@ impl Masks {
         prove!(domain.len() <= 16);
         let mut masks = SmallVec::new(alloc);
         for layer in domain.layers() {
-            masks.push_reserved(Mask::unrestricted(layer));
+            masks.push_reserved(Mask {
+                rights: unrestricted(layer),
+            });
         }
         Masks { masks }
     }
@@ -118,16 +128,6 @@ impl Default for Mask {
 }
 
 impl Mask {
-    // with no rule
-    fn unrestricted(layer: &Layer) -> Mask
-        ensures { IsMask result.rights.0 layer.now [] }
-    {
-        let restricted = layer.handled().with(Access::REFER);
-        Mask {
-            rights: Access(Access::ALL.0 & !restricted.0),
-        }
-    }
-
     // over the chain with one inode more
     fn with_rule(self, layer: &Layer, inode: u64) -> Mask
         ensures { (inodes : List ℕ) → IsMask self.rights.0 layer.now inodes → IsMask result.rights.0 layer.now (inodes ++ inode ∷ []) }

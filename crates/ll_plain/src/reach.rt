@@ -1,23 +1,15 @@
 //! What a layer grants on an inode by some name.
 
-ghost use Rattle.std.specs.Prelude.{◌≡◌, ◌≤◌, ◌<◌, ◌-◌, ◌^◌, ◌↔◌, ℕ, [], Some, IfSome, IfNone, IsTrue, length, slice_get};
+ghost use Rattle.std.specs.Prelude.{◌≡◌, ◌≤◌, ◌<◌, ◌-◌, ◌^◌, ◌↔◌, ℕ, Some, IfSome, IfNone, IsTrue, length, slice_get};
 ghost use Rattle.ll_rights.specs.Access.{holds};
 ghost use Rattle.ll_rules.specs.Layer as layers;
-ghost use Rattle.ll_decide.specs.Masks.{IsMask};
 ghost use Rattle.ll_seq.specs.Reach.{HasName, InReach};
 ghost use Rattle.ll_plain.specs.Reaching.{Found, Leads};
 
 use crate::{Plain, ROOT};
+use ll_decide::unrestricted;
 use ll_rights::Access;
 use ll_rules::{Domain, Layer};
-
-/// What the layer grants on every path.
-fn unrestricted(layer: &Layer) -> Access
-    ensures { IsMask result.0 layer.now [] }
-{
-    let restricted = layer.handled().with(Access::REFER);
-    Access(Access::ALL.0 & !restricted.0)
-}
 
 impl Plain {
     /// What the domain's layer of this number, the oldest being 1, grants on the inode by some name, of the rights

@@ -19,7 +19,7 @@ loop-layer-preserved c =
     let layers = c.layers-layer-items.result.now in
     let masks = c.loop-layer.masks.items in
     let layer = c.layer-item.result in
-    let new = c.unrestricted.result in
+    let new : Mask = record { rights = c.unrestricted.result } in
     let last : take (i + 1) layers ≡ take i layers ++ layer ∷ [] = take_more layers i layer c.loop-layer-test.true ∙ ap (λ l. take i layers ++ l ∷ []) (sym c.layer-item.is) in
     let numbers : numbers_of c.push_reserved.new.self.items ≡ numbers_of masks ++ new.rights.0 ∷ [] = ap numbers_of c.push_reserved.ensures.items ∙ map_push (λ (m : Mask). m.rights.0) masks new in
     record {
