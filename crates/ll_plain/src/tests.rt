@@ -1,7 +1,8 @@
 //! Worked examples, the limits, and what is left where memory is refused.
 //!
-//! A test is a table: rows of what is asked and of what is to be answered. `check` makes the calls of client 1,
-//! `check_parts` those of several clients, or of many rounds.
+//! A test is a constant table of what is asked and what is to be answered: rows that `check` goes through, or parts, of
+//! several clients or in many rounds, that `check_parts` goes through. The tables are plain `Copy` data, so that only the
+//! few functions here, and not each test, build and drop calls and replies: that is what is slow to prove.
 //! What asks for memory is tried once more where it gets none, as `rt try --test --fail-alloc N` refuses it once.
 
 ghost use Rattle.std.specs.Prelude.{◌≡◌, ◌≤◌, ◌<◌, ◌+◌, ℕ, true, false, IfOk};
@@ -51,7 +52,7 @@ const READ_WRITE: Mode = Mode {
     creation: Creation::Never,
 };
 
-/// A call whose paths are still texts (`spelled`), and whose set of rights is a number.
+/// A call whose paths are still texts (`spelled` says how they are read), and whose set of rights is a number.
 #[derive(Clone, Copy, Debug)]
 enum Ask {
     Make(Kind, &'static str),
@@ -97,22 +98,23 @@ enum Want {
     /// The new client has the number after the round's.
     SpawnedNext,
     Refused(Errno),
-    /// The layer denies the right, by EACCES, where there is one path.
+    /// The layer denies the right, by EACCES and at the only path.
     Denied(u64, &'static str),
+    /// The layer denies the right, at that place and by that cause.
     DeniedIn(Place, Cause, u64, &'static str),
 }
 
-/// What is asked, and what is to be answered.
+/// What a client asks, and what it is to be answered.
 type Row = (Ask, Want);
 
-/// Calls, one after the other.
+/// Rows, one after the other.
 #[derive(Clone, Copy)]
 enum Part {
-    /// The client's.
+    /// This client asks.
     By(u64, &'static [Row]),
-    /// Client 1's, in rounds from the first number to the one before the second.
+    /// Client 1 asks all rows in each round. The rounds are numbered from the first number to the one before the second.
     Rounds(u64, u64, &'static [Row]),
-    /// The same, each round by the client of its number.
+    /// The same, but in each round the client of that number asks.
     RoundsBy(u64, u64, &'static [Row]),
 }
 
@@ -174,11 +176,7 @@ impl Ask {
     }
 }
 
-/// Whether the number is so much above the round's.
-fn is_above(number: u64, round: u64, above: u64) -> bool {
-    number.checked_sub(round) == Some(above)
-}
-
+/// Whether these are the names that are wanted, in their order.
 fn are(names: &[Name], want: &[&str]) -> bool {
     names.len() == want.len()
         && names
@@ -214,7 +212,7 @@ impl Want {
             },
             Reply::Spawned(number) => match self {
                 Want::Spawned(want) => *number == want,
-                Want::SpawnedNext => is_above(*number, round, 1),
+                Want::SpawnedNext => round.checked_add(1) == Some(*number),
                 _ => false,
             },
             Reply::Refused(errno) => matches!(self, Want::Refused(want) if *errno == want),
@@ -223,22 +221,20 @@ impl Want {
     }
 
     fn is_found(self, status: Status, round: u64) -> bool {
-        match self {
-            Want::Found(inode, kind, size, links) => status
-                == Status {
-                    inode,
-                    kind,
-                    size,
-                    links,
-                },
-            Want::FoundNth(above, kind, size, links) => {
-                is_above(status.inode, round, above)
-                    && status.kind == kind
-                    && status.size == size
-                    && status.links == links
-            }
-            _ => false,
-        }
+        let (inode, kind, size, links) = match self {
+            Want::Found(inode, kind, size, links) => (Some(inode), kind, size, links),
+            Want::FoundNth(above, kind, size, links) => (
+                round.checked_add(above),
+                kind,
+                size,
+                links,
+            ),
+            _ => return false,
+        };
+        inode == Some(status.inode)
+            && status.kind == kind
+            && status.size == size
+            && status.links == links
     }
 
     fn is_denied(self, denial: Denial) -> bool {
@@ -342,6 +338,7 @@ impl Session {
         Ok(!matches!(&reply, Reply::Refused(Errno::NoMemory)))
     }
 
+    /// Makes the part's calls in the same way as `check`.
     fn check_part(&mut self, rt: &impl Abort, part: Part) -> Result<(), Fail> {
         match part {
             Part::By(client, rows) => self.check(rt, client, 0, rows)?,
