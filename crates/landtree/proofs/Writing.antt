@@ -1,7 +1,7 @@
 -- What is written and what is read, put together.
-use Rattle.std.proofs.Common.{◌≡◌, ℕ, ◌-◌, ◌≤◌, List, [], ◌++◌, length, take, drop, Option, None, Some, refl, sym, ap, ◌∙◌, append_assoc, arith}
+use Rattle.std.proofs.Common.{◌≡◌, ℕ, zero, suc, ◌+◌, ◌-◌, ◌<◌, ◌≤◌, List, [], ◌++◌, length, take, drop, Option, None, Some, refl, sym, ap, ◌∙◌, append_assoc, arith}
 use Rattle.std.specs.Io.KnownBytes.{Appends, Consumes, IsAtEnd}
-use Rattle.std.proofs.lemmas.List.{append-nil, take_all, length-drop, take-append-drop}
+use Rattle.std.proofs.lemmas.List.{append-nil, take_all, length-append, length-drop, take-append-drop}
 use Rattle.landtree.specs.Progress.{AppendsFront}
 
 pub appends-more : (old mid new : Option (List ℕ)) (a b : List ℕ) → Appends old mid a → Appends mid new b → Appends old new (a ++ b)
@@ -32,6 +32,18 @@ pub gave : (old new : Option (List ℕ)) (left bytes : List ℕ) → old ≡ Som
 gave None new left bytes e h = absurd cc
 gave (Some xs) None left bytes e h = absurd h
 gave (Some xs) (Some ys) left bytes e h = let same : xs ≡ left = cc in (ys, refl, sym same ∙ h)
+
+pub some : (n : ℕ) → (n ≡ 0 → ⊥) → 0 < n
+some zero h = absurd (h refl)
+some (suc n) h = omega arith
+
+-- after this read, of one byte at least, so many fewer are left
+pub fewer_left : (old new : Option (List ℕ)) (input bytes : List ℕ) (count : ℕ) → ((left : List ℕ) × (old ≡ Some left) × (count + length left ≤ length input))
+    → Consumes old new bytes → 0 < length bytes → (rest : List ℕ) × (new ≡ Some rest) × (count + 1 + length rest ≤ length input)
+fewer_left old new input bytes count i read more =
+    let a = gave old new i.0 bytes i.1 read in
+    let both : length i.0 ≡ length bytes + length a.0 = ap length a.2 ∙ length-append bytes a.0 in
+    (a.0, a.1, omega (arith, both, more, i.2))
 
 pub at_end : (new : Option (List ℕ)) (rest : List ℕ) → new ≡ Some rest → IsAtEnd new → rest ≡ []
 at_end None rest e h = absurd cc

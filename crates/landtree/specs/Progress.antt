@@ -1,10 +1,12 @@
 -- How far a run has come.
-use Rattle.std.specs.Prelude.{◌≡◌, ◌≢◌, ℕ, ◌+◌, ◌≤◌, ◌<◌, List, ◌++◌, length, Option, None, MatchBool}
+use Rattle.std.specs.Prelude.{◌≡◌, ◌≢◌, ◌⊎◌, ℕ, ◌+◌, ◌≤◌, ◌<◌, List, ◌++◌, length, Option, None, MatchBool}
 use Rattle.std.specs.List.{AllByRecursion}
 use Rattle.std.specs.Io.KnownBytes.{Appends}
 use Rattle.ll_seq.specs.declared.reply.Reply.{Reply}
 use Rattle.ll_seq.specs.Stages.{numbers_from}
 use Rattle.ll_wire.specs.Grammar.{reply_line}
+use Rattle.landtree.specs.declared.fault.SessionFault.{SessionFault}
+use Rattle.landtree.specs.declared.fault.SessionFault.TheVariants as fault
 use Rattle.landtree.specs.declared.line.Line.{Line}
 use Rattle.landtree.specs.declared.tree.SessionTree.{SessionTree}
 use Rattle.landtree.specs.declared.session.OpenSession.{OpenSession}
@@ -29,6 +31,10 @@ AnswersLine = Answers (λ s. s.clients) Called
 
 abbrev pub Lines : Session → List (List ℕ) → List ℕ → Session → Type 0
 Lines = Transcript (λ s. s.clients) Called
+
+-- what ends the answering of lines: a failed write, or want of memory
+abbrev pub IsOfWriting : SessionFault → Type 0
+IsOfWriting of = (of ≡ fault.NoMemory) ⊎ (of ≡ fault.Write)
 
 -- a front of the text is written
 abbrev pub AppendsFront : (old new : Option (List ℕ)) → List ℕ → Type 0

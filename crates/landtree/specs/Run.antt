@@ -18,6 +18,10 @@ connected nodes = (step (start nodes) 1 Connect 0).1
 abbrev pub opening : Setup → Session
 opening setup = record { tree = connected setup.nodes; clients = 1 ∷ []; entries = record { client = 1; call = Connect; reply = Done } ∷ []; limit = None }
 
+-- the most reads of one input
+abbrev pub most_reads : ℕ
+most_reads = 1000000000
+
 -- What a run starts with: the session after the opening, or the reply to the first call of the opening that is refused.
 -- A connect to a fresh tree is never refused
 abbrev pub Starts : Setup → Result Session Reply → Type 0

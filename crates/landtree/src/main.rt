@@ -17,12 +17,14 @@ mod setup;
 mod tests;
 mod tree;
 
-ghost use Rattle.std.specs.Prelude.{◌≡◌, ◌⊎◌, map, Err, IfSome, OnOk};
+ghost use Rattle.std.specs.Prelude.{◌≡◌, ◌≢◌, ◌⊎◌, [], map, None, Err, IfErr, IfNone, IfSome, OnOk};
 ghost use Rattle.std.specs.Process.{exit_status};
 ghost use Rattle.clap.specs.Words.{fault_of, kind_of};
+ghost use Rattle.landtree.specs.declared.fault.RunFault.{RunFault};
+ghost use Rattle.landtree.specs.declared.fault.SessionFault.{SessionFault};
 ghost use Rattle.landtree.specs.declared.failure.Failure.{Failure};
-ghost use Rattle.landtree.specs.Failure.{failure_by, status_at};
-ghost use Rattle.landtree.specs.Options.{landtree, EndsWell};
+ghost use Rattle.landtree.specs.Failure.{failure_by, failure_of, status_at};
+ghost use Rattle.landtree.specs.Options.{asked_by, landtree, EndsWell};
 
 use failure::Failure;
 use options::Options;
@@ -41,7 +43,8 @@ fn words_of(rt: &HostRuntime) -> Result<Vec<String>, Failure> {
 
 // Where the words ask for no run: clap's help and version are texts to print.
 fn told(rt: &HostRuntime, error: &clap::Error) -> Result<(), Failure>
-    ensures { IfSome (failure_by (kind_of error.now)) (λ failure. result ≡ Err failure) }
+    ensures failure { IfSome (failure_by (kind_of error.now)) (λ failure. result ≡ Err failure) }
+    ensures text { IfNone (failure_by (kind_of error.now)) (IfErr result (λ failure. failure ≡ Failure.Output)) }
 {
     match Failure::of_words(error) {
         Some(failure) => Err(failure),
@@ -49,7 +52,9 @@ fn told(rt: &HostRuntime, error: &clap::Error) -> Result<(), Failure>
     }
 }
 
-fn run_options(rt: &HostRuntime, options: &Options) -> Result<(), Failure> {
+fn run_options(rt: &HostRuntime, options: &Options) -> Result<(), Failure>
+    ensures { IfErr result (λ failure. (fault : SessionFault) × (failure ≡ failure_of (RunFault.Session fault))) }
+{
     let mut out = rt.stdout();
     if options.script == "-" {
         perform(rt.alloc(), options, &mut rt.stdin(), &mut out)
@@ -63,6 +68,8 @@ fn run_words(rt: &HostRuntime, words: &[&str]) -> Result<(), Failure>
     ensures ok { OnOk result (EndsWell (fault_of landtree (map (λ w. w.now) words.now))) }
     ensures mistake { (EndsWell (fault_of landtree (map (λ w. w.now) words.now)) → ⊥)
         → (result ≡ Err Failure.CommandLine) ⊎ (result ≡ Err Failure.NoMemory) }
+    ensures run { fault_of landtree (map (λ w. w.now) words.now) ≡ [] → asked_by (map (λ w. w.now) words.now) ≢ None
+        → result ≢ Err Failure.CommandLine }
 {
     match Options::read(rt.alloc(), words) {
         Ok(Some(options)) => run_options(rt, &options),

@@ -1,7 +1,8 @@
 //! Writing.
 
-ghost use Rattle.std.specs.Prelude.{OnOk, OnErr};
+ghost use Rattle.std.specs.Prelude.{◌≡◌, IfErr, OnOk, OnErr};
 ghost use Rattle.std.specs.Io.KnownBytes.{Appends};
+ghost use Rattle.landtree.specs.declared.fault.SessionFault.{SessionFault};
 ghost use Rattle.landtree.specs.Progress.{AppendsFront};
 
 use crate::fault::SessionFault;
@@ -11,6 +12,7 @@ use std::io::Write;
 pub fn write_text<W: Write>(writer: &mut W, text: &str) -> Result<(), SessionFault>
     ensures ok { OnOk result (Appends (W.contents writer.old) (W.contents writer.new) text.now) }
     ensures err { OnErr result (AppendsFront (W.contents writer.old) (W.contents writer.new) text.now) }
+    ensures fault { IfErr result (λ fault. fault ≡ SessionFault.Write) }
 {
     let mut rest = text.as_bytes();
     while !rest.is_empty() {

@@ -2,6 +2,7 @@
 
 ghost use Rattle.std.specs.Prelude.{◌≡◌, ℕ, List, OnOk, OnErr, IfErr, IfSome, Some};
 ghost use Rattle.landtree.specs.declared.fault.RunFault.{RunFault};
+ghost use Rattle.landtree.specs.declared.fault.SessionFault.{SessionFault};
 ghost use Rattle.landtree.specs.Failure.{failure_of};
 ghost use Rattle.landtree.specs.Run.{Runs, Begins, Writes};
 
@@ -22,7 +23,7 @@ pub fn perform<R: Read, W: Write>(
         × Writes (W.contents out.old) (W.contents out.new) (Runs options.now.setup input left))) }
     ensures beginning { OnErr result (IfSome (R.remaining script.old) (λ input.
         Writes (W.contents out.old) (W.contents out.new) (Begins options.now.setup input))) }
-    ensures failure { IfErr result (λ failure. (fault : RunFault) × (failure ≡ failure_of fault)) }
+    ensures failure { IfErr result (λ failure. (fault : SessionFault) × (failure ≡ failure_of (RunFault.Session fault))) }
 {
     match run_script(alloc, &options.setup, script, out) {
         Ok(()) => Ok(()),

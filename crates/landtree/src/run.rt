@@ -1,9 +1,11 @@
 //! Runs of scripts.
 
-ghost use Rattle.std.specs.Prelude.{◌≡◌, ◌<◌, ◌≤◌, ◌^◌, [], length, IfOk, ℕ, List, OnOk, OnErr, IfSome, Option, Some};
+ghost use Rattle.std.specs.Prelude.{◌≡◌, ◌<◌, ◌≤◌, ◌^◌, [], length, IfOk, IfErr, ℕ, List, OnOk, OnErr, IfSome, Option, Some, Err};
 ghost use Rattle.std.specs.Io.KnownBytes.{Consumes, IsAtEnd};
+ghost use Rattle.landtree.specs.declared.fault.RunFault.{RunFault};
+ghost use Rattle.landtree.specs.declared.fault.SessionFault.{SessionFault};
 ghost use Rattle.landtree.specs.Transcript.{Session};
-ghost use Rattle.landtree.specs.Run.{Runs, Begins, Writes};
+ghost use Rattle.landtree.specs.Run.{Runs, Begins, Writes, most_reads};
 ghost use Rattle.landtree.specs.Progress.{used, HasBegun, IsWritten, Progress};
 
 use crate::fault::{RunFault, SessionFault};
@@ -21,6 +23,7 @@ fn read_some<'a, R: Read>(reader: &mut R, chunk: &'a mut [u8]) -> Result<&'a [u8
     ensures bytes { IfOk result (λ bytes. Consumes (R.remaining reader.old) (R.remaining reader.new) bytes.now) }
     ensures end { IfOk result (λ bytes. bytes.now ≡ [] → IsAtEnd (R.remaining reader.new)) }
     ensures most { IfOk result (λ bytes. length bytes.now ≤ length chunk.old) }
+    ensures fault { IfErr result (λ fault. fault ≡ SessionFault.Read) }
 {
     match reader.read(chunk) {
         Ok(n) => Ok(&chunk[..n]),
@@ -44,6 +47,7 @@ fn read_all<R: Read, W: Write>(
         → Progress first input input old (W.contents writer.old) session.old
         → HasBegun first input old (W.contents writer.new)) }
     ensures numbers { used session.new.tree < 2 ^ 63 }
+    ensures long { result ≡ Err SessionFault.TooLong → (input : List ℕ) → R.remaining reader.old ≡ Some input → most_reads ≤ length input }
 {
     let mut chunk = [0u8; 512];
     for _read in 0..MOST_READS {
@@ -76,6 +80,7 @@ fn run_session<R: Read, W: Write>(
         → R.remaining reader.old ≡ Some input
         → Progress first input input old (W.contents writer.old) session.old
         → HasBegun first input old (W.contents writer.new)) }
+    ensures long { result ≡ Err SessionFault.TooLong → (input : List ℕ) → R.remaining reader.old ≡ Some input → most_reads ≤ length input }
 {
     if let Err(fault) = read_all(session, reader, writer) {
         return Err(fault);
@@ -96,6 +101,11 @@ pub fn run_script<R: Read, W: Write>(
     // With a fault, what was written is a beginning of the transcript of some first pieces of the input.
     ensures beginning { OnErr result (IfSome (R.remaining reader.old) (λ input.
         Writes (W.contents writer.old) (W.contents writer.new) (Begins setup.now input))) }
+    // The opening, one connect, is never refused.
+    ensures fault { IfErr result (λ fault. (of : SessionFault) × (fault ≡ RunFault.Session of)) }
+    // Each read gives a byte at least.
+    ensures long { result ≡ Err (RunFault.Session SessionFault.TooLong) → (input : List ℕ) → R.remaining reader.old ≡ Some input
+        → most_reads ≤ length input }
 {
     let mut session = match OpenSession::open(alloc, setup) {
         Ok(session) => session,

@@ -1,6 +1,6 @@
 //! A session under way.
 
-ghost use Rattle.std.specs.Prelude.{◌≡◌, ◌<◌, ◌≤◌, ◌+◌, ◌-◌, ◌*◌, ◌^◌, ◌∷◌, [], ◌++◌, length, ℕ, List, Option, OnOk, OnErr, IfOk};
+ghost use Rattle.std.specs.Prelude.{◌≡◌, ◌<◌, ◌≤◌, ◌+◌, ◌-◌, ◌*◌, ◌^◌, ◌∷◌, [], ◌++◌, length, ℕ, List, Option, OnOk, OnErr, IfErr, IfOk};
 
 use crate::fault::SessionFault;
 use crate::line::Line;
@@ -23,15 +23,17 @@ pub struct OpenSession {
 
 impl OpenSession {
     ghost use Rattle.ll_wire.specs.Grammar.{IsReply};
+    ghost use Rattle.landtree.specs.declared.fault.SessionFault.{SessionFault};
     ghost use Rattle.landtree.specs.Transcript.{Session};
     ghost use Rattle.landtree.specs.Run.{opening};
-    ghost use Rattle.landtree.specs.Progress.{used, Holds, StandsAt, AnswersLine, IsAnswered, IsStarted, HasBegun, IsWritten, Progress};
+    ghost use Rattle.landtree.specs.Progress.{used, Holds, StandsAt, AnswersLine, IsAnswered, IsStarted, HasBegun, IsWritten, IsOfWriting, Progress};
 
     /// The session after its client has connected to a fresh tree.
     pub fn open(alloc: Global, setup: &Setup) -> Result<OpenSession, SessionFault>
         ensures session { IfOk result (λ session. StandsAt session.tree (opening setup.now)) }
         ensures line { IfOk result (λ session. Holds session.line []) }
         ensures numbers { IfOk result (λ session. used session.tree ≤ 4) }
+        ensures fault { IfErr result (λ fault. fault ≡ SessionFault.NoMemory) }
     {
         let tree = match SessionTree::open(alloc, setup.nodes) {
             Ok(tree) => tree,
@@ -68,6 +70,7 @@ impl OpenSession {
         ensures err { OnErr result ((s : Session) (piece : List ℕ) → Holds self.old.line piece → StandsAt self.old.tree s
             → IsStarted s piece (W.contents writer.old) (W.contents writer.new)) }
         ensures numbers { used self.new.tree ≤ used self.old.tree + 2 }
+        ensures fault { IfErr result (λ fault. IsOfWriting fault) }
     {
         let reply = self.reply();
         let Ok(text) = reply_text(self.alloc, &reply) else {
@@ -85,6 +88,7 @@ impl OpenSession {
             → Progress first input (byte ∷ rest) old (W.contents writer.old) self.old
             → HasBegun first input old (W.contents writer.new)) }
         ensures numbers { used self.new.tree ≤ used self.old.tree + 2 }
+        ensures fault { IfErr result (λ fault. IsOfWriting fault) }
     {
         let Ok(()) = self.line.push(byte) else {
             return Err(SessionFault::NoMemory);
@@ -108,6 +112,7 @@ impl OpenSession {
             → Progress first input (bytes.now ++ rest) old (W.contents writer.old) self.old
             → HasBegun first input old (W.contents writer.new)) }
         ensures numbers { used self.new.tree ≤ used self.old.tree + 2 * length bytes.now }
+        ensures fault { IfErr result (λ fault. IsOfWriting fault) }
     {
         for byte in bytes {
             if let Err(fault) = self.take_byte(*byte, writer) {
@@ -126,6 +131,7 @@ impl OpenSession {
         ensures err { OnErr result ((first : Session) (input : List ℕ) (old : Option (List ℕ))
             → Progress first input [] old (W.contents writer.old) self.old
             → HasBegun first input old (W.contents writer.new)) }
+        ensures fault { IfErr result (λ fault. IsOfWriting fault) }
     {
         if self.line.is_empty() {
             return Ok(());

@@ -1,12 +1,13 @@
 //! The tree of a session and its clients.
 
-ghost use Rattle.std.specs.Prelude.{◌≡◌, ◌≢◌, ◌<◌, ◌≤◌, ◌+◌, ◌-◌, ◌^◌, ℕ, true, false, length, IfOk};
+ghost use Rattle.std.specs.Prelude.{◌≡◌, ◌≢◌, ◌<◌, ◌≤◌, ◌+◌, ◌-◌, ◌^◌, ℕ, true, false, length, IfErr, IfOk};
 ghost use Rattle.ll_rights.specs.Map.{has};
 ghost use Rattle.ll_rights.specs.declared.errno.Errno.{Errno};
 ghost use Rattle.ll_seq.specs.State.{State};
 ghost use Rattle.ll_seq.specs.Step.{step, IsAnswer};
 ghost use Rattle.ll_seq.specs.History.{is_connect};
 ghost use Rattle.ll_seq.specs.declared.reply.Reply.{Reply};
+ghost use Rattle.landtree.specs.declared.fault.SessionFault.{SessionFault};
 ghost use Rattle.landtree.specs.Transcript.{brought};
 ghost use Rattle.landtree.specs.Run.{connected};
 
@@ -36,6 +37,7 @@ impl SessionTree {
         ensures tree { IfOk result (λ tree. tree.plain ≡ connected nodes) }
         ensures clients { IfOk result (λ tree. tree.clients ≡ 1) }
         ensures numbers { IfOk result (λ tree. tree.plain.next + tree.clients ≤ 4) }
+        ensures fault { IfErr result (λ fault. fault ≡ SessionFault.NoMemory) }
     {
         let Ok(mut plain) = Plain::new(alloc, nodes) else {
             return Err(SessionFault::NoMemory);

@@ -1,8 +1,8 @@
 use Rattle.std.proofs.Common.{◌≡◌, ◌∙◌, sym, ap, subst, List, ℕ, [], ◌++◌, Some, arith}
 use Rattle.std.proofs.lemmas.List.{nil_from_length}
-use Rattle.std.proofs.lemmas.Bool.{eqb-true}
+use Rattle.std.proofs.lemmas.Bool.{eqb-false, eqb-true}
 use Rattle.landtree.specs.Progress.{Progress}
-use Rattle.landtree.proofs.Writing.{gave, at_end}
+use Rattle.landtree.proofs.Writing.{gave, at_end, fewer_left, some}
 use Rattle.landtree.proofs.Advance.{stops}
 use Rattle.landtree.proofs.run.read_all.Goals as goal
 
@@ -36,4 +36,7 @@ loop-read-preserved g c = record {
       let i = c.loop-read.invariant.progress first input old e p in
       let a = gave _ (g.R.Read.remaining c.read_some.new.reader) i.0 _ i.1 c.in-Ok.ensures.bytes in
       (a.0, a.1, c.in_default.ensures.ok first input a.0 old (subst (λ (left : List ℕ). Progress first input left old (g.W.Write.contents c.loop-read.writer) c.loop-read.session) a.2 i.2));
+  bytes = λ input e.
+      let f = fewer_left _ (g.R.Read.remaining c.read_some.new.reader) input _ _ (c.loop-read.invariant.bytes input e) c.in-Ok.ensures.bytes (some _ (eqb-false _ _ (sym c.if-is_empty.ensures))) in
+      (f.0, f.1, omega (arith, f.2));
 }

@@ -1,4 +1,4 @@
-use Rattle.std.proofs.Common.{◌≡◌, ◌+◌, ◌*◌, ◌≤◌, List, ℕ, Option, Some}
+use Rattle.std.proofs.Common.{◌≡◌, ◌+◌, ◌*◌, ◌≤◌, List, ℕ, Option, Some, length}
 use Rattle.landtree.specs.Transcript.{Session}
 use Rattle.landtree.specs.Progress.{used, Progress}
 use Rattle.landtree.proofs.run.read_all.Given as goal
@@ -10,4 +10,6 @@ invariant-loop-read g l = record {
       → g.R.Read.remaining l.fn.reader ≡ Some input
       → Progress first input input old (g.W.Write.contents l.fn.writer) l.fn.session
       → (left : List ℕ) × (g.R.Read.remaining l.reader ≡ Some left) × Progress first input left old (g.W.Write.contents l.writer) l.session;
+  bytes : (input : List ℕ) → g.R.Read.remaining l.fn.reader ≡ Some input
+      → (left : List ℕ) × (g.R.Read.remaining l.reader ≡ Some left) × (l._read + length left ≤ length input);
 }
