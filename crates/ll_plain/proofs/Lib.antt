@@ -4,6 +4,7 @@ pub mod Denials
 pub mod Granting
 pub mod Living
 pub mod Openings
+pub mod Outcomes
 pub mod Parts
 pub mod Reaches
 pub mod Shortcuts

@@ -14,6 +14,7 @@ use Rattle.ll_seq.specs.Stages.{text_refusals, number_refusals, relation_refusal
 use Rattle.ll_seq.specs.Effects.{done}
 use Rattle.ll_seq.specs.Step.{step, first_or, refusals, client_of}
 use Rattle.ll_plain.specs.Deciding.{Comes, ComesBy}
+use Rattle.ll_plain.specs.Outcomes.{Steps}
 use Rattle.ll_seq.specs.Fails.{Fails}
 
 -- ---- lists
@@ -90,16 +91,28 @@ module _ (s : State) (n : ℕ) (call : Call) where
   alone [] o e h = absurd cc
   alone (x ∷ a) o e h = let same : x ≡ e = cc in ap (λ (z : Errno). (Refused z, s)) same
 
+  pub steps_before : (e : Errno) → slice_get early 0 ≡ Some e → Steps s n call (Refused e) s
+  steps_before e h fresh = sym (step_in_parts fresh early policy late refl refl refl ∙ first_errno early (map Denied policy ++ map Refused late) _ e h)
+
   pub refused_before : (e : Errno) → slice_get early 0 ≡ Some e → Comes s n call (Refused e) s
-  refused_before e h fresh = inl (sym (step_in_parts fresh early policy late refl refl refl ∙ first_errno early (map Denied policy ++ map Refused late) _ e h))
+  refused_before e h fresh = inl (steps_before e h fresh)
 
   module _ (free : early ≡ []) where
+    pub steps_denied : (x : Denial) → slice_get policy 0 ≡ Some x → Steps s n call (Denied x) s
+    steps_denied x h fresh = sym (step_in_parts fresh [] policy late free refl refl ∙ first_denial policy (map Refused late) _ x h)
+
     pub denied : (x : Denial) → slice_get policy 0 ≡ Some x → Comes s n call (Denied x) s
-    denied x h fresh = inl (sym (step_in_parts fresh [] policy late free refl refl ∙ first_denial policy (map Refused late) _ x h))
+    denied x h fresh = inl (steps_denied x h fresh)
 
     module _ (allowed : slice_get policy 0 ≡ None) where
+      pub steps_after : (e : Errno) → slice_get late 0 ≡ Some e → Steps s n call (Refused e) s
+      steps_after e h fresh = sym (step_in_parts fresh [] [] late free (none_first policy allowed) refl ∙ alone late _ e h)
+
       pub refused_after : (e : Errno) → slice_get late 0 ≡ Some e → Comes s n call (Refused e) s
-      refused_after e h fresh = inl (sym (step_in_parts fresh [] [] late free (none_first policy allowed) refl ∙ alone late _ e h))
+      refused_after e h fresh = inl (steps_after e h fresh)
+
+      pub steps_done : late ≡ [] → (reply : Reply) (after : State) → ((fresh : ℕ) → ◌≡◌ {A = Reply × State} (reply, after) (done s n (client_of s n) call fresh)) → Steps s n call reply after
+      steps_done fits reply after same fresh = same fresh ∙ sym (step_in_parts fresh [] [] [] free (none_first policy allowed) fits)
 
       pub does_by : late ≡ [] → (fresh : ℕ) (reply : Reply) (after : State) → ◌≡◌ {A = Reply × State} (reply, after) (done s n (client_of s n) call fresh) → ComesBy fresh s n call reply after
       does_by fits fresh reply after same = inl (same ∙ sym (step_in_parts fresh [] [] [] free (none_first policy allowed) fits))

@@ -8,6 +8,7 @@ ghost use Rattle.ll_seq.specs.Stages.{without, is_too_long};
 ghost use Rattle.ll_seq.specs.Effects.{inode_at, overwritten, with_bytes, with_client};
 ghost use Rattle.ll_seq.specs.Step.{client_of};
 ghost use Rattle.ll_plain.specs.Deciding.{Comes};
+ghost use Rattle.ll_plain.specs.Outcomes.{Steps};
 ghost use Rattle.ll_seq.specs.declared.call.Call.TheVariants as calls;
 ghost use Rattle.ll_seq.specs.declared.client.Client as record_of;
 
@@ -153,7 +154,7 @@ impl Plain {
 
     pub(crate) fn close(&mut self, client: u64, number: u64) -> Reply
         requires { has self.old.clients client ≡ true }
-        ensures { Comes self.old client (calls.Close number) result self.new }
+        ensures { Steps self.old client (calls.Close number) result self.new }
     {
         let Some(file) = self.descriptor(client, number) else {
             return Reply::Refused(Errno::EBADF);

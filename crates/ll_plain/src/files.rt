@@ -17,6 +17,7 @@ ghost use Rattle.ll_seq.specs.Effects.{opened, resized, status_of, with_bytes, w
 ghost use Rattle.ll_seq.specs.Step.{client_of};
 ghost use Rattle.ll_seq.specs.Fails.{Fails};
 ghost use Rattle.ll_plain.specs.Deciding.{Comes};
+ghost use Rattle.ll_plain.specs.Outcomes.{Steps};
 ghost use Rattle.ll_seq.specs.declared.call.Call.TheVariants as calls;
 
 use crate::Plain;
@@ -274,7 +275,7 @@ impl Plain {
     }
 
     pub(crate) fn stat(&self, client: u64, target: &Target) -> Reply
-        ensures { Comes self.now client (calls.Stat target.now) result self.now }
+        ensures { Steps self.now client (calls.Stat target.now) result self.now }
     {
         match self.find(target) {
             Err(errno) => Reply::Refused(errno),
@@ -308,7 +309,7 @@ impl Plain {
     }
 
     pub(crate) fn exec(&self, client: u64, target: &Target) -> Reply
-        ensures { Comes self.now client (calls.Exec target.now) result self.now }
+        ensures { Steps self.now client (calls.Exec target.now) result self.now }
     {
         let (path, inode) = match self.find(target) {
             Err(errno) => return Reply::Refused(errno),

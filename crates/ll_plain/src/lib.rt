@@ -15,7 +15,8 @@ mod walk;
 ghost use Rattle.std.specs.Prelude.{◌≡◌, ◌≢◌, ◌<◌, ◌≤◌, ◌+◌, ◌-◌, ◌^◌, ℕ, [], true, false, not, IfOk};
 ghost use Rattle.ll_rights.specs.Map.{has};
 ghost use Rattle.ll_seq.specs.State.{State, start};
-ghost use Rattle.ll_plain.specs.Deciding.{ComesBy};
+ghost use Rattle.ll_plain.specs.Memory.{takes_memory};
+ghost use Rattle.ll_plain.specs.Outcomes.{Outcome};
 ghost use Rattle.ll_seq.specs.Step.{step, refusals, client_of, IsAnswer};
 ghost use Rattle.ll_seq.specs.History.{is_connect};
 ghost use Rattle.ll_seq.specs.declared.reply.Reply.{Reply};
@@ -89,6 +90,9 @@ impl Plain {
         // Want of memory comes only where nothing else refuses the call.
         ensures starved { result ≡ Reply.Refused Errno.NoMemory → refusals self.old (client_of self.old client) call.now ≡ [] }
 
+        // A call that takes no memory never answers for want of it.
+        ensures memory { takes_memory call.now ≡ false → result ≢ Reply.Refused Errno.NoMemory }
+
         // What follows from these for every call.
         ensures answers { IsAnswer result }
         ensures clients_stay { (other : ℕ) → has self.old.clients other ≡ true → has self.new.clients other ≡ true }
@@ -103,7 +107,7 @@ impl Plain {
         requires caller { has self.old.clients client ≡ not (is_connect call.now) }
         requires fresh { has self.old.clients fresh ≡ false }
         requires next { self.old.next < 2 ^ 64 - 1 }
-        ensures { ComesBy fresh self.old client call.now result self.new }
+        ensures { Outcome fresh self.old client call.now result self.new }
     {
         match call {
             Call::Make(kind, target) => self.make(client, *kind, target),

@@ -7,6 +7,7 @@ ghost use Rattle.ll_seq.specs.State.{child, slot};
 ghost use Rattle.ll_seq.specs.Stages.{has_names, is_crowded};
 ghost use Rattle.ll_seq.specs.Effects.{let_go, lives, with_node, without_name};
 ghost use Rattle.ll_plain.specs.Deciding.{Comes};
+ghost use Rattle.ll_plain.specs.Outcomes.{Steps};
 ghost use Rattle.ll_seq.specs.declared.call.Call.TheVariants as calls;
 
 use crate::policy::Asked;
@@ -103,7 +104,7 @@ impl Plain {
     }
 
     pub(crate) fn unlink(&mut self, client: u64, target: &Target) -> Reply
-        ensures { Comes self.old client (calls.Unlink target.now) result self.new }
+        ensures { Steps self.old client (calls.Unlink target.now) result self.new }
     {
         let spot = match self.find_spot(target) {
             Err(errno) => return Reply::Refused(errno),
@@ -130,7 +131,7 @@ impl Plain {
     }
 
     pub(crate) fn rmdir(&mut self, client: u64, target: &Target) -> Reply
-        ensures { Comes self.old client (calls.Rmdir target.now) result self.new }
+        ensures { Steps self.old client (calls.Rmdir target.now) result self.new }
     {
         let spot = match self.find_spot(target) {
             Err(errno) => return Reply::Refused(errno),
