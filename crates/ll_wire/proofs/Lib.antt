@@ -1,4 +1,3 @@
-pub mod Answered
 pub mod Calls
 pub mod Clients
 pub mod Digits

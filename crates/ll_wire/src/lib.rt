@@ -2,11 +2,13 @@
 #![tactic(auto)]
 
 mod bytes;
+mod grammar;
 mod read;
 #[cfg(test)]
 mod tests;
 mod token;
 mod write;
 
+pub use grammar::spells_one;
 pub use read::{LINE_LIMIT, read_command};
 pub use write::{command_text, reply_text};

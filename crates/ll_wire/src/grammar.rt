@@ -1,0 +1,11 @@
+//! A law of the grammar.
+
+ghost use Rattle.std.specs.Prelude.{◌≡◌, ℕ, List};
+ghost use Rattle.ll_seq.specs.declared.call.Call.{Call};
+ghost use Rattle.ll_wire.specs.Grammar.{SpellsCommand};
+
+/// A line spells at most one command, of one client.
+pub fn spells_one()
+    ensures { (line : List ℕ) (client other_client : ℕ) (call other_call : Call) → SpellsCommand line client call
+        → SpellsCommand line other_client other_call → (client ≡ other_client) × (call ≡ other_call) }
+{}
