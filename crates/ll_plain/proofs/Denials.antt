@@ -1,8 +1,7 @@
 -- The first denial, found layer by layer, right by right, place by place: where the search ends.
-use Rattle.std.specs.Prelude.{◌≡◌, ℕ, suc, ◌+◌, ◌<◌, ◌≤◌, List, [], ◌∷◌, ◌++◌, length, drop, Option, Some, None, slice_get, refl}
+use Rattle.std.specs.Prelude.{◌≡◌, ℕ, ◌+◌, ◌<◌, List, length, drop, Option, Some, None, slice_get}
 use Rattle.std.specs.List.{flat_map, enumerate_from}
-use Rattle.std.proofs.Common.{sym, ap, ◌∙◌, get_or, add-one}
-use Rattle.std.proofs.Math.ListN.{drop_of_length-le}
+use Rattle.std.proofs.Common.{ap, ◌∙◌, get_or}
 use Rattle.ll_decide.proofs.Finding.{first_front, first_back, at_element}
 
 -- the elements are counted from 1

@@ -1,5 +1,5 @@
 -- What is found of a layer's reach by paths of so many names.
-use Rattle.std.specs.Prelude.{◌≡◌, ◌≢◌, ◌⊎◌, ℕ, ◌+◌, ◌-◌, ◌<◌, ◌≤◌, true, false, ◌||◌, List, [], ◌∷◌, ◌++◌, length, Option, Some, None, unwrap_or, slice_get, bit_or, refl}
+use Rattle.std.specs.Prelude.{◌≡◌, ◌≢◌, ◌⊎◌, ℕ, ◌+◌, ◌-◌, ◌<◌, ◌≤◌, true, ◌||◌, List, [], ◌∷◌, ◌++◌, length, Option, Some, None, unwrap_or, slice_get, bit_or, refl}
 use Rattle.std.proofs.Common.{ap, sym, subst, ◌∙◌, inl, inr, arith, below_more, length-append}
 use Rattle.std.proofs.lemmas.Option.{slice_get_within}
 use Rattle.ll_rights.specs.declared.access.Access.{Access}

@@ -1,17 +1,15 @@
 -- Calls of two paths.
-use Rattle.std.specs.Prelude.{◌≡◌, ◌≢◌, ℕ, List, [], ◌∷◌, ◌++◌, Option, Some, None, not, option_map, slice_get, unwrap_or, ◌==◌, if◌then◌else◌, refl}
+use Rattle.std.specs.Prelude.{◌≡◌, ◌≢◌, ℕ, List, ◌++◌, Option, Some, None, not, option_map, slice_get, unwrap_or, ◌==◌, if◌then◌else◌, refl}
 use Rattle.std.specs.Option.{option_map_or}
 use Rattle.std.proofs.Common.{ap, sym, ◌∙◌}
 use Rattle.std.proofs.lemmas.Bool.{ne_eqb}
 use Rattle.ll_rights.specs.declared.kind.Kind.{Kind}
-use Rattle.ll_rights.specs.Kind.{make_right, remove_right}
 use Rattle.ll_rights.specs.Map.{Map, get, insert, remove}
-use Rattle.ll_path.specs.Path.{Path, parent}
+use Rattle.ll_path.specs.Path.{Path}
 use Rattle.ll_path.specs.declared.target.Target.{Target}
 use Rattle.ll_rules.specs.Layer.{Layer}
 use Rattle.ll_decide.specs.declared.denial.Denial.{Denial}
-use Rattle.ll_decide.specs.declared.denial.Place.TheVariants.{Old, New}
-use Rattle.ll_decide.specs.Verdict.{Ask, Move, when, verdict}
+use Rattle.ll_decide.specs.Verdict.{Ask, Move, verdict}
 use Rattle.ll_seq.specs.declared.entries.Slot.{Slot}
 use Rattle.ll_plain.specs.declared.walk.Spot.{Spot}
 use Rattle.ll_seq.specs.declared.call.Call.TheVariants.{Rename, Link}

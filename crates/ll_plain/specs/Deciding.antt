@@ -1,20 +1,17 @@
 -- What parts of a call come to, for the helpers of the plain tree alone: no public contract cites this file.
-use Rattle.std.specs.Prelude.{◌≡◌, ℕ, Bool, not, ◌&&◌, ◌==◌, ◌⊎◌, List, [], ◌∷◌, ◌++◌, map, Option, Some, None, is_none, if◌then◌else◌}
+use Rattle.std.specs.Prelude.{◌≡◌, ℕ, Bool, ◌&&◌, ◌⊎◌, List, [], ◌∷◌, ◌++◌, map, Option}
 use Rattle.std.specs.List.{flat_map}
 use Rattle.std.specs.Option.{option_map_or}
 use Rattle.ll_rights.specs.declared.errno.Errno.{Errno}
 use Rattle.ll_rights.specs.declared.errno.Errno.TheVariants.{NoMemory, EPERM, EMLINK, ENOSPC}
-use Rattle.ll_rights.specs.declared.kind.Kind.{Kind}
 use Rattle.ll_rights.specs.Errno.{refuse}
-use Rattle.ll_rights.specs.Kind.{make_right, remove_right, relevant, is_dir}
-use Rattle.ll_rights.specs.Right as right
+use Rattle.ll_rights.specs.Kind.{relevant, is_dir}
 use Rattle.ll_path.specs.Name.{IsName}
 use Rattle.ll_path.specs.Path.{Path, parent, last_name}
 use Rattle.ll_path.specs.declared.target.Target.{Target}
 use Rattle.ll_rules.specs.Layer.{Layer}
 use Rattle.ll_decide.specs.declared.denial.Denial.{Denial}
 use Rattle.ll_decide.specs.declared.denial.Place.{Place}
-use Rattle.ll_decide.specs.declared.denial.Place.TheVariants.{Old, New}
 use Rattle.ll_decide.specs.Verdict.{Ask, Move, when, denials, lacks, gains}
 use Rattle.ll_plain.specs.declared.policy.Asked as code
 use Rattle.ll_plain.specs.declared.policy.Moving.{Moving}
@@ -31,7 +28,7 @@ use Rattle.ll_seq.specs.Call.{path_of}
 use Rattle.ll_seq.specs.State.{State, child}
 use Rattle.ll_seq.specs.Tree.{named, directory_of, kind_or_file}
 use Rattle.ll_seq.specs.Stages.{bad_text, lying, way_to, replace_refusals, is_crowded, enters, has_many_names}
-use Rattle.ll_seq.specs.Asked.{ask, grants}
+use Rattle.ll_seq.specs.Asked.{grants}
 use Rattle.ll_seq.specs.Step.{step, refusals, client_of}
 
 -- the path's last name, and the directory in which it stands

@@ -3,6 +3,7 @@ use Rattle.std.specs.Prelude.{◌≡◌, ℕ, zero, suc, ◌+◌, ◌-◌, ◌�
 use Rattle.std.proofs.Common.{ap, sym, ◌∙◌, append_assoc, arith}
 use Rattle.std.proofs.lemmas.List.{take-replicate, drop-replicate}
 use Rattle.ll_seq.specs.Effects.{overwritten}
+
 -- zeros behind what is taken don't count
 padded : (n m : ℕ) (xs : List ℕ) → n - length xs ≤ m → take n (xs ++ replicate m 0) ≡ take n (xs ++ replicate (n - length xs) 0)
 padded n m [] le = let all : n ≤ m = omega arith in let same : n ≤ n - 0 = omega arith in take-replicate n m 0 all ∙ sym (take-replicate n (n - 0) 0 same)

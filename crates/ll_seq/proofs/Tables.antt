@@ -1,5 +1,5 @@
 -- Tables of rows in order.
-use Rattle.std.proofs.Common.{◌≡◌, ◌≢◌, ℕ, suc, ◌<◌, Bool, true, false, cond, List, ◌∷◌, length, drop, get_or, Option, Some, None, refl, ap, sym, ◌∙◌, ◌+◌, inl, inr, arith}
+use Rattle.std.proofs.Common.{◌≡◌, ◌≢◌, ℕ, suc, ◌<◌, Bool, true, false, cond, List, ◌∷◌, length, drop, get_or, Option, Some, None, refl, ap, sym, ◌∙◌}
 use Rattle.std.specs.Prelude.{is_some, slice_get, slice_set, remove as remove_at}
 use Rattle.std.specs.declared.cmp.Ordering.{Ordering}
 use Rattle.std.specs.Ordering.{nat_cmp, is_eq, eq_by_cmp}
@@ -11,7 +11,7 @@ use Rattle.std.proofs.lemmas.Option.{slice_get_read, get_or_from_slice_get}
 use Rattle.std.proofs.lemmas.Bool.{false≢true}
 use Rattle.std.proofs.Math.Seq.{drop-cons}
 use Rattle.ll_rights.specs.Map.{Map, entries, get, has, insert, remove, from_sorted, same_list_map}
-use Rattle.ll_rights.proofs.Maps.{equal_at, same_map, got_inserted, get-insert, get-remove, get-from_sorted, entries-from_sorted}
+use Rattle.ll_rights.proofs.Maps.{equal_at, same_map, get-insert, get-remove, get-from_sorted, entries-from_sorted}
 use Rattle.ll_rights.proofs.Places.{replaced, taken}
 use Rattle.ll_seq.specs.declared.node.Node.{Node}
 
