@@ -1,4 +1,4 @@
--- What the verdict on masks says of the chains of inodes that they stand for.
+-- What the verdict on masks says of the chains of inodes that they stand for. own
 use Rattle.std.specs.Prelude.{◌≡◌, ℕ, List, Option, Some, None, Result, MatchResult}
 use Rattle.std.specs.List.{AllZip}
 use Rattle.ll_rules.specs.Layer.{Layer}

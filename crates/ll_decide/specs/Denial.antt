@@ -1,4 +1,4 @@
--- Denials and their texts.
+-- Denials: the errno of each cause, errno(3), and the texts of places. own
 use Rattle.std.specs.Prelude.{ℕ, List, codes}
 use Rattle.ll_rights.specs.declared.errno.Errno.{Errno}
 use Rattle.ll_rights.specs.declared.errno.Errno.TheVariants as errno

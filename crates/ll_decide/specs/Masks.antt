@@ -1,4 +1,4 @@
--- Masks: for each layer of a domain the set of the rights that it grants on a chain of inodes from the root on.
+-- Masks: for each layer of a domain the set of the rights that it grants on a chain of inodes from the root on. own
 use Rattle.std.specs.Prelude.{◌≡◌, ℕ, ◌^◌, ◌<◌, List, map}
 use Rattle.std.specs.List.{AllZip}
 use Rattle.ll_rights.specs.Access.{holds}

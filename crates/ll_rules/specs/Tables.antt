@@ -1,4 +1,4 @@
--- What a table of rules means.
+-- What a table of rules means. own
 use Rattle.std.specs.Prelude.{ℕ, IsTrue, List, map}
 use Rattle.std.specs.Ordering.{nat_cmp}
 use Rattle.std.specs.BTreeMap.{BTreeMap}
