@@ -1,7 +1,10 @@
 pub mod Advance
+pub mod Asked
 pub mod Cuts
 pub mod Devices
 pub mod Endings
+pub mod Entered
+pub mod Kept
 pub mod Matched
 pub mod Numbers
 pub mod Opening

@@ -17,14 +17,14 @@ mod setup;
 mod tests;
 mod tree;
 
-ghost use Rattle.std.specs.Prelude.{◌≡◌, ◌≢◌, ◌⊎◌, [], map, None, Err, IfErr, IfNone, IfSome, OnOk};
+ghost use Rattle.std.specs.Prelude.{◌≡◌, ◌≢◌, ◌⊎◌, [], map, Err, IfErr, IfNone, IfSome, OnOk};
 ghost use Rattle.std.specs.Process.{exit_status};
 ghost use Rattle.clap.specs.Words.{fault_of, kind_of};
 ghost use Rattle.landtree.specs.declared.fault.RunFault.{RunFault};
 ghost use Rattle.landtree.specs.declared.fault.SessionFault.{SessionFault};
 ghost use Rattle.landtree.specs.declared.failure.Failure.{Failure};
 ghost use Rattle.landtree.specs.Failure.{failure_by, failure_of, status_at};
-ghost use Rattle.landtree.specs.Options.{asked_by, landtree, EndsWell};
+ghost use Rattle.landtree.specs.Options.{landtree, EndsWell};
 
 use failure::Failure;
 use options::Options;
@@ -68,12 +68,10 @@ fn run_words(rt: &HostRuntime, words: &[&str]) -> Result<(), Failure>
     ensures ok { OnOk result (EndsWell (fault_of landtree (map (λ w. w.now) words.now))) }
     ensures mistake { (EndsWell (fault_of landtree (map (λ w. w.now) words.now)) → ⊥)
         → (result ≡ Err Failure.CommandLine) ⊎ (result ≡ Err Failure.NoMemory) }
-    ensures run { fault_of landtree (map (λ w. w.now) words.now) ≡ [] → asked_by (map (λ w. w.now) words.now) ≢ None
-        → result ≢ Err Failure.CommandLine }
+    ensures run { fault_of landtree (map (λ w. w.now) words.now) ≡ [] → result ≢ Err Failure.CommandLine }
 {
     match Options::read(rt.alloc(), words) {
-        Ok(Some(options)) => run_options(rt, &options),
-        Ok(None) => Err(Failure::CommandLine),
+        Ok(options) => run_options(rt, &options),
         Err(error) => told(rt, &error),
     }
 }

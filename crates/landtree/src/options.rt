@@ -1,6 +1,6 @@
 //! The words of the command line.
 
-ghost use Rattle.std.specs.Prelude.{◌≡◌, map, option_map, IfOk, false};
+ghost use Rattle.std.specs.Prelude.{◌≡◌, map, option_map, IfOk, Some, false};
 ghost use Rattle.clap.specs.Words.{FailsBy, app_of, fault_of, found_of, rows_of, rule_of};
 ghost use Rattle.landtree.specs.Options.{asked, asked_by, landtree, nodes};
 
@@ -56,15 +56,18 @@ impl<'a> Options<'a> {
         Some(Options { script, setup })
     }
 
-    /// What the words ask for, of which the first is the program's name. None where clap's matches lack one.
-    pub fn read(alloc: Global, words: &'a [&'a str]) -> Result<Option<Options<'a>>, Error>
-        ensures asked { IfOk result (λ options. option_map (λ o. (o.script.now, o.setup.nodes)) options ≡ asked_by (map (λ w. w.now) words.entry.now)) }
+    /// What the words ask for, of which the first is the program's name.
+    pub fn read(alloc: Global, words: &'a [&'a str]) -> Result<Options<'a>, Error>
+        ensures asked { IfOk result (λ o. asked_by (map (λ w. w.now) words.entry.now) ≡ Some (o.script.now, o.setup.nodes)) }
         ensures fault { FailsBy (fault_of landtree (map (λ w. w.now) words.entry.now)) result }
     {
         let matches = landtree_command(alloc)?.try_get_matches_from(words)?;
         let Some((_, run)) = matches.subcommand() else {
-            return Ok(None);
+            unreachable!()
         };
-        Ok(Options::of_run(run))
+        let Some(options) = Options::of_run(run) else {
+            unreachable!()
+        };
+        Ok(options)
     }
 }

@@ -318,8 +318,8 @@ fn writes_fail(rt: HostRuntime) -> Result<(), Fail> {
 // What the words ask for: the script and the number of nodes.
 fn asked<'a>(rt: &HostRuntime, words: &'a [&'a str]) -> Option<(&'a str, usize)> {
     match Options::read(rt.alloc(), words) {
-        Ok(Some(options)) => Some((options.script, options.setup.nodes)),
-        _ => None,
+        Ok(options) => Some((options.script, options.setup.nodes)),
+        Err(_) => None,
     }
 }
 

@@ -149,7 +149,7 @@ stat 2 reg 65536 1
 
 /// What is written for a script that the words run.
 pub(super) fn run_by(rt: &HostRuntime, words: &[&str], script: &[u8]) -> Result<Vec<u8>, Fail> {
-    let Ok(Some(options)) = Options::read(rt.alloc(), words) else {
+    let Ok(options) = Options::read(rt.alloc(), words) else {
         return Err(Fail::from("the words are refused"));
     };
     let mut reader = script;

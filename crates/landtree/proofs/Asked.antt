@@ -1,0 +1,193 @@
+-- Words in which clap finds no fault name a script and a number of nodes.
+use Rattle.std.proofs.Common.{◌≡◌, ◌≢◌, ◌∙◌, ap, ap₂, subst, ℕ, Bool, true, false, cond, codes, refl, sym, List, [], ◌∷◌, ◌++◌, length, not, Option, Some, None, is_some, ◌||◌, true≢false}
+use Rattle.std.specs.Prelude.{option_and_then, option_map, slice_get}
+use Rattle.std.specs.List.{find, fold, list_any}
+use Rattle.std.specs.Option.{option_map_or}
+use Rattle.std.specs.Str.{bytes_eq}
+use Rattle.std.specs.Str.Parse.{digits_value, without_leading_plus}
+use Rattle.clap.specs.Facts.{explicit_source}
+use Rattle.clap.specs.Walk.{Row, Rule, Text, at_row, finished, has_row, more_values, nothing_held, row_text, rows_after, walk, walk_from, with_default, with_values, without}
+use Rattle.clap.specs.Simple.{Shape, argument_words, built, filled, help_rule, with_index}
+use Rattle.clap.specs.Takes.{is_given}
+use Rattle.clap.specs.Kinds.{range_kinds, value_kinds, values_kinds}
+use Rattle.clap.specs.ValueTests.{accepts}
+use Rattle.clap.specs.Faults.{check_fault, fault_of, level_fault, repeat_fault, set_fault}
+use Rattle.clap.specs.declared.error.kind.ErrorKind.{ErrorKind}
+use Rattle.clap.specs.declared.builder.value_parser.ValueParser.{ValueParser}
+use Rattle.clap.specs.declared.error.kind.ErrorKind.TheVariants.{MissingRequiredArgument}
+use Rattle.clap.specs.Values.{read_as, refused_kind}
+use Rattle.clap.specs.declared.parser.matches.ValueSource.{ValueSource}
+use Rattle.clap.specs.declared.parser.matches.ValueSource.TheVariants.{CommandLine, DefaultValue}
+use Rattle.clap.specs.declared.builder.value_parser.Reading.{Reading}
+use Rattle.clap.specs.declared.builder.value_parser.Reading.TheVariants.{AsWritten}
+use Rattle.landtree.specs.Options.{asked, asked_by, landtree, node_numbers, nodes, nodes_in, run, script}
+use Rattle.landtree.proofs.Kept.{Keeps, by_words, no_faults, settles}
+use Rattle.landtree.proofs.Entered.{built_enters}
+
+-- ---- what the rows of `run` hold
+
+-- a first value, and for the nodes one that their parser accepts
+abbrev GoodRow : Row → Type 0
+GoodRow r = (v : Text) × (vs : List Text) × (r.values ≡ v ∷ vs) × (bytes_eq r.id (codes "nodes") ≡ true → (accepts false node_numbers v ≡ true) × (r.reading ≡ AsWritten))
+
+abbrev Good : List Row → Type 0
+Good [] = Unit {0}
+Good (r ∷ rs) = GoodRow r × Good rs
+
+good_append : (xs ys : List Row) → Good xs → Good ys → Good (xs ++ ys)
+good_append [] ys g h = h
+good_append (x ∷ xs) ys g h = (g.0, good_append xs ys g.1 h)
+
+good_at : (id : Text) (change : Row → List Row) (missing rows : List Row) → ((r : Row) → GoodRow r → Good (change r)) → Good missing → Good rows → Good (at_row id change missing rows)
+good_at id change missing [] changes m g = m
+good_at id change missing (r ∷ rs) changes m g = go (bytes_eq r.id id) (good_at id change missing rs changes m g.1)
+  where
+    go : (b : Bool) → Good (at_row id change missing rs) → Good (cond b (change r ++ rs) (r ∷ at_row id change missing rs))
+    go true later = good_append (change r) rs (changes r g.0) g.1
+    go false later = (g.0, later)
+
+good_without : (id : Text) (rows : List Row) → Good rows → Good (without id rows)
+good_without id rows g = good_at id (λ _. []) [] rows (λ r h. tt) tt g
+
+good_values : (id : Text) (how : Reading) (s : ValueSource) (v : Text) (vs : List Text) (rows : List Row)
+    → (bytes_eq id (codes "nodes") ≡ true → (accepts false node_numbers v ≡ true) × (how ≡ AsWritten)) → Good rows → Good (with_values id how s (v ∷ vs) rows)
+good_values id how s v vs rows node g = good_at id (more_values s (v ∷ vs)) _ rows
+    (λ r h. ((h.0, h.1 ++ v ∷ vs, ap (λ l. l ++ v ∷ vs) h.2, h.3), tt)) ((v, vs, refl, node), tt) g
+
+-- ---- the arguments of `run`, as clap builds them
+
+abbrev script_built : Rule
+script_built = with_index 1 (filled script)
+
+abbrev nodes_built : Rule
+nodes_built = filled nodes
+
+abbrev help_built : Rule
+help_built = filled help_rule
+
+abbrev run_built : Shape
+run_built = record run.top { rules = script_built ∷ nodes_built ∷ help_built ∷ []; disable_help_subcommand = true; is_built = true }
+
+other_name : bytes_eq (codes "SCRIPT") (codes "nodes") ≡ true → ⊥
+other_name e = true≢false (sym e)
+
+script_keeps : Keeps Good script_built
+script_keeps again [] rows e g = absurd cc
+script_keeps again (v ∷ vs) rows e g = good_values (codes "SCRIPT") _ CommandLine v vs _ (λ same. absurd (other_name same)) (good_without (codes "SCRIPT") rows g)
+
+accepted : (ignore_case : Bool) (p : ValueParser) (t : Text) → value_kinds ignore_case p t ≡ [] → accepts ignore_case p t ≡ true
+accepted ignore_case p t e = go (accepts ignore_case p t) (refused_kind p) e
+  where
+    go : (b : Bool) (k : ErrorKind) → cond b [] (k ∷ []) ≡ [] → b ≡ true
+    go true k e' = refl
+    go false k e' = absurd cc
+
+nodes_keep : Keeps Good nodes_built
+nodes_keep again [] rows e g = absurd cc
+nodes_keep again (v ∷ vs) rows e g =
+    let action : set_fault again nodes_built (v ∷ vs) rows ≡ [] = (no_faults (range_kinds 1 1 (length (v ∷ vs))) _ e).1 in
+    let values : values_kinds false node_numbers (v ∷ vs) ≡ [] = (no_faults (repeat_fault again (codes "nodes") rows) _ action).1 in
+    let first : value_kinds false node_numbers v ≡ [] = (no_faults (value_kinds false node_numbers v) (values_kinds false node_numbers vs) values).0 in
+    good_values (codes "nodes") _ CommandLine v vs _ (λ same. (accepted false node_numbers v first, refl)) (good_without (codes "nodes") rows g)
+
+help_keeps : Keeps Good help_built
+help_keeps again values rows e g = g
+
+one_of_three : (P : Rule → Type 0) (p : Rule → Bool) (x y z a : Rule) → P x → P y → P z → find p (x ∷ y ∷ z ∷ []) ≡ Some a → P a
+one_of_three P p x y z a px py pz e = go (p x) (p y) (p z) e
+  where
+    go : (b d f : Bool) → cond b (Some x) (cond d (Some y) (cond f (Some z) None)) ≡ Some a → P a
+    go true d f e' = let same : x ≡ a = cc in subst P same px
+    go false true f e' = let same : y ≡ a = cc in subst P same py
+    go false false true e' = let same : z ≡ a = cc in subst P same pz
+    go false false false e' = absurd cc
+
+run_keeps : (p : Rule → Bool) (a : Rule) → find p run_built.rules ≡ Some a → Keeps Good a
+run_keeps p a e = one_of_three (Keeps Good) p script_built nodes_built help_built a script_keeps nodes_keep help_keeps e
+
+-- ---- the defaults
+
+-- the rows are good, and one is the nodes'
+abbrev WithNodes : List Row → Type 0
+WithNodes rows = Good rows × (has_row (codes "nodes") rows ≡ true)
+
+row_there : (s : ValueSource) (how : Reading) (vs : List Text) (rows : List Row) → has_row (codes "nodes") (with_values (codes "nodes") how s vs rows) ≡ true
+row_there s how vs [] = refl
+row_there s how vs (r ∷ rs) = go (bytes_eq r.id (codes "nodes")) refl (row_there s how vs rs)
+  where
+    go : (b : Bool) → bytes_eq r.id (codes "nodes") ≡ b → has_row (codes "nodes") (with_values (codes "nodes") how s vs rs) ≡ true
+        → has_row (codes "nodes") (cond b (more_values s vs r ++ rs) (r ∷ with_values (codes "nodes") how s vs rs)) ≡ true
+    go true e later = rw e refl
+    go false e later = rw e later
+
+nodes_given : (rows : List Row) → Good rows → WithNodes (with_default rows nodes_built)
+nodes_given rows g = go (has_row (codes "nodes") rows) refl
+  where
+    go : (b : Bool) → has_row (codes "nodes") rows ≡ b → WithNodes (cond b rows (with_values (codes "nodes") AsWritten DefaultValue (codes "1024" ∷ []) rows))
+    go true e = (g, e)
+    go false e = (good_values (codes "nodes") AsWritten DefaultValue (codes "1024") [] rows (λ same. (refl, refl)) g, row_there DefaultValue AsWritten (codes "1024" ∷ []) rows)
+
+-- an argument with no default changes nothing
+unchanged : (P : List Row → Type 0) (rows : List Row) (b : Bool) → P rows → P (cond b rows rows)
+unchanged P rows true g = g
+unchanged P rows false g = g
+
+run_finished : (rows : List Row) → Good rows → WithNodes (fold with_default rows run_built.rules)
+run_finished rows g = unchanged WithNodes _ _ (nodes_given _ (unchanged Good rows (has_row (codes "SCRIPT") rows) g))
+
+-- ---- what is read of the rows
+
+found_good : (p : Row → Bool) (rows : List Row) (r : Row) → find p rows ≡ Some r → Good rows → GoodRow r × (p r ≡ true)
+found_good p [] r e g = absurd cc
+found_good p (x ∷ xs) r e g = go (p x) refl e (λ e'. found_good p xs r e' g.1)
+  where
+    go : (b : Bool) → p x ≡ b → cond b (Some x) (find p xs) ≡ Some r → (find p xs ≡ Some r → GoodRow r × (p r ≡ true)) → GoodRow r × (p r ≡ true)
+    go true is e' later = let same : x ≡ r = cc in subst (λ y. GoodRow y × (p y ≡ true)) same (g.0, is)
+    go false is e' later = later e'
+
+found_any : (p : Row → Bool) (rows : List Row) → list_any p rows ≡ true → is_some (find p rows) ≡ true
+found_any p [] e = e
+found_any p (x ∷ xs) e = go (p x) e (found_any p xs)
+  where
+    go : (b : Bool) → (b || list_any p xs) ≡ true → (list_any p xs ≡ true → is_some (find p xs) ≡ true) → is_some (cond b (Some x) (find p xs)) ≡ true
+    go true e' later = refl
+    go false e' later = later e'
+
+nodes_read : (o : Option Row) → is_some o ≡ true → ((r : Row) → o ≡ Some r → GoodRow r × (bytes_eq r.id (codes "nodes") ≡ true))
+    → (n : ℕ) × (option_and_then nodes_in (option_and_then row_text o) ≡ Some n)
+nodes_read None has good = absurd (true≢false (sym has))
+nodes_read (Some r) has good =
+    let row = good r refl in
+    let is = row.0.3 row.1 in
+    let n = digits_value 10 (without_leading_plus row.0.0) in
+    (n, ap₂ (λ (how : Reading) (l : List Text). option_and_then nodes_in (option_map (read_as how) (slice_get l 0))) is.1 row.0.2 ∙ ap (λ (b : Bool). cond b (Some n) None) is.0)
+
+script_read : (o : Option Row) → option_map_or (λ r. explicit_source r.source) o false ≡ true → ((r : Row) → o ≡ Some r → GoodRow r) → (t : Text) × (option_and_then (λ r. slice_get r.values 0) o ≡ Some t)
+script_read None has good = absurd (true≢false (sym has))
+script_read (Some r) has good = let row = good r refl in (row.0, ap (λ (l : List Text). slice_get l 0) row.2)
+
+-- the script is required, and so it is given
+given : (rows : List Row) → check_fault run_built rows false ≡ [] → is_given (codes "SCRIPT") rows ≡ true
+given rows e = go (is_given (codes "SCRIPT") rows) e
+  where
+    go : (b : Bool) → cond (not b || false) (MissingRequiredArgument ∷ []) [] ≡ [] → b ≡ true
+    go true e' = refl
+    go false e' = absurd cc
+
+run_asked : (rest : List Text) → level_fault run_built [] nothing_held rest false [] ≡ [] → asked (rows_after run_built.rules [] rest) ≢ None
+run_asked rest e =
+    let walks = no_faults _ _ e in
+    let ends = no_faults _ _ walks.1 in
+    let defaults = no_faults _ _ ends.1 in
+    let h = (walk run_built.rules [] nothing_held rest).held in
+    let walked_good : Good h.rows = by_words Good run_built [] run_keeps rest (walk_from nothing_held) walks.0 tt in
+    let all = run_finished _ (settles Good run_built.rules run_built.args_override_self run_keeps h ends.0 walked_good) in
+    let rows = finished run_built.rules h in
+    let path = script_read (find (λ r. bytes_eq r.id (codes "SCRIPT")) rows) (given rows defaults.1) (λ r is. (found_good _ rows r is all.0).0) in
+    let number = nodes_read (find (λ r. bytes_eq r.id (codes "nodes")) rows) (found_any _ rows all.1) (λ r is. found_good _ rows r is all.0) in
+    λ none. true≢false (ap is_some (sym (ap₂ (λ (p : Option Text) (m : Option ℕ). option_and_then (λ q. option_map (λ k. (q, k)) m) p) path.1 number.1) ∙ none))
+
+pub never_none : (words : List Text) → fault_of landtree words ≡ [] → asked_by words ≢ None
+never_none words e none =
+    let enters = built_enters (built landtree) run_built _ refl refl refl (argument_words landtree words) refl refl e in
+    run_asked enters.0 enters.2 (sym (ap (option_and_then (λ named. asked named.1)) enters.1) ∙ none)
