@@ -1,6 +1,6 @@
 -- What a domain denies. A layer may be kept as anything that tells what it grants on what stands for a path.
 -- landlock.rst, "Layers of file path access rights": a call is allowed where every layer grants every right that it asks
-use Rattle.std.specs.Prelude.{ℕ, Bool, true, false, not, ◌&&◌, List, [], ◌∷◌, ◌++◌, Option, Some, None, ◌==◌, slice_get, filter, if◌then◌else◌}
+use Rattle.std.specs.Prelude.{ℕ, Bool, true, false, not, ◌&&◌, List, [], ◌∷◌, ◌++◌, Option, ◌==◌, slice_get, filter, if◌then◌else◌}
 use Rattle.std.specs.List.{list_any, flat_map, enumerate_from}
 use Rattle.ll_rights.specs.Right.{refer, all_rights}
 use Rattle.ll_rights.specs.Access.{holds}
@@ -16,12 +16,13 @@ pub record Ask (P : Type 0) : Type 0 where
   pub right : ℕ
   pub place : Place
 
--- A node that a call gives a name in another directory: its own path, that directory's, and the set of rights that mean
--- something for it
+-- A node that a call gives a name in another directory: its own path, that directory's, the set of rights that mean
+-- something for it, and where a denial says that it would gain one
 pub record Move (P : Type 0) : Type 0 where
   pub from : P
   pub into : P
   pub relevant : ℕ
+  pub place : Place
 
 abbrev pub when : {A : Type 0} → Bool → List A → List A
 when test xs = if test then xs else []
@@ -50,22 +51,19 @@ module _ {A P : Type 0} (grants : A → P → ℕ → Bool) where
   abbrev pub lacks : List (Ask P) → A → ℕ → Place → Bool
   lacks asks layer right place = list_any (λ (a : Ask P). (a.right == right) && is_at a.place place && not (grants layer a.path right)) asks
 
-  -- In its new directory the node would have a right that it doesn't have by its own path.
+  -- In its new directory some node would have a right that it doesn't have by its own path.
   -- linux/landlock.h, LANDLOCK_ACCESS_FS_REFER: no right may be gained by a rename or link
-  abbrev pub gains : Move P → A → ℕ → Place → Bool
-  gains move layer right place = holds move.relevant right && grants layer move.into right && not (grants layer move.from right)
+  abbrev pub gains : List (Move P) → A → ℕ → Place → Bool
+  gains moves layer right place = list_any (λ (m : Move P).
+      is_at m.place place && holds m.relevant right && grants layer m.into right && not (grants layer m.from right)) moves
 
-  abbrev pub gain_denials : List A → Option (Move P) → List Denial
-  gain_denials layers None = []
-  gain_denials layers (Some move) = denials EXDEV layers all_rights (New ∷ []) (gains move)
-
-  -- All denials of a call, of which the first is given: what is missing, a missing refer after the rest, then what a move
-  -- would gain
-  abbrev pub all_denials : List A → List (Ask P) → Option (Move P) → List Denial
-  all_denials layers asks move =
+  -- All denials of a call, of which the first is given: what is missing, a missing refer after the rest, then what moving
+  -- nodes would gain
+  abbrev pub all_denials : List A → List (Ask P) → List (Move P) → List Denial
+  all_denials layers asks moves =
       denials EACCES layers rights_without_refer places (lacks asks)
       ++ denials EXDEV layers (refer ∷ []) places (lacks asks)
-      ++ gain_denials layers move
+      ++ denials EXDEV layers all_rights places (gains moves)
 
-  abbrev pub verdict : List A → List (Ask P) → Option (Move P) → Option Denial
-  verdict layers asks move = slice_get (all_denials layers asks move) 0
+  abbrev pub verdict : List A → List (Ask P) → List (Move P) → Option Denial
+  verdict layers asks moves = slice_get (all_denials layers asks moves) 0

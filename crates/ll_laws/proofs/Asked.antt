@@ -11,7 +11,7 @@ use Rattle.ll_rules.specs.Layer.{Layer}
 use Rattle.ll_decide.specs.declared.denial.Cause.TheVariants.{EACCES, EXDEV}
 use Rattle.ll_decide.specs.declared.denial.Place.TheVariants.{At}
 use Rattle.ll_decide.specs.Verdict.{Ask, is_at, lacks, denials, places, rights_without_refer, when}
-use Rattle.ll_seq.specs.declared.client.Client.{Client}
+use Rattle.ll_seq.specs.declared.client.ClientRecord.{ClientRecord}
 use Rattle.ll_seq.specs.declared.call.Mode.{Mode}
 use Rattle.ll_seq.specs.declared.call.Call.TheVariants.{Open, Truncate}
 use Rattle.ll_seq.specs.Call.{reads, writes, path_of}
@@ -65,13 +65,13 @@ truncate_is = inr (inr (inr (inr (inr (inr (inr (inr (inr (inr (inr (inr (inr (i
 
 -- ---- what an opening and a truncate must be granted
 
-pub open_granted : (s : State) (c : Client) (mode : Mode) (t : Target) (right : ℕ) → call_denials s c (Open mode t) ≡ [] → IsIn rights_without_refer right → IsIn (asked s (Open mode t)) (ask (path_of t) right At) → (layer : Layer) → Contains c.domain layer → grants s layer (path_of t) right ≡ true
+pub open_granted : (s : State) (c : ClientRecord) (mode : Mode) (t : Target) (right : ℕ) → call_denials s c (Open mode t) ≡ [] → IsIn rights_without_refer right → IsIn (asked s (Open mode t)) (ask (path_of t) right At) → (layer : Layer) → Contains c.domain layer → grants s layer (path_of t) right ≡ true
 open_granted s c mode t right none r i layer l =
     let asks = asked s (Open mode t) in
     let acces : denials EACCES c.domain rights_without_refer places (lacks (grants s) asks) ≡ [] = nil_left _ (denials EXDEV c.domain (refer ∷ []) places (lacks (grants s) asks)) (nil_left _ [] none) in
     not_lacking s asks layer (path_of t) right (none_denied EACCES c.domain rights_without_refer places (lacks (grants s) asks) acces layer l right r At (inl refl)) i
 
-pub truncate_granted : (s : State) (c : Client) (t : Target) (size : ℕ) → call_denials s c (Truncate t size) ≡ [] → (layer : Layer) → Contains c.domain layer → grants s layer (path_of t) truncate ≡ true
+pub truncate_granted : (s : State) (c : ClientRecord) (t : Target) (size : ℕ) → call_denials s c (Truncate t size) ≡ [] → (layer : Layer) → Contains c.domain layer → grants s layer (path_of t) truncate ≡ true
 truncate_granted s c t size none layer l =
     let asks = asked s (Truncate t size) in
     let acces : denials EACCES c.domain rights_without_refer places (lacks (grants s) asks) ≡ [] = nil_left _ (denials EXDEV c.domain (refer ∷ []) places (lacks (grants s) asks)) (nil_left _ [] none) in

@@ -12,15 +12,15 @@ use Rattle.ll_rights.specs.Map.{get, insert, remove, entries}
 use Rattle.ll_rights.proofs.Maps.{get-insert_same, get-insert_other, get-remove_other, insert_cases, got_inserted, got_left}
 use Rattle.ll_path.specs.Path.{Path, parent, last_name, is_root, is_beneath}
 use Rattle.ll_rules.specs.Layer.{Layer}
-use Rattle.ll_seq.specs.declared.client.Client.{Client}
-use Rattle.ll_seq.specs.declared.entries.Slot.{Slot}
+use Rattle.ll_seq.specs.declared.client.ClientRecord.{ClientRecord}
+use Rattle.ll_seq.specs.declared.dentries.Dentry.{Dentry}
 use Rattle.ll_seq.specs.declared.node.Node.{Node}
-use Rattle.ll_seq.specs.State.{Name, slot, slot_cmp, State, child, root, kind_of, empty_node, name_count, is_open}
+use Rattle.ll_seq.specs.State.{Name, dentry, dentry_cmp, State, child, root, kind_of, empty_node, name_count, is_open}
 use Rattle.ll_seq.specs.Tree.{end_from, named, inode_of}
 use Rattle.ll_seq.specs.Asked.{grants}
-use Rattle.ll_seq.specs.Effects.{slot_of, lives, let_go, with_name, with_moved, with_node, without_name, with_bytes, with_client}
+use Rattle.ll_seq.specs.Effects.{dentry_of, lives, let_go, with_name, with_moved, with_node, without_name, with_bytes, with_client}
 use Rattle.ll_seq.specs.Reach.{is_relevant}
-use Rattle.ll_seq.proofs.Slots.{slot_total, slot_exact}
+use Rattle.ll_seq.proofs.DentryOrder.{dentry_total, dentry_exact}
 use Rattle.ll_seq.proofs.Chains.{end_append}
 use Rattle.ll_laws.proofs.Chains.{same_Some, NotFile}
 use Rattle.ll_laws.proofs.Trees.{IsTree, Shrinks, Adds, Moves, Change, shrinks, adds, moves, only_path, At}
@@ -30,7 +30,7 @@ use Rattle.ll_laws.proofs.Stages.{neither, inode_is, parent_last, last_child, be
 
 pub same_tree : (s t : State) → t.entries ≡ s.entries → ((i : ℕ) → kind_of t i ≡ kind_of s i) → t.next ≡ s.next → Shrinks s t
 same_tree s t e k n = record {
-  entries = λ d m x c. ap (λ es. get es (slot d m)) (sym e) ∙ c;
+  entries = λ d m x c. ap (λ es. get es (dentry d m)) (sym e) ∙ c;
   kinds = λ i j f. sym (k i) ∙ f;
   kept = λ d m x c. k x;
   top = k root;
@@ -55,12 +55,12 @@ more_change s t u domain a b c h =
 
 -- ---- a node that goes
 
-no_name_in : (es : List (Slot × ℕ)) (q : Slot) (i : ℕ) → length (filter (λ (e : Slot × ℕ). e.1 == i) es) ≡ 0 → find slot_cmp q es ≢ Some i
+no_name_in : (es : List (Dentry × ℕ)) (q : Dentry) (i : ℕ) → length (filter (λ (e : Dentry × ℕ). e.1 == i) es) ≡ 0 → find dentry_cmp q es ≢ Some i
 no_name_in [] q i none f = cc
 no_name_in (e ∷ es) q i none f =
-    elim (e.1 == i) as (λ b. (e.1 == i) ≡ b → length (cond b (e ∷ filter (λ (x : Slot × ℕ). x.1 == i) es) (filter (λ (x : Slot × ℕ). x.1 == i) es)) ≡ 0 → ⊥) [
+    elim (e.1 == i) as (λ b. (e.1 == i) ≡ b → length (cond b (e ∷ filter (λ (x : Dentry × ℕ). x.1 == i) es) (filter (λ (x : Dentry × ℕ). x.1 == i) es)) ≡ 0 → ⊥) [
       | true ↦ λ h g. omega arith
-      | false ↦ λ h g. elim (eq_by_cmp slot_cmp q e.0) as (λ b. cond b (Some e.1) (find slot_cmp q es) ≡ Some i → ⊥) [
+      | false ↦ λ h g. elim (eq_by_cmp dentry_cmp q e.0) as (λ b. cond b (Some e.1) (find dentry_cmp q es) ≡ Some i → ⊥) [
         | true ↦ λ k. cc (sym h ∙ eq-eqb e.1 i (same_Some e.1 i k))
         | false ↦ λ k. no_name_in es q i g k
       ] f
@@ -68,7 +68,7 @@ no_name_in (e ∷ es) q i none f =
 
 no_name : (s : State) (d : ℕ) (n : Name) (i : ℕ) → (name_count s i == 0) ≡ true → child s d n ≢ Some i
 unfolding get entries
-no_name s d n i e = no_name_in s.entries.list (slot d n) i (eqb-true _ _ e)
+no_name s d n i e = no_name_in s.entries.list (dentry d n) i (eqb-true _ _ e)
 
 pub shrinks_itself : (s : State) → Shrinks s s
 shrinks_itself s = same_tree s s refl (λ i. refl) refl
@@ -130,10 +130,10 @@ moves_after s t u domain Fresh g h = record {
 
 -- ---- a name that goes
 
-pub without_name_shrinks : (s : State) (at : Slot) (i : ℕ) → Shrinks s (without_name s at i)
+pub without_name_shrinks : (s : State) (at : Dentry) (i : ℕ) → Shrinks s (without_name s at i)
 without_name_shrinks s at i =
     shrinks_after s left (let_go left i) (record {
-      entries = λ d m x c. (got_left slot_total slot_exact s.entries at (slot d m) x c).0;
+      entries = λ d m x c. (got_left dentry_total dentry_exact s.entries at (dentry d m) x c).0;
       kinds = λ j k f. f;
       kept = λ d m x c. refl;
       top = refl;
@@ -143,7 +143,7 @@ without_name_shrinks s at i =
     left : State
     left = record s { entries = remove s.entries at }
 
-pub close_shrinks : (s : State) (number : ℕ) (c : Client) (i : ℕ) → Shrinks s (let_go (with_client s number c) i)
+pub close_shrinks : (s : State) (number : ℕ) (c : ClientRecord) (i : ℕ) → Shrinks s (let_go (with_client s number c) i)
 close_shrinks s number c i = shrinks_after s (with_client s number c) _ (same_tree s (with_client s number c) refl (λ j. refl) refl) (let_go_shrinks (with_client s number c) i)
 
 -- ---- bytes
@@ -169,8 +169,8 @@ pub record IsPlace (s : State) (p : Path) (d : ℕ) : Type 0 where
   pub dir : NotFile s d
   pub named : named s (parent p) ≡ Some d
 
-slot_is : (s : State) (p : Path) (d : ℕ) → IsPlace s p d → slot_of s p ≡ slot d (last_name p)
-slot_is s p d h = ap (λ i. slot i (last_name p)) (inode_is s (parent p) d h.named)
+dentry_is : (s : State) (p : Path) (d : ℕ) → IsPlace s p d → dentry_of s p ≡ dentry d (last_name p)
+dentry_is s p d h = ap (λ i. dentry i (last_name p)) (inode_is s (parent p) d h.named)
 
 pub end_below : (s : State) → IsTree s → (q : Path) (i x : ℕ) → i < s.next → end_from s q i ≡ Some x → x < s.next
 end_below s t [] i x h e = let w = same_Some i x e in omega arith
@@ -180,13 +180,13 @@ end_below s t (m ∷ q) i x h e =
       | Some j ↦ λ is g. let w = t.old i m j is in end_below s t q j x w.1 g
     ] refl e
 
-pub new_adds : (s : State) (kind : Kind) (p : Path) (d : ℕ) → IsTree s → IsPlace s p d → Adds s (with_node s kind (slot_of s p)) d (last_name p)
+pub new_adds : (s : State) (kind : Kind) (p : Path) (d : ℕ) → IsTree s → IsPlace s p d → Adds s (with_node s kind (dentry_of s p)) d (last_name p)
 new_adds s kind p d t h =
     let below : d < s.next = end_below s t (parent p) root d t.above h.named in
     record {
       more = record {
-        entries = λ e m x c. elim (got_inserted slot_total slot_exact s.entries (slot_of s p) s.next (slot e m) x c) [
-          | inl a ↦ let is : slot e m ≡ slot d (last_name p) = a.0 ∙ slot_is s p d h in inr (ap (λ (q : Slot). q.directory) is, ap (λ (q : Slot). q.name) is, a.1)
+        entries = λ e m x c. elim (got_inserted dentry_total dentry_exact s.entries (dentry_of s p) s.next (dentry e m) x c) [
+          | inl a ↦ let is : dentry e m ≡ dentry d (last_name p) = a.0 ∙ dentry_is s p d h in inr (ap (λ (q : Dentry). q.directory) is, ap (λ (q : Dentry). q.name) is, a.1)
           | inr a ↦ inl a
         ];
         away = λ f m y w g n z v q e. nowhere q below (ap (end_from s q) (sym w.2) ∙ e ∙ ap Some v.0);
@@ -256,34 +256,34 @@ module _ (s : State) (domain : List Layer) (from to : Path) (c d o : ℕ) (t : I
         (from, h.at ∙ ap Some (sym w.2), λ right r g. h.held layer l right (ap (λ z. is_relevant (kind_of s z) right) (sym w.2) ∙ r) (ap (λ z. grants s layer z right) (sym same) ∙ g));
   }
 
-  new_slot : (e : ℕ) (m : Name) → slot e m ≡ slot_of s to → (e ≡ d) × (m ≡ last_name to)
-  new_slot e m is =
-      let same : slot e m ≡ slot d (last_name to) = is ∙ slot_is s to d h.there in
-      (ap (λ (q : Slot). q.directory) same, ap (λ (q : Slot). q.name) same)
+  new_dentry : (e : ℕ) (m : Name) → dentry e m ≡ dentry_of s to → (e ≡ d) × (m ≡ last_name to)
+  new_dentry e m is =
+      let same : dentry e m ≡ dentry d (last_name to) = is ∙ dentry_is s to d h.there in
+      (ap (λ (q : Dentry). q.directory) same, ap (λ (q : Dentry). q.name) same)
 
-  pub link_moves : (NotFile s o → ⊥) → Moves s (with_name s (slot_of s to) (inode_of s from)) domain new_entry
-  link_moves file = moved (with_name s (slot_of s to) (inode_of s from)) refl refl
-      (λ e m x g. elim (got_inserted slot_total slot_exact s.entries (slot_of s to) (inode_of s from) (slot e m) x g) [
-        | inl a ↦ let w = new_slot e m a.0 in inr (w.0, w.1, a.1 ∙ inode_is s from o h.at)
+  pub link_moves : (NotFile s o → ⊥) → Moves s (with_name s (dentry_of s to) (inode_of s from)) domain new_entry
+  link_moves file = moved (with_name s (dentry_of s to) (inode_of s from)) refl refl
+      (λ e m x g. elim (got_inserted dentry_total dentry_exact s.entries (dentry_of s to) (inode_of s from) (dentry e m) x g) [
+        | inl a ↦ let w = new_dentry e m a.0 in inr (w.0, w.1, a.1 ∙ inode_is s from o h.at)
         | inr a ↦ inl a
       ])
       (λ e m g f. absurd (file f))
 
   abbrev renamed_before : State
-  renamed_before = with_moved s (slot_of s from) (slot_of s to) (inode_of s from)
+  renamed_before = with_moved s (dentry_of s from) (dentry_of s to) (inode_of s from)
 
   pub renamed_moves : Moves s renamed_before domain new_entry
   renamed_moves = moved renamed_before refl refl
-      (λ e m x g. elim (got_inserted slot_total slot_exact (remove s.entries (slot_of s from)) (slot_of s to) (inode_of s from) (slot e m) x g) [
-        | inl a ↦ let w = new_slot e m a.0 in inr (w.0, w.1, a.1 ∙ inode_is s from o h.at)
-        | inr a ↦ inl (got_left slot_total slot_exact s.entries (slot_of s from) (slot e m) x a).0
+      (λ e m x g. elim (got_inserted dentry_total dentry_exact (remove s.entries (dentry_of s from)) (dentry_of s to) (inode_of s from) (dentry e m) x g) [
+        | inl a ↦ let w = new_dentry e m a.0 in inr (w.0, w.1, a.1 ∙ inode_is s from o h.at)
+        | inr a ↦ inl (got_left dentry_total dentry_exact s.entries (dentry_of s from) (dentry e m) x a).0
       ])
-      (λ e m g f. elim (got_inserted slot_total slot_exact (remove s.entries (slot_of s from)) (slot_of s to) (inode_of s from) (slot e m) o g) [
-        | inl a ↦ new_slot e m a.0
+      (λ e m g f. elim (got_inserted dentry_total dentry_exact (remove s.entries (dentry_of s from)) (dentry_of s to) (inode_of s from) (dentry e m) o g) [
+        | inl a ↦ new_dentry e m a.0
         | inr a ↦
-            let w = got_left slot_total slot_exact s.entries (slot_of s from) (slot e m) o a in
+            let w = got_left dentry_total dentry_exact s.entries (dentry_of s from) (dentry e m) o a in
             let same = t.one e m c (last_name from) o f w.0 old_entry in
-            absurd (w.1 ((λ i. slot (same.0 i) (same.1 i)) ∙ sym (slot_is s from c h.here)))
+            absurd (w.1 ((λ i. dentry (same.0 i) (same.1 i)) ∙ sym (dentry_is s from c h.here)))
       ])
 
   -- another node had the name, and loses it

@@ -22,7 +22,7 @@ use Rattle.ll_rules.specs.Layer.{Layer, has_rule}
 use Rattle.ll_decide.specs.declared.denial.Cause.TheVariants.{EACCES, EXDEV}
 use Rattle.ll_decide.specs.declared.denial.Place.TheVariants.{New}
 use Rattle.ll_decide.specs.Verdict.{Ask, Move, all_denials, gains, gain_denials, denials, rights_without_refer, places, lacks}
-use Rattle.ll_seq.specs.declared.client.Client.{Client}
+use Rattle.ll_seq.specs.declared.client.ClientRecord.{ClientRecord}
 use Rattle.ll_seq.specs.declared.node.Node.{Node}
 use Rattle.ll_seq.specs.declared.call.Mode.{Mode}
 use Rattle.ll_seq.specs.declared.call.Call.{Call}
@@ -31,11 +31,11 @@ use Rattle.ll_seq.specs.declared.reply.Reply.{Reply}
 use Rattle.ll_seq.specs.declared.reply.Reply.TheVariants.{Done, Refused, Denied}
 use Rattle.ll_seq.specs.declared.reply.Entry.{Entry}
 use Rattle.ll_seq.specs.Call.{path_of}
-use Rattle.ll_seq.specs.State.{Name, slot, slot_cmp, State, child, root, kind_of, start, empty_node, bytes_of}
+use Rattle.ll_seq.specs.State.{Name, dentry, dentry_cmp, State, child, root, kind_of, start, empty_node, bytes_of}
 use Rattle.ll_seq.specs.Tree.{named, inode_of, ancestors, kind_or_file, kind_at}
 use Rattle.ll_seq.specs.Asked.{grants, parents_differ, move_between, asked, call_denials}
 use Rattle.ll_seq.specs.Stages.{lying, in_the_way, way_to, missing, present, text_refusals, number_refusals, relation_refusals, walk_refusals, existence_refusals, kind_refusals, limit_refusals}
-use Rattle.ll_seq.specs.Effects.{done, slot_of, let_go, with_moved, renamed, with_node, with_opened, emptied, with_bytes, with_client, overwritten, inode_at}
+use Rattle.ll_seq.specs.Effects.{done, dentry_of, let_go, with_moved, renamed, with_node, with_opened, emptied, with_bytes, with_client, overwritten, inode_at}
 use Rattle.ll_seq.specs.Step.{step, refusals, first_or, client_of}
 use Rattle.ll_seq.specs.History.{MayStand, IsLegal, state_after, after}
 use Rattle.ll_seq.specs.Reach.{InReach, is_relevant}
@@ -47,7 +47,7 @@ use Rattle.ll_laws.proofs.Trees.{IsTree, root_dir, Change, shrinks, adds, moves,
 use Rattle.ll_laws.proofs.Stages.{nil_left, nil_right, nil_map, not_refused, neither, walked, inode_is, parent_last, last_child, IsIn, IsIn-contains, none_denied}
 use Rattle.ll_laws.proofs.Changes.{same_tree, more_change, shrinks_itself, without_name_shrinks, close_shrinks, with_bytes_shrinks, IsPlace, IsMove, end_below, new_adds, link_moves, renamed_moves, replaced_moves}
 
-pub record Passes (s : State) (c : Client) (call : Call) : Type 0 where
+pub record Passes (s : State) (c : ClientRecord) (call : Call) : Type 0 where
   pub numbers : number_refusals c call ≡ []
   pub relation : relation_refusals call ≡ []
   pub way : walk_refusals s call ≡ []
@@ -55,7 +55,7 @@ pub record Passes (s : State) (c : Client) (call : Call) : Type 0 where
   pub policy : call_denials s c call ≡ []
   pub kinds : kind_refusals s c call ≡ []
 
-pub passes : (s : State) (c : Client) (call : Call) → refusals s c call ≡ [] → Passes s c call
+pub passes : (s : State) (c : ClientRecord) (call : Call) → refusals s c call ≡ [] → Passes s c call
 passes s c call e =
     let t = map Refused (text_refusals call) in
     let n = map Refused (number_refusals c call) in
@@ -149,7 +149,7 @@ record Moved (s : State) (layers : List Layer) (from to : Path) : Type 0 where
   is : IsMove s layers from to left entered node
 
 -- the layers given let nothing be gained, if the caller is under them
-module _ (s : State) (t : IsTree s) (number : ℕ) (c : Client) (old new : Target) (fresh : ℕ) (layers : List Layer) (sub : (layer : Layer) → Contains layers layer → Contains c.domain layer) where
+module _ (s : State) (t : IsTree s) (number : ℕ) (c : ClientRecord) (old new : Target) (fresh : ℕ) (layers : List Layer) (sub : (layer : Layer) → Contains layers layer → Contains c.domain layer) where
   abbrev from : Path
   from = path_of old
 
@@ -177,9 +177,9 @@ module _ (s : State) (t : IsTree s) (number : ℕ) (c : Client) (old new : Targe
 
   rename_change : Passes s c (Rename old new) → Change s (done s number c (Rename old new) fresh).1 layers
   rename_change h =
-      elim (named s to) as (λ r. Change s (renamed s (slot_of s from) (slot_of s to) (inode_of s from) r) layers) [
+      elim (named s to) as (λ r. Change s (renamed s (dentry_of s from) (dentry_of s to) (inode_of s from) r) layers) [
         | None ↦ moves _ (renamed_moves s layers from to m.left m.entered m.node t m.is)
-        | Some r ↦ elim (inode_of s from == r) as (λ b. Change s (cond b s (let_go (with_moved s (slot_of s from) (slot_of s to) (inode_of s from)) r)) layers) [
+        | Some r ↦ elim (inode_of s from == r) as (λ b. Change s (cond b s (let_go (with_moved s (dentry_of s from) (dentry_of s to) (inode_of s from)) r)) layers) [
           | true ↦ shrinks (shrinks_itself s)
           | false ↦ moves _ (replaced_moves s layers from to m.left m.entered m.node t m.is r)
         ]
@@ -206,7 +206,7 @@ module _ (s : State) (t : IsTree s) (number : ℕ) (c : Client) (old new : Targe
 
 -- ---- each call
 
-make_change : (s : State) (number : ℕ) (c : Client) (kind : Kind) (a : Target) (fresh : ℕ) → (layers : List Layer) → IsTree s → Passes s c (Make kind a) → Change s (done s number c (Make kind a) fresh).1 layers
+make_change : (s : State) (number : ℕ) (c : ClientRecord) (kind : Kind) (a : Target) (fresh : ℕ) → (layers : List Layer) → IsTree s → Passes s c (Make kind a) → Change s (done s number c (Make kind a) fresh).1 layers
 make_change s number c kind a fresh layers t h =
     let w = place_of s t (path_of a) (not_refused _ EBUSY h.relation) h.way in
     adds _ _ (new_adds s kind (path_of a) w.0 t w.1)
@@ -216,12 +216,12 @@ missing_root : (s : State) (p : Path) → is_none (named s p) ≡ true → is_ro
 missing_root s [] e = absurd (cc e)
 missing_root s (n ∷ p) e = refl
 
-open_change : (s : State) (number : ℕ) (c : Client) (mode : Mode) (a : Target) (fresh : ℕ) → (layers : List Layer) → IsTree s → Passes s c (Open mode a) → Change s (done s number c (Open mode a) fresh).1 layers
+open_change : (s : State) (number : ℕ) (c : ClientRecord) (mode : Mode) (a : Target) (fresh : ℕ) → (layers : List Layer) → IsTree s → Passes s c (Open mode a) → Change s (done s number c (Open mode a) fresh).1 layers
 open_change s number c mode a fresh layers t h =
-    elim (is_none (named s (path_of a))) as (λ b. is_none (named s (path_of a)) ≡ b → Change s (cond b (with_client (with_node s Reg (slot_of s (path_of a))) number (with_opened s c mode (path_of a) s.next)) (with_client (emptied s mode (inode_of s (path_of a))) number (with_opened s c mode (path_of a) (inode_of s (path_of a))))) layers) [
+    elim (is_none (named s (path_of a))) as (λ b. is_none (named s (path_of a)) ≡ b → Change s (cond b (with_client (with_node s Reg (dentry_of s (path_of a))) number (with_opened s c mode (path_of a) s.next)) (with_client (emptied s mode (inode_of s (path_of a))) number (with_opened s c mode (path_of a) (inode_of s (path_of a))))) layers) [
       | true ↦ λ e.
           let w = place_of s t (path_of a) (missing_root s (path_of a) e) h.way in
-          more_change s (with_node s Reg (slot_of s (path_of a))) _ layers refl refl refl (adds _ _ (new_adds s Reg (path_of a) w.0 t w.1))
+          more_change s (with_node s Reg (dentry_of s (path_of a))) _ layers refl refl refl (adds _ _ (new_adds s Reg (path_of a) w.0 t w.1))
       | false ↦ λ e. more_change s (emptied s mode (inode_of s (path_of a))) _ layers refl refl refl
           (elim mode.truncate as (λ b. Change s (cond b (with_bytes s (inode_of s (path_of a)) []) s) layers) [
             | true ↦ shrinks (with_bytes_shrinks s (inode_of s (path_of a)) [])
@@ -230,13 +230,13 @@ open_change s number c mode a fresh layers t h =
     ] refl
 
 -- a client changes, and the tree doesn't
-client_change : (s : State) (number : ℕ) (c : Client) (domain : List Layer) → Change s (with_client s number c) domain
+client_change : (s : State) (number : ℕ) (c : ClientRecord) (domain : List Layer) → Change s (with_client s number c) domain
 client_change s number c domain = shrinks (same_tree s (with_client s number c) refl (λ i. refl) refl)
 
 itself : (s : State) (domain : List Layer) → Change s s domain
 itself s domain = shrinks (shrinks_itself s)
 
-done_change : (s : State) (number : ℕ) (c : Client) (call : Call) (fresh : ℕ) (layers : List Layer) → (IsTrue (is_move call) → (layer : Layer) → Contains layers layer → Contains c.domain layer) → IsTree s → Passes s c call → Change s (done s number c call fresh).1 layers
+done_change : (s : State) (number : ℕ) (c : ClientRecord) (call : Call) (fresh : ℕ) (layers : List Layer) → (IsTrue (is_move call) → (layer : Layer) → Contains layers layer → Contains c.domain layer) → IsTree s → Passes s c call → Change s (done s number c call fresh).1 layers
 done_change s number c (Make kind p) fresh layers sub t h = make_change s number c kind p fresh layers t h
 done_change s number c (Open mode p) fresh layers sub t h = open_change s number c mode p fresh layers t h
 done_change s number c (Read fd offset count) fresh layers sub t h = itself s layers
@@ -263,7 +263,7 @@ done_change s number c Connect fresh layers sub t h = client_change s number _ l
 
 -- ---- whole histories
 
-done_move : (s : State) (number : ℕ) (c : Client) (call : Call) (fresh : ℕ) → IsTrue (is_move call) → (done s number c call fresh).0 ≡ Done
+done_move : (s : State) (number : ℕ) (c : ClientRecord) (call : Call) (fresh : ℕ) → IsTrue (is_move call) → (done s number c call fresh).0 ≡ Done
 done_move s number c (Rename o n) fresh e = refl
 done_move s number c (Link o n) fresh e = refl
 done_move s number c _ fresh e = absurd (cc e)
@@ -294,7 +294,7 @@ start_tree room = record {
 }
   where
     none : (d : ℕ) (n : Name) (x : ℕ) → child (start room) d n ≡ Some x → ⊥
-    none d n x c = cc (sym (get-empty ℕ slot_cmp (slot d n)) ∙ c)
+    none d n x c = cc (sym (get-empty ℕ dentry_cmp (dentry d n)) ∙ c)
 
 no_layer : (layer : Layer) → Contains [] layer → ⊥
 no_layer layer c = IsIn-contains [] layer c

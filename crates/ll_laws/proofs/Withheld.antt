@@ -13,7 +13,7 @@ use Rattle.ll_rights.specs.Right.{read_file, write_file, truncate}
 use Rattle.ll_rights.proofs.Maps.{get-empty, get-insert_same, got_inserted, got_left}
 use Rattle.ll_path.specs.declared.target.Target.{Target}
 use Rattle.ll_rules.specs.Layer.{Layer}
-use Rattle.ll_seq.specs.declared.client.Client.{Client}
+use Rattle.ll_seq.specs.declared.client.ClientRecord.{ClientRecord}
 use Rattle.ll_seq.specs.declared.client.Descriptor.{Descriptor}
 use Rattle.ll_seq.specs.declared.node.Node.{Node}
 use Rattle.ll_seq.specs.declared.call.Mode.{Mode}
@@ -27,7 +27,7 @@ use Rattle.ll_seq.specs.State.{State, empty_node, new_client, start, bytes_of}
 use Rattle.ll_seq.specs.Tree.{named, inode_of}
 use Rattle.ll_seq.specs.Asked.{call_denials}
 use Rattle.ll_seq.specs.Stages.{lowest_free, ruleset_at, text_refusals, number_refusals, relation_refusals, walk_refusals, existence_refusals, kind_refusals, limit_refusals}
-use Rattle.ll_seq.specs.Effects.{done, slot_of, opened, with_opened, emptied, with_node, with_bytes, with_client, inode_at, overwritten}
+use Rattle.ll_seq.specs.Effects.{done, dentry_of, opened, with_opened, emptied, with_node, with_bytes, with_client, inode_at, overwritten}
 use Rattle.ll_seq.specs.Step.{step, refusals, first_or, client_of}
 use Rattle.ll_seq.specs.History.{MayStand, IsLegal, state_after, after, is_connect, fresh_of}
 use Rattle.ll_seq.specs.Reach.{InReach}
@@ -49,7 +49,7 @@ is_none_not None e = cc
 is_none_not (Some a) e = refl
 
 module _ (s : State) (number : ℕ) (x : ℕ) (layer : Layer) (t : IsTree s) (small : x < s.next) where
-  abbrev me : Client
+  abbrev me : ClientRecord
   me = client_of s number
 
   -- what an opening by a client under the layer gives
@@ -65,14 +65,14 @@ module _ (s : State) (number : ℕ) (x : ℕ) (layer : Layer) (t : IsTree s) (sm
       ])
 
   -- the caller's rulesets or domain change, and its descriptors don't
-  mine : (u : State) (k : Client) → u.clients ≡ insert s.clients number k → k.descriptors ≡ me.descriptors → (Contains me.domain layer → Contains k.domain layer) → ClientsAfter s u x layer
+  mine : (u : State) (k : ClientRecord) → u.clients ≡ insert s.clients number k → k.descriptors ≡ me.descriptors → (Contains me.domain layer → Contains k.domain layer) → ClientsAfter s u x layer
   mine u k e same grows = caller_after s u x layer number k e grows (λ l fd d g. inl (ap (λ m. get m fd) (sym same) ∙ g))
 
   done_clients : (call : Call) (fresh : ℕ) → Passes s me call → (IsTrue (is_spawn call) → has s.clients fresh ≡ false) → (IsTrue (is_connect call) → has s.clients number ≡ false) → ClientsAfter s (done s number me call fresh).1 x layer
   done_clients (Make kind p) fresh h f g = same_clients s _ x layer refl
   done_clients (Open mode a) fresh h f g =
-      elim (is_none (named s (path_of a))) as (λ b. is_none (named s (path_of a)) ≡ b → ClientsAfter s (cond b (with_client (with_node s Reg (slot_of s (path_of a))) number (with_opened s me mode (path_of a) s.next)) (with_client (emptied s mode (inode_of s (path_of a))) number (with_opened s me mode (path_of a) (inode_of s (path_of a))))) x layer) [
-        | true ↦ λ e. open_clients mode a s.next (with_node s Reg (slot_of s (path_of a))) refl h (λ i. absurd (omega arith))
+      elim (is_none (named s (path_of a))) as (λ b. is_none (named s (path_of a)) ≡ b → ClientsAfter s (cond b (with_client (with_node s Reg (dentry_of s (path_of a))) number (with_opened s me mode (path_of a) s.next)) (with_client (emptied s mode (inode_of s (path_of a))) number (with_opened s me mode (path_of a) (inode_of s (path_of a))))) x layer) [
+        | true ↦ λ e. open_clients mode a s.next (with_node s Reg (dentry_of s (path_of a))) refl h (λ i. absurd (omega arith))
         | false ↦ λ e.
             let w = there_is s (path_of a) e in
             open_clients mode a (inode_of s (path_of a)) (emptied s mode (inode_of s (path_of a))) (cut mode.truncate) h (λ i. w.1 ∙ ap Some (sym (inode_is s (path_of a) w.0 w.1) ∙ i))
@@ -93,7 +93,7 @@ module _ (s : State) (number : ℕ) (x : ℕ) (layer : Layer) (t : IsTree s) (sm
   done_clients (Exec p) fresh h f g = same_clients s s x layer refl
   done_clients (Unlink p) fresh h f g = same_clients s _ x layer (let_go_clients _ _)
   done_clients (Rmdir p) fresh h f g = same_clients s _ x layer (let_go_clients _ _)
-  done_clients (Rename o n) fresh h f g = same_clients s _ x layer (renamed_clients s (slot_of s (path_of o)) (slot_of s (path_of n)) (inode_of s (path_of o)) (named s (path_of n)))
+  done_clients (Rename o n) fresh h f g = same_clients s _ x layer (renamed_clients s (dentry_of s (path_of o)) (dentry_of s (path_of n)) (inode_of s (path_of o)) (named s (path_of n)))
   done_clients (Link o n) fresh h f g = same_clients s _ x layer refl
   done_clients (Ruleset rights) fresh h f g = mine _ _ refl refl (λ l. l)
   done_clients (Allow rs p rights) fresh h f g = mine _ _ refl refl (λ l. l)
@@ -113,7 +113,7 @@ module _ (s : State) (number : ℕ) (x : ℕ) (layer : Layer) (t : IsTree s) (sm
   done_bytes : (call : Call) (fresh : ℕ) (m : Node) → Passes s me call → get (done s number me call fresh).1.nodes x ≡ Some m → BytesAfter m
   done_bytes (Make kind p) fresh m h g = inl (new_node s x (empty_node kind) m small g)
   done_bytes (Open mode a) fresh m h g =
-      elim (is_none (named s (path_of a))) as (λ b. is_none (named s (path_of a)) ≡ b → get (cond b (with_client (with_node s Reg (slot_of s (path_of a))) number (with_opened s me mode (path_of a) s.next)) (with_client (emptied s mode (inode_of s (path_of a))) number (with_opened s me mode (path_of a) (inode_of s (path_of a))))).nodes x ≡ Some m → BytesAfter m) [
+      elim (is_none (named s (path_of a))) as (λ b. is_none (named s (path_of a)) ≡ b → get (cond b (with_client (with_node s Reg (dentry_of s (path_of a))) number (with_opened s me mode (path_of a) s.next)) (with_client (emptied s mode (inode_of s (path_of a))) number (with_opened s me mode (path_of a) (inode_of s (path_of a))))).nodes x ≡ Some m → BytesAfter m) [
         | true ↦ λ e k. inl (new_node s x (empty_node Reg) m small k)
         | false ↦ λ e k. cut e mode.truncate refl k
       ] refl g
@@ -151,7 +151,7 @@ module _ (s : State) (number : ℕ) (x : ℕ) (layer : Layer) (t : IsTree s) (sm
   done_bytes (Exec p) fresh m h g = inl g
   done_bytes (Unlink p) fresh m h g = inl (let_go_node _ _ x m g)
   done_bytes (Rmdir p) fresh m h g = inl (let_go_node _ _ x m g)
-  done_bytes (Rename o n) fresh m h g = inl (renamed_node s (slot_of s (path_of o)) (slot_of s (path_of n)) (inode_of s (path_of o)) (named s (path_of n)) x m g)
+  done_bytes (Rename o n) fresh m h g = inl (renamed_node s (dentry_of s (path_of o)) (dentry_of s (path_of n)) (inode_of s (path_of o)) (named s (path_of n)) x m g)
   done_bytes (Link o n) fresh m h g = inl g
   done_bytes (Ruleset rights) fresh m h g = inl g
   done_bytes (Allow rs p rights) fresh m h g = inl g
@@ -178,7 +178,7 @@ all_map : {A : Type 0} (g : A → Reply) (xs : List A) → ((a : A) → is_refus
 all_map g [] e = refl
 all_map g (x ∷ xs) e = ap (λ b. b && list_all is_refusal (map g xs)) (e x) ∙ all_map g xs e
 
-are_refusals : (s : State) (c : Client) (call : Call) → list_all is_refusal (refusals s c call) ≡ true
+are_refusals : (s : State) (c : ClientRecord) (call : Call) → list_all is_refusal (refusals s c call) ≡ true
 are_refusals s c call =
     let t = map Refused (text_refusals call) in
     let n = map Refused (number_refusals c call) in
@@ -209,15 +209,15 @@ no_refusal s number call fresh r isnt e = by (refusals s (client_of s number) ca
     by (q ∷ rs) is all g = absurd (cc (sym (first_is (is_refusal q) (list_all is_refusal rs) all) ∙ ap is_refusal g ∙ isnt))
 
 -- the replies that tell which call it was
-spawn_reply : (s : State) (number : ℕ) (c : Client) (call : Call) (fresh : ℕ) → IsTrue (is_spawn call) → (done s number c call fresh).0 ≡ Spawned fresh
+spawn_reply : (s : State) (number : ℕ) (c : ClientRecord) (call : Call) (fresh : ℕ) → IsTrue (is_spawn call) → (done s number c call fresh).0 ≡ Spawned fresh
 spawn_reply s number c Spawn fresh e = refl
 spawn_reply s number c _ fresh e = absurd (cc e)
 
-spawned_by : (s : State) (number : ℕ) (c : Client) (call : Call) (fresh child : ℕ) → (done s number c call fresh).0 ≡ Spawned child → (done s number c call fresh).1.clients ≡ insert s.clients child (new_client c.domain)
+spawned_by : (s : State) (number : ℕ) (c : ClientRecord) (call : Call) (fresh child : ℕ) → (done s number c call fresh).0 ≡ Spawned child → (done s number c call fresh).1.clients ≡ insert s.clients child (new_client c.domain)
 spawned_by s number c Spawn fresh child e = ap (λ n. insert s.clients n (new_client c.domain)) (ap fresh_of e)
 spawned_by s number c _ fresh child e = absurd (cc e)
 
-read_case : (c : Client) (call : Call) (reply : Reply) (x : ℕ) → bytes_read c call reply ≡ Some x → (fd : ℕ) × (offset : ℕ) × (count : ℕ) × (bs : List ℕ) × (call ≡ Read fd offset count) × (reply ≡ Bytes bs) × (inode_at c fd ≡ x)
+read_case : (c : ClientRecord) (call : Call) (reply : Reply) (x : ℕ) → bytes_read c call reply ≡ Some x → (fd : ℕ) × (offset : ℕ) × (count : ℕ) × (bs : List ℕ) × (call ≡ Read fd offset count) × (reply ≡ Bytes bs) × (inode_at c fd ≡ x)
 read_case c (Read fd offset count) (Bytes bs) x e = (fd, offset, count, bs, refl, refl, same_Some _ x e)
 read_case c _ _ x e = absurd (cc e)
 
@@ -228,7 +228,7 @@ record Holds (from : State) (layer : Layer) (x : ℕ) (P : ℕ → Type 0) (s : 
   files : (c : ℕ) → P c → (fd : ℕ) (d : Descriptor) → get (client_of s c).descriptors fd ≡ Some d → (d.inode ≡ x → d.reads ≡ true → InReach from layer x read_file) × (d.inode ≡ x → d.writes ≡ true → InReach from layer x write_file)
 
 module _ (from : State) (layer : Layer) (x : ℕ) (s : State) (e : Entry) (t : IsTree s) (m : MayStand s e) (small : x < s.next) where
-  abbrev caller : Client
+  abbrev caller : ClientRecord
   caller = client_of s e.client
 
   abbrev fresh : ℕ
@@ -260,7 +260,7 @@ module _ (from : State) (layer : Layer) (x : ℕ) (s : State) (e : Entry) (t : I
       ∙ spawned_by s e.client caller e.call fresh c (ap (λ (o : Reply × State). o.0) (sym (outcome_done n)) ∙ m.answered ∙ is)
 
   child_is : (c : ℕ) → e.reply ≡ Spawned c → get (after s e).clients c ≡ Some (new_client caller.domain)
-  child_is c is = ap (λ (k : Map nat_cmp Client). get k c) (child c is) ∙ get-insert_same nat_cmp_total nat_cmp-IsAntisymmetric s.clients c (new_client caller.domain)
+  child_is c is = ap (λ (k : Map nat_cmp ClientRecord). get k c) (child c is) ∙ get-insert_same nat_cmp_total nat_cmp-IsAntisymmetric s.clients c (new_client caller.domain)
 
   module _ (P : ℕ → Type 0) (h : Holds from layer x P s) (back : (right : ℕ) → InReach s layer x right → InReach from layer x right) where
     holds_after : Holds from layer x (Confined P e) (after s e)
@@ -268,7 +268,7 @@ module _ (from : State) (layer : Layer) (x : ℕ) (s : State) (e : Entry) (t : I
       there = λ c b. elim b [ inl p ↦ entry_clients.there c (h.there c p) | inr p ↦ ap is_some (child_is c p.1) ];
       under = λ c b. elim b [
         | inl p ↦ entry_clients.under c (h.there c p) (h.under c p)
-        | inr p ↦ subst (λ (k : Client). Contains k.domain layer) (sym (ap (λ o. unwrap_or o (new_client [])) (child_is c p.1))) (h.under e.client p.0)
+        | inr p ↦ subst (λ (k : ClientRecord). Contains k.domain layer) (sym (ap (λ o. unwrap_or o (new_client [])) (child_is c p.1))) (h.under e.client p.0)
       ];
       files = λ c b fd d g. elim b [
         | inl p ↦ elim (entry_clients.files c (h.there c p) (h.under c p) fd d g) [

@@ -5,7 +5,7 @@ use Rattle.ll_rights.specs.Right as right
 use Rattle.ll_rules.specs.Layer.{Layer}
 use Rattle.ll_seq.specs.declared.call.Call.{Call}
 use Rattle.ll_seq.specs.declared.call.Call.TheVariants.{Read}
-use Rattle.ll_seq.specs.declared.client.Client.{Client}
+use Rattle.ll_seq.specs.declared.client.ClientRecord.{ClientRecord}
 use Rattle.ll_seq.specs.declared.client.Descriptor.{Descriptor}
 use Rattle.ll_seq.specs.declared.node.Node.{Node}
 use Rattle.ll_seq.specs.declared.reply.Reply.{Reply}
@@ -19,7 +19,7 @@ use Rattle.ll_seq.specs.Reach.{InReach, HasName}
 use Rattle.ll_laws.specs.NoGain.{MovesUnder}
 
 -- the inode from which a read was answered
-abbrev pub bytes_read : Client → Call → Reply → Option ℕ
+abbrev pub bytes_read : ClientRecord → Call → Reply → Option ℕ
 bytes_read c (Read fd offset count) (Bytes bytes) = Some (inode_at c fd)
 bytes_read c _ _ = None
 

@@ -14,7 +14,7 @@ use Rattle.ll_decide.specs.Verdict.{Ask, all_denials, verdict}
 use Rattle.ll_seq.specs.declared.call.Call.{Call}
 use Rattle.ll_seq.specs.Asked.{asked, moved, grants}
 use Rattle.ll_path.specs.declared.target.Target.{Target}
-use Rattle.ll_seq.specs.declared.client.Client.{Client}
+use Rattle.ll_seq.specs.declared.client.ClientRecord.{ClientRecord}
 use Rattle.ll_seq.specs.Call.{path_of}
 use Rattle.ll_seq.specs.State.{State, new_client}
 use Rattle.ll_seq.specs.Tree.{named, inode_of}
@@ -93,17 +93,17 @@ some_or (Some x) d e = refl
 pub got_client : (a s : State) (n : ℕ) → a ≡ s → has s.clients n ≡ true → get a.clients n ≡ Some (client_of s n)
 got_client a s n is there = ap (λ z. get z.clients n) is ∙ some_or (get s.clients n) (new_client []) there
 
-pub kept : (a s : State) (clients : Map nat_cmp Client) → a ≡ s → clients ≡ a.clients → record a { clients = clients } ≡ s
+pub kept : (a s : State) (clients : Map nat_cmp ClientRecord) → a ≡ s → clients ≡ a.clients → record a { clients = clients } ≡ s
 kept a s clients is same = ap (λ m. record a { clients = m }) same ∙ is
 
-pub client_changed : (a s : State) (clients : Map nat_cmp Client) (n : ℕ) (c : Client) → a ≡ s → clients ≡ insert a.clients n c → record a { clients = clients } ≡ with_client s n c
+pub client_changed : (a s : State) (clients : Map nat_cmp ClientRecord) (n : ℕ) (c : ClientRecord) → a ≡ s → clients ≡ insert a.clients n c → record a { clients = clients } ≡ with_client s n c
 client_changed a s clients n c is same = ap (λ m. record a { clients = m }) same ∙ ap (λ z. with_client z n c) is
 
 -- a ruleset that is there has a number below their count
-pub number_below : (a s : State) (n rs : ℕ) → a ≡ s → has s.clients n ≡ true → is_some (slice_get (client_of s n).rulesets rs) ≡ true → (c : Client) → get a.clients n ≡ Some c → rs < length c.rulesets
+pub number_below : (a s : State) (n rs : ℕ) → a ≡ s → has s.clients n ≡ true → is_some (slice_get (client_of s n).rulesets rs) ≡ true → (c : ClientRecord) → get a.clients n ≡ Some c → rs < length c.rulesets
 number_below a s n rs is there some c got =
     let same : client_of s n ≡ c = same_some (got_client a s n is there) got in
-    within c.rulesets rs (ap (λ (x : Client). is_some (slice_get x.rulesets rs)) (sym same) ∙ some)
+    within c.rulesets rs (ap (λ (x : ClientRecord). is_some (slice_get x.rulesets rs)) (sym same) ∙ some)
   where
     within : (xs : List Layer) (i : ℕ) → is_some (slice_get xs i) ≡ true → i < length xs
     within [] i e = absurd cc

@@ -7,7 +7,7 @@ use Rattle.std.specs.Cmp.{nat_cmp_total}
 use Rattle.std.specs.FinMap.{nat_cmp-IsAntisymmetric}
 use Rattle.ll_rights.specs.Map.{Map, get, has, insert, remove}
 use Rattle.ll_rights.proofs.Maps.{get-remove, get-insert_same, got_inserted}
-use Rattle.ll_seq.specs.declared.client.Client.{Client}
+use Rattle.ll_seq.specs.declared.client.ClientRecord.{ClientRecord}
 use Rattle.ll_seq.specs.declared.client.Descriptor.{Descriptor}
 use Rattle.ll_seq.specs.declared.call.Mode.{Mode}
 use Rattle.ll_seq.specs.declared.node.Node.{Node}
@@ -55,7 +55,7 @@ bytes_changed a s nodes inode f is same = ap (λ m. record a { nodes = m }) same
 
 -- ---- an opening
 
-bytes_and_client : (s : State) (inode : ℕ) (bytes : List ℕ) (number : ℕ) (c : Client) → with_bytes (with_client s number c) inode bytes ≡ with_client (with_bytes s inode bytes) number c
+bytes_and_client : (s : State) (inode : ℕ) (bytes : List ℕ) (number : ℕ) (c : ClientRecord) → with_bytes (with_client s number c) inode bytes ≡ with_client (with_bytes s inode bytes) number c
 bytes_and_client s inode bytes number c = of (get s.nodes inode)
   where
     of : (o : Option Node) → option_map_or (λ (n : Node). record s { nodes = insert s.nodes inode (record n { bytes = bytes }); clients = insert s.clients number c }) o (with_client s number c)
@@ -63,21 +63,21 @@ bytes_and_client s inode bytes number c = of (get s.nodes inode)
     of None = refl
     of (Some n) = refl
 
-pub emptied_client : (s : State) (mode : Mode) (inode number : ℕ) (c : Client) → mode.truncate ≡ true → with_bytes (with_client s number c) inode [] ≡ with_client (emptied s mode inode) number c
+pub emptied_client : (s : State) (mode : Mode) (inode number : ℕ) (c : ClientRecord) → mode.truncate ≡ true → with_bytes (with_client s number c) inode [] ≡ with_client (emptied s mode inode) number c
 emptied_client s mode inode number c truncates =
     bytes_and_client s inode [] number c ∙ ap (λ b. with_client (if b then with_bytes s inode [] else s) number c) (sym truncates)
 
-pub kept_client : (s : State) (mode : Mode) (inode number : ℕ) (c : Client) → mode.truncate ≡ false → with_client s number c ≡ with_client (emptied s mode inode) number c
+pub kept_client : (s : State) (mode : Mode) (inode number : ℕ) (c : ClientRecord) → mode.truncate ≡ false → with_client s number c ≡ with_client (emptied s mode inode) number c
 kept_client s mode inode number c keeps = ap (λ b. with_client (if b then with_bytes s inode [] else s) number c) (sym keeps)
 
-pub opened_is : (s : State) (c : Client) (mode : Mode) (path : Path) (inode number : ℕ) (d : Descriptor) → lowest_free c.descriptors ≡ Some number → d ≡ opened s c mode path inode
+pub opened_is : (s : State) (c : ClientRecord) (mode : Mode) (path : Path) (inode number : ℕ) (d : Descriptor) → lowest_free c.descriptors ≡ Some number → d ≡ opened s c mode path inode
     → record c { descriptors = insert c.descriptors number d } ≡ with_opened s c mode path inode
 opened_is s c mode path inode number d free made = λ i. record c { descriptors = insert c.descriptors (unwrap_or (sym free i) 0) (made i) }
 
 -- ---- a descriptor given back
 
-module _ (s a : State) (n number : ℕ) (c : Client) (d : Descriptor) (taken : a ≡ with_client s n (record c { descriptors = insert c.descriptors number d })) where
-  abbrev holder : Client
+module _ (s a : State) (n number : ℕ) (c : ClientRecord) (d : Descriptor) (taken : a ≡ with_client s n (record c { descriptors = insert c.descriptors number d })) where
+  abbrev holder : ClientRecord
   holder = record c { descriptors = insert c.descriptors number d }
 
   got_holder : get a.clients n ≡ Some holder
@@ -89,7 +89,7 @@ module _ (s a : State) (n number : ℕ) (c : Client) (d : Descriptor) (taken : a
   pub given_back : (after : State) → get s.clients n ≡ Some c → get c.descriptors number ≡ None
       → after ≡ with_client a n (record (client_of a n) { descriptors = remove (client_of a n).descriptors number }) → after ≡ s
   given_back after there free is =
-      is ∙ ap (λ (x : Client). with_client a n (record x { descriptors = remove x.descriptors number })) (ap (λ o. unwrap_or o (new_client [])) got_holder)
+      is ∙ ap (λ (x : ClientRecord). with_client a n (record x { descriptors = remove x.descriptors number })) (ap (λ o. unwrap_or o (new_client [])) got_holder)
       ∙ ap (λ m. with_client a n (record c { descriptors = m })) (remove-insert c.descriptors number d free)
       ∙ ap (λ z. with_client z n c) taken
       ∙ ap (λ m. record s { clients = m }) (insert_back nat_cmp_total nat_cmp-IsAntisymmetric s.clients n c holder there)

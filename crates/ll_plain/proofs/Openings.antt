@@ -9,7 +9,7 @@ use Rattle.ll_path.specs.Path.{Path, parent}
 use Rattle.ll_path.specs.declared.target.Target.TheVariants.{Good}
 use Rattle.ll_decide.specs.declared.denial.Denial.{Denial}
 use Rattle.ll_decide.specs.Verdict.{when, verdict}
-use Rattle.ll_seq.specs.declared.client.Client.{Client}
+use Rattle.ll_seq.specs.declared.client.ClientRecord.{ClientRecord}
 use Rattle.ll_seq.specs.declared.call.Call.{Call}
 use Rattle.ll_seq.specs.declared.call.Mode.{Mode}
 use Rattle.ll_seq.specs.declared.call.Call.TheVariants.{Open}
@@ -20,7 +20,7 @@ use Rattle.ll_seq.specs.State.{State, root}
 use Rattle.ll_seq.specs.Tree.{named, directory_of, kind_or_file}
 use Rattle.ll_seq.specs.Asked.{grants, opening_asked, call_denials}
 use Rattle.ll_seq.specs.Stages.{in_the_way, not_to_open, no_space, lowest_free, existence_refusals, kind_refusals, limit_refusals}
-use Rattle.ll_seq.specs.Effects.{slot_of, with_node, with_client, with_opened, emptied, after_opening}
+use Rattle.ll_seq.specs.Effects.{dentry_of, with_node, with_client, with_opened, emptied, after_opening}
 use Rattle.ll_seq.specs.Step.{client_of}
 use Rattle.ll_plain.proofs.Parts.{both_free}
 use Rattle.ll_plain.proofs.Calls.{told}
@@ -45,7 +45,7 @@ module _ (s : State) (n : ℕ) (mode : Mode) (p : Path) where
   abbrev call : Call
   call = Open mode (Good p)
 
-  abbrev caller : Client
+  abbrev caller : ClientRecord
   caller = client_of s n
 
   -- the file is there
@@ -70,7 +70,7 @@ module _ (s : State) (n : ℕ) (mode : Mode) (p : Path) where
       Opened (unwrap_or (sym free i) 0),
       (is ∙ (λ j.
           if is_none (sym found j)
-          then with_client (with_node s Reg (slot_of s p)) n (with_opened s caller mode p s.next)
+          then with_client (with_node s Reg (dentry_of s p)) n (with_opened s caller mode p s.next)
           else with_client (emptied s mode (unwrap_or (sym found j) 0)) n (with_opened s caller mode p (unwrap_or (sym found j) 0)))) i,
     )
 
@@ -89,12 +89,12 @@ module _ (s : State) (n : ℕ) (mode : Mode) (p : Path) where
         λ i. when (is_some (missing i)) (not_to_open (kind_or_file s (unwrap_or (missing i) 0)))
         ++ (refuse (is_none (lowest_free caller.descriptors)) EMFILE ++ when (is_none (missing i)) (no_space s (directory_of s p)))
 
-    pub missing_after : (number : ℕ) (after : State) → lowest_free caller.descriptors ≡ Some number → after ≡ with_client (with_node s Reg (slot_of s p)) n (with_opened s caller mode p s.next)
+    pub missing_after : (number : ℕ) (after : State) → lowest_free caller.descriptors ≡ Some number → after ≡ with_client (with_node s Reg (dentry_of s p)) n (with_opened s caller mode p s.next)
         → ◌≡◌ {A = Reply × State} (Opened number, after) (Opened (unwrap_or (lowest_free caller.descriptors) 0), after_opening s n caller mode p)
     missing_after number after free is = λ i. (
       Opened (unwrap_or (sym free i) 0),
       (is ∙ (λ j.
           if is_none (sym missing j)
-          then with_client (with_node s Reg (slot_of s p)) n (with_opened s caller mode p s.next)
+          then with_client (with_node s Reg (dentry_of s p)) n (with_opened s caller mode p s.next)
           else with_client (emptied s mode (unwrap_or (sym missing j) 0)) n (with_opened s caller mode p (unwrap_or (sym missing j) 0)))) i,
     )

@@ -4,7 +4,7 @@ use Rattle.std.proofs.Common.{ap, sym, ◌∙◌, inl, inr}
 use Rattle.ll_rights.specs.declared.errno.Errno.{Errno}
 use Rattle.ll_rights.specs.declared.errno.Errno.TheVariants.{NoMemory}
 use Rattle.ll_decide.specs.declared.denial.Denial.{Denial}
-use Rattle.ll_seq.specs.declared.client.Client.{Client}
+use Rattle.ll_seq.specs.declared.client.ClientRecord.{ClientRecord}
 use Rattle.ll_seq.specs.declared.call.Call.{Call}
 use Rattle.ll_seq.specs.declared.reply.Reply.{Reply}
 use Rattle.ll_seq.specs.declared.reply.Reply.TheVariants.{Refused, Denied}
@@ -36,10 +36,10 @@ both_free xs ys e f = ap (λ zs. zs ++ ys) e ∙ f
 
 -- ---- parts
 
-abbrev before : State → Client → Call → List Errno
+abbrev before : State → ClientRecord → Call → List Errno
 before s c call = text_refusals call ++ (number_refusals c call ++ (relation_refusals call ++ (walk_refusals s call ++ existence_refusals s call)))
 
-abbrev afterwards : State → Client → Call → List Errno
+abbrev afterwards : State → ClientRecord → Call → List Errno
 afterwards s c call = kind_refusals s c call ++ limit_refusals s c call
 
 abbrev parts : List Errno → List Denial → List Errno → List Reply

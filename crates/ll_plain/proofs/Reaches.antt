@@ -8,7 +8,7 @@ use Rattle.ll_rights.specs.Map.{get, entries}
 use Rattle.ll_path.specs.Path.{Path}
 use Rattle.ll_rules.specs.Layer.{Layer, has_rule}
 use Rattle.ll_decide.proofs.Bits.{holds-or}
-use Rattle.ll_seq.specs.declared.entries.Slot.{Slot}
+use Rattle.ll_seq.specs.declared.dentries.Dentry.{Dentry}
 use Rattle.ll_seq.specs.State.{State, root}
 use Rattle.ll_seq.specs.Tree.{named}
 use Rattle.ll_plain.specs.Reaching.{Found, Leads, is_ruled}
@@ -17,7 +17,7 @@ use Rattle.ll_seq.proofs.Rows.{row_of_child, child_of_row}
 
 -- the path's last name is that in the entry's row, and leads to the inode
 pub record ByEntry (s : State) (steps inode k : ℕ) (path : Path) : Type 0 where
-  pub row : Slot × ℕ
+  pub row : Dentry × ℕ
   pub at : slice_get (entries s.entries) k ≡ Some row
   pub ends : row.1 ≡ inode
   pub front : Path
@@ -89,22 +89,22 @@ module _ (s : State) (layer : Layer) where
     skipped n found none f =
         same_sort (Tried s steps inode n) (Tried s steps inode (n + 1)) (wider n) (λ p t. elim (more_or_here n p t) [ inl a ↦ a | inr e ↦ absurd (none p e) ]) found f
 
-    same_row : (n : ℕ) (row other : Slot × ℕ) → slice_get (entries s.entries) n ≡ Some row → slice_get (entries s.entries) n ≡ Some other → other ≡ row
+    same_row : (n : ℕ) (row other : Dentry × ℕ) → slice_get (entries s.entries) n ≡ Some row → slice_get (entries s.entries) n ≡ Some other → other ≡ row
     same_row n row other at also = cc
 
     -- a row of another inode
-    pub skip_other : (n : ℕ) (row : Slot × ℕ) (found : Option Access) → slice_get (entries s.entries) n ≡ Some row → row.1 ≢ inode
+    pub skip_other : (n : ℕ) (row : Dentry × ℕ) (found : Option Access) → slice_get (entries s.entries) n ≡ Some row → row.1 ≢ inode
         → Found s layer (Tried s steps inode n) found → Found s layer (Tried s steps inode (n + 1)) found
     skip_other n row found at other f =
-        skipped n found (λ p e. other (ap (λ (r : Slot × ℕ). r.1) (sym (same_row n row e.row at e.at)) ∙ e.ends)) f
+        skipped n found (λ p e. other (ap (λ (r : Dentry × ℕ). r.1) (sym (same_row n row e.row at e.at)) ∙ e.ends)) f
 
     -- a row whose directory has no such path
-    pub skip_nameless : (n : ℕ) (row : Slot × ℕ) (found : Option Access) → slice_get (entries s.entries) n ≡ Some row
+    pub skip_nameless : (n : ℕ) (row : Dentry × ℕ) (found : Option Access) → slice_get (entries s.entries) n ≡ Some row
         → Found s layer (Leads s (steps - 1) row.0.directory) None → Found s layer (Tried s steps inode n) found → Found s layer (Tried s steps inode (n + 1)) found
     skip_nameless n row found at none f =
-        skipped n found (λ p e. none e.front (e.leads ∙ ap (λ (r : Slot × ℕ). Some r.0.directory) (same_row n row e.row at e.at), let short = e.short in omega arith)) f
+        skipped n found (λ p e. none e.front (e.leads ∙ ap (λ (r : Dentry × ℕ). Some r.0.directory) (same_row n row e.row at e.at), let short = e.short in omega arith)) f
 
-    module _ (n : ℕ) (row : Slot × ℕ) (at : slice_get (entries s.entries) n ≡ Some row) (ends : row.1 ≡ inode) (some : 0 < steps) (above : Access)
+    module _ (n : ℕ) (row : Dentry × ℕ) (at : slice_get (entries s.entries) n ≡ Some row) (ends : row.1 ≡ inode) (some : 0 < steps) (above : Access)
         (over : Found s layer (Leads s (steps - 1) row.0.directory) (Some above)) where
       abbrev with_name : Path → Path
       with_name front = front ++ row.0.name ∷ []
@@ -119,8 +119,8 @@ module _ (s : State) (layer : Layer) where
       told_by_row : (p : Path) (right : ℕ) → ByEntry s steps inode n p → is_ruled s layer p right ≡ true → (holds above.0 right ≡ true) ⊎ (has_rule layer right inode ≡ true)
       told_by_row p right e g =
           let same = same_row n row e.row at e.at in
-          let there : named s e.front ≡ Some row.0.directory = e.leads ∙ ap (λ (r : Slot × ℕ). Some r.0.directory) same in
-          let whole : p ≡ with_name e.front = e.whole ∙ ap (λ (r : Slot × ℕ). e.front ++ r.0.name ∷ []) same in
+          let there : named s e.front ≡ Some row.0.directory = e.leads ∙ ap (λ (r : Dentry × ℕ). Some r.0.directory) same in
+          let whole : p ≡ with_name e.front = e.whole ∙ ap (λ (r : Dentry × ℕ). e.front ++ r.0.name ∷ []) same in
           elim (or_split (is_ruled s layer e.front right) (has_rule layer right inode) (sym (ruled_by_row e.front right there) ∙ ap (λ q. is_ruled s layer q right) (sym whole) ∙ g)) [
             | inl a ↦ inl ((over.1 right).1 (e.front, (there, let short = e.short in omega arith), a))
             | inr b ↦ inr b

@@ -7,8 +7,8 @@ use Rattle.std.proofs.lemmas.Bool.{eqb-true, eq-eqb}
 use Rattle.std.proofs.lemmas.List.{length-map}
 use Rattle.ll_rights.specs.Map.{get, entries}
 use Rattle.ll_path.specs.Path.{Path}
-use Rattle.ll_seq.specs.declared.entries.Slot.{Slot}
-use Rattle.ll_seq.specs.State.{Name, State, child, slot, slot_cmp}
+use Rattle.ll_seq.specs.declared.dentries.Dentry.{Dentry}
+use Rattle.ll_seq.specs.State.{Name, State, child, dentry, dentry_cmp}
 use Rattle.ll_seq.specs.Tree.{end_from}
 
 -- ---- numbers in a list, and the list without one
@@ -126,22 +126,22 @@ module _ (s : State) where
   -- ---- the inodes that have a name
 
   abbrev targets : List ℕ
-  targets = map (λ (e : Slot × ℕ). e.1) (entries s.entries)
+  targets = map (λ (e : Dentry × ℕ). e.1) (entries s.entries)
 
-  found : (es : List (Slot × ℕ)) (q : Slot) (x : ℕ) → find slot_cmp q es ≡ Some x → Among (map (λ (e : Slot × ℕ). e.1) es) x
+  found : (es : List (Dentry × ℕ)) (q : Dentry) (x : ℕ) → find dentry_cmp q es ≡ Some x → Among (map (λ (e : Dentry × ℕ). e.1) es) x
   found [] q x f = absurd (cc f)
-  found (e ∷ es) q x f = elim (eq_by_cmp slot_cmp q e.0) as (λ b. cond b (Some e.1) (find slot_cmp q es) ≡ Some x → (x ≡ e.1) ⊎ Among (map (λ (e : Slot × ℕ). e.1) es) x) [
+  found (e ∷ es) q x f = elim (eq_by_cmp dentry_cmp q e.0) as (λ b. cond b (Some e.1) (find dentry_cmp q es) ≡ Some x → (x ≡ e.1) ⊎ Among (map (λ (e : Dentry × ℕ). e.1) es) x) [
     | true ↦ λ g. inl (cc g)
     | false ↦ λ g. inr (found es q x g)
   ] f
 
   is_target : (d : ℕ) (name : Name) (x : ℕ) → child s d name ≡ Some x → Among targets x
   unfolding get entries
-  is_target d name x is = found s.entries.list (slot d name) x is
+  is_target d name x is = found s.entries.list (dentry d name) x is
 
   into_targets : (p : Path) (i : ℕ) → Into targets p i
   into_targets [] i = tt
   into_targets (name ∷ p) i = λ j is. (is_target i name j is, into_targets p j)
 
   pub shortcut : (p : Path) (i y : ℕ) → end_from s p i ≡ Some y → Short (length (entries s.entries)) i y
-  shortcut p i y e = cut_down (length (entries s.entries)) targets (omega (arith, length-map (entries s.entries) (λ (e : Slot × ℕ). e.1))) p i y e (into_targets p i)
+  shortcut p i y e = cut_down (length (entries s.entries)) targets (omega (arith, length-map (entries s.entries) (λ (e : Dentry × ℕ). e.1))) p i y e (into_targets p i)

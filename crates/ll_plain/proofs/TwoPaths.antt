@@ -10,19 +10,19 @@ use Rattle.ll_path.specs.declared.target.Target.{Target}
 use Rattle.ll_rules.specs.Layer.{Layer}
 use Rattle.ll_decide.specs.declared.denial.Denial.{Denial}
 use Rattle.ll_decide.specs.Verdict.{Ask, Move, verdict}
-use Rattle.ll_seq.specs.declared.entries.Slot.{Slot}
+use Rattle.ll_seq.specs.declared.dentries.Dentry.{Dentry}
 use Rattle.ll_plain.specs.declared.walk.Spot.{Spot}
 use Rattle.ll_seq.specs.declared.call.Call.TheVariants.{Rename, Link}
 use Rattle.ll_seq.specs.Call.{path_of}
-use Rattle.ll_seq.specs.State.{State, slot, slot_cmp}
+use Rattle.ll_seq.specs.State.{State, dentry, dentry_cmp}
 use Rattle.ll_seq.specs.Tree.{named, inode_of, kind_or_file, kind_at}
 use Rattle.ll_seq.specs.Asked.{grants, asked, call_denials, link_asked, move_between, parents_differ, rename_asked}
 use Rattle.ll_seq.specs.Stages.{kind_refusals, limit_refusals}
-use Rattle.ll_seq.specs.Effects.{let_go, renamed, slot_of, with_name, with_moved}
+use Rattle.ll_seq.specs.Effects.{let_go, renamed, dentry_of, with_name, with_moved}
 use Rattle.ll_seq.specs.Step.{client_of}
 use Rattle.ll_plain.specs.Deciding.{Stands, link_refusals, move_refusals}
 use Rattle.ll_plain.proofs.Calls.{told}
-use Rattle.ll_seq.proofs.Slots.{slot_total, slot_exact}
+use Rattle.ll_seq.proofs.DentryOrder.{dentry_total, dentry_exact}
 use Rattle.ll_seq.proofs.Tables.{two_keys, remove-insert_other, instead}
 
 -- ---- policy
@@ -73,30 +73,30 @@ module _ (s : State) (old new : Target) (from into : Spot) (at_old : Stands s (p
   link_refusals_are n = λ i. link_refusals s (same_inode i) (at_new.directory i)
 
   pub renamed_so : (replaced : Option ℕ) → replaced ≡ named s (path_of new)
-      → renamed s (slot from.directory from.name.now) (slot into.directory into.name.now) inode replaced
-      ≡ renamed s (slot_of s (path_of old)) (slot_of s (path_of new)) (inode_of s (path_of old)) (named s (path_of new))
-  renamed_so replaced r = λ i. renamed s (slot (at_old.directory i) (at_old.name i)) (slot (at_new.directory i) (at_new.name i)) (same_inode i) (r i)
+      → renamed s (dentry from.directory from.name.now) (dentry into.directory into.name.now) inode replaced
+      ≡ renamed s (dentry_of s (path_of old)) (dentry_of s (path_of new)) (inode_of s (path_of old)) (named s (path_of new))
+  renamed_so replaced r = λ i. renamed s (dentry (at_old.directory i) (at_old.name i)) (dentry (at_new.directory i) (at_new.name i)) (same_inode i) (r i)
 
-  pub linked_so : with_name s (slot into.directory into.name.now) inode ≡ with_name s (slot_of s (path_of new)) (inode_of s (path_of old))
-  linked_so = λ i. with_name s (slot (at_new.directory i) (at_new.name i)) (same_inode i)
+  pub linked_so : with_name s (dentry into.directory into.name.now) inode ≡ with_name s (dentry_of s (path_of new)) (inode_of s (path_of old))
+  linked_so = λ i. with_name s (dentry (at_new.directory i) (at_new.name i)) (same_inode i)
 
 -- ---- names
 
-pub moved_name : (a s : State) (old new : Slot) (inode : ℕ) (left : Map slot_cmp ℕ) → a ≡ with_name s new inode → get s.entries old ≡ Some inode → get s.entries new ≡ None
+pub moved_name : (a s : State) (old new : Dentry) (inode : ℕ) (left : Map dentry_cmp ℕ) → a ≡ with_name s new inode → get s.entries old ≡ Some inode → get s.entries new ≡ None
     → left ≡ remove a.entries old → record a { entries = left } ≡ with_moved s old new inode
 moved_name a s old new inode left is there missing rest =
-    ap (λ m. record a { entries = m }) (rest ∙ ap (λ (z : State). remove z.entries old) is ∙ remove-insert_other slot_total slot_exact s.entries new old inode (two_keys s.entries new old None (Some inode) missing there (λ e. cc)))
+    ap (λ m. record a { entries = m }) (rest ∙ ap (λ (z : State). remove z.entries old) is ∙ remove-insert_other dentry_total dentry_exact s.entries new old inode (two_keys s.entries new old None (Some inode) missing there (λ e. cc)))
     ∙ ap (λ (z : State). record z { entries = insert (remove s.entries old) new inode }) is
 
 other_some : (x y : ℕ) → x ≢ y → ◌≡◌ {A = Option ℕ} (Some y) (Some x) → ⊥
 other_some x y differ e = differ cc
 
-pub moved_over : (a s : State) (old new : Slot) (inode replaced : ℕ) (over left : Map slot_cmp ℕ) → a ≡ s → get s.entries old ≡ Some inode → get s.entries new ≡ Some replaced → inode ≢ replaced
+pub moved_over : (a s : State) (old new : Dentry) (inode replaced : ℕ) (over left : Map dentry_cmp ℕ) → a ≡ s → get s.entries old ≡ Some inode → get s.entries new ≡ Some replaced → inode ≢ replaced
     → over ≡ instead a.entries new inode → left ≡ remove over old → record a { entries = left } ≡ with_moved s old new inode
 moved_over a s old new inode replaced over left is there other differ put rest =
     let over_is : over ≡ insert s.entries new inode = put ∙ ap (λ (z : State). instead z.entries new inode) is ∙ ap (λ o. option_map_or (λ (j : ℕ). insert s.entries new inode) o s.entries) other in
     ap (λ m. record a { entries = m }) (rest ∙ ap (λ m. remove m old) over_is
-    ∙ remove-insert_other slot_total slot_exact s.entries new old inode (two_keys s.entries new old (Some replaced) (Some inode) other there (other_some inode replaced differ)))
+    ∙ remove-insert_other dentry_total dentry_exact s.entries new old inode (two_keys s.entries new old (Some replaced) (Some inode) other there (other_some inode replaced differ)))
     ∙ ap (λ (z : State). record z { entries = insert (remove s.entries old) new inode }) is
 
 -- two nodes, so one of them loses the name

@@ -6,7 +6,7 @@ use Rattle.std.specs.Option.{option_map_or}
 use Rattle.ll_rights.specs.declared.errno.Errno.TheVariants.{EFBIG}
 use Rattle.ll_rights.specs.Errno.{refuse}
 use Rattle.ll_rights.specs.Map.{get}
-use Rattle.ll_seq.specs.declared.client.Client.{Client}
+use Rattle.ll_seq.specs.declared.client.ClientRecord.{ClientRecord}
 use Rattle.ll_seq.specs.declared.client.Descriptor.{Descriptor}
 use Rattle.ll_seq.specs.declared.reply.Reply.{Reply}
 use Rattle.ll_seq.specs.declared.reply.Reply.TheVariants.{Wrote}
@@ -15,7 +15,7 @@ use Rattle.ll_seq.specs.Effects.{inode_at, overwritten, with_bytes, written}
 
 -- ---- the file of a descriptor
 
-pub file_is : (c : Client) (number : ℕ) (d : Descriptor) → get c.descriptors number ≡ Some d → d.inode ≡ inode_at c number
+pub file_is : (c : ClientRecord) (number : ℕ) (d : Descriptor) → get c.descriptors number ≡ Some d → d.inode ≡ inode_at c number
 file_is c number d there = sym (ap (λ o. option_map_or (λ (e : Descriptor). e.inode) o 0) there)
 
 -- ---- how much is written

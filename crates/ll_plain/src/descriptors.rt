@@ -10,7 +10,7 @@ ghost use Rattle.ll_seq.specs.Step.{client_of};
 ghost use Rattle.ll_plain.specs.Deciding.{Comes};
 ghost use Rattle.ll_plain.specs.Outcomes.{Steps};
 ghost use Rattle.ll_seq.specs.declared.call.Call.TheVariants as calls;
-ghost use Rattle.ll_seq.specs.declared.client.Client as record_of;
+ghost use Rattle.ll_seq.specs.declared.client.ClientRecord as record_of;
 
 use crate::Plain;
 use crate::files::MOST_BYTES;

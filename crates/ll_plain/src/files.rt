@@ -9,7 +9,7 @@ ghost use Rattle.ll_path.specs.Name.{IsName};
 ghost use Rattle.ll_path.specs.Path.{parent};
 ghost use Rattle.ll_path.specs.declared.target.Target.TheVariants as targets;
 ghost use Rattle.ll_decide.specs.Verdict.{verdict};
-ghost use Rattle.ll_seq.specs.State.{bytes_of, child, kind_of, root, slot};
+ghost use Rattle.ll_seq.specs.State.{bytes_of, child, kind_of, root, dentry};
 ghost use Rattle.ll_seq.specs.Tree.{named};
 ghost use Rattle.ll_seq.specs.Asked.{grants, opening_asked};
 ghost use Rattle.ll_seq.specs.Stages.{in_the_way, lowest_free, not_to_open, not_to_truncate};
@@ -161,7 +161,7 @@ impl Plain {
         requires name { IsName spot.now.name.now }
         requires missing { child self.old spot.now.directory spot.now.name.now ≡ None }
         ensures free { IfOk result (λ number. lowest_free (client_of self.old client).descriptors ≡ Some number) }
-        ensures ok { IfOk result (λ number. self.new ≡ with_client (with_node self.old Kind.Reg (slot spot.now.directory spot.now.name.now)) client
+        ensures ok { IfOk result (λ number. self.new ≡ with_client (with_node self.old Kind.Reg (dentry spot.now.directory spot.now.name.now)) client
             (record (client_of self.old client) { descriptors = insert (client_of self.old client).descriptors number file })) }
         ensures refused { IfErr result (Fails (refuse (is_none (lowest_free (client_of self.old client).descriptors)) Errno.EMFILE)) }
         ensures err { OnErr result (self.new ≡ self.old) }

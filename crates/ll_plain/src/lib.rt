@@ -22,7 +22,7 @@ ghost use Rattle.ll_seq.specs.History.{is_connect};
 ghost use Rattle.ll_seq.specs.declared.reply.Reply.{Reply};
 
 use ll_rights::{Errno, Kind};
-use ll_seq::{Call, Client, Content, Entries, Node, Reply, Table};
+use ll_seq::{Call, ClientRecord, Content, Dentries, Node, Reply, NumberMap};
 use std::alloc::{AllocError, Global};
 use std::marker::Model;
 
@@ -32,11 +32,11 @@ const ROOT: u64 = 1;
 /// Contracts see the state.
 #[derive(Drop)]
 pub struct Plain {
-    entries: Entries,
-    nodes: Table<Node>,
+    entries: Dentries,
+    nodes: NumberMap<Node>,
     next: u64,
     room: usize,
-    clients: Table<Client>,
+    clients: NumberMap<ClientRecord>,
     alloc: Global,
 }
 
@@ -65,14 +65,14 @@ impl Plain {
             kind: Kind::Dir,
             bytes: Content::empty(alloc),
         };
-        let mut table = Table::new(alloc);
+        let mut table = NumberMap::new(alloc);
         table.insert(ROOT, root)?;
         Ok(Plain {
-            entries: Entries::new(alloc),
+            entries: Dentries::new(alloc),
             nodes: table,
             next: ROOT + 1,
             room: nodes,
-            clients: Table::new(alloc),
+            clients: NumberMap::new(alloc),
             alloc,
         })
     }

@@ -4,7 +4,7 @@ ghost use Rattle.std.specs.Prelude.{◌≡◌, ◌≢◌, ◌==◌, ◌++◌, []
 ghost use Rattle.ll_path.specs.Name.{IsName};
 ghost use Rattle.ll_decide.specs.Verdict.{verdict};
 ghost use Rattle.ll_seq.specs.Call.{path_of};
-ghost use Rattle.ll_seq.specs.State.{child, slot};
+ghost use Rattle.ll_seq.specs.State.{child, dentry};
 ghost use Rattle.ll_seq.specs.Tree.{kind_or_file};
 ghost use Rattle.ll_seq.specs.Asked.{grants, link_asked, move_between, rename_asked};
 ghost use Rattle.ll_seq.specs.Stages.{bad_text, lying, replace_refusals};
@@ -146,7 +146,7 @@ impl Plain {
     fn add_name(&mut self, directory: u64, name: &str, inode: u64) -> Result<(), AllocError>
         requires name { IsName name.now }
         requires missing { child self.old directory name.now ≡ None }
-        ensures ok { OnOk result (self.new ≡ with_name self.old (slot directory name.now) inode) }
+        ensures ok { OnOk result (self.new ≡ with_name self.old (dentry directory name.now) inode) }
         ensures err { OnErr result (self.new ≡ self.old) }
     {
         let name = Name::from_text(self.alloc, name)?;
@@ -159,7 +159,7 @@ impl Plain {
         requires name { IsName new.now.name.now }
         requires there { child self.old old.now.directory old.now.name.now ≡ Some inode }
         requires missing { child self.old new.now.directory new.now.name.now ≡ None }
-        ensures ok { OnOk result (self.new ≡ renamed self.old (slot old.now.directory old.now.name.now) (slot new.now.directory new.now.name.now) inode None) }
+        ensures ok { OnOk result (self.new ≡ renamed self.old (dentry old.now.directory old.now.name.now) (dentry new.now.directory new.now.name.now) inode None) }
         ensures free { OnOk result (move_refusals self.old inode None old.now.directory new.now.directory ≡ []) }
         ensures err { OnErr result (self.new ≡ self.old) }
         ensures refused { IfErr result (Fails (move_refusals self.old inode None old.now.directory new.now.directory)) }
@@ -198,7 +198,7 @@ impl Plain {
     ) -> Result<(), Errno>
         requires there { child self.old old.now.directory old.now.name.now ≡ Some inode }
         requires other { child self.old new.now.directory new.now.name.now ≡ Some replaced }
-        ensures ok { OnOk result (self.new ≡ renamed self.old (slot old.now.directory old.now.name.now) (slot new.now.directory new.now.name.now) inode (Some replaced)) }
+        ensures ok { OnOk result (self.new ≡ renamed self.old (dentry old.now.directory old.now.name.now) (dentry new.now.directory new.now.name.now) inode (Some replaced)) }
         ensures free { OnOk result (move_refusals self.old inode (Some replaced) old.now.directory new.now.directory ≡ []) }
         ensures err { OnErr result (self.new ≡ self.old) }
         ensures refused { IfErr result (Fails (move_refusals self.old inode (Some replaced) old.now.directory new.now.directory)) }
@@ -226,7 +226,7 @@ impl Plain {
         requires name { IsName new.now.name.now }
         requires there { child self.old old.now.directory old.now.name.now ≡ Some inode }
         requires other { child self.old new.now.directory new.now.name.now ≡ replaced }
-        ensures ok { OnOk result (self.new ≡ renamed self.old (slot old.now.directory old.now.name.now) (slot new.now.directory new.now.name.now) inode replaced) }
+        ensures ok { OnOk result (self.new ≡ renamed self.old (dentry old.now.directory old.now.name.now) (dentry new.now.directory new.now.name.now) inode replaced) }
         ensures free { OnOk result (move_refusals self.old inode replaced old.now.directory new.now.directory ≡ []) }
         ensures err { OnErr result (self.new ≡ self.old) }
         ensures refused { IfErr result (Fails (move_refusals self.old inode replaced old.now.directory new.now.directory)) }

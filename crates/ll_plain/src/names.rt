@@ -3,7 +3,7 @@
 ghost use Rattle.std.specs.Prelude.{◌≡◌, ◌<◌, ◌-◌, ◌^◌, ◌||◌, None, OnOk, OnErr, nat_le};
 ghost use Rattle.ll_rights.specs.Map.{len};
 ghost use Rattle.ll_path.specs.Name.{IsName};
-ghost use Rattle.ll_seq.specs.State.{child, slot};
+ghost use Rattle.ll_seq.specs.State.{child, dentry};
 ghost use Rattle.ll_seq.specs.Stages.{has_names, is_crowded};
 ghost use Rattle.ll_seq.specs.Effects.{let_go, lives, with_node, without_name};
 ghost use Rattle.ll_plain.specs.Deciding.{Comes};
@@ -39,7 +39,7 @@ impl Plain {
         requires next { self.old.next < 2 ^ 64 - 1 }
         requires name { IsName name.now }
         requires missing { child self.old directory name.now ≡ None }
-        ensures ok { OnOk result (self.new ≡ with_node self.old kind (slot directory name.now)) }
+        ensures ok { OnOk result (self.new ≡ with_node self.old kind (dentry directory name.now)) }
         ensures err { OnErr result (self.new ≡ self.old) }
     {
         let name = Name::from_text(self.alloc, name)?;
@@ -88,7 +88,7 @@ impl Plain {
 
     /// Takes the name of the inode away, and the node with it where nothing keeps it alive.
     fn remove(&mut self, directory: u64, name: &str, inode: u64)
-        ensures { self.new ≡ without_name self.old (slot directory name.now) inode }
+        ensures { self.new ≡ without_name self.old (dentry directory name.now) inode }
     {
         self.entries.remove(directory, name);
         self.let_go(inode);

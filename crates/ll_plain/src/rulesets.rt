@@ -10,7 +10,7 @@ use crate::Plain;
 use ll_path::Target;
 use ll_rights::{Access, Errno};
 use ll_rules::Domain;
-use ll_seq::{Client, Reply};
+use ll_seq::{ClientRecord, Reply};
 use std::alloc::AllocError;
 
 const MOST_CLIENTS: usize = 64;
@@ -88,7 +88,7 @@ impl Plain {
         let Ok(domain) = self.domain_of(client) else {
             return Reply::Refused(Errno::NoMemory);
         };
-        let child = Client::new(self.alloc, domain);
+        let child = ClientRecord::new(self.alloc, domain);
         if let Err(_) = self.clients.insert(fresh, child) {
             return Reply::Refused(Errno::NoMemory);
         }
@@ -112,7 +112,7 @@ impl Plain {
         if MOST_CLIENTS <= self.clients.len() {
             return Reply::Refused(Errno::EMFILE);
         }
-        let record = Client::new(self.alloc, Domain::empty(self.alloc));
+        let record = ClientRecord::new(self.alloc, Domain::empty(self.alloc));
         if let Err(_) = self.clients.insert(client, record) {
             return Reply::Refused(Errno::NoMemory);
         }

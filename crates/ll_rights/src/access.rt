@@ -6,6 +6,7 @@ ghost use Rattle.std.specs.Char.{digit_char};
 ghost use Rattle.std.specs.Int.Digits.{digits_of};
 ghost use Rattle.ll_rights.specs.Access.{holds, is_within, known_set, names_in, access_text};
 
+use crate::abi::Abi;
 use crate::right::Right;
 use bitflags::{Flag, Flags, bitflag_items};
 use std::alloc::{AllocError, Global};
@@ -67,13 +68,11 @@ impl Access {
     /// The fifteen rights of ABI 3.
     pub const ALL: Access = Access(0x7fff);
 
-    /// The rights that an ABI level from 1 to 3 knows.
-    pub fn known(abi: u64) -> Access
-        requires first { 1 ≤ abi }
-        requires last { abi ≤ 3 }
+    /// The rights that the ABI level knows.
+    pub fn known(abi: Abi) -> Access
         ensures { result.0 ≡ known_set abi }
     {
-        match abi {
+        match abi.number() {
             1 => Access(0x1fff),
             2 => Access(0x3fff),
             _ => Access::ALL,

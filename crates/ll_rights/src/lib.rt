@@ -2,13 +2,16 @@
 //! refusals of a call. The finite map of `specs/Map.antt` is what all crates' definitions use.
 #![tactic(auto)]
 
+mod abi;
 mod access;
 mod errno;
 mod kind;
+pub mod limits;
 mod right;
 #[cfg(test)]
 mod tests;
 
+pub use abi::Abi;
 pub use access::Access;
 pub use errno::Errno;
 pub use kind::Kind;

@@ -1,6 +1,6 @@
 //! Names and numbers as the kernel's header and errno(3) have them, and worked texts of sets.
 
-use crate::{Access, Errno, Kind, Right};
+use crate::{Abi, Access, Errno, Kind, Right};
 use std::test::Fail;
 
 #[test]
@@ -42,9 +42,11 @@ fn rights_have_their_numbers_and_names(rt: HostRuntime) {
 fn sets_have_their_rights(rt: HostRuntime) {
     assert_eq!(rt; Access::FILE, Access(0x4007));
     assert_eq!(rt; Access::ALL, Access(0x7fff));
-    assert_eq!(rt; Access::known(1), Access(0x1fff));
-    assert_eq!(rt; Access::known(2), Access(0x3fff));
-    assert_eq!(rt; Access::known(3), Access(0x7fff));
+    assert_eq!(rt; Abi::new(1).map(Access::known), Some(Access(0x1fff)));
+    assert_eq!(rt; Abi::new(2).map(Access::known), Some(Access(0x3fff)));
+    assert_eq!(rt; Abi::new(3).map(Access::known), Some(Access(0x7fff)));
+    assert_eq!(rt; Abi::new(0), None);
+    assert_eq!(rt; Abi::new(4), None);
     assert_eq!(rt; Access(0x6).with(Access(0x4001)), Access(0x4007));
     assert!(rt; Access(0x4).holds(Right::READ_FILE));
     assert!(rt; !Access(0x4).holds(Right::WRITE_FILE));

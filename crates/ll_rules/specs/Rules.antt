@@ -3,15 +3,16 @@ use Rattle.std.specs.Prelude.{ℕ, not, ◌&&◌, ◌==◌, List, ◌++◌, leng
 use Rattle.ll_rights.specs.declared.kind.Kind.{Kind}
 use Rattle.ll_rights.specs.declared.errno.Errno.{Errno}
 use Rattle.ll_rights.specs.declared.errno.Errno.TheVariants.{EINVAL, ENOMSG, E2BIG}
+use Rattle.ll_rights.specs.declared.limits.TheConstants.{RULESET_INODES, DOMAIN_LAYERS}
 use Rattle.ll_rights.specs.Errno.{refuse}
-use Rattle.ll_rights.specs.Access.{all_set, file_set, is_within}
+use Rattle.ll_rights.specs.Access.{known_set, file_set, is_within}
 use Rattle.ll_rights.specs.Kind.{is_dir}
 use Rattle.ll_rights.specs.Map.{empty, get, has, insert, len}
 use Rattle.ll_rules.specs.Layer.{Layer}
 
--- Of the refusals that hold the first is given.
-abbrev pub create_refusals : ℕ → List Errno
-create_refusals handled = refuse (not (is_within handled all_set)) EINVAL ++ refuse (handled == 0) ENOMSG
+-- Of the refusals that hold the first is given. abi: the level, which knows some rights. landlock.rst, "Landlock ABI versions"
+abbrev pub create_refusals : ℕ → ℕ → List Errno
+create_refusals abi handled = refuse (not (is_within handled (known_set abi))) EINVAL ++ refuse (handled == 0) ENOMSG
 
 abbrev pub new_ruleset : ℕ → Layer
 new_ruleset handled = record { handled = handled; rules = empty }
@@ -23,14 +24,14 @@ rule_refusals ruleset' kind rights =
     ++ refuse (not (is_within rights ruleset'.handled)) EINVAL
     ++ refuse (not (is_dir kind) && not (is_within rights file_set)) EINVAL
 
--- a ruleset has rules on at most 256 inodes. own
+-- a ruleset has rules on at most so many inodes. own
 abbrev pub rule_limit : Layer → ℕ → List Errno
-rule_limit ruleset' inode = refuse (nat_le 256 (len ruleset'.rules) && not (has ruleset'.rules inode)) E2BIG
+rule_limit ruleset' inode = refuse (nat_le RULESET_INODES (len ruleset'.rules) && not (has ruleset'.rules inode)) E2BIG
 
 -- with one rule more; two rules on one inode are joined
 abbrev pub with_rule : Layer → ℕ → ℕ → Layer
 with_rule ruleset' inode rights = record ruleset' { rules = insert ruleset'.rules inode (bit_or (unwrap_or (get ruleset'.rules inode) 0) rights) }
 
--- landlock.rst, "Ruleset layers": a domain has at most 16 layers
+-- landlock.rst, "Ruleset layers": a domain has at most so many layers
 abbrev pub layer_limit : List Layer → List Errno
-layer_limit domain = refuse (nat_le 16 (length domain)) E2BIG
+layer_limit domain = refuse (nat_le DOMAIN_LAYERS (length domain)) E2BIG

@@ -6,6 +6,7 @@ ghost use Rattle.ll_rules.specs.Rules.{layer_limit};
 use crate::layer::Layer;
 use crate::ruleset::Ruleset;
 use ll_rights::Errno;
+use ll_rights::limits::DOMAIN_LAYERS;
 use std::alloc::{AllocError, Global};
 use std::marker::Model;
 
@@ -14,8 +15,6 @@ use std::marker::Model;
 pub struct Domain {
     layers: Vec<Layer>,
 }
-
-const MOST_LAYERS: usize = 16;
 
 impl Model for Domain {
     ghost use Rattle.std.specs.Prelude.{List, ◌≤◌, length};
@@ -51,7 +50,7 @@ impl Domain {
         ensures starved { result ≡ Err Errno.NoMemory → layer_limit self.old ≡ [] }
         ensures err { OnErr result (self.new ≡ self.old) }
     {
-        if self.len() >= MOST_LAYERS {
+        if self.len() >= DOMAIN_LAYERS {
             return Err(Errno::E2BIG);
         }
         let Ok(layer) = made.layer().clone() else {

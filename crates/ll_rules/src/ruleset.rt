@@ -4,7 +4,8 @@ ghost use Rattle.std.specs.Prelude.{◌≡◌, ◌≢◌, [], ◌++◌, slice_ge
 ghost use Rattle.ll_rules.specs.Rules.{create_refusals, new_ruleset, rule_refusals, rule_limit, with_rule};
 
 use crate::layer::Layer;
-use ll_rights::{Access, Errno, Kind};
+use ll_rights::limits::RULESET_INODES;
+use ll_rights::{Abi, Access, Errno, Kind};
 use std::alloc::{AllocError, Global};
 use std::marker::Model;
 
@@ -13,8 +14,6 @@ use std::marker::Model;
 pub struct Ruleset {
     layer: Layer,
 }
-
-const MOST_RULES: usize = 256;
 
 impl Model for Ruleset {
     ghost use Rattle.ll_rules.specs.Layer.{Layer};
@@ -28,12 +27,12 @@ impl Model for Ruleset {
 }
 
 impl Ruleset {
-    /// A ruleset that handles these rights. Takes no memory.
-    pub fn create(alloc: Global, handled: Access) -> Result<Ruleset, Errno>
-        ensures ok { IfOk result (λ made. (create_refusals handled.0 ≡ []) × (made ≡ new_ruleset handled.0)) }
-        ensures err { IfErr result (λ errno. slice_get (create_refusals handled.0) 0 ≡ Some errno) }
+    /// A ruleset that handles these rights, at an ABI level. Takes no memory.
+    pub fn create(alloc: Global, abi: Abi, handled: Access) -> Result<Ruleset, Errno>
+        ensures ok { IfOk result (λ made. (create_refusals abi handled.0 ≡ []) × (made ≡ new_ruleset handled.0)) }
+        ensures err { IfErr result (λ errno. slice_get (create_refusals abi handled.0) 0 ≡ Some errno) }
     {
-        if !handled.is_within(Access::ALL) {
+        if !handled.is_within(Access::known(abi)) {
             return Err(Errno::EINVAL);
         }
         if handled.0 == 0 {
@@ -65,7 +64,7 @@ impl Ruleset {
         if !kind.is_dir() && !rights.is_within(Access::FILE) {
             return Err(Errno::EINVAL);
         }
-        if self.layer.rule_count() >= MOST_RULES && !self.layer.has_inode(inode) {
+        if self.layer.rule_count() >= RULESET_INODES && !self.layer.has_inode(inode) {
             return Err(Errno::E2BIG);
         }
         if self.layer.add_rule(inode, rights).is_err() {

@@ -1,7 +1,7 @@
 //! That the calls succeed where there is memory, and worked examples.
 
 use crate::{Domain, Ruleset};
-use ll_rights::{Access, Errno, Kind, Right};
+use ll_rights::{Abi, Access, Errno, Kind, Right};
 use std::process::Abort;
 use std::test::Fail;
 
@@ -43,17 +43,17 @@ fn makes_rulesets(rt: HostRuntime) -> Result<(), Fail> {
         (0x8000, Errno::EINVAL),
         (0xffff, Errno::EINVAL),
     ] {
-        let refused = Ruleset::create(rt.alloc(), Access(handled)).err();
+        let refused = Ruleset::create(rt.alloc(), Abi::NEWEST, Access(handled)).err();
         assert_eq!(rt; refused, Some(want), "at {handled}");
     }
-    let made = Ruleset::create(rt.alloc(), Access::ALL)?;
+    let made = Ruleset::create(rt.alloc(), Abi::NEWEST, Access::ALL)?;
     assert_eq!(rt; made.layer().handled(), Access::ALL);
     Ok(())
 }
 
 #[test]
 fn refuses_rules(rt: HostRuntime) -> Result<(), Fail> {
-    let mut made = Ruleset::create(rt.alloc(), Access::MAKE_REG)?;
+    let mut made = Ruleset::create(rt.alloc(), Abi::NEWEST, Access::MAKE_REG)?;
     for (kind, rights, want) in [
         (Kind::Reg, Access::MAKE_REG, Errno::EINVAL),
         (Kind::Dir, Access(0), Errno::ENOMSG),
@@ -68,7 +68,7 @@ fn refuses_rules(rt: HostRuntime) -> Result<(), Fail> {
 
 #[test]
 fn joins_rules_on_one_inode(rt: HostRuntime) -> Result<(), Fail> {
-    let mut made = Ruleset::create(rt.alloc(), BOTH)?;
+    let mut made = Ruleset::create(rt.alloc(), Abi::NEWEST, BOTH)?;
     allow(&rt, &mut made, 7, Access::WRITE_FILE);
     allow(&rt, &mut made, 7, Access::READ_FILE);
     assert_eq!(rt; made.layer().rule(7), BOTH);
@@ -79,7 +79,7 @@ fn joins_rules_on_one_inode(rt: HostRuntime) -> Result<(), Fail> {
 
 #[test]
 fn restricts_refer_though_unhandled(rt: HostRuntime) -> Result<(), Fail> {
-    let made = Ruleset::create(rt.alloc(), BOTH)?;
+    let made = Ruleset::create(rt.alloc(), Abi::NEWEST, BOTH)?;
     assert!(rt; made.layer().restricts(Right::READ_FILE));
     assert!(rt; made.layer().restricts(Right::REFER));
     assert!(rt; !made.layer().restricts(Right::EXECUTE));
@@ -88,7 +88,7 @@ fn restricts_refer_though_unhandled(rt: HostRuntime) -> Result<(), Fail> {
 
 #[test]
 fn has_rules_on_256_inodes(rt: HostRuntime) -> Result<(), Fail> {
-    let mut made = Ruleset::create(rt.alloc(), BOTH)?;
+    let mut made = Ruleset::create(rt.alloc(), Abi::NEWEST, BOTH)?;
     for inode in 0..256 {
         allow(&rt, &mut made, inode, Access::READ_FILE);
     }
@@ -107,7 +107,7 @@ fn has_rules_on_256_inodes(rt: HostRuntime) -> Result<(), Fail> {
 fn stacks_16_layers(rt: HostRuntime) -> Result<(), Fail> {
     let mut domain = Domain::empty(rt.alloc());
     assert!(rt; domain.is_empty());
-    let made = Ruleset::create(rt.alloc(), BOTH)?;
+    let made = Ruleset::create(rt.alloc(), Abi::NEWEST, BOTH)?;
     for _ in 0..16 {
         stack(&rt, &mut domain, &made);
     }
@@ -119,7 +119,7 @@ fn stacks_16_layers(rt: HostRuntime) -> Result<(), Fail> {
 #[test]
 fn later_rules_leave_an_enforced_layer(rt: HostRuntime) -> Result<(), Fail> {
     let mut domain = Domain::empty(rt.alloc());
-    let mut made = Ruleset::create(rt.alloc(), BOTH)?;
+    let mut made = Ruleset::create(rt.alloc(), Abi::NEWEST, BOTH)?;
     allow(&rt, &mut made, 7, Access::READ_FILE);
     stack(&rt, &mut domain, &made);
     allow(&rt, &mut made, 7, Access::WRITE_FILE);
@@ -131,7 +131,7 @@ fn later_rules_leave_an_enforced_layer(rt: HostRuntime) -> Result<(), Fail> {
 
 #[test]
 fn copies_stand_alone(rt: HostRuntime) -> Result<(), Fail> {
-    let mut made = Ruleset::create(rt.alloc(), BOTH)?;
+    let mut made = Ruleset::create(rt.alloc(), Abi::NEWEST, BOTH)?;
     allow(&rt, &mut made, 7, Access::READ_FILE);
     let copy = match made.copy() {
         Ok(copy) => copy,

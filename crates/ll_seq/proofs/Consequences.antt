@@ -22,21 +22,21 @@ use Rattle.ll_path.specs.declared.target.Target.{Target}
 use Rattle.ll_path.specs.declared.target.Target.TheVariants.{Good, Bad}
 use Rattle.ll_decide.specs.declared.denial.Denial.{Denial}
 use Rattle.ll_decide.specs.Verdict.{when}
-use Rattle.ll_seq.specs.declared.client.Client.{Client}
+use Rattle.ll_seq.specs.declared.client.ClientRecord.{ClientRecord}
 use Rattle.ll_seq.specs.declared.client.Descriptor.{Descriptor}
-use Rattle.ll_seq.specs.declared.entries.Slot.{Slot}
+use Rattle.ll_seq.specs.declared.dentries.Dentry.{Dentry}
 use Rattle.ll_seq.specs.declared.node.Node.{Node}
 use Rattle.ll_seq.specs.declared.call.Mode.{Mode}
 use Rattle.ll_seq.specs.declared.call.Call.{Call}
 use Rattle.ll_seq.specs.declared.call.Call.TheVariants.{Make, Open, Read, Write, Ftruncate, Close, Truncate, ReadDir, Stat, Exec, Unlink, Rmdir, Rename, Link, Ruleset, Allow, Confine, Spawn, Connect}
 use Rattle.ll_seq.specs.declared.reply.Reply.{Reply}
 use Rattle.ll_seq.specs.declared.reply.Reply.TheVariants.{Done, Opened, Bytes, Wrote, Listed, Found, Created, Spawned, Refused, Denied}
-use Rattle.ll_seq.specs.State.{State, slot_cmp, child, root, bytes_of, new_client}
+use Rattle.ll_seq.specs.State.{State, dentry_cmp, child, root, bytes_of, new_client}
 use Rattle.ll_seq.specs.Call.{creates, is_exclusive, path_of}
 use Rattle.ll_seq.specs.Tree.{named, inode_of, directory_of, kind_or_file, kind_at}
 use Rattle.ll_seq.specs.Asked.{call_denials}
 use Rattle.ll_seq.specs.Stages.{bad_text, text_refusals, number_refusals, relation_refusals, walk_refusals, existence_refusals, kind_refusals, limit_refusals, in_the_way, kind_of_child, no_directory, way_to, missing, present, without, no_space, lying, replace_refusals, enters, has_many_names, not_to_open, not_to_truncate, is_dir_at, has_names, is_too_long, ruleset_at, is_crowded, lowest_free}
-use Rattle.ll_seq.specs.Effects.{lives, let_go, without_name, with_moved, renamed, slot_of, resized, overwritten, with_bytes, with_client, with_node, with_opened, emptied, after_opening, written, inode_at, done}
+use Rattle.ll_seq.specs.Effects.{lives, let_go, without_name, with_moved, renamed, dentry_of, resized, overwritten, with_bytes, with_client, with_node, with_opened, emptied, after_opening, written, inode_at, done}
 use Rattle.ll_seq.specs.Step.{step, first_or, refusals, client_of, IsAnswer}
 
 -- ---- refusals
@@ -187,11 +187,11 @@ text_fine (Confine rs) = tt
 text_fine Spawn = tt
 text_fine Connect = tt
 
-without_fine : (c : Client) (fd : ℕ) (allows : Descriptor → Bool) (e : Errno) → Fine e → AllFine (without c fd allows e)
+without_fine : (c : ClientRecord) (fd : ℕ) (allows : Descriptor → Bool) (e : Errno) → Fine e → AllFine (without c fd allows e)
 without_fine c fd allows e fine = joined (refuse (is_none (get c.descriptors fd)) EBADF) (refuse (not (option_map_or allows (get c.descriptors fd) true)) e)
     (if_refused (is_none (get c.descriptors fd)) EBADF (omega arith, omega arith)) (if_refused (not (option_map_or allows (get c.descriptors fd) true)) e fine)
 
-number_fine : (c : Client) (call : Call) → AllFine (number_refusals c call)
+number_fine : (c : ClientRecord) (call : Call) → AllFine (number_refusals c call)
 number_fine c (Make kind t) = tt
 number_fine c (Open mode t) = tt
 number_fine c (Read fd offset count) = without_fine c fd (λ d. d.reads) EBADF (omega arith, omega arith)
@@ -292,7 +292,7 @@ replace_fine s inode replaced = when_fine (not (inode == replaced)) _
     (three (is_dir (kind_or_file s replaced) && not (is_dir (kind_or_file s inode))) (is_dir (kind_or_file s inode) && not (is_dir (kind_or_file s replaced)))
     (is_dir (kind_or_file s replaced) && has_names s replaced) EISDIR ENOTDIR ENOTEMPTY (omega arith, omega arith) (omega arith, omega arith) (omega arith, omega arith))
 
-kind_fine : (s : State) (c : Client) (call : Call) → AllFine (kind_refusals s c call)
+kind_fine : (s : State) (c : ClientRecord) (call : Call) → AllFine (kind_refusals s c call)
 kind_fine s c (Make kind t) = tt
 kind_fine s c (Open mode t) = when_fine (is_some (named s (path_of t))) (not_to_open (kind_at s (path_of t))) (open_fine (kind_at s (path_of t)))
 kind_fine s c (Read fd offset count) = tt
@@ -319,7 +319,7 @@ kind_fine s c Connect = tt
 space_fine : (s : State) (directory : ℕ) → AllFine (no_space s directory)
 space_fine s directory = if_refused (is_crowded s directory || nat_le s.room (len s.nodes)) ENOSPC (omega arith, omega arith)
 
-limit_fine : (s : State) (c : Client) (call : Call) → AllFine (limit_refusals s c call)
+limit_fine : (s : State) (c : ClientRecord) (call : Call) → AllFine (limit_refusals s c call)
 limit_fine s c (Make kind t) = space_fine s (directory_of s (path_of t))
 limit_fine s c (Open mode t) = joined (refuse (is_none (lowest_free c.descriptors)) EMFILE) (when (is_none (named s (path_of t))) (no_space s (directory_of s (path_of t))))
     (if_refused (is_none (lowest_free c.descriptors)) EMFILE (omega arith, omega arith))
@@ -344,12 +344,12 @@ limit_fine s c (Confine rs) = if_refused (nat_le 16 (length c.domain)) E2BIG (om
 limit_fine s c Spawn = if_refused (nat_le 64 (len s.clients)) EMFILE (omega arith, omega arith)
 limit_fine s c Connect = if_refused (nat_le 64 (len s.clients)) EMFILE (omega arith, omega arith)
 
-all_refusals : (s : State) (c : Client) (call : Call) → AllRefuse (refusals s c call)
+all_refusals : (s : State) (c : ClientRecord) (call : Call) → AllRefuse (refusals s c call)
 all_refusals s c call =
     all_stages (text_refusals call) (number_refusals c call) (relation_refusals call) (walk_refusals s call) (existence_refusals s call) (call_denials s c call) (kind_refusals s c call) (limit_refusals s c call)
     (text_fine call) (number_fine c call) (relation_fine call) (walk_fine s call) (existence_fine s call) (kind_fine s c call) (limit_fine s c call)
 
-done_settles : (s : State) (number : ℕ) (c : Client) (call : Call) (fresh : ℕ) → Settles (done s number c call fresh).0
+done_settles : (s : State) (number : ℕ) (c : ClientRecord) (call : Call) (fresh : ℕ) → Settles (done s number c call fresh).0
 done_settles s number c (Make kind t) fresh = tt
 done_settles s number c (Open mode t) fresh = tt
 done_settles s number c (Read fd offset count) fresh = tt
@@ -417,17 +417,17 @@ written_beside s inode offset bytes = of (length bytes == 0)
     of false = bytes_beside s inode (overwritten (bytes_of s inode) offset bytes)
 
 -- where a name went, its node may have gone with it
-let_go_beside : (s : State) (entries : Map slot_cmp ℕ) (inode : ℕ) → Beside s (let_go (record s { entries = entries }) inode)
+let_go_beside : (s : State) (entries : Map dentry_cmp ℕ) (inode : ℕ) → Beside s (let_go (record s { entries = entries }) inode)
 let_go_beside s entries inode = of (lives (record s { entries = entries }) inode)
   where
     of : (b : Bool) → Beside s (if b then record s { entries = entries } else record s { entries = entries; nodes = remove s.nodes inode })
     of true = record { clients = refl; next = refl }
     of false = record { clients = refl; next = refl }
 
-gone_beside : (s : State) (at : Slot) (inode : ℕ) → Beside s (without_name s at inode)
+gone_beside : (s : State) (at : Dentry) (inode : ℕ) → Beside s (without_name s at inode)
 gone_beside s at inode = let_go_beside s (remove s.entries at) inode
 
-renamed_beside : (s : State) (old new : Slot) (inode : ℕ) (replaced : Option ℕ) → Beside s (renamed s old new inode replaced)
+renamed_beside : (s : State) (old new : Dentry) (inode : ℕ) (replaced : Option ℕ) → Beside s (renamed s old new inode replaced)
 renamed_beside s old new inode None = record { clients = refl; next = refl }
 renamed_beside s old new inode (Some replaced) = of (inode == replaced)
   where
@@ -436,34 +436,34 @@ renamed_beside s old new inode (Some replaced) = of (inode == replaced)
     of false = let_go_beside s (insert (remove s.entries old) new inode) replaced
 
 -- the clients stand as before, or the caller has changed, or there is a new one, which is told
-abbrev Touches : State → ℕ → ℕ → Reply → Map nat_cmp Client → Type 0
+abbrev Touches : State → ℕ → ℕ → Reply → Map nat_cmp ClientRecord → Type 0
 Touches s number fresh r clients =
-    ((is_spawned r ≡ false) × ((clients ≡ s.clients) ⊎ ((x : Client) × (clients ≡ insert s.clients number x))))
-    ⊎ ((r ≡ Spawned fresh) × ((x : Client) × (clients ≡ insert s.clients fresh x)))
+    ((is_spawned r ≡ false) × ((clients ≡ s.clients) ⊎ ((x : ClientRecord) × (clients ≡ insert s.clients number x))))
+    ⊎ ((r ≡ Spawned fresh) × ((x : ClientRecord) × (clients ≡ insert s.clients fresh x)))
 
-stand : (s : State) (number fresh : ℕ) (r : Reply) (clients : Map nat_cmp Client) → is_spawned r ≡ false → clients ≡ s.clients → Touches s number fresh r clients
+stand : (s : State) (number fresh : ℕ) (r : Reply) (clients : Map nat_cmp ClientRecord) → is_spawned r ≡ false → clients ≡ s.clients → Touches s number fresh r clients
 stand s number fresh r clients quiet is = inl (quiet, inl is)
 
-own : (s : State) (number fresh : ℕ) (r : Reply) (x : Client) (clients : Map nat_cmp Client) → is_spawned r ≡ false → clients ≡ insert s.clients number x → Touches s number fresh r clients
+own : (s : State) (number fresh : ℕ) (r : Reply) (x : ClientRecord) (clients : Map nat_cmp ClientRecord) → is_spawned r ≡ false → clients ≡ insert s.clients number x → Touches s number fresh r clients
 own s number fresh r x clients quiet is = inl (quiet, inr (x, is))
 
-opening_clients : (s : State) (number : ℕ) (c : Client) (mode : Mode) (path : Path) (fresh : ℕ) (r : Reply) → is_spawned r ≡ false → Touches s number fresh r (after_opening s number c mode path).clients
+opening_clients : (s : State) (number : ℕ) (c : ClientRecord) (mode : Mode) (path : Path) (fresh : ℕ) (r : Reply) → is_spawned r ≡ false → Touches s number fresh r (after_opening s number c mode path).clients
 opening_clients s number c mode path fresh r quiet = of (is_none (named s path))
   where
-    of : (b : Bool) → Touches s number fresh r (if b then with_client (with_node s Reg (slot_of s path)) number (with_opened s c mode path s.next)
+    of : (b : Bool) → Touches s number fresh r (if b then with_client (with_node s Reg (dentry_of s path)) number (with_opened s c mode path s.next)
         else with_client (emptied s mode (inode_of s path)) number (with_opened s c mode path (inode_of s path))).clients
     of true = own s number fresh r (with_opened s c mode path s.next) _ quiet refl
     of false = own s number fresh r (with_opened s c mode path (inode_of s path)) _ quiet
         (ap (λ m. insert m number (with_opened s c mode path (inode_of s path))) (emptied_beside s mode (inode_of s path)).clients)
 
-closed_clients : (s : State) (number : ℕ) (x : Client) (inode : ℕ) → (let_go (with_client s number x) inode).clients ≡ insert s.clients number x
+closed_clients : (s : State) (number : ℕ) (x : ClientRecord) (inode : ℕ) → (let_go (with_client s number x) inode).clients ≡ insert s.clients number x
 closed_clients s number x inode = of (lives (with_client s number x) inode)
   where
     of : (b : Bool) → (if b then with_client s number x else record s { clients = insert s.clients number x; nodes = remove s.nodes inode }).clients ≡ insert s.clients number x
     of true = refl
     of false = refl
 
-done_clients : (s : State) (number : ℕ) (c : Client) (call : Call) (fresh : ℕ) → Touches s number fresh (done s number c call fresh).0 (done s number c call fresh).1.clients
+done_clients : (s : State) (number : ℕ) (c : ClientRecord) (call : Call) (fresh : ℕ) → Touches s number fresh (done s number c call fresh).0 (done s number c call fresh).1.clients
 done_clients s number c (Make kind t) fresh = stand s number fresh _ _ refl refl
 done_clients s number c (Open mode t) fresh = opening_clients s number c mode (path_of t) fresh (Opened (unwrap_or (lowest_free c.descriptors) 0)) refl
 done_clients s number c (Read fd offset count) fresh = stand s number fresh _ _ refl refl
@@ -474,9 +474,9 @@ done_clients s number c (Truncate t size) fresh = stand s number fresh _ _ refl 
 done_clients s number c (ReadDir t) fresh = stand s number fresh _ _ refl refl
 done_clients s number c (Stat t) fresh = stand s number fresh _ _ refl refl
 done_clients s number c (Exec t) fresh = stand s number fresh _ _ refl refl
-done_clients s number c (Unlink t) fresh = stand s number fresh _ _ refl (gone_beside s (slot_of s (path_of t)) (inode_of s (path_of t))).clients
-done_clients s number c (Rmdir t) fresh = stand s number fresh _ _ refl (gone_beside s (slot_of s (path_of t)) (inode_of s (path_of t))).clients
-done_clients s number c (Rename o n) fresh = stand s number fresh _ _ refl (renamed_beside s (slot_of s (path_of o)) (slot_of s (path_of n)) (inode_of s (path_of o)) (named s (path_of n))).clients
+done_clients s number c (Unlink t) fresh = stand s number fresh _ _ refl (gone_beside s (dentry_of s (path_of t)) (inode_of s (path_of t))).clients
+done_clients s number c (Rmdir t) fresh = stand s number fresh _ _ refl (gone_beside s (dentry_of s (path_of t)) (inode_of s (path_of t))).clients
+done_clients s number c (Rename o n) fresh = stand s number fresh _ _ refl (renamed_beside s (dentry_of s (path_of o)) (dentry_of s (path_of n)) (inode_of s (path_of o)) (named s (path_of n))).clients
 done_clients s number c (Link o n) fresh = stand s number fresh _ _ refl refl
 done_clients s number c (Ruleset rights) fresh = own s number fresh _ _ _ refl refl
 done_clients s number c (Allow rs t rights) fresh = own s number fresh _ _ _ refl refl
@@ -489,27 +489,27 @@ step_clients s number call fresh =
     refused_or (λ r z. Touches s number fresh r z.clients) s (refusals s (client_of s number) call) (done s number (client_of s number) call fresh) (all_refusals s (client_of s number) call)
     (λ r refuses. stand s number fresh r s.clients refuses.1 refl) (done_clients s number (client_of s number) call fresh)
 
-still_there : (b : Bool) (o : Option Client) (c : Client) → is_some o ≡ true → is_some (cond b (Some c) o) ≡ true
+still_there : (b : Bool) (o : Option ClientRecord) (c : ClientRecord) → is_some o ≡ true → is_some (cond b (Some c) o) ≡ true
 still_there true o c h = refl
 still_there false o c h = h
 
-has_inserted : (m : Map nat_cmp Client) (k : ℕ) (x : Client) (other : ℕ) → has (insert m k x) other ≡ is_some (cond (eq_by_cmp nat_cmp other k) (Some x) (get m other))
+has_inserted : (m : Map nat_cmp ClientRecord) (k : ℕ) (x : ClientRecord) (other : ℕ) → has (insert m k x) other ≡ is_some (cond (eq_by_cmp nat_cmp other k) (Some x) (get m other))
 has_inserted m k x other = ap is_some (get-insert nat_cmp_total nat_cmp-IsAntisymmetric m k x other)
 
-stays : (m : Map nat_cmp Client) (k : ℕ) (x : Client) (clients : Map nat_cmp Client) (other : ℕ) → clients ≡ insert m k x → has m other ≡ true → has clients other ≡ true
-stays m k x clients other is h = ap (λ (n : Map nat_cmp Client). has n other) is ∙ has_inserted m k x other ∙ still_there (eq_by_cmp nat_cmp other k) (get m other) x h
+stays : (m : Map nat_cmp ClientRecord) (k : ℕ) (x : ClientRecord) (clients : Map nat_cmp ClientRecord) (other : ℕ) → clients ≡ insert m k x → has m other ≡ true → has clients other ≡ true
+stays m k x clients other is h = ap (λ (n : Map nat_cmp ClientRecord). has n other) is ∙ has_inserted m k x other ∙ still_there (eq_by_cmp nat_cmp other k) (get m other) x h
 
 pub step-clients_stay : (s : State) (number : ℕ) (call : Call) (fresh other : ℕ) → has s.clients other ≡ true → has (step s number call fresh).1.clients other ≡ true
 step-clients_stay s number call fresh other h =
     elim (step_clients s number call fresh) [
       | inl quiet ↦ elim quiet.1 [
-        | inl same ↦ ap (λ (m : Map nat_cmp Client). has m other) same ∙ h
+        | inl same ↦ ap (λ (m : Map nat_cmp ClientRecord). has m other) same ∙ h
         | inr made ↦ stays s.clients number made.0 _ other made.1 h
       ]
       | inr made ↦ stays s.clients fresh made.1.0 _ other made.1.1 h
     ]
 
-beside : (b : Bool) (o : Option Client) (c : Client) → b ≡ false → is_some (cond b (Some c) o) ≡ is_some o
+beside : (b : Bool) (o : Option ClientRecord) (c : ClientRecord) → b ≡ false → is_some (cond b (Some c) o) ≡ is_some o
 beside true o c h = absurd cc
 beside false o c h = refl
 
@@ -520,9 +520,9 @@ unequal m n differ = of (eq_by_cmp nat_cmp m n) refl
     of true e = absurd (differ (nat_cmp-IsAntisymmetric m n (equal_at _ e)))
     of false e = refl
 
-untouched : (m : Map nat_cmp Client) (k : ℕ) (x : Client) (clients : Map nat_cmp Client) (other : ℕ) → clients ≡ insert m k x → other ≢ k → has clients other ≡ has m other
+untouched : (m : Map nat_cmp ClientRecord) (k : ℕ) (x : ClientRecord) (clients : Map nat_cmp ClientRecord) (other : ℕ) → clients ≡ insert m k x → other ≢ k → has clients other ≡ has m other
 untouched m k x clients other is differ =
-    ap (λ (n : Map nat_cmp Client). has n other) is ∙ has_inserted m k x other ∙ beside (eq_by_cmp nat_cmp other k) (get m other) x (unequal other k differ)
+    ap (λ (n : Map nat_cmp ClientRecord). has n other) is ∙ has_inserted m k x other ∙ beside (eq_by_cmp nat_cmp other k) (get m other) x (unequal other k differ)
 
 -- other clients stand as before, but for one that is told as spawned
 pub step-no_other : (s : State) (number : ℕ) (call : Call) (fresh other : ℕ) → other ≢ number → (step s number call fresh).0 ≢ Spawned other
@@ -530,7 +530,7 @@ pub step-no_other : (s : State) (number : ℕ) (call : Call) (fresh other : ℕ)
 step-no_other s number call fresh other a told =
     elim (step_clients s number call fresh) [
       | inl quiet ↦ elim quiet.1 [
-        | inl same ↦ ap (λ (m : Map nat_cmp Client). has m other) same
+        | inl same ↦ ap (λ (m : Map nat_cmp ClientRecord). has m other) same
         | inr made ↦ untouched s.clients number made.0 _ other made.1 a
       ]
       | inr made ↦ untouched s.clients fresh made.1.0 _ other made.1.1 (λ same. told (made.0 ∙ ap Spawned (sym same)))
@@ -547,27 +547,27 @@ step-spawned s number call fresh told is =
       | inr made ↦ (
           let same : told ≡ fresh = (let both : Spawned told ≡ Spawned fresh = sym is ∙ made.0 in cc) in (
             same,
-            ap (λ (m : Map nat_cmp Client). has m told) made.1.1 ∙ ap (λ k. has (insert s.clients fresh made.1.0) k) same
+            ap (λ (m : Map nat_cmp ClientRecord). has m told) made.1.1 ∙ ap (λ k. has (insert s.clients fresh made.1.0) k) same
                 ∙ ap is_some (get-insert_same nat_cmp_total nat_cmp-IsAntisymmetric s.clients fresh made.1.0),
           ))
     ]
 
-opening_next : (s : State) (number : ℕ) (c : Client) (mode : Mode) (path : Path) → (after_opening s number c mode path).next ≤ s.next + 1
+opening_next : (s : State) (number : ℕ) (c : ClientRecord) (mode : Mode) (path : Path) → (after_opening s number c mode path).next ≤ s.next + 1
 opening_next s number c mode path = of (is_none (named s path))
   where
-    of : (b : Bool) → (if b then with_client (with_node s Reg (slot_of s path)) number (with_opened s c mode path s.next)
+    of : (b : Bool) → (if b then with_client (with_node s Reg (dentry_of s path)) number (with_opened s c mode path s.next)
         else with_client (emptied s mode (inode_of s path)) number (with_opened s c mode path (inode_of s path))).next ≤ s.next + 1
     of true = omega arith
     of false = omega (arith, (emptied_beside s mode (inode_of s path)).next)
 
-closed_next : (s : State) (number : ℕ) (x : Client) (inode : ℕ) → (let_go (with_client s number x) inode).next ≡ s.next
+closed_next : (s : State) (number : ℕ) (x : ClientRecord) (inode : ℕ) → (let_go (with_client s number x) inode).next ≡ s.next
 closed_next s number x inode = of (lives (with_client s number x) inode)
   where
     of : (b : Bool) → (if b then with_client s number x else record s { clients = insert s.clients number x; nodes = remove s.nodes inode }).next ≡ s.next
     of true = refl
     of false = refl
 
-done_next : (s : State) (number : ℕ) (c : Client) (call : Call) (fresh : ℕ) → (done s number c call fresh).1.next ≤ s.next + 1
+done_next : (s : State) (number : ℕ) (c : ClientRecord) (call : Call) (fresh : ℕ) → (done s number c call fresh).1.next ≤ s.next + 1
 done_next s number c (Make kind t) fresh = omega arith
 done_next s number c (Open mode t) fresh = opening_next s number c mode (path_of t)
 done_next s number c (Read fd offset count) fresh = omega arith
@@ -578,9 +578,9 @@ done_next s number c (Truncate t size) fresh = omega (arith, (bytes_beside s (in
 done_next s number c (ReadDir t) fresh = omega arith
 done_next s number c (Stat t) fresh = omega arith
 done_next s number c (Exec t) fresh = omega arith
-done_next s number c (Unlink t) fresh = omega (arith, (gone_beside s (slot_of s (path_of t)) (inode_of s (path_of t))).next)
-done_next s number c (Rmdir t) fresh = omega (arith, (gone_beside s (slot_of s (path_of t)) (inode_of s (path_of t))).next)
-done_next s number c (Rename o n) fresh = omega (arith, (renamed_beside s (slot_of s (path_of o)) (slot_of s (path_of n)) (inode_of s (path_of o)) (named s (path_of n))).next)
+done_next s number c (Unlink t) fresh = omega (arith, (gone_beside s (dentry_of s (path_of t)) (inode_of s (path_of t))).next)
+done_next s number c (Rmdir t) fresh = omega (arith, (gone_beside s (dentry_of s (path_of t)) (inode_of s (path_of t))).next)
+done_next s number c (Rename o n) fresh = omega (arith, (renamed_beside s (dentry_of s (path_of o)) (dentry_of s (path_of n)) (inode_of s (path_of o)) (named s (path_of n))).next)
 done_next s number c (Link o n) fresh = omega arith
 done_next s number c (Ruleset rights) fresh = omega arith
 done_next s number c (Allow rs t rights) fresh = omega arith

@@ -1,10 +1,10 @@
 pub mod Bytes
 pub mod Chains
 pub mod Consequences
+pub mod DentryOrder
 pub mod Examples
 pub mod Numbers
 pub mod Parted
 pub mod Results
 pub mod Rows
-pub mod Slots
 pub mod Tables

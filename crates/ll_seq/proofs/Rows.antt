@@ -1,4 +1,4 @@
--- Entries by the place where their row stands.
+-- Dentries by the place where their row stands.
 use Rattle.std.specs.Prelude.{◌≡◌, ℕ, zero, suc, Bool, true, false, cond, T, ◌&&◌, List, [], ◌∷◌, Some, slice_get, refl}
 use Rattle.std.specs.declared.cmp.Ordering.{Ordering}
 use Rattle.std.specs.declared.cmp.Ordering.TheVariants.{Less, Equal, Greater}
@@ -9,9 +9,9 @@ use Rattle.std.specs.FinMap.Entries.{find, below_all, is_sorted}
 use Rattle.std.proofs.Common.{ap, sym, ◌∙◌}
 use Rattle.ll_rights.specs.Map.{get, entries}
 use Rattle.ll_rights.proofs.Maps.{equal_at}
-use Rattle.ll_seq.specs.declared.entries.Slot.{Slot}
-use Rattle.ll_seq.specs.State.{Name, State, child, slot}
-use Rattle.ll_seq.proofs.Slots.{slot_total, slot_exact}
+use Rattle.ll_seq.specs.declared.dentries.Dentry.{Dentry}
+use Rattle.ll_seq.specs.State.{Name, State, child, dentry}
+use Rattle.ll_seq.proofs.DentryOrder.{dentry_total, dentry_exact}
 
 both : (a b : Bool) → T (a && b) → T a × T b
 both true b h = (tt, h)
@@ -47,10 +47,10 @@ module _ {K X : Type 0} {R : K → K → Ordering} (o : IsTotalOrder R) (exact :
       let after : R row.0 e.0 ≡ Greater = o.antisymm row.0 e.0 ∙ ap ordering_reverse (lower e.0 es i row parts.0 at) in
       ap (λ r. cond (is_eq r) (Some e.1) (find R row.0 es)) after ∙ found_of_row es i row parts.1 at
 
-pub row_of_child : (s : State) (d : ℕ) (name : Name) (x : ℕ) → child s d name ≡ Some x → (i : ℕ) × (slice_get (entries s.entries) i ≡ Some (slot d name, x))
+pub row_of_child : (s : State) (d : ℕ) (name : Name) (x : ℕ) → child s d name ≡ Some x → (i : ℕ) × (slice_get (entries s.entries) i ≡ Some (dentry d name, x))
 unfolding get entries
-row_of_child s d name x is = row_of_found slot_total slot_exact s.entries.list (slot d name) x is
+row_of_child s d name x is = row_of_found dentry_total dentry_exact s.entries.list (dentry d name) x is
 
-pub child_of_row : (s : State) (i : ℕ) (row : Slot × ℕ) → slice_get (entries s.entries) i ≡ Some row → child s row.0.directory row.0.name ≡ Some row.1
+pub child_of_row : (s : State) (i : ℕ) (row : Dentry × ℕ) → slice_get (entries s.entries) i ≡ Some row → child s row.0.directory row.0.name ≡ Some row.1
 unfolding get entries
-child_of_row s i row at = found_of_row slot_total slot_exact s.entries.list i row s.entries.sorted at
+child_of_row s i row at = found_of_row dentry_total dentry_exact s.entries.list i row s.entries.sorted at

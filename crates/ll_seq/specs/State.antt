@@ -8,29 +8,31 @@ use Rattle.std.specs.Cmp.Lexicographic.{slice_cmp}
 use Rattle.ll_rights.specs.declared.kind.Kind.{Kind}
 use Rattle.ll_rights.specs.declared.kind.Kind.TheVariants.{Dir}
 use Rattle.ll_rights.specs.Map.{Map, empty, get, insert, entries}
-use Rattle.ll_rules.specs.Layer.{Layer}
-use Rattle.ll_seq.specs.declared.client.Client.{Client}
+use Rattle.ll_seq.specs.declared.client.ClientRecord.{ClientRecord}
 use Rattle.ll_seq.specs.declared.client.Descriptor.{Descriptor}
-use Rattle.ll_seq.specs.declared.entries.Slot.{Slot}
+use Rattle.ll_seq.specs.declared.dentries.Dentry.{Dentry}
 use Rattle.ll_seq.specs.declared.node.Node.{Node}
+use Rattle.ll_seq.specs.declared.rules.Rules.{Rules}
 
 abbrev pub Name : Type 0
 Name = List ℕ
 
 -- places in the tree, by directory and then by the name's bytes
-abbrev pub slot_cmp : Slot → Slot → Ordering
-slot_cmp a b = ordering_then (nat_cmp a.directory b.directory) (slice_cmp nat_cmp a.name b.name)
+abbrev pub dentry_cmp : Dentry → Dentry → Ordering
+dentry_cmp a b = ordering_then (nat_cmp a.directory b.directory) (slice_cmp nat_cmp a.name b.name)
 
-abbrev pub slot : ℕ → Name → Slot
-slot directory name = record { directory = directory; name = name }
+abbrev pub dentry : ℕ → Name → Dentry
+dentry directory name = record { directory = directory; name = name }
 
--- entries: the triples of directory, name and inode. Nodes, descriptors and clients are as the code declares them. next: the next inode number. room: how many nodes may live
+-- entries: the triples of directory, name and inode. Nodes, descriptors, clients and rules are as the code declares them. next:
+-- the next inode number. room: how many nodes may live
 pub record State : Type 0 where
-  pub entries : Map slot_cmp ℕ
+  pub entries : Map dentry_cmp ℕ
   pub nodes : Map nat_cmp Node
   pub next : ℕ
   pub room : ℕ
-  pub clients : Map nat_cmp Client
+  pub rules : Rules
+  pub clients : Map nat_cmp ClientRecord
 
 abbrev pub root : ℕ
 root = 1
@@ -38,12 +40,13 @@ root = 1
 abbrev pub empty_node : Kind → Node
 empty_node kind = record { kind = kind; bytes = [] }
 
-abbrev pub new_client : List Layer → Client
-new_client domain = record { domain = domain; rulesets = []; descriptors = empty }
+-- under no layer, without rulesets and descriptors
+abbrev pub new_client : ClientRecord
+new_client = record { domain = []; rulesets = []; descriptors = empty }
 
 -- the root alone, and no client
-abbrev pub start : ℕ → State
-start room = record { entries = empty; nodes = insert empty root (empty_node Dir); next = 2; room = room; clients = empty }
+abbrev pub start : Rules → ℕ → State
+start rules room = record { entries = empty; nodes = insert empty root (empty_node Dir); next = 2; room = room; rules = rules; clients = empty }
 
 abbrev pub kind_of : State → ℕ → Option Kind
 kind_of s inode = option_map (λ (n : Node). n.kind) (get s.nodes inode)
@@ -53,16 +56,16 @@ bytes_of s inode = option_map_or (λ (n : Node). n.bytes) (get s.nodes inode) []
 
 -- what the directory has under the name
 abbrev pub child : State → ℕ → Name → Option ℕ
-child s directory name = get s.entries (slot directory name)
+child s directory name = get s.entries (dentry directory name)
 
 -- the names in the directory, rising by bytes
 abbrev pub names_in : State → ℕ → List Name
-names_in s directory = map (λ (e : Slot × ℕ). e.0.name) (filter (λ (e : Slot × ℕ). e.0.directory == directory) (entries s.entries))
+names_in s directory = map (λ (e : Dentry × ℕ). e.0.name) (filter (λ (e : Dentry × ℕ). e.0.directory == directory) (entries s.entries))
 
 -- how many names the inode has
 abbrev pub name_count : State → ℕ → ℕ
-name_count s inode = length (filter (λ (e : Slot × ℕ). e.1 == inode) (entries s.entries))
+name_count s inode = length (filter (λ (e : Dentry × ℕ). e.1 == inode) (entries s.entries))
 
 -- some client has the inode open
 abbrev pub is_open : State → ℕ → Bool
-is_open s inode = list_any (λ (c : ℕ × Client). list_any (λ (d : ℕ × Descriptor). d.1.inode == inode) (entries c.1.descriptors)) (entries s.clients)
+is_open s inode = list_any (λ (c : ℕ × ClientRecord). list_any (λ (d : ℕ × Descriptor). d.1.inode == inode) (entries c.1.descriptors)) (entries s.clients)

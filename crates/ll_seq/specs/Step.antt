@@ -3,29 +3,34 @@ use Rattle.std.specs.Prelude.{◌≡◌, ℕ, ◌≤◌, ⊤, ◌⊎◌, List, [
 use Rattle.ll_rights.specs.declared.errno.Errno.TheVariants.{NoMemory}
 use Rattle.ll_rights.specs.Errno.{errno_number}
 use Rattle.ll_rights.specs.Map.{get}
-use Rattle.ll_seq.specs.declared.client.Client.{Client}
+use Rattle.ll_seq.specs.declared.client.ClientRecord.{ClientRecord}
 use Rattle.ll_seq.specs.declared.call.Call.{Call}
 use Rattle.ll_seq.specs.declared.reply.Reply.{Reply}
 use Rattle.ll_seq.specs.declared.reply.Reply.TheVariants.{Refused, Denied}
+use Rattle.ll_path.specs.Path.{Path}
+use Rattle.ll_seq.specs.Call.{first_path, second_path}
 use Rattle.ll_seq.specs.State.{State, new_client}
 use Rattle.ll_seq.specs.Asked.{call_denials}
 use Rattle.ll_seq.specs.Stages.{text_refusals, number_refusals, relation_refusals, walk_refusals, existence_refusals, kind_refusals, limit_refusals}
 use Rattle.ll_seq.specs.Effects.{done}
 
--- all refusals that hold, in the order of the stages
-abbrev pub refusals : State → Client → Call → List Reply
-refusals s c call =
+-- all refusals that hold, in the order of the stages. at: the call's path, of two paths the old one; new: of two the new one
+abbrev pub refusals_at : State → ClientRecord → Call → Path → Path → List Reply
+refusals_at s c call at new =
     map Refused (text_refusals call)
     ++ map Refused (number_refusals c call)
-    ++ map Refused (relation_refusals call)
+    ++ map Refused (relation_refusals call at new)
     ++ map Refused (walk_refusals s call)
-    ++ map Refused (existence_refusals s call)
+    ++ map Refused (existence_refusals s call at new)
     ++ map Denied (call_denials s c call)
-    ++ map Refused (kind_refusals s c call)
-    ++ map Refused (limit_refusals s c call)
+    ++ map Refused (kind_refusals s c call at new)
+    ++ map Refused (limit_refusals s c call at new)
 
-abbrev pub client_of : State → ℕ → Client
-client_of s number = unwrap_or (get s.clients number) (new_client [])
+abbrev pub refusals : State → ClientRecord → Call → List Reply
+refusals s c call = refusals_at s c call (first_path call) (second_path call)
+
+abbrev pub client_of : State → ℕ → ClientRecord
+client_of s number = unwrap_or (get s.clients number) new_client
 
 abbrev pub first_or : State → List Reply → Reply × State → Reply × State
 first_or s [] outcome = outcome
@@ -33,7 +38,7 @@ first_or s (reply ∷ replies) outcome = (reply, s)
 
 -- The reply and the next state, where the client of this number calls. fresh: the number that a spawned client gets
 abbrev pub step : State → ℕ → Call → ℕ → Reply × State
-step s number call fresh = first_or s (refusals s (client_of s number) call) (done s number (client_of s number) call fresh)
+step s number call fresh = first_or s (refusals s (client_of s number) call) (done s number (client_of s number) call (first_path call) (second_path call) fresh)
 
 -- What the tree answers of itself: what policy refuses it tells as a denial; its entries are counted by others, and what is
 -- no call it never sees

@@ -90,6 +90,10 @@ pub enum Call {
     Rmdir(Target),
     /// The node at the first path gets the second in the place of it. What the second named loses that name.
     Rename(Target, Target),
+    /// The same, where the second path names nothing.
+    RenameNoreplace(Target, Target),
+    /// The nodes at the two paths change places.
+    Exchange(Target, Target),
     /// The node at the first path gets the second as a further name.
     Link(Target, Target),
     /// A new ruleset that handles these rights.
@@ -98,7 +102,7 @@ pub enum Call {
     Allow(u64, Target, Access),
     /// The ruleset as it is now becomes the client's newest layer.
     Confine(u64),
-    /// A new client with the caller's layers.
+    /// A new client with the caller's layers, and where the tree's rules say so with its descriptors.
     Spawn,
     /// A new client, which is the caller, without layers.
     Connect,

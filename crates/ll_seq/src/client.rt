@@ -8,13 +8,13 @@ ghost use Rattle.ll_rules.specs.Layer.{Layer};
 ghost use Rattle.ll_seq.specs.Fails.{Fails};
 ghost use Rattle.ll_rules.specs.Rules.{create_refusals, new_ruleset, rule_refusals, rule_limit, with_rule, layer_limit};
 
-use crate::table::Table;
-use ll_rights::{Access, Errno, Kind};
+use crate::number_map::NumberMap;
+use crate::rules::Rules;
+use ll_rights::limits::{CLIENT_DESCRIPTORS, CLIENT_RULESETS};
+use ll_rights::{Abi, Access, Errno, Kind};
 use ll_rules::{Domain, Ruleset};
 use std::alloc::{AllocError, Global};
 use std::marker::Model;
-
-const MOST_RULESETS: usize = 16;
 
 /// An open file. `kept` is the number of the oldest layer that didn't grant truncate when it was opened, if one didn't.
 #[derive(Drop, Clone, Copy, Debug, PartialEq, Eq)]
@@ -98,32 +98,49 @@ impl Rulesets {
 
 /// A client: the layers that it is under, its rulesets, and its open files by number.
 #[derive(Drop)]
-pub struct Client {
+pub struct ClientRecord {
     pub domain: Domain,
     pub rulesets: Rulesets,
-    pub descriptors: Table<Descriptor>,
+    pub descriptors: NumberMap<Descriptor>,
 }
 
-impl Client {
+impl ClientRecord {
     ghost use Rattle.ll_seq.specs.State.{new_client};
+    ghost use Rattle.ll_seq.specs.Effects.{child_of};
     ghost use Rattle.ll_seq.specs.Stages.{lowest_free, ruleset_at};
 
-    /// A client under these layers, without rulesets and descriptors.
-    pub fn new(alloc: Global, domain: Domain) -> Client
-        ensures { result ≡ new_client domain }
+    /// A client under no layer, without rulesets and descriptors.
+    pub fn new(alloc: Global) -> ClientRecord
+        ensures { result ≡ new_client }
     {
-        Client {
-            domain,
+        ClientRecord {
+            domain: Domain::empty(alloc),
             rulesets: Rulesets::new(alloc),
-            descriptors: Table::new(alloc),
+            descriptors: NumberMap::new(alloc),
         }
     }
 
-    /// The lowest of 64 descriptors that is free.
+    /// A client that this one spawns in a tree of these rules.
+    pub fn child(&self, alloc: Global, rules: Rules) -> Result<ClientRecord, AllocError>
+        ensures { IfOk result (λ child. child ≡ child_of rules self.now) }
+    {
+        let descriptors = if rules.copies {
+            self.descriptors.copy(alloc)?
+        } else {
+            NumberMap::new(alloc)
+        };
+        Ok(ClientRecord {
+            domain: self.domain.copy()?,
+            rulesets: Rulesets::new(alloc),
+            descriptors,
+        })
+    }
+
+    /// The lowest free one of the descriptors that a client may have.
     pub fn lowest_free(&self) -> Option<u64>
         ensures { result ≡ lowest_free self.now.descriptors }
     {
-        for number in 0..64 {
+        for number in 0..CLIENT_DESCRIPTORS as u64 {
             if !self.descriptors.has(number) {
                 return Some(number);
             }
@@ -147,20 +164,20 @@ impl Client {
         Ok(number)
     }
 
-    /// Makes a ruleset that handles these rights.
-    pub fn create_ruleset(&mut self, alloc: Global, handled: Access) -> Result<u64, Errno>
-        ensures ok { IfOk result (λ number. (create_refusals handled.0 ++ refuse (nat_le 16 (length self.old.rulesets)) Errno.EMFILE ≡ [])
+    /// Makes a ruleset that handles these rights, at an ABI level.
+    pub fn create_ruleset(&mut self, alloc: Global, abi: Abi, handled: Access) -> Result<u64, Errno>
+        ensures ok { IfOk result (λ number. (create_refusals abi handled.0 ++ refuse (nat_le CLIENT_RULESETS (length self.old.rulesets)) Errno.EMFILE ≡ [])
             × (number ≡ length self.old.rulesets)
             × (self.new ≡ record self.old { rulesets = self.old.rulesets ++ new_ruleset handled.0 ∷ [] })) }
-        ensures refused { IfErr result (λ errno. Fails (create_refusals handled.0 ++ refuse (nat_le 16 (length self.old.rulesets)) Errno.EMFILE) errno) }
+        ensures refused { IfErr result (λ errno. Fails (create_refusals abi handled.0 ++ refuse (nat_le CLIENT_RULESETS (length self.old.rulesets)) Errno.EMFILE) errno) }
         ensures err { OnErr result (self.new ≡ self.old) }
     {
-        let made = match Ruleset::create(alloc, handled) {
+        let made = match Ruleset::create(alloc, abi, handled) {
             Ok(made) => made,
             Err(errno) => return Err(errno),
         };
         let number = self.rulesets.len();
-        if MOST_RULESETS <= number {
+        if CLIENT_RULESETS <= number {
             return Err(Errno::EMFILE);
         }
         if self.rulesets.push(made).is_err() {

@@ -8,15 +8,16 @@ ghost use Rattle.ll_rules.specs.Layer.{Layer};
 ghost use Rattle.ll_rules.specs.Rules.{create_refusals, new_ruleset, rule_refusals, rule_limit, with_rule, layer_limit};
 ghost use Rattle.ll_seq.specs.Stages.{lowest_free, ruleset_at};
 ghost use Rattle.ll_seq.specs.Fails.{Fails};
-ghost use Rattle.ll_seq.specs.declared.client.Client as record_of;
+ghost use Rattle.ll_seq.specs.declared.client.ClientRecord as record_of;
 ghost use Rattle.ll_seq.specs.declared.client.Descriptor as file;
 
-use crate::client::{Client, Descriptor};
-use crate::table::{Table, index_of};
-use ll_rights::{Access, Errno, Kind};
+use crate::client::{ClientRecord, Descriptor};
+use crate::number_map::{NumberMap, index_of};
+use ll_rights::limits::CLIENT_RULESETS;
+use ll_rights::{Abi, Access, Errno, Kind};
 use std::alloc::Global;
 
-impl Table<Descriptor> {
+impl NumberMap<Descriptor> {
     /// Whether one of them is the inode's.
     pub fn is_open(&self, inode: u64) -> bool
         ensures { result ≡ list_any (λ (d : ℕ × file.Descriptor). d.1.inode == inode) (entries self.now) }
@@ -30,10 +31,10 @@ impl Table<Descriptor> {
     }
 }
 
-impl Table<Client> {
+impl NumberMap<ClientRecord> {
     /// Whether one of them has the inode open.
     pub fn has_open(&self, inode: u64) -> bool
-        ensures { result ≡ list_any (λ (c : ℕ × record_of.Client). list_any (λ (d : ℕ × file.Descriptor). d.1.inode == inode) (entries c.1.descriptors)) (entries self.now) }
+        ensures { result ≡ list_any (λ (c : ℕ × record_of.ClientRecord). list_any (λ (d : ℕ × file.Descriptor). d.1.inode == inode) (entries c.1.descriptors)) (entries self.now) }
     {
         for row in &self.rows {
             if row.1.descriptors.is_open(inode) {
@@ -46,9 +47,9 @@ impl Table<Client> {
     /// Opens a file at the client's lowest free descriptor.
     pub fn open(&mut self, client: u64, descriptor: Descriptor) -> Result<u64, Errno>
         requires { has self.old client ≡ true }
-        ensures ok { IfOk result (λ number. (c : record_of.Client) → get self.old client ≡ Some c
+        ensures ok { IfOk result (λ number. (c : record_of.ClientRecord) → get self.old client ≡ Some c
             → (lowest_free c.descriptors ≡ Some number) × (self.new ≡ insert self.old client (record c { descriptors = insert c.descriptors number descriptor }))) }
-        ensures refused { IfErr result (λ errno. (c : record_of.Client) → get self.old client ≡ Some c
+        ensures refused { IfErr result (λ errno. (c : record_of.ClientRecord) → get self.old client ≡ Some c
             → Fails (refuse (is_none (lowest_free c.descriptors)) Errno.EMFILE) errno) }
         ensures err { OnErr result (self.new ≡ self.old) }
     {
@@ -62,7 +63,7 @@ impl Table<Client> {
     /// Frees the client's descriptor.
     pub fn close(&mut self, client: u64, number: u64)
         requires { has self.old client ≡ true }
-        ensures { (c : record_of.Client) → get self.old client ≡ Some c → self.new ≡ insert self.old client (record c { descriptors = remove c.descriptors number }) }
+        ensures { (c : record_of.ClientRecord) → get self.old client ≡ Some c → self.new ≡ insert self.old client (record c { descriptors = remove c.descriptors number }) }
     {
         let Some(i) = index_of(&self.rows, client) else {
             unreachable!();
@@ -71,26 +72,27 @@ impl Table<Client> {
         row.1.descriptors.remove(number);
     }
 
-    /// Makes a ruleset of the client's that handles these rights.
+    /// Makes a ruleset of the client's that handles these rights, at an ABI level.
     pub fn create_ruleset(
         &mut self,
         alloc: Global,
         client: u64,
+        abi: Abi,
         handled: Access,
     ) -> Result<u64, Errno>
         requires { has self.old client ≡ true }
-        ensures ok { IfOk result (λ number. (c : record_of.Client) → get self.old client ≡ Some c
-            → (create_refusals handled.0 ++ refuse (nat_le 16 (length c.rulesets)) Errno.EMFILE ≡ []) × (number ≡ length c.rulesets)
+        ensures ok { IfOk result (λ number. (c : record_of.ClientRecord) → get self.old client ≡ Some c
+            → (create_refusals abi handled.0 ++ refuse (nat_le CLIENT_RULESETS (length c.rulesets)) Errno.EMFILE ≡ []) × (number ≡ length c.rulesets)
             × (self.new ≡ insert self.old client (record c { rulesets = c.rulesets ++ new_ruleset handled.0 ∷ [] }))) }
-        ensures refused { IfErr result (λ errno. (c : record_of.Client) → get self.old client ≡ Some c
-            → Fails (create_refusals handled.0 ++ refuse (nat_le 16 (length c.rulesets)) Errno.EMFILE) errno) }
+        ensures refused { IfErr result (λ errno. (c : record_of.ClientRecord) → get self.old client ≡ Some c
+            → Fails (create_refusals abi handled.0 ++ refuse (nat_le CLIENT_RULESETS (length c.rulesets)) Errno.EMFILE) errno) }
         ensures err { OnErr result (self.new ≡ self.old) }
     {
         let Some(i) = index_of(&self.rows, client) else {
             unreachable!();
         };
         let row = &mut self.rows[i];
-        row.1.create_ruleset(alloc, handled)
+        row.1.create_ruleset(alloc, abi, handled)
     }
 
     /// A rule of the client's ruleset of this number, which is there, on the inode of a node of this kind.
@@ -103,11 +105,11 @@ impl Table<Client> {
         rights: Access,
     ) -> Result<(), Errno>
         requires there { has self.old client ≡ true }
-        requires made { (c : record_of.Client) → get self.old client ≡ Some c → number < length c.rulesets }
-        ensures ok { OnOk result ((c : record_of.Client) → get self.old client ≡ Some c → (made : Layer) × (slice_get c.rulesets number ≡ Some made)
+        requires made { (c : record_of.ClientRecord) → get self.old client ≡ Some c → number < length c.rulesets }
+        ensures ok { OnOk result ((c : record_of.ClientRecord) → get self.old client ≡ Some c → (made : Layer) × (slice_get c.rulesets number ≡ Some made)
             × (rule_refusals made kind rights.0 ++ rule_limit made inode ≡ [])
             × (self.new ≡ insert self.old client (record c { rulesets = slice_set c.rulesets number (with_rule made inode rights.0) }))) }
-        ensures refused { IfErr result (λ errno. (c : record_of.Client) → get self.old client ≡ Some c
+        ensures refused { IfErr result (λ errno. (c : record_of.ClientRecord) → get self.old client ≡ Some c
             → (made : Layer) → slice_get c.rulesets number ≡ Some made → Fails (rule_refusals made kind rights.0 ++ rule_limit made inode) errno) }
         ensures err { OnErr result (self.new ≡ self.old) }
     {
@@ -121,10 +123,10 @@ impl Table<Client> {
     /// Enforces the client's ruleset of this number, which is there.
     pub fn confine(&mut self, client: u64, number: u64) -> Result<(), Errno>
         requires there { has self.old client ≡ true }
-        requires made { (c : record_of.Client) → get self.old client ≡ Some c → number < length c.rulesets }
-        ensures ok { OnOk result ((c : record_of.Client) → get self.old client ≡ Some c → (layer_limit c.domain ≡ [])
+        requires made { (c : record_of.ClientRecord) → get self.old client ≡ Some c → number < length c.rulesets }
+        ensures ok { OnOk result ((c : record_of.ClientRecord) → get self.old client ≡ Some c → (layer_limit c.domain ≡ [])
             × (self.new ≡ insert self.old client (record c { domain = c.domain ++ ruleset_at c number ∷ [] }))) }
-        ensures refused { IfErr result (λ errno. (c : record_of.Client) → get self.old client ≡ Some c → Fails (layer_limit c.domain) errno) }
+        ensures refused { IfErr result (λ errno. (c : record_of.ClientRecord) → get self.old client ≡ Some c → Fails (layer_limit c.domain) errno) }
         ensures err { OnErr result (self.new ≡ self.old) }
     {
         let Some(i) = index_of(&self.rows, client) else {

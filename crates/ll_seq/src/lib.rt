@@ -5,19 +5,21 @@
 mod call;
 mod client;
 mod clients;
-mod entries;
+mod dentries;
 mod listing;
 mod node;
 mod nodes;
 mod reply;
-mod table;
+mod rules;
+mod number_map;
 #[cfg(test)]
 mod tests;
 
 pub use call::{AccessMode, Call, Creation, Mode};
-pub use client::{Client, Descriptor, Rulesets};
-pub use entries::{Entries, Slot};
+pub use client::{ClientRecord, Descriptor, Rulesets};
+pub use dentries::{Dentries, Dentry};
 pub use listing::Listing;
 pub use node::{Content, Node};
 pub use reply::{Entry, Reply, Status};
-pub use table::Table;
+pub use rules::Rules;
+pub use number_map::NumberMap;

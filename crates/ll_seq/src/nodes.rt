@@ -7,10 +7,10 @@ ghost use Rattle.ll_seq.specs.Effects.{resized, overwritten};
 ghost use Rattle.ll_seq.specs.declared.node.Node as record_of;
 
 use crate::node::Node;
-use crate::table::{Table, index_of};
+use crate::number_map::{NumberMap, index_of};
 use std::alloc::AllocError;
 
-impl Table<Node> {
+impl NumberMap<Node> {
     /// Cuts the node's bytes to this length, or fills them with zeros to it. Without such a node nothing happens.
     pub fn set_len(&mut self, inode: u64, len: usize) -> Result<(), AllocError>
         ensures ok { OnOk result (self.new ≡ option_map_or (λ (n : record_of.Node). insert self.old inode (record n { bytes = resized n.bytes len })) (get self.old inode) self.old) }

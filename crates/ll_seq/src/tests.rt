@@ -2,7 +2,7 @@
 //!
 //! What asks for memory is tried once more where it gets none, as `rt try --test --fail-alloc N` refuses it once.
 
-use crate::{Client, Content, Descriptor, Entries, Listing, Node, Rulesets, Table};
+use crate::{ClientRecord, Content, Descriptor, Dentries, Listing, Node, Rulesets, NumberMap};
 use ll_path::Name;
 use ll_rights::{Access, Errno, Kind, Right};
 use ll_rules::{Domain, Ruleset};
@@ -19,7 +19,7 @@ macro_rules! again {
     };
 }
 
-fn add_number(table: &mut Table<u64>, number: u64) -> Result<(), AllocError> {
+fn add_number(table: &mut NumberMap<u64>, number: u64) -> Result<(), AllocError> {
     if table.get(number).is_some() {
         return Ok(());
     }
@@ -28,7 +28,7 @@ fn add_number(table: &mut Table<u64>, number: u64) -> Result<(), AllocError> {
 
 #[test]
 fn tables(rt: HostRuntime) -> Result<(), Fail> {
-    let mut table = Table::new(rt.alloc());
+    let mut table = NumberMap::new(rt.alloc());
     for number in [5, 1, 3] {
         again!(add_number(&mut table, number))?;
     }
@@ -69,7 +69,7 @@ fn listings(rt: HostRuntime) -> Result<(), Fail> {
 
 fn add_entry(
     alloc: Global,
-    entries: &mut Entries,
+    entries: &mut Dentries,
     directory: u64,
     name: &str,
     inode: u64,
@@ -81,8 +81,8 @@ fn add_entry(
 }
 
 /// Two names in the root, of which one has the inode that 2 has too.
-fn three_entries(alloc: Global) -> Result<Entries, AllocError> {
-    let mut entries = Entries::new(alloc);
+fn three_entries(alloc: Global) -> Result<Dentries, AllocError> {
+    let mut entries = Dentries::new(alloc);
     for (directory, name, inode) in [(1, "b", 4), (2, "a", 4), (1, "a", 5)] {
         again!(add_entry(alloc, &mut entries, directory, name, inode))?;
     }
@@ -138,7 +138,7 @@ fn contents(rt: HostRuntime) -> Result<(), Fail> {
     Ok(())
 }
 
-fn add_file(alloc: Global, nodes: &mut Table<Node>, inode: u64) -> Result<(), AllocError> {
+fn add_file(alloc: Global, nodes: &mut NumberMap<Node>, inode: u64) -> Result<(), AllocError> {
     if nodes.get(inode).is_some() {
         return Ok(());
     }
@@ -149,7 +149,7 @@ fn add_file(alloc: Global, nodes: &mut Table<Node>, inode: u64) -> Result<(), Al
     nodes.insert(inode, file)
 }
 
-fn size(nodes: &Table<Node>, inode: u64) -> Option<usize> {
+fn size(nodes: &NumberMap<Node>, inode: u64) -> Option<usize> {
     match nodes.get(inode) {
         None => None,
         Some(node) => Some(node.bytes.len()),
@@ -158,7 +158,7 @@ fn size(nodes: &Table<Node>, inode: u64) -> Option<usize> {
 
 #[test]
 fn files(rt: HostRuntime) -> Result<(), Fail> {
-    let mut nodes = Table::new(rt.alloc());
+    let mut nodes = NumberMap::new(rt.alloc());
     for inode in [2, 3] {
         again!(add_file(rt.alloc(), &mut nodes, inode))?;
         again!(nodes.set_len(inode, 7))?;
@@ -197,22 +197,22 @@ const READER: Descriptor = Descriptor {
 
 #[test]
 fn clients_open(rt: HostRuntime) {
-    let mut client = Client::new(rt.alloc(), Domain::empty(rt.alloc()));
+    let mut client = ClientRecord::new(rt.alloc(), Domain::empty(rt.alloc()));
     assert_eq!(rt; again!(client.open(READER)), Ok(0));
     assert_eq!(rt; client.lowest_free(), Some(1));
     assert_eq!(rt; client.descriptors.get(0).copied(), Some(READER));
 }
 
-fn add_client(alloc: Global, clients: &mut Table<Client>, number: u64) -> Result<(), AllocError> {
+fn add_client(alloc: Global, clients: &mut NumberMap<ClientRecord>, number: u64) -> Result<(), AllocError> {
     if clients.get(number).is_some() {
         return Ok(());
     }
-    clients.insert(number, Client::new(alloc, Domain::empty(alloc)))
+    clients.insert(number, ClientRecord::new(alloc, Domain::empty(alloc)))
 }
 
 #[test]
 fn files_are_open(rt: HostRuntime) -> Result<(), Fail> {
-    let mut clients = Table::new(rt.alloc());
+    let mut clients = NumberMap::new(rt.alloc());
     for number in [1, 2] {
         again!(add_client(rt.alloc(), &mut clients, number))?;
     }
@@ -226,7 +226,7 @@ fn files_are_open(rt: HostRuntime) -> Result<(), Fail> {
 
 #[test]
 fn clients_confine(rt: HostRuntime) {
-    let mut client = Client::new(rt.alloc(), Domain::empty(rt.alloc()));
+    let mut client = ClientRecord::new(rt.alloc(), Domain::empty(rt.alloc()));
     assert_eq!(rt;
         again!(client.create_ruleset(rt.alloc(), Access(0x4))),
         Ok(0)

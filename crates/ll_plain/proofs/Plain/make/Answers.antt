@@ -5,7 +5,7 @@ use Rattle.ll_path.specs.Path.{parent}
 use Rattle.ll_decide.specs.declared.denial.Place.TheVariants.{At}
 use Rattle.ll_seq.specs.declared.reply.Reply.TheVariants.{Done}
 use Rattle.ll_seq.specs.declared.call.Call.TheVariants.{Make}
-use Rattle.ll_seq.specs.State.{slot}
+use Rattle.ll_seq.specs.State.{dentry}
 use Rattle.ll_seq.specs.Asked.{ask}
 use Rattle.ll_seq.specs.Stages.{present}
 use Rattle.ll_seq.specs.Effects.{with_node}
@@ -33,4 +33,4 @@ returns-in-Err-add c = starves c.args.self.now c.args.client (Make c.args.kind c
 pub returns-in-Ok-add : goal.returns-in-Ok-add
 returns-in-Ok-add c =
     does c.args.self.now c.args.client (Make c.args.kind c.args.target.now) (spot_free c.args.self.now c.args.target.now (present c.args.self.now c.args.target.now) c.in-Ok.ensures.free (not_refused _ EEXIST (ap is_some (c.in-Ok.ensures.stands.child ∙ sym c.child.ensures) ∙ sym c.is_some.ensures ∙ c.if-is_some.false))) (told c.args.self.now c.args.client (Make c.args.kind c.args.target.now) _ c.denied.result c.denied.ensures (ap (λ a. a ∷ []) c.at_parent-ask.ensures ∙ (λ i. ask (parent (c.in-Ok.ensures.stands.path i)) (c.make_right.ensures i) At ∷ [])) ∙ c.in_default.is) (not_refused _ ENOSPC (search rules)) Done _
-    (λ fresh. ap (λ z. (Done, z)) (c.in-Ok-add.ensures.ok ∙ (λ i. with_node c.args.self.now c.args.kind (slot (c.in-Ok.ensures.stands.directory i) (c.in-Ok.ensures.stands.name i)))))
+    (λ fresh. ap (λ z. (Done, z)) (c.in-Ok-add.ensures.ok ∙ (λ i. with_node c.args.self.now c.args.kind (dentry (c.in-Ok.ensures.stands.directory i) (c.in-Ok.ensures.stands.name i)))))

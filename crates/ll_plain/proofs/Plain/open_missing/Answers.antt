@@ -6,10 +6,10 @@ use Rattle.ll_rights.specs.declared.kind.Kind.TheVariants.{Reg}
 use Rattle.ll_rights.specs.Errno.{refuse}
 use Rattle.ll_rights.specs.Map.{len}
 use Rattle.ll_path.specs.declared.target.Target.TheVariants.{Good}
-use Rattle.ll_seq.specs.declared.client.Client.{Client}
+use Rattle.ll_seq.specs.declared.client.ClientRecord.{ClientRecord}
 use Rattle.ll_seq.specs.declared.call.Call.TheVariants.{Open}
 use Rattle.ll_seq.specs.declared.reply.Reply.TheVariants.{Opened}
-use Rattle.ll_seq.specs.State.{State, slot}
+use Rattle.ll_seq.specs.State.{State, dentry}
 use Rattle.ll_seq.specs.Stages.{is_crowded, lowest_free}
 use Rattle.ll_seq.specs.Effects.{opened, with_client, with_node}
 use Rattle.ll_seq.specs.Fails.{Fails}
@@ -45,10 +45,10 @@ returns-in-Err-make_open c =
 pub returns-in-Ok-make_open : goal.returns-in-Ok-make_open
 returns-in-Ok-make_open c =
     let s : State = c.args.self.now in
-    let C : Client = (client_of c.args.self.now c.args.client) in
+    let C : ClientRecord = (client_of c.args.self.now c.args.client) in
     let client = opened_is s C c.args.mode c.args.path.now s.next c.in-Ok-make_open.number _ c.in-Ok-make_open.ensures.free
     (c.opened-descriptor.ensures ∙ ap (opened s C c.args.mode c.args.path.now) (ap (λ (z : State). z.next) c.self.view_is)) in
     does s c.args.client (Open c.args.mode (Good c.args.path.now)) (missing_free c.args.self.now c.args.client c.args.mode c.args.path.now c.requires.missing c.requires.way (sym c.creates.ensures ∙ c.if-not-creates.false)) (missing_told c.args.self.now c.args.client c.args.mode c.args.path.now c.requires.missing c.make_denial.result c.make_denial.ensures ∙ c.in_default.is)
     (missing_late c.args.self.now c.args.client c.args.mode c.args.path.now c.requires.missing ∙ both_free _ _ (not_refused _ EMFILE (some_if (lowest_free (client_of c.args.self.now c.args.client).descriptors) (sym c.has_free.ensures ∙ c.if-not-has_free.false))) (not_refused _ ENOSPC (ap (λ j. is_crowded c.args.self.now j || nat_le c.args.self.now.room (len c.args.self.now.nodes)) (sym c.in-Ok.ensures.stands.directory) ∙ sym c.is_full.ensures ∙ c.if-is_full.false))) (Opened c.in-Ok-make_open.number) _
     (λ fresh. missing_after c.args.self.now c.args.client c.args.mode c.args.path.now c.requires.missing c.in-Ok-make_open.number _ c.in-Ok-make_open.ensures.free
-    (c.in-Ok-make_open.ensures.ok ∙ (λ i. with_client (with_node s Reg (slot (c.in-Ok.ensures.stands.directory i) (c.in-Ok.ensures.stands.name i))) c.args.client (client i))))
+    (c.in-Ok-make_open.ensures.ok ∙ (λ i. with_client (with_node s Reg (dentry (c.in-Ok.ensures.stands.directory i) (c.in-Ok.ensures.stands.name i))) c.args.client (client i))))

@@ -4,7 +4,7 @@ use Rattle.ll_rights.specs.declared.errno.Errno.{Errno}
 use Rattle.ll_rights.specs.declared.errno.Errno.TheVariants.{EMFILE}
 use Rattle.ll_rights.specs.Errno.{refuse}
 use Rattle.ll_path.specs.declared.target.Target.TheVariants.{Good}
-use Rattle.ll_seq.specs.declared.client.Client.{Client}
+use Rattle.ll_seq.specs.declared.client.ClientRecord.{ClientRecord}
 use Rattle.ll_seq.specs.declared.call.Call.TheVariants.{Open}
 use Rattle.ll_seq.specs.declared.reply.Reply.TheVariants.{Opened}
 use Rattle.ll_seq.specs.State.{State}
@@ -36,7 +36,7 @@ returns-in-Err-take c =
 pub returns : goal.returns
 returns c =
     let s : State = c.args.self.now in
-    let C : Client = (client_of c.args.self.now c.args.client) in
+    let C : ClientRecord = (client_of c.args.self.now c.args.client) in
     let client = opened_is s C c.args.mode c.args.path.now c.args.inode c.in-Ok.number _ c.in-Ok.ensures.free c.opened-descriptor.ensures in
     let opened = c.in-Ok.ensures.ok ∙ ap (with_client s c.args.client) client in
     let after : c.if-mode.self ≡ with_client (emptied s c.args.mode c.args.inode) c.args.client (with_opened s C c.args.mode c.args.path.now c.args.inode) =

@@ -7,7 +7,7 @@ use Rattle.ll_path.specs.Path.{parent}
 use Rattle.ll_decide.specs.declared.denial.Place.TheVariants.{At}
 use Rattle.ll_seq.specs.declared.reply.Reply.TheVariants.{Done}
 use Rattle.ll_seq.specs.declared.call.Call.TheVariants.{Unlink}
-use Rattle.ll_seq.specs.State.{kind_of, slot}
+use Rattle.ll_seq.specs.State.{kind_of, dentry}
 use Rattle.ll_seq.specs.Asked.{ask}
 use Rattle.ll_seq.specs.Stages.{missing}
 use Rattle.ll_seq.specs.Effects.{without_name}
@@ -27,4 +27,4 @@ returns-then-is_dir c = steps_after c.args.self.now c.args.client (Unlink c.args
 pub returns : goal.returns
 returns c =
     steps_done c.args.self.now c.args.client (Unlink c.args.target.now) (spot_free c.args.self.now c.args.target.now (missing c.args.self.now c.args.target.now) c.in-Ok.ensures.free (not_missing c.args.self.now c.args.target.now c.in-Some.inode (c.in-Ok.ensures.stands.child ∙ sym c.child.ensures ∙ c.in-Some.is))) (told c.args.self.now c.args.client (Unlink c.args.target.now) _ c.denied.result c.denied.ensures (ap (λ a. a ∷ []) c.at_parent-ask.ensures ∙ ap (λ p. ask (parent p) 5 At ∷ []) c.in-Ok.ensures.stands.path) ∙ c.in_default-denied.is) (both_free _ [] (not_refused _ EISDIR ((ap (λ j. is_dir (unwrap_or (kind_of c.args.self.now j) Reg)) (inode_is c.args.self.now c.args.target.now c.in-Some.inode (c.in-Ok.ensures.stands.child ∙ sym c.child.ensures ∙ c.in-Some.is)) ∙ sym c.is_dir.ensures) ∙ c.if-is_dir.false)) refl) Done _
-    (λ fresh. ap (λ z. (Done, z)) (c.remove.ensures ∙ (λ i. without_name c.args.self.now (slot (c.in-Ok.ensures.stands.directory i) (c.in-Ok.ensures.stands.name i)) (sym (inode_is c.args.self.now c.args.target.now c.in-Some.inode (c.in-Ok.ensures.stands.child ∙ sym c.child.ensures ∙ c.in-Some.is)) i))))
+    (λ fresh. ap (λ z. (Done, z)) (c.remove.ensures ∙ (λ i. without_name c.args.self.now (dentry (c.in-Ok.ensures.stands.directory i) (c.in-Ok.ensures.stands.name i)) (sym (inode_is c.args.self.now c.args.target.now c.in-Some.inode (c.in-Ok.ensures.stands.child ∙ sym c.child.ensures ∙ c.in-Some.is)) i))))

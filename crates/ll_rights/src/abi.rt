@@ -1,0 +1,49 @@
+//! ABI levels.
+
+ghost use Rattle.std.specs.Prelude.{◌≡◌, ◌<◌, ◌≤◌, IfSome, IfNone};
+
+use std::marker::Model;
+
+/// A level of Landlock's ABI, 1 to 3: each knows more rights than the one before it. Contracts see its number.
+#[derive(Clone, Copy, Debug, PartialEq, Eq)]
+pub struct Abi {
+    number: u8,
+}
+
+impl Model for Abi {
+    ghost use Rattle.std.specs.Prelude.{ℕ, ◌≤◌};
+
+    ghost Value = { ℕ };
+
+    ghost view = { λ abi. abi.number };
+
+    ghost invariant = { λ abi. (1 ≤ abi.number) × (abi.number ≤ 3) };
+
+    ghost inverse = { λ number. record { number = number } };
+}
+
+impl Abi {
+    /// The newest level.
+    pub const NEWEST: Abi = Abi { number: 3 };
+
+    /// The level of this number, if there is one.
+    pub fn new(number: u64) -> Option<Abi>
+        ensures some { IfSome result (λ abi. abi ≡ number) }
+        ensures none { IfNone result (1 ≤ number → 3 < number) }
+    {
+        match number {
+            1..=3 => Some(Abi {
+                number: number as u8,
+            }),
+            _ => None,
+        }
+    }
+
+    pub fn number(self) -> u64
+        ensures number { result ≡ self }
+        ensures first { 1 ≤ result }
+        ensures last { result ≤ 3 }
+    {
+        self.number as u64
+    }
+}

@@ -1,0 +1,12 @@
+use Rattle.std.proofs.Common.{◌≡◌, ◌==◌, ℕ, drop}
+use Rattle.std.specs.List.{list_any}
+use Rattle.ll_rights.specs.Map.{entries}
+use Rattle.ll_seq.specs.declared.client.ClientRecord.{ClientRecord}
+use Rattle.ll_seq.specs.declared.client.Descriptor.{Descriptor}
+use Rattle.ll_seq.proofs.clients.NumberMap+ClientRecord.has_open.Given as goal
+
+-- what is sought is among the rows that are left
+abbrev pub invariant-loop-row : goal.invariant-loop-row
+invariant-loop-row l =
+    list_any (λ (c : ℕ × ClientRecord). list_any (λ (d : ℕ × Descriptor). d.1.inode == l.inode) (entries c.1.descriptors)) (entries l.self)
+    ≡ list_any (λ (c : ℕ × ClientRecord). list_any (λ (d : ℕ × Descriptor). d.1.inode == l.inode) (entries c.1.descriptors)) (drop l.row-index l.row-items)

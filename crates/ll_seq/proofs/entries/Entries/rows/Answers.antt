@@ -1,8 +1,0 @@
-use Rattle.std.proofs.Common.{sym, ap, ◌∙◌}
-use Rattle.ll_rights.specs.Map.{entries}
-use Rattle.ll_rights.proofs.Maps.{entries-from_sorted}
-use Rattle.ll_seq.specs.State.{slot_cmp}
-use Rattle.ll_seq.proofs.entries.Entries.rows.Goals as goal
-
-pub returns : goal.returns
-returns c = c.as_slice.ensures.value ∙ sym (entries-from_sorted slot_cmp c.self.inside.rows.items c.self.invariant) ∙ ap entries c.self.view_is

@@ -1,0 +1,175 @@
+//! Directory entries.
+
+ghost use Rattle.std.specs.Prelude.{◌≡◌, ◌+◌, ◌^◌, ◌<◌, ℕ, Some, None, IfSome, IfNone, IfOk, OnOk, OnErr, length, slice_get};
+ghost use Rattle.std.specs.FinMap.Entries.{find};
+ghost use Rattle.ll_rights.proofs.Places.{place};
+ghost use Rattle.ll_seq.specs.State.{dentry, dentry_cmp};
+
+use crate::listing::Listing;
+use ll_path::Name;
+use std::alloc::{AllocError, Global};
+use std::cmp::Ordering;
+use std::marker::Model;
+
+/// A place in the tree: a directory's inode and a name in it.
+#[derive(Drop)]
+pub struct Dentry {
+    pub directory: u64,
+    pub name: Name,
+}
+
+/// The inode at each place, in the order of directories and of the names' bytes. Contracts see the map.
+#[derive(Drop)]
+pub struct Dentries {
+    rows: Vec<(Dentry, u64)>,
+}
+
+impl Model for Dentries {
+    ghost use Rattle.std.specs.Prelude.{ℕ, IsTrue};
+    ghost use Rattle.std.specs.FinMap.Entries.{is_sorted};
+    ghost use Rattle.ll_rights.specs.Map.{Map, from_sorted};
+    ghost use Rattle.ll_seq.specs.State.{dentry_cmp};
+    ghost use Rattle.ll_seq.specs.Codes.{coded_entries};
+
+    ghost Value = { Map dentry_cmp ℕ };
+
+    ghost coded = { coded_entries };
+
+    ghost view = { λ entries. from_sorted entries.rows.items };
+
+    ghost invariant = { λ entries. IsTrue (is_sorted dentry_cmp entries.rows.items) };
+}
+
+/// How the place stands to another.
+fn order(directory: u64, name: &str, other: &Dentry) -> Ordering
+    ensures { result ≡ dentry_cmp (dentry directory name.now) other.now }
+{
+    directory
+        .cmp(&other.directory)
+        .then(name.cmp(other.name.as_str()))
+}
+
+/// Where the entry at the place stands.
+fn index_of(rows: &[(Dentry, u64)], directory: u64, name: &str) -> Option<usize>
+    ensures none { IfNone result (find dentry_cmp (dentry directory name.now) rows.now ≡ None) }
+    ensures within { IfSome result (λ i. i < length rows.now) }
+    ensures row { IfSome result (λ i. (inode : ℕ) × (find dentry_cmp (dentry directory name.now) rows.now ≡ Some inode) × (slice_get rows.now i ≡ Some (dentry directory name.now, inode))) }
+{
+    for (i, row) in rows.iter().enumerate() {
+        if order(directory, name, &row.0).is_eq() {
+            return Some(i);
+        }
+    }
+    None
+}
+
+/// How many entries stand before the place.
+fn place_of(rows: &[(Dentry, u64)], directory: u64, name: &str) -> usize
+    ensures place { result ≡ place dentry_cmp (dentry directory name.now) rows.now }
+    ensures within { result < length rows.now + 1 }
+{
+    for (i, row) in rows.iter().enumerate() {
+        if !order(directory, name, &row.0).is_gt() {
+            return i;
+        }
+    }
+    rows.len()
+}
+
+impl Dentries {
+    ghost use Rattle.std.specs.Prelude.{filter, map, ◌==◌};
+    ghost use Rattle.std.specs.Option.{option_map_or};
+    ghost use Rattle.ll_rights.specs.Map.{empty, get, insert, remove, entries};
+    ghost use Rattle.ll_seq.specs.declared.dentries.Dentry as dentries_of;
+
+    pub fn new(alloc: Global) -> Dentries
+        ensures { result ≡ empty }
+    {
+        Dentries {
+            rows: Vec::new(alloc),
+        }
+    }
+
+    /// The inode that the directory has under the name.
+    pub fn get(&self, directory: u64, name: &str) -> Option<u64>
+        ensures { result ≡ get self.now (dentry directory name.now) }
+    {
+        let i = index_of(&self.rows, directory, name)?;
+        Some(self.rows[i].1)
+    }
+
+    /// How many entries there are.
+    pub fn len(&self) -> usize
+        ensures len { result ≡ length (entries self.now) }
+        ensures most { result < 2 ^ 63 }
+    {
+        self.rows.len()
+    }
+
+    /// The entries in order.
+    pub fn rows(&self) -> &[(Dentry, u64)]
+        ensures { result.now ≡ entries self.now }
+    {
+        self.rows.as_slice()
+    }
+
+    /// How many names the directory has.
+    pub fn count_in(&self, directory: u64) -> usize
+        ensures { result ≡ length (filter (λ (e : dentries_of.Dentry × ℕ). e.0.directory == directory) (entries self.now)) }
+    {
+        self.rows
+            .iter()
+            .filter(|row| row.0.directory == directory)
+            .count()
+    }
+
+    /// The names in the directory, rising by bytes.
+    pub fn names_in(&self, alloc: Global, directory: u64) -> Result<Listing, AllocError>
+        ensures { IfOk result (λ listing. listing ≡ map (λ (e : dentries_of.Dentry × ℕ). e.0.name) (filter (λ (e : dentries_of.Dentry × ℕ). e.0.directory == directory) (entries self.now))) }
+    {
+        let mut listing = Listing::new(alloc);
+        for row in &self.rows {
+            if row.0.directory == directory {
+                listing.push(Name::from_text(alloc, row.0.name.as_str())?)?;
+            }
+        }
+        Ok(listing)
+    }
+
+    /// How many names the inode has.
+    pub fn count_of(&self, inode: u64) -> usize
+        ensures { result ≡ length (filter (λ (e : dentries_of.Dentry × ℕ). e.1 == inode) (entries self.now)) }
+    {
+        self.rows.iter().filter(|row| row.1 == inode).count()
+    }
+
+    /// Adds an inode under a name that the directory doesn't have.
+    pub fn insert(&mut self, directory: u64, name: Name, inode: u64) -> Result<(), AllocError>
+        requires { get self.old (dentry directory name) ≡ None }
+        ensures ok { OnOk result (self.new ≡ insert self.old (dentry directory name) inode) }
+        ensures err { OnErr result (self.new ≡ self.old) }
+    {
+        let place = place_of(&self.rows, directory, name.as_str());
+        self.rows.insert(place, (Dentry { directory, name }, inode))?;
+        Ok(())
+    }
+
+    /// Another inode under a name that the directory has. Without the name nothing happens.
+    pub fn replace(&mut self, directory: u64, name: &str, inode: u64)
+        ensures { self.new ≡ option_map_or (λ (old : ℕ). insert self.old (dentry directory name.now) inode) (get self.old (dentry directory name.now)) self.old }
+    {
+        if let Some(i) = index_of(&self.rows, directory, name) {
+            let row = &mut self.rows[i];
+            row.1 = inode;
+        }
+    }
+
+    /// Forgets the name, if the directory has it.
+    pub fn remove(&mut self, directory: u64, name: &str)
+        ensures { self.new ≡ remove self.old (dentry directory name.now) }
+    {
+        if let Some(i) = index_of(&self.rows, directory, name) {
+            self.rows.remove(i);
+        }
+    }
+}

@@ -1,0 +1,125 @@
+//! Tables by number.
+
+ghost use Rattle.std.specs.Prelude.{◌≡◌, ◌<◌, ◌+◌, Some, None, IfSome, IfNone, OnOk, OnErr, length, slice_get};
+ghost use Rattle.std.specs.Ordering.{nat_cmp};
+ghost use Rattle.std.specs.Option.{option_copied};
+ghost use Rattle.std.specs.FinMap.Entries.{find};
+ghost use Rattle.ll_rights.proofs.Places.{place};
+
+use std::alloc::{AllocError, Global};
+use std::marker::Model;
+
+/// Values by number, in rising order. Contracts see the map from numbers to values.
+#[derive(Drop)]
+pub struct NumberMap<V> {
+    pub(crate) rows: Vec<(u64, V)>,
+}
+
+impl<V> Model for NumberMap<V> {
+    ghost use Rattle.std.specs.Prelude.{ℕ, IsTrue};
+    ghost use Rattle.std.specs.Ordering.{nat_cmp};
+    ghost use Rattle.std.specs.Coded.{coded_ℕ};
+    ghost use Rattle.std.specs.FinMap.Entries.{is_sorted};
+    ghost use Rattle.ll_rights.specs.Map.{Map, code, from_sorted};
+
+    ghost Value = { Map nat_cmp V };
+
+    ghost coded = { code coded_ℕ V.code };
+
+    ghost view = { λ table. from_sorted table.rows.items };
+
+    ghost invariant = { λ table. IsTrue (is_sorted nat_cmp table.rows.items) };
+}
+
+/// Where the row of the number stands.
+pub(crate) fn index_of<V>(rows: &[(u64, V)], number: u64) -> Option<usize>
+    ensures none { IfNone result (find nat_cmp number rows.now ≡ None) }
+    ensures within { IfSome result (λ i. i < length rows.now) }
+    ensures row { IfSome result (λ i. (v : V) × (find nat_cmp number rows.now ≡ Some v) × (slice_get rows.now i ≡ Some (number, v))) }
+{
+    for (i, row) in rows.iter().enumerate() {
+        if row.0 == number {
+            return Some(i);
+        }
+    }
+    None
+}
+
+/// How many rows stand before that of the number, if it has one.
+fn place_of<V>(rows: &[(u64, V)], number: u64) -> usize
+    ensures place { result ≡ place nat_cmp number rows.now }
+    ensures within { result < length rows.now + 1 }
+{
+    for (i, row) in rows.iter().enumerate() {
+        if number <= row.0 {
+            return i;
+        }
+    }
+    rows.len()
+}
+
+impl<V> NumberMap<V> {
+    ghost use Rattle.ll_rights.specs.Map.{empty, get, has, insert, len, remove};
+
+    pub fn new(alloc: Global) -> NumberMap<V>
+        ensures { result ≡ empty }
+    {
+        NumberMap {
+            rows: Vec::new(alloc),
+        }
+    }
+
+    pub fn len(&self) -> usize
+        ensures { result ≡ len self.now }
+    {
+        self.rows.len()
+    }
+
+    pub fn get(&self, number: u64) -> Option<&V>
+        ensures { option_copied result ≡ get self.now number }
+    {
+        let i = index_of(&self.rows, number)?;
+        Some(&self.rows[i].1)
+    }
+
+    pub fn has(&self, number: u64) -> bool
+        ensures { result ≡ has self.now number }
+    {
+        self.get(number).is_some()
+    }
+
+    /// The same map again.
+    pub fn copy(&self, alloc: Global) -> Result<NumberMap<V>, AllocError>
+    where
+        V: Copy,
+        ensures { IfOk result (λ copy. copy ≡ self.now) }
+    {
+        let mut rows = Vec::with_capacity(alloc, self.rows.len())?;
+        rows.extend_from_slice(&self.rows)?;
+        Ok(NumberMap { rows })
+    }
+
+    /// Adds a value under a number that has none.
+    pub fn insert(&mut self, number: u64, value: V) -> Result<(), AllocError>
+    where
+        V: Drop,
+        requires { get self.old number ≡ None }
+        ensures ok { OnOk result (self.new ≡ insert self.old number value) }
+        ensures err { OnErr result (self.new ≡ self.old) }
+    {
+        let place = place_of(&self.rows, number);
+        self.rows.insert(place, (number, value))?;
+        Ok(())
+    }
+
+    /// Forgets the number and its value, if it has one.
+    pub fn remove(&mut self, number: u64)
+    where
+        V: Drop,
+        ensures { self.new ≡ remove self.old number }
+    {
+        if let Some(i) = index_of(&self.rows, number) {
+            self.rows.remove(i);
+        }
+    }
+}
