@@ -1,4 +1,2 @@
-pub mod Agreeing
 pub mod Bits
 pub mod Carried
-pub mod Finding

@@ -2,12 +2,8 @@
 //! by masks, one set of rights for each layer.
 #![tactic(auto)]
 
-mod deciding;
 mod denial;
 mod masks;
-#[cfg(test)]
-mod tests;
 
-pub use deciding::{Asked, BUT_REFER, Moved, PLACES, verdict};
 pub use denial::{Cause, Denial, Place};
 pub use masks::{Masks, unrestricted};

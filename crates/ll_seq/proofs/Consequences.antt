@@ -1,6 +1,6 @@
 -- What follows from one step for every call: which refusals there are, who stays, and how inode numbers grow.
 use Rattle.std.specs.Prelude.{◌≡◌, ◌≢◌, ℕ, ◌+◌, ◌≤◌, Bool, true, false, not, ◌||◌, List, [], ◌∷◌, ◌++◌, map, length, Option, Some, None, is_some, is_none, nat_le, nat_lt, nat_eq, ◌==◌, ◌&&◌, codes, slice_get, cond, if◌then◌else◌, unwrap_or, ⊤, refl, ◌⊎◌}
-use Rattle.std.specs.List.{AllByRecursion, list_any, starts_with}
+use Rattle.std.specs.List.{AllByRecursion, list_any, starts_with, flat_map}
 use Rattle.std.specs.Option.{option_map_or}
 use Rattle.std.specs.Ordering.{nat_cmp, eq_by_cmp}
 use Rattle.std.specs.Cmp.{nat_cmp_total}
@@ -11,9 +11,10 @@ use Rattle.ll_rights.specs.declared.kind.Kind.{Kind}
 use Rattle.ll_rights.specs.declared.kind.Kind.TheVariants.{Reg, Dir, Sym, Fifo, Sock, Char, Block}
 use Rattle.ll_rights.specs.declared.errno.Errno.{Errno}
 use Rattle.ll_rights.specs.declared.errno.Errno.TheVariants.{NoMemory, ENOENT, EEXIST, ENOTDIR, EISDIR, ENOTEMPTY, EINVAL, EFBIG, EBUSY, EBADF, EMFILE, EMLINK, ENOSPC, EPERM, ENAMETOOLONG, E2BIG, ENOMSG}
+use Rattle.ll_rights.specs.declared.limits.TheConstants.{DATA_BYTES, RULESET_INODES, DOMAIN_LAYERS, CLIENT_RULESETS, TREE_CLIENTS}
 use Rattle.ll_rights.specs.Errno.{refuse, errno_number}
 use Rattle.ll_rights.specs.Map.{Map, get, has, insert, remove, len}
-use Rattle.ll_rights.specs.Access.{is_within, all_set, file_set}
+use Rattle.ll_rights.specs.Access.{is_within, known_set, file_set}
 use Rattle.ll_rights.specs.Kind.{is_dir}
 use Rattle.ll_rights.proofs.Maps.{equal_at, get-insert, get-insert_same}
 use Rattle.ll_path.specs.Path as paths
@@ -28,16 +29,16 @@ use Rattle.ll_seq.specs.declared.dentries.Dentry.{Dentry}
 use Rattle.ll_seq.specs.declared.node.Node.{Node}
 use Rattle.ll_seq.specs.declared.call.Mode.{Mode}
 use Rattle.ll_seq.specs.declared.call.Call.{Call}
-use Rattle.ll_seq.specs.declared.call.Call.TheVariants.{Make, Open, Read, Write, Ftruncate, Close, Truncate, ReadDir, Stat, Exec, Unlink, Rmdir, Rename, Link, Ruleset, Allow, Confine, Spawn, Connect}
+use Rattle.ll_seq.specs.declared.call.Call.TheVariants.{Make, Open, Read, Write, Ftruncate, Close, Truncate, ReadDir, Stat, Exec, Unlink, Rmdir, Rename, RenameNoreplace, Exchange, Link, Ruleset, Allow, Confine, Spawn, Connect}
 use Rattle.ll_seq.specs.declared.reply.Reply.{Reply}
 use Rattle.ll_seq.specs.declared.reply.Reply.TheVariants.{Done, Opened, Bytes, Wrote, Listed, Found, Created, Spawned, Refused, Denied}
-use Rattle.ll_seq.specs.State.{State, dentry_cmp, child, root, bytes_of, new_client}
-use Rattle.ll_seq.specs.Call.{creates, is_exclusive, path_of}
+use Rattle.ll_seq.specs.State.{State, dentry_cmp, child, root, bytes_of}
+use Rattle.ll_seq.specs.Call.{creates, is_exclusive, path_of, targets, first_path, second_path}
 use Rattle.ll_seq.specs.Tree.{named, inode_of, directory_of, kind_or_file, kind_at}
 use Rattle.ll_seq.specs.Asked.{call_denials}
-use Rattle.ll_seq.specs.Stages.{bad_text, text_refusals, number_refusals, relation_refusals, walk_refusals, existence_refusals, kind_refusals, limit_refusals, in_the_way, kind_of_child, no_directory, way_to, missing, present, without, no_space, lying, replace_refusals, enters, has_many_names, not_to_open, not_to_truncate, is_dir_at, has_names, is_too_long, ruleset_at, is_crowded, lowest_free}
-use Rattle.ll_seq.specs.Effects.{lives, let_go, without_name, with_moved, renamed, dentry_of, resized, overwritten, with_bytes, with_client, with_node, with_opened, emptied, after_opening, written, inode_at, done}
-use Rattle.ll_seq.specs.Step.{step, first_or, refusals, client_of, IsAnswer}
+use Rattle.ll_seq.specs.Stages.{bad_text, text_refusals, number_refusals, relation_refusals, walk_refusals, existence_refusals, kind_refusals, limit_refusals, in_the_way, kind_of_child, no_directory, way_to, missing, present, without, no_space, lying, replace_refusals, crowds, has_many_names, not_to_open, not_to_truncate, has_names, is_too_long, ruleset_at, is_crowded, lowest_free}
+use Rattle.ll_seq.specs.Effects.{lives, let_go, without_name, with_moved, renamed, dentry_of, resized, overwritten, with_bytes, with_client, with_node, with_opened, emptied, after_opening, written, inode_at, child_of, done}
+use Rattle.ll_seq.specs.Step.{step, first_or, refusals, refusals_at, client_of, IsAnswer}
 
 -- ---- refusals
 
@@ -166,26 +167,12 @@ all_stages t n r w e d k l ht hn hr hw he hk hl =
     let a7 = together (map Refused t ++ map Refused n ++ map Refused r ++ map Refused w ++ map Refused e ++ map Denied d) (map Refused k) a6 (refused_all k hk) in
     together (map Refused t ++ map Refused n ++ map Refused r ++ map Refused w ++ map Refused e ++ map Denied d ++ map Refused k) (map Refused l) a7 (refused_all l hl)
 
+each_fine : (f : Target → List Errno) → ((t : Target) → AllFine (f t)) → (ts : List Target) → AllFine (flat_map f ts)
+each_fine f h [] = tt
+each_fine f h (t ∷ ts) = joined (f t) (flat_map f ts) (h t) (each_fine f h ts)
+
 text_fine : (call : Call) → AllFine (text_refusals call)
-text_fine (Make kind t) = target_fine t
-text_fine (Open mode t) = target_fine t
-text_fine (Read fd offset count) = if_refused (nat_lt 4096 count) EINVAL (omega arith, omega arith)
-text_fine (Write fd offset bytes) = tt
-text_fine (Ftruncate fd size) = tt
-text_fine (Close fd) = tt
-text_fine (Truncate t size) = target_fine t
-text_fine (ReadDir t) = target_fine t
-text_fine (Stat t) = target_fine t
-text_fine (Exec t) = target_fine t
-text_fine (Unlink t) = target_fine t
-text_fine (Rmdir t) = target_fine t
-text_fine (Rename o n) = joined (bad_text o) (bad_text n) (target_fine o) (target_fine n)
-text_fine (Link o n) = joined (bad_text o) (bad_text n) (target_fine o) (target_fine n)
-text_fine (Ruleset rights) = tt
-text_fine (Allow rs t rights) = target_fine t
-text_fine (Confine rs) = tt
-text_fine Spawn = tt
-text_fine Connect = tt
+text_fine call = each_fine bad_text target_fine (targets call)
 
 without_fine : (c : ClientRecord) (fd : ℕ) (allows : Descriptor → Bool) (e : Errno) → Fine e → AllFine (without c fd allows e)
 without_fine c fd allows e fine = joined (refuse (is_none (get c.descriptors fd)) EBADF) (refuse (not (option_map_or allows (get c.descriptors fd) true)) e)
@@ -194,7 +181,7 @@ without_fine c fd allows e fine = joined (refuse (is_none (get c.descriptors fd)
 number_fine : (c : ClientRecord) (call : Call) → AllFine (number_refusals c call)
 number_fine c (Make kind t) = tt
 number_fine c (Open mode t) = tt
-number_fine c (Read fd offset count) = without_fine c fd (λ d. d.reads) EBADF (omega arith, omega arith)
+number_fine c (Read fd offset count) = joined (refuse (nat_lt DATA_BYTES count) EINVAL) (without c fd (λ d. d.reads) EBADF) (if_refused (nat_lt DATA_BYTES count) EINVAL (omega arith, omega arith)) (without_fine c fd (λ d. d.reads) EBADF (omega arith, omega arith))
 number_fine c (Write fd offset bytes) = without_fine c fd (λ d. d.writes) EBADF (omega arith, omega arith)
 number_fine c (Ftruncate fd size) = without_fine c fd (λ d. d.writes) EINVAL (omega arith, omega arith)
 number_fine c (Close fd) = if_refused (is_none (get c.descriptors fd)) EBADF (omega arith, omega arith)
@@ -205,6 +192,8 @@ number_fine c (Exec t) = tt
 number_fine c (Unlink t) = tt
 number_fine c (Rmdir t) = tt
 number_fine c (Rename o n) = tt
+number_fine c (RenameNoreplace o n) = tt
+number_fine c (Exchange o n) = tt
 number_fine c (Link o n) = tt
 number_fine c (Ruleset rights) = tt
 number_fine c (Allow rs t rights) = if_refused (is_none (slice_get c.rulesets rs)) EBADF (omega arith, omega arith)
@@ -215,74 +204,61 @@ number_fine c Connect = tt
 lying_fine : (o n : Path) (above : Errno) → Fine above → AllFine (lying o n above)
 lying_fine o n above fine = three (paths.is_root o || paths.is_root n) (paths.is_beneath o n) (paths.is_beneath n o) EBUSY EINVAL above (omega arith, omega arith) (omega arith, omega arith) fine
 
-relation_fine : (call : Call) → AllFine (relation_refusals call)
-relation_fine (Make kind t) = if_refused (paths.is_root (path_of t)) EBUSY (omega arith, omega arith)
-relation_fine (Open mode t) = tt
-relation_fine (Read fd offset count) = tt
-relation_fine (Write fd offset bytes) = tt
-relation_fine (Ftruncate fd size) = tt
-relation_fine (Close fd) = tt
-relation_fine (Truncate t size) = tt
-relation_fine (ReadDir t) = tt
-relation_fine (Stat t) = tt
-relation_fine (Exec t) = tt
-relation_fine (Unlink t) = if_refused (paths.is_root (path_of t)) EBUSY (omega arith, omega arith)
-relation_fine (Rmdir t) = if_refused (paths.is_root (path_of t)) EBUSY (omega arith, omega arith)
-relation_fine (Rename o n) = lying_fine (path_of o) (path_of n) ENOTEMPTY (omega arith, omega arith)
-relation_fine (Link o n) = lying_fine (path_of o) (path_of n) EEXIST (omega arith, omega arith)
-relation_fine (Ruleset rights) = tt
-relation_fine (Allow rs t rights) = tt
-relation_fine (Confine rs) = tt
-relation_fine Spawn = tt
-relation_fine Connect = tt
-
-ways_fine : (s : State) (o n : Target) → AllFine (way_to s o ++ way_to s n)
-ways_fine s o n = joined (way_to s o) (way_to s n) (way_fine s (paths.parent (path_of o)) root) (way_fine s (paths.parent (path_of n)) root)
+relation_fine : (call : Call) (at new : Path) → AllFine (relation_refusals call at new)
+relation_fine (Make kind t) at new = if_refused (paths.is_root at) EBUSY (omega arith, omega arith)
+relation_fine (Open mode t) at new = tt
+relation_fine (Read fd offset count) at new = tt
+relation_fine (Write fd offset bytes) at new = tt
+relation_fine (Ftruncate fd size) at new = tt
+relation_fine (Close fd) at new = tt
+relation_fine (Truncate t size) at new = tt
+relation_fine (ReadDir t) at new = tt
+relation_fine (Stat t) at new = tt
+relation_fine (Exec t) at new = tt
+relation_fine (Unlink t) at new = if_refused (paths.is_root at) EBUSY (omega arith, omega arith)
+relation_fine (Rmdir t) at new = if_refused (paths.is_root at) EBUSY (omega arith, omega arith)
+relation_fine (Rename o n) at new = lying_fine at new ENOTEMPTY (omega arith, omega arith)
+relation_fine (RenameNoreplace o n) at new = lying_fine at new EEXIST (omega arith, omega arith)
+relation_fine (Exchange o n) at new = lying_fine at new EINVAL (omega arith, omega arith)
+relation_fine (Link o n) at new = lying_fine at new EEXIST (omega arith, omega arith)
+relation_fine (Ruleset rights) at new = tt
+relation_fine (Allow rs t rights) at new = tt
+relation_fine (Confine rs) at new = tt
+relation_fine Spawn at new = tt
+relation_fine Connect at new = tt
 
 walk_fine : (s : State) (call : Call) → AllFine (walk_refusals s call)
-walk_fine s (Make kind t) = way_fine s (paths.parent (path_of t)) root
-walk_fine s (Open mode t) = way_fine s (paths.parent (path_of t)) root
-walk_fine s (Read fd offset count) = tt
-walk_fine s (Write fd offset bytes) = tt
-walk_fine s (Ftruncate fd size) = tt
-walk_fine s (Close fd) = tt
-walk_fine s (Truncate t size) = way_fine s (paths.parent (path_of t)) root
-walk_fine s (ReadDir t) = way_fine s (paths.parent (path_of t)) root
-walk_fine s (Stat t) = way_fine s (paths.parent (path_of t)) root
-walk_fine s (Exec t) = way_fine s (paths.parent (path_of t)) root
-walk_fine s (Unlink t) = way_fine s (paths.parent (path_of t)) root
-walk_fine s (Rmdir t) = way_fine s (paths.parent (path_of t)) root
-walk_fine s (Rename o n) = ways_fine s o n
-walk_fine s (Link o n) = ways_fine s o n
-walk_fine s (Ruleset rights) = tt
-walk_fine s (Allow rs t rights) = way_fine s (paths.parent (path_of t)) root
-walk_fine s (Confine rs) = tt
-walk_fine s Spawn = tt
-walk_fine s Connect = tt
+walk_fine s call = each_fine (way_to s) (λ t. way_fine s (paths.parent (path_of t)) root) (targets call)
 
-existence_fine : (s : State) (call : Call) → AllFine (existence_refusals s call)
-existence_fine s (Make kind t) = if_refused (is_some (named s (path_of t))) EEXIST (omega arith, omega arith)
-existence_fine s (Open mode t) = joined (when (not (creates mode.creation)) (missing s t)) (when (is_exclusive mode.creation) (present s t))
-    (when_fine (not (creates mode.creation)) (missing s t) (if_refused (is_none (named s (path_of t))) ENOENT (omega arith, omega arith)))
-    (when_fine (is_exclusive mode.creation) (present s t) (if_refused (is_some (named s (path_of t))) EEXIST (omega arith, omega arith)))
-existence_fine s (Read fd offset count) = tt
-existence_fine s (Write fd offset bytes) = tt
-existence_fine s (Ftruncate fd size) = tt
-existence_fine s (Close fd) = tt
-existence_fine s (Truncate t size) = if_refused (is_none (named s (path_of t))) ENOENT (omega arith, omega arith)
-existence_fine s (ReadDir t) = if_refused (is_none (named s (path_of t))) ENOENT (omega arith, omega arith)
-existence_fine s (Stat t) = if_refused (is_none (named s (path_of t))) ENOENT (omega arith, omega arith)
-existence_fine s (Exec t) = if_refused (is_none (named s (path_of t))) ENOENT (omega arith, omega arith)
-existence_fine s (Unlink t) = if_refused (is_none (named s (path_of t))) ENOENT (omega arith, omega arith)
-existence_fine s (Rmdir t) = if_refused (is_none (named s (path_of t))) ENOENT (omega arith, omega arith)
-existence_fine s (Rename o n) = if_refused (is_none (named s (path_of o))) ENOENT (omega arith, omega arith)
-existence_fine s (Link o n) = joined (refuse (is_none (named s (path_of o))) ENOENT) (refuse (is_some (named s (path_of n))) EEXIST)
-    (if_refused (is_none (named s (path_of o))) ENOENT (omega arith, omega arith)) (if_refused (is_some (named s (path_of n))) EEXIST (omega arith, omega arith))
-existence_fine s (Ruleset rights) = tt
-existence_fine s (Allow rs t rights) = if_refused (is_none (named s (path_of t))) ENOENT (omega arith, omega arith)
-existence_fine s (Confine rs) = tt
-existence_fine s Spawn = tt
-existence_fine s Connect = tt
+missing_fine : (s : State) (path : Path) → AllFine (missing s path)
+missing_fine s path = if_refused (is_none (named s path)) ENOENT (omega arith, omega arith)
+
+present_fine : (s : State) (path : Path) → AllFine (present s path)
+present_fine s path = if_refused (is_some (named s path)) EEXIST (omega arith, omega arith)
+
+existence_fine : (s : State) (call : Call) (at new : Path) → AllFine (existence_refusals s call at new)
+existence_fine s (Make kind t) at new = present_fine s at
+existence_fine s (Open mode t) at new = joined (when (not (creates mode.creation)) (missing s at)) (when (is_exclusive mode.creation) (present s at))
+    (when_fine (not (creates mode.creation)) (missing s at) (missing_fine s at)) (when_fine (is_exclusive mode.creation) (present s at) (present_fine s at))
+existence_fine s (Read fd offset count) at new = tt
+existence_fine s (Write fd offset bytes) at new = tt
+existence_fine s (Ftruncate fd size) at new = tt
+existence_fine s (Close fd) at new = tt
+existence_fine s (Truncate t size) at new = missing_fine s at
+existence_fine s (ReadDir t) at new = missing_fine s at
+existence_fine s (Stat t) at new = missing_fine s at
+existence_fine s (Exec t) at new = missing_fine s at
+existence_fine s (Unlink t) at new = missing_fine s at
+existence_fine s (Rmdir t) at new = missing_fine s at
+existence_fine s (Rename o n) at new = missing_fine s at
+existence_fine s (RenameNoreplace o n) at new = joined (missing s at) (present s new) (missing_fine s at) (present_fine s new)
+existence_fine s (Exchange o n) at new = joined (missing s at) (missing s new) (missing_fine s at) (missing_fine s new)
+existence_fine s (Link o n) at new = joined (missing s at) (present s new) (missing_fine s at) (present_fine s new)
+existence_fine s (Ruleset rights) at new = tt
+existence_fine s (Allow rs t rights) at new = missing_fine s at
+existence_fine s (Confine rs) at new = tt
+existence_fine s Spawn at new = tt
+existence_fine s Connect at new = tt
 
 create_fine : (a b : Bool) → AllFine (refuse a EINVAL ++ refuse b ENOMSG)
 create_fine a b = joined (refuse a EINVAL) (refuse b ENOMSG) (if_refused a EINVAL (omega arith, omega arith)) (if_refused b ENOMSG (omega arith, omega arith))
@@ -292,86 +268,102 @@ replace_fine s inode replaced = when_fine (not (inode == replaced)) _
     (three (is_dir (kind_or_file s replaced) && not (is_dir (kind_or_file s inode))) (is_dir (kind_or_file s inode) && not (is_dir (kind_or_file s replaced)))
     (is_dir (kind_or_file s replaced) && has_names s replaced) EISDIR ENOTDIR ENOTEMPTY (omega arith, omega arith) (omega arith, omega arith) (omega arith, omega arith))
 
-kind_fine : (s : State) (c : ClientRecord) (call : Call) → AllFine (kind_refusals s c call)
-kind_fine s c (Make kind t) = tt
-kind_fine s c (Open mode t) = when_fine (is_some (named s (path_of t))) (not_to_open (kind_at s (path_of t))) (open_fine (kind_at s (path_of t)))
-kind_fine s c (Read fd offset count) = tt
-kind_fine s c (Write fd offset bytes) = tt
-kind_fine s c (Ftruncate fd size) = tt
-kind_fine s c (Close fd) = tt
-kind_fine s c (Truncate t size) = truncate_fine (kind_at s (path_of t))
-kind_fine s c (ReadDir t) = if_refused (not (is_dir_at s t)) ENOTDIR (omega arith, omega arith)
-kind_fine s c (Stat t) = tt
-kind_fine s c (Exec t) = open_fine (kind_at s (path_of t))
-kind_fine s c (Unlink t) = if_refused (is_dir_at s t) EISDIR (omega arith, omega arith)
-kind_fine s c (Rmdir t) = joined (refuse (not (is_dir_at s t)) ENOTDIR) (refuse (has_names s (inode_of s (path_of t))) ENOTEMPTY)
-    (if_refused (not (is_dir_at s t)) ENOTDIR (omega arith, omega arith)) (if_refused (has_names s (inode_of s (path_of t))) ENOTEMPTY (omega arith, omega arith))
-kind_fine s c (Rename o n) = onward_fine (replace_refusals s (inode_of s (path_of o))) (named s (path_of n)) (replace_fine s (inode_of s (path_of o)))
-kind_fine s c (Link o n) = if_refused (is_dir_at s o) EPERM (omega arith, omega arith)
-kind_fine s c (Ruleset rights) = create_fine (not (is_within rights.0 all_set)) (rights.0 == 0)
-kind_fine s c (Allow rs t rights) =
-    three (rights.0 == 0) (not (is_within rights.0 (ruleset_at c rs).handled)) (not (is_dir (kind_at s (path_of t))) && not (is_within rights.0 file_set)) ENOMSG EINVAL EINVAL
+kind_fine : (s : State) (c : ClientRecord) (call : Call) (at new : Path) → AllFine (kind_refusals s c call at new)
+kind_fine s c (Make kind t) at new = tt
+kind_fine s c (Open mode t) at new = when_fine (is_some (named s at)) (not_to_open (kind_at s at)) (open_fine (kind_at s at))
+kind_fine s c (Read fd offset count) at new = tt
+kind_fine s c (Write fd offset bytes) at new = tt
+kind_fine s c (Ftruncate fd size) at new = tt
+kind_fine s c (Close fd) at new = tt
+kind_fine s c (Truncate t size) at new = truncate_fine (kind_at s at)
+kind_fine s c (ReadDir t) at new = if_refused (not (is_dir (kind_at s at))) ENOTDIR (omega arith, omega arith)
+kind_fine s c (Stat t) at new = tt
+kind_fine s c (Exec t) at new = open_fine (kind_at s at)
+kind_fine s c (Unlink t) at new = if_refused (is_dir (kind_at s at)) EISDIR (omega arith, omega arith)
+kind_fine s c (Rmdir t) at new = joined (refuse (not (is_dir (kind_at s at))) ENOTDIR) (refuse (has_names s (inode_of s at)) ENOTEMPTY)
+    (if_refused (not (is_dir (kind_at s at))) ENOTDIR (omega arith, omega arith)) (if_refused (has_names s (inode_of s at)) ENOTEMPTY (omega arith, omega arith))
+kind_fine s c (Rename o n) at new = onward_fine (replace_refusals s (inode_of s at)) (named s new) (replace_fine s (inode_of s at))
+kind_fine s c (RenameNoreplace o n) at new = tt
+kind_fine s c (Exchange o n) at new = tt
+kind_fine s c (Link o n) at new = if_refused (is_dir (kind_at s at)) EPERM (omega arith, omega arith)
+kind_fine s c (Ruleset rights) at new = create_fine (not (is_within rights.0 (known_set s.rules.abi))) (rights.0 == 0)
+kind_fine s c (Allow rs t rights) at new =
+    three (rights.0 == 0) (not (is_within rights.0 (ruleset_at c rs).handled)) (not (is_dir (kind_at s at)) && not (is_within rights.0 file_set)) ENOMSG EINVAL EINVAL
     (omega arith, omega arith) (omega arith, omega arith) (omega arith, omega arith)
-kind_fine s c (Confine rs) = tt
-kind_fine s c Spawn = tt
-kind_fine s c Connect = tt
+kind_fine s c (Confine rs) at new = tt
+kind_fine s c Spawn at new = tt
+kind_fine s c Connect at new = tt
 
 space_fine : (s : State) (directory : ℕ) → AllFine (no_space s directory)
 space_fine s directory = if_refused (is_crowded s directory || nat_le s.room (len s.nodes)) ENOSPC (omega arith, omega arith)
 
-limit_fine : (s : State) (c : ClientRecord) (call : Call) → AllFine (limit_refusals s c call)
-limit_fine s c (Make kind t) = space_fine s (directory_of s (path_of t))
-limit_fine s c (Open mode t) = joined (refuse (is_none (lowest_free c.descriptors)) EMFILE) (when (is_none (named s (path_of t))) (no_space s (directory_of s (path_of t))))
+crowds_fine : (s : State) (old new : Path) → AllFine (crowds s old new)
+crowds_fine s old new = if_refused (is_none (named s new) && not (directory_of s old == directory_of s new) && is_crowded s (directory_of s new)) ENOSPC (omega arith, omega arith)
+
+limit_fine : (s : State) (c : ClientRecord) (call : Call) (at new : Path) → AllFine (limit_refusals s c call at new)
+limit_fine s c (Make kind t) at new = space_fine s (directory_of s at)
+limit_fine s c (Open mode t) at new = joined (refuse (is_none (lowest_free c.descriptors)) EMFILE) (when (is_none (named s at)) (no_space s (directory_of s at)))
     (if_refused (is_none (lowest_free c.descriptors)) EMFILE (omega arith, omega arith))
-    (when_fine (is_none (named s (path_of t))) (no_space s (directory_of s (path_of t))) (space_fine s (directory_of s (path_of t))))
-limit_fine s c (Read fd offset count) = tt
-limit_fine s c (Write fd offset bytes) = if_refused (nat_lt 0 (length bytes) && is_too_long (offset + length bytes)) EFBIG (omega arith, omega arith)
-limit_fine s c (Ftruncate fd size) = if_refused (is_too_long size) EFBIG (omega arith, omega arith)
-limit_fine s c (Close fd) = tt
-limit_fine s c (Truncate t size) = if_refused (is_too_long size) EFBIG (omega arith, omega arith)
-limit_fine s c (ReadDir t) = tt
-limit_fine s c (Stat t) = tt
-limit_fine s c (Exec t) = tt
-limit_fine s c (Unlink t) = tt
-limit_fine s c (Rmdir t) = tt
-limit_fine s c (Rename o n) = if_refused (enters (named s (path_of n)) (directory_of s (path_of o)) (directory_of s (path_of n)) && is_crowded s (directory_of s (path_of n))) ENOSPC (omega arith, omega arith)
-limit_fine s c (Link o n) = joined (refuse (has_many_names s (inode_of s (path_of o))) EMLINK) (refuse (is_crowded s (directory_of s (path_of n))) ENOSPC)
-    (if_refused (has_many_names s (inode_of s (path_of o))) EMLINK (omega arith, omega arith)) (if_refused (is_crowded s (directory_of s (path_of n))) ENOSPC (omega arith, omega arith))
-limit_fine s c (Ruleset rights) = if_refused (nat_le 16 (length c.rulesets)) EMFILE (omega arith, omega arith)
-limit_fine s c (Allow rs t rights) =
-    if_refused (nat_le 256 (len (ruleset_at c rs).rules) && not (has (ruleset_at c rs).rules (inode_of s (path_of t)))) E2BIG (omega arith, omega arith)
-limit_fine s c (Confine rs) = if_refused (nat_le 16 (length c.domain)) E2BIG (omega arith, omega arith)
-limit_fine s c Spawn = if_refused (nat_le 64 (len s.clients)) EMFILE (omega arith, omega arith)
-limit_fine s c Connect = if_refused (nat_le 64 (len s.clients)) EMFILE (omega arith, omega arith)
+    (when_fine (is_none (named s at)) (no_space s (directory_of s at)) (space_fine s (directory_of s at)))
+limit_fine s c (Read fd offset count) at new = tt
+limit_fine s c (Write fd offset bytes) at new = if_refused (nat_lt 0 (length bytes) && is_too_long (offset + length bytes)) EFBIG (omega arith, omega arith)
+limit_fine s c (Ftruncate fd size) at new = if_refused (is_too_long size) EFBIG (omega arith, omega arith)
+limit_fine s c (Close fd) at new = tt
+limit_fine s c (Truncate t size) at new = if_refused (is_too_long size) EFBIG (omega arith, omega arith)
+limit_fine s c (ReadDir t) at new = tt
+limit_fine s c (Stat t) at new = tt
+limit_fine s c (Exec t) at new = tt
+limit_fine s c (Unlink t) at new = tt
+limit_fine s c (Rmdir t) at new = tt
+limit_fine s c (Rename o n) at new = crowds_fine s at new
+limit_fine s c (RenameNoreplace o n) at new = crowds_fine s at new
+limit_fine s c (Exchange o n) at new = tt
+limit_fine s c (Link o n) at new = joined (refuse (has_many_names s (inode_of s at)) EMLINK) (refuse (is_crowded s (directory_of s new)) ENOSPC)
+    (if_refused (has_many_names s (inode_of s at)) EMLINK (omega arith, omega arith)) (if_refused (is_crowded s (directory_of s new)) ENOSPC (omega arith, omega arith))
+limit_fine s c (Ruleset rights) at new = if_refused (nat_le CLIENT_RULESETS (length c.rulesets)) EMFILE (omega arith, omega arith)
+limit_fine s c (Allow rs t rights) at new =
+    if_refused (nat_le RULESET_INODES (len (ruleset_at c rs).rules) && not (has (ruleset_at c rs).rules (inode_of s at))) E2BIG (omega arith, omega arith)
+limit_fine s c (Confine rs) at new = if_refused (nat_le DOMAIN_LAYERS (length c.domain)) E2BIG (omega arith, omega arith)
+limit_fine s c Spawn at new = if_refused (nat_le TREE_CLIENTS (len s.clients)) EMFILE (omega arith, omega arith)
+limit_fine s c Connect at new = if_refused (nat_le TREE_CLIENTS (len s.clients)) EMFILE (omega arith, omega arith)
 
-all_refusals : (s : State) (c : ClientRecord) (call : Call) → AllRefuse (refusals s c call)
-all_refusals s c call =
-    all_stages (text_refusals call) (number_refusals c call) (relation_refusals call) (walk_refusals s call) (existence_refusals s call) (call_denials s c call) (kind_refusals s c call) (limit_refusals s c call)
-    (text_fine call) (number_fine c call) (relation_fine call) (walk_fine s call) (existence_fine s call) (kind_fine s c call) (limit_fine s c call)
+all_refusals : (s : State) (c : ClientRecord) (call : Call) (at new : Path) → AllRefuse (refusals_at s c call at new)
+all_refusals s c call at new =
+    all_stages (text_refusals call) (number_refusals c call) (relation_refusals call at new) (walk_refusals s call) (existence_refusals s call at new) (call_denials s c call) (kind_refusals s c call at new) (limit_refusals s c call at new)
+    (text_fine call) (number_fine c call) (relation_fine call at new) (walk_fine s call) (existence_fine s call at new) (kind_fine s c call at new) (limit_fine s c call at new)
 
-done_settles : (s : State) (number : ℕ) (c : ClientRecord) (call : Call) (fresh : ℕ) → Settles (done s number c call fresh).0
-done_settles s number c (Make kind t) fresh = tt
-done_settles s number c (Open mode t) fresh = tt
-done_settles s number c (Read fd offset count) fresh = tt
-done_settles s number c (Write fd offset bytes) fresh = tt
-done_settles s number c (Ftruncate fd size) fresh = tt
-done_settles s number c (Close fd) fresh = tt
-done_settles s number c (Truncate t size) fresh = tt
-done_settles s number c (ReadDir t) fresh = tt
-done_settles s number c (Stat t) fresh = tt
-done_settles s number c (Exec t) fresh = tt
-done_settles s number c (Unlink t) fresh = tt
-done_settles s number c (Rmdir t) fresh = tt
-done_settles s number c (Rename o n) fresh = tt
-done_settles s number c (Link o n) fresh = tt
-done_settles s number c (Ruleset rights) fresh = tt
-done_settles s number c (Allow rs t rights) fresh = tt
-done_settles s number c (Confine rs) fresh = tt
-done_settles s number c Spawn fresh = tt
-done_settles s number c Connect fresh = tt
+module _ (s : State) (number : ℕ) (call : Call) (fresh : ℕ) where
+  all_refuse : AllRefuse (refusals s (client_of s number) call)
+  all_refuse = all_refusals s (client_of s number) call (first_path call) (second_path call)
+
+  abbrev done_now : Reply × State
+  done_now = done s number (client_of s number) call (first_path call) (second_path call) fresh
+
+done_settles : (s : State) (number : ℕ) (c : ClientRecord) (call : Call) (at new : Path) (fresh : ℕ) → Settles (done s number c call at new fresh).0
+done_settles s number c (Make kind t) at new fresh = tt
+done_settles s number c (Open mode t) at new fresh = tt
+done_settles s number c (Read fd offset count) at new fresh = tt
+done_settles s number c (Write fd offset bytes) at new fresh = tt
+done_settles s number c (Ftruncate fd size) at new fresh = tt
+done_settles s number c (Close fd) at new fresh = tt
+done_settles s number c (Truncate t size) at new fresh = tt
+done_settles s number c (ReadDir t) at new fresh = tt
+done_settles s number c (Stat t) at new fresh = tt
+done_settles s number c (Exec t) at new fresh = tt
+done_settles s number c (Unlink t) at new fresh = tt
+done_settles s number c (Rmdir t) at new fresh = tt
+done_settles s number c (Rename o n) at new fresh = tt
+done_settles s number c (RenameNoreplace o n) at new fresh = tt
+done_settles s number c (Exchange o n) at new fresh = tt
+done_settles s number c (Link o n) at new fresh = tt
+done_settles s number c (Ruleset rights) at new fresh = tt
+done_settles s number c (Allow rs t rights) at new fresh = tt
+done_settles s number c (Confine rs) at new fresh = tt
+done_settles s number c Spawn at new fresh = tt
+done_settles s number c Connect at new fresh = tt
 
 step-settles : (s : State) (number : ℕ) (call : Call) (fresh : ℕ) → Settles (step s number call fresh).0
-step-settles s number call fresh = refused_or (λ r z. Settles r) s (refusals s (client_of s number) call) (done s number (client_of s number) call fresh) (all_refusals s (client_of s number) call) (λ r refuses. refuses.0) (done_settles s number (client_of s number) call fresh)
+step-settles s number call fresh = refused_or (λ r z. Settles r) s (refusals s (client_of s number) call) (done_now s number call fresh) (all_refuse s number call fresh) (λ r refuses. refuses.0) (done_settles s number (client_of s number) call (first_path call) (second_path call) fresh)
 
 settled_answer : (r : Reply) → Settles r → IsAnswer r
 settled_answer Done h = tt
@@ -463,31 +455,33 @@ closed_clients s number x inode = of (lives (with_client s number x) inode)
     of true = refl
     of false = refl
 
-done_clients : (s : State) (number : ℕ) (c : ClientRecord) (call : Call) (fresh : ℕ) → Touches s number fresh (done s number c call fresh).0 (done s number c call fresh).1.clients
-done_clients s number c (Make kind t) fresh = stand s number fresh _ _ refl refl
-done_clients s number c (Open mode t) fresh = opening_clients s number c mode (path_of t) fresh (Opened (unwrap_or (lowest_free c.descriptors) 0)) refl
-done_clients s number c (Read fd offset count) fresh = stand s number fresh _ _ refl refl
-done_clients s number c (Write fd offset bytes) fresh = stand s number fresh _ _ refl (written_beside s (inode_at c fd) offset bytes).clients
-done_clients s number c (Ftruncate fd size) fresh = stand s number fresh _ _ refl (bytes_beside s (inode_at c fd) (resized (bytes_of s (inode_at c fd)) size)).clients
-done_clients s number c (Close fd) fresh = own s number fresh Done _ _ refl (closed_clients s number (record c { descriptors = remove c.descriptors fd }) (inode_at c fd))
-done_clients s number c (Truncate t size) fresh = stand s number fresh _ _ refl (bytes_beside s (inode_of s (path_of t)) (resized (bytes_of s (inode_of s (path_of t))) size)).clients
-done_clients s number c (ReadDir t) fresh = stand s number fresh _ _ refl refl
-done_clients s number c (Stat t) fresh = stand s number fresh _ _ refl refl
-done_clients s number c (Exec t) fresh = stand s number fresh _ _ refl refl
-done_clients s number c (Unlink t) fresh = stand s number fresh _ _ refl (gone_beside s (dentry_of s (path_of t)) (inode_of s (path_of t))).clients
-done_clients s number c (Rmdir t) fresh = stand s number fresh _ _ refl (gone_beside s (dentry_of s (path_of t)) (inode_of s (path_of t))).clients
-done_clients s number c (Rename o n) fresh = stand s number fresh _ _ refl (renamed_beside s (dentry_of s (path_of o)) (dentry_of s (path_of n)) (inode_of s (path_of o)) (named s (path_of n))).clients
-done_clients s number c (Link o n) fresh = stand s number fresh _ _ refl refl
-done_clients s number c (Ruleset rights) fresh = own s number fresh _ _ _ refl refl
-done_clients s number c (Allow rs t rights) fresh = own s number fresh _ _ _ refl refl
-done_clients s number c (Confine rs) fresh = own s number fresh _ _ _ refl refl
-done_clients s number c Spawn fresh = inr (refl, (new_client c.domain, refl))
-done_clients s number c Connect fresh = own s number fresh _ _ _ refl refl
+done_clients : (s : State) (number : ℕ) (c : ClientRecord) (call : Call) (at new : Path) (fresh : ℕ) → Touches s number fresh (done s number c call at new fresh).0 (done s number c call at new fresh).1.clients
+done_clients s number c (Make kind t) at new fresh = stand s number fresh _ _ refl refl
+done_clients s number c (Open mode t) at new fresh = opening_clients s number c mode at fresh (Opened (unwrap_or (lowest_free c.descriptors) 0)) refl
+done_clients s number c (Read fd offset count) at new fresh = stand s number fresh _ _ refl refl
+done_clients s number c (Write fd offset bytes) at new fresh = stand s number fresh _ _ refl (written_beside s (inode_at c fd) offset bytes).clients
+done_clients s number c (Ftruncate fd size) at new fresh = stand s number fresh _ _ refl (bytes_beside s (inode_at c fd) (resized (bytes_of s (inode_at c fd)) size)).clients
+done_clients s number c (Close fd) at new fresh = own s number fresh Done _ _ refl (closed_clients s number (record c { descriptors = remove c.descriptors fd }) (inode_at c fd))
+done_clients s number c (Truncate t size) at new fresh = stand s number fresh _ _ refl (bytes_beside s (inode_of s at) (resized (bytes_of s (inode_of s at)) size)).clients
+done_clients s number c (ReadDir t) at new fresh = stand s number fresh _ _ refl refl
+done_clients s number c (Stat t) at new fresh = stand s number fresh _ _ refl refl
+done_clients s number c (Exec t) at new fresh = stand s number fresh _ _ refl refl
+done_clients s number c (Unlink t) at new fresh = stand s number fresh _ _ refl (gone_beside s (dentry_of s at) (inode_of s at)).clients
+done_clients s number c (Rmdir t) at new fresh = stand s number fresh _ _ refl (gone_beside s (dentry_of s at) (inode_of s at)).clients
+done_clients s number c (Rename o n) at new fresh = stand s number fresh _ _ refl (renamed_beside s (dentry_of s at) (dentry_of s new) (inode_of s at) (named s new)).clients
+done_clients s number c (RenameNoreplace o n) at new fresh = stand s number fresh _ _ refl refl
+done_clients s number c (Exchange o n) at new fresh = stand s number fresh _ _ refl refl
+done_clients s number c (Link o n) at new fresh = stand s number fresh _ _ refl refl
+done_clients s number c (Ruleset rights) at new fresh = own s number fresh _ _ _ refl refl
+done_clients s number c (Allow rs t rights) at new fresh = own s number fresh _ _ _ refl refl
+done_clients s number c (Confine rs) at new fresh = own s number fresh _ _ _ refl refl
+done_clients s number c Spawn at new fresh = inr (refl, (child_of s.rules c, refl))
+done_clients s number c Connect at new fresh = own s number fresh _ _ _ refl refl
 
 step_clients : (s : State) (number : ℕ) (call : Call) (fresh : ℕ) → Touches s number fresh (step s number call fresh).0 (step s number call fresh).1.clients
 step_clients s number call fresh =
-    refused_or (λ r z. Touches s number fresh r z.clients) s (refusals s (client_of s number) call) (done s number (client_of s number) call fresh) (all_refusals s (client_of s number) call)
-    (λ r refuses. stand s number fresh r s.clients refuses.1 refl) (done_clients s number (client_of s number) call fresh)
+    refused_or (λ r z. Touches s number fresh r z.clients) s (refusals s (client_of s number) call) (done_now s number call fresh) (all_refuse s number call fresh)
+    (λ r refuses. stand s number fresh r s.clients refuses.1 refl) (done_clients s number (client_of s number) call (first_path call) (second_path call) fresh)
 
 still_there : (b : Bool) (o : Option ClientRecord) (c : ClientRecord) → is_some o ≡ true → is_some (cond b (Some c) o) ≡ true
 still_there true o c h = refl
@@ -567,31 +561,33 @@ closed_next s number x inode = of (lives (with_client s number x) inode)
     of true = refl
     of false = refl
 
-done_next : (s : State) (number : ℕ) (c : ClientRecord) (call : Call) (fresh : ℕ) → (done s number c call fresh).1.next ≤ s.next + 1
-done_next s number c (Make kind t) fresh = omega arith
-done_next s number c (Open mode t) fresh = opening_next s number c mode (path_of t)
-done_next s number c (Read fd offset count) fresh = omega arith
-done_next s number c (Write fd offset bytes) fresh = omega (arith, (written_beside s (inode_at c fd) offset bytes).next)
-done_next s number c (Ftruncate fd size) fresh = omega (arith, (bytes_beside s (inode_at c fd) (resized (bytes_of s (inode_at c fd)) size)).next)
-done_next s number c (Close fd) fresh = omega (arith, closed_next s number (record c { descriptors = remove c.descriptors fd }) (inode_at c fd))
-done_next s number c (Truncate t size) fresh = omega (arith, (bytes_beside s (inode_of s (path_of t)) (resized (bytes_of s (inode_of s (path_of t))) size)).next)
-done_next s number c (ReadDir t) fresh = omega arith
-done_next s number c (Stat t) fresh = omega arith
-done_next s number c (Exec t) fresh = omega arith
-done_next s number c (Unlink t) fresh = omega (arith, (gone_beside s (dentry_of s (path_of t)) (inode_of s (path_of t))).next)
-done_next s number c (Rmdir t) fresh = omega (arith, (gone_beside s (dentry_of s (path_of t)) (inode_of s (path_of t))).next)
-done_next s number c (Rename o n) fresh = omega (arith, (renamed_beside s (dentry_of s (path_of o)) (dentry_of s (path_of n)) (inode_of s (path_of o)) (named s (path_of n))).next)
-done_next s number c (Link o n) fresh = omega arith
-done_next s number c (Ruleset rights) fresh = omega arith
-done_next s number c (Allow rs t rights) fresh = omega arith
-done_next s number c (Confine rs) fresh = omega arith
-done_next s number c Spawn fresh = omega arith
-done_next s number c Connect fresh = omega arith
+done_next : (s : State) (number : ℕ) (c : ClientRecord) (call : Call) (at new : Path) (fresh : ℕ) → (done s number c call at new fresh).1.next ≤ s.next + 1
+done_next s number c (Make kind t) at new fresh = omega arith
+done_next s number c (Open mode t) at new fresh = opening_next s number c mode at
+done_next s number c (Read fd offset count) at new fresh = omega arith
+done_next s number c (Write fd offset bytes) at new fresh = omega (arith, (written_beside s (inode_at c fd) offset bytes).next)
+done_next s number c (Ftruncate fd size) at new fresh = omega (arith, (bytes_beside s (inode_at c fd) (resized (bytes_of s (inode_at c fd)) size)).next)
+done_next s number c (Close fd) at new fresh = omega (arith, closed_next s number (record c { descriptors = remove c.descriptors fd }) (inode_at c fd))
+done_next s number c (Truncate t size) at new fresh = omega (arith, (bytes_beside s (inode_of s at) (resized (bytes_of s (inode_of s at)) size)).next)
+done_next s number c (ReadDir t) at new fresh = omega arith
+done_next s number c (Stat t) at new fresh = omega arith
+done_next s number c (Exec t) at new fresh = omega arith
+done_next s number c (Unlink t) at new fresh = omega (arith, (gone_beside s (dentry_of s at) (inode_of s at)).next)
+done_next s number c (Rmdir t) at new fresh = omega (arith, (gone_beside s (dentry_of s at) (inode_of s at)).next)
+done_next s number c (Rename o n) at new fresh = omega (arith, (renamed_beside s (dentry_of s at) (dentry_of s new) (inode_of s at) (named s new)).next)
+done_next s number c (RenameNoreplace o n) at new fresh = omega arith
+done_next s number c (Exchange o n) at new fresh = omega arith
+done_next s number c (Link o n) at new fresh = omega arith
+done_next s number c (Ruleset rights) at new fresh = omega arith
+done_next s number c (Allow rs t rights) at new fresh = omega arith
+done_next s number c (Confine rs) at new fresh = omega arith
+done_next s number c Spawn at new fresh = omega arith
+done_next s number c Connect at new fresh = omega arith
 
 pub step-next : (s : State) (number : ℕ) (call : Call) (fresh : ℕ) → (step s number call fresh).1.next ≤ s.next + 1
 step-next s number call fresh =
-    refused_or (λ r z. z.next ≤ s.next + 1) s (refusals s (client_of s number) call) (done s number (client_of s number) call fresh) (all_refusals s (client_of s number) call)
-    (λ r refuses. omega arith) (done_next s number (client_of s number) call fresh)
+    refused_or (λ r z. z.next ≤ s.next + 1) s (refusals s (client_of s number) call) (done_now s number call fresh) (all_refuse s number call fresh)
+    (λ r refuses. omega arith) (done_next s number (client_of s number) call (first_path call) (second_path call) fresh)
 
 -- ---- want of memory or a step
 

@@ -1,5 +1,5 @@
 -- Worked examples, which the check computes.
-use Rattle.std.specs.Prelude.{◌≡◌, ℕ, false, List, [], ◌∷◌, Some, codes, refl}
+use Rattle.std.specs.Prelude.{◌≡◌, ℕ, true, false, List, [], ◌∷◌, Some, codes, refl}
 use Rattle.ll_rights.specs.declared.kind.Kind.TheVariants.{Reg, Dir, Sym, Fifo, Sock, Char, Block}
 use Rattle.ll_rights.specs.declared.errno.Errno.TheVariants.{ENOENT, EEXIST, ENOTDIR, EISDIR, EINVAL, EBUSY, EBADF, ENOSPC, ELOOP, ENXIO, ENOMSG}
 use Rattle.ll_rights.specs.declared.access.Access.{Access}
@@ -14,6 +14,7 @@ use Rattle.ll_seq.specs.declared.call.AccessMode.{AccessMode}
 use Rattle.ll_seq.specs.declared.call.AccessMode.TheVariants.{Read, Write, ReadWrite}
 use Rattle.ll_seq.specs.declared.call.Creation.TheVariants.{Never}
 use Rattle.ll_seq.specs.declared.call.Mode.{Mode}
+use Rattle.ll_seq.specs.declared.rules.Rules.{Rules}
 use Rattle.ll_seq.specs.declared.call.Call.{Call}
 use Rattle.ll_seq.specs.declared.call.Call.TheVariants.{Make, Open, Ruleset, Allow, Confine, Connect}
 use Rattle.ll_seq.specs.declared.reply.Reply.{Reply}
@@ -32,9 +33,13 @@ abbrev state_after : State → List Call → State
 state_after s [] = s
 state_after s (call ∷ calls) = state_after (step s 1 call 2).1 calls
 
+-- the newest level, and spawned clients get descriptors
+abbrev newest : Rules
+newest = record { abi = 3; copies = true }
+
 -- a tree with room for this many nodes, to which the client has connected
 abbrev connected : ℕ → State
-connected room = (step (start room) 1 Connect 2).1
+connected room = (step (start newest room) 1 Connect 2).1
 
 abbrev replies : ℕ → List Call → List Reply
 replies room calls = replies_from (connected room) calls
