@@ -33,3 +33,6 @@ module _ {D : Type 0} (f : ℕ × ℕ → List D) (i n : ℕ) where
 
   pub numbered_later : (whole : Option D) → i < n → slice_get (f (i + 1, i)) 0 ≡ None → whole ≡ slice_get (rest i) 0 → whole ≡ slice_get (rest (i + 1)) 0
   numbered_later whole lt e so_far = so_far ∙ ap (λ ds. slice_get ds 0) (opened lt) ∙ first_back (f (i + 1, i)) (rest (i + 1)) e
+
+  pub numbered_here : (d : D) (whole : Option D) → i < n → slice_get (f (i + 1, i)) 0 ≡ Some d → whole ≡ slice_get (rest i) 0 → whole ≡ Some d
+  numbered_here d whole lt e so_far = so_far ∙ ap (λ ds. slice_get ds 0) (opened lt) ∙ first_front (f (i + 1, i)) (rest (i + 1)) d e

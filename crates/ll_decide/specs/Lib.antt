@@ -1,5 +1,6 @@
-pub mod Deciding
+pub mod Demands
 pub mod Denial
+pub mod Judge
 pub mod Masks
 pub mod Search
 pub mod Verdict
