@@ -40,6 +40,23 @@ pub fn unrestricted(layer: &Layer) -> Access
 }
 
 impl Masks {
+    /// The masks of no layer.
+    pub fn empty(alloc: Global) -> Masks
+        ensures { result ≡ [] }
+    {
+        Masks {
+            masks: SmallVec::new(alloc),
+        }
+    }
+
+    /// What the next newer layer grants. A domain has at most 16 layers.
+    pub fn push(&mut self, rights: Access)
+        requires { length self.old < 16 }
+        ensures { self.new ≡ self.old ++ rights.0 ∷ [] }
+    {
+        self.masks.push_reserved(Mask { rights });
+    }
+
     /// The masks over the chain of the root alone, which is inode 1.
     pub fn root(alloc: Global, domain: &Domain) -> Masks
         ensures masks { AreMasks result domain.now (1 ∷ []) }
@@ -61,23 +78,6 @@ impl Masks {
             masks.push(unrestricted(layer));
         }
         masks
-    }
-
-    /// The masks of no layer.
-    pub fn empty(alloc: Global) -> Masks
-        ensures { result ≡ [] }
-    {
-        Masks {
-            masks: SmallVec::new(alloc),
-        }
-    }
-
-    /// What the next newer layer grants. A domain has at most 16 layers.
-    pub fn push(&mut self, rights: Access)
-        requires { length self.old < 16 }
-        ensures { self.new ≡ self.old ++ rights.0 ∷ [] }
-    {
-        self.masks.push_reserved(Mask { rights });
     }
 
     /// The same over the chain with one inode more at its end.
