@@ -159,11 +159,14 @@ fn set_len(
 fn files(rt: HostRuntime) -> Result<(), Fail> {
     let mut slot = Slot::new(rt.alloc(), Kind::Reg);
     bytes(&rt, &slot, b"")?;
-    assert_eq!(rt; write(&rt, &mut slot, 0, b"hi", b"")?, Ok(()));
-    bytes(&rt, &slot, b"hi")?;
+    assert_eq!(rt; set_len(&rt, &mut slot, 2, b"")?, Ok(()));
+    bytes(&rt, &slot, b"\0\0")?;
+    assert_eq!(rt; write(&rt, &mut slot, 0, b"hi", b"\0\0")?, Ok(()));
     assert_eq!(rt; write(&rt, &mut slot, 4, b"!", b"hi")?, Ok(()));
     bytes(&rt, &slot, b"hi\0\0!")?;
-    assert_eq!(rt; set_len(&rt, &mut slot, 1, b"hi\0\0!")?, Ok(()));
+    assert_eq!(rt; write(&rt, &mut slot, 65_535, b"x", b"hi\0\0!")?, Ok(()));
+    assert_eq!(rt; slot.len(), 65_536);
+    assert_eq!(rt; set_len(&rt, &mut slot, 1, b"")?, Ok(()));
     assert_eq!(rt; set_len(&rt, &mut slot, 3, b"h")?, Ok(()));
     bytes(&rt, &slot, b"h\0\0")?;
     assert_eq!(rt; write(&rt, &mut slot, u64::MAX, b"", b"h\0\0")?, Ok(()));
@@ -176,8 +179,6 @@ fn files(rt: HostRuntime) -> Result<(), Fail> {
         Err(Errno::EFBIG)
     );
     bytes(&rt, &slot, b"h\0\0")?;
-    assert_eq!(rt; write(&rt, &mut slot, 65_535, b"x", b"h\0\0")?, Ok(()));
-    assert_eq!(rt; slot.len(), 65_536);
     Ok(())
 }
 
