@@ -4,7 +4,7 @@
 
 use crate::{ClientRecord, Content, Descriptor, Dentries, Listing, Node, NumberMap};
 use ll_path::Name;
-use ll_rights::{Access, Kind};
+use ll_rights::{Abi, Access, Kind};
 use std::alloc::{AllocError, Global};
 use std::test::Fail;
 
@@ -87,7 +87,7 @@ const READER: Descriptor = Descriptor {
 fn a_client_confines_itself_and_opens(rt: HostRuntime) -> Result<(), Fail> {
     let mut client = ClientRecord::new(rt.alloc());
     assert_eq!(rt;
-        again!(client.create_ruleset(rt.alloc(), Access(0x4))),
+        again!(client.create_ruleset(rt.alloc(), Abi::NEWEST, Access(0x4))),
         Ok(0)
     );
     assert_eq!(rt; client.rulesets.len(), 1);
