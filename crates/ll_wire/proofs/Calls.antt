@@ -14,7 +14,7 @@ use Rattle.ll_path.specs.Word.{IsWord}
 use Rattle.ll_path.specs.Target.{target_text}
 use Rattle.ll_seq.specs.declared.call.Mode.{Mode}
 use Rattle.ll_seq.specs.declared.call.Call.{Call}
-use Rattle.ll_seq.specs.declared.call.Call.TheVariants.{Make, Open, Read, Write, Ftruncate, Close, Truncate, ReadDir, Stat, Exec, Unlink, Rmdir, Rename, Link, Ruleset, Allow, Confine, Spawn}
+use Rattle.ll_seq.specs.declared.call.Call.TheVariants.{Make, Open, Read, Write, Ftruncate, Close, Truncate, ReadDir, Stat, Exec, Unlink, Rmdir, Rename, RenameNoreplace, Exchange, Link, Ruleset, Allow, Confine, Spawn}
 use Rattle.ll_wire.specs.Grammar.{mode_text, SpellsTarget, IsData, data_text}
 use Rattle.ll_wire.specs.Reads.{Reads, SpellsOneTarget, SpellsTwoTargets, SpellsCall, SpellsNumber, SpellsRights, SpellsData}
 use Rattle.ll_wire.proofs.Targets.{text_is, own_text, some_target}
@@ -90,6 +90,14 @@ IsOfTargets name make = (args : List (List ℕ)) (call : Call) → SpellsCall (n
 pub rename_is : IsOfTargets (codes "rename") (λ targets. Rename targets.0 targets.1)
 rename_is args (Rename old new) h = ((old, new), (h.0.0, h.0.1, cc), refl)
 rename_is args call h = absurd (false≢true (sym (ap (first_is (codes "rename")) h.1)))
+
+pub rename_noreplace_is : IsOfTargets (codes "rename_noreplace") (λ targets. RenameNoreplace targets.0 targets.1)
+rename_noreplace_is args (RenameNoreplace old new) h = ((old, new), (h.0.0, h.0.1, cc), refl)
+rename_noreplace_is args call h = absurd (false≢true (sym (ap (first_is (codes "rename_noreplace")) h.1)))
+
+pub exchange_is : IsOfTargets (codes "exchange") (λ targets. Exchange targets.0 targets.1)
+exchange_is args (Exchange old new) h = ((old, new), (h.0.0, h.0.1, cc), refl)
+exchange_is args call h = absurd (false≢true (sym (ap (first_is (codes "exchange")) h.1)))
 
 pub link_is : IsOfTargets (codes "link") (λ targets. Link targets.0 targets.1)
 link_is args (Link old new) h = ((old, new), (h.0.0, h.0.1, cc), refl)
