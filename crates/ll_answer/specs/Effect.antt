@@ -109,20 +109,20 @@ pub record FitsName (s : State) (at : At) (inode : ℕ) : Type 0 where
   pub few_names : has_many_names s inode ≡ false
   pub room : is_crowded s at.directory ≡ false
 
-pub record FitsMove (s : State) (old new : At) (inode : ℕ) : Type 0 where
-  pub old : Holds s old inode
-  pub new : Lacks s new
-  pub room : (not (old.directory == new.directory) && is_crowded s new.directory) ≡ false
+pub record FitsMove (s : State) (from into : At) (inode : ℕ) : Type 0 where
+  pub old : Holds s from inode
+  pub new : Lacks s into
+  pub room : (not (from.directory == into.directory) && is_crowded s into.directory) ≡ false
 
-pub record FitsReplace (s : State) (old new : At) (inode replaced : ℕ) : Type 0 where
-  pub old : Holds s old inode
-  pub new : Holds s new replaced
+pub record FitsReplace (s : State) (from into : At) (inode replaced : ℕ) : Type 0 where
+  pub old : Holds s from inode
+  pub new : Holds s into replaced
   pub differ : inode ≢ replaced
   pub empty : IsEmpty s replaced
 
-pub record FitsExchange (s : State) (old new : At) (first second : ℕ) : Type 0 where
-  pub old : Holds s old first
-  pub new : Holds s new second
+pub record FitsExchange (s : State) (from into : At) (first second : ℕ) : Type 0 where
+  pub old : Holds s from first
+  pub new : Holds s into second
   pub differ : first ≢ second
 
 pub record FitsResize (s : State) (inode size : ℕ) : Type 0 where

@@ -54,6 +54,17 @@ fn goes(demands: Demands, differ: bool, way: Way, kind: Kind) -> Demands
     }
 }
 
+/// What is asked where a node of this kind loses the second name, if one does.
+fn replacing(demands: Demands, replaced: Option<Kind>) -> Demands
+    ensures asks { (asks : List (Ask asked_on.On)) → AreAsks demands asks → AreAsks result (asks ++ replacing_on replaced) }
+    ensures moves { (moves : List (Move asked_on.On)) → AreMoves demands moves → AreMoves result moves }
+{
+    match replaced {
+        None => demands,
+        Some(kind) => demands.ask(On::Entered, kind.remove_right()),
+    }
+}
+
 /// What a rename asks of a node of this kind, which may replace one of another.
 fn renaming(kind: Kind, replaced: Option<Kind>, differ: bool) -> Demands
     ensures asks { AreAsks result (moving_on kind ++ replacing_on replaced ++ refer_on differ) }
@@ -62,10 +73,7 @@ fn renaming(kind: Kind, replaced: Option<Kind>, differ: bool) -> Demands
     let both = Demands::none()
         .ask(On::Left, kind.remove_right())
         .ask(On::Entered, kind.make_right());
-    let all = match replaced {
-        None => both,
-        Some(other) => both.ask(On::Entered, other.remove_right()),
-    };
+    let all = replacing(both, replaced);
     goes(refers(all, differ), differ, Way::There, kind)
 }
 
