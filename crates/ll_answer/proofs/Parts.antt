@@ -1,8 +1,10 @@
 -- A call in three parts: what refuses it before policy is asked, what policy denies, and what refuses it afterwards.
 use Rattle.std.specs.Prelude.{◌≡◌, ℕ, true, List, [], ◌∷◌, ◌++◌, map, Some, None, slice_get, refl}
-use Rattle.std.proofs.Common.{ap, sym, ◌∙◌}
+use Rattle.std.proofs.Common.{ap, sym, subst, ◌∙◌}
 use Rattle.ll_rights.specs.declared.errno.Errno.{Errno}
 use Rattle.ll_decide.specs.declared.denial.Denial.{Denial}
+use Rattle.ll_decide.specs.declared.demands.Demands.{Demands}
+use Rattle.ll_decide.specs.Judge.{grants_along}
 use Rattle.ll_decide.specs.Verdict.{verdict}
 use Rattle.ll_seq.specs.Asked.{call_denials, grants, asked, moved}
 use Rattle.ll_seq.specs.Call.{first_path, second_path}
@@ -15,9 +17,14 @@ use Rattle.ll_seq.specs.Effects.{done}
 use Rattle.ll_seq.specs.Stages.{text_refusals, number_refusals, relation_refusals, walk_refusals, existence_refusals, kind_refusals, limit_refusals}
 use Rattle.ll_seq.specs.State.{State}
 use Rattle.ll_seq.specs.Step.{step, first_or, refusals, client_of}
-use Rattle.ll_answer.proofs.Walked.{none_first}
-use Rattle.ll_answer.specs.Decided.{IsRefused}
-use Rattle.ll_answer.specs.Passed.{before_policy, after_policy, has_path}
+use Rattle.ll_answer.proofs.Asking.{verdict_same}
+use Rattle.ll_answer.proofs.Walked.{none_first, one_free, other_free}
+use Rattle.ll_answer.specs.declared.changes.Effect.{Effect}
+use Rattle.ll_answer.specs.declared.found.Found.{Found}
+use Rattle.ll_answer.specs.Decided.{IsDone, IsRefused}
+use Rattle.ll_answer.specs.Demanded.{AreDemands, chains}
+use Rattle.ll_answer.specs.Effect.{Fits, after, told}
+use Rattle.ll_answer.specs.Passed.{before_policy, after_policy, has_path, Passed, IsFree}
 
 abbrev parts : List Errno → List Denial → List Errno → List Reply
 parts b d a = map Refused b ++ (map Denied d ++ map Refused a)
@@ -112,3 +119,32 @@ policy_is s c (Allow n t r) e = refl
 policy_is s c (Confine n) e = absurd cc
 policy_is s c Spawn e = absurd cc
 policy_is s c Connect e = absurd cc
+
+-- what policy judges, by what is asked on
+pub judged_so : (s : State) (c : ClientRecord) (call : Call) (d : Demands) → has_path call ≡ true → (demanded : AreDemands s call d)
+    → slice_get (call_denials s c call) 0 ≡ verdict (grants_along (chains s call)) c.domain demanded.asks demanded.moves
+judged_so s c call d ours demanded =
+    policy_is s c call ours
+    ∙ (λ i. verdict (grants s) c.domain (demanded.all_asked i) (demanded.all_moved i))
+    ∙ verdict_same s (first_path call) (second_path call) c.domain demanded.asks demanded.moves
+
+-- a call that nothing refuses does what is told of it
+pub comes_so : (s : State) (n : ℕ) (c : ClientRecord) (call : Call) (found : Found) (effect : Effect) → client_of s n ≡ c → has_path call ≡ true
+    → Passed s c call found → after_policy s c call ≡ [] → refusals s (client_of s n) call ≡ []
+    → ((fresh : ℕ) → IsFree s c call found → ◌≡◌ {A = Reply × State} (done s n c call (first_path call) (second_path call) fresh) (told s effect.answer, after s n c effect.change))
+    → (IsFree s c call found → Fits s c effect.change)
+    → IsDone s n call effect
+comes_so s n c call found effect who ours passed nothing free does fits =
+    let kinds = kind_refusals s c call (first_path call) (second_path call) in
+    let limits = limit_refusals s c call (first_path call) (second_path call) in
+    let is_free : IsFree s c call found = record { passed = passed; kinds = one_free kinds limits nothing; limits = other_free kinds limits nothing } in
+    let outcome_of : ClientRecord → Reply × State = λ z. (told s effect.answer, after s n z effect.change) in
+    record {
+      free = free;
+      done = λ fresh.
+          comes_to s n call fresh free
+          ∙ ap (λ (z : ClientRecord). done s n z call (first_path call) (second_path call) fresh) who
+          ∙ does fresh is_free
+          ∙ ap outcome_of (sym who);
+      fits = subst (λ (z : ClientRecord). Fits s z effect.change) (sym who) (fits is_free);
+    }

@@ -1,7 +1,7 @@
 -- A free way, and what has passed where no stage before policy refuses.
 use Rattle.std.specs.Prelude.{◌≡◌, ℕ, true, is_some, is_none, List, [], ◌∷◌, ◌++◌, Option, Some, None, slice_get, refl}
 use Rattle.std.specs.List.{flat_map}
-use Rattle.std.proofs.Common.{ap, ◌∙◌}
+use Rattle.std.proofs.Common.{ap, subst, ◌∙◌}
 use Rattle.ll_rights.specs.declared.errno.Errno.{Errno}
 use Rattle.ll_rights.specs.declared.errno.Errno.TheVariants.{ENOENT, EEXIST}
 use Rattle.ll_rights.specs.Errno.{refuse}
@@ -16,7 +16,7 @@ use Rattle.ll_seq.specs.State.{State, root}
 use Rattle.ll_seq.specs.Tree.{named}
 use Rattle.ll_answer.specs.declared.found.Found.{Found}
 use Rattle.ll_answer.specs.Found.{AreFacts, Stands}
-use Rattle.ll_answer.specs.Passed.{before_policy, Exist, IsThere, Passed}
+use Rattle.ll_answer.specs.Passed.{before_policy, Exist, IsThere, Passed, IsFree}
 
 pub none_first : {A : Type 0} (xs : List A) → slice_get xs 0 ≡ None → xs ≡ []
 none_first [] e = refl
@@ -102,3 +102,9 @@ all_passed s c call found facts free =
       way = way;
       existence = existence;
     }
+
+pub passed_at : (s : State) (c : ClientRecord) (call same : Call) (found : Found) → call ≡ same → Passed s c call found → Passed s c same found
+passed_at s c call same found is = subst (λ (z : Call). Passed s c z found) is
+
+pub free_at : (s : State) (c : ClientRecord) (call same : Call) (found : Found) → call ≡ same → IsFree s c call found → IsFree s c same found
+free_at s c call same found is = subst (λ (z : Call). IsFree s c z found) is

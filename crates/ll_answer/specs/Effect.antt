@@ -120,6 +120,11 @@ pub record FitsReplace (s : State) (from into : At) (inode replaced : ℕ) : Typ
   pub differ : inode ≢ replaced
   pub empty : IsEmpty s replaced
 
+-- a rename, which may replace a node, is one of these unless both names stand for one node
+abbrev pub FitsRename : State → At → At → ℕ → Option ℕ → Type 0
+FitsRename s from into inode None = FitsMove s from into inode
+FitsRename s from into inode (Some replaced) = inode ≢ replaced → FitsReplace s from into inode replaced
+
 pub record FitsExchange (s : State) (from into : At) (first second : ℕ) : Type 0 where
   pub old : Holds s from first
   pub new : Holds s into second

@@ -125,8 +125,15 @@ pub fn demands_of(call: &Call, found: &Found) -> Demands
             new.is_apart(old),
         ),
         Call::Link(_, _) => linking(old.kind(), old.is_apart(new)),
-        Call::Stat(_) | Call::Allow(..) => none,
-        Call::Read(..) | Call::Write(..) | Call::Ftruncate(..) | Call::Close(_) => none,
-        Call::Ruleset(_) | Call::Confine(_) | Call::Spawn | Call::Connect => none,
+        Call::Stat(_) => none,
+        Call::Allow(_, _, _) => none,
+        Call::Read(_, _, _) => none,
+        Call::Write(_, _, _) => none,
+        Call::Ftruncate(_, _) => none,
+        Call::Close(_) => none,
+        Call::Ruleset(_) => none,
+        Call::Confine(_) => none,
+        Call::Spawn => none,
+        Call::Connect => none,
     }
 }

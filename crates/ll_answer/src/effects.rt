@@ -9,12 +9,12 @@ ghost use Rattle.ll_seq.specs.Call.{first_path, second_path, path_of};
 ghost use Rattle.ll_seq.specs.declared.call.Call.TheVariants as calls;
 ghost use Rattle.ll_seq.specs.declared.client.ClientRecord as record_of;
 ghost use Rattle.ll_seq.specs.declared.reply.Reply.{Reply};
-ghost use Rattle.ll_seq.specs.Effects.{done, after_opening, renamed};
+ghost use Rattle.ll_seq.specs.Effects.{done, after_opening, renamed, with_name};
 ghost use Rattle.ll_seq.specs.Stages.{lowest_free};
 ghost use Rattle.ll_seq.specs.State.{State};
 ghost use Rattle.ll_seq.specs.Tree.{ancestors, named};
 ghost use Rattle.ll_answer.specs.Demanded.{chains, path_on};
-ghost use Rattle.ll_answer.specs.Effect.{Fits, after, told, dentry_at, with_opening};
+ghost use Rattle.ll_answer.specs.Effect.{Fits, FitsRename, Holds, after, told, dentry_at};
 ghost use Rattle.ll_answer.specs.Passed.{IsFree, Passed, has_path};
 
 use crate::changes::{Answer, At, Change, Effect, Opening, Rule};
@@ -39,6 +39,16 @@ fn kept(granted: &Granted<'_>) -> Option<u64>
     }
 }
 
+/// The lowest free descriptor of the caller, which has one.
+fn free_descriptor(caller: &ClientRecord) -> u64
+    ensures { result ≡ unwrap_or (lowest_free caller.now.descriptors) 0 }
+{
+    match caller.lowest_free() {
+        Some(number) => number,
+        None => 0,
+    }
+}
+
 fn opening_of<'a>(
     caller: &ClientRecord,
     mode: Mode,
@@ -54,13 +64,9 @@ fn opening_of<'a>(
         → after_opening s n caller.now mode (path_of target.now) ≡ after s n caller.now (Change.Open result) }
     ensures fits { (s : State) → IsFree s caller.now (calls.Open mode target.now) found.now
         → Fits s caller.now (Change.Open result) }
-    ensures number { result.number ≡ unwrap_or (lowest_free caller.now.descriptors) 0 }
 {
     Opening {
-        number: match caller.lowest_free() {
-            Some(number) => number,
-            None => 0,
-        },
+        number: free_descriptor(caller),
         at: At::of(&found.first, target),
         there: found.first.named(),
         is_emptied: mode.truncate,
@@ -72,13 +78,27 @@ fn opening_of<'a>(
 
 /// What a rename changes: nothing where both names stand for one node.
 fn renaming<'a>(old: At<'a>, new: At<'a>, inode: u64, replaced: Option<u64>) -> Change<'a>
-    ensures { (s : State) (n : ℕ) (c : record_of.ClientRecord)
-        → after s n c result ≡ renamed s (dentry_at old.entry) (dentry_at new.entry) inode replaced }
+    ensures done { (s : State) (n : ℕ) (c : record_of.ClientRecord)
+        → renamed s (dentry_at old.entry) (dentry_at new.entry) inode replaced ≡ after s n c result }
+    ensures fits { (s : State) (c : record_of.ClientRecord) → FitsRename s old.entry new.entry inode replaced → Fits s c result }
 {
     match replaced {
         None => Change::Move(old, new, inode),
         Some(other) if inode == other => Change::Nothing,
         Some(other) => Change::Replace(old, new, inode, other),
+    }
+}
+
+/// What an exchange changes: nothing where both names stand for one node.
+fn exchanging<'a>(old: At<'a>, new: At<'a>, first: u64, second: u64) -> Change<'a>
+    ensures done { (s : State) (n : ℕ) (c : record_of.ClientRecord) → Holds s old.entry first → Holds s new.entry second
+        → with_name (with_name s (dentry_at new.entry) first) (dentry_at old.entry) second ≡ after s n c result }
+    ensures fits { (s : State) (c : record_of.ClientRecord) → Holds s old.entry first → Holds s new.entry second → Fits s c result }
+{
+    if first == second {
+        Change::Nothing
+    } else {
+        Change::Exchange(old, new, first, second)
     }
 }
 
@@ -114,8 +134,7 @@ fn change_of<'a>(
         Call::RenameNoreplace(from, into) => {
             Change::Move(At::of(old, from), At::of(new, into), old.inode())
         }
-        Call::Exchange(from, into) if old.inode() == new.inode() => Change::Nothing,
-        Call::Exchange(from, into) => Change::Exchange(
+        Call::Exchange(from, into) => exchanging(
             At::of(old, from),
             At::of(new, into),
             old.inode(),
@@ -140,10 +159,7 @@ fn answer_of(caller: &ClientRecord, call: &Call, found: &Found) -> Answer
 {
     let old = &found.first;
     match call {
-        Call::Open(_, _) => Answer::Opened(match caller.lowest_free() {
-            Some(number) => number,
-            None => 0,
-        }),
+        Call::Open(_, _) => Answer::Opened(free_descriptor(caller)),
         Call::Stat(_) => Answer::Status(old.inode(), old.kind()),
         Call::ReadDir(_) => Answer::Names(old.inode()),
         Call::Make(..) | Call::Truncate(..) | Call::Exec(_) | Call::Unlink(_) => Answer::Done,
