@@ -1,0 +1,5 @@
+pub mod Decided
+pub mod Demanded
+pub mod Effect
+pub mod Found
+pub mod Passed
