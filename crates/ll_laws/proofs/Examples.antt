@@ -25,17 +25,16 @@ use Rattle.ll_seq.specs.declared.reply.Entry.{Entry}
 use Rattle.ll_seq.specs.declared.client.ClientRecord.{ClientRecord}
 use Rattle.ll_seq.specs.declared.client.Descriptor.{Descriptor}
 use Rattle.ll_seq.specs.State.{State, start, new_client, is_open}
-use Rattle.ll_seq.specs.Tree.{named}
 use Rattle.ll_seq.specs.Stages.{numbers_from}
-use Rattle.ll_seq.specs.Step.{client_of}
+use Rattle.ll_seq.specs.Step.{client_of, step, first_or}
 use Rattle.ll_seq.specs.History.{MayStand, IsLegal, state_after, after, outcome_of, is_connect, fresh_of}
 use Rattle.ll_seq.specs.Reach.{InReach, HasName}
 use Rattle.ll_laws.specs.NoGain.{MovesUnder}
 use Rattle.ll_laws.specs.Withheld.{IsConfined, Withheld}
 use Rattle.ll_seq.proofs.Parted.{or_left, or_right}
 use Rattle.ll_laws.proofs.Chains.{same_Some}
-use Rattle.ll_laws.proofs.Gain.{no_gain}
-use Rattle.ll_laws.proofs.Withheld.{bytes_are_withheld}
+use Rattle.ll_laws.proofs.Gain.{done_of, no_gain}
+use Rattle.ll_laws.proofs.Withheld.{no_refusal, bytes_are_withheld}
 
 abbrev path : List ℕ → Target
 path text = Good (names_in text)
@@ -156,6 +155,17 @@ closed_to_all s inode closed client there fd d g same = by (get s.clients client
     by None is h = cc (h)
     by (Some c) is h = cc (sym closed ∙ opened s inode client fd c d is (ap (λ o. get (unwrap_or o new_client).descriptors fd) (sym is) ∙ g) same)
 
+-- ---- no call but a read is answered by bytes
+
+bytes_done : (s : State) (number : ℕ) (c : ClientRecord) (call : Call) (fresh : ℕ) (bytes : List ℕ) → (done_of s number c call fresh).0 ≡ Bytes bytes → (fd : ℕ) × (offset : ℕ) × (count : ℕ) × (call ≡ Read fd offset count)
+bytes_done s number c (Read fd offset count) fresh bytes e = (fd, offset, count, refl)
+bytes_done s number c _ fresh bytes e = absurd (cc e)
+
+pub only_reads : (s : State) (number : ℕ) (call : Call) (fresh : ℕ) (bytes : List ℕ) → (step s number call fresh).0 ≡ Bytes bytes → (fd : ℕ) × (offset : ℕ) × (count : ℕ) × (call ≡ Read fd offset count)
+only_reads s number call fresh bytes e =
+    let c = client_of s number in
+    bytes_done s number c call fresh bytes (ap (λ rs. (first_or s rs (done_of s number c call fresh)).0) (sym (no_refusal s number call fresh (Bytes bytes) refl e)) ∙ e)
+
 -- ---- the example
 
 legal : IsLegal (start newest 8) (early ++ late)
@@ -191,4 +201,4 @@ withheld = bytes_are_withheld newest 8 early late legal layer under file has_nam
 -- and so, too, as the spawned client reads it
 pub read_by_spawned : InReach cut layer file read_file
 unfolding empty checked get insert remove entries numbers_from
-read_by_spawned = withheld.2.2.2.0 (inr (inl (inl confined), refl)) refl
+read_by_spawned = withheld.2.2.2.0 (inr (inl (inl confined), refl)) (record { fd = 0; offset = 0; count = 1; bytes = []; call = refl; answered = refl; from = refl })
