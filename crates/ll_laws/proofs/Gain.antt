@@ -1,5 +1,5 @@
 -- No call lets a layer reach more, and so no history does.
-use Rattle.std.specs.Prelude.{◌≡◌, ℕ, ◌<◌, ◌≤◌, Bool, true, false, cond, not, ◌||◌, ◌&&◌, ◌==◌, List, [], ◌∷◌, ◌++◌, map, length, Option, Some, None, unwrap_or, is_none, option_map, refl, Contains, IsTrue}
+use Rattle.std.specs.Prelude.{◌≡◌, ℕ, ◌<◌, ◌≤◌, Bool, true, false, cond, not, ◌||◌, ◌&&◌, ◌==◌, List, [], ◌∷◌, ◌++◌, length, Option, Some, None, unwrap_or, is_none, option_map, refl, Contains, IsTrue}
 use Rattle.std.specs.List.{list_any}
 use Rattle.std.specs.Ordering.{nat_cmp}
 use Rattle.std.specs.Cmp.{nat_cmp_total}
@@ -36,7 +36,7 @@ use Rattle.ll_seq.specs.Call.{path_of, first_path, second_path}
 use Rattle.ll_seq.specs.State.{Name, dentry, dentry_cmp, State, child, root, kind_of, start, empty_node, bytes_of}
 use Rattle.ll_seq.specs.Tree.{named, inode_of, ancestors, kind_or_file, kind_at}
 use Rattle.ll_seq.specs.Asked.{grants, parents_differ, goes, asked, moved, call_denials}
-use Rattle.ll_seq.specs.Stages.{lying, in_the_way, way_to, missing, present, text_refusals, number_refusals, relation_refusals, walk_refusals, existence_refusals, kind_refusals, limit_refusals}
+use Rattle.ll_seq.specs.Stages.{lying, in_the_way, way_to, missing, present, number_refusals, relation_refusals, walk_refusals, existence_refusals, kind_refusals}
 use Rattle.ll_seq.specs.Effects.{done, dentry_of, let_go, with_moved, renamed, with_node, with_opened, emptied, with_bytes, with_client, overwritten, inode_at, exchanged}
 use Rattle.ll_seq.specs.Step.{step, refusals, first_or, client_of}
 use Rattle.ll_seq.specs.History.{MayStand, IsLegal, state_after, after}
