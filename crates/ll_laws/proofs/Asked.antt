@@ -19,7 +19,7 @@ use Rattle.ll_seq.specs.State.{State, root, kind_of}
 use Rattle.ll_seq.specs.Tree.{named}
 use Rattle.ll_seq.specs.Asked.{grants, asked, moved, call_denials}
 use Rattle.ll_seq.specs.Reach.{InReach, is_relevant}
-use Rattle.ll_laws.proofs.Chains.{same_Some, end_last, Snoc, nil, push, snoc}
+use Rattle.ll_seq.proofs.Parted.{last}
 use Rattle.ll_laws.proofs.Relevant.{for_bytes}
 use Rattle.ll_laws.proofs.Trees.{IsTree}
 use Rattle.ll_laws.proofs.Stages.{IsIn, in_left, in_right, in_when, nil_left, none_passes, none_denied}
@@ -96,11 +96,10 @@ module _ (s : State) (mode : Mode) (t : Target) where
 -- ---- a path that names a node
 
 pub kind_known : (s : State) → IsTree s → (q : Path) (x : ℕ) → named s q ≡ Some x → (k : Kind) × (kind_of s x ≡ Some k)
-kind_known s t q x e = by (snoc q) e
-  where
-    by : {r : Path} → Snoc r → named s r ≡ Some x → (k : Kind) × (kind_of s x ≡ Some k)
-    by nil h = (Dir, ap (kind_of s) (sym (same_Some root x h)) ∙ t.root_node)
-    by (push {p = r} v m) h = let w = end_last s r m root x h in t.known w.0 m x w.2
+kind_known s t q x e = elim (last s q root x e) [
+  | inl a ↦ (Dir, ap (kind_of s) (sym a.1) ∙ t.root_node)
+  | inr l ↦ t.known l.directory l.name x l.names
+]
 
 pub reached : (s : State) → IsTree s → (layer : Layer) (q : Path) (x right : ℕ) → named s q ≡ Some x → ((k : Kind) → is_relevant (Some k) right ≡ true) → grants s layer q right ≡ true → InReach s layer x right
 reached s t layer q x right e relevant g =

@@ -1,5 +1,5 @@
 -- What holds of every state of a legal history, the three ways in which a call changes the tree, and what a layer reaches after each.
-use Rattle.std.specs.Prelude.{◌≡◌, ◌≢◌, ◌⊎◌, ℕ, ◌+◌, ◌<◌, Bool, true, false, not, ◌||◌, List, [], ◌∷◌, ◌++◌, Option, Some, None, option_and_then, refl, Contains}
+use Rattle.std.specs.Prelude.{◌≡◌, ◌≢◌, ◌⊎◌, ℕ, zero, suc, length, ◌+◌, ◌<◌, Bool, true, false, not, ◌||◌, List, [], ◌∷◌, ◌++◌, Option, Some, None, option_and_then, refl, Contains}
 use Rattle.std.specs.Option.{option_map_or}
 use Rattle.std.specs.List.{list_any}
 use Rattle.std.proofs.Common.{sym, ap, ◌∙◌, inl, inr, arith}
@@ -12,8 +12,8 @@ use Rattle.ll_seq.specs.Tree.{end_from, chain_from, ancestors}
 use Rattle.ll_seq.specs.Asked.{grants}
 use Rattle.ll_seq.specs.Reach.{InReach, is_relevant}
 use Rattle.ll_seq.proofs.Chains.{end_append}
-use Rattle.ll_seq.proofs.Parted.{or_right}
-use Rattle.ll_laws.proofs.Chains.{same_Some, NotFile, end_last, chain_front, chain_back, Snoc, nil, push, snoc, MoreEntries, before}
+use Rattle.ll_seq.proofs.Parted.{or_right, Last, last}
+use Rattle.ll_laws.proofs.Chains.{same_Some, NotFile, chain_front, chain_back, MoreEntries, before}
 use Rattle.ll_laws.proofs.Relevant.{relevant_dir}
 
 pub record IsTree (s : State) : Type 0 where
@@ -155,28 +155,26 @@ tree_kept s t domain i (moves Fresh h) = moves_tree s t domain Fresh i h
 -- ---- a directory has one path
 
 module _ (s : State) (i : IsTree s) where
-  only_path_of : {p : Path} → Snoc p → (q : Path) (x : ℕ) → NotFile s x → end_from s p root ≡ Some x → end_from s q root ≡ Some x → p ≡ q
-  only_path_of nil q x f e g = by (snoc q) g
+  -- what is so of the paths to both directories is so of the paths
+  one_further : (p q : Path) (x : ℕ) → NotFile s x → end_from s p root ≡ Some x → end_from s q root ≡ Some x
+      → ((l m : Path) (y : ℕ) → length p ≡ length l + 1 → NotFile s y → end_from s l root ≡ Some y → end_from s m root ≡ Some y → l ≡ m) → p ≡ q
+  one_further p q x f e g front = by (last s p root x e) (last s q root x g)
     where
-      by : {r : Path} → Snoc r → end_from s r root ≡ Some x → [] ≡ r
-      by nil h = refl
-      by (push {p = r} v m) h = let w = end_last s r m root x h in absurd (i.rootless w.0 m (w.2 ∙ sym e))
-  only_path_of (push {p = p} u n) q x f e g = by (λ r. only_path_of u r) (snoc q) g
-    where
-      last : (y : ℕ) × (end_from s p root ≡ Some y) × (child s y n ≡ Some x)
-      last = end_last s p n root x e
+      by : ((p ≡ []) × (root ≡ x)) ⊎ Last s p root x → ((q ≡ []) × (root ≡ x)) ⊎ Last s q root x → p ≡ q
+      by (inl a) (inl b) = a.0 ∙ sym b.0
+      by (inl a) (inr m) = absurd (i.rootless m.directory m.name (m.names ∙ ap Some (sym a.1)))
+      by (inr l) (inl b) = absurd (i.rootless l.directory l.name (l.names ∙ ap Some (sym b.1)))
+      by (inr l) (inr m) =
+          let same = i.one l.directory l.name m.directory m.name x f l.names m.names in
+          let fronts = front l.front m.front l.directory l.more (i.dirs l.directory l.name x l.names) l.leads (m.leads ∙ ap Some (sym same.0)) in
+          l.whole ∙ (λ j. fronts j ++ same.1 j ∷ []) ∙ sym m.whole
 
-      by : {r : Path} → ((q : Path) (y : ℕ) → NotFile s y → end_from s p root ≡ Some y → end_from s q root ≡ Some y → p ≡ q) → Snoc r → end_from s r root ≡ Some x → p ++ n ∷ [] ≡ r
-      by up nil h = absurd (i.rootless last.0 n (last.2 ∙ sym h))
-      by up (push {p = r} v m) h =
-          let w = end_last s r m root x h in
-          let same = i.one last.0 n w.0 m x f last.2 w.2 in
-          let front : p ≡ r = up r last.0 (i.dirs last.0 n x last.2) last.1 (w.1 ∙ ap Some (sym same.0)) in
-          let name : n ≡ m = same.1 in
-          cc
+  only_path_of : (k : ℕ) (p q : Path) (x : ℕ) → length p ≡ k → NotFile s x → end_from s p root ≡ Some x → end_from s q root ≡ Some x → p ≡ q
+  only_path_of zero p q x size f e g = one_further p q x f e g (λ l m y more. absurd (omega arith))
+  only_path_of (suc k) p q x size f e g = one_further p q x f e g (λ l m y more. only_path_of k l m y (omega arith))
 
   pub only_path : (p q : Path) (x : ℕ) → NotFile s x → end_from s p root ≡ Some x → end_from s q root ≡ Some x → p ≡ q
-  only_path p q x f e g = only_path_of (snoc p) q x f e g
+  only_path p q x f e g = only_path_of (length p) p q x refl f e g
 
 -- ---- what is reached after each change was reached before it
 
