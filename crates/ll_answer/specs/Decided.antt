@@ -14,5 +14,6 @@ IsRefused s n call reply = (fresh : ℕ) → ◌≡◌ {A = Reply × State} (rep
 -- nothing refuses the call, and it does this
 pub record IsDone (s : State) (n : ℕ) (call : Call) (effect : Effect) : Type 0 where
   pub free : refusals s (client_of s n) call ≡ []
-  pub done : (fresh : ℕ) → ◌≡◌ {A = Reply × State} (step s n call fresh) (told s effect.answer, after s n (client_of s n) effect.change)
+  pub done : (fresh : ℕ) →
+      ◌≡◌ {A = Reply × State} (step s n call fresh) (told s effect.answer, after s n (client_of s n) effect.change)
   pub fits : Fits s (client_of s n) effect.change

@@ -1,14 +1,9 @@
-use Rattle.std.specs.Prelude.{slice_get, ◌++◌}
+use Rattle.std.specs.Prelude.{slice_get}
 use Rattle.std.proofs.Common.{ap, sym, ◌∙◌}
-use Rattle.ll_seq.specs.Asked.{call_denials, grants}
-use Rattle.ll_seq.specs.Call.{first_path, second_path}
-use Rattle.ll_seq.specs.Stages.{kind_refusals, limit_refusals}
-use Rattle.ll_seq.specs.Step.{client_of}
-use Rattle.ll_decide.specs.Verdict.{verdict}
-use Rattle.ll_answer.proofs.Asking.{verdict_same}
+use Rattle.ll_seq.specs.Asked.{call_denials}
 use Rattle.ll_answer.proofs.deciding.decide.Goals as goal
 use Rattle.ll_answer.proofs.Parts.{refused_early, denied, refused_late, none_refused, judged_so, comes_so}
-use Rattle.ll_answer.proofs.Walked.{none_first, one_free, other_free}
+use Rattle.ll_answer.proofs.Walked.{none_first}
 use Rattle.ll_answer.specs.Demanded.{chains}
 use Rattle.ll_answer.specs.Passed.{before_policy, after_policy}
 
