@@ -1,12 +1,2 @@
 pub mod Below
-pub mod Calls
-pub mod Denials
-pub mod Granting
-pub mod Living
-pub mod Openings
-pub mod Outcomes
-pub mod Parts
-pub mod Reaches
-pub mod Shortcuts
-pub mod TwoPaths
-pub mod Written
+pub mod Walks

@@ -1,5 +1,5 @@
-pub mod Deciding
+pub mod Found
 pub mod Memory
-pub mod Outcomes
 pub mod Reaching
 pub mod Tables
+pub mod Walking
