@@ -22,3 +22,5 @@ pub record IsPathWalk (s : State) (domain : List Layer) (path : Path) (walk : Pa
   pub spot : IsSpot s path walk.spot
   pub parent : AreMasks walk.parent domain (ancestors s (parent path))
   pub itself : AreMasks walk.itself domain (ancestors s path)
+  pub parent_len : length walk.parent ≡ length domain
+  pub itself_len : length walk.itself ≡ length domain

@@ -2,8 +2,14 @@
 #![tactic(auto)]
 
 mod answer;
+mod descriptors;
+mod enact;
+mod paths;
+mod resolve;
+mod rulesets;
 mod tables;
 mod walk;
+mod writes;
 
 ghost use Rattle.std.specs.Prelude.{◌≡◌, ◌≤◌, IfOk};
 ghost use Rattle.ll_seq.specs.State.{start};

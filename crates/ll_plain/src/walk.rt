@@ -152,7 +152,7 @@ impl Plain {
         }
     }
 
-    fn walk_root(&self, domain: &Domain) -> PathWalk
+    pub(crate) fn walk_root(&self, domain: &Domain) -> PathWalk
         ensures { IsPathWalk self.now domain.now [] result }
     {
         PathWalk {
@@ -168,7 +168,7 @@ impl Plain {
     }
 
     /// The walk along the path, which is the only one along it.
-    fn walk_path(&self, domain: &Domain, path: &Path) -> PathWalk
+    pub(crate) fn walk_path(&self, domain: &Domain, path: &Path) -> PathWalk
         ensures { IsPathWalk self.now domain.now path.now result }
     {
         let Some((parent, name)) = path.split_last() else {

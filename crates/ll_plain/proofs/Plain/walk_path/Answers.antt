@@ -32,4 +32,6 @@ returns c =
       itself = subst (AreMasks c.granted_at.result c.args.domain.now)
           (ap (λ o. ancestors s front ++ alone s name o) (c.beneath-node.ensures ∙ ap (beneath s name) c.walk-walk.ensures.end) ∙ sym (ap (ancestors s) whole ∙ chain_push s name front root))
           (c.granted_at.ensures.masks (ancestors s front) (subst (λ m. AreMasks m c.args.domain.now (ancestors s front)) (sym c.copy.ensures) c.walk-walk.ensures.masks));
+      parent_len = c.walk-walk.ensures.len;
+      itself_len = c.granted_at.ensures.len;
     }
