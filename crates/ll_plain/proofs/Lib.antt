@@ -1,8 +1,13 @@
 pub mod Below
 pub mod Clients
+pub mod Granting
 pub mod Living
 pub mod Moved
 pub mod Parts
+pub mod Reaches
 pub mod Records
+pub mod Refusals
+pub mod Shortcuts
+pub mod Spared
 pub mod Walks
 pub mod Written

@@ -7,5 +7,6 @@ pub mod Memory
 pub mod Outcomes
 pub mod Passed
 pub mod Reaching
+pub mod Refusal
 pub mod Tables
 pub mod Walking

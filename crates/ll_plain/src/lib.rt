@@ -5,17 +5,25 @@ mod answer;
 mod descriptors;
 mod enact;
 mod paths;
+mod reach;
 mod resolve;
 mod rulesets;
 mod tables;
 mod walk;
 mod writes;
 
-ghost use Rattle.std.specs.Prelude.{◌≡◌, ◌≤◌, IfOk};
-ghost use Rattle.ll_seq.specs.State.{start};
+ghost use Rattle.std.specs.Prelude.{◌≡◌, ◌≢◌, ◌<◌, ◌≤◌, ◌+◌, ◌-◌, ◌^◌, ℕ, [], true, false, not, IfOk};
+ghost use Rattle.ll_rights.specs.Map.{has};
+ghost use Rattle.ll_seq.specs.History.{is_connect};
+ghost use Rattle.ll_seq.specs.State.{State, start};
+ghost use Rattle.ll_seq.specs.Step.{step, refusals, client_of, IsAnswer};
+ghost use Rattle.ll_seq.specs.declared.reply.Reply.{Reply};
+ghost use Rattle.ll_plain.specs.Memory.{takes_memory};
+ghost use Rattle.ll_plain.specs.Outcomes.{ComesBy};
+ghost use Rattle.ll_plain.specs.Refusal.{is_refusal};
 
-use ll_rights::Kind;
-use ll_seq::{ClientRecord, Content, Dentries, Node, NumberMap, Rules};
+use ll_rights::{Errno, Kind};
+use ll_seq::{Call, ClientRecord, Content, Dentries, Node, NumberMap, Reply, Rules};
 use std::alloc::{AllocError, Global};
 use std::marker::Model;
 
@@ -69,5 +77,64 @@ impl Plain {
             clients: NumberMap::new(alloc),
             alloc,
         })
+    }
+
+    /// Makes the client's call. The reply and the state after are those of one step, or want of memory is answered and
+    /// nothing has changed. `fresh` is the number that a spawned client would get, which no client has.
+    pub fn apply(&mut self, client: u64, call: &Call, fresh: u64) -> Reply
+        requires caller { has self.old.clients client ≡ not (is_connect call.now) }
+        requires fresh { call.now ≡ Call.Spawn → has self.old.clients fresh ≡ false }
+        requires next { self.old.next < 2 ^ 64 - 1 }
+
+        ensures step { result ≢ Reply.Refused Errno.NoMemory → ◌≡◌ {A = Reply × State} (result, self.new) (step self.old client call.now fresh) }
+        ensures no_memory { result ≡ Reply.Refused Errno.NoMemory → self.new ≡ self.old }
+
+        // Want of memory comes only where nothing else refuses the call.
+        ensures starved { result ≡ Reply.Refused Errno.NoMemory → refusals self.old (client_of self.old client) call.now ≡ [] }
+
+        // A call that takes no memory never answers for want of it.
+        ensures memory { takes_memory call.now ≡ false → result ≢ Reply.Refused Errno.NoMemory }
+
+        // What follows from these for every call.
+        ensures answers { IsAnswer result }
+        ensures kept { is_refusal result ≡ true → self.new ≡ self.old }
+        ensures clients_stay { (other : ℕ) → has self.old.clients other ≡ true → has self.new.clients other ≡ true }
+        ensures no_other_client { (other : ℕ) → other ≢ client → result ≢ Reply.Spawned other → has self.new.clients other ≡ has self.old.clients other }
+        ensures spawned { (number : ℕ) → result ≡ Reply.Spawned number → (number ≡ fresh) × (has self.new.clients number ≡ true) }
+        ensures numbers { self.new.next ≤ self.old.next + 1 }
+    {
+        self.reply(client, call, fresh)
+    }
+
+    fn reply(&mut self, client: u64, call: &Call, fresh: u64) -> Reply
+        requires caller { has self.old.clients client ≡ not (is_connect call.now) }
+        requires fresh { call.now ≡ Call.Spawn → has self.old.clients fresh ≡ false }
+        requires next { self.old.next < 2 ^ 64 - 1 }
+        ensures comes { ComesBy fresh self.old client call.now result self.new }
+        ensures memory { takes_memory call.now ≡ false → result ≢ Reply.Refused Errno.NoMemory }
+    {
+        match call {
+            Call::Make(_, _) => self.perform(client, call),
+            Call::Open(_, _) => self.perform(client, call),
+            Call::Truncate(_, _) => self.perform(client, call),
+            Call::ReadDir(_) => self.perform(client, call),
+            Call::Stat(_) => self.perform(client, call),
+            Call::Exec(_) => self.perform(client, call),
+            Call::Unlink(_) => self.perform(client, call),
+            Call::Rmdir(_) => self.perform(client, call),
+            Call::Rename(_, _) => self.perform(client, call),
+            Call::RenameNoreplace(_, _) => self.perform(client, call),
+            Call::Exchange(_, _) => self.perform(client, call),
+            Call::Link(_, _) => self.perform(client, call),
+            Call::Allow(_, _, _) => self.perform(client, call),
+            Call::Read(number, offset, count) => self.read(client, *number, *offset, *count),
+            Call::Write(number, offset, bytes) => self.write(client, *number, *offset, bytes),
+            Call::Ftruncate(number, size) => self.ftruncate(client, *number, *size),
+            Call::Close(number) => self.close(client, *number),
+            Call::Ruleset(rights) => self.create_ruleset(client, *rights),
+            Call::Confine(number) => self.confine(client, *number),
+            Call::Spawn => self.spawn(client, fresh),
+            Call::Connect => self.connect(client),
+        }
     }
 }
