@@ -9,6 +9,8 @@ mod reach;
 mod resolve;
 mod rulesets;
 mod tables;
+#[cfg(test)]
+mod tests;
 mod walk;
 mod writes;
 
