@@ -11,6 +11,7 @@ use Rattle.ll_seq.specs.declared.node.Node.{Node}
 use Rattle.ll_seq.specs.declared.reply.Reply.{Reply}
 use Rattle.ll_seq.specs.declared.reply.Reply.TheVariants.{Bytes, Spawned}
 use Rattle.ll_seq.specs.declared.reply.Entry.{Entry}
+use Rattle.ll_seq.specs.declared.rules.Rules.{Rules}
 use Rattle.ll_seq.specs.State.{State, start}
 use Rattle.ll_seq.specs.Effects.{inode_at}
 use Rattle.ll_seq.specs.Step.{client_of}
@@ -56,8 +57,8 @@ Withheld layer inode cut Was s (e ∷ es) =
 -- all of them, and from whom they spawn, where each move after it is made under the layer
 abbrev pub BytesAreWithheld : Type 0
 BytesAreWithheld =
-    (room : ℕ) (early late : List Entry) → IsLegal (start room) (early ++ late) →
-    let cut = state_after (start room) early in
+    (rules : Rules) (room : ℕ) (early late : List Entry) → IsLegal (start rules room) (early ++ late) →
+    let cut = state_after (start rules room) early in
     (layer : Layer) → MovesUnder layer cut late →
     (inode : ℕ) → HasName cut inode →
     ((client : ℕ) → IsConfined layer cut client → (fd : ℕ) (d : Descriptor) → get (client_of cut client).descriptors fd ≡ Some d → d.inode ≢ inode) →
