@@ -1,11 +1,5 @@
-pub mod Decided
-pub mod Demanded
-pub mod Effect
-pub mod Found
-pub mod Lean
 pub mod Memory
 pub mod Outcomes
-pub mod Passed
 pub mod Reaching
 pub mod Refusal
 pub mod Tables

@@ -5,11 +5,11 @@ ghost use Rattle.ll_rights.specs.Map.{has, insert};
 ghost use Rattle.ll_seq.specs.Effects.{status_of, with_client};
 ghost use Rattle.ll_seq.specs.Stages.{lowest_free};
 ghost use Rattle.ll_seq.specs.Step.{client_of};
-ghost use Rattle.ll_plain.specs.Effect.{Fits, FitsRule, HasRoom, after, descriptor_of, told, with_opening, with_rule_of};
-ghost use Rattle.ll_plain.specs.Lean.{adds_nothing, is_short};
+ghost use Rattle.ll_answer.specs.Effect.{Fits, FitsRule, HasRoom, after, descriptor_of, told, with_opening, with_rule_of};
+ghost use Rattle.ll_answer.specs.Lean.{adds_nothing, is_short};
 
 use crate::Plain;
-use crate::answer::{Answer, Change, Opening, Rule};
+use ll_answer::{Answer, Change, Opening, Rule};
 use ll_rights::Kind;
 use ll_seq::{Descriptor, Reply, Status};
 use std::alloc::AllocError;

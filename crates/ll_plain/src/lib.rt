@@ -1,7 +1,6 @@
 //! A plain tree that does what the definitions of a call say, one call at a time.
 #![tactic(auto)]
 
-mod answer;
 mod descriptors;
 mod enact;
 mod paths;

@@ -6,7 +6,7 @@ ghost use Rattle.ll_rights.specs.declared.errno.Errno.{Errno};
 ghost use Rattle.ll_seq.specs.declared.reply.Reply.{Reply};
 ghost use Rattle.ll_plain.specs.Memory.{takes_memory};
 ghost use Rattle.ll_plain.specs.Outcomes.{Comes};
-ghost use Rattle.ll_plain.specs.Passed.{has_path};
+ghost use Rattle.ll_answer.specs.Passed.{has_path};
 
 use crate::Plain;
 use ll_rights::Errno;

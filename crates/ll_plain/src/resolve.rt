@@ -1,16 +1,15 @@
 //! What is found for a call, and what it comes to.
 
-ghost use Rattle.std.specs.Prelude.{◌≡◌, ℕ, true, IfOk, MatchOption, MatchResult};
+ghost use Rattle.std.specs.Prelude.{◌≡◌, ℕ, true, MatchOption, MatchResult};
 ghost use Rattle.ll_rights.specs.Map.{has};
 ghost use Rattle.ll_seq.specs.Call.{first_path, path_of, second_path};
 ghost use Rattle.ll_seq.specs.Step.{client_of};
-ghost use Rattle.ll_plain.specs.Decided.{IsDone, IsRefused};
-ghost use Rattle.ll_plain.specs.Lean.{is_lean, spares_memory};
-ghost use Rattle.ll_plain.specs.Passed.{has_path};
+ghost use Rattle.ll_answer.specs.Decided.{IsDone, IsRefused};
+ghost use Rattle.ll_answer.specs.Passed.{has_path};
 ghost use Rattle.ll_plain.specs.Walking.{IsPathWalk};
 
 use crate::Plain;
-use crate::answer::{Effect, Found, Targets, decide, targets_of};
+use ll_answer::{Effect, Found, Targets, decide, targets_of};
 use crate::walk::PathWalk;
 use ll_decide::Granted;
 use ll_path::Target;
@@ -54,8 +53,7 @@ impl Plain {
         requires path { has_path call.now ≡ true }
         requires first { IsPathWalk self.now caller.now.domain (first_path call.now) first.now }
         requires second { IsPathWalk self.now caller.now.domain (second_path call.now) second.now }
-        ensures answer { (client : ℕ) → client_of self.now client ≡ caller.now → MatchResult result (IsDone self.now client call.now) (IsRefused self.now client call.now) }
-        ensures lean { IfOk result (λ effect. spares_memory call.now ≡ true → is_lean effect ≡ true) }
+        ensures { (client : ℕ) → client_of self.now client ≡ caller.now → MatchResult result (IsDone self.now client call.now) (IsRefused self.now client call.now) }
     {
         let found = Found {
             first: first.spot,
@@ -75,8 +73,7 @@ impl Plain {
     pub(crate) fn effect<'a>(&self, client: u64, call: &'a Call) -> Result<Effect<'a>, Reply>
         requires caller { has self.now.clients client ≡ true }
         requires path { has_path call.now ≡ true }
-        ensures answer { MatchResult result (IsDone self.now client call.now) (IsRefused self.now client call.now) }
-        ensures lean { IfOk result (λ effect. spares_memory call.now ≡ true → is_lean effect ≡ true) }
+        ensures { MatchResult result (IsDone self.now client call.now) (IsRefused self.now client call.now) }
     {
         let Some(caller) = self.clients.get(client) else {
             unreachable!()

@@ -5,12 +5,12 @@ ghost use Rattle.std.specs.Option.{option_map_or};
 ghost use Rattle.ll_rights.specs.declared.errno.Errno as errno;
 ghost use Rattle.ll_decide.specs.Masks.{AreMasks};
 ghost use Rattle.ll_path.specs.Path.{Path};
-ghost use Rattle.ll_plain.specs.Found.{there_in};
+ghost use Rattle.ll_answer.specs.Found.{there_in};
 ghost use Rattle.ll_seq.specs.State.{child};
 ghost use Rattle.ll_seq.specs.Stages as stages;
 ghost use Rattle.ll_plain.specs.Walking.{IsWalk, IsPathWalk};
 
-use crate::answer::{Spot, There};
+use ll_answer::{Spot, There};
 use crate::{Plain, ROOT};
 use ll_decide::Masks;
 use ll_path::{Names, Path};

@@ -8,7 +8,7 @@ ghost use Rattle.ll_seq.specs.Effects.{let_go, overwritten, resized, with_bytes,
 ghost use Rattle.ll_seq.specs.Step.{client_of};
 
 use crate::Plain;
-use crate::answer::At;
+use ll_answer::At;
 use ll_path::Name;
 use ll_rights::Kind;
 use ll_seq::{Content, Node};

@@ -47,4 +47,4 @@ returns c s n who ours facts granted =
     let late = none_first (after_policy s c.args.caller.now call) (sym (c.refused_after.ensures s ours passed) ∙ c.in_default-refused_after.is) in
     comes_so s n c.args.caller.now call c.args.found.now c.effect_of.result who ours passed late
     (none_refused s n call free allowed (ap (λ z. after_policy s z call) who ∙ late))
-    (λ fresh is_free. c.effect_of.ensures.done s n fresh ours is_free granted) (λ is_free. c.effect_of.ensures.fits s ours is_free)
+    (λ fresh is_free. c.effect_of.ensures.done s n fresh ours is_free granted) (λ is_free. c.effect_of.ensures.fits s ours is_free) c.effect_of.ensures.lean

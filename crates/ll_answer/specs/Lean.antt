@@ -2,11 +2,11 @@
 use Rattle.std.specs.Prelude.{Bool, true, false, ◌&&◌}
 use Rattle.ll_seq.specs.declared.call.Call.{Call}
 use Rattle.ll_seq.specs.declared.call.Call.TheVariants as call
-use Rattle.ll_plain.specs.declared.answer.Answer.{Answer}
-use Rattle.ll_plain.specs.declared.answer.Answer.TheVariants.{Done, Opened, Status, Names}
-use Rattle.ll_plain.specs.declared.answer.Change.{Change}
-use Rattle.ll_plain.specs.declared.answer.Change.TheVariants.{Nothing, Make, Take, Name, Move, Replace, Exchange, Resize, Open, Allow}
-use Rattle.ll_plain.specs.declared.answer.Effect.{Effect}
+use Rattle.ll_answer.specs.declared.changes.Answer.{Answer}
+use Rattle.ll_answer.specs.declared.changes.Answer.TheVariants.{Done, Opened, Status, Names}
+use Rattle.ll_answer.specs.declared.changes.Change.{Change}
+use Rattle.ll_answer.specs.declared.changes.Change.TheVariants.{Nothing, Make, Take, Name, Move, Replace, Exchange, Resize, Open, Allow}
+use Rattle.ll_answer.specs.declared.changes.Effect.{Effect}
 
 -- nothing comes of the change that wasn't there: no node, name, byte, descriptor or rule
 abbrev pub adds_nothing : Change → Bool
