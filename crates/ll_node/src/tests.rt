@@ -1,5 +1,7 @@
-//! That the calls succeed where there is memory, and what they answer in the order of their manuals. What asks for memory is
-//! tried once more where it gets none, as `rt try --test --fail-alloc N` refuses it once; then nothing may have changed.
+//! That the calls succeed where there is memory, and what they answer in the order of their manuals.
+//!
+//! What asks for memory is tried once more where it gets none, as `rt try --test --fail-alloc N` refuses it once in each
+//! test; then nothing may have changed.
 
 use crate::Slot;
 use ll_path::Name;
