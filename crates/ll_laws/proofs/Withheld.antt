@@ -29,16 +29,16 @@ use Rattle.ll_seq.specs.State.{State, empty_node, new_client, start, bytes_of}
 use Rattle.ll_seq.specs.Tree.{named, inode_of}
 use Rattle.ll_seq.specs.Asked.{call_denials}
 use Rattle.ll_seq.specs.Stages.{lowest_free, ruleset_at, text_refusals, number_refusals, relation_refusals, walk_refusals, existence_refusals, kind_refusals, limit_refusals}
-use Rattle.ll_seq.specs.Effects.{done, dentry_of, opened, with_opened, emptied, with_node, with_bytes, with_client, inode_at, overwritten, child_of}
+use Rattle.ll_seq.specs.Effects.{dentry_of, opened, with_opened, emptied, with_node, with_bytes, with_client, inode_at, overwritten, child_of}
 use Rattle.ll_seq.specs.Step.{step, refusals, first_or, client_of}
 use Rattle.ll_seq.specs.History.{MayStand, IsLegal, state_after, after, is_connect, fresh_of}
 use Rattle.ll_seq.specs.Reach.{InReach}
 use Rattle.ll_seq.proofs.Histories.{legal_late}
 use Rattle.ll_laws.specs.NoGain.{MovesUnder}
-use Rattle.ll_laws.specs.Withheld.{bytes_read, read_from, ChangesBytes, IsConfined, Confined, Withheld, BytesAreWithheld}
+use Rattle.ll_laws.specs.Withheld.{ReadsFrom, ChangesBytes, IsConfined, Confined, Withheld, BytesAreWithheld}
 use Rattle.ll_laws.proofs.Chains.{same_Some}
 use Rattle.ll_laws.proofs.Trees.{IsTree}
-use Rattle.ll_laws.proofs.Stages.{inode_is, nil_left, nil_right, not_refused}
+use Rattle.ll_laws.proofs.Stages.{inode_is, nil_right, not_refused}
 use Rattle.ll_laws.proofs.Gain.{Passes, passes, done_of, there_is, one_entry, kept_tree, start_tree, after_tree, named_below}
 use Rattle.ll_laws.proofs.Asked.{open_granted, truncate_granted, reading_asked, writing_asked, truncating_asked, read_is, write_is, truncate_is, may_read, may_write, may_truncate}
 use Rattle.ll_laws.proofs.Clients.{ClientsAfter, same_clients, caller_after, new_after, let_go_clients, with_bytes_clients, renamed_clients, let_go_node, with_bytes_node, renamed_node, new_node, described, inode_at_is}
@@ -204,7 +204,7 @@ are_refusals s c call =
     all_append is_refusal (t ++ n ++ r ++ w ++ e ++ d ++ k) l to_k (all_map Refused (limit_refusals s c call (first_path call) (second_path call)) (λ _. refl))
 
 -- a reply that is no refusal: no stage refused
-no_refusal : (s : State) (number : ℕ) (call : Call) (fresh : ℕ) (r : Reply) → is_refusal r ≡ false → (step s number call fresh).0 ≡ r → refusals s (client_of s number) call ≡ []
+pub no_refusal : (s : State) (number : ℕ) (call : Call) (fresh : ℕ) (r : Reply) → is_refusal r ≡ false → (step s number call fresh).0 ≡ r → refusals s (client_of s number) call ≡ []
 no_refusal s number call fresh r isnt e = by (refusals s (client_of s number) call) refl (are_refusals s (client_of s number) call) e
   where
     first_is : (b c : Bool) → (b && c) ≡ true → b ≡ true
@@ -223,10 +223,6 @@ spawn_reply s number c _ fresh e = absurd (cc e)
 spawned_by : (s : State) (number : ℕ) (c : ClientRecord) (call : Call) (fresh child : ℕ) → (done_of s number c call fresh).0 ≡ Spawned child → (done_of s number c call fresh).1.clients ≡ insert s.clients child (child_of s.rules c)
 spawned_by s number c Spawn fresh child e = ap (λ n. insert s.clients n (child_of s.rules c)) (ap fresh_of e)
 spawned_by s number c _ fresh child e = absurd (cc e)
-
-read_case : (c : ClientRecord) (call : Call) (reply : Reply) (x : ℕ) → bytes_read c call reply ≡ Some x → (fd : ℕ) × (offset : ℕ) × (count : ℕ) × (bs : List ℕ) × (call ≡ Read fd offset count) × (reply ≡ Bytes bs) × (inode_at c fd ≡ x)
-read_case c (Read fd offset count) (Bytes bs) x e = (fd, offset, count, bs, refl, refl, same_Some _ x e)
-read_case c _ _ x e = absurd (cc e)
 
 -- what holds of the clients of whom P holds
 record Holds (from : State) (layer : Layer) (x : ℕ) (P : ℕ → Type 0) (s : State) : Type 0 where
@@ -291,12 +287,12 @@ module _ (from : State) (layer : Layer) (x : ℕ) (s : State) (e : Entry) (t : I
         copied true p fd d g = h.files e.client p fd d g
         copied false p fd d g = absurd (cc (sym (get-empty Descriptor nat_cmp fd) ∙ g))
 
-    reading : P e.client → read_from s e ≡ Some x → InReach from layer x read_file
+    reading : P e.client → ReadsFrom s e x → InReach from layer x read_file
     reading p r =
-        let w = read_case caller e.call e.reply x r in
-        let n = no_refusal s e.client e.call fresh (Bytes w.3) refl (m.answered ∙ w.5) in
-        let d = described caller w.0 (λ d. d.reads) EBADF (nil_right (refuse (nat_lt DATA_BYTES w.2) EINVAL) _ (ap (number_refusals caller) (sym w.4) ∙ (passes s caller e.call n).numbers)) in
-        (h.files e.client p w.0 d.0 d.1).0 (sym (inode_at_is caller w.0 d.0 d.1) ∙ w.6) d.2
+        let n = no_refusal s e.client e.call fresh (Bytes r.bytes) refl (m.answered ∙ r.answered) in
+        let numbers : number_refusals caller (Read r.fd r.offset r.count) ≡ [] = ap (number_refusals caller) (sym r.call) ∙ (passes s caller e.call n).numbers in
+        let d = described caller r.fd (λ d. d.reads) EBADF (nil_right (refuse (nat_lt DATA_BYTES r.count) EINVAL) _ numbers) in
+        (h.files e.client p r.fd d.0 d.1).0 (sym (inode_at_is caller r.fd d.0 d.1) ∙ r.from) d.2
 
     changing : P e.client → ChangesBytes s (after s e) x → InReach from layer x write_file ⊎ InReach from layer x truncate
     changing p b = by (refusals s caller e.call) refl b.after
