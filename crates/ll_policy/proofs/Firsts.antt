@@ -1,10 +1,10 @@
 -- The first of several faults.
-use Rattle.std.proofs.Common.{◌≡◌, Bool, true, false, not, List, [], ◌∷◌, ◌++◌, Option, Some, None, slice_get, refl, ap, sym, ◌∙◌, ◌⊎◌, inl, inr}
+use Rattle.std.proofs.Common.{◌≡◌, Bool, true, false, not, List, [], ◌∷◌, ◌++◌, Option, Some, None, slice_get, refl, ap, ◌∙◌, ◌⊎◌, inl, inr}
 use Rattle.std.specs.Prelude.{option_and_then}
 use Rattle.toml.specs.Data.{Data}
 use Rattle.ll_policy.specs.declared.fault.PolicyFault.{PolicyFault}
-use Rattle.ll_policy.specs.declared.fault.PolicyFault.TheVariants.{NoMemory, WrongType}
-use Rattle.ll_policy.specs.Faults.{fault_if, typed, required, optional}
+use Rattle.ll_policy.specs.declared.fault.PolicyFault.TheVariants.{NoMemory}
+use Rattle.ll_policy.specs.Faults.{fault_if, typed, required}
 
 -- the fault is the first, or memory ran out
 abbrev pub Told : List PolicyFault → PolicyFault → Type 0

@@ -1,15 +1,14 @@
 -- Tables and what stands at their keys.
-use Rattle.std.proofs.Common.{◌≡◌, ℕ, ◌+◌, ◌<◌, Bool, true, false, not, ◌&&◌, ◌||◌, List, [], ◌∷◌, ◌++◌, length, get_or, drop, map, Option, Some, None, is_some, refl, ap, sym, ◌∙◌}
-use Rattle.std.specs.Prelude.{option_map, option_and_then, option_to_list, unwrap_or}
+use Rattle.std.proofs.Common.{◌≡◌, ℕ, ◌+◌, ◌<◌, ◌&&◌, ◌||◌, List, [], ◌∷◌, ◌++◌, length, get_or, drop, map, is_some, refl, ap}
+use Rattle.std.specs.Prelude.{option_to_list}
 use Rattle.std.specs.Borrow.{Bor}
 use Rattle.std.specs.Str.{bytes_eq}
 use Rattle.std.specs.List.{list_any}
-use Rattle.std.proofs.lemmas.List.{drop_more}
-use Rattle.toml.specs.Data.{Data, Members, member, get_member, as_str, as_table}
-use Rattle.toml.specs.View.{view, items_view, members_view}
+use Rattle.toml.specs.Data.{Members, as_table}
+use Rattle.toml.specs.View.{view, items_view}
 use Rattle.toml.specs.declared.value.Value.{Value}
-use Rattle.toml.proofs.Views.{Entry, items_view-drop}
-use Rattle.ll_policy.specs.Table.{has_other_key, are_tables, tables_of, hold_tables, named_tables}
+use Rattle.toml.proofs.Views.{items_view-drop}
+use Rattle.ll_policy.specs.Table.{are_tables, tables_of}
 
 -- the tables among values
 abbrev pub tables_in : List Value → List Members

@@ -1,5 +1,5 @@
 -- Bytes cut into pieces of 4,096.
-use Rattle.std.proofs.Common.{◌≡◌, ℕ, ◌+◌, ◌-◌, ◌*◌, ◌/◌, ◌<◌, ◌≤◌, min, List, [], ◌++◌, length, take, drop, refl, ap, sym, ◌∙◌, arith}
+use Rattle.std.proofs.Common.{◌≡◌, ℕ, ◌+◌, ◌-◌, ◌*◌, ◌/◌, ◌<◌, min, List, ◌++◌, length, take, drop, refl, ap, sym, ◌∙◌, arith}
 use Rattle.std.proofs.lemmas.List.{take_at, drop_at, take_min, drop_min, drop-drop, length-drop}
 
 piece_is : (rest piece others : List ℕ) → rest ≡ piece ++ others → length piece ≡ min 4096 (length rest) → piece ≡ take 4096 rest

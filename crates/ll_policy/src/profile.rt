@@ -73,7 +73,12 @@ impl Layer {
     }
 
     // The calls that make the ruleset of this number and enforce it.
-    fn push_calls(&self, alloc: Global, number: u64, calls: &mut Vec<Call>) -> Result<(), AllocError>
+    fn push_calls(
+        &self,
+        alloc: Global,
+        number: u64,
+        calls: &mut Vec<Call>,
+    ) -> Result<(), AllocError>
         ensures { OnOk result (calls.new.items ≡ calls.old.items ++ calls_of_layer number self.now) }
     {
         calls.push(Call::Ruleset(self.handled))?;

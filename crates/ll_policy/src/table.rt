@@ -101,7 +101,10 @@ pub(crate) fn tables<'a>(table: &'a Table, key: &str) -> Result<&'a [Value], Pol
 }
 
 /// The table of tables at a key, if there is one.
-pub(crate) fn named_tables<'a>(table: &'a Table, key: &str) -> Result<Option<&'a Table>, PolicyFault>
+pub(crate) fn named_tables<'a>(
+    table: &'a Table,
+    key: &str,
+) -> Result<Option<&'a Table>, PolicyFault>
     ensures { Checks (optional as_table hold_tables WrongType (get_member key.now (table_view table.now)))
         (λ found. named_in found ≡ named_tables_at key.now (table_view table.now)) result }
 {

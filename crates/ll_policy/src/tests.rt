@@ -46,20 +46,41 @@ fn node_fault(alloc: Global, lines: &str) -> Result<Option<PolicyFault>, AllocEr
 fn nodes(rt: HostRuntime) -> Result<(), Fail> {
     for (lines, want) in [
         ("path = \"/a\"\nkind = \"dir\"", None),
-        ("path = \"/a\"\nkind = \"dir\"\ndata = \"00\"", Some(PolicyFault::BadData)),
-        ("path = \"/a\"\nkind = \"dir\"\ndata = \"\"", Some(PolicyFault::BadData)),
+        (
+            "path = \"/a\"\nkind = \"dir\"\ndata = \"00\"",
+            Some(PolicyFault::BadData),
+        ),
+        (
+            "path = \"/a\"\nkind = \"dir\"\ndata = \"\"",
+            Some(PolicyFault::BadData),
+        ),
         ("path = \"/a/\"\nkind = \"dir\"", Some(PolicyFault::BadPath)),
-        ("path = \"/a b\"\nkind = \"dir\"", Some(PolicyFault::BadPath)),
+        (
+            "path = \"/a b\"\nkind = \"dir\"",
+            Some(PolicyFault::BadPath),
+        ),
         ("path = \"/a/\"", Some(PolicyFault::BadPath)),
         ("path = \"/a\"\nkind = \"file\"", Some(PolicyFault::BadKind)),
-        ("path = \"/a\"\nkind = \"file\"\ndata = 3", Some(PolicyFault::BadKind)),
+        (
+            "path = \"/a\"\nkind = \"file\"\ndata = 3",
+            Some(PolicyFault::BadKind),
+        ),
         ("path = \"/a\"", Some(PolicyFault::MissingKey)),
         ("kind = \"dir\"", Some(PolicyFault::MissingKey)),
         ("path = 3\nkind = \"dir\"", Some(PolicyFault::WrongType)),
         ("mode = 3", Some(PolicyFault::UnknownKey)),
-        ("path = \"/a\"\nkind = \"reg\"\ndata = \"0A\"", Some(PolicyFault::BadData)),
-        ("path = \"/a\"\nkind = \"reg\"\ndata = \"0\"", Some(PolicyFault::BadData)),
-        ("path = \"/a\"\nkind = \"reg\"\ndata = 0", Some(PolicyFault::WrongType)),
+        (
+            "path = \"/a\"\nkind = \"reg\"\ndata = \"0A\"",
+            Some(PolicyFault::BadData),
+        ),
+        (
+            "path = \"/a\"\nkind = \"reg\"\ndata = \"0\"",
+            Some(PolicyFault::BadData),
+        ),
+        (
+            "path = \"/a\"\nkind = \"reg\"\ndata = 0",
+            Some(PolicyFault::WrongType),
+        ),
         ("path = \"/a\"\nkind = \"reg\"\ndata = \"\"", None),
     ] {
         assert_eq!(rt; node_fault(rt.alloc(), lines)?, want, "at {lines}");
@@ -78,12 +99,27 @@ fn layers(rt: HostRuntime) -> Result<(), Fail> {
     for (lines, want) in [
         ("handled = \"none\"", None),
         ("handled = \"0x8000\"", None),
-        ("handled = \"read_file,write_file\"", Some(PolicyFault::BadRights)),
+        (
+            "handled = \"read_file,write_file\"",
+            Some(PolicyFault::BadRights),
+        ),
         ("rule = []", Some(PolicyFault::MissingKey)),
-        ("handled = \"none\"\nrule = [3]", Some(PolicyFault::WrongType)),
-        ("handled = \"none\"\nrule = [{ path = \"/\" }]", Some(PolicyFault::MissingKey)),
-        ("handled = \"none\"\nrule = [{ path = \"a\", rights = \"x\" }]", Some(PolicyFault::BadPath)),
-        ("handled = \"none\"\nrule = [{ path = \"/\", rights = \"x\" }]", Some(PolicyFault::BadRights)),
+        (
+            "handled = \"none\"\nrule = [3]",
+            Some(PolicyFault::WrongType),
+        ),
+        (
+            "handled = \"none\"\nrule = [{ path = \"/\" }]",
+            Some(PolicyFault::MissingKey),
+        ),
+        (
+            "handled = \"none\"\nrule = [{ path = \"a\", rights = \"x\" }]",
+            Some(PolicyFault::BadPath),
+        ),
+        (
+            "handled = \"none\"\nrule = [{ path = \"/\", rights = \"x\" }]",
+            Some(PolicyFault::BadRights),
+        ),
     ] {
         assert_eq!(rt; layer_fault(rt.alloc(), lines)?, want, "at {lines}");
     }
@@ -93,12 +129,30 @@ fn layers(rt: HostRuntime) -> Result<(), Fail> {
 #[test]
 fn first_of_two(rt: HostRuntime) -> Result<(), Fail> {
     for (text, want) in [
-        ("version = 1\nprofile = 3\n[[node]]\nx = 1", PolicyFault::WrongType),
-        ("version = 1\n[profile.A]\n[[node]]\npath = \"a\"", PolicyFault::BadPath),
-        ("version = 1\n[profile.b]\nx = 1\n[profile.A]", PolicyFault::BadName),
-        ("version = 1\n[profile.a]\nlayer = 1\n[profile.B]", PolicyFault::BadName),
-        ("version = 1\n[[profile.a.layer]]\nhandled = \"x\"\n[[profile.a.layer]]", PolicyFault::BadRights),
-        ("version = 1\n[[profile.a.layer]]\nhandled = \"none\"\nrule = [{}]\n[[profile.a.layer]]\nx = 1", PolicyFault::MissingKey),
+        (
+            "version = 1\nprofile = 3\n[[node]]\nx = 1",
+            PolicyFault::WrongType,
+        ),
+        (
+            "version = 1\n[profile.A]\n[[node]]\npath = \"a\"",
+            PolicyFault::BadPath,
+        ),
+        (
+            "version = 1\n[profile.b]\nx = 1\n[profile.A]",
+            PolicyFault::BadName,
+        ),
+        (
+            "version = 1\n[profile.a]\nlayer = 1\n[profile.B]",
+            PolicyFault::BadName,
+        ),
+        (
+            "version = 1\n[[profile.a.layer]]\nhandled = \"x\"\n[[profile.a.layer]]",
+            PolicyFault::BadRights,
+        ),
+        (
+            "version = 1\n[[profile.a.layer]]\nhandled = \"none\"\nrule = [{}]\n[[profile.a.layer]]\nx = 1",
+            PolicyFault::MissingKey,
+        ),
     ] {
         assert_eq!(rt; fault(rt.alloc(), text), Some(want), "at {text}");
     }
@@ -113,7 +167,10 @@ fn path(target: &Target) -> &str {
 fn line(alloc: Global, call: &Call) -> Result<String, AllocError> {
     match call {
         Call::Make(kind, target) => format!(in alloc; "make {} {}", kind.text(), path(target)),
-        Call::Open(mode, target) if mode.access == AccessMode::Write && !mode.truncate && mode.creation == Creation::Never => {
+        Call::Open(mode, target)
+            if mode.access == AccessMode::Write
+                && !mode.truncate
+                && mode.creation == Creation::Never => {
             format!(in alloc; "open w {}", path(target))
         }
         Call::Write(number, offset, data) => {
@@ -122,7 +179,11 @@ fn line(alloc: Global, call: &Call) -> Result<String, AllocError> {
         }
         Call::Close(number) => format!(in alloc; "close {number}"),
         Call::Ruleset(rights) => format!(in alloc; "ruleset {}", rights.text(alloc)?),
-        Call::Allow(number, target, rights) => format!(in alloc; "allow {number} {} {}", path(target), rights.text(alloc)?),
+        Call::Allow(number, target, rights) => format!(in alloc;
+            "allow {number} {} {}",
+            path(target),
+            rights.text(alloc)?
+        ),
         Call::Confine(number) => format!(in alloc; "confine {number}"),
         _ => String::from_str(alloc, "?"),
     }
@@ -172,9 +233,15 @@ rights = \"read_file\"
 #[test]
 fn reader(rt: HostRuntime) -> Result<(), Fail> {
     let alloc = rt.alloc();
-    assert_eq!(rt; opening(alloc, READER)?.as_str(), "make dir /a;make reg /a/f;open w /a/f;write 0 0 2:104;close 0;");
+    assert_eq!(rt;
+        opening(alloc, READER)?.as_str(),
+        "make dir /a;make reg /a/f;open w /a/f;write 0 0 2:104;close 0;"
+    );
     let calls = profile(alloc, READER, "reader")?.ok_or("no profile")?;
-    assert_eq!(rt; calls.as_str(), "ruleset write_file,read_file;allow 0 /a read_file;confine 0;");
+    assert_eq!(rt;
+        calls.as_str(),
+        "ruleset write_file,read_file;allow 0 /a read_file;confine 0;"
+    );
     assert!(rt; profile(alloc, READER, "writer")?.is_none());
     Ok(())
 }
@@ -189,7 +256,12 @@ fn nothing(rt: HostRuntime) -> Result<(), Fail> {
 
 #[test]
 fn levels(rt: HostRuntime) -> Result<(), Fail> {
-    for (text, want) in [("version = 1", 3), ("version = 2\nabi = 1", 1), ("version = 2\nabi = 2", 2), ("version = 2\nabi = 3", 3)] {
+    for (text, want) in [
+        ("version = 1", 3),
+        ("version = 2\nabi = 1", 1),
+        ("version = 2\nabi = 2", 2),
+        ("version = 2\nabi = 3", 3),
+    ] {
         assert_eq!(rt; Policy::from_text(rt.alloc(), text)?.abi(), want);
     }
     Ok(())
@@ -204,14 +276,23 @@ a = {}
 ";
     let alloc = rt.alloc();
     let calls = profile(alloc, text, "b")?.ok_or("no profile")?;
-    assert_eq!(rt; calls.as_str(), "ruleset execute;allow 0 / execute;allow 0 /x none;confine 0;ruleset refer;confine 1;");
-    assert_eq!(rt; profile(alloc, text, "a")?.ok_or("no profile")?.as_str(), "");
+    assert_eq!(rt;
+        calls.as_str(),
+        "ruleset execute;allow 0 / execute;allow 0 /x none;confine 0;ruleset refer;confine 1;"
+    );
+    assert_eq!(rt;
+        profile(alloc, text, "a")?.ok_or("no profile")?.as_str(),
+        ""
+    );
     Ok(())
 }
 
 // A document with one file of so many bytes, each 11.
 fn file(alloc: Global, bytes: u32) -> Result<String, AllocError> {
-    let mut text = String::from_str(alloc, "version = 1\n[[node]]\npath = \"/f\"\nkind = \"reg\"\ndata = \"")?;
+    let mut text = String::from_str(
+        alloc,
+        "version = 1\n[[node]]\npath = \"/f\"\nkind = \"reg\"\ndata = \"",
+    )?;
     for _ in 0..bytes {
         text.push_str("0b")?;
     }
@@ -226,18 +307,30 @@ fn pieces(rt: HostRuntime) -> Result<(), Fail> {
         (0, "make reg /f;"),
         (1, "make reg /f;open w /f;write 0 0 1:11;close 0;"),
         (4096, "make reg /f;open w /f;write 0 0 4096:11;close 0;"),
-        (8193, "make reg /f;open w /f;write 0 0 4096:11;write 0 4096 4096:11;write 0 8192 1:11;close 0;"),
+        (
+            8193,
+            "make reg /f;open w /f;write 0 0 4096:11;write 0 4096 4096:11;write 0 8192 1:11;close 0;",
+        ),
     ] {
-        assert_eq!(rt; opening(alloc, file(alloc, bytes)?.as_str())?.as_str(), want);
+        assert_eq!(rt;
+            opening(alloc, file(alloc, bytes)?.as_str())?.as_str(),
+            want
+        );
     }
     let full = Policy::from_text(alloc, file(alloc, 65_536)?.as_str())?;
     assert_eq!(rt; full.opening(alloc)?.len(), 19);
-    assert_eq!(rt; fault(alloc, file(alloc, 65_537)?.as_str()), Some(PolicyFault::BadData));
+    assert_eq!(rt;
+        fault(alloc, file(alloc, 65_537)?.as_str()),
+        Some(PolicyFault::BadData)
+    );
     Ok(())
 }
 
 #[test]
 fn kinds_of_faults(rt: HostRuntime) -> Result<(), Fail> {
-    assert_eq!(rt; format!(in rt.alloc(); "{}", PolicyFault::BadRights)?.as_str(), "BadRights");
+    assert_eq!(rt;
+        format!(in rt.alloc(); "{}", PolicyFault::BadRights)?.as_str(),
+        "BadRights"
+    );
     Ok(())
 }

@@ -1,6 +1,5 @@
-use Rattle.std.proofs.Common.{◌≡◌, ◌+◌, ◌*◌, ◌<◌, ◌++◌, [], ◌∷◌, ℕ, min, length, take, drop, map, refl, ap, sym, ◌∙◌, arith, rules, append_assoc, append-nil}
+use Rattle.std.proofs.Common.{◌≡◌, ◌+◌, ◌*◌, ◌++◌, [], ◌∷◌, min, length, take, drop, map, ap, sym, ◌∙◌, arith, rules, append_assoc, append-nil}
 use Rattle.std.specs.List.{range_with_len}
-use Rattle.std.proofs.lemmas.Grind.{common_steps}
 use Rattle.std.proofs.lemmas.List.{length_push, length-append}
 use Rattle.std.proofs.lemmas.List.FromFn.{map-range_with_len_more}
 use Rattle.ll_seq.specs.declared.call.Call.TheVariants.{Write}
@@ -41,8 +40,8 @@ loop-piece-preserved c =
       offset = omega (arith, invariant.offset, ap length steps.1.0, length-append piece others);
       few = rw more (omega (arith, starts, steps.1.2));
       calls = c.in_ok-push.ensures.items ∙ ap (λ calls. calls ++ Write 0 c.loop-piece.offset c.in-Ok.data ∷ []) invariant.calls
-        ∙ append_assoc old front (Write 0 c.loop-piece.offset c.in-Ok.data ∷ [])
-        ∙ ap (λ calls. old ++ calls) (ap (λ x. front ++ x ∷ []) call ∙ sym (map-range_with_len_more (write_of bytes) 0 number number (omega arith)) ∙ ap (λ k. map (write_of bytes) (range_with_len 0 k)) (sym more));
+          ∙ append_assoc old front (Write 0 c.loop-piece.offset c.in-Ok.data ∷ [])
+          ∙ ap (λ calls. old ++ calls) (ap (λ x. front ++ x ∷ []) call ∙ sym (map-range_with_len_more (write_of bytes) 0 number number (omega arith)) ∙ ap (λ k. map (write_of bytes) (range_with_len 0 k)) (sym more));
     }
 
 pub returns : goal.returns

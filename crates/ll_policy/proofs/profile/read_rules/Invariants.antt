@@ -11,5 +11,5 @@ abbrev pub invariant-loop-value : goal.invariant-loop-value
 invariant-loop-value l = record {
   faults : flat_map rule_faults (tables_in (drop l.value-index l.values)) ≡ flat_map rule_faults (tables_in l.values);
   calls : (number : ℕ) (rest : List Call) → Joined (IsRule number) (tables_in (drop l.value-index l.values)) rest
-    → Joined (IsRule number) (tables_in l.values) (map (call_of_rule number) l.rules.items ++ rest);
+      → Joined (IsRule number) (tables_in l.values) (map (call_of_rule number) l.rules.items ++ rest);
 }

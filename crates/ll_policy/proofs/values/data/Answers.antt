@@ -1,4 +1,4 @@
-use Rattle.std.proofs.Common.{◌≡◌, None, [], codes, inl, inr, sym, ap, ◌∙◌, rules}
+use Rattle.std.proofs.Common.{◌≡◌, None, codes, inl, inr, sym, ap, ◌∙◌, rules}
 use Rattle.toml.specs.Data.{get_member, as_str}
 use Rattle.toml.specs.View.{table_view}
 use Rattle.ll_rights.specs.Kind.{kind_text}

@@ -1,11 +1,11 @@
-use Rattle.std.proofs.Common.{◌≡◌, ℕ, List, [], string_bytes, inl, inr, sym, ap, ◌∙◌, subst}
+use Rattle.std.proofs.Common.{◌≡◌, [], inr, sym, ap, ◌∙◌, subst}
 use Rattle.std.proofs.lemmas.Bool.{false≢true}
 use Rattle.ll_path.specs.Word.{IsWord}
 use Rattle.ll_path.specs.Path.{path_text, text_refusals}
 use Rattle.ll_path.proofs.PathLemmas.{path_text-names_in}
 use Rattle.ll_policy.specs.declared.fault.PolicyFault.TheVariants.{BadPath}
 use Rattle.ll_policy.proofs.Firsts.{only_one, passed, failed}
-use Rattle.ll_policy.proofs.PathTests.{is_path-spelled, is_path-no_word, is_path-refused}
+use Rattle.ll_policy.proofs.PathTests.{is_path-spelled, is_path-no_word}
 use Rattle.ll_policy.proofs.path_text.PathText.read.Goals as goal
 use Rattle.ll_policy.proofs.path_text.PathText.read.Goals.{In-Ok-parse}
 

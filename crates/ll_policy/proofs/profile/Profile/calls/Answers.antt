@@ -17,5 +17,5 @@ loop-layer-preserved c =
     let last : calls_of_layers (0 + length before) (layer ∷ []) ≡ calls_of_layer c.loop-layer.number layer = ap (λ n. calls_of_layers n (layer ∷ [])) named ∙ one_layer c.loop-layer.number layer in (
       omega arith,
       c.in_ok-push_calls.ensures ∙ ap (λ some. some ++ calls_of_layer c.loop-layer.number layer) calls
-        ∙ ap (λ some. calls_of_layers 0 before ++ some) (sym last) ∙ sym (calls_of_layers-append 0 before (layer ∷ [])) ∙ ap (calls_of_layers 0) (sym whole),
+          ∙ ap (λ some. calls_of_layers 0 before ++ some) (sym last) ∙ sym (calls_of_layers-append 0 before (layer ∷ [])) ∙ ap (calls_of_layers 0) (sym whole),
     )
