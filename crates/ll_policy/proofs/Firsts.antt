@@ -14,21 +14,9 @@ pub first : (ones others : List PolicyFault) (fault : PolicyFault) → slice_get
 first [] others fault e = absurd cc
 first (one ∷ ones) others fault e = e
 
-pub later : (ones others : List PolicyFault) (fault : PolicyFault) → ones ≡ [] → slice_get others 0 ≡ Some fault → slice_get (ones ++ others) 0 ≡ Some fault
-later [] others fault none e = e
-later (one ∷ ones) others fault none e = absurd cc
-
-pub nothing : (ones others : List PolicyFault) → ones ≡ [] → others ≡ [] → ones ++ others ≡ []
-nothing [] others none e = e
-nothing (one ∷ ones) others none e = absurd cc
-
 pub told_first : (ones others : List PolicyFault) (fault : PolicyFault) → Told ones fault → Told (ones ++ others) fault
 told_first ones others fault (inl memory) = inl memory
 told_first ones others fault (inr e) = inr (first ones others fault e)
-
-pub told_later : (ones others : List PolicyFault) (fault : PolicyFault) → ones ≡ [] → Told others fault → Told (ones ++ others) fault
-told_later ones others fault none (inl memory) = inl memory
-told_later ones others fault none (inr e) = inr (later ones others fault none e)
 
 pub only_one : (faults : List PolicyFault) (fault : PolicyFault) → faults ≡ fault ∷ [] → slice_get faults 0 ≡ Some fault
 only_one faults fault e = ap (λ (fs : List PolicyFault). slice_get fs 0) e

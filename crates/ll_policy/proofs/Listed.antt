@@ -77,6 +77,3 @@ layers-push layers layer rest =
 pub next_named : (e : Entry) (left : List Entry) (t : Members) → as_table (view e.1) ≡ Some t
     → named_tables (members_view (e ∷ left)) ≡ (string_bytes e.0, t) ∷ named_tables (members_view left)
 next_named e left t is = ap (λ (o : Option Members). option_to_list (option_map (λ x. (string_bytes e.0, x)) o) ++ named_tables (members_view left)) is
-
-pub next_unnamed : (e : Entry) (left : List Entry) → as_table (view e.1) ≡ None → named_tables (members_view (e ∷ left)) ≡ named_tables (members_view left)
-next_unnamed e left is = ap (λ (o : Option Members). option_to_list (option_map (λ x. (string_bytes e.0, x)) o) ++ named_tables (members_view left)) is

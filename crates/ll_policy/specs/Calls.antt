@@ -25,7 +25,8 @@ path_to text = Good (names_in text)
 -- each item gives a list, and these lists in order, joined, are the whole
 abbrev pub Joined : {A B : Type 0} → (A → List B → Type 0) → List A → List B → Type 0
 Joined Gives [] whole = whole ≡ []
-Joined {A} {B} Gives (a ∷ others) whole = (first rest : List B) × Gives a first × Joined Gives others rest × (whole ≡ first ++ rest)
+Joined {A} {B} Gives (a ∷ others) whole =
+    (first rest : List B) × Gives a first × Joined Gives others rest × (whole ≡ first ++ rest)
 
 -- ---- a node
 
@@ -63,7 +64,7 @@ abbrev pub IsRule : ℕ → Members → List Call → Type 0
 IsRule number t calls = (rights : Access) × (access_text rights.0 ≡ text_at (codes "rights") t)
     × (calls ≡ Allow number (path_to (text_at (codes "path") t)) rights ∷ [])
 
--- a layer is a ruleset with its rules in order, enforced. The layers' rulesets are numbered
+-- the calls of a layer's table, for the ruleset of this number: it is made, gets its rules in order, and is enforced
 abbrev pub IsLayer : ℕ × Members → List Call → Type 0
 IsLayer (number, t) calls = (handled : Access) × (access_text handled.0 ≡ text_at (codes "handled") t)
     × (rules : List Call) × Joined (IsRule number) (tables_at (codes "rule") t) rules

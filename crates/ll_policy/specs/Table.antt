@@ -24,7 +24,7 @@ abbrev pub hold_tables : Members → Bool
 hold_tables no_members = true
 hold_tables (member key d ms) = is_some (as_table d) && hold_tables ms
 
--- the tables in a table with their keys, which rise by their bytes
+-- the tables in a table with their keys, in its order: a table that is read has its keys rise by their bytes
 abbrev pub named_tables : Members → List (List ℕ × Members)
 named_tables no_members = []
 named_tables (member key d ms) = option_to_list (option_map (λ t. (key, t)) (as_table d)) ++ named_tables ms

@@ -47,7 +47,8 @@ pub(crate) struct Node {
 impl Node {
     /// The node of a table.
     pub(crate) fn read(alloc: Global, table: &Table) -> Result<Node, PolicyFault>
-        ensures { Reads (node_faults (table_view table.now)) (λ node. IsNode (table_view table.now) (calls_of_node node)) result }
+        ensures { Reads (node_faults (table_view table.now))
+            (λ node. IsNode (table_view table.now) (calls_of_node node)) result }
     {
         only(table, &["path", "kind", "data"])?;
         let path = path(alloc, table)?;

@@ -1,6 +1,6 @@
 //! Policies.
 
-ghost use Rattle.std.specs.Prelude.{bytes_eq, ⊤, ◌≡◌, ◌⊎◌, ◌≤◌, [], Some, pos, option_map, slice_get, IfOk, IfErr};
+ghost use Rattle.std.specs.Prelude.{bytes_eq, ⊤, ◌≡◌, ◌⊎◌, ◌≤◌, [], Some, pos, option_map, slice_get, OnOk, IfOk, IfErr};
 ghost use Rattle.std.specs.Map.{lookup};
 ghost use Rattle.toml.specs.Parse.{parse_document};
 ghost use Rattle.toml.specs.View.{table_view};
@@ -102,10 +102,12 @@ impl Policy {
         })
     }
 
-    /// The policy that a text gives, or the first fault of it. Where memory runs out, `NoMemory` may come in place of either.
+    /// The policy that a text gives, or its first fault. Where memory runs out, `NoMemory` may come in place of either.
     pub fn from_text(alloc: Global, text: &str) -> Result<Policy, PolicyFault>
-        ensures ok { IfOk result (λ policy. (document_faults (parse_document text.now) ≡ []) × IsPlanOf (parse_document text.now) policy) }
-        ensures fault { IfErr result (λ fault. (fault ≡ NoMemory) ⊎ (slice_get (document_faults (parse_document text.now)) 0 ≡ Some fault)) }
+        ensures right { OnOk result (document_faults (parse_document text.now) ≡ []) }
+        ensures plan { IfOk result (IsPlanOf (parse_document text.now)) }
+        ensures fault { IfErr result (λ fault. (fault ≡ NoMemory)
+            ⊎ (slice_get (document_faults (parse_document text.now)) 0 ≡ Some fault)) }
     {
         match toml::table_from_str(alloc, text) {
             Ok(table) => Policy::read(alloc, &table),
@@ -132,7 +134,8 @@ impl Policy {
 
     /// The calls that each client of this profile makes first, in order. None where the policy has no such profile.
     pub fn profile(&self, alloc: Global, name: &str) -> Result<Option<Vec<Call>>, AllocError>
-        ensures { IfOk result (λ found. option_map (λ calls. calls.items) found ≡ lookup (bytes_eq name.now) self.now.profiles) }
+        ensures { IfOk result (λ found. option_map (λ calls. calls.items) found
+            ≡ lookup (bytes_eq name.now) self.now.profiles) }
     {
         for profile in &self.profiles {
             if profile.is_named(name) {

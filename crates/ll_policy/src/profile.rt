@@ -42,7 +42,8 @@ impl Rule {
 
 fn read_rules(alloc: Global, values: &[Value]) -> Result<Vec<Rule>, PolicyFault>
     ensures { Reads (flat_map rule_faults (tables_of (items_view values.now)))
-        (λ rules. (number : ℕ) → Joined (IsRule number) (tables_of (items_view values.now)) (map (call_of_rule number) rules.items)) result }
+        (λ rules. (number : ℕ)
+        → Joined (IsRule number) (tables_of (items_view values.now)) (map (call_of_rule number) rules.items)) result }
 {
     let mut rules = Vec::new(alloc);
     for value in values {
@@ -93,7 +94,8 @@ impl Layer {
 
 fn read_layers(alloc: Global, values: &[Value]) -> Result<Vec<Layer>, PolicyFault>
     ensures { Reads (flat_map layer_faults (tables_of (items_view values.now)))
-        (λ layers. Joined IsLayer (enumerate_from 0 (tables_of (items_view values.now))) (calls_of_layers 0 layers.items)) result }
+        (λ layers. Joined IsLayer (enumerate_from 0 (tables_of (items_view values.now)))
+        (calls_of_layers 0 layers.items)) result }
 {
     let mut layers = Vec::new(alloc);
     for value in values {

@@ -51,7 +51,8 @@ pub(crate) fn member<'a>(table: &'a Table, key: &str) -> Option<&'a Value>
 
 /// The text at a key that must be there. Its value is still to be tested.
 pub(crate) fn required_text<'a>(table: &'a Table, key: &str) -> Result<&'a str, PolicyFault>
-    ensures found { IfOk result (λ text. option_and_then as_str (get_member key.now (table_view table.now)) ≡ Some text.now) }
+    ensures found { IfOk result (λ text.
+        option_and_then as_str (get_member key.now (table_view table.now)) ≡ Some text.now) }
     ensures fault { IfErr result (λ fault. (passes : List ℕ → Bool) (bad : PolicyFault)
         → required as_str passes bad (get_member key.now (table_view table.now)) ≡ fault ∷ []) }
 {

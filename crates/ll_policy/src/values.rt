@@ -24,7 +24,8 @@ use toml::Table;
 
 // The whole number at a key that must be there.
 fn integer(table: &Table, key: &str) -> Result<i64, PolicyFault>
-    ensures found { IfOk result (λ number. option_and_then as_integer (get_member key.now (table_view table.now)) ≡ Some number) }
+    ensures found { IfOk result (λ number.
+        option_and_then as_integer (get_member key.now (table_view table.now)) ≡ Some number) }
     ensures fault { IfErr result (λ fault. (passes : ℤ → Bool) (bad : PolicyFault)
         → required as_integer passes bad (get_member key.now (table_view table.now)) ≡ fault ∷ []) }
 {
@@ -49,7 +50,8 @@ pub(crate) fn is_two(table: &Table) -> bool
 
 /// The document is of a version that there is.
 pub(crate) fn version(table: &Table) -> Result<(), PolicyFault>
-    ensures { Checks (required as_integer is_version BadVersion (get_member (codes "version") (table_view table.now))) (λ _. ⊤) result }
+    ensures { Checks (required as_integer is_version BadVersion (get_member (codes "version") (table_view table.now)))
+        (λ _. ⊤) result }
 {
     match integer(table, "version")? {
         1 | 2 => Ok(()),
