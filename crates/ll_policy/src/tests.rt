@@ -326,6 +326,30 @@ fn pieces(rt: HostRuntime) -> Result<(), Fail> {
     Ok(())
 }
 
+// Also where `rt try --test --fail-alloc N` refuses one growth: then a call answers that, and its next try what it would have.
+#[test]
+fn one_growth_refused(rt: HostRuntime) -> Result<(), Fail> {
+    let alloc = rt.alloc();
+    let policy = match Policy::from_text(alloc, READER) {
+        Ok(policy) => policy,
+        Err(fault) => {
+            assert_eq!(rt; fault, PolicyFault::NoMemory);
+            Policy::from_text(alloc, READER)?
+        }
+    };
+    let opening = match policy.opening(alloc) {
+        Ok(calls) => calls,
+        Err(_) => policy.opening(alloc)?,
+    };
+    assert_eq!(rt; opening.len(), 5);
+    let found = match policy.profile(alloc, "reader") {
+        Ok(found) => found,
+        Err(_) => policy.profile(alloc, "reader")?,
+    };
+    assert_eq!(rt; found.ok_or("no profile")?.len(), 3);
+    Ok(())
+}
+
 #[test]
 fn kinds_of_faults(rt: HostRuntime) -> Result<(), Fail> {
     assert_eq!(rt;
