@@ -22,7 +22,6 @@ use Rattle.ll_seq.specs.declared.call.Call.{Call}
 use Rattle.ll_seq.specs.declared.call.Call.TheVariants.{Make, Open, Read, Write, Ftruncate, Close, Stat, Unlink, Rename, RenameNoreplace, Exchange, Ruleset, Allow, Confine, Spawn, Connect}
 use Rattle.ll_seq.specs.declared.reply.Reply.{Reply}
 use Rattle.ll_seq.specs.declared.reply.Reply.TheVariants.{Done, Opened, Bytes, Wrote, Found, Created, Spawned, Refused, Denied}
-use Rattle.ll_seq.specs.declared.reply.Status.{Status}
 use Rattle.ll_seq.specs.State.{State, start}
 use Rattle.ll_seq.specs.Tree.{named}
 use Rattle.ll_seq.specs.Stages.{numbers_from}

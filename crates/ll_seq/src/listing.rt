@@ -15,7 +15,6 @@ pub struct Listing {
 
 impl Model for Listing {
     ghost use Rattle.std.specs.Prelude.{List, ℕ};
-
     ghost use Rattle.ll_seq.specs.Listed.{AreListed};
 
     ghost Value = { List (List ℕ) };

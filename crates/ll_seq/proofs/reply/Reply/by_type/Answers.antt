@@ -1,4 +1,4 @@
-use Rattle.std.proofs.Common.{ap, sym, subst, ◌∙◌, arith, length}
+use Rattle.std.proofs.Common.{ap, sym, subst, arith, length}
 use Rattle.ll_seq.specs.Listed.{IsData}
 use Rattle.ll_seq.specs.Step.{IsAnswer}
 use Rattle.ll_seq.proofs.reply.Reply.by_type.Goals as goal
