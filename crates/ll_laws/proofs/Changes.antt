@@ -24,7 +24,7 @@ use Rattle.ll_seq.specs.Reach.{is_relevant}
 use Rattle.ll_seq.proofs.DentryOrder.{dentry_total, dentry_exact}
 use Rattle.ll_seq.proofs.Chains.{end_append}
 use Rattle.ll_laws.proofs.Chains.{same_Some, NotFile}
-use Rattle.ll_laws.proofs.Trees.{IsTree, Shrinks, Adds, Moves, Change, shrinks, adds, moves, only_path, At}
+use Rattle.ll_laws.proofs.Trees.{IsTree, Shrinks, Adds, Enters, Moves, Change, shrinks, adds, moves, only_path, At}
 use Rattle.ll_laws.proofs.Stages.{neither, inode_is, parent_last, last_child, beneath_append}
 
 -- ---- the same tree
@@ -52,7 +52,7 @@ more_change s t u domain a b c h =
     alike (shrinks g) = shrinks (record { entries = g.entries; kinds = g.kinds; kept = g.kept; top = g.top; next = g.next })
     alike (adds d n g) = adds d n (record { more = record { entries = g.more.entries; away = g.more.away }; kinds = g.kinds; kept = g.kept; fresh = g.fresh; next = g.next; dir = g.dir; below = g.below })
     alike (moves Fresh g) =
-        moves Fresh (record { more = record { entries = g.more.entries; away = g.more.away }; alone = g.alone; kinds = g.kinds; kept = g.kept; top = g.top; next = g.next; dir = g.dir; below = g.below; not_root = g.not_root; node = g.node; held = g.held })
+        moves Fresh (record { more = record { entries = g.more.entries; away = g.more.away }; alone = g.alone; kinds = g.kinds; kept = g.kept; top = g.top; next = g.next; enters = g.enters })
 
 -- ---- a node that goes
 
@@ -122,11 +122,7 @@ moves_after s t u domain Fresh g h = record {
   kept = λ e m x c. h.kept e m x c ∙ g.kept e m x (h.entries e m x c);
   top = h.top ∙ g.top;
   next = h.next ∙ g.next;
-  dir = g.dir;
-  below = g.below;
-  not_root = g.not_root;
-  node = g.node;
-  held = g.held;
+  enters = g.enters;
 }
 
 -- ---- a name that goes
@@ -234,12 +230,16 @@ module _ (s : State) (domain : List Layer) (from to : Path) (c d o : ℕ) (t : I
   abbrev new_entry : ℕ → Name → ℕ → Type 0
   new_entry = At d (last_name to) o
 
-  -- what is granted by the new entry was granted by the path that the node had
-  held_at : (layer : Layer) → Contains domain layer → (f : ℕ) (m : Name) (y : ℕ) → new_entry f m y → (p : Path) → end_from s p root ≡ Some f
-      → (q : Path) × (end_from s q root ≡ Some y) × ((right : ℕ) → is_relevant (kind_of s y) right ≡ true → grants s layer p right ≡ true → grants s layer q right ≡ true)
-  held_at layer l f m y w p e =
-      let same : p ≡ parent to = only_path s t p (parent to) d h.there.dir (e ∙ ap Some w.0) h.there.named in
-      (from, h.at ∙ ap Some (sym w.2), λ right r g. h.held layer l right (ap (λ z. is_relevant (kind_of s z) right) (sym w.2) ∙ r) (ap (λ z. grants s layer z right) (sym same) ∙ g))
+  enters : (e : ℕ) (m : Name) (x : ℕ) → new_entry e m x → Enters s domain e x
+  enters e m x w = subst (λ z. Enters s domain z x) (sym w.0) (subst (Enters s domain d) (sym w.2) (record {
+    dir = h.there.dir;
+    below = end_below s t (parent to) root d t.above h.there.named;
+    not_root = λ is. t.rootless c (last_name from) (old_entry ∙ ap Some is);
+    node = t.known c (last_name from) o old_entry;
+    held = λ layer l p e.
+        let same : p ≡ parent to = only_path s t p (parent to) d h.there.dir e h.there.named in
+        (from, h.at, λ right r g. h.held layer l right r (ap (λ z. grants s layer z right) (sym same) ∙ g));
+  }))
 
   -- a state in which the entries are those of s, some of them, and the new one
   moved : (u : State) → u.nodes ≡ s.nodes → u.next ≡ s.next
@@ -255,11 +255,7 @@ module _ (s : State) (domain : List Layer) (from to : Path) (c d o : ℕ) (t : I
     kept = λ e m x g. ap (λ y. option_map (λ (n : Node). n.kind) (get y x)) nodes;
     top = ap (λ y. option_map (λ (n : Node). n.kind) (get y root)) nodes;
     next = next;
-    dir = λ f m y w. subst (NotFile s) (sym w.0) h.there.dir;
-    below = λ f m y w. let v = w.0 in let z = end_below s t (parent to) root d t.above h.there.named in omega arith;
-    not_root = λ f m y w is. t.rootless c (last_name from) (old_entry ∙ ap Some (sym w.2 ∙ is));
-    node = λ f m y w. let k = t.known c (last_name from) o old_entry in (k.0, ap (kind_of s) w.2 ∙ k.1);
-    held = held_at;
+    enters = enters;
   }
 
   new_dentry : (e : ℕ) (m : Name) → dentry e m ≡ dentry_of s to → (e ≡ d) × (m ≡ last_name to)
@@ -368,23 +364,7 @@ module _ (s : State) (domain : List Layer) (a b : Path) (c d o n : ℕ) (t : IsT
     kept = λ e m x g. refl;
     top = refl;
     next = refl;
-    dir = λ f m x w. elim w [ inl v ↦ subst (NotFile s) (sym v.0) h.there.dir | inr v ↦ subst (NotFile s) (sym v.0) k.there.dir ];
-    below = λ f m x w. elim w [
-      | inl v ↦ let e = v.0 in let z = end_below s t (parent b) root d t.above h.there.named in omega arith
-      | inr v ↦ let e = v.0 in let z = end_below s t (parent a) root c t.above k.there.named in omega arith
-    ];
-    not_root = λ f m x w is. elim w [
-      | inl v ↦ t.rootless c (last_name a) (first_entry ∙ ap Some (sym v.2 ∙ is))
-      | inr v ↦ t.rootless d (last_name b) (second_entry ∙ ap Some (sym v.2 ∙ is))
-    ];
-    node = λ f m x w. elim w [
-      | inl v ↦ let j = t.known c (last_name a) o first_entry in (j.0, ap (kind_of s) v.2 ∙ j.1)
-      | inr v ↦ let j = t.known d (last_name b) n second_entry in (j.0, ap (kind_of s) v.2 ∙ j.1)
-    ];
-    held = λ layer l f m x w p e. elim w [
-      | inl v ↦ held_at s domain a b c d o t h layer l f m x v p e
-      | inr v ↦ held_at s domain b a d c n t k layer l f m x v p e
-    ];
+    enters = λ f m x w. elim w [ inl v ↦ enters s domain a b c d o t h f m x v | inr v ↦ enters s domain b a d c n t k f m x v ];
   }
     where
       far : (f : ℕ) (m : Name) (x : ℕ) → two_entries f m x → (g : ℕ) (l : Name) (y : ℕ) → two_entries g l y → (q : Path) → end_from s q x ≢ Some g

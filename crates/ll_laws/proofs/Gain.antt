@@ -47,7 +47,7 @@ use Rattle.ll_seq.proofs.Histories.{after_append, legal_late}
 use Rattle.ll_seq.proofs.Parted.{or_split}
 use Rattle.ll_laws.proofs.Relevant.{is_one_of_all}
 use Rattle.ll_laws.proofs.Trees.{IsTree, root_dir, Change, shrinks, adds, moves, only_path, tree_kept, reach_kept, granted_on}
-use Rattle.ll_laws.proofs.Stages.{nil_left, nil_right, nil_map, not_refused, neither, walked, inode_is, parent_last, last_child, IsIn, in_left, in_right, in_when, none_passes, IsIn-contains, none_denied}
+use Rattle.ll_laws.proofs.Stages.{nil_left, nil_right, nil_both, nil_map, not_refused, neither, walked, inode_is, parent_last, last_child, IsIn, in_left, in_right, in_when, none_passes, IsIn-contains, none_denied}
 use Rattle.ll_laws.proofs.Changes.{same_tree, more_change, shrinks_itself, without_name_shrinks, close_shrinks, with_bytes_shrinks, IsPlace, IsMove, end_below, new_adds, link_moves, renamed_moves, replaced_moves, exchange_shrinks, exchange_moves}
 
 -- what a call answers and does that isn't refused
@@ -64,27 +64,19 @@ pub record Passes (s : State) (c : ClientRecord) (call : Call) : Type 0 where
 
 pub passes : (s : State) (c : ClientRecord) (call : Call) → refusals s c call ≡ [] → Passes s c call
 passes s c call e =
-    let t = map Refused (text_refusals call) in
-    let n = map Refused (number_refusals c call) in
-    let r = map Refused (relation_refusals call (first_path call) (second_path call)) in
-    let w = map Refused (walk_refusals s call) in
-    let x = map Refused (existence_refusals s call (first_path call) (second_path call)) in
-    let d = map Denied (call_denials s c call) in
-    let k = map Refused (kind_refusals s c call (first_path call) (second_path call)) in
-    let l = map Refused (limit_refusals s c call (first_path call) (second_path call)) in
-    let to_k : t ++ n ++ r ++ w ++ x ++ d ++ k ≡ [] = nil_left _ l e in
-    let to_d : t ++ n ++ r ++ w ++ x ++ d ≡ [] = nil_left _ k to_k in
-    let to_x : t ++ n ++ r ++ w ++ x ≡ [] = nil_left _ d to_d in
-    let to_w : t ++ n ++ r ++ w ≡ [] = nil_left _ x to_x in
-    let to_r : t ++ n ++ r ≡ [] = nil_left _ w to_w in
-    let to_n : t ++ n ≡ [] = nil_left _ r to_r in
+    let kinds = nil_both _ _ (nil_both _ _ e).0 in
+    let policy = nil_both _ _ kinds.0 in
+    let existence = nil_both _ _ policy.0 in
+    let way = nil_both _ _ existence.0 in
+    let relation = nil_both _ _ way.0 in
+    let numbers = nil_both _ _ relation.0 in
     record {
-      numbers = nil_map Refused _ (nil_right t n to_n);
-      relation = nil_map Refused _ (nil_right (t ++ n) r to_r);
-      way = nil_map Refused _ (nil_right (t ++ n ++ r) w to_w);
-      existence = nil_map Refused _ (nil_right (t ++ n ++ r ++ w) x to_x);
-      policy = nil_map Denied _ (nil_right (t ++ n ++ r ++ w ++ x) d to_d);
-      kinds = nil_map Refused _ (nil_right (t ++ n ++ r ++ w ++ x ++ d) k to_k);
+      numbers = nil_map Refused _ numbers.1;
+      relation = nil_map Refused _ relation.1;
+      way = nil_map Refused _ way.1;
+      existence = nil_map Refused _ existence.1;
+      policy = nil_map Denied _ policy.1;
+      kinds = nil_map Refused _ kinds.1;
     }
 
 place_of : (s : State) → IsTree s → (p : Path) → is_root p ≡ false → in_the_way s (parent p) root ≡ [] → (d : ℕ) × IsPlace s p d

@@ -29,6 +29,9 @@ pub nil_right : {A : Type 0} (xs ys : List A) → xs ++ ys ≡ [] → ys ≡ []
 nil_right [] ys e = e
 nil_right (x ∷ xs) ys e = absurd (cc e)
 
+pub nil_both : {A : Type 0} (xs ys : List A) → xs ++ ys ≡ [] → (xs ≡ []) × (ys ≡ [])
+nil_both xs ys e = (nil_left xs ys e, nil_right xs ys e)
+
 pub nil_map : {A B : Type 0} (f : A → B) (xs : List A) → map f xs ≡ [] → xs ≡ []
 nil_map f [] e = refl
 nil_map f (x ∷ xs) e = absurd (cc e)

@@ -53,7 +53,16 @@ pub record Adds (s t : State) (d : ℕ) (n : Name) : Type 0 where
   pub dir : NotFile s d
   pub below : d < s.next
 
--- Nodes that there are get new entries. A directory keeps no other. By no new entry is anything gained of a layer of the domain
+-- a node that there is gets an entry in a directory, by which nothing is gained of a layer of the domain
+pub record Enters (s : State) (domain : List Layer) (d o : ℕ) : Type 0 where
+  pub dir : NotFile s d
+  pub below : d < s.next
+  pub not_root : o ≢ root
+  pub node : (k : Kind) × (kind_of s o ≡ Some k)
+  pub held : (layer : Layer) → Contains domain layer → (p : Path) → end_from s p root ≡ Some d
+      → (from : Path) × (end_from s from root ≡ Some o) × ((right : ℕ) → is_relevant (kind_of s o) right ≡ true → grants s layer p right ≡ true → grants s layer from right ≡ true)
+
+-- Nodes that there are get new entries. A directory keeps no other
 pub record Moves (s t : State) (domain : List Layer) (Fresh : ℕ → Name → ℕ → Type 0) : Type 0 where
   pub more : MoreEntries s t Fresh
   pub alone : (d : ℕ) (n : Name) (o : ℕ) → Fresh d n o → NotFile s o → (e : ℕ) (m : Name) → child t e m ≡ Some o → (e ≡ d) × (m ≡ n)
@@ -61,12 +70,7 @@ pub record Moves (s t : State) (domain : List Layer) (Fresh : ℕ → Name → �
   pub kept : (e : ℕ) (m : Name) (x : ℕ) → child t e m ≡ Some x → kind_of t x ≡ kind_of s x
   pub top : kind_of t root ≡ kind_of s root
   pub next : t.next ≡ s.next
-  pub dir : (d : ℕ) (n : Name) (o : ℕ) → Fresh d n o → NotFile s d
-  pub below : (d : ℕ) (n : Name) (o : ℕ) → Fresh d n o → d < s.next
-  pub not_root : (d : ℕ) (n : Name) (o : ℕ) → Fresh d n o → o ≢ root
-  pub node : (d : ℕ) (n : Name) (o : ℕ) → Fresh d n o → (k : Kind) × (kind_of s o ≡ Some k)
-  pub held : (layer : Layer) → Contains domain layer → (d : ℕ) (n : Name) (o : ℕ) → Fresh d n o → (p : Path) → end_from s p root ≡ Some d
-      → (from : Path) × (end_from s from root ≡ Some o) × ((right : ℕ) → is_relevant (kind_of s o) right ≡ true → grants s layer p right ≡ true → grants s layer from right ≡ true)
+  pub enters : (d : ℕ) (n : Name) (o : ℕ) → Fresh d n o → Enters s domain d o
 
 pub data Change (s t : State) (domain : List Layer) : Type 1 where
   shrinks : Shrinks s t → Change s t domain
@@ -121,7 +125,7 @@ moves_tree : (s t : State) (domain : List Layer) (Fresh : ℕ → Name → ℕ �
 moves_tree s t domain Fresh i h = record {
   dirs = λ e m x c k f. elim (h.more.entries e m x c) [
     | inl a ↦ i.dirs e m x a k (h.kinds e k f)
-    | inr a ↦ h.dir e m x a k (h.kinds e k f)
+    | inr a ↦ (h.enters e m x a).dir k (h.kinds e k f)
   ];
   one = λ e m e' m' x f c g.
       let file : NotFile s x = λ k z. f k (h.kept e m x c ∙ z) in
@@ -129,14 +133,14 @@ moves_tree s t domain Fresh i h = record {
         | inl a ↦ elim (h.more.entries e' m' x g) [ inl b ↦ i.one e m e' m' x file a b | inr b ↦ h.alone e' m' x b file e m c ]
         | inr a ↦ let w = h.alone e m x a file e' m' g in (sym w.0, sym w.1)
       ];
-  rootless = λ e m c. elim (h.more.entries e m root c) [ inl a ↦ i.rootless e m a | inr a ↦ h.not_root e m root a refl ];
+  rootless = λ e m c. elim (h.more.entries e m root c) [ inl a ↦ i.rootless e m a | inr a ↦ (h.enters e m root a).not_root refl ];
   known = λ e m x c. elim (h.more.entries e m x c) [
     | inl a ↦ let w = i.known e m x a in (w.0, h.kept e m x c ∙ w.1)
-    | inr a ↦ let w = h.node e m x a in (w.0, h.kept e m x c ∙ w.1)
+    | inr a ↦ let w = (h.enters e m x a).node in (w.0, h.kept e m x c ∙ w.1)
   ];
   old = λ e m x c. let v = h.next in elim (h.more.entries e m x c) [
     | inl a ↦ let w = i.old e m x a in (omega arith, omega arith)
-    | inr a ↦ let w = h.below e m x a in let y = h.node e m x a in let z = i.nodes x y.0 y.1 in (omega arith, omega arith)
+    | inr a ↦ let w = (h.enters e m x a).below in let y = (h.enters e m x a).node in let z = i.nodes x y.0 y.1 in (omega arith, omega arith)
   ];
   nodes = λ j k e. let v = h.next in let w = i.nodes j k (h.kinds j k e) in omega arith;
   above = let w = i.above in let v = h.next in omega arith;
@@ -233,7 +237,7 @@ moves_reach s t domain Fresh layer x right i h in_domain r =
     elim (before s t Fresh h.more r.path x r.names) [
       | inl a ↦ record { path = r.path; names = a.0; relevant = was; granted = ap (λ zs. grants_on layer zs right) (sym a.1) ∙ r.granted }
       | inr a ↦
-          let held = h.held layer in_domain a.directory a.name a.node a.new a.front a.named in
+          let held = (h.enters a.directory a.name a.node a.new).held layer in_domain a.front a.named in
           record {
             path = held.0 ++ a.tail;
             names = end_append s held.0 a.tail root a.node held.1 ∙ a.end;
@@ -241,7 +245,7 @@ moves_reach s t domain Fresh layer x right i h in_domain r =
             granted = granted_on layer (ancestors t r.path) (ancestors s (held.0 ++ a.tail)) right (λ restricted rule. elim (a.passed (has_rule layer right) rule) [
               | inl b ↦
                   let there : grants s layer a.front right ≡ true = or_right (not (restricts layer right)) _ b in
-                  let here = held.2 right (for_node a.node (h.node a.directory a.name a.node a.new) a.tail a.end) there in
+                  let here = held.2 right (for_node a.node (h.enters a.directory a.name a.node a.new).node a.tail a.end) there in
                   chain_front s (has_rule layer right) held.0 a.tail root a.node held.1 (rule_of layer (ancestors s held.0) right restricted here)
               | inr b ↦ chain_back s (has_rule layer right) held.0 a.tail root a.node held.1 b
             ]) r.granted;

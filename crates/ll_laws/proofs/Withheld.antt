@@ -6,7 +6,9 @@ use Rattle.std.specs.Cmp.{nat_cmp_total}
 use Rattle.std.specs.FinMap.{nat_cmp-IsAntisymmetric}
 use Rattle.std.proofs.Common.{sym, subst, ap, ◌∙◌, inl, inr, arith}
 use Rattle.std.proofs.lemmas.List.Elements.{Contains-append_left}
+use Rattle.std.proofs.lemmas.List.Folds.{list_all-append}
 use Rattle.ll_rights.specs.declared.kind.Kind.TheVariants.{Reg}
+use Rattle.ll_rights.specs.declared.errno.Errno.{Errno}
 use Rattle.ll_rights.specs.declared.errno.Errno.TheVariants.{ENOENT, EBADF, EINVAL}
 use Rattle.ll_rights.specs.declared.limits.TheConstants.{DATA_BYTES}
 use Rattle.ll_rights.specs.Errno.{refuse}
@@ -15,6 +17,7 @@ use Rattle.ll_rights.specs.Right.{read_file, write_file, truncate}
 use Rattle.ll_rights.proofs.Maps.{get-empty, get-insert_same, got_inserted, got_left}
 use Rattle.ll_path.specs.declared.target.Target.{Target}
 use Rattle.ll_rules.specs.Layer.{Layer}
+use Rattle.ll_decide.specs.declared.denial.Denial.{Denial}
 use Rattle.ll_seq.specs.declared.client.ClientRecord.{ClientRecord}
 use Rattle.ll_seq.specs.declared.client.Descriptor.{Descriptor}
 use Rattle.ll_seq.specs.declared.node.Node.{Node}
@@ -173,39 +176,32 @@ is_refusal (Refused e) = true
 is_refusal (Denied d) = true
 is_refusal _ = false
 
-all_append : {A : Type 0} (f : A → Bool) (xs ys : List A) → list_all f xs ≡ true → list_all f ys ≡ true → list_all f (xs ++ ys) ≡ true
-all_append f [] ys e h = h
-all_append f (x ∷ xs) ys e h = by (f x) (list_all f xs) (list_all f (xs ++ ys)) e (λ g. all_append f xs ys g h)
-  where
-    by : (a b c : Bool) → (a && b) ≡ true → (b ≡ true → c ≡ true) → (a && c) ≡ true
-    by true b c g k = k g
-    by false b c g k = cc
+record AreRefusals (rs : List Reply) : Type 0 where
+  all : list_all is_refusal rs ≡ true
 
-all_map : {A : Type 0} (g : A → Reply) (xs : List A) → ((a : A) → is_refusal (g a) ≡ true) → list_all is_refusal (map g xs) ≡ true
-all_map g [] e = refl
-all_map g (x ∷ xs) e = ap (λ b. b && list_all is_refusal (map g xs)) (e x) ∙ all_map g xs e
+joined : (xs ys : List Reply) → AreRefusals xs → AreRefusals ys → AreRefusals (xs ++ ys)
+joined xs ys e h = record { all = list_all-append is_refusal xs ys ∙ ap (λ b. b && list_all is_refusal ys) e.all ∙ h.all }
 
-are_refusals : (s : State) (c : ClientRecord) (call : Call) → list_all is_refusal (refusals s c call) ≡ true
+each : {A : Type 0} (g : A → Reply) (xs : List A) → ((a : A) → is_refusal (g a) ≡ true) → list_all is_refusal (map g xs) ≡ true
+each g [] e = refl
+each g (x ∷ xs) e = ap (λ b. b && list_all is_refusal (map g xs)) (e x) ∙ each g xs e
+
+refused : (xs : List Errno) → AreRefusals (map Refused xs)
+refused xs = record { all = each Refused xs (λ _. refl) }
+
+denied : (xs : List Denial) → AreRefusals (map Denied xs)
+denied xs = record { all = each Denied xs (λ _. refl) }
+
+are_refusals : (s : State) (c : ClientRecord) (call : Call) → AreRefusals (refusals s c call)
 are_refusals s c call =
-    let t = map Refused (text_refusals call) in
-    let n = map Refused (number_refusals c call) in
-    let r = map Refused (relation_refusals call (first_path call) (second_path call)) in
-    let w = map Refused (walk_refusals s call) in
-    let e = map Refused (existence_refusals s call (first_path call) (second_path call)) in
-    let d = map Denied (call_denials s c call) in
-    let k = map Refused (kind_refusals s c call (first_path call) (second_path call)) in
-    let l = map Refused (limit_refusals s c call (first_path call) (second_path call)) in
-    let to_n = all_append is_refusal t n (all_map Refused (text_refusals call) (λ _. refl)) (all_map Refused (number_refusals c call) (λ _. refl)) in
-    let to_r = all_append is_refusal (t ++ n) r to_n (all_map Refused (relation_refusals call (first_path call) (second_path call)) (λ _. refl)) in
-    let to_w = all_append is_refusal (t ++ n ++ r) w to_r (all_map Refused (walk_refusals s call) (λ _. refl)) in
-    let to_e = all_append is_refusal (t ++ n ++ r ++ w) e to_w (all_map Refused (existence_refusals s call (first_path call) (second_path call)) (λ _. refl)) in
-    let to_d = all_append is_refusal (t ++ n ++ r ++ w ++ e) d to_e (all_map Denied (call_denials s c call) (λ _. refl)) in
-    let to_k = all_append is_refusal (t ++ n ++ r ++ w ++ e ++ d) k to_d (all_map Refused (kind_refusals s c call (first_path call) (second_path call)) (λ _. refl)) in
-    all_append is_refusal (t ++ n ++ r ++ w ++ e ++ d ++ k) l to_k (all_map Refused (limit_refusals s c call (first_path call) (second_path call)) (λ _. refl))
+    let to_relation = joined _ _ (joined _ _ (refused (text_refusals call)) (refused (number_refusals c call))) (refused (relation_refusals call (first_path call) (second_path call))) in
+    let to_existence = joined _ _ (joined _ _ to_relation (refused (walk_refusals s call))) (refused (existence_refusals s call (first_path call) (second_path call))) in
+    let to_policy = joined _ _ to_existence (denied (call_denials s c call)) in
+    joined _ _ (joined _ _ to_policy (refused (kind_refusals s c call (first_path call) (second_path call)))) (refused (limit_refusals s c call (first_path call) (second_path call)))
 
 -- a reply that is no refusal: no stage refused
 pub no_refusal : (s : State) (number : ℕ) (call : Call) (fresh : ℕ) (r : Reply) → is_refusal r ≡ false → (step s number call fresh).0 ≡ r → refusals s (client_of s number) call ≡ []
-no_refusal s number call fresh r isnt e = by (refusals s (client_of s number) call) refl (are_refusals s (client_of s number) call) e
+no_refusal s number call fresh r isnt e = by (refusals s (client_of s number) call) refl (are_refusals s (client_of s number) call).all e
   where
     first_is : (b c : Bool) → (b && c) ≡ true → b ≡ true
     first_is true c g = refl
