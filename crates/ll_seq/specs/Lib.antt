@@ -6,7 +6,6 @@ pub mod Facts
 pub mod Fails
 pub mod History
 pub mod Listed
-pub mod Listing
 pub mod Reach
 pub mod Stages
 pub mod State

@@ -19,7 +19,7 @@ use Rattle.ll_decide.specs.declared.denial.Cause.TheVariants as causes
 use Rattle.ll_decide.specs.declared.denial.Place.{Place}
 use Rattle.ll_decide.specs.declared.denial.Place.TheVariants as places
 use Rattle.ll_decide.specs.declared.denial.Denial.{Denial}
-use Rattle.ll_seq.specs.Listing.{AreListed}
+use Rattle.ll_seq.specs.Listed.{AreListed}
 use Rattle.ll_seq.specs.declared.reply.Status.{Status}
 use Rattle.ll_seq.specs.declared.reply.Reply.{Reply}
 use Rattle.ll_seq.specs.declared.reply.Reply.TheVariants.{Done, Opened, Bytes, Wrote, Listed, Found, Created, Spawned, Refused, Denied}
