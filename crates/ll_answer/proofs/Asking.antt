@@ -1,7 +1,6 @@
 -- What a call asks, by lists of what it is asked on.
-use Rattle.std.specs.Prelude.{◌≡◌, ℕ, Bool, true, false, not, ◌&&◌, ◌||◌, List, [], ◌∷◌, ◌++◌, map, Option, Some, None, is_some, option_map, unwrap_or, slice_get, ◌==◌, refl}
-use Rattle.std.proofs.Common.{ap, sym, subst, ◌∙◌}
-use Rattle.ll_rights.specs.Access.{holds}
+use Rattle.std.specs.Prelude.{◌≡◌, ℕ, Bool, true, false, not, ◌&&◌, List, [], ◌∷◌, ◌++◌, map, Option, Some, None, is_some, option_map, unwrap_or, refl}
+use Rattle.std.proofs.Common.{sym, subst, ◌∙◌}
 use Rattle.ll_rights.specs.declared.kind.Kind.{Kind}
 use Rattle.ll_rights.specs.Kind.{make_right, remove_right, relevant}
 use Rattle.ll_rights.specs.Right as right
@@ -12,12 +11,11 @@ use Rattle.ll_decide.specs.declared.demands.Demands.{Demands}
 use Rattle.ll_decide.specs.declared.demands.On.{On}
 use Rattle.ll_decide.specs.declared.demands.On.TheVariants.{Itself, Parent, Entered}
 use Rattle.ll_decide.specs.declared.demands.Way.TheVariants.{There, Back}
-use Rattle.ll_decide.specs.declared.denial.Cause.TheVariants.{EACCES, EXDEV}
-use Rattle.ll_decide.specs.declared.denial.Place.{Place}
 use Rattle.ll_decide.specs.declared.denial.Place.TheVariants.{At, Old, New}
+use Rattle.ll_decide.proofs.Mapped.{verdict-map}
 use Rattle.ll_decide.specs.Demands.{AreAsks, AreMoves, ask_on}
 use Rattle.ll_decide.specs.Judge.{grants_along}
-use Rattle.ll_decide.specs.Verdict.{Ask, Move, when, is_at, places, rights_without_refer, denials, lacks, gains, verdict}
+use Rattle.ll_decide.specs.Verdict.{Ask, Move, when, verdict}
 use Rattle.ll_seq.specs.Asked.{grants, ask, asked, moved, opening_asked, parents_differ, leaves, enters, refers, goes}
 use Rattle.ll_seq.specs.Call.{reads, writes, first_path, second_path}
 use Rattle.ll_seq.specs.declared.call.Call.{Call}
@@ -26,31 +24,11 @@ use Rattle.ll_seq.specs.State.{State}
 use Rattle.ll_seq.specs.Tree.{ancestors, named, kind_or_file, kind_at}
 use Rattle.ll_answer.specs.Demanded.{AreDemands, path_on, ask_at, move_at, opening_on, refer_on, goes_on, moving_on, replacing_on, exchange_on}
 
--- ---- A verdict over what is asked on is the verdict over the paths
-
-module _ (s : State) (first second : Path) where
-  abbrev chain : On → List ℕ
-  chain on = ancestors s (path_on first second on)
-
-  lacks_same : (asks : List (Ask On)) (layer : Layer) (right : ℕ) (place : Place)
-      → lacks (grants s) (map (ask_at first second) asks) layer right place ≡ lacks (grants_along chain) asks layer right place
-  lacks_same [] layer right place = refl
-  lacks_same (a ∷ asks) layer right place =
-      ap (λ b. ((a.right == right) && is_at a.place place && not (grants s layer (path_on first second a.path) right)) || b) (lacks_same asks layer right place)
-
-  gains_same : (moves : List (Move On)) (layer : Layer) (right : ℕ) (place : Place)
-      → gains (grants s) (map (move_at first second) moves) layer right place ≡ gains (grants_along chain) moves layer right place
-  gains_same [] layer right place = refl
-  gains_same (m ∷ moves) layer right place =
-      ap (λ b. (is_at m.place place && holds m.relevant right && grants s layer (path_on first second m.into) right
-      && not (grants s layer (path_on first second m.from) right)) || b) (gains_same moves layer right place)
-
-  pub verdict_same : (domain : List Layer) (asks : List (Ask On)) (moves : List (Move On))
-      → verdict (grants s) domain (map (ask_at first second) asks) (map (move_at first second) moves) ≡ verdict (grants_along chain) domain asks moves
-  verdict_same domain asks moves i =
-      slice_get (denials EACCES domain rights_without_refer places (λ layer right place. lacks_same asks layer right place i)
-      ++ denials EXDEV domain (refer ∷ []) places (λ layer right place. lacks_same asks layer right place i)
-      ++ denials EXDEV domain all_rights places (λ layer right place. gains_same moves layer right place i)) 0
+-- the verdict over what is asked on is the verdict over the paths
+pub verdict_same : (s : State) (first second : Path) (domain : List Layer) (asks : List (Ask On)) (moves : List (Move On))
+    → verdict (grants s) domain (map (ask_at first second) asks) (map (move_at first second) moves)
+    ≡ verdict (grants_along (λ on. ancestors s (path_on first second on))) domain asks moves
+verdict_same s first second = verdict-map (path_on first second) (grants s)
 
 -- the demands of a call that is this one
 pub demands : (s : State) (call same : Call) (d : Demands) (asks : List (Ask On)) (moves : List (Move On)) → call ≡ same → AreAsks d asks → AreMoves d moves

@@ -1,30 +1,26 @@
 -- What an allowed call of each kind may change.
-use Rattle.std.specs.Prelude.{◌≡◌, ◌≢◌, ◌<◌, ℕ, Bool, true, false, not, ◌&&◌, ◌||◌, ◌==◌, List, [], ◌∷◌, ◌++◌, Option, Some, None, is_some, is_none, length, slice_get, unwrap_or, refl}
+use Rattle.std.specs.Prelude.{◌≡◌, ◌≢◌, ◌<◌, ℕ, Bool, true, false, not, ◌&&◌, ◌==◌, List, [], ◌++◌, Option, Some, None, is_some, is_none, length, slice_get, unwrap_or, refl}
 use Rattle.std.specs.Option.{option_map_or}
 use Rattle.std.proofs.Common.{ap, sym, ◌∙◌, arith}
 use Rattle.std.proofs.lemmas.Option.{slice_get_within}
-use Rattle.ll_rights.specs.declared.access.Access.{Access}
-use Rattle.ll_rights.specs.declared.errno.Errno.TheVariants.{EISDIR, ENOTDIR, ENOTEMPTY, ENOENT, EEXIST, EMFILE, EMLINK, ENOSPC, EBADF}
-use Rattle.ll_rights.specs.declared.kind.Kind.{Kind}
+use Rattle.ll_rights.specs.declared.errno.Errno.TheVariants.{EISDIR, ENOTDIR, ENOTEMPTY, EMFILE, EMLINK, ENOSPC, EBADF}
 use Rattle.ll_rights.specs.Errno.{refuse}
 use Rattle.ll_rights.specs.Kind.{is_dir}
-use Rattle.ll_rights.specs.Map.{get}
 use Rattle.ll_path.specs.Path.{Path}
 use Rattle.ll_rules.specs.Layer.{Layer}
 use Rattle.ll_rules.specs.Rules.{rule_refusals, rule_limit}
 use Rattle.ll_decide.specs.Verdict.{when}
 use Rattle.ll_seq.proofs.Numbers.{found_free}
 use Rattle.ll_seq.specs.declared.client.ClientRecord.{ClientRecord}
-use Rattle.ll_seq.specs.Effects.{dentry_of}
 use Rattle.ll_seq.specs.Stages.{crowds, replace_refusals, has_names, has_many_names, is_crowded, no_space, no_ruleset, ruleset_at, lowest_free}
 use Rattle.ll_seq.specs.State.{State}
 use Rattle.ll_seq.specs.Tree.{named, inode_of, directory_of, kind_at, kind_or_file}
-use Rattle.ll_answer.proofs.Standing.{lacks, holds, has_room, not_refused, stands_there, not_named, empty_goes}
+use Rattle.ll_answer.proofs.Standing.{lacks, holds, has_room, not_refused, stands_there}
 use Rattle.ll_answer.proofs.Walked.{one_free, other_free}
 use Rattle.ll_answer.specs.declared.changes.At.{At}
 use Rattle.ll_answer.specs.declared.changes.Opening.{Opening}
 use Rattle.ll_answer.specs.declared.changes.Rule.{Rule}
-use Rattle.ll_answer.specs.Effect.{IsPlace, IsEmpty, CanOpen, FitsMove, FitsName, FitsReplace, FitsRename, FitsOpening, FitsRule}
+use Rattle.ll_answer.specs.Effect.{IsPlace, IsEmpty, CanOpen, FitsMove, FitsName, FitsRename, FitsOpening, FitsRule}
 
 -- ---- A name that comes into another directory finds room there
 

@@ -24,6 +24,7 @@ use Rattle.ll_answer.specs.declared.found.Found.{Found}
 use Rattle.ll_answer.specs.Decided.{IsDone, IsRefused}
 use Rattle.ll_answer.specs.Demanded.{AreDemands, chains}
 use Rattle.ll_answer.specs.Effect.{Fits, after, told}
+use Rattle.ll_answer.specs.Lean.{is_lean, spares_memory}
 use Rattle.ll_answer.specs.Passed.{before_policy, after_policy, has_path, Passed, IsFree}
 
 abbrev parts : List Errno → List Denial → List Errno → List Reply
@@ -133,8 +134,9 @@ pub comes_so : (s : State) (n : ℕ) (c : ClientRecord) (call : Call) (found : F
     → Passed s c call found → after_policy s c call ≡ [] → refusals s (client_of s n) call ≡ []
     → ((fresh : ℕ) → IsFree s c call found → ◌≡◌ {A = Reply × State} (done s n c call (first_path call) (second_path call) fresh) (told s effect.answer, after s n c effect.change))
     → (IsFree s c call found → Fits s c effect.change)
+    → (spares_memory call ≡ true → is_lean effect ≡ true)
     → IsDone s n call effect
-comes_so s n c call found effect who ours passed nothing free does fits =
+comes_so s n c call found effect who ours passed nothing free does fits lean =
     let kinds = kind_refusals s c call (first_path call) (second_path call) in
     let limits = limit_refusals s c call (first_path call) (second_path call) in
     let is_free : IsFree s c call found = record { passed = passed; kinds = one_free kinds limits nothing; limits = other_free kinds limits nothing } in
@@ -147,4 +149,5 @@ comes_so s n c call found effect who ours passed nothing free does fits =
           ∙ does fresh is_free
           ∙ ap outcome_of (sym who);
       fits = subst (λ (z : ClientRecord). Fits s z effect.change) (sym who) (fits is_free);
+      lean = lean;
     }

@@ -1,5 +1,5 @@
 -- Where a path's last name stands.
-use Rattle.std.specs.Prelude.{◌≡◌, ◌≢◌, ◌⊎◌, ℕ, Bool, true, false, not, ◌||◌, ◌&&◌, ◌==◌, List, [], ◌∷◌, ◌++◌, Option, Some, None, is_some, is_none, option_and_then, unwrap_or, refl}
+use Rattle.std.specs.Prelude.{◌≡◌, ◌≢◌, ◌⊎◌, ℕ, Bool, true, false, ◌||◌, ◌&&◌, [], ◌∷◌, ◌++◌, Option, Some, None, is_some, option_and_then, unwrap_or, refl}
 use Rattle.std.specs.List.{flat_map}
 use Rattle.std.specs.Option.{option_map_or}
 use Rattle.std.proofs.Common.{ap, sym, subst, ◌∙◌, inl, inr}
@@ -18,14 +18,14 @@ use Rattle.ll_path.proofs.PathLemmas.{parent-last_name}
 use Rattle.ll_seq.proofs.Chains.{named-child}
 use Rattle.ll_seq.proofs.DentryOrder.{dentry_total, dentry_exact}
 use Rattle.ll_seq.specs.declared.dentries.Dentry.{Dentry}
-use Rattle.ll_seq.specs.Effects.{dentry_of, with_name}
+use Rattle.ll_seq.specs.Effects.{with_name}
 use Rattle.ll_seq.specs.Stages.{in_the_way, no_directory, kind_of_child, lying, present, no_space, way_to, has_names}
 use Rattle.ll_seq.specs.State.{State, child, kind_of, root, dentry, dentry_cmp}
 use Rattle.ll_seq.specs.Tree.{end_from, named, inode_of, directory_of, kind_at, kind_or_file}
 use Rattle.ll_answer.proofs.Walked.{one_free, other_free}
 use Rattle.ll_answer.specs.declared.changes.At.{At}
 use Rattle.ll_answer.specs.declared.found.Spot.{Spot}
-use Rattle.ll_answer.specs.Effect.{IsPlace, IsDirectory, IsEmpty, Lacks, Holds, HasRoom, dentry_at}
+use Rattle.ll_answer.specs.Effect.{IsPlace, IsEmpty, Lacks, Holds, HasRoom, dentry_at}
 use Rattle.ll_answer.specs.Found.{Stands}
 
 -- ---- A free way leads to a directory
@@ -148,5 +148,7 @@ insert_again m k x e = same_list_map (insert m k x) m (same_map dentry_total den
 pub exchange_of_one : (s : State) (old new : At) (first second : ℕ) → first ≡ second → Holds s old first → Holds s new second
     → with_name (with_name s (dentry_at new) first) (dentry_at old) second ≡ s
 exchange_of_one s old new first second same one other i =
-    record s { entries = (ap (λ (m : Map dentry_cmp ℕ). insert m (dentry_at old) second) (insert_again s.entries (dentry_at new) first (other.child ∙ ap Some (sym same)))
-    ∙ insert_again s.entries (dentry_at old) second (one.child ∙ ap Some same)) i }
+    record s {
+      entries = (ap (λ (m : Map dentry_cmp ℕ). insert m (dentry_at old) second) (insert_again s.entries (dentry_at new) first (other.child ∙ ap Some (sym same)))
+          ∙ insert_again s.entries (dentry_at old) second (one.child ∙ ap Some same)) i;
+    }

@@ -3,7 +3,7 @@ use Rattle.std.specs.Prelude.{◌≡◌, ℕ, true, is_some, is_none, List, [], 
 use Rattle.std.specs.List.{flat_map}
 use Rattle.std.proofs.Common.{ap, subst, ◌∙◌}
 use Rattle.ll_rights.specs.declared.errno.Errno.{Errno}
-use Rattle.ll_rights.specs.declared.errno.Errno.TheVariants.{ENOENT, EEXIST}
+use Rattle.ll_rights.specs.declared.errno.Errno.TheVariants.{ENOENT}
 use Rattle.ll_rights.specs.Errno.{refuse}
 use Rattle.ll_path.specs.Path.{Path, parent}
 use Rattle.ll_path.specs.declared.target.Target.{Target}

@@ -8,7 +8,6 @@ use Rattle.ll_decide.specs.declared.demands.Demands.{Demands}
 use Rattle.ll_decide.specs.declared.demands.On.{On}
 use Rattle.ll_decide.specs.declared.demands.On.TheVariants.{Itself, Other, Parent, Left, Entered}
 use Rattle.ll_decide.specs.declared.demands.Way.{Way}
-use Rattle.ll_decide.specs.declared.demands.Way.TheVariants.{There, Back}
 use Rattle.ll_decide.specs.Demands.{AreAsks, AreMoves, ask_on, move_on}
 use Rattle.ll_decide.specs.Verdict.{Ask, Move, when}
 use Rattle.ll_seq.specs.Asked.{asked, moved}
@@ -30,7 +29,12 @@ abbrev pub ask_at : Path → Path → Ask On → Ask Path
 ask_at first second a = record { path = path_on first second a.path; right = a.right; place = a.place }
 
 abbrev pub move_at : Path → Path → Move On → Move Path
-move_at first second m = record { from = path_on first second m.from; into = path_on first second m.into; relevant = m.relevant; place = m.place }
+move_at first second m = record {
+  from = path_on first second m.from;
+  into = path_on first second m.into;
+  relevant = m.relevant;
+  place = m.place;
+}
 
 -- the chains of inodes of the call's paths
 abbrev pub chains : State → Call → On → List ℕ

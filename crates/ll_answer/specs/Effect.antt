@@ -1,6 +1,6 @@
 -- What the data of an effect mean, by the words of the definitions, and what holds where a call comes to them. Cited by
 -- contracts between crates alone. own
-use Rattle.std.specs.Prelude.{◌≡◌, ◌≢◌, ◌<◌, ⊤, ℕ, Bool, not, ◌==◌, ◌&&◌, true, false, [], ◌++◌, length, Option, Some, None, slice_set, if◌then◌else◌}
+use Rattle.std.specs.Prelude.{◌≡◌, ◌≢◌, ◌<◌, ⊤, ℕ, not, ◌==◌, ◌&&◌, false, [], ◌++◌, length, Option, Some, None, slice_set, if◌then◌else◌}
 use Rattle.ll_rights.specs.declared.kind.Kind.TheVariants.{Reg, Dir}
 use Rattle.ll_rights.specs.Kind.{is_dir}
 use Rattle.ll_rights.specs.Map.{get, insert}
@@ -38,12 +38,14 @@ with_descriptor c o inode = record c { descriptors = insert c.descriptors o.numb
 -- the file is made, or it is this inode
 abbrev pub with_opening : State → ℕ → ClientRecord → Opening → Option ℕ → State
 with_opening s n c o None = with_client (with_node s Reg (dentry_at o.at)) n (with_descriptor c o s.next)
-with_opening s n c o (Some inode) = with_client (if o.is_emptied then with_bytes s inode [] else s) n (with_descriptor c o inode)
+with_opening s n c o (Some inode) =
+    with_client (if o.is_emptied then with_bytes s inode [] else s) n (with_descriptor c o inode)
 
 -- the caller, whose ruleset has one rule more
 abbrev pub with_rule_of : ClientRecord → Rule → ClientRecord
-with_rule_of c rule =
-    record c { rulesets = slice_set c.rulesets rule.number (with_rule (ruleset_at c rule.number) rule.inode rule.rights.0) }
+with_rule_of c rule = record c {
+  rulesets = slice_set c.rulesets rule.number (with_rule (ruleset_at c rule.number) rule.inode rule.rights.0);
+}
 
 -- the state after the change, which the client of this number and record makes
 abbrev pub after : State → ℕ → ClientRecord → Change → State
@@ -148,7 +150,8 @@ pub record FitsRule (s : State) (c : ClientRecord) (rule : Rule) : Type 0 where
   pub number : rule.number < length c.rulesets
   pub named : HasName s rule.inode
   pub kind : rule.kind ≡ kind_or_file s rule.inode
-  pub free : rule_refusals (ruleset_at c rule.number) rule.kind rule.rights.0 ++ rule_limit (ruleset_at c rule.number) rule.inode ≡ []
+  pub free : rule_refusals (ruleset_at c rule.number) rule.kind rule.rights.0
+      ++ rule_limit (ruleset_at c rule.number) rule.inode ≡ []
 
 -- names are names and stand where they are said to, and there is room for what comes
 abbrev pub Fits : State → ClientRecord → Change → Type 0

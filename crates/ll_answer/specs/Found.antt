@@ -21,7 +21,12 @@ words_of (Two old new) = old.now ∷ new.now ∷ []
 
 -- what stands under a name that names the inode
 abbrev pub there_in : State → ℕ → There
-there_in s inode = record { inode = inode; kind = kind_or_file s inode; has_names = has_names s inode; has_many_names = has_many_names s inode }
+there_in s inode = record {
+  inode = inode;
+  kind = kind_or_file s inode;
+  has_names = has_names s inode;
+  has_many_names = has_many_names s inode;
+}
 
 -- the path's last name stands here, and this under it
 pub record Stands (s : State) (path : Path) (spot : Spot) : Type 0 where

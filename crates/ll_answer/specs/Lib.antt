@@ -2,4 +2,5 @@ pub mod Decided
 pub mod Demanded
 pub mod Effect
 pub mod Found
+pub mod Lean
 pub mod Passed

@@ -49,7 +49,8 @@ before_policy s c call =
 -- what refuses it where policy allows it
 abbrev pub after_policy : State → ClientRecord → Call → List Errno
 after_policy s c call =
-    kind_refusals s c call (first_path call) (second_path call) ++ limit_refusals s c call (first_path call) (second_path call)
+    kind_refusals s c call (first_path call) (second_path call)
+    ++ limit_refusals s c call (first_path call) (second_path call)
 
 abbrev pub IsThere : State → Path → Type 0
 IsThere s path = is_some (named s path) ≡ true

@@ -28,8 +28,8 @@ pub fn decide<'a>(
     requires other { length granted.now.other.now ≡ length granted.now.itself.now }
     requires parent { length granted.now.parent.now ≡ length granted.now.itself.now }
     requires entered { length granted.now.entered.now ≡ length granted.now.itself.now }
-    ensures { (s : State) (n : ℕ) → client_of s n ≡ caller.now → has_path call.now ≡ true → AreFacts s call.now found.now
-        → AreGranted caller.now.domain (chains s call.now) granted.now
+    ensures { (s : State) (n : ℕ) → client_of s n ≡ caller.now → has_path call.now ≡ true
+        → AreFacts s call.now found.now → AreGranted caller.now.domain (chains s call.now) granted.now
         → MatchResult result (IsDone s n call.now) (IsRefused s n call.now) }
 {
     if let Some(errno) = refused_before(caller, call, found) {

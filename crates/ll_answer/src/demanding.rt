@@ -9,7 +9,8 @@ ghost use Rattle.ll_decide.specs.declared.demands.On.TheVariants.{Entered};
 ghost use Rattle.ll_decide.specs.declared.demands.Way.TheVariants.{There, Back};
 ghost use Rattle.ll_seq.specs.declared.client.ClientRecord as record_of;
 ghost use Rattle.ll_seq.specs.State.{State};
-ghost use Rattle.ll_answer.specs.Demanded.{AreDemands, opening_on, refer_on, goes_on, moving_on, replacing_on, exchange_on};
+ghost use Rattle.ll_answer.specs.Demanded.{AreDemands, opening_on, refer_on, goes_on};
+ghost use Rattle.ll_answer.specs.Demanded.{moving_on, replacing_on, exchange_on};
 ghost use Rattle.ll_answer.specs.Passed.{Passed};
 
 use crate::found::Found;
@@ -45,7 +46,8 @@ fn refers(demands: Demands, differ: bool) -> Demands
 /// Where the directories differ, a node of this kind goes from the one into the other.
 fn goes(demands: Demands, differ: bool, way: Way, kind: Kind) -> Demands
     ensures asks { (asks : List (Ask asked_on.On)) → AreAsks demands asks → AreAsks result asks }
-    ensures moves { (moves : List (Move asked_on.On)) → AreMoves demands moves → AreMoves result (moves ++ goes_on differ way kind) }
+    ensures moves { (moves : List (Move asked_on.On)) → AreMoves demands moves
+        → AreMoves result (moves ++ goes_on differ way kind) }
 {
     if differ {
         demands.moves(way, kind.relevant())
@@ -56,7 +58,8 @@ fn goes(demands: Demands, differ: bool, way: Way, kind: Kind) -> Demands
 
 /// What is asked where a node of this kind loses the second name, if one does.
 fn replacing(demands: Demands, replaced: Option<Kind>) -> Demands
-    ensures asks { (asks : List (Ask asked_on.On)) → AreAsks demands asks → AreAsks result (asks ++ replacing_on replaced) }
+    ensures asks { (asks : List (Ask asked_on.On)) → AreAsks demands asks
+        → AreAsks result (asks ++ replacing_on replaced) }
     ensures moves { (moves : List (Move asked_on.On)) → AreMoves demands moves → AreMoves result moves }
 {
     match replaced {

@@ -15,6 +15,7 @@ ghost use Rattle.ll_seq.specs.State.{State};
 ghost use Rattle.ll_seq.specs.Tree.{ancestors, named};
 ghost use Rattle.ll_answer.specs.Demanded.{chains, path_on};
 ghost use Rattle.ll_answer.specs.Effect.{Fits, FitsRename, Holds, after, told, dentry_at};
+ghost use Rattle.ll_answer.specs.Lean.{adds_nothing, is_lean, is_short, spares_memory};
 ghost use Rattle.ll_answer.specs.Passed.{IsFree, Passed, has_path};
 
 use crate::changes::{Answer, At, Change, Effect, Opening, Rule};
@@ -30,7 +31,8 @@ fn kept(granted: &Granted<'_>) -> Option<u64>
     requires parent { length granted.now.parent.now ≡ length granted.now.itself.now }
     requires entered { length granted.now.entered.now ≡ length granted.now.itself.now }
     ensures { (s : State) (c : record_of.ClientRecord) (first second : Path)
-        → AreGranted c.domain (λ on. ancestors s (path_on first second on)) granted.now → result ≡ kept_at s c.domain first }
+        → AreGranted c.domain (λ on. ancestors s (path_on first second on)) granted.now
+        → result ≡ kept_at s c.domain first }
 {
     let demands = Demands::none().ask(On::Itself, Right::TRUNCATE);
     match least_denial(&demands, granted) {
@@ -80,7 +82,8 @@ fn opening_of<'a>(
 fn renaming<'a>(old: At<'a>, new: At<'a>, inode: u64, replaced: Option<u64>) -> Change<'a>
     ensures done { (s : State) (n : ℕ) (c : record_of.ClientRecord)
         → renamed s (dentry_at old.entry) (dentry_at new.entry) inode replaced ≡ after s n c result }
-    ensures fits { (s : State) (c : record_of.ClientRecord) → FitsRename s old.entry new.entry inode replaced → Fits s c result }
+    ensures fits { (s : State) (c : record_of.ClientRecord) → FitsRename s old.entry new.entry inode replaced
+        → Fits s c result }
 {
     match replaced {
         None => Change::Move(old, new, inode),
@@ -93,7 +96,9 @@ fn renaming<'a>(old: At<'a>, new: At<'a>, inode: u64, replaced: Option<u64>) -> 
 fn exchanging<'a>(old: At<'a>, new: At<'a>, first: u64, second: u64) -> Change<'a>
     ensures done { (s : State) (n : ℕ) (c : record_of.ClientRecord) → Holds s old.entry first → Holds s new.entry second
         → with_name (with_name s (dentry_at new.entry) first) (dentry_at old.entry) second ≡ after s n c result }
-    ensures fits { (s : State) (c : record_of.ClientRecord) → Holds s old.entry first → Holds s new.entry second → Fits s c result }
+    ensures fits { (s : State) (c : record_of.ClientRecord) → Holds s old.entry first → Holds s new.entry second
+        → Fits s c result }
+    ensures lean { adds_nothing result ≡ true }
 {
     if first == second {
         Change::Nothing
@@ -113,8 +118,11 @@ fn change_of<'a>(
     requires entered { length granted.now.entered.now ≡ length granted.now.itself.now }
     ensures done { (s : State) (n fresh : ℕ) → has_path call.now ≡ true → IsFree s caller.now call.now found.now
         → AreGranted caller.now.domain (chains s call.now) granted.now
-        → (done s n caller.now call.now (first_path call.now) (second_path call.now) fresh).1 ≡ after s n caller.now result }
-    ensures fits { (s : State) → has_path call.now ≡ true → IsFree s caller.now call.now found.now → Fits s caller.now result }
+        → (done s n caller.now call.now (first_path call.now) (second_path call.now) fresh).1
+        ≡ after s n caller.now result }
+    ensures fits { (s : State) → has_path call.now ≡ true → IsFree s caller.now call.now found.now
+        → Fits s caller.now result }
+    ensures lean { spares_memory call.now ≡ true → adds_nothing result ≡ true }
 {
     let (old, new) = (&found.first, &found.second);
     match call {
@@ -154,8 +162,9 @@ fn change_of<'a>(
 }
 
 fn answer_of(caller: &ClientRecord, call: &Call, found: &Found) -> Answer
-    ensures { (s : State) (n fresh : ℕ) → has_path call.now ≡ true → IsFree s caller.now call.now found.now
+    ensures told { (s : State) (n fresh : ℕ) → has_path call.now ≡ true → IsFree s caller.now call.now found.now
         → (done s n caller.now call.now (first_path call.now) (second_path call.now) fresh).0 ≡ told s result }
+    ensures short { spares_memory call.now ≡ true → is_short result ≡ true }
 {
     let old = &found.first;
     match call {
@@ -186,6 +195,7 @@ pub fn effect_of<'a>(
         (told s result.answer, after s n caller.now result.change) }
     ensures fits { (s : State) → has_path call.now ≡ true → IsFree s caller.now call.now found.now
         → Fits s caller.now result.change }
+    ensures lean { spares_memory call.now ≡ true → is_lean result ≡ true }
 {
     Effect {
         answer: answer_of(caller, call, found),

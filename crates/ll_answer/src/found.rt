@@ -40,14 +40,14 @@ pub struct Found {
 
 impl Spot {
     /// Whether the path names a node.
-    pub fn exists(&self) -> bool
+    pub(crate) fn exists(&self) -> bool
         ensures { (s : State) (path : Path) → Stands s path self.now → result ≡ is_some (named s path) }
     {
         self.there.is_some()
     }
 
     /// The node that the path names.
-    pub fn named(&self) -> Option<u64>
+    pub(crate) fn named(&self) -> Option<u64>
         ensures { (s : State) (path : Path) → Stands s path self.now → result ≡ named s path }
     {
         match self.there {
@@ -57,7 +57,7 @@ impl Spot {
     }
 
     /// The node that the path names, or 0.
-    pub fn inode(&self) -> u64
+    pub(crate) fn inode(&self) -> u64
         ensures { (s : State) (path : Path) → Stands s path self.now → result ≡ inode_of s path }
     {
         match self.there {
@@ -67,8 +67,9 @@ impl Spot {
     }
 
     /// The kind of the node, if there is one.
-    pub fn kind_there(&self) -> Option<Kind>
-        ensures { (s : State) (path : Path) → Stands s path self.now → result ≡ option_map (kind_or_file s) (named s path) }
+    pub(crate) fn kind_there(&self) -> Option<Kind>
+        ensures { (s : State) (path : Path) → Stands s path self.now
+            → result ≡ option_map (kind_or_file s) (named s path) }
     {
         match self.there {
             None => None,
@@ -77,7 +78,7 @@ impl Spot {
     }
 
     /// The kind of the node, which is there.
-    pub fn kind(&self) -> Kind
+    pub(crate) fn kind(&self) -> Kind
         ensures { (s : State) (path : Path) → Stands s path self.now → is_some (named s path) ≡ true
             → result ≡ kind_at s path }
     {
@@ -88,7 +89,7 @@ impl Spot {
     }
 
     /// Whether the node, which is there, has names in it.
-    pub fn has_names(&self) -> bool
+    pub(crate) fn has_names(&self) -> bool
         ensures { (s : State) (path : Path) → Stands s path self.now → is_some (named s path) ≡ true
             → result ≡ stages.has_names s (inode_of s path) }
     {
@@ -99,7 +100,7 @@ impl Spot {
     }
 
     /// Whether the node, which is there, has as many names as a node may have.
-    pub fn has_many_names(&self) -> bool
+    pub(crate) fn has_many_names(&self) -> bool
         ensures { (s : State) (path : Path) → Stands s path self.now → is_some (named s path) ≡ true
             → result ≡ stages.has_many_names s (inode_of s path) }
     {
@@ -110,7 +111,7 @@ impl Spot {
     }
 
     /// Whether the last names stand in different directories.
-    pub fn is_apart(&self, other: &Spot) -> bool
+    pub(crate) fn is_apart(&self, other: &Spot) -> bool
         ensures { (s : State) (old new : Path) → Stands s old self.now → Stands s new other.now
             → result ≡ parents_differ s old new }
     {

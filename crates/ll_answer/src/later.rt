@@ -6,6 +6,7 @@ ghost use Rattle.ll_path.specs.Path.{Path};
 ghost use Rattle.ll_rules.specs.Rules.{rule_refusals, rule_limit};
 ghost use Rattle.ll_seq.specs.Call.{first_path, second_path};
 ghost use Rattle.ll_seq.specs.Stages as stages;
+ghost use Rattle.ll_seq.specs.Stages.{kind_refusals, limit_refusals};
 ghost use Rattle.ll_seq.specs.State.{State};
 ghost use Rattle.ll_seq.specs.Tree.{named, inode_of};
 ghost use Rattle.ll_answer.specs.Found.{Stands};
@@ -79,7 +80,7 @@ fn no_rule_more(caller: &ClientRecord, number: u64, inode: u64) -> Option<Errno>
 
 fn kind_refusal(caller: &ClientRecord, call: &Call, found: &Found) -> Option<Errno>
     ensures { (s : State) → has_path call.now ≡ true → Passed s caller.now call.now found.now
-        → result ≡ slice_get (stages.kind_refusals s caller.now call.now (first_path call.now) (second_path call.now)) 0 }
+        → result ≡ slice_get (kind_refusals s caller.now call.now (first_path call.now) (second_path call.now)) 0 }
 {
     let (old, new) = (&found.first, &found.second);
     match call {
@@ -113,7 +114,7 @@ fn crowds(old: &Spot, new: &Spot) -> Option<Errno>
 
 fn limit_refusal(caller: &ClientRecord, call: &Call, found: &Found) -> Option<Errno>
     ensures { (s : State) → has_path call.now ≡ true → Passed s caller.now call.now found.now
-        → result ≡ slice_get (stages.limit_refusals s caller.now call.now (first_path call.now) (second_path call.now)) 0 }
+        → result ≡ slice_get (limit_refusals s caller.now call.now (first_path call.now) (second_path call.now)) 0 }
 {
     let (old, new) = (&found.first, &found.second);
     let no_space = refuse(old.is_crowded || found.is_full, Errno::ENOSPC);

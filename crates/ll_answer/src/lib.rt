@@ -1,6 +1,6 @@
 //! Each call's logic once, over what a walk has found: what refuses it, what it asks of the layers, and what it does.
-//! There is no tree here: each contract speaks of every state of which the facts are true. What a client does to its own
-//! record alone is not here either.
+//! There is no tree here: each contract speaks of every state of which the facts are true. Calls that name no path are
+//! not here either: they concern the caller's record alone, or files that it has open.
 #![tactic(auto)]
 
 mod before;

@@ -21,7 +21,7 @@ use Rattle.ll_wire.specs.Reads.{Reads, ReadsBy, ReadsCall, holds_text, SpellsOne
 use Rattle.ll_wire.proofs.Targets.{text_is, own_text, some_target}
 
 -- whether the first token is the name
-abbrev first_is : List ℕ → List (List ℕ) → Bool
+abbrev pub first_is : List ℕ → List (List ℕ) → Bool
 first_is name [] = false
 first_is name (token ∷ tokens) = bytes_eq name token
 

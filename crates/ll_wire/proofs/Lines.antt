@@ -14,7 +14,7 @@ use Rattle.ll_wire.proofs.Tokens.{IsToken, command_is_tokens, cut_at_spaces, bod
 use Rattle.ll_wire.proofs.Calls.{whole_reads, same_err}
 use Rattle.ll_wire.proofs.Clients.{at_most_five}
 
-same_front : (xs ys : List ℕ) (a b : ℕ) → xs ++ a ∷ [] ≡ ys ++ b ∷ [] → xs ≡ ys
+pub same_front : (xs ys : List ℕ) (a b : ℕ) → xs ++ a ∷ [] ≡ ys ++ b ∷ [] → xs ≡ ys
 same_front xs ys a b e =
     let len : length xs ≡ length ys = omega (arith, ap length e, length-append xs (a ∷ []), length-append ys (b ∷ [])) in
     sym (take_at xs (a ∷ []) (length xs) refl) ∙ ap (take (length xs)) e ∙ take_at ys (b ∷ []) (length xs) (sym len)
@@ -27,7 +27,7 @@ no_body line none client call is =
     let tokens = client_tokens client ++ call_tokens call in
     none (join_with_byte 32 tokens) (body_is_ascii tokens (command_is_tokens client call is.is_client is.is_call)) is.text
 
-cut : (tokens : List (List ℕ)) → 1 ≤ length tokens → AllByRecursion IsToken tokens → slice_split (λ b. b == 32) (join_with_byte 32 tokens) ≡ tokens
+pub cut : (tokens : List (List ℕ)) → 1 ≤ length tokens → AllByRecursion IsToken tokens → slice_split (λ b. b == 32) (join_with_byte 32 tokens) ≡ tokens
 cut [] some h = absurd (omega arith)
 cut (token ∷ tokens) some h = cut_at_spaces token tokens h
 

@@ -36,18 +36,18 @@ IsToken token = AllByRecursion IsVisible token
 
 -- ---- literals, by a test that computes
 
-abbrev visible : List ℕ → Bool
+abbrev pub visible : List ℕ → Bool
 visible [] = true
 visible (b ∷ bs) = leb 33 b && (leb b 126 && visible bs)
 
-visible_is : (token : List ℕ) → visible token ≡ true → IsToken token
+pub visible_is : (token : List ℕ) → visible token ≡ true → IsToken token
 visible_is [] e = tt
 visible_is (b ∷ bs) e =
     let p = and_parts (leb 33 b) (leb b 126 && visible bs) e in
     let q = and_parts (leb b 126) (visible bs) p.1 in
     ((leb-true _ _ p.0, leb-true _ _ q.0), visible_is bs q.1)
 
-kind_token : (kind : Kind) → IsToken (kind_text kind)
+pub kind_token : (kind : Kind) → IsToken (kind_text kind)
 kind_token kinds.Reg = visible_is (codes "reg") refl
 kind_token kinds.Dir = visible_is (codes "dir") refl
 kind_token kinds.Sym = visible_is (codes "sym") refl
@@ -62,10 +62,10 @@ digits_token : (ds : List ℕ) → AllDigits 10 ds → IsToken ds
 digits_token [] h = tt
 digits_token (d ∷ ds) h = let r = digit_from_value d h.0 in ((omega arith, omega arith), digits_token ds h.1)
 
-number_token : (n : ℕ) → n < 2 ^ 64 → IsToken (decimal n)
+pub number_token : (n : ℕ) → n < 2 ^ 64 → IsToken (decimal n)
 number_token n h = digits_token (decimal n) (decimal_is_IsNumeral n h).0.1
 
-all_append : {A : Type 0} (P : A → Type 0) (xs ys : List A) → AllByRecursion P xs → AllByRecursion P ys → AllByRecursion P (xs ++ ys)
+pub all_append : {A : Type 0} (P : A → Type 0) (xs ys : List A) → AllByRecursion P xs → AllByRecursion P ys → AllByRecursion P (xs ++ ys)
 all_append P [] ys h k = k
 all_append P (x ∷ xs) ys h k = (h.0, all_append P xs ys h.1 k)
 
@@ -100,7 +100,7 @@ digits_are_token : (text : List ℕ) → AllByRecursion IsDigit text → IsToken
 digits_are_token [] h = tt
 digits_are_token (c ∷ text) h = (digit_is_visible c h.0, digits_are_token text h.1)
 
-data_token : (bytes : List ℕ) → IsData bytes → IsToken (data_text bytes)
+pub data_token : (bytes : List ℕ) → IsData bytes → IsToken (data_text bytes)
 data_token bytes h = elim (data_digits bytes h) [
   | inl none ↦ rw none (visible_is (codes "-") refl)
   | inr digits ↦ digits_are_token (data_text bytes) digits

@@ -43,7 +43,7 @@ kind_of_text Sock = refl
 kind_of_text Char = refl
 kind_of_text Block = refl
 
-same_kind : (some other : Kind) → kind_text some ≡ kind_text other → some ≡ other
+pub same_kind : (some other : Kind) → kind_text some ≡ kind_text other → some ≡ other
 same_kind some other e = sym (kind_of_text some) ∙ ap kind_of e ∙ kind_of_text other
 
 abbrev starts_with_w : List ℕ → Bool

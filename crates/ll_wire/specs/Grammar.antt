@@ -17,6 +17,7 @@ use Rattle.ll_seq.specs.declared.call.Creation.TheVariants.{Never, IfMissing, Ex
 use Rattle.ll_seq.specs.declared.call.Mode.{Mode}
 use Rattle.ll_seq.specs.declared.call.Call.{Call}
 use Rattle.ll_seq.specs.declared.call.Call.TheVariants.{Make, Open, Read, Write, Ftruncate, Close, Truncate, ReadDir, Stat, Exec, Unlink, Rmdir, Rename, RenameNoreplace, Exchange, Link, Ruleset, Allow, Confine, Spawn, Connect}
+use Rattle.ll_seq.specs.Listed.{AreListed}
 use Rattle.ll_seq.specs.declared.reply.Reply.{Reply}
 use Rattle.ll_seq.specs.declared.reply.Reply.TheVariants.{Done, Opened, Bytes, Wrote, Listed, Found, Created, Spawned, Refused, Denied}
 
@@ -137,9 +138,9 @@ reply_tokens (Denied d) = codes "denied" ∷ errno_text (cause_errno d.cause) �
 abbrev pub IsReply : Reply → Type 0
 IsReply Done = ⊤
 IsReply (Opened number) = number < 2 ^ 64
-IsReply (Bytes bytes) = ⊤
+IsReply (Bytes bytes) = IsData bytes
 IsReply (Wrote count) = count < 2 ^ 64
-IsReply (Listed names) = ⊤
+IsReply (Listed names) = AreListed names
 IsReply (Found s) = (s.inode < 2 ^ 64) × (s.size < 2 ^ 64) × (s.links < 2 ^ 64)
 IsReply (Created number) = number < 2 ^ 64
 IsReply (Spawned number) = number < 2 ^ 64
@@ -148,3 +149,7 @@ IsReply (Denied d) = (d.layer < 2 ^ 64) × (d.right < 15)
 
 abbrev pub reply_line : Reply → List ℕ
 reply_line reply = line_of (reply_tokens reply)
+
+-- The line spells the reply
+abbrev pub SpellsReply : List ℕ → Reply → Type 0
+SpellsReply line reply = IsReply reply × (line ≡ reply_line reply)

@@ -8,7 +8,8 @@ use Rattle.ll_path.specs.declared.target.Target.{Target}
 use Rattle.ll_path.specs.Target.{target_text}
 use Rattle.ll_seq.specs.declared.call.Call.{Call}
 use Rattle.ll_seq.specs.declared.call.Call.TheVariants.{Make, Open, Read, Write, Ftruncate, Close, Truncate, ReadDir, Stat, Exec, Unlink, Rmdir, Rename, RenameNoreplace, Exchange, Link, Ruleset, Allow, Confine, Spawn, Connect}
-use Rattle.ll_wire.specs.Grammar.{SpellsTarget, IsData, data_text, call_tokens, IsCall, client_tokens, IsClient}
+use Rattle.ll_seq.specs.declared.reply.Reply.{Reply}
+use Rattle.ll_wire.specs.Grammar.{SpellsTarget, IsData, data_text, call_tokens, IsCall, client_tokens, IsClient, reply_tokens, IsReply}
 
 -- The value that is spelled; BadLine only where none is, and NoMemory only where one is that takes memory to be read
 abbrev pub ReadsBy : {V : Type 0} → (Spells Takes : V → Type 0) → Result V Errno → Type 0
@@ -84,3 +85,7 @@ ReadsCall tokens = ReadsBy (SpellsCall tokens) (λ call. holds_text call ≡ tru
 -- the tokens spell the call, made by this client of the session
 abbrev pub SpellsTokens : List (List ℕ) → ℕ → Call → Type 0
 SpellsTokens tokens client call = IsClient client × IsCall call × (tokens ≡ client_tokens client ++ call_tokens call)
+
+-- the tokens spell the reply
+abbrev pub SpellsReplyTokens : List (List ℕ) → Reply → Type 0
+SpellsReplyTokens tokens reply = IsReply reply × (tokens ≡ reply_tokens reply)

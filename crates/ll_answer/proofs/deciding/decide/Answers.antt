@@ -1,14 +1,9 @@
-use Rattle.std.specs.Prelude.{slice_get, ◌++◌}
+use Rattle.std.specs.Prelude.{slice_get}
 use Rattle.std.proofs.Common.{ap, sym, ◌∙◌}
-use Rattle.ll_seq.specs.Asked.{call_denials, grants}
-use Rattle.ll_seq.specs.Call.{first_path, second_path}
-use Rattle.ll_seq.specs.Stages.{kind_refusals, limit_refusals}
-use Rattle.ll_seq.specs.Step.{client_of}
-use Rattle.ll_decide.specs.Verdict.{verdict}
-use Rattle.ll_answer.proofs.Asking.{verdict_same}
+use Rattle.ll_seq.specs.Asked.{call_denials}
 use Rattle.ll_answer.proofs.deciding.decide.Goals as goal
 use Rattle.ll_answer.proofs.Parts.{refused_early, denied, refused_late, none_refused, judged_so, comes_so}
-use Rattle.ll_answer.proofs.Walked.{none_first, one_free, other_free}
+use Rattle.ll_answer.proofs.Walked.{none_first}
 use Rattle.ll_answer.specs.Demanded.{chains}
 use Rattle.ll_answer.specs.Passed.{before_policy, after_policy}
 
@@ -52,4 +47,4 @@ returns c s n who ours facts granted =
     let late = none_first (after_policy s c.args.caller.now call) (sym (c.refused_after.ensures s ours passed) ∙ c.in_default-refused_after.is) in
     comes_so s n c.args.caller.now call c.args.found.now c.effect_of.result who ours passed late
     (none_refused s n call free allowed (ap (λ z. after_policy s z call) who ∙ late))
-    (λ fresh is_free. c.effect_of.ensures.done s n fresh ours is_free granted) (λ is_free. c.effect_of.ensures.fits s ours is_free)
+    (λ fresh is_free. c.effect_of.ensures.done s n fresh ours is_free granted) (λ is_free. c.effect_of.ensures.fits s ours is_free) c.effect_of.ensures.lean

@@ -1,8 +1,7 @@
-use Rattle.std.specs.Prelude.{◌≡◌, []}
+use Rattle.std.specs.Prelude.{[]}
 use Rattle.std.specs.Option.{option_map_or}
 use Rattle.std.proofs.Common.{ap, sym, ◌∙◌}
-use Rattle.ll_rights.specs.declared.errno.Errno.TheVariants.{EBUSY, EEXIST, EINVAL, EISDIR, ENOTDIR, ENOTEMPTY}
-use Rattle.ll_rights.specs.Errno.{refuse}
+use Rattle.ll_rights.specs.declared.errno.Errno.TheVariants.{EBUSY, EEXIST, EINVAL, EISDIR, ENOTEMPTY}
 use Rattle.ll_rights.specs.Kind.{is_dir}
 use Rattle.ll_path.specs.Path.{is_root}
 use Rattle.ll_seq.specs.Call.{path_of, first_path, second_path}
