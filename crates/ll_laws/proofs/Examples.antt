@@ -1,10 +1,10 @@
 -- A legal history with a confined move, and what both laws say of it: they aren't empty.
-use Rattle.std.specs.Prelude.{◌≡◌, ◌≢◌, ℕ, Bool, true, false, cond, not, List, [], ◌∷◌, ◌++◌, ◌&&◌, ◌||◌, ◌==◌, map, drop, Option, Some, None, is_some, codes, slice_index_or, unwrap_or, refl, IsTrue, if◌then◌else◌}
-use Rattle.std.specs.List.{list_any}
+use Rattle.std.specs.Prelude.{◌≡◌, ◌≢◌, ℕ, ◌<◌, Bool, true, false, cond, not, List, [], ◌∷◌, ◌++◌, ◌&&◌, ◌||◌, ◌==◌, map, drop, Option, Some, None, is_some, codes, slice_index_or, unwrap_or, refl, IsTrue, Contains, if◌then◌else◌}
+use Rattle.std.specs.List.{list_any, list_all}
 use Rattle.std.specs.Ordering.{nat_cmp, eq_by_cmp}
 use Rattle.std.specs.FinMap.Entries.{find}
-use Rattle.std.proofs.lemmas.Bool.{eq-eqb}
-use Rattle.std.proofs.Common.{sym, ap, ◌∙◌, inl, inr, arith}
+use Rattle.std.proofs.lemmas.Bool.{eq-eqb, eqb-true}
+use Rattle.std.proofs.Common.{sym, subst, ap, ◌∙◌, inl, inr, arith}
 use Rattle.ll_rights.specs.declared.kind.Kind.TheVariants.{Reg, Dir}
 use Rattle.ll_rights.specs.declared.access.Access.{Access}
 use Rattle.ll_rights.specs.Map.{empty, checked, get, has, insert, remove, entries}
@@ -18,7 +18,7 @@ use Rattle.ll_seq.specs.declared.call.AccessMode.TheVariants as way
 use Rattle.ll_seq.specs.declared.call.Creation.TheVariants.{Never}
 use Rattle.ll_seq.specs.declared.rules.Rules.{Rules}
 use Rattle.ll_seq.specs.declared.call.Call.{Call}
-use Rattle.ll_seq.specs.declared.call.Call.TheVariants.{Make, Open, Read, Rename, Ruleset, Allow, Confine, Spawn, Connect}
+use Rattle.ll_seq.specs.declared.call.Call.TheVariants.{Make, Open, Read, Rename, RenameNoreplace, Exchange, Link, Ruleset, Allow, Confine, Spawn, Connect}
 use Rattle.ll_seq.specs.declared.reply.Reply.{Reply}
 use Rattle.ll_seq.specs.declared.reply.Reply.TheVariants.{Done, Opened, Bytes, Created, Spawned}
 use Rattle.ll_seq.specs.declared.reply.Entry.{Entry}
@@ -29,12 +29,14 @@ use Rattle.ll_seq.specs.Stages.{numbers_from}
 use Rattle.ll_seq.specs.Step.{client_of, step, first_or}
 use Rattle.ll_seq.specs.History.{MayStand, IsLegal, state_after, after, outcome_of, is_connect, fresh_of}
 use Rattle.ll_seq.specs.Reach.{InReach, HasName}
-use Rattle.ll_laws.specs.NoGain.{MovesUnder}
+use Rattle.ll_laws.specs.NoGain.{is_move, MovesUnder}
 use Rattle.ll_laws.specs.Withheld.{IsConfined, Withheld}
+use Rattle.ll_seq.proofs.Histories.{legal_late}
 use Rattle.ll_seq.proofs.Parted.{or_left, or_right}
 use Rattle.ll_laws.proofs.Chains.{same_Some}
-use Rattle.ll_laws.proofs.Gain.{done_of, no_gain}
-use Rattle.ll_laws.proofs.Withheld.{no_refusal, bytes_are_withheld}
+use Rattle.ll_laws.proofs.Gain.{done_of, start_tree, after_tree, kept_tree, one_entry, named_below, no_gain}
+use Rattle.ll_laws.proofs.Trees.{IsTree}
+use Rattle.ll_laws.proofs.Withheld.{no_refusal, entry_clients, bytes_are_withheld}
 
 abbrev path : List ℕ → Target
 path text = Good (names_in text)
@@ -54,16 +56,20 @@ early = entry 1 Connect Done
     ∷ entry 1 (Make Dir (path (codes "/a"))) Done
     ∷ entry 1 (Make Dir (path (codes "/b"))) Done
     ∷ entry 1 (Make Reg (path (codes "/a/f"))) Done
+    ∷ entry 1 (Make Reg (path (codes "/b/g"))) Done
     ∷ entry 1 (Ruleset (set 0x2004)) (Created 0)
     ∷ entry 1 (Allow 0 (path (codes "/a")) (set 0x2004)) Done
     ∷ entry 1 (Allow 0 (path (codes "/b")) (set 0x2004)) Done
     ∷ entry 1 (Confine 0) Done
     ∷ []
 
--- It moves the file from one to the other and opens it there. Whom it spawns then reads it by the descriptor
+-- It moves the file to and fro by each of the four moves, and opens it. Whom it spawns then reads it by the descriptor
 abbrev late : List Entry
-late = entry 1 (Rename (path (codes "/a/f")) (path (codes "/b/f"))) Done
-    ∷ entry 1 (Open (record { access = way.Read; truncate = false; creation = Never }) (path (codes "/b/f"))) (Opened 0)
+late = entry 1 (Rename (path (codes "/a/f")) (path (codes "/b/h"))) Done
+    ∷ entry 1 (RenameNoreplace (path (codes "/b/h")) (path (codes "/a/h"))) Done
+    ∷ entry 1 (Link (path (codes "/a/h")) (path (codes "/b/i"))) Done
+    ∷ entry 1 (Exchange (path (codes "/a/h")) (path (codes "/b/g"))) Done
+    ∷ entry 1 (Open (record { access = way.Read; truncate = false; creation = Never }) (path (codes "/b/g"))) (Opened 0)
     ∷ entry 1 Spawn (Spawned 2)
     ∷ entry 2 (Read 0 0 1) (Bytes [])
     ∷ []
@@ -166,6 +172,21 @@ only_reads s number call fresh bytes e =
     let c = client_of s number in
     bytes_done s number c call fresh bytes (ap (λ rs. (first_or s rs (done_of s number c call fresh)).0) (sym (no_refusal s number call fresh (Bytes bytes) refl e)) ∙ e)
 
+-- ---- who is under a layer stays so
+
+mover : (a : Bool) (client by : ℕ) → IsTrue a → (not a || client == by) ≡ true → by ≡ client
+mover true client by i e = sym (eqb-true client by e)
+mover false client by i e = absurd (cc i)
+
+all_under : (s : State) (es : List Entry) (bound : Layer) (x by : ℕ) → IsTree s → IsLegal s es → x < s.next → IsConfined bound s by → list_all (λ (e : Entry). not (is_move e.call) || e.client == by) es ≡ true → MovesUnder bound s es
+all_under s [] bound x by t l small c all = tt
+all_under s (e ∷ es) bound x by t l small c all =
+    let here : IsTrue (is_move e.call) → e.reply ≡ Done → Contains (client_of s e.client).domain bound =
+    λ i d. subst (λ n. Contains (client_of s n).domain bound) (mover (is_move e.call) e.client by i (both _ _ all).0) c.under in
+    let clients = entry_clients s bound x s e t l.0 small in
+    let there : IsConfined bound (after s e) by = record { there = clients.there by c.there; under = clients.under by c.there c.under } in
+    (here, all_under (after s e) es bound x by (kept_tree s e t) l.1 (one_entry s e bound x read_file t l.0 here small).0 there (both _ _ all).1)
+
 -- ---- the example
 
 legal : IsLegal (start newest 8) (early ++ late)
@@ -176,16 +197,18 @@ confined : IsConfined layer cut 1
 unfolding empty checked get insert remove entries numbers_from
 confined = record { there = refl; under = (0, omega arith, refl) }
 
-under : MovesUnder layer cut late
-under = ((λ i d. confined.under), ((λ i d. absurd cc), ((λ i d. absurd cc), ((λ i d. absurd cc), tt))))
-
 has_name : HasName cut file
 unfolding empty checked get insert remove entries numbers_from
 has_name = (names_in (codes "/a/f"), refl)
 
+under : MovesUnder layer cut late
+under =
+    let t = after_tree (start newest 8) early (start_tree newest 8) in
+    all_under cut late layer file 1 t (legal_late (start newest 8) early late legal) (named_below cut t has_name.0 file has_name.1) confined refl
+
 reached : InReach end layer file read_file
 unfolding empty checked get insert remove entries numbers_from
-reached = record { path = names_in (codes "/b/f"); names = refl; relevant = refl; granted = refl }
+reached = record { path = names_in (codes "/b/g"); names = refl; relevant = refl; granted = refl }
 
 -- so the file was within the layer's reach before it was moved
 pub reached_before : InReach cut layer file read_file
@@ -201,4 +224,4 @@ withheld = bytes_are_withheld newest 8 early late legal layer under file has_nam
 -- and so, too, as the spawned client reads it
 pub read_by_spawned : InReach cut layer file read_file
 unfolding empty checked get insert remove entries numbers_from
-read_by_spawned = withheld.2.2.2.0 (inr (inl (inl confined), refl)) (record { fd = 0; offset = 0; count = 1; bytes = []; call = refl; answered = refl; from = refl })
+read_by_spawned = withheld.2.2.2.2.2.2.0 (inr (inl (inl (inl (inl (inl confined)))), refl)) (record { fd = 0; offset = 0; count = 1; bytes = []; call = refl; answered = refl; from = refl })

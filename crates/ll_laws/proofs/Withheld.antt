@@ -244,7 +244,7 @@ module _ (from : State) (layer : Layer) (x : ℕ) (s : State) (e : Entry) (t : I
   new_caller : IsTrue (is_connect e.call) → has s.clients e.client ≡ false
   new_caller is = m.caller ∙ ap not is
 
-  entry_clients : ClientsAfter s (after s e) x layer
+  pub entry_clients : ClientsAfter s (after s e) x layer
   entry_clients = by (refusals s caller e.call) refl
     where
       by : (rs : List Reply) → refusals s caller e.call ≡ rs → ClientsAfter s (first_or s rs (done_of s e.client caller e.call fresh)).1 x layer
