@@ -2,6 +2,7 @@ pub mod Asked
 pub mod Call
 pub mod Codes
 pub mod Effects
+pub mod Facts
 pub mod Fails
 pub mod History
 pub mod Reach
