@@ -1,5 +1,5 @@
 -- How counts over a map's entries change with the map.
-use Rattle.std.proofs.Common.{◌≡◌, ◌≢◌, ◌==◌, ℕ, ◌+◌, Bool, true, false, cond, not, T, ◌&&◌, ◌||◌, List, [], ◌∷◌, length, map, filter, Option, Some, None, eqb, refl, ap, sym, ◌∙◌, inl, inr, arith}
+use Rattle.std.proofs.Common.{◌≡◌, ◌==◌, ℕ, ◌+◌, Bool, true, false, cond, not, T, ◌||◌, List, [], ◌∷◌, length, map, filter, Option, Some, None, refl, ap, sym, ◌∙◌, inl, inr, arith}
 use Rattle.std.specs.Prelude.{◌⊎◌}
 use Rattle.std.proofs.lemmas.Bool.Decides.{nat_tests}
 use Rattle.std.specs.declared.cmp.Ordering.{Ordering}
@@ -15,7 +15,7 @@ use Rattle.ll_rights.specs.Map.{Map, checked, get, insert, remove, entries}
 use Rattle.ll_seq.specs.declared.client.ClientRecord.{ClientRecord}
 use Rattle.ll_seq.specs.declared.client.Descriptor.{Descriptor}
 use Rattle.ll_seq.specs.declared.dentries.Dentry.{Dentry}
-use Rattle.ll_seq.specs.State.{State, dentry_cmp, names_in, name_count, is_open}
+use Rattle.ll_seq.specs.State.{State, dentry_cmp, is_open}
 use Rattle.ll_seq.specs.Facts.{opens_in, open_count}
 use Rattle.ll_seq.proofs.DentryOrder.{dentry_total, dentry_exact}
 use Rattle.ll_seq.proofs.Rows.{both, is_less}
@@ -48,7 +48,7 @@ module _ {K V : Type 0} {R : K → K → Ordering} (o : IsTotalOrder R) (exact :
   nowhere k x [] up h = refl
   nowhere k x (e ∷ es) up h =
       let parts = both (is_lt (R x e.0)) (below_all R x es) h in
-      let less : R k e.0 ≡ Less = elim up [ | inl a ↦ o.trans k x e.0 a (is_less (R x e.0) parts.0) | inr a ↦ o.congr k x e.0 a ∙ is_less (R x e.0) parts.0 ] in
+      let less : R k e.0 ≡ Less = elim up [ inl a ↦ o.trans k x e.0 a (is_less (R x e.0) parts.0) | inr a ↦ o.congr k x e.0 a ∙ is_less (R x e.0) parts.0 ] in
       ap (λ r. cond (is_eq r) (Some e.1) (find R k es)) less ∙ nowhere k x es up parts.1
 
   module _ (w : K × V → ℕ) where

@@ -1,5 +1,5 @@
 -- What changes of the tree do to the facts that are kept of it.
-use Rattle.std.proofs.Common.{◌≡◌, ◌≢◌, ◌==◌, ℕ, zero, suc, ◌+◌, ◌-◌, ◌^◌, ◌<◌, ◌≤◌, min, Bool, true, false, cond, not, ◌&&◌, ◌||◌, List, [], ◌∷◌, length, filter, take, get_or, Option, Some, None, is_some, eqb, refl, ap, sym, ◌∙◌, subst, inl, inr, arith}
+use Rattle.std.proofs.Common.{◌≡◌, ◌≢◌, ◌==◌, ℕ, zero, suc, ◌+◌, ◌-◌, ◌^◌, ◌<◌, ◌≤◌, min, Bool, true, false, cond, not, ◌&&◌, ◌||◌, List, [], ◌∷◌, length, filter, take, get_or, Option, Some, None, is_some, refl, ap, sym, ◌∙◌, subst, inl, inr, arith}
 use Rattle.std.specs.Prelude.{◌⊎◌, if◌then◌else◌, option_map, nat_le, nat_lt}
 use Rattle.std.specs.Option.{option_map_or}
 use Rattle.std.specs.Ordering.{nat_cmp, eq_by_cmp}
@@ -11,17 +11,17 @@ use Rattle.std.proofs.lemmas.Bool.Decides.{nat_tests}
 use Rattle.ll_rights.specs.declared.kind.Kind.{Kind}
 use Rattle.ll_rights.specs.declared.kind.Kind.TheVariants.{Dir}
 use Rattle.ll_rights.specs.Map.{Map, empty, entries, get, has, insert, remove}
-use Rattle.ll_rights.proofs.Maps.{get-empty, get-insert, get-remove, get-insert_same, get-insert_other, get-remove_other, insert_cases}
+use Rattle.ll_rights.proofs.Maps.{get-remove, get-insert_same, get-insert_other, get-remove_other, insert_cases}
 use Rattle.ll_seq.specs.declared.client.ClientRecord.{ClientRecord}
 use Rattle.ll_seq.specs.declared.client.Descriptor.{Descriptor}
 use Rattle.ll_seq.specs.declared.dentries.Dentry.{Dentry}
 use Rattle.ll_seq.specs.declared.facts.Fact.{Fact}
 use Rattle.ll_seq.specs.declared.node.Node.{Node}
 use Rattle.ll_seq.specs.declared.rules.Rules.{Rules}
-use Rattle.ll_seq.specs.State.{State, dentry_cmp, kind_of, names_in, name_count, is_open, root, empty_node, start}
+use Rattle.ll_seq.specs.State.{State, dentry_cmp, kind_of, names_in, name_count, empty_node, start}
 use Rattle.ll_seq.specs.Stages.{is_crowded, has_many_names}
-use Rattle.ll_seq.specs.Effects.{with_node, with_name, without_name, with_moved, renamed, with_client, child_of, lives, let_go, with_bytes}
-use Rattle.ll_seq.specs.Facts.{opens_in, open_count, fact_of, IsUnused, AreKept, has_room, have_room}
+use Rattle.ll_seq.specs.Effects.{with_node, with_name, with_moved, with_client, lives, let_go, with_bytes}
+use Rattle.ll_seq.specs.Facts.{opens_in, open_count, AreKept, has_room, have_room}
 use Rattle.ll_seq.proofs.Counts.{bit, opens_is, names-new, links-new, names-over, links-over, names-less, links-less, opens-new, opens-less, clients-over, clients-new, client_among}
 use Rattle.ll_seq.proofs.DentryOrder.{dentry_total, dentry_exact}
 use Rattle.ll_seq.proofs.Tables.{remove-absent, two_keys}
@@ -177,9 +177,9 @@ kept_name s f g at inode kept steps directory node new room few =
     (raised (inode == q) (name_count s q) (name_count (with_name s at inode) q) (links-new s.entries at q inode new) (not_many s inode q few))
     refl)
     (λ q past. (
-    nothing_added _ (at.directory == q) _ (names-new s.entries at q inode new) (given_out s f at.directory q kept directory past),
-    nothing_added _ (inode == q) _ (links-new s.entries at q inode new) (given_out s f inode q kept node past),
-    refl,
+      nothing_added _ (at.directory == q) _ (names-new s.entries at q inode new) (given_out s f at.directory q kept directory past),
+      nothing_added _ (inode == q) _ (links-new s.entries at q inode new) (given_out s f inode q kept node past),
+      refl,
     ))
 
 nothing_taken : (n : ℕ) (b : Bool) (m : ℕ) → m + bit b ≡ n → n ≡ 0 → m ≡ n
@@ -197,9 +197,9 @@ module _ (s : State) (at : Dentry) where
       (lowered (inode == q) (name_count s q) (name_count name_gone q) (links-less s.entries at q inode there))
       refl)
       (λ q past. (
-      nothing_taken _ (at.directory == q) _ (names-less s.entries at q inode there) (kept.unused q past).names,
-      nothing_taken _ (inode == q) _ (links-less s.entries at q inode there) (kept.unused q past).links,
-      refl,
+        nothing_taken _ (at.directory == q) _ (names-less s.entries at q inode there) (kept.unused q past).names,
+        nothing_taken _ (inode == q) _ (links-less s.entries at q inode there) (kept.unused q past).links,
+        refl,
       ))
 
 -- ---- a node that nothing keeps
@@ -339,7 +339,7 @@ kept_exchange s f old new i j kept at_old at_new =
     (omega arith, omega arith, refl))
   where
     still : get (insert s.entries new i) old ≡ Some i
-    still = elim (insert_cases dentry_total dentry_exact s.entries new i old) [ | inl here ↦ here.1 | inr away ↦ away.1 ∙ at_old ]
+    still = elim (insert_cases dentry_total dentry_exact s.entries new i old) [ inl here ↦ here.1 | inr away ↦ away.1 ∙ at_old ]
 
 -- ---- clients and their descriptors
 
@@ -493,6 +493,7 @@ kept_copies s f g client c fresh child kept there unknown copies few room steps 
       | inl none ↦ ap (λ n. more n (open_count s q)) none ∙ no_more (open_count s q) ∙ (let same = none in omega arith)
       | inr at ↦ (let own = few_opens s f q k kept is at in let most = among_few q (entries child.descriptors) in more_is (opens_in child.descriptors q) (open_count s q) (omega arith))
     ]
+
     nothing_copied : (q : ℕ) → s.next ≤ q → opens_in child.descriptors q ≡ 0
     nothing_copied q past = elim copies [
       | inl own ↦ (let alike = ap (λ m. opens_in m q) own in let part = client_among s.clients client q c there in let sum = part.1 in let none = (kept.unused q past).opens in omega arith)
@@ -550,11 +551,11 @@ kept_node s f kind kept = record {
 }
 
 pub has-insert : {V : Type 0} (m : Map nat_cmp V) (k q : ℕ) (v : V) → has m q ≡ true → has (insert m k v) q ≡ true
-has-insert m k q v there = elim (insert_cases nat_cmp_total nat_cmp-IsAntisymmetric m k v q) [ | inl here ↦ ap is_some here.1 | inr away ↦ ap is_some away.1 ∙ there ]
+has-insert m k q v there = elim (insert_cases nat_cmp_total nat_cmp-IsAntisymmetric m k v q) [ inl here ↦ ap is_some here.1 | inr away ↦ ap is_some away.1 ∙ there ]
 
 pub kept_make : (s : State) (f g : Facts) (kind : Kind) (at : Dentry) → AreKept s f
     → (AreKept (with_bare_node s kind) (insert f s.next (record { kind = kind; names = 0; links = 0; opens = 0 })) → has (with_bare_node s kind).nodes at.directory ≡ true
-      → has (with_bare_node s kind).nodes s.next ≡ true → has_many_names (with_bare_node s kind) s.next ≡ false → AreKept (with_node s kind at) g)
+    → has (with_bare_node s kind).nodes s.next ≡ true → has_many_names (with_bare_node s kind) s.next ≡ false → AreKept (with_node s kind at) g)
     → has s.nodes at.directory ≡ true → AreKept (with_node s kind at) g
 kept_make s f g kind at kept named there =
     named (kept_node s f kind kept) (has-insert s.nodes s.next at.directory (empty_node kind) there)

@@ -8,6 +8,7 @@ pub mod Kept
 pub mod Numbers
 pub mod Parted
 pub mod Results
+pub mod Rising
 pub mod Rows
 pub mod Searches
 pub mod Tables

@@ -5,6 +5,7 @@ pub mod Effects
 pub mod Facts
 pub mod Fails
 pub mod History
+pub mod Listed
 pub mod Reach
 pub mod Stages
 pub mod State

@@ -1,7 +1,7 @@
 use Rattle.std.proofs.Common.{ap, sym, subst, ◌∙◌}
 use Rattle.ll_rights.specs.Map.{has, insert}
-use Rattle.ll_seq.specs.Stages.{is_crowded, has_many_names}
-use Rattle.ll_seq.specs.Effects.{with_node, with_name}
+use Rattle.ll_seq.specs.Stages.{has_many_names}
+use Rattle.ll_seq.specs.Effects.{with_name}
 use Rattle.ll_seq.specs.Facts.{AreKept}
 use Rattle.ll_seq.proofs.Kept.{with_bare_node, kept_make}
 use Rattle.ll_seq.proofs.facts.NumberMap+Fact.make.Goals as goal

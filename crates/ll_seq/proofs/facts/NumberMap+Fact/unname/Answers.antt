@@ -1,8 +1,4 @@
-use Rattle.std.proofs.Common.{◌≡◌, sym, subst}
-use Rattle.ll_rights.specs.Map.{Map, get}
-use Rattle.ll_seq.specs.declared.dentries.Dentry.{Dentry}
-use Rattle.ll_seq.specs.State.{State}
-use Rattle.ll_seq.specs.Facts.{AreKept}
+use Rattle.std.proofs.Common.{sym, subst}
 use Rattle.ll_seq.proofs.Kept.{Steps, both_steps, less_names, less_links, name_gone, kept_taken, kept_let_go, goes}
 use Rattle.ll_seq.proofs.facts.NumberMap+Fact.unname.Goals as goal
 
