@@ -2,7 +2,7 @@
 use Rattle.std.specs.Prelude.{◌≡◌, ◌≢◌, ℕ, Bool, true, false, Option, Some, None, cond, refl}
 use Rattle.std.specs.Option.{option_map_or}
 use Rattle.std.specs.Ordering.{eq_by_cmp}
-use Rattle.std.proofs.Common.{ap, sym, ◌∙◌}
+use Rattle.std.proofs.Common.{ap, ◌∙◌}
 use Rattle.ll_rights.specs.Map.{Map, get, insert, remove}
 use Rattle.ll_rights.proofs.Maps.{get-insert}
 use Rattle.ll_seq.specs.declared.dentries.Dentry.{Dentry}

@@ -1,10 +1,10 @@
 -- Paths with one name more.
-use Rattle.std.specs.Prelude.{◌≡◌, ℕ, List, [], ◌∷◌, ◌++◌, Option, Some, None, option_and_then, slice_get, refl}
+use Rattle.std.specs.Prelude.{◌≡◌, ℕ, List, [], ◌∷◌, ◌++◌, Option, Some, None, option_and_then, refl}
 use Rattle.std.specs.Option.{option_map_or}
 use Rattle.std.proofs.Common.{ap, ◌∙◌, sym, append_assoc}
 use Rattle.ll_rights.specs.declared.errno.Errno.{Errno}
 use Rattle.ll_path.specs.Path.{Path}
-use Rattle.ll_seq.specs.State.{State, Name, child, root}
+use Rattle.ll_seq.specs.State.{State, Name, child}
 use Rattle.ll_seq.specs.Tree.{end_from, chain_from}
 use Rattle.ll_seq.specs.Stages.{in_the_way, no_directory, kind_of_child}
 

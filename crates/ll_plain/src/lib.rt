@@ -104,9 +104,9 @@ impl Plain {
         ensures spawned { (number : ℕ) → result ≡ Reply.Spawned number → (number ≡ fresh) × (has self.new.clients number ≡ true) }
         ensures numbers { self.new.next ≤ self.old.next + 1 }
     {
-        let reply = self.reply(client, call, fresh);
-        reply.by_type();
-        reply
+        let told = self.reply(client, call, fresh);
+        told.by_type();
+        told
     }
 
     fn reply(&mut self, client: u64, call: &Call, fresh: u64) -> Reply

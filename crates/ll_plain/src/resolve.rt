@@ -9,8 +9,8 @@ ghost use Rattle.ll_answer.specs.Passed.{has_path};
 ghost use Rattle.ll_plain.specs.Walking.{IsPathWalk};
 
 use crate::Plain;
-use ll_answer::{Effect, Found, Targets, decide, targets_of};
 use crate::walk::PathWalk;
+use ll_answer::{Effect, Found, Targets, decide, targets_of};
 use ll_decide::Granted;
 use ll_path::Target;
 use ll_rules::Domain;

@@ -27,7 +27,10 @@ impl Plain {
         requires { has self.old.clients client ≡ true }
         ensures { Comes self.old client (calls.Ruleset rights) result self.new }
     {
-        let number = match self.clients.create_ruleset(self.alloc, client, self.rules.abi, rights) {
+        let number = match self
+            .clients
+            .create_ruleset(self.alloc, client, self.rules.abi, rights)
+        {
             Err(errno) => return Reply::Refused(errno),
             Ok(number) => number,
         };

@@ -10,8 +10,8 @@ ghost use Rattle.ll_seq.specs.State.{child};
 ghost use Rattle.ll_seq.specs.Stages as stages;
 ghost use Rattle.ll_plain.specs.Walking.{IsWalk, IsPathWalk};
 
-use ll_answer::{Spot, There};
 use crate::{Plain, ROOT};
+use ll_answer::{Spot, There};
 use ll_decide::Masks;
 use ll_path::{Names, Path};
 use ll_rights::{Errno, Kind};

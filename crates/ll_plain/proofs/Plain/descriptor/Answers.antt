@@ -1,5 +1,5 @@
 use Rattle.std.proofs.Common.{Option, ap, sym, ◌∙◌}
-use Rattle.std.specs.Prelude.{[], unwrap_or}
+use Rattle.std.specs.Prelude.{unwrap_or}
 use Rattle.ll_rights.specs.Map.{get}
 use Rattle.ll_rights.proofs.Maps.{get-empty}
 use Rattle.ll_seq.specs.declared.client.ClientRecord.{ClientRecord}
