@@ -5,6 +5,7 @@ use Rattle.ll_rights.specs.declared.errno.Errno.{Errno}
 use Rattle.ll_rights.specs.declared.errno.Errno.TheVariants.{NoMemory, BadLine}
 use Rattle.ll_rights.specs.declared.access.Access.{Access}
 use Rattle.ll_rights.specs.Access.{access_text}
+use Rattle.ll_rights.specs.declared.limits.TheConstants.{TREE_CLIENTS}
 use Rattle.ll_path.specs.declared.target.Target.{Target}
 use Rattle.ll_path.specs.Target.{target_text}
 use Rattle.ll_seq.specs.declared.call.Call.{Call}
@@ -66,7 +67,7 @@ IsDigit c = ((48 ≤ c) × (c ≤ 57)) ⊎ ((97 ≤ c) × (c ≤ 102))
 
 -- the token names a client that isn't the first
 abbrev pub NamesClient : List ℕ → ℕ → Type 0
-NamesClient token client = (2 ≤ client) × (client ≤ 64) × (token ≡ 64 ∷ decimal client)
+NamesClient token client = (2 ≤ client) × (client ≤ TREE_CLIENTS) × (token ≡ 64 ∷ decimal client)
 
 -- the tokens are one, which is the target's
 abbrev pub SpellsOneTarget : List (List ℕ) → Target → Type 0
