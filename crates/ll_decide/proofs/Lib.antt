@@ -1,2 +1,5 @@
+pub mod Asking
 pub mod Bits
 pub mod Carried
+pub mod Finding
+pub mod Sets

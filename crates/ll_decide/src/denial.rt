@@ -18,6 +18,9 @@ pub enum Place {
 }
 
 impl Place {
+    /// All places, in the order in which denials name them.
+    pub(crate) const ALL: [Place; 3] = [Place::At, Place::Old, Place::New];
+
     pub fn text(self) -> &'static str
         ensures { result.now ≡ place_text self }
     {

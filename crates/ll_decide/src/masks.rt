@@ -1,10 +1,9 @@
 //! Masks: one set of rights for each layer, carried down a path.
 
-ghost use Rattle.std.specs.Prelude.{◌≡◌, ℕ, ◌<◌, List, [], ◌∷◌, ◌++◌, length, slice_get, slice_index, Some};
-ghost use Rattle.ll_rights.specs.Access.{holds};
+ghost use Rattle.std.specs.Prelude.{◌≡◌, ℕ, ◌<◌, List, [], ◌∷◌, ◌++◌, length, slice_get, Some};
 ghost use Rattle.ll_decide.specs.Masks.{IsMask, AreMasks, numbers_of};
 
-use ll_rights::{Access, Right};
+use ll_rights::Access;
 use ll_rules::{Domain, Layer};
 use smallvec::SmallVec;
 use std::alloc::Global;
@@ -41,6 +40,23 @@ pub fn unrestricted(layer: &Layer) -> Access
 }
 
 impl Masks {
+    /// The masks of no layer.
+    pub fn empty(alloc: Global) -> Masks
+        ensures { result ≡ [] }
+    {
+        Masks {
+            masks: SmallVec::new(alloc),
+        }
+    }
+
+    /// What the next newer layer grants. A domain has at most 16 layers.
+    pub fn push(&mut self, rights: Access)
+        requires { length self.old < 16 }
+        ensures { self.new ≡ self.old ++ rights.0 ∷ [] }
+    {
+        self.masks.push_reserved(Mask { rights });
+    }
+
     /// The masks over the chain of the root alone, which is inode 1.
     pub fn root(alloc: Global, domain: &Domain) -> Masks
         ensures masks { AreMasks result domain.now (1 ∷ []) }
@@ -57,13 +73,11 @@ impl Masks {
     {
         // There is a place for each layer.
         prove!(domain.len() <= 16);
-        let mut masks = SmallVec::new(alloc);
+        let mut masks = Masks::empty(alloc);
         for layer in domain.layers() {
-            masks.push_reserved(Mask {
-                rights: unrestricted(layer),
-            });
+            masks.push(unrestricted(layer));
         }
-        Masks { masks }
+        masks
     }
 
     /// The same over the chain with one inode more at its end.
@@ -99,16 +113,6 @@ impl Masks {
         ensures { slice_get self.now number ≡ Some result.0 }
     {
         self.masks.as_slice()[number].rights
-    }
-
-    /// Whether a layer grants the right. A layer that isn't there grants nothing.
-    pub fn holds(&self, layer: usize, right: Right) -> bool
-        ensures { result ≡ holds (slice_index self.now layer) right }
-    {
-        match self.masks.as_slice().get(layer) {
-            None => false,
-            Some(mask) => mask.rights.holds(right),
-        }
     }
 }
 

@@ -7,4 +7,6 @@ pub mod Numbers
 pub mod Parted
 pub mod Results
 pub mod Rows
+pub mod Searches
 pub mod Tables
+pub mod Together

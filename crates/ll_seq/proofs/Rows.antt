@@ -13,7 +13,7 @@ use Rattle.ll_seq.specs.declared.dentries.Dentry.{Dentry}
 use Rattle.ll_seq.specs.State.{Name, State, child, dentry}
 use Rattle.ll_seq.proofs.DentryOrder.{dentry_total, dentry_exact}
 
-both : (a b : Bool) → T (a && b) → T a × T b
+pub both : (a b : Bool) → T (a && b) → T a × T b
 both true b h = (tt, h)
 both false b h = absurd h
 
@@ -31,13 +31,13 @@ module _ {K X : Type 0} {R : K → K → Ordering} (o : IsTotalOrder R) (exact :
     | false ↦ λ t g. let rest = row_of_found es q x g in (suc rest.0, rest.1)
   ] refl f
 
-  lower : (k : K) (es : List (K × X)) (i : ℕ) (row : K × X) → T (below_all R k es) → slice_get es i ≡ Some row → R k row.0 ≡ Less
+  pub lower : (k : K) (es : List (K × X)) (i : ℕ) (row : K × X) → T (below_all R k es) → slice_get es i ≡ Some row → R k row.0 ≡ Less
   lower k [] i row h at = absurd (cc at)
   lower k (e ∷ es) zero row h at = let same : e ≡ row = cc in ap (λ (f : K × X). R k f.0) (sym same) ∙ is_less (R k e.0) (both (is_lt (R k e.0)) (below_all R k es) h).0
   lower k (e ∷ es) (suc i) row h at = lower k es i row (both (is_lt (R k e.0)) (below_all R k es) h).1 at
 
   -- and what stands in a row is found
-  found_of_row : (es : List (K × X)) (i : ℕ) (row : K × X) → T (is_sorted R es) → slice_get es i ≡ Some row → find R row.0 es ≡ Some row.1
+  pub found_of_row : (es : List (K × X)) (i : ℕ) (row : K × X) → T (is_sorted R es) → slice_get es i ≡ Some row → find R row.0 es ≡ Some row.1
   found_of_row [] i row h at = absurd (cc at)
   found_of_row (e ∷ es) zero row h at =
       let same : e ≡ row = cc in

@@ -1,7 +1,7 @@
 //! Directory entries.
 
-ghost use Rattle.std.specs.Prelude.{◌≡◌, ◌+◌, ◌^◌, ◌<◌, ℕ, Some, None, IfSome, IfNone, IfOk, OnOk, OnErr, length, slice_get};
-ghost use Rattle.std.specs.FinMap.Entries.{find};
+ghost use Rattle.std.specs.Prelude.{◌≡◌, ◌^◌, ◌<◌, ◌≤◌, ℕ, Some, None, IsTrue, IfSome, IfNone, IfOk, IfErr, OnOk, OnErr, length, slice_get};
+ghost use Rattle.std.specs.FinMap.Entries.{find, is_sorted};
 ghost use Rattle.ll_rights.proofs.Places.{place};
 ghost use Rattle.ll_seq.specs.State.{dentry, dentry_cmp};
 
@@ -40,40 +40,36 @@ impl Model for Dentries {
     ghost invariant = { λ entries. IsTrue (is_sorted dentry_cmp entries.rows.items) };
 }
 
-/// How the place stands to another.
-fn order(directory: u64, name: &str, other: &Dentry) -> Ordering
-    ensures { result ≡ dentry_cmp (dentry directory name.now) other.now }
+/// How an entry's place stands to another.
+fn order(row: &(Dentry, u64), directory: u64, name: &str) -> Ordering
+    ensures { result ≡ dentry_cmp row.now.0 (dentry directory name.now) }
 {
-    directory
-        .cmp(&other.directory)
-        .then(name.cmp(other.name.as_str()))
+    row.0
+        .directory
+        .cmp(&directory)
+        .then(row.0.name.as_str().cmp(name))
+}
+
+/// Where the entry at the place stands, or where it would.
+fn search(rows: &[(Dentry, u64)], directory: u64, name: &str) -> Result<usize, usize>
+    requires { IsTrue (is_sorted dentry_cmp rows.now) }
+    ensures within { IfOk result (λ i. i < length rows.now) }
+    ensures row { IfOk result (λ i. (inode : ℕ) × (find dentry_cmp (dentry directory name.now) rows.now ≡ Some inode) × (slice_get rows.now i ≡ Some (dentry directory name.now, inode))) }
+    ensures none { IfErr result (λ i. find dentry_cmp (dentry directory name.now) rows.now ≡ None) }
+    ensures place { IfErr result (λ i. i ≡ place dentry_cmp (dentry directory name.now) rows.now) }
+    ensures most { IfErr result (λ i. i ≤ length rows.now) }
+{
+    rows.binary_search_by(|row| order(row, directory, name))
 }
 
 /// Where the entry at the place stands.
 fn index_of(rows: &[(Dentry, u64)], directory: u64, name: &str) -> Option<usize>
+    requires { IsTrue (is_sorted dentry_cmp rows.now) }
     ensures none { IfNone result (find dentry_cmp (dentry directory name.now) rows.now ≡ None) }
     ensures within { IfSome result (λ i. i < length rows.now) }
     ensures row { IfSome result (λ i. (inode : ℕ) × (find dentry_cmp (dentry directory name.now) rows.now ≡ Some inode) × (slice_get rows.now i ≡ Some (dentry directory name.now, inode))) }
 {
-    for (i, row) in rows.iter().enumerate() {
-        if order(directory, name, &row.0).is_eq() {
-            return Some(i);
-        }
-    }
-    None
-}
-
-/// How many entries stand before the place.
-fn place_of(rows: &[(Dentry, u64)], directory: u64, name: &str) -> usize
-    ensures place { result ≡ place dentry_cmp (dentry directory name.now) rows.now }
-    ensures within { result < length rows.now + 1 }
-{
-    for (i, row) in rows.iter().enumerate() {
-        if !order(directory, name, &row.0).is_gt() {
-            return i;
-        }
-    }
-    rows.len()
+    search(rows, directory, name).ok()
 }
 
 impl Dentries {
@@ -113,14 +109,24 @@ impl Dentries {
         self.rows.as_slice()
     }
 
+    /// The entries of the directory, which stand together.
+    fn rows_of(&self, directory: u64) -> &[(Dentry, u64)]
+        ensures { result.now ≡ filter (λ (e : dentries_of.Dentry × ℕ). e.0.directory == directory) (entries self.now) }
+    {
+        let start = self
+            .rows
+            .partition_point(|row| row.0.directory < directory);
+        let end = self
+            .rows
+            .partition_point(|row| row.0.directory <= directory);
+        &self.rows[start..end]
+    }
+
     /// How many names the directory has.
     pub fn count_in(&self, directory: u64) -> usize
         ensures { result ≡ length (filter (λ (e : dentries_of.Dentry × ℕ). e.0.directory == directory) (entries self.now)) }
     {
-        self.rows
-            .iter()
-            .filter(|row| row.0.directory == directory)
-            .count()
+        self.rows_of(directory).len()
     }
 
     /// The names in the directory, rising by bytes.
@@ -128,10 +134,8 @@ impl Dentries {
         ensures { IfOk result (λ listing. listing ≡ map (λ (e : dentries_of.Dentry × ℕ). e.0.name) (filter (λ (e : dentries_of.Dentry × ℕ). e.0.directory == directory) (entries self.now))) }
     {
         let mut listing = Listing::new(alloc);
-        for row in &self.rows {
-            if row.0.directory == directory {
-                listing.push(Name::from_text(alloc, row.0.name.as_str())?)?;
-            }
+        for row in self.rows_of(directory) {
+            listing.push(Name::from_text(alloc, row.0.name.as_str())?)?;
         }
         Ok(listing)
     }
@@ -149,7 +153,9 @@ impl Dentries {
         ensures ok { OnOk result (self.new ≡ insert self.old (dentry directory name) inode) }
         ensures err { OnErr result (self.new ≡ self.old) }
     {
-        let place = place_of(&self.rows, directory, name.as_str());
+        let Err(place) = search(&self.rows, directory, name.as_str()) else {
+            unreachable!();
+        };
         self.rows.insert(place, (Dentry { directory, name }, inode))?;
         Ok(())
     }

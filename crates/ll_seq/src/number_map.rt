@@ -1,9 +1,9 @@
 //! Tables by number.
 
-ghost use Rattle.std.specs.Prelude.{◌≡◌, ◌<◌, ◌+◌, Some, None, IfSome, IfNone, IfOk, OnOk, OnErr, length, slice_get};
+ghost use Rattle.std.specs.Prelude.{◌≡◌, ◌<◌, ◌≤◌, Some, None, IsTrue, IfSome, IfNone, IfOk, IfErr, OnOk, OnErr, length, slice_get};
 ghost use Rattle.std.specs.Ordering.{nat_cmp};
 ghost use Rattle.std.specs.Option.{option_copied};
-ghost use Rattle.std.specs.FinMap.Entries.{find};
+ghost use Rattle.std.specs.FinMap.Entries.{find, is_sorted};
 ghost use Rattle.ll_rights.proofs.Places.{place};
 
 use std::alloc::{AllocError, Global};
@@ -31,31 +31,26 @@ impl<V> Model for NumberMap<V> {
     ghost invariant = { λ table. IsTrue (is_sorted nat_cmp table.rows.items) };
 }
 
+/// Where the row of the number stands, or where it would.
+fn search<V>(rows: &[(u64, V)], number: u64) -> Result<usize, usize>
+    requires { IsTrue (is_sorted nat_cmp rows.now) }
+    ensures within { IfOk result (λ i. i < length rows.now) }
+    ensures row { IfOk result (λ i. (v : V) × (find nat_cmp number rows.now ≡ Some v) × (slice_get rows.now i ≡ Some (number, v))) }
+    ensures none { IfErr result (λ i. find nat_cmp number rows.now ≡ None) }
+    ensures place { IfErr result (λ i. i ≡ place nat_cmp number rows.now) }
+    ensures most { IfErr result (λ i. i ≤ length rows.now) }
+{
+    rows.binary_search_by_key(&number, |row| row.0)
+}
+
 /// Where the row of the number stands.
 pub(crate) fn index_of<V>(rows: &[(u64, V)], number: u64) -> Option<usize>
+    requires { IsTrue (is_sorted nat_cmp rows.now) }
     ensures none { IfNone result (find nat_cmp number rows.now ≡ None) }
     ensures within { IfSome result (λ i. i < length rows.now) }
     ensures row { IfSome result (λ i. (v : V) × (find nat_cmp number rows.now ≡ Some v) × (slice_get rows.now i ≡ Some (number, v))) }
 {
-    for (i, row) in rows.iter().enumerate() {
-        if row.0 == number {
-            return Some(i);
-        }
-    }
-    None
-}
-
-/// How many rows stand before that of the number, if it has one.
-fn place_of<V>(rows: &[(u64, V)], number: u64) -> usize
-    ensures place { result ≡ place nat_cmp number rows.now }
-    ensures within { result < length rows.now + 1 }
-{
-    for (i, row) in rows.iter().enumerate() {
-        if number <= row.0 {
-            return i;
-        }
-    }
-    rows.len()
+    search(rows, number).ok()
 }
 
 impl<V> NumberMap<V> {
@@ -107,7 +102,9 @@ impl<V> NumberMap<V> {
         ensures ok { OnOk result (self.new ≡ insert self.old number value) }
         ensures err { OnErr result (self.new ≡ self.old) }
     {
-        let place = place_of(&self.rows, number);
+        let Err(place) = search(&self.rows, number) else {
+            unreachable!();
+        };
         self.rows.insert(place, (number, value))?;
         Ok(())
     }

@@ -1,7 +1,6 @@
-//! What layers grant on inodes, before and after a file is renamed.
+//! What layers grant on inodes, before and after a file gets another name.
 
-use super::{Ask, Row, Session, Want};
-use ll_decide::{Cause, Place};
+use super::{Ask, Row, Session, Told};
 use ll_rights::{Access, Errno, Kind};
 use ll_rules::{Domain, Ruleset};
 use std::alloc::Global;
@@ -10,9 +9,9 @@ use std::test::Fail;
 
 /// `/priv` is inode 2, the file in it 3, and `/pub` 4.
 const YARD: &[Row] = &[
-    (Ask::Make(Kind::Dir, "/priv"), Want::Done),
-    (Ask::Make(Kind::Reg, "/priv/f"), Want::Done),
-    (Ask::Make(Kind::Dir, "/pub"), Want::Done),
+    (Ask::Make(Kind::Dir, "/priv"), Told::Done),
+    (Ask::Make(Kind::Reg, "/priv/f"), Told::Done),
+    (Ask::Make(Kind::Dir, "/pub"), Told::Done),
 ];
 
 /// A layer's number, an inode's, and what the layer grants on the inode.
@@ -59,22 +58,8 @@ fn domain(alloc: Global, layers: &[Handled]) -> Result<Domain, Errno> {
     Ok(domain)
 }
 
-/// Client 1 makes the calls of the first list, and then the second tells what the layers grant.
-fn check(
-    rt: &impl Abort,
-    alloc: Global,
-    layers: &[Handled],
-    turns: &[(&[Row], &[Reach])],
-) -> Result<(), Fail> {
-    let mut session = Session::new(rt, alloc, 64)?;
-    session.check(rt, 1, 0, YARD)?;
-    let domain = domain(alloc, layers)?;
-    for (rows, wanted) in turns {
-        session.check(rt, 1, 0, rows)?;
-        session.check_reach(rt, &domain, wanted);
-    }
-    Ok(())
-}
+/// What the layers grant once the first client has made these calls.
+type Turn = (&'static [Row], &'static [Reach]);
 
 impl Session {
     fn check_reach(&self, rt: &impl Abort, domain: &Domain, wanted: &[Reach]) {
@@ -90,80 +75,63 @@ impl Session {
     }
 }
 
-const A_FREE_CLIENT_WIDENS_REACH: &[(&[Row], &[Reach])] = &[
+const TABLE: &[(&[Handled], &[Turn])] = &[
+    // A client without layers widens what a layer reaches.
     (
-        &[],
+        &[PUBLIC],
         &[
-            (1, 1, Some(0x7ffb)),
-            (1, 2, Some(0x7ffb)),
-            (1, 3, Some(0x4003)),
-            (1, 4, Some(0x7fff)),
-            (1, 9, None),
+            (
+                &[],
+                &[
+                    (1, 1, Some(0x7ffb)),
+                    (1, 2, Some(0x7ffb)),
+                    (1, 3, Some(0x4003)),
+                    (1, 4, Some(0x7fff)),
+                    (1, 9, None),
+                ],
+            ),
+            (
+                &[(Ask::Rename("/priv/f", "/pub/f"), Told::Done)],
+                &[(1, 3, Some(0x4007))],
+            ),
         ],
     ),
+    // A second name adds to the first.
     (
-        &[(Ask::Rename("/priv/f", "/pub/f"), Want::Done)],
-        &[(1, 3, Some(0x4007))],
+        &[PUBLIC],
+        &[(
+            &[(Ask::Link("/priv/f", "/pub/f"), Told::Done)],
+            &[(1, 3, Some(0x4007))],
+        )],
     ),
-];
-
-#[test]
-fn a_free_client_widens_reach(rt: HostRuntime) -> Result<(), Fail> {
-    check(&rt, rt.alloc(), &[PUBLIC], A_FREE_CLIENT_WIDENS_REACH)
-}
-
-const A_CONFINED_CLIENT_DOES_NOT: &[(&[Row], &[Reach])] = &[(
-    &[
-        (Ask::Ruleset(0x2004), Want::Created(0)),
-        (Ask::Allow(0, "/", 0x2000), Want::Done),
-        (Ask::Allow(0, "/pub", 0x4), Want::Done),
-        (Ask::Confine(0), Want::Done),
-        (
-            Ask::Rename("/priv/f", "/pub/f"),
-            Want::DeniedIn(Place::New, Cause::EXDEV, 1, "read_file"),
-        ),
-    ],
-    &[(1, 3, Some(0x4003))],
-)];
-
-#[test]
-fn a_confined_client_does_not(rt: HostRuntime) -> Result<(), Fail> {
-    check(&rt, rt.alloc(), &[PUBLIC], A_CONFINED_CLIENT_DOES_NOT)
-}
-
-const WHAT_IS_READABLE_MAY_MOVE: &[(&[Row], &[Reach])] = &[
+    // A rule of its own moves with the file.
     (
+        &[READABLE],
         &[
-            (Ask::Ruleset(0x2004), Want::Created(0)),
-            (Ask::Allow(0, "/", 0x2000), Want::Done),
-            (Ask::Allow(0, "/pub", 0x4), Want::Done),
-            (Ask::Allow(0, "/priv/f", 0x4), Want::Done),
-            (Ask::Confine(0), Want::Done),
+            (&[], &[(1, 3, Some(0x4007))]),
+            (
+                &[(Ask::Rename("/priv/f", "/f"), Told::Done)],
+                &[(1, 3, Some(0x4007))],
+            ),
         ],
-        &[(1, 3, Some(0x4007))],
     ),
+    // Layers are asked by number.
     (
-        &[(Ask::Rename("/priv/f", "/pub/f"), Want::Done)],
-        &[(1, 3, Some(0x4007))],
-    ),
-];
-
-#[test]
-fn what_is_readable_may_move(rt: HostRuntime) -> Result<(), Fail> {
-    check(&rt, rt.alloc(), &[READABLE], WHAT_IS_READABLE_MAY_MOVE)
-}
-
-const LAYERS_ARE_ASKED_BY_NUMBER: &[(&[Row], &[Reach])] = &[(
-    &[],
-    &[(1, 3, Some(0x4003)), (2, 3, Some(0x4006))],
-)];
-
-#[test]
-fn layers_are_asked_by_number(rt: HostRuntime) -> Result<(), Fail> {
-    check(
-        &rt,
-        rt.alloc(),
         &[PUBLIC, NOTHING_EXECUTED],
-        LAYERS_ARE_ASKED_BY_NUMBER,
-    )
+        &[(&[], &[(1, 3, Some(0x4003)), (2, 3, Some(0x4006))])],
+    ),
+];
+
+#[test]
+fn reach(rt: HostRuntime) -> Result<(), Fail> {
+    for (layers, turns) in TABLE {
+        let mut session = Session::new(&rt, rt.alloc(), 64)?;
+        session.check(&rt, 0, YARD)?;
+        let domain = domain(rt.alloc(), layers)?;
+        for (rows, wanted) in *turns {
+            session.check(&rt, 0, rows)?;
+            session.check_reach(&rt, &domain, wanted);
+        }
+    }
+    Ok(())
 }

@@ -1,0 +1,5 @@
+pub mod Codes
+pub mod Held
+pub mod Refusals
+pub mod Rows
+pub mod Slot

@@ -1,0 +1,270 @@
+//! One node behind its lock.
+
+ghost use Rattle.std.specs.Prelude.{◌≡◌, ◌+◌, ◌≤◌, ℕ, List, [], ◌∷◌, Some, false, OnOk, OnErr, IfOk, IfErr, IsTrue, length, map, take, drop};
+ghost use Rattle.ll_rights.specs.Kind.{is_dir};
+ghost use Rattle.ll_rights.specs.Map.{empty, get, insert, remove, entries};
+ghost use Rattle.ll_path.specs.Name.{IsName};
+ghost use Rattle.ll_seq.specs.Effects.{resized};
+ghost use Rattle.ll_seq.specs.Fails.{Fails};
+ghost use Rattle.ll_seq.specs.Stages.{is_too_long};
+
+use crate::directory::Directory;
+use ll_path::Data;
+use ll_rights::{Errno, Kind};
+use ll_seq::{Content, Listing};
+use std::alloc::{AllocError, Global};
+use std::marker::Model;
+
+/// A directory has at most so many names.
+const MOST_NAMES: usize = 1_024;
+
+/// Any other node has at most so many bytes.
+const MOST_BYTES: u64 = 65_536;
+
+const _: () = prove!(size_of::<Slot>() <= 256);
+
+/// What a node holds: a directory its names, any other node its bytes.
+#[derive(Drop)]
+enum Held {
+    Names(Directory),
+    Bytes(Content),
+}
+
+/// What lies behind a node's lock: the names in a directory, or the bytes of another node, and the mark of at most one
+/// walk. Contracts see a map or a list, and the mark.
+#[derive(Drop)]
+pub struct Slot {
+    alloc: Global,
+    kind: Kind,
+    held: Held,
+    mark: Option<u64>,
+}
+
+impl Model for Slot {
+    ghost use Rattle.std.specs.Prelude.{◌≡◌};
+    ghost use Rattle.ll_rights.specs.Kind.{is_dir};
+    ghost use Rattle.ll_node.specs.Slot as slots;
+    ghost use Rattle.ll_node.specs.Codes.{coded_slot};
+
+    ghost Value = { slots.Slot };
+
+    ghost coded = { coded_slot };
+
+    ghost use Rattle.ll_node.specs.Held.{names_of, bytes_of, has_names};
+
+    ghost view = { λ slot. record { kind = slot.kind; names = names_of slot.held; bytes = bytes_of slot.held; mark = slot.mark } };
+
+    ghost invariant = { λ slot. has_names slot.held ≡ is_dir slot.kind };
+}
+
+/// Whether these bytes would end behind what a node may have.
+fn ends_too_late(offset: u64, len: u64) -> bool
+    ensures { result ≡ is_too_long (offset + len) }
+{
+    MOST_BYTES < offset || MOST_BYTES - offset < len
+}
+
+impl Slot {
+    ghost use Rattle.ll_node.specs.Slot.{new_slot, len_of, replaced, renamed, written};
+    ghost use Rattle.ll_node.specs.Refusals.{insert_refusals, missing, rename_refusals, write_refusals, len_refusals};
+
+    /// A new node, empty and unmarked. Takes no memory.
+    pub fn new(alloc: Global, kind: Kind) -> Slot
+        ensures { result ≡ new_slot kind }
+    {
+        let held = if kind.is_dir() {
+            Held::Names(Directory::new(alloc))
+        } else {
+            Held::Bytes(Content::empty(alloc))
+        };
+        Slot {
+            alloc,
+            kind,
+            held,
+            mark: None,
+        }
+    }
+
+    /// The kind that the node was made with. A directory holds names, any other node bytes.
+    pub fn kind(&self) -> Kind
+        ensures kind { result ≡ self.now.kind }
+        ensures names { IsTrue (is_dir self.now.kind) → self.now.bytes ≡ [] }
+        ensures bytes { is_dir self.now.kind ≡ false → self.now.names ≡ empty }
+    {
+        self.kind
+    }
+
+    /// How many names, or how many bytes.
+    pub fn len(&self) -> usize
+        ensures { result ≡ len_of self.now }
+    {
+        match &self.held {
+            Held::Names(names) => names.len(),
+            Held::Bytes(bytes) => bytes.len(),
+        }
+    }
+
+    /// The client whose walk stands here.
+    pub fn mark(&self) -> Option<u64>
+        ensures { result ≡ self.now.mark }
+    {
+        self.mark
+    }
+
+    pub fn set_mark(&mut self, mark: Option<u64>)
+        ensures { self.new ≡ record self.old { mark = mark } }
+    {
+        self.mark = mark;
+    }
+
+    /// The inode under the name. What is no directory has no names.
+    pub fn look_up(&self, name: &str) -> Option<u64>
+        ensures { result ≡ get self.now.names name.now }
+    {
+        match &self.held {
+            Held::Names(names) => names.get(name),
+            Held::Bytes(_) => None,
+        }
+    }
+
+    /// The inode gets a name that the directory doesn't have.
+    pub fn insert(&mut self, name: &str, inode: u64) -> Result<(), Errno>
+        requires directory { IsTrue (is_dir self.old.kind) }
+        requires name { IsName name.now }
+        ensures ok { OnOk result (self.new ≡ record self.old { names = insert self.old.names name.now inode }) }
+        ensures free { OnOk result (insert_refusals self.old.names name.now ≡ []) }
+        ensures refused { IfErr result (Fails (insert_refusals self.old.names name.now)) }
+        ensures err { OnErr result (self.new ≡ self.old) }
+    {
+        let Held::Names(names) = &mut self.held else {
+            unreachable!();
+        };
+        if names.has(name) {
+            return Err(Errno::EEXIST);
+        }
+        if names.len() >= MOST_NAMES {
+            return Err(Errno::ENOSPC);
+        }
+        let Ok(()) = names.insert(self.alloc, name, inode) else {
+            return Err(Errno::NoMemory);
+        };
+        Ok(())
+    }
+
+    /// Another inode gets a name that is there. What had it is told. Takes no memory.
+    pub fn replace(&mut self, name: &str, inode: u64) -> Result<u64, Errno>
+        ensures ok { OnOk result (self.new ≡ record self.old { names = insert self.old.names name.now inode }) }
+        ensures had { IfOk result (λ had. get self.old.names name.now ≡ Some had) }
+        ensures refused { IfErr result (λ errno. missing self.old.names name.now ≡ errno ∷ []) }
+        ensures err { OnErr result (self.new ≡ self.old) }
+    {
+        let had = match &mut self.held {
+            Held::Names(names) => names.replace(name, inode),
+            Held::Bytes(_) => return Err(Errno::ENOENT),
+        };
+        had.ok_or(Errno::ENOENT)
+    }
+
+    /// What has the old name gets the new one in its place, which nothing has.
+    pub fn rename(&mut self, old: &str, new: &str) -> Result<(), Errno>
+        requires { IsName new.now }
+        ensures ok { OnOk result (self.new ≡ record self.old { names = renamed self.old.names old.now new.now }) }
+        ensures free { OnOk result (rename_refusals self.old.names old.now new.now ≡ []) }
+        ensures refused { IfErr result (Fails (rename_refusals self.old.names old.now new.now)) }
+        ensures err { OnErr result (self.new ≡ self.old) }
+    {
+        let names = match &mut self.held {
+            Held::Names(names) => names,
+            Held::Bytes(_) => return Err(Errno::ENOENT),
+        };
+        let Some(inode) = names.get(old) else {
+            return Err(Errno::ENOENT);
+        };
+        if names.has(new) {
+            return Err(Errno::EEXIST);
+        }
+        let Ok(()) = names.insert(self.alloc, new, inode) else {
+            return Err(Errno::NoMemory);
+        };
+        names.remove(old);
+        Ok(())
+    }
+
+    /// Takes the name away and tells what had it. Takes no memory.
+    pub fn remove(&mut self, name: &str) -> Result<u64, Errno>
+        ensures ok { OnOk result (self.new ≡ record self.old { names = remove self.old.names name.now }) }
+        ensures had { IfOk result (λ had. get self.old.names name.now ≡ Some had) }
+        ensures refused { IfErr result (λ errno. missing self.old.names name.now ≡ errno ∷ []) }
+        ensures err { OnErr result (self.new ≡ self.old) }
+    {
+        let had = match &mut self.held {
+            Held::Names(names) => names.remove(name),
+            Held::Bytes(_) => return Err(Errno::ENOENT),
+        };
+        had.ok_or(Errno::ENOENT)
+    }
+
+    /// The names, rising by bytes. What is no directory has none.
+    pub fn names(&self) -> Result<Listing, AllocError>
+        ensures { IfOk result (λ listing. listing ≡ map (λ (e : List ℕ × ℕ). e.0) (entries self.now.names)) }
+    {
+        match &self.held {
+            Held::Names(names) => names.names(self.alloc),
+            Held::Bytes(_) => Ok(Listing::new(self.alloc)),
+        }
+    }
+
+    /// At most so many bytes from the offset on: fewer or none at the end. A directory has none.
+    pub fn read_at(&self, offset: u64, count: u64) -> Result<Data, AllocError>
+        requires { count ≤ 4096 }
+        ensures { IfOk result (λ read. read ≡ take count (drop offset self.now.bytes)) }
+    {
+        match &self.held {
+            Held::Names(_) => Ok(Data::empty(self.alloc)),
+            Held::Bytes(bytes) => bytes.read(self.alloc, offset as usize, count as usize),
+        }
+    }
+
+    /// Puts the bytes in from the offset on, over what stands there. A gap before them is zeros; no bytes change nothing.
+    pub fn write_at(&mut self, offset: u64, bytes: &[u8]) -> Result<(), Errno>
+        requires { is_dir self.old.kind ≡ false }
+        ensures ok { OnOk result (self.new ≡ record self.old { bytes = written self.old.bytes offset bytes.now }) }
+        ensures free { OnOk result (write_refusals offset bytes.now ≡ []) }
+        ensures refused { IfErr result (Fails (write_refusals offset bytes.now)) }
+        ensures err { OnErr result (self.new ≡ self.old) }
+    {
+        let Held::Bytes(held) = &mut self.held else {
+            unreachable!();
+        };
+        if bytes.is_empty() {
+            return Ok(());
+        }
+        if ends_too_late(offset, bytes.len() as u64) {
+            return Err(Errno::EFBIG);
+        }
+        let Ok(()) = held.write(offset as usize, bytes) else {
+            return Err(Errno::NoMemory);
+        };
+        Ok(())
+    }
+
+    /// Cuts the bytes to this length, or fills them with zeros to it.
+    pub fn set_len(&mut self, len: u64) -> Result<(), Errno>
+        requires { is_dir self.old.kind ≡ false }
+        ensures ok { OnOk result (self.new ≡ record self.old { bytes = resized self.old.bytes len }) }
+        ensures free { OnOk result (len_refusals len ≡ []) }
+        ensures refused { IfErr result (Fails (len_refusals len)) }
+        ensures err { OnErr result (self.new ≡ self.old) }
+    {
+        let Held::Bytes(held) = &mut self.held else {
+            unreachable!();
+        };
+        if MOST_BYTES < len {
+            return Err(Errno::EFBIG);
+        }
+        let Ok(()) = held.set_len(len as usize) else {
+            return Err(Errno::NoMemory);
+        };
+        Ok(())
+    }
+}
