@@ -3,6 +3,7 @@ pub mod Chains
 pub mod Consequences
 pub mod DentryOrder
 pub mod Examples
+pub mod Histories
 pub mod Numbers
 pub mod Parted
 pub mod Results
