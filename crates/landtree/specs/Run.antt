@@ -1,5 +1,5 @@
 -- A whole run of a script. own
-use Rattle.std.specs.Prelude.{◌≡◌, ℕ, List, [], ◌∷◌, ◌++◌, Option, None, ◌⊎◌}
+use Rattle.std.specs.Prelude.{⊤, ◌≡◌, ℕ, List, [], ◌∷◌, ◌++◌, Option, None, ◌⊎◌}
 use Rattle.std.specs.Io.KnownBytes.{Appends}
 use Rattle.ll_rights.specs.declared.errno.Errno.TheVariants.{NoMemory}
 use Rattle.ll_seq.specs.declared.call.Call.TheVariants.{Connect}
@@ -8,7 +8,9 @@ use Rattle.ll_seq.specs.declared.reply.Reply.TheVariants.{Done, Refused}
 use Rattle.ll_seq.specs.State.{State, start}
 use Rattle.ll_seq.specs.Step.{step}
 use Rattle.ll_seq.specs.History.{IsLegal, state_after}
-use Rattle.ll_wire.specs.Grammar.{reply_line}
+use Rattle.landtree.specs.StubGrammar.{reply_line}
+use Rattle.landtree.specs.declared.fault.RunFault.{RunFault}
+use Rattle.landtree.specs.declared.fault.RunFault.TheVariants as run
 use Rattle.landtree.specs.declared.setup.Setup.{Setup}
 use Rattle.landtree.specs.Transcript.{Session, Called, Transcript, pieces}
 
@@ -38,6 +40,11 @@ Opens setup stopped = ⊥
 
 abbrev pub Lines : Session → List (List ℕ) → List ℕ → Session → Type 0
 Lines = Transcript (λ s. s.clients) Called
+
+-- The fault may end a run: there is an opening call to be refused, or the session has begun or can't
+abbrev pub MayEnd : Setup → RunFault → Type 0
+MayEnd setup run.Opening = Opens setup stopped
+MayEnd setup (run.Session fault) = ⊤
 
 -- What a run reads of its input, and what it writes: all of it and the transcript, or nothing and the refusal
 abbrev pub Runs : Setup → (input left text : List ℕ) → Type 0

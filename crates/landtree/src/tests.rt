@@ -1,8 +1,6 @@
-mod built;
-mod descriptors;
-mod moves;
-mod spelled;
-mod worked;
+//! Devices that fail, the words that are read, and the texts of the fault lines.
+//!
+//! The scenes are scripts, in worked/ at the top of the repository: the built program runs them.
 
 use crate::failure::Failure;
 use crate::fault::{RunFault, SessionFault};
@@ -10,238 +8,11 @@ use crate::fuse::{Sink, Source};
 use crate::options::Options;
 use crate::run::run_script;
 use crate::setup::Setup;
-use clap::error::ErrorKind;
+use ll_rights::Abi;
+use ll_seq::Rules;
 use std::test::Fail;
 
-const SETUP: Setup = Setup { nodes: 1024 };
-
-// What is written for a script over a tree of so many nodes.
-fn replies_over(rt: &HostRuntime, setup: &Setup, script: &[u8]) -> Result<Vec<u8>, Fail> {
-    let mut reader = script;
-    let mut out = Vec::new(rt.alloc());
-    run_script(rt.alloc(), setup, &mut reader, &mut out)?;
-    Ok(out)
-}
-
-// What is written for a script.
-fn replies(rt: &HostRuntime, script: &[u8]) -> Result<Vec<u8>, Fail> {
-    replies_over(rt, &SETUP, script)
-}
-
-// A name, a script and what is written for it.
-const EXAMPLES: &[(&str, &[u8], &[u8])] = &[
-    (
-        "one layer with one rule",
-        b"\
-make dir /a
-make reg /a/f
-make dir /b
-make reg /b/f
-ruleset read_file
-allow 0 /a read_file
-confine 0
-open r /a/f
-open r /b/f
-",
-        b"\
-ok
-ok
-ok
-ok
-ruleset 0
-ok
-ok
-fd 0
-denied EACCES layer 1 read_file at
-",
-    ),
-    (
-        "layers are not joined",
-        b"\
-make reg /f
-ruleset write_file,read_file
-allow 0 /f read_file
-confine 0
-ruleset write_file,read_file
-allow 1 /f write_file
-confine 1
-open rw /f
-open r /f
-allow 0 /f write_file
-open w /f
-",
-        b"\
-ok
-ruleset 0
-ok
-ok
-ruleset 1
-ok
-ok
-denied EACCES layer 1 write_file at
-denied EACCES layer 2 read_file at
-ok
-denied EACCES layer 1 write_file at
-",
-    ),
-    (
-        "refused rulesets, and sixteen layers",
-        b"\
-make reg /f
-ruleset none
-ruleset 0x8000
-ruleset make_reg
-allow 0 /f make_reg
-allow 0 / none
-allow 0 / execute
-confine 0
-confine 0
-confine 0
-confine 0
-confine 0
-confine 0
-confine 0
-confine 0
-confine 0
-confine 0
-confine 0
-confine 0
-confine 0
-confine 0
-confine 0
-confine 0
-confine 0
-",
-        b"\
-ok
-refused 20 ENOMSG
-refused 8 EINVAL
-ruleset 0
-refused 8 EINVAL
-refused 20 ENOMSG
-refused 8 EINVAL
-ok
-ok
-ok
-ok
-ok
-ok
-ok
-ok
-ok
-ok
-ok
-ok
-ok
-ok
-ok
-ok
-refused 19 E2BIG
-",
-    ),
-    ("an empty script", b"", b""),
-    ("no line feed", b"stat /", b"refused 23 BadLine\n"),
-    ("two spaces", b"stat  /\n", b"refused 23 BadLine\n"),
-    (
-        "texts of rights",
-        b"\
-ruleset none
-ruleset execute
-ruleset write_file,read_file
-ruleset read_file,remove_file,refer
-ruleset execute,write_file,read_file,truncate
-ruleset 0x8000
-ruleset 0x8001
-ruleset read_file,write_file
-ruleset 0x4
-",
-        b"\
-refused 20 ENOMSG
-ruleset 0
-ruleset 1
-ruleset 2
-ruleset 3
-refused 8 EINVAL
-refused 8 EINVAL
-refused 23 BadLine
-refused 23 BadLine
-",
-    ),
-    (
-        "nearly calls",
-        b"\
-@1 stat /
-@02 stat /
-open t /f
-open rx /f
-write 0 0 6
-",
-        b"\
-refused 23 BadLine
-refused 23 BadLine
-refused 23 BadLine
-refused 23 BadLine
-refused 23 BadLine
-",
-    ),
-];
-
-#[test]
-fn examples(rt: HostRuntime) -> Result<(), Fail> {
-    for (name, script, want) in EXAMPLES {
-        let out = replies(&rt, script)?;
-        assert_eq!(rt; out.as_slice(), *want, "{name}");
-    }
-    Ok(())
-}
-
-// A path with a name of this many bytes, and one more line.
-fn long_script(rt: &HostRuntime, bytes: usize) -> Result<Vec<u8>, Fail> {
-    let mut script = Vec::new(rt.alloc());
-    script.extend_from_slice(b"make dir /")?;
-    for _ in 0..bytes {
-        script.push(b'a')?;
-    }
-    script.extend_from_slice(b"\nconfine 0\n")?;
-    Ok(script)
-}
-
-#[test]
-fn long_lines(rt: HostRuntime) -> Result<(), Fail> {
-    for bytes in [8_000usize, 16_373, 16_374, 40_000] {
-        let script = long_script(&rt, bytes)?;
-        let out = replies(&rt, script.as_slice())?;
-        assert_eq!(rt;
-            out.as_slice(),
-            b"refused 23 BadLine\nrefused 11 EBADF\n".as_slice(),
-            "{bytes}"
-        );
-    }
-    Ok(())
-}
-
-// Hexadecimal digits of 4,097 bytes, one more than data may have.
-#[test]
-fn too_much_hexadecimal(rt: HostRuntime) -> Result<(), Fail> {
-    let mut script = Vec::new(rt.alloc());
-    script.extend_from_slice(b"write 0 0 ")?;
-    for _ in 0..8_194 {
-        script.push(b'0')?;
-    }
-    script.push(b'\n')?;
-    let out = replies(&rt, script.as_slice())?;
-    assert_eq!(rt; out.as_slice(), b"refused 23 BadLine\n".as_slice());
-    Ok(())
-}
-
-// The root is one of the two nodes.
-#[test]
-fn full_tree(rt: HostRuntime) -> Result<(), Fail> {
-    let setup = Setup { nodes: 2 };
-    let out = replies_over(&rt, &setup, b"make reg /a\nmake reg /b\n")?;
-    assert_eq!(rt; out.as_slice(), b"ok\nrefused 13 ENOSPC\n".as_slice());
-    Ok(())
-}
+const SETUP: Setup = Setup { rules: Rules { abi: Abi::NEWEST, copies: true }, nodes: 1024 };
 
 const TEN_LINES: &[u8] = b"\
 make dir /a
@@ -323,74 +94,17 @@ fn asked<'a>(rt: &HostRuntime, words: &'a [&'a str]) -> Option<(&'a str, usize)>
     }
 }
 
-// The kind of clap's error at the words, if there is one.
-fn refusal(rt: &HostRuntime, words: &[&str]) -> Option<ErrorKind> {
-    match Options::read(rt.alloc(), words) {
-        Ok(_) => None,
-        Err(error) => Some(error.kind()),
-    }
-}
-
 #[test]
 fn words(rt: HostRuntime) {
-    let read: [(&[&str], (&str, usize)); 9] = [
-        (&["landtree", "run", "-"], ("-", 1024)),
-        (&["landtree", "run", "s"], ("s", 1024)),
-        (&["landtree", "run", "s", "--nodes", "2"], ("s", 2)),
-        (&["landtree", "run", "--nodes", "2", "s"], ("s", 2)),
-        (&["landtree", "run", "s", "--nodes=2"], ("s", 2)),
-        (&["landtree", "run", "s", "--nodes", "1"], ("s", 1)),
-        (&["landtree", "run", "s", "--nodes", "4096"], ("s", 4096)),
-        // As Rust reads a number.
-        (&["landtree", "run", "s", "--nodes", "+2"], ("s", 2)),
-        (&["landtree", "run", "s", "--nodes", "0002"], ("s", 2)),
+    let table: [(&[&str], Option<(&str, usize)>); 5] = [
+        (&["landtree", "run", "-"], Some(("-", 1024))),
+        (&["landtree", "run", "s", "--nodes", "2"], Some(("s", 2))),
+        (&["landtree", "run", "--nodes=4096", "s"], Some(("s", 4096))),
+        (&["landtree", "run", "s", "--nodes", "4097"], None),
+        (&["landtree", "run"], None),
     ];
-    for (words, want) in read {
-        assert_eq!(rt; asked(&rt, words), Some(want), "{words:?}");
-    }
-}
-
-#[test]
-fn refused_words(rt: HostRuntime) {
-    let refused: [(&[&str], ErrorKind); 6] = [
-        (&["landtree"], ErrorKind::MissingSubcommand),
-        (&["landtree", "run"], ErrorKind::MissingRequiredArgument),
-        (&["landtree", "run", "a", "b"], ErrorKind::UnknownArgument),
-        (&["landtree", "--nodes"], ErrorKind::UnknownArgument),
-        (&["landtree", "--help"], ErrorKind::DisplayHelp),
-        (&["landtree", "--version"], ErrorKind::DisplayVersion),
-    ];
-    for (words, kind) in refused {
-        assert!(rt; refusal(&rt, words) == Some(kind), "{words:?}");
-    }
-}
-
-#[test]
-fn refused_nodes(rt: HostRuntime) {
-    let values = ["0", "4097", "x", "0x2", "", "99999999999999999999"];
-    for value in values {
-        let words = ["landtree", "run", "s", "--nodes", value];
-        assert!(rt;
-            refusal(&rt, words.as_slice()) == Some(ErrorKind::ValueValidation),
-            "{value}"
-        );
-    }
-    let refused: [(&[&str], ErrorKind); 3] = [
-        (
-            &["landtree", "run", "s", "--nodes"],
-            ErrorKind::InvalidValue,
-        ),
-        (
-            &["landtree", "run", "s", "--nodes", "-1"],
-            ErrorKind::UnknownArgument,
-        ),
-        (
-            &["landtree", "run", "s", "--nodes", "2", "--nodes", "3"],
-            ErrorKind::ArgumentConflict,
-        ),
-    ];
-    for (words, kind) in refused {
-        assert!(rt; refusal(&rt, words) == Some(kind), "{words:?}");
+    for (words, want) in table {
+        assert_eq!(rt; asked(&rt, words), want, "{words:?}");
     }
 }
 

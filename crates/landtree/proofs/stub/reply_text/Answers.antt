@@ -1,0 +1,4 @@
+use Rattle.landtree.proofs.stub.reply_text.Goals as goal
+
+pub returns : goal.returns
+returns c = ?
