@@ -3,7 +3,7 @@ use Rattle.std.proofs.Common.{◌≡◌, ◌≢◌, ℕ, List, [], ◌∷◌, �
 use Rattle.std.proofs.lemmas.List.{append-nil}
 use Rattle.ll_seq.specs.declared.reply.Reply.{Reply}
 use Rattle.landtree.specs.declared.tree.SessionTree.{SessionTree}
-use Rattle.landtree.specs.StubGrammar.{reply_line}
+use Rattle.ll_wire.specs.Grammar.{reply_line}
 use Rattle.landtree.specs.declared.line.Line.{Line}
 use Rattle.landtree.specs.declared.session.OpenSession.{OpenSession}
 use Rattle.landtree.specs.Transcript.{Session, pieces}

@@ -4,7 +4,7 @@ use Rattle.std.specs.Prelude.{IfSome, OnErr, Result, Ok, Err}
 use Rattle.std.specs.Io.KnownBytes.{Appends}
 use Rattle.std.proofs.lemmas.List.{append-nil}
 use Rattle.landtree.specs.declared.tree.SessionTree.{SessionTree}
-use Rattle.landtree.specs.StubGrammar.{reply_line}
+use Rattle.ll_wire.specs.Grammar.{reply_line}
 use Rattle.ll_seq.specs.declared.reply.Reply.{Reply}
 use Rattle.landtree.specs.declared.setup.Setup.{Setup}
 use Rattle.landtree.specs.declared.session.OpenSession.{OpenSession}

@@ -15,7 +15,7 @@ use Rattle.ll_seq.specs.State.{State, start}
 use Rattle.ll_seq.specs.Step.{step, first_or, refusals, client_of}
 use Rattle.ll_seq.proofs.Consequences.{step-clients_stay, step-spawned}
 use Rattle.ll_seq.proofs.Histories.{after_push, legal_append}
-use Rattle.landtree.specs.StubGrammar.{IsCall}
+use Rattle.ll_wire.specs.Grammar.{IsCall}
 use Rattle.landtree.specs.declared.setup.Setup.{Setup}
 use Rattle.landtree.specs.Run.{Lines, RunsLegally, joined}
 use Rattle.landtree.specs.Transcript.{Session, Called, Answers, answered, full, starved, calls, unread, bad, brought}

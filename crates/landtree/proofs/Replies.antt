@@ -11,9 +11,9 @@ use Rattle.ll_seq.specs.declared.reply.Reply.TheVariants.{Refused, Spawned}
 use Rattle.ll_seq.specs.State.{State}
 use Rattle.ll_seq.specs.Stages.{numbers_from}
 use Rattle.ll_seq.specs.Step.{step, refusals, client_of}
-use Rattle.landtree.specs.StubMemory.{takes_memory}
-use Rattle.landtree.specs.StubGrammar.{SpellsCommand}
-use Rattle.landtree.specs.StubReads.{ReadsBy, holds_text}
+use Rattle.ll_plain.specs.Memory.{takes_memory}
+use Rattle.ll_wire.specs.Grammar.{SpellsCommand}
+use Rattle.ll_wire.specs.Reads.{ReadsBy, holds_text}
 use Rattle.landtree.specs.declared.line.Line.{Line}
 use Rattle.landtree.specs.declared.tree.SessionTree.{SessionTree}
 use Rattle.landtree.specs.Transcript.{Session, IsFull, MayStarve, brought, next, answered, starved, calls, unread, bad}

@@ -4,7 +4,7 @@ use Rattle.std.specs.List.{AllByRecursion}
 use Rattle.std.specs.Io.KnownBytes.{Appends}
 use Rattle.ll_seq.specs.declared.reply.Reply.{Reply}
 use Rattle.ll_seq.specs.Stages.{numbers_from}
-use Rattle.landtree.specs.StubGrammar.{reply_line}
+use Rattle.ll_wire.specs.Grammar.{reply_line}
 use Rattle.landtree.specs.declared.fault.SessionFault.{SessionFault}
 use Rattle.landtree.specs.declared.fault.SessionFault.TheVariants as fault
 use Rattle.landtree.specs.declared.line.Line.{Line}

@@ -8,7 +8,7 @@ use Rattle.ll_seq.specs.declared.reply.Reply.TheVariants.{Done, Refused}
 use Rattle.ll_seq.specs.State.{State, start}
 use Rattle.ll_seq.specs.Step.{step}
 use Rattle.ll_seq.specs.History.{IsLegal, state_after}
-use Rattle.landtree.specs.StubGrammar.{reply_line}
+use Rattle.ll_wire.specs.Grammar.{reply_line}
 use Rattle.landtree.specs.declared.fault.RunFault.{RunFault}
 use Rattle.landtree.specs.declared.fault.RunFault.TheVariants as run
 use Rattle.landtree.specs.declared.setup.Setup.{Setup}

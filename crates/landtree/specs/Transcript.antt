@@ -9,9 +9,9 @@ use Rattle.ll_seq.specs.declared.reply.Entry.{Entry}
 use Rattle.ll_rights.specs.Map.{has}
 use Rattle.ll_seq.specs.State.{State}
 use Rattle.ll_seq.specs.Step.{step, refusals, client_of}
-use Rattle.landtree.specs.StubMemory.{takes_memory}
-use Rattle.landtree.specs.StubGrammar.{SpellsCommand, reply_line}
-use Rattle.landtree.specs.StubReads.{holds_text}
+use Rattle.ll_plain.specs.Memory.{takes_memory}
+use Rattle.ll_wire.specs.Grammar.{SpellsCommand, reply_line}
+use Rattle.ll_wire.specs.Reads.{holds_text}
 
 -- A stream is cut after each line feed. What stands after the last one is a piece too
 abbrev pub pieces : List ℕ → List (List ℕ)

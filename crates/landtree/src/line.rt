@@ -3,7 +3,7 @@
 ghost use Rattle.std.specs.Prelude.{◌≡◌, [], ◌∷◌, ◌++◌, ℕ, List, OnOk, IfOk, MatchBool, false};
 ghost use Rattle.landtree.specs.Progress.{Holds};
 
-use crate::stub::LINE_LIMIT;
+use ll_wire::LINE_LIMIT;
 use std::alloc::{AllocError, Global};
 
 /// The bytes since the last line feed. Of a line that is too long only that it is.

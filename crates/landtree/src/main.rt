@@ -14,7 +14,6 @@ mod run;
 mod script;
 mod session;
 mod setup;
-mod stub;
 #[cfg(test)]
 mod tests;
 mod tree;

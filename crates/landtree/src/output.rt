@@ -2,12 +2,12 @@
 
 ghost use Rattle.std.specs.Prelude.{◌≡◌, IfErr, OnOk, OnErr};
 ghost use Rattle.std.specs.Io.KnownBytes.{Appends};
-ghost use Rattle.landtree.specs.StubGrammar.{IsReply, reply_line};
+ghost use Rattle.ll_wire.specs.Grammar.{IsReply, reply_line};
 ghost use Rattle.landtree.specs.declared.fault.SessionFault.{SessionFault};
 ghost use Rattle.landtree.specs.Progress.{AppendsFront, IsOfWriting};
 
 use crate::fault::SessionFault;
-use crate::stub::reply_text;
+use ll_wire::reply_text;
 use ll_seq::Reply;
 use std::alloc::Global;
 use std::io::Write;

@@ -6,7 +6,8 @@ use crate::fault::SessionFault;
 use crate::line::Line;
 use crate::output::write_reply;
 use crate::setup::Setup;
-use crate::stub::{Plain, read_command};
+use ll_plain::Plain;
+use ll_wire::read_command;
 use crate::tree::SessionTree;
 use ll_rights::Errno;
 use ll_seq::Reply;
@@ -30,7 +31,7 @@ pub enum Opened {
 }
 
 impl OpenSession {
-    ghost use Rattle.landtree.specs.StubGrammar.{IsReply};
+    ghost use Rattle.ll_wire.specs.Grammar.{IsReply};
     ghost use Rattle.landtree.specs.declared.fault.SessionFault.{SessionFault};
     ghost use Rattle.landtree.specs.Transcript.{Session};
     ghost use Rattle.landtree.specs.Run.{joined, Opens, refused};

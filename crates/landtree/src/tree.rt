@@ -7,10 +7,10 @@ ghost use Rattle.ll_seq.specs.State.{State, start};
 ghost use Rattle.ll_seq.specs.Step.{step, refusals, client_of, IsAnswer};
 ghost use Rattle.ll_seq.specs.History.{is_connect};
 ghost use Rattle.ll_seq.specs.declared.reply.Reply.{Reply};
-ghost use Rattle.landtree.specs.StubMemory.{takes_memory};
+ghost use Rattle.ll_plain.specs.Memory.{takes_memory};
 ghost use Rattle.landtree.specs.Transcript.{brought};
 
-use crate::stub::Plain;
+use ll_plain::Plain;
 use ll_seq::{Call, Reply};
 
 /// The number of the session's first client.

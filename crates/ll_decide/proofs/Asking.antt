@@ -12,7 +12,7 @@ use Rattle.ll_decide.specs.declared.demands.Way.{Way}
 use Rattle.ll_decide.specs.declared.demands.Way.TheVariants.{There, Back}
 use Rattle.ll_decide.specs.declared.denial.Place.{Place}
 use Rattle.ll_decide.specs.declared.denial.Place.TheVariants.{At, Old, New}
-use Rattle.ll_decide.specs.Demands.{AreAsks, AreMoves, ask_on, move_on, place_on, set_of, misses, lacking, gaining, of_itself}
+use Rattle.ll_decide.specs.Demands.{AreAsks, AreMoves, ask_on, move_on, place_on, misses, lacking, gaining, of_itself}
 use Rattle.ll_decide.specs.Verdict.{Ask, Move, lacks, gains, is_at, when}
 use Rattle.ll_decide.proofs.Bits.{holds-or}
 

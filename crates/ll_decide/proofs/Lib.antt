@@ -2,4 +2,5 @@ pub mod Asking
 pub mod Bits
 pub mod Carried
 pub mod Finding
+pub mod Mapped
 pub mod Sets

@@ -1,5 +1,5 @@
 -- The verdict by sets, by masks and along chains.
-use Rattle.std.specs.Prelude.{◌≡◌, ℕ, zero, suc, ◌+◌, ◌-◌, ◌^◌, ◌<◌, Bool, false, not, ◌&&◌, ◌||◌, ◌==◌, List, [], ◌∷◌, ◌++◌, length, Option, Some, None, slice_get, slice_index, bit_and, bit_or, refl}
+use Rattle.std.specs.Prelude.{◌≡◌, ℕ, zero, suc, ◌+◌, ◌-◌, ◌^◌, ◌<◌, Bool, false, not, ◌&&◌, ◌||◌, ◌==◌, List, [], ◌∷◌, ◌++◌, length, None, slice_get, slice_index, bit_and, bit_or, refl}
 use Rattle.std.specs.List.{AllByRecursion, flat_map, enumerate_from, range_with_len, list_any}
 use Rattle.std.proofs.Common.{ap, sym, ◌∙◌, get_or, lit<, arith}
 use Rattle.ll_rights.specs.Right.{refer, all_rights}
@@ -15,12 +15,11 @@ use Rattle.ll_decide.specs.declared.denial.Place.TheVariants.{At, Old, New}
 use Rattle.ll_decide.specs.declared.judge.Denied.{Denied}
 use Rattle.ll_decide.specs.declared.judge.Granted.{Granted}
 use Rattle.ll_decide.specs.declared.judge.Reason.TheVariants.{Lacks, Gains}
-use Rattle.ll_decide.specs.Demands.{AreAsks, AreMoves, set_on, set_of, lacking, gaining}
-use Rattle.ll_decide.specs.Demands.{misses}
-use Rattle.ll_decide.specs.Judge.{AreGranted, masks_on, grants_by, grants_along}
+use Rattle.ll_decide.specs.Demands.{AreAsks, AreMoves, lacking, gaining}
+use Rattle.ll_decide.specs.Judge.{AreGranted, grants_by, grants_along}
 use Rattle.ll_decide.specs.Masks.{IsMask, AreMasks}
-use Rattle.ll_decide.specs.Search.{is_in, fails, of_place, of_right, of_layer, layers_of, of_all, by_masks}
-use Rattle.ll_decide.specs.Verdict.{Ask, Move, when, is_at, places, rights_without_refer, denials, lacks, gains, all_denials, verdict}
+use Rattle.ll_decide.specs.Search.{is_in, fails, of_right, of_layer, layers_of, by_masks}
+use Rattle.ll_decide.specs.Verdict.{Ask, Move, when, is_at, places, rights_without_refer, denials, lacks, gains, verdict}
 use Rattle.ll_decide.proofs.Asking.{holds_none}
 use Rattle.ll_decide.proofs.Bits.{holds-and, holds-or, holds-not}
 use Rattle.ll_decide.proofs.Carried.{length-masks}

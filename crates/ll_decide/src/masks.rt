@@ -4,6 +4,7 @@ ghost use Rattle.std.specs.Prelude.{◌≡◌, ℕ, ◌<◌, List, [], ◌∷◌
 ghost use Rattle.ll_decide.specs.Masks.{IsMask, AreMasks, numbers_of};
 
 use ll_rights::Access;
+use ll_rights::limits::DOMAIN_LAYERS;
 use ll_rules::{Domain, Layer};
 use smallvec::SmallVec;
 use std::alloc::Global;
@@ -13,7 +14,7 @@ use std::marker::Model;
 /// inodes. Contracts see the sets as numbers. It takes no memory.
 #[derive(Drop)]
 pub struct Masks {
-    masks: SmallVec<Mask, 16>,
+    masks: SmallVec<Mask, DOMAIN_LAYERS>,
 }
 
 impl Model for Masks {
@@ -22,11 +23,12 @@ impl Model for Masks {
     ghost Value = { List ℕ };
 
     ghost use Rattle.ll_decide.specs.Masks.{numbers_of};
+    ghost use Rattle.ll_rights.specs.declared.limits.TheConstants.{DOMAIN_LAYERS};
 
     ghost view = { λ all. numbers_of all.masks.items };
 
     // All stand in the inline places.
-    ghost invariant = { λ all. (length all.masks.items ≤ 16) × (all.masks.capacity ≡ 16) };
+    ghost invariant = { λ all. (length all.masks.items ≤ DOMAIN_LAYERS) × (all.masks.capacity ≡ DOMAIN_LAYERS) };
 }
 
 const ROOT: u64 = 1;
@@ -49,9 +51,9 @@ impl Masks {
         }
     }
 
-    /// What the next newer layer grants. A domain has at most 16 layers.
+    /// What the next newer layer grants.
     pub fn push(&mut self, rights: Access)
-        requires { length self.old < 16 }
+        requires { length self.old < DOMAIN_LAYERS }
         ensures { self.new ≡ self.old ++ rights.0 ∷ [] }
     {
         self.masks.push_reserved(Mask { rights });
@@ -72,7 +74,7 @@ impl Masks {
         ensures { AreMasks result domain.now [] }
     {
         // There is a place for each layer.
-        prove!(domain.len() <= 16);
+        prove!(domain.len() <= DOMAIN_LAYERS);
         let mut masks = Masks::empty(alloc);
         for layer in domain.layers() {
             masks.push(unrestricted(layer));

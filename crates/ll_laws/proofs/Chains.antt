@@ -1,16 +1,15 @@
 -- Chains of entries: their parts, and what one entry more does to them.
-use Rattle.std.specs.Prelude.{◌≡◌, ◌≢◌, ◌⊎◌, ℕ, Bool, true, false, ◌||◌, List, [], ◌∷◌, ◌++◌, Some, None, unwrap_or, option_and_then, refl}
+use Rattle.std.specs.Prelude.{◌≡◌, ◌≢◌, ◌⊎◌, ℕ, Bool, true, false, ◌||◌, [], ◌∷◌, ◌++◌, Some, None, unwrap_or, option_and_then, refl}
 use Rattle.std.specs.Option.{option_map_or}
 use Rattle.std.specs.List.{list_any}
 use Rattle.std.proofs.Common.{sym, subst, ap, ◌∙◌, inl, inr, append_assoc}
 use Rattle.std.proofs.lemmas.List.{append-nil}
-use Rattle.std.proofs.lemmas.List.Folds.{list_any-append}
 use Rattle.ll_rights.specs.declared.kind.Kind.{Kind}
 use Rattle.ll_rights.specs.declared.kind.Kind.TheVariants.{Dir}
 use Rattle.ll_path.specs.Path.{Path}
 use Rattle.ll_seq.specs.State.{Name, State, child, root, kind_of}
 use Rattle.ll_seq.specs.Tree.{end_from, chain_from}
-use Rattle.ll_seq.proofs.Parted.{or_split, or_left, or_right, end_push, chain_push}
+use Rattle.ll_seq.proofs.Parted.{or_split, or_left, or_right, end_push, chain_push, any_push}
 
 pub same_Some : {A : Type 0} (x y : A) → Some x ≡ Some y → x ≡ y
 same_Some x y e = ap (λ o. unwrap_or o x) e
@@ -54,19 +53,6 @@ module _ (s : State) where
         | Some j ↦ λ g. or_right (f i) (list_any f (chain_from s (p ++ q) j)) (chain_back f p q j x g h)
       ] e
 
--- ---- a path is empty or has a last name
-
-pub data Snoc : Path → Type 0 where
-  nil : Snoc []
-  push : {p : Path} → Snoc p → (n : Name) → Snoc (p ++ n ∷ [])
-
-snoc_on : (q : Path) {p : Path} → Snoc p → Snoc (p ++ q)
-snoc_on [] {p} v = subst Snoc (sym (append-nil p)) v
-snoc_on (n ∷ q) {p} v = subst Snoc (append_assoc p (n ∷ []) q) (snoc_on q (push v n))
-
-pub snoc : (p : Path) → Snoc p
-snoc p = snoc_on p nil
-
 -- ---- new entries
 
 -- In t, each entry is one of s or a new one, and no new one's directory is beneath the node of another, or its own
@@ -91,19 +77,15 @@ abbrev pub Before : State → State → (ℕ → Name → ℕ → Type 0) → Pa
 Before s t Fresh q x = ((end_from s q root ≡ Some x) × (chain_from t q root ≡ chain_from s q root)) ⊎ Beyond s t Fresh q x
 
 module _ (s t : State) (Fresh : ℕ → Name → ℕ → Type 0) (more : MoreEntries s t Fresh) where
-  any_push : (f : ℕ → Bool) (xs ys : List ℕ) (z : ℕ) → xs ≡ ys ++ z ∷ [] → list_any f xs ≡ true → (list_any f ys ≡ true) ⊎ (f z ≡ true)
-  any_push f xs ys z e h =
-      elim (or_split (list_any f ys) (f z || false) (sym (list_any-append f ys (z ∷ [])) ∙ ap (list_any f) (sym e) ∙ h)) [
-        | inl a ↦ inl a
-        | inr b ↦ inr (elim (f z) as (λ c. (c || false) ≡ true → c ≡ true) [ true ↦ λ _. refl | false ↦ λ g. g ] b)
-      ]
-
   -- one entry further
   further : (q : Path) (m : Name) (x y : ℕ) → end_from t q root ≡ Some x → child t x m ≡ Some y → Before s t Fresh q x → Before s t Fresh (q ++ m ∷ []) y
   further q m x y e c b = by b (more.entries x m y c)
     where
       pushed : chain_from t (q ++ m ∷ []) root ≡ chain_from t q root ++ y ∷ []
       pushed = chain_push t q m root x y e c
+
+      on_pushed : (f : ℕ → Bool) → list_any f (chain_from t (q ++ m ∷ []) root) ≡ true → (list_any f (chain_from t q root) ≡ true) ⊎ (f y ≡ true)
+      on_pushed f h = or_split _ _ (sym (any_push t f q m root x y e c) ∙ h)
 
       by : Before s t Fresh q x → (child s x m ≡ Some y) ⊎ Fresh x m y → Before s t Fresh (q ++ m ∷ []) y
       by (inl a) (inl old) =
@@ -118,7 +100,7 @@ module _ (s t : State) (Fresh : ℕ → Name → ℕ → Type 0) (more : MoreEnt
             named = a.0;
             tail = [];
             end = refl;
-            passed = λ f h. elim (any_push f _ _ y pushed h) [ inl g ↦ inl (ap (list_any f) (sym a.1) ∙ g) | inr g ↦ inr (or_left _ _ g) ];
+            passed = λ f h. elim (on_pushed f h) [ inl g ↦ inl (ap (list_any f) (sym a.1) ∙ g) | inr g ↦ inr (or_left _ _ g) ];
           })
       by (inr a) (inl old) =
           inr (record {
@@ -130,9 +112,9 @@ module _ (s t : State) (Fresh : ℕ → Name → ℕ → Type 0) (more : MoreEnt
             named = a.named;
             tail = a.tail ++ m ∷ [];
             end = end_push s a.tail m a.node x y a.end old;
-            passed = λ f h. elim (any_push f _ _ y pushed h) [
+            passed = λ f h. elim (on_pushed f h) [
               | inl g ↦ elim (a.passed f g) [ inl k ↦ inl k | inr k ↦ inr (chain_front s f a.tail (m ∷ []) a.node x a.end k) ]
-              | inr g ↦ inr (ap (list_any f) (chain_push s a.tail m a.node x y a.end old) ∙ list_any-append f _ (y ∷ []) ∙ or_right _ _ (or_left _ _ g))
+              | inr g ↦ inr (any_push s f a.tail m a.node x y a.end old ∙ or_right _ _ g)
             ];
           })
       by (inr a) (inr new) = absurd (more.away a.directory a.name a.node a.new x m y new a.tail a.end)

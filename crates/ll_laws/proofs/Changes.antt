@@ -1,5 +1,5 @@
 -- How each call that isn't refused changes the tree.
-use Rattle.std.specs.Prelude.{◌≡◌, ◌≢◌, ◌⊎◌, ℕ, ◌<◌, Bool, true, false, cond, not, ◌||◌, ◌==◌, List, [], ◌∷◌, ◌++◌, length, Option, Some, None, option_map, option_and_then, filter, refl, Contains}
+use Rattle.std.specs.Prelude.{◌≡◌, ◌≢◌, ◌⊎◌, ℕ, ◌<◌, Bool, true, false, cond, not, ◌||◌, ◌&&◌, ◌==◌, List, [], ◌∷◌, ◌++◌, length, Option, Some, None, option_map, option_and_then, filter, refl, Contains}
 use Rattle.std.specs.Option.{option_map_or}
 use Rattle.std.specs.Ordering.{eq_by_cmp}
 use Rattle.std.specs.Cmp.{nat_cmp_total}
@@ -10,6 +10,7 @@ use Rattle.std.proofs.lemmas.Bool.{eq-eqb, eqb-true}
 use Rattle.ll_rights.specs.declared.kind.Kind.{Kind}
 use Rattle.ll_rights.specs.Map.{get, insert, remove, entries}
 use Rattle.ll_rights.proofs.Maps.{get-insert_same, get-insert_other, get-remove_other, insert_cases, got_inserted, got_left}
+use Rattle.ll_path.specs.Name.{same_name}
 use Rattle.ll_path.specs.Path.{Path, parent, last_name, is_root, is_beneath}
 use Rattle.ll_rules.specs.Layer.{Layer}
 use Rattle.ll_seq.specs.declared.client.ClientRecord.{ClientRecord}
@@ -18,12 +19,12 @@ use Rattle.ll_seq.specs.declared.node.Node.{Node}
 use Rattle.ll_seq.specs.State.{Name, dentry, dentry_cmp, State, child, root, kind_of, empty_node, name_count, is_open}
 use Rattle.ll_seq.specs.Tree.{end_from, named, inode_of}
 use Rattle.ll_seq.specs.Asked.{grants}
-use Rattle.ll_seq.specs.Effects.{dentry_of, lives, let_go, with_name, with_moved, with_node, without_name, with_bytes, with_client}
+use Rattle.ll_seq.specs.Effects.{dentry_of, lives, let_go, with_name, with_moved, with_node, without_name, with_bytes, with_client, exchanged}
 use Rattle.ll_seq.specs.Reach.{is_relevant}
 use Rattle.ll_seq.proofs.DentryOrder.{dentry_total, dentry_exact}
 use Rattle.ll_seq.proofs.Chains.{end_append}
 use Rattle.ll_laws.proofs.Chains.{same_Some, NotFile}
-use Rattle.ll_laws.proofs.Trees.{IsTree, Shrinks, Adds, Moves, Change, shrinks, adds, moves, only_path, At}
+use Rattle.ll_laws.proofs.Trees.{IsTree, Shrinks, Adds, Enters, Moves, Change, shrinks, adds, moves, only_path, At}
 use Rattle.ll_laws.proofs.Stages.{neither, inode_is, parent_last, last_child, beneath_append}
 
 -- ---- the same tree
@@ -41,17 +42,17 @@ same_tree s t e k n = record {
 pub more_change : (s t u : State) (domain : List Layer) → u.entries ≡ t.entries → u.nodes ≡ t.nodes → u.next ≡ t.next → Change s t domain → Change s u domain
 more_change s t u domain a b c h =
     subst (λ z. Change s z domain)
-    (λ i. record { entries = sym a i; nodes = sym b i; next = sym c i; room = u.room; clients = u.clients })
+    (λ i. record { entries = sym a i; nodes = sym b i; next = sym c i; room = u.room; rules = u.rules; clients = u.clients })
     (alike h)
   where
     v : State
-    v = record { entries = t.entries; nodes = t.nodes; next = t.next; room = u.room; clients = u.clients }
+    v = record { entries = t.entries; nodes = t.nodes; next = t.next; room = u.room; rules = u.rules; clients = u.clients }
 
     alike : Change s t domain → Change s v domain
     alike (shrinks g) = shrinks (record { entries = g.entries; kinds = g.kinds; kept = g.kept; top = g.top; next = g.next })
     alike (adds d n g) = adds d n (record { more = record { entries = g.more.entries; away = g.more.away }; kinds = g.kinds; kept = g.kept; fresh = g.fresh; next = g.next; dir = g.dir; below = g.below })
     alike (moves Fresh g) =
-        moves Fresh (record { more = record { entries = g.more.entries; away = g.more.away }; alone = g.alone; kinds = g.kinds; kept = g.kept; top = g.top; next = g.next; dir = g.dir; below = g.below; not_root = g.not_root; node = g.node; held = g.held })
+        moves Fresh (record { more = record { entries = g.more.entries; away = g.more.away }; alone = g.alone; kinds = g.kinds; kept = g.kept; top = g.top; next = g.next; enters = g.enters })
 
 -- ---- a node that goes
 
@@ -121,11 +122,7 @@ moves_after s t u domain Fresh g h = record {
   kept = λ e m x c. h.kept e m x c ∙ g.kept e m x (h.entries e m x c);
   top = h.top ∙ g.top;
   next = h.next ∙ g.next;
-  dir = g.dir;
-  below = g.below;
-  not_root = g.not_root;
-  node = g.node;
-  held = g.held;
+  enters = g.enters;
 }
 
 -- ---- a name that goes
@@ -233,6 +230,17 @@ module _ (s : State) (domain : List Layer) (from to : Path) (c d o : ℕ) (t : I
   abbrev new_entry : ℕ → Name → ℕ → Type 0
   new_entry = At d (last_name to) o
 
+  enters : (e : ℕ) (m : Name) (x : ℕ) → new_entry e m x → Enters s domain e x
+  enters e m x w = subst (λ z. Enters s domain z x) (sym w.0) (subst (Enters s domain d) (sym w.2) (record {
+    dir = h.there.dir;
+    below = end_below s t (parent to) root d t.above h.there.named;
+    not_root = λ is. t.rootless c (last_name from) (old_entry ∙ ap Some is);
+    node = t.known c (last_name from) o old_entry;
+    held = λ layer l p e.
+        let same : p ≡ parent to = only_path s t p (parent to) d h.there.dir e h.there.named in
+        (from, h.at, λ right r g. h.held layer l right r (ap (λ z. grants s layer z right) (sym same) ∙ g));
+  }))
+
   -- a state in which the entries are those of s, some of them, and the new one
   moved : (u : State) → u.nodes ≡ s.nodes → u.next ≡ s.next
       → ((e : ℕ) (m : Name) (x : ℕ) → child u e m ≡ Some x → (child s e m ≡ Some x) ⊎ new_entry e m x)
@@ -247,13 +255,7 @@ module _ (s : State) (domain : List Layer) (from to : Path) (c d o : ℕ) (t : I
     kept = λ e m x g. ap (λ y. option_map (λ (n : Node). n.kind) (get y x)) nodes;
     top = ap (λ y. option_map (λ (n : Node). n.kind) (get y root)) nodes;
     next = next;
-    dir = λ f m y w. subst (NotFile s) (sym w.0) h.there.dir;
-    below = λ f m y w. let v = w.0 in let z = end_below s t (parent to) root d t.above h.there.named in omega arith;
-    not_root = λ f m y w is. t.rootless c (last_name from) (old_entry ∙ ap Some (sym w.2 ∙ is));
-    node = λ f m y w. let k = t.known c (last_name from) o old_entry in (k.0, ap (kind_of s) w.2 ∙ k.1);
-    held = λ layer l f m y w p e.
-        let same : p ≡ parent to = only_path s t p (parent to) d h.there.dir (e ∙ ap Some w.0) h.there.named in
-        (from, h.at ∙ ap Some (sym w.2), λ right r g. h.held layer l right (ap (λ z. is_relevant (kind_of s z) right) (sym w.2) ∙ r) (ap (λ z. grants s layer z right) (sym same) ∙ g));
+    enters = enters;
   }
 
   new_dentry : (e : ℕ) (m : Name) → dentry e m ≡ dentry_of s to → (e ≡ d) × (m ≡ last_name to)
@@ -289,3 +291,98 @@ module _ (s : State) (domain : List Layer) (from to : Path) (c d o : ℕ) (t : I
   -- another node had the name, and loses it
   pub replaced_moves : (r : ℕ) → Moves s (let_go renamed_before r) domain new_entry
   replaced_moves r = moves_after s renamed_before (let_go renamed_before r) domain new_entry renamed_moves (let_go_shrinks renamed_before r)
+
+-- ---- two names that exchange what they stand for
+
+not_beneath_itself : (p : Path) → is_beneath p p ≡ false
+not_beneath_itself [] = refl
+not_beneath_itself (n ∷ p) = by (same_name n n) (is_beneath p p) (not_beneath_itself p)
+  where
+    by : (a b : Bool) → b ≡ false → (a && b) ≡ false
+    by true b e = e
+    by false b e = refl
+
+-- a node isn't above the directory of its name
+above_itself : (s : State) → IsTree s → (p : Path) (d o : ℕ) → IsPlace s p d → named s p ≡ Some o → (q : Path) → end_from s q o ≢ Some d
+above_itself s t p d o here at q e =
+    let is : p ++ q ≡ parent p = only_path s t (p ++ q) (parent p) d here.dir (end_append s p q root o at ∙ e) here.named in
+    let whole : p ≡ (p ++ q) ++ last_name p ∷ [] = parent_last p here.not_root ∙ ap (λ (r : Path). r ++ last_name p ∷ []) (sym is) in
+    cc (sym (not_beneath_itself p) ∙ ap (is_beneath p) whole ∙ beneath_append p q (last_name p))
+
+-- o stands at a in c, and n at b in d
+module _ (s : State) (domain : List Layer) (a b : Path) (c d o n : ℕ) (t : IsTree s) (h : IsMove s domain a b c d o) (k : IsMove s domain b a d c n) where
+  abbrev swapped : State
+  swapped = exchanged s a b
+
+  first_entry : child s c (last_name a) ≡ Some o
+  first_entry = last_child s a c o h.here.not_root h.here.named h.at
+
+  second_entry : child s d (last_name b) ≡ Some n
+  second_entry = last_child s b d n k.here.not_root k.here.named k.at
+
+  abbrev OldEntry : ℕ → Name → ℕ → Type 0
+  OldEntry e m x = (dentry e m ≢ dentry_of s a) × (dentry e m ≢ dentry_of s b) × (child s e m ≡ Some x)
+
+  abbrev two_entries : ℕ → Name → ℕ → Type 0
+  two_entries e m x = At d (last_name b) o e m x ⊎ At c (last_name a) n e m x
+
+  in_swapped : (e : ℕ) (m : Name) (x : ℕ) → child swapped e m ≡ Some x → two_entries e m x ⊎ OldEntry e m x
+  in_swapped e m x g =
+      elim (insert_cases dentry_total dentry_exact (insert s.entries (dentry_of s b) (inode_of s a)) (dentry_of s a) (inode_of s b) (dentry e m)) [
+        | inl w ↦ let p = new_dentry s domain b a d c n t k e m w.0 in inl (inr (p.0, p.1, same_Some x n (sym g ∙ w.1 ∙ ap Some (inode_is s b n k.at))))
+        | inr w ↦ elim (insert_cases dentry_total dentry_exact s.entries (dentry_of s b) (inode_of s a) (dentry e m)) [
+          | inl v ↦ let p = new_dentry s domain a b c d o t h e m v.0 in inl (inl (p.0, p.1, same_Some x o (sym g ∙ w.1 ∙ v.1 ∙ ap Some (inode_is s a o h.at))))
+          | inr v ↦ inr (w.0, v.0, sym v.1 ∙ sym w.1 ∙ g)
+        ]
+      ]
+
+  -- one node under both names keeps both
+  pub exchange_shrinks : o ≡ n → Shrinks s swapped
+  exchange_shrinks same = record {
+    entries = λ e m x g. elim (in_swapped e m x g) [
+      | inl (inl w) ↦ entry d (last_name b) o e m x w (second_entry ∙ ap Some (sym same))
+      | inl (inr w) ↦ entry c (last_name a) n e m x w (first_entry ∙ ap Some same)
+      | inr w ↦ w.2
+    ];
+    kinds = λ i j e. e;
+    kept = λ e m x g. refl;
+    top = refl;
+    next = refl;
+  }
+    where
+      entry : (f : ℕ) (l : Name) (y e : ℕ) (m : Name) (x : ℕ) → At f l y e m x → child s f l ≡ Some y → child s e m ≡ Some x
+      entry f l y e m x w is = (λ i. child s (w.0 i) (w.1 i)) ∙ is ∙ ap Some (sym w.2)
+
+  pub exchange_moves : o ≢ n → Moves s swapped domain two_entries
+  exchange_moves differ = record {
+    more = record {
+      entries = λ e m x g. elim (in_swapped e m x g) [ inl w ↦ inr w | inr w ↦ inl w.2 ];
+      away = far;
+    };
+    alone = λ f m x w file e l g. alone_at f m x w file e l (in_swapped e l x g);
+    kinds = λ i j e. e;
+    kept = λ e m x g. refl;
+    top = refl;
+    next = refl;
+    enters = λ f m x w. elim w [ inl v ↦ enters s domain a b c d o t h f m x v | inr v ↦ enters s domain b a d c n t k f m x v ];
+  }
+    where
+      far : (f : ℕ) (m : Name) (x : ℕ) → two_entries f m x → (g : ℕ) (l : Name) (y : ℕ) → two_entries g l y → (q : Path) → end_from s q x ≢ Some g
+      far f m x (inl w) g l y (inl v) q e = not_beneath s domain a b c d o t h q (ap (end_from s q) (sym w.2) ∙ e ∙ ap Some v.0)
+      far f m x (inl w) g l y (inr v) q e = above_itself s t a c o h.here h.at q (ap (end_from s q) (sym w.2) ∙ e ∙ ap Some v.0)
+      far f m x (inr w) g l y (inl v) q e = above_itself s t b d n k.here k.at q (ap (end_from s q) (sym w.2) ∙ e ∙ ap Some v.0)
+      far f m x (inr w) g l y (inr v) q e = not_beneath s domain b a d c n t k q (ap (end_from s q) (sym w.2) ∙ e ∙ ap Some v.0)
+
+      -- a directory's one entry in s is where it no longer stands
+      only_old : (p : Path) (f : ℕ) (y : ℕ) → IsPlace s p f → child s f (last_name p) ≡ Some y → (x : ℕ) → x ≡ y → NotFile s x → (e : ℕ) (l : Name) → child s e l ≡ Some x → dentry e l ≡ dentry_of s p
+      only_old p f y at is x same file e l g =
+          let one = t.one e l f (last_name p) x file g (is ∙ ap Some (sym same)) in
+          (λ i. dentry (one.0 i) (one.1 i)) ∙ sym (dentry_is s p f at)
+
+      alone_at : (f : ℕ) (m : Name) (x : ℕ) → two_entries f m x → NotFile s x → (e : ℕ) (l : Name) → two_entries e l x ⊎ OldEntry e l x → (e ≡ f) × (l ≡ m)
+      alone_at f m x (inl w) file e l (inl (inl u)) = (u.0 ∙ sym w.0, u.1 ∙ sym w.1)
+      alone_at f m x (inl w) file e l (inl (inr u)) = absurd (differ (sym w.2 ∙ u.2))
+      alone_at f m x (inl w) file e l (inr u) = absurd (u.0 (only_old a c o h.here first_entry x w.2 file e l u.2))
+      alone_at f m x (inr w) file e l (inl (inl u)) = absurd (differ (sym u.2 ∙ w.2))
+      alone_at f m x (inr w) file e l (inl (inr u)) = (u.0 ∙ sym w.0, u.1 ∙ sym w.1)
+      alone_at f m x (inr w) file e l (inr u) = absurd (u.1 (only_old b d n k.here second_entry x w.2 file e l u.2))

@@ -35,7 +35,7 @@ pub record ClientsAfter (s t : State) (x : ℕ) (layer : Layer) : Type 0 where
 module _ (s t : State) (x : ℕ) (layer : Layer) where
   pub same_clients : t.clients ≡ s.clients → ClientsAfter s t x layer
   same_clients e =
-      let same : (c : ℕ) → client_of t c ≡ client_of s c = λ c. ap (λ m. unwrap_or (get m c) (new_client [])) e in
+      let same : (c : ℕ) → client_of t c ≡ client_of s c = λ c. ap (λ m. unwrap_or (get m c) new_client) e in
       record {
         there = λ c h. ap (λ m. has m c) e ∙ h;
         under = λ c h u. subst (λ (k : ClientRecord). Contains k.domain layer) (sym (same c)) u;
@@ -65,10 +65,10 @@ module _ (s t : State) (x : ℕ) (layer : Layer) where
       at c = insert_cases nat_cmp_total nat_cmp-IsAntisymmetric s.clients number k c
 
       is : (c : ℕ) (j : ClientRecord) → get (insert s.clients number k) c ≡ Some j → client_of t c ≡ j
-      is c j g = ap (λ o. unwrap_or o (new_client [])) (ap (λ m. get m c) e ∙ g)
+      is c j g = ap (λ o. unwrap_or o new_client) (ap (λ m. get m c) e ∙ g)
 
       kept : (c : ℕ) → get (insert s.clients number k) c ≡ get s.clients c → client_of t c ≡ client_of s c
-      kept c g = ap (λ o. unwrap_or o (new_client [])) (ap (λ m. get m c) e ∙ g)
+      kept c g = ap (λ o. unwrap_or o new_client) (ap (λ m. get m c) e ∙ g)
 
   -- a new client comes
   pub new_after : (number : ℕ) (k : ClientRecord) → t.clients ≡ insert s.clients number k → has s.clients number ≡ false → ClientsAfter s t x layer
@@ -86,7 +86,7 @@ module _ (s t : State) (x : ℕ) (layer : Layer) where
       ]
 
       kept : (c : ℕ) → has s.clients c ≡ true → client_of t c ≡ client_of s c
-      kept c h = ap (λ o. unwrap_or o (new_client [])) (get_kept c h)
+      kept c h = ap (λ o. unwrap_or o new_client) (get_kept c h)
 
 -- ---- what leaves the clients as they are
 

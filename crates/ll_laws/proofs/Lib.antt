@@ -7,3 +7,4 @@ pub mod Gain
 pub mod Asked
 pub mod Clients
 pub mod Withheld
+pub mod Examples

@@ -1,7 +1,7 @@
 -- What is known where no stage refuses.
 use Rattle.std.specs.Prelude.{◌≡◌, ◌⊎◌, ℕ, zero, suc, ◌+◌, ◌<◌, Bool, true, false, ◌&&◌, ◌||◌, List, [], ◌∷◌, ◌++◌, map, length, Option, Some, None, unwrap_or, option_and_then, refl, Contains, slice_index_or}
 use Rattle.std.specs.Option.{option_map_or}
-use Rattle.std.specs.List.{flat_map, enumerate_from}
+use Rattle.std.specs.List.{flat_map, enumerate_from, list_any}
 use Rattle.std.specs.Ordering.{is_eq}
 use Rattle.std.specs.Cmp.{tied_itself}
 use Rattle.std.specs.Cmp.Lexicographic.{nat_list_cmp_total}
@@ -28,6 +28,9 @@ nil_left (x ∷ xs) ys e = absurd (cc e)
 pub nil_right : {A : Type 0} (xs ys : List A) → xs ++ ys ≡ [] → ys ≡ []
 nil_right [] ys e = e
 nil_right (x ∷ xs) ys e = absurd (cc e)
+
+pub nil_both : {A : Type 0} (xs ys : List A) → xs ++ ys ≡ [] → (xs ≡ []) × (ys ≡ [])
+nil_both xs ys e = (nil_left xs ys e, nil_right xs ys e)
 
 pub nil_map : {A B : Type 0} (f : A → B) (xs : List A) → map f xs ≡ [] → xs ≡ []
 nil_map f [] e = refl
@@ -94,6 +97,25 @@ in_list : {A : Type 0} (xs : List A) (k : ℕ) (x : A) → k < length xs → sli
 in_list [] k x h e = absurd (omega arith)
 in_list (y ∷ ys) zero x h e = inl e
 in_list (y ∷ ys) (suc k) x h e = inr (in_list ys k x (omega arith) e)
+
+pub in_left : {A : Type 0} (xs ys : List A) (x : A) → IsIn xs x → IsIn (xs ++ ys) x
+in_left [] ys x i = absurd i
+in_left (y ∷ xs) ys x (inl e) = inl e
+in_left (y ∷ xs) ys x (inr i) = inr (in_left xs ys x i)
+
+pub in_right : {A : Type 0} (xs ys : List A) (x : A) → IsIn ys x → IsIn (xs ++ ys) x
+in_right [] ys x i = i
+in_right (y ∷ xs) ys x i = inr (in_right xs ys x i)
+
+pub in_when : {A : Type 0} (b : Bool) (x : A) → b ≡ true → IsIn (when b (x ∷ [])) x
+in_when true x e = inl refl
+in_when false x e = absurd (cc e)
+
+-- a test that no element of a list passes
+pub none_passes : {A : Type 0} (f : A → Bool) (xs : List A) (x : A) → list_any f xs ≡ false → IsIn xs x → f x ≡ false
+none_passes f [] x e i = absurd i
+none_passes f (y ∷ xs) x e (inl i) = ap f (sym i) ∙ (neither (f y) (list_any f xs) e).0
+none_passes f (y ∷ xs) x e (inr i) = none_passes f xs x (neither (f y) (list_any f xs) e).1 i
 
 pub IsIn-contains : {A : Type 0} (xs : List A) (x : A) → Contains xs x → IsIn xs x
 IsIn-contains xs x c = in_list xs c.0 x c.1 c.2

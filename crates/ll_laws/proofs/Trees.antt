@@ -1,5 +1,5 @@
 -- What holds of every state of a legal history, the three ways in which a call changes the tree, and what a layer reaches after each.
-use Rattle.std.specs.Prelude.{◌≡◌, ◌≢◌, ◌⊎◌, ℕ, ◌+◌, ◌<◌, Bool, true, false, not, ◌||◌, List, [], ◌∷◌, ◌++◌, Option, Some, None, option_and_then, refl, Contains}
+use Rattle.std.specs.Prelude.{◌≡◌, ◌≢◌, ◌⊎◌, ℕ, zero, suc, length, ◌+◌, ◌<◌, Bool, true, false, not, ◌||◌, List, [], ◌∷◌, ◌++◌, Option, Some, None, option_and_then, refl, Contains}
 use Rattle.std.specs.Option.{option_map_or}
 use Rattle.std.specs.List.{list_any}
 use Rattle.std.proofs.Common.{sym, ap, ◌∙◌, inl, inr, arith}
@@ -12,8 +12,8 @@ use Rattle.ll_seq.specs.Tree.{end_from, chain_from, ancestors}
 use Rattle.ll_seq.specs.Asked.{grants}
 use Rattle.ll_seq.specs.Reach.{InReach, is_relevant}
 use Rattle.ll_seq.proofs.Chains.{end_append}
-use Rattle.ll_seq.proofs.Parted.{or_right}
-use Rattle.ll_laws.proofs.Chains.{same_Some, NotFile, end_last, chain_front, chain_back, Snoc, nil, push, snoc, MoreEntries, before}
+use Rattle.ll_seq.proofs.Parted.{or_right, Last, last}
+use Rattle.ll_laws.proofs.Chains.{same_Some, NotFile, chain_front, chain_back, MoreEntries, before}
 use Rattle.ll_laws.proofs.Relevant.{relevant_dir}
 
 pub record IsTree (s : State) : Type 0 where
@@ -53,7 +53,16 @@ pub record Adds (s t : State) (d : ℕ) (n : Name) : Type 0 where
   pub dir : NotFile s d
   pub below : d < s.next
 
--- Nodes that there are get new entries. A directory keeps no other. By no new entry is anything gained of a layer of the domain
+-- a node that there is gets an entry in a directory, by which nothing is gained of a layer of the domain
+pub record Enters (s : State) (domain : List Layer) (d o : ℕ) : Type 0 where
+  pub dir : NotFile s d
+  pub below : d < s.next
+  pub not_root : o ≢ root
+  pub node : (k : Kind) × (kind_of s o ≡ Some k)
+  pub held : (layer : Layer) → Contains domain layer → (p : Path) → end_from s p root ≡ Some d
+      → (from : Path) × (end_from s from root ≡ Some o) × ((right : ℕ) → is_relevant (kind_of s o) right ≡ true → grants s layer p right ≡ true → grants s layer from right ≡ true)
+
+-- Nodes that there are get new entries. A directory keeps no other
 pub record Moves (s t : State) (domain : List Layer) (Fresh : ℕ → Name → ℕ → Type 0) : Type 0 where
   pub more : MoreEntries s t Fresh
   pub alone : (d : ℕ) (n : Name) (o : ℕ) → Fresh d n o → NotFile s o → (e : ℕ) (m : Name) → child t e m ≡ Some o → (e ≡ d) × (m ≡ n)
@@ -61,12 +70,7 @@ pub record Moves (s t : State) (domain : List Layer) (Fresh : ℕ → Name → �
   pub kept : (e : ℕ) (m : Name) (x : ℕ) → child t e m ≡ Some x → kind_of t x ≡ kind_of s x
   pub top : kind_of t root ≡ kind_of s root
   pub next : t.next ≡ s.next
-  pub dir : (d : ℕ) (n : Name) (o : ℕ) → Fresh d n o → NotFile s d
-  pub below : (d : ℕ) (n : Name) (o : ℕ) → Fresh d n o → d < s.next
-  pub not_root : (d : ℕ) (n : Name) (o : ℕ) → Fresh d n o → o ≢ root
-  pub node : (d : ℕ) (n : Name) (o : ℕ) → Fresh d n o → (k : Kind) × (kind_of s o ≡ Some k)
-  pub held : (layer : Layer) → Contains domain layer → (d : ℕ) (n : Name) (o : ℕ) → Fresh d n o → (p : Path) → end_from s p root ≡ Some d
-      → (from : Path) × (end_from s from root ≡ Some o) × ((right : ℕ) → is_relevant (kind_of s o) right ≡ true → grants s layer p right ≡ true → grants s layer from right ≡ true)
+  pub enters : (d : ℕ) (n : Name) (o : ℕ) → Fresh d n o → Enters s domain d o
 
 pub data Change (s t : State) (domain : List Layer) : Type 1 where
   shrinks : Shrinks s t → Change s t domain
@@ -121,7 +125,7 @@ moves_tree : (s t : State) (domain : List Layer) (Fresh : ℕ → Name → ℕ �
 moves_tree s t domain Fresh i h = record {
   dirs = λ e m x c k f. elim (h.more.entries e m x c) [
     | inl a ↦ i.dirs e m x a k (h.kinds e k f)
-    | inr a ↦ h.dir e m x a k (h.kinds e k f)
+    | inr a ↦ (h.enters e m x a).dir k (h.kinds e k f)
   ];
   one = λ e m e' m' x f c g.
       let file : NotFile s x = λ k z. f k (h.kept e m x c ∙ z) in
@@ -129,14 +133,14 @@ moves_tree s t domain Fresh i h = record {
         | inl a ↦ elim (h.more.entries e' m' x g) [ inl b ↦ i.one e m e' m' x file a b | inr b ↦ h.alone e' m' x b file e m c ]
         | inr a ↦ let w = h.alone e m x a file e' m' g in (sym w.0, sym w.1)
       ];
-  rootless = λ e m c. elim (h.more.entries e m root c) [ inl a ↦ i.rootless e m a | inr a ↦ h.not_root e m root a refl ];
+  rootless = λ e m c. elim (h.more.entries e m root c) [ inl a ↦ i.rootless e m a | inr a ↦ (h.enters e m root a).not_root refl ];
   known = λ e m x c. elim (h.more.entries e m x c) [
     | inl a ↦ let w = i.known e m x a in (w.0, h.kept e m x c ∙ w.1)
-    | inr a ↦ let w = h.node e m x a in (w.0, h.kept e m x c ∙ w.1)
+    | inr a ↦ let w = (h.enters e m x a).node in (w.0, h.kept e m x c ∙ w.1)
   ];
   old = λ e m x c. let v = h.next in elim (h.more.entries e m x c) [
     | inl a ↦ let w = i.old e m x a in (omega arith, omega arith)
-    | inr a ↦ let w = h.below e m x a in let y = h.node e m x a in let z = i.nodes x y.0 y.1 in (omega arith, omega arith)
+    | inr a ↦ let w = (h.enters e m x a).below in let y = (h.enters e m x a).node in let z = i.nodes x y.0 y.1 in (omega arith, omega arith)
   ];
   nodes = λ j k e. let v = h.next in let w = i.nodes j k (h.kinds j k e) in omega arith;
   above = let w = i.above in let v = h.next in omega arith;
@@ -151,28 +155,26 @@ tree_kept s t domain i (moves Fresh h) = moves_tree s t domain Fresh i h
 -- ---- a directory has one path
 
 module _ (s : State) (i : IsTree s) where
-  only_path_of : {p : Path} → Snoc p → (q : Path) (x : ℕ) → NotFile s x → end_from s p root ≡ Some x → end_from s q root ≡ Some x → p ≡ q
-  only_path_of nil q x f e g = by (snoc q) g
+  -- what is so of the paths to both directories is so of the paths
+  one_further : (p q : Path) (x : ℕ) → NotFile s x → end_from s p root ≡ Some x → end_from s q root ≡ Some x
+      → ((l m : Path) (y : ℕ) → length p ≡ length l + 1 → NotFile s y → end_from s l root ≡ Some y → end_from s m root ≡ Some y → l ≡ m) → p ≡ q
+  one_further p q x f e g front = by (last s p root x e) (last s q root x g)
     where
-      by : {r : Path} → Snoc r → end_from s r root ≡ Some x → [] ≡ r
-      by nil h = refl
-      by (push {p = r} v m) h = let w = end_last s r m root x h in absurd (i.rootless w.0 m (w.2 ∙ sym e))
-  only_path_of (push {p = p} u n) q x f e g = by (λ r. only_path_of u r) (snoc q) g
-    where
-      last : (y : ℕ) × (end_from s p root ≡ Some y) × (child s y n ≡ Some x)
-      last = end_last s p n root x e
+      by : ((p ≡ []) × (root ≡ x)) ⊎ Last s p root x → ((q ≡ []) × (root ≡ x)) ⊎ Last s q root x → p ≡ q
+      by (inl a) (inl b) = a.0 ∙ sym b.0
+      by (inl a) (inr m) = absurd (i.rootless m.directory m.name (m.names ∙ ap Some (sym a.1)))
+      by (inr l) (inl b) = absurd (i.rootless l.directory l.name (l.names ∙ ap Some (sym b.1)))
+      by (inr l) (inr m) =
+          let same = i.one l.directory l.name m.directory m.name x f l.names m.names in
+          let fronts = front l.front m.front l.directory l.more (i.dirs l.directory l.name x l.names) l.leads (m.leads ∙ ap Some (sym same.0)) in
+          l.whole ∙ (λ j. fronts j ++ same.1 j ∷ []) ∙ sym m.whole
 
-      by : {r : Path} → ((q : Path) (y : ℕ) → NotFile s y → end_from s p root ≡ Some y → end_from s q root ≡ Some y → p ≡ q) → Snoc r → end_from s r root ≡ Some x → p ++ n ∷ [] ≡ r
-      by up nil h = absurd (i.rootless last.0 n (last.2 ∙ sym h))
-      by up (push {p = r} v m) h =
-          let w = end_last s r m root x h in
-          let same = i.one last.0 n w.0 m x f last.2 w.2 in
-          let front : p ≡ r = up r last.0 (i.dirs last.0 n x last.2) last.1 (w.1 ∙ ap Some (sym same.0)) in
-          let name : n ≡ m = same.1 in
-          cc
+  only_path_of : (k : ℕ) (p q : Path) (x : ℕ) → length p ≡ k → NotFile s x → end_from s p root ≡ Some x → end_from s q root ≡ Some x → p ≡ q
+  only_path_of zero p q x size f e g = one_further p q x f e g (λ l m y more. absurd (omega arith))
+  only_path_of (suc k) p q x size f e g = one_further p q x f e g (λ l m y more. only_path_of k l m y (omega arith))
 
   pub only_path : (p q : Path) (x : ℕ) → NotFile s x → end_from s p root ≡ Some x → end_from s q root ≡ Some x → p ≡ q
-  only_path p q x f e g = only_path_of (snoc p) q x f e g
+  only_path p q x f e g = only_path_of (length p) p q x refl f e g
 
 -- ---- what is reached after each change was reached before it
 
@@ -233,7 +235,7 @@ moves_reach s t domain Fresh layer x right i h in_domain r =
     elim (before s t Fresh h.more r.path x r.names) [
       | inl a ↦ record { path = r.path; names = a.0; relevant = was; granted = ap (λ zs. grants_on layer zs right) (sym a.1) ∙ r.granted }
       | inr a ↦
-          let held = h.held layer in_domain a.directory a.name a.node a.new a.front a.named in
+          let held = (h.enters a.directory a.name a.node a.new).held layer in_domain a.front a.named in
           record {
             path = held.0 ++ a.tail;
             names = end_append s held.0 a.tail root a.node held.1 ∙ a.end;
@@ -241,7 +243,7 @@ moves_reach s t domain Fresh layer x right i h in_domain r =
             granted = granted_on layer (ancestors t r.path) (ancestors s (held.0 ++ a.tail)) right (λ restricted rule. elim (a.passed (has_rule layer right) rule) [
               | inl b ↦
                   let there : grants s layer a.front right ≡ true = or_right (not (restricts layer right)) _ b in
-                  let here = held.2 right (for_node a.node (h.node a.directory a.name a.node a.new) a.tail a.end) there in
+                  let here = held.2 right (for_node a.node (h.enters a.directory a.name a.node a.new).node a.tail a.end) there in
                   chain_front s (has_rule layer right) held.0 a.tail root a.node held.1 (rule_of layer (ancestors s held.0) right restricted here)
               | inr b ↦ chain_back s (has_rule layer right) held.0 a.tail root a.node held.1 b
             ]) r.granted;

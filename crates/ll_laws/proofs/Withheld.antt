@@ -1,42 +1,48 @@
 -- Bytes are withheld from confined clients.
-use Rattle.std.specs.Prelude.{◌≡◌, ◌⊎◌, ℕ, ◌<◌, Bool, true, false, cond, not, ◌&&◌, ◌==◌, List, [], ◌∷◌, ◌++◌, map, length, Option, Some, None, unwrap_or, is_some, is_none, refl, Contains, IsTrue}
+use Rattle.std.specs.Prelude.{◌≡◌, ◌⊎◌, ℕ, ◌<◌, Bool, true, false, cond, not, ◌&&◌, ◌==◌, List, [], ◌∷◌, ◌++◌, map, length, Option, Some, None, unwrap_or, is_some, is_none, nat_lt, refl, Contains, IsTrue}
 use Rattle.std.specs.List.{list_all}
 use Rattle.std.specs.Ordering.{nat_cmp}
 use Rattle.std.specs.Cmp.{nat_cmp_total}
 use Rattle.std.specs.FinMap.{nat_cmp-IsAntisymmetric}
 use Rattle.std.proofs.Common.{sym, subst, ap, ◌∙◌, inl, inr, arith}
 use Rattle.std.proofs.lemmas.List.Elements.{Contains-append_left}
+use Rattle.std.proofs.lemmas.List.Folds.{list_all-append}
 use Rattle.ll_rights.specs.declared.kind.Kind.TheVariants.{Reg}
+use Rattle.ll_rights.specs.declared.errno.Errno.{Errno}
 use Rattle.ll_rights.specs.declared.errno.Errno.TheVariants.{ENOENT, EBADF, EINVAL}
-use Rattle.ll_rights.specs.Map.{Map, get, has, insert, remove}
+use Rattle.ll_rights.specs.declared.limits.TheConstants.{DATA_BYTES}
+use Rattle.ll_rights.specs.Errno.{refuse}
+use Rattle.ll_rights.specs.Map.{Map, empty, get, has, insert, remove}
 use Rattle.ll_rights.specs.Right.{read_file, write_file, truncate}
 use Rattle.ll_rights.proofs.Maps.{get-empty, get-insert_same, got_inserted, got_left}
 use Rattle.ll_path.specs.declared.target.Target.{Target}
 use Rattle.ll_rules.specs.Layer.{Layer}
+use Rattle.ll_decide.specs.declared.denial.Denial.{Denial}
 use Rattle.ll_seq.specs.declared.client.ClientRecord.{ClientRecord}
 use Rattle.ll_seq.specs.declared.client.Descriptor.{Descriptor}
 use Rattle.ll_seq.specs.declared.node.Node.{Node}
 use Rattle.ll_seq.specs.declared.call.Mode.{Mode}
 use Rattle.ll_seq.specs.declared.call.Call.{Call}
-use Rattle.ll_seq.specs.declared.call.Call.TheVariants.{Make, Open, Read, Write, Ftruncate, Close, Truncate, ReadDir, Stat, Exec, Unlink, Rmdir, Rename, Link, Ruleset, Allow, Confine, Spawn, Connect}
+use Rattle.ll_seq.specs.declared.call.Call.TheVariants.{Make, Open, Read, Write, Ftruncate, Close, Truncate, ReadDir, Stat, Exec, Unlink, Rmdir, Rename, RenameNoreplace, Exchange, Link, Ruleset, Allow, Confine, Spawn, Connect}
 use Rattle.ll_seq.specs.declared.reply.Reply.{Reply}
 use Rattle.ll_seq.specs.declared.reply.Reply.TheVariants.{Bytes, Spawned, Refused, Denied}
 use Rattle.ll_seq.specs.declared.reply.Entry.{Entry}
-use Rattle.ll_seq.specs.Call.{path_of}
+use Rattle.ll_seq.specs.Call.{path_of, first_path, second_path}
 use Rattle.ll_seq.specs.State.{State, empty_node, new_client, start, bytes_of}
 use Rattle.ll_seq.specs.Tree.{named, inode_of}
 use Rattle.ll_seq.specs.Asked.{call_denials}
 use Rattle.ll_seq.specs.Stages.{lowest_free, ruleset_at, text_refusals, number_refusals, relation_refusals, walk_refusals, existence_refusals, kind_refusals, limit_refusals}
-use Rattle.ll_seq.specs.Effects.{done, dentry_of, opened, with_opened, emptied, with_node, with_bytes, with_client, inode_at, overwritten}
+use Rattle.ll_seq.specs.Effects.{dentry_of, opened, with_opened, emptied, with_node, with_bytes, with_client, inode_at, overwritten, child_of}
 use Rattle.ll_seq.specs.Step.{step, refusals, first_or, client_of}
 use Rattle.ll_seq.specs.History.{MayStand, IsLegal, state_after, after, is_connect, fresh_of}
 use Rattle.ll_seq.specs.Reach.{InReach}
+use Rattle.ll_seq.proofs.Histories.{legal_late}
 use Rattle.ll_laws.specs.NoGain.{MovesUnder}
-use Rattle.ll_laws.specs.Withheld.{bytes_read, read_from, ChangesBytes, IsConfined, Confined, Withheld, BytesAreWithheld}
+use Rattle.ll_laws.specs.Withheld.{ReadsFrom, ChangesBytes, IsConfined, Confined, Withheld, BytesAreWithheld}
 use Rattle.ll_laws.proofs.Chains.{same_Some}
 use Rattle.ll_laws.proofs.Trees.{IsTree}
-use Rattle.ll_laws.proofs.Stages.{inode_is, not_refused}
-use Rattle.ll_laws.proofs.Gain.{Passes, passes, there_is, one_entry, kept_tree, start_tree, after_tree, legal_late, named_below}
+use Rattle.ll_laws.proofs.Stages.{inode_is, nil_right, not_refused}
+use Rattle.ll_laws.proofs.Gain.{Passes, passes, done_of, there_is, one_entry, kept_tree, start_tree, after_tree, named_below}
 use Rattle.ll_laws.proofs.Asked.{open_granted, truncate_granted, reading_asked, writing_asked, truncating_asked, read_is, write_is, truncate_is, may_read, may_write, may_truncate}
 use Rattle.ll_laws.proofs.Clients.{ClientsAfter, same_clients, caller_after, new_after, let_go_clients, with_bytes_clients, renamed_clients, let_go_node, with_bytes_node, renamed_node, new_node, described, inode_at_is}
 
@@ -68,7 +74,7 @@ module _ (s : State) (number : ℕ) (x : ℕ) (layer : Layer) (t : IsTree s) (sm
   mine : (u : State) (k : ClientRecord) → u.clients ≡ insert s.clients number k → k.descriptors ≡ me.descriptors → (Contains me.domain layer → Contains k.domain layer) → ClientsAfter s u x layer
   mine u k e same grows = caller_after s u x layer number k e grows (λ l fd d g. inl (ap (λ m. get m fd) (sym same) ∙ g))
 
-  done_clients : (call : Call) (fresh : ℕ) → Passes s me call → (IsTrue (is_spawn call) → has s.clients fresh ≡ false) → (IsTrue (is_connect call) → has s.clients number ≡ false) → ClientsAfter s (done s number me call fresh).1 x layer
+  done_clients : (call : Call) (fresh : ℕ) → Passes s me call → (IsTrue (is_spawn call) → has s.clients fresh ≡ false) → (IsTrue (is_connect call) → has s.clients number ≡ false) → ClientsAfter s (done_of s number me call fresh).1 x layer
   done_clients (Make kind p) fresh h f g = same_clients s _ x layer refl
   done_clients (Open mode a) fresh h f g =
       elim (is_none (named s (path_of a))) as (λ b. is_none (named s (path_of a)) ≡ b → ClientsAfter s (cond b (with_client (with_node s Reg (dentry_of s (path_of a))) number (with_opened s me mode (path_of a) s.next)) (with_client (emptied s mode (inode_of s (path_of a))) number (with_opened s me mode (path_of a) (inode_of s (path_of a))))) x layer) [
@@ -94,12 +100,14 @@ module _ (s : State) (number : ℕ) (x : ℕ) (layer : Layer) (t : IsTree s) (sm
   done_clients (Unlink p) fresh h f g = same_clients s _ x layer (let_go_clients _ _)
   done_clients (Rmdir p) fresh h f g = same_clients s _ x layer (let_go_clients _ _)
   done_clients (Rename o n) fresh h f g = same_clients s _ x layer (renamed_clients s (dentry_of s (path_of o)) (dentry_of s (path_of n)) (inode_of s (path_of o)) (named s (path_of n)))
+  done_clients (RenameNoreplace o n) fresh h f g = same_clients s _ x layer refl
+  done_clients (Exchange o n) fresh h f g = same_clients s _ x layer refl
   done_clients (Link o n) fresh h f g = same_clients s _ x layer refl
   done_clients (Ruleset rights) fresh h f g = mine _ _ refl refl (λ l. l)
   done_clients (Allow rs p rights) fresh h f g = mine _ _ refl refl (λ l. l)
   done_clients (Confine rs) fresh h f g = mine _ _ refl refl (λ l. Contains-append_left me.domain (ruleset_at me rs ∷ []) layer l)
-  done_clients Spawn fresh h f g = new_after s _ x layer fresh (new_client me.domain) refl (f refl)
-  done_clients Connect fresh h f g = new_after s _ x layer number (new_client []) refl (g refl)
+  done_clients Spawn fresh h f g = new_after s _ x layer fresh (child_of s.rules me) refl (f refl)
+  done_clients Connect fresh h f g = new_after s _ x layer number new_client refl (g refl)
 
   -- the caller has the node open for writing
   abbrev IsWriter : Type 0
@@ -110,7 +118,7 @@ module _ (s : State) (number : ℕ) (x : ℕ) (layer : Layer) (t : IsTree s) (sm
   BytesAfter m = (get s.nodes x ≡ Some m) ⊎ (IsWriter ⊎ (Contains me.domain layer → InReach s layer x truncate))
 
   -- where it is still there
-  done_bytes : (call : Call) (fresh : ℕ) (m : Node) → Passes s me call → get (done s number me call fresh).1.nodes x ≡ Some m → BytesAfter m
+  done_bytes : (call : Call) (fresh : ℕ) (m : Node) → Passes s me call → get (done_of s number me call fresh).1.nodes x ≡ Some m → BytesAfter m
   done_bytes (Make kind p) fresh m h g = inl (new_node s x (empty_node kind) m small g)
   done_bytes (Open mode a) fresh m h g =
       elim (is_none (named s (path_of a))) as (λ b. is_none (named s (path_of a)) ≡ b → get (cond b (with_client (with_node s Reg (dentry_of s (path_of a))) number (with_opened s me mode (path_of a) s.next)) (with_client (emptied s mode (inode_of s (path_of a))) number (with_opened s me mode (path_of a) (inode_of s (path_of a))))).nodes x ≡ Some m → BytesAfter m) [
@@ -152,6 +160,8 @@ module _ (s : State) (number : ℕ) (x : ℕ) (layer : Layer) (t : IsTree s) (sm
   done_bytes (Unlink p) fresh m h g = inl (let_go_node _ _ x m g)
   done_bytes (Rmdir p) fresh m h g = inl (let_go_node _ _ x m g)
   done_bytes (Rename o n) fresh m h g = inl (renamed_node s (dentry_of s (path_of o)) (dentry_of s (path_of n)) (inode_of s (path_of o)) (named s (path_of n)) x m g)
+  done_bytes (RenameNoreplace o n) fresh m h g = inl g
+  done_bytes (Exchange o n) fresh m h g = inl g
   done_bytes (Link o n) fresh m h g = inl g
   done_bytes (Ruleset rights) fresh m h g = inl g
   done_bytes (Allow rs p rights) fresh m h g = inl g
@@ -166,60 +176,49 @@ is_refusal (Refused e) = true
 is_refusal (Denied d) = true
 is_refusal _ = false
 
-all_append : {A : Type 0} (f : A → Bool) (xs ys : List A) → list_all f xs ≡ true → list_all f ys ≡ true → list_all f (xs ++ ys) ≡ true
-all_append f [] ys e h = h
-all_append f (x ∷ xs) ys e h = by (f x) (list_all f xs) (list_all f (xs ++ ys)) e (λ g. all_append f xs ys g h)
-  where
-    by : (a b c : Bool) → (a && b) ≡ true → (b ≡ true → c ≡ true) → (a && c) ≡ true
-    by true b c g k = k g
-    by false b c g k = cc
+record AreRefusals (rs : List Reply) : Type 0 where
+  all : list_all is_refusal rs ≡ true
 
-all_map : {A : Type 0} (g : A → Reply) (xs : List A) → ((a : A) → is_refusal (g a) ≡ true) → list_all is_refusal (map g xs) ≡ true
-all_map g [] e = refl
-all_map g (x ∷ xs) e = ap (λ b. b && list_all is_refusal (map g xs)) (e x) ∙ all_map g xs e
+joined : (xs ys : List Reply) → AreRefusals xs → AreRefusals ys → AreRefusals (xs ++ ys)
+joined xs ys e h = record { all = list_all-append is_refusal xs ys ∙ ap (λ b. b && list_all is_refusal ys) e.all ∙ h.all }
 
-are_refusals : (s : State) (c : ClientRecord) (call : Call) → list_all is_refusal (refusals s c call) ≡ true
+each : {A : Type 0} (g : A → Reply) (xs : List A) → ((a : A) → is_refusal (g a) ≡ true) → list_all is_refusal (map g xs) ≡ true
+each g [] e = refl
+each g (x ∷ xs) e = ap (λ b. b && list_all is_refusal (map g xs)) (e x) ∙ each g xs e
+
+refused : (xs : List Errno) → AreRefusals (map Refused xs)
+refused xs = record { all = each Refused xs (λ _. refl) }
+
+denied : (xs : List Denial) → AreRefusals (map Denied xs)
+denied xs = record { all = each Denied xs (λ _. refl) }
+
+are_refusals : (s : State) (c : ClientRecord) (call : Call) → AreRefusals (refusals s c call)
 are_refusals s c call =
-    let t = map Refused (text_refusals call) in
-    let n = map Refused (number_refusals c call) in
-    let r = map Refused (relation_refusals call) in
-    let w = map Refused (walk_refusals s call) in
-    let e = map Refused (existence_refusals s call) in
-    let d = map Denied (call_denials s c call) in
-    let k = map Refused (kind_refusals s c call) in
-    let l = map Refused (limit_refusals s c call) in
-    let to_n = all_append is_refusal t n (all_map Refused (text_refusals call) (λ _. refl)) (all_map Refused (number_refusals c call) (λ _. refl)) in
-    let to_r = all_append is_refusal (t ++ n) r to_n (all_map Refused (relation_refusals call) (λ _. refl)) in
-    let to_w = all_append is_refusal (t ++ n ++ r) w to_r (all_map Refused (walk_refusals s call) (λ _. refl)) in
-    let to_e = all_append is_refusal (t ++ n ++ r ++ w) e to_w (all_map Refused (existence_refusals s call) (λ _. refl)) in
-    let to_d = all_append is_refusal (t ++ n ++ r ++ w ++ e) d to_e (all_map Denied (call_denials s c call) (λ _. refl)) in
-    let to_k = all_append is_refusal (t ++ n ++ r ++ w ++ e ++ d) k to_d (all_map Refused (kind_refusals s c call) (λ _. refl)) in
-    all_append is_refusal (t ++ n ++ r ++ w ++ e ++ d ++ k) l to_k (all_map Refused (limit_refusals s c call) (λ _. refl))
+    let to_relation = joined _ _ (joined _ _ (refused (text_refusals call)) (refused (number_refusals c call))) (refused (relation_refusals call (first_path call) (second_path call))) in
+    let to_existence = joined _ _ (joined _ _ to_relation (refused (walk_refusals s call))) (refused (existence_refusals s call (first_path call) (second_path call))) in
+    let to_policy = joined _ _ to_existence (denied (call_denials s c call)) in
+    joined _ _ (joined _ _ to_policy (refused (kind_refusals s c call (first_path call) (second_path call)))) (refused (limit_refusals s c call (first_path call) (second_path call)))
 
 -- a reply that is no refusal: no stage refused
-no_refusal : (s : State) (number : ℕ) (call : Call) (fresh : ℕ) (r : Reply) → is_refusal r ≡ false → (step s number call fresh).0 ≡ r → refusals s (client_of s number) call ≡ []
-no_refusal s number call fresh r isnt e = by (refusals s (client_of s number) call) refl (are_refusals s (client_of s number) call) e
+pub no_refusal : (s : State) (number : ℕ) (call : Call) (fresh : ℕ) (r : Reply) → is_refusal r ≡ false → (step s number call fresh).0 ≡ r → refusals s (client_of s number) call ≡ []
+no_refusal s number call fresh r isnt e = by (refusals s (client_of s number) call) refl (are_refusals s (client_of s number) call).all e
   where
     first_is : (b c : Bool) → (b && c) ≡ true → b ≡ true
     first_is true c g = refl
     first_is false c g = cc
 
-    by : (rs : List Reply) → refusals s (client_of s number) call ≡ rs → list_all is_refusal rs ≡ true → (first_or s rs (done s number (client_of s number) call fresh)).0 ≡ r → refusals s (client_of s number) call ≡ []
+    by : (rs : List Reply) → refusals s (client_of s number) call ≡ rs → list_all is_refusal rs ≡ true → (first_or s rs (done_of s number (client_of s number) call fresh)).0 ≡ r → refusals s (client_of s number) call ≡ []
     by [] is all g = is
     by (q ∷ rs) is all g = absurd (cc (sym (first_is (is_refusal q) (list_all is_refusal rs) all) ∙ ap is_refusal g ∙ isnt))
 
 -- the replies that tell which call it was
-spawn_reply : (s : State) (number : ℕ) (c : ClientRecord) (call : Call) (fresh : ℕ) → IsTrue (is_spawn call) → (done s number c call fresh).0 ≡ Spawned fresh
+spawn_reply : (s : State) (number : ℕ) (c : ClientRecord) (call : Call) (fresh : ℕ) → IsTrue (is_spawn call) → (done_of s number c call fresh).0 ≡ Spawned fresh
 spawn_reply s number c Spawn fresh e = refl
 spawn_reply s number c _ fresh e = absurd (cc e)
 
-spawned_by : (s : State) (number : ℕ) (c : ClientRecord) (call : Call) (fresh child : ℕ) → (done s number c call fresh).0 ≡ Spawned child → (done s number c call fresh).1.clients ≡ insert s.clients child (new_client c.domain)
-spawned_by s number c Spawn fresh child e = ap (λ n. insert s.clients n (new_client c.domain)) (ap fresh_of e)
+spawned_by : (s : State) (number : ℕ) (c : ClientRecord) (call : Call) (fresh child : ℕ) → (done_of s number c call fresh).0 ≡ Spawned child → (done_of s number c call fresh).1.clients ≡ insert s.clients child (child_of s.rules c)
+spawned_by s number c Spawn fresh child e = ap (λ n. insert s.clients n (child_of s.rules c)) (ap fresh_of e)
 spawned_by s number c _ fresh child e = absurd (cc e)
-
-read_case : (c : ClientRecord) (call : Call) (reply : Reply) (x : ℕ) → bytes_read c call reply ≡ Some x → (fd : ℕ) × (offset : ℕ) × (count : ℕ) × (bs : List ℕ) × (call ≡ Read fd offset count) × (reply ≡ Bytes bs) × (inode_at c fd ≡ x)
-read_case c (Read fd offset count) (Bytes bs) x e = (fd, offset, count, bs, refl, refl, same_Some _ x e)
-read_case c _ _ x e = absurd (cc e)
 
 -- what holds of the clients of whom P holds
 record Holds (from : State) (layer : Layer) (x : ℕ) (P : ℕ → Type 0) (s : State) : Type 0 where
@@ -234,8 +233,8 @@ module _ (from : State) (layer : Layer) (x : ℕ) (s : State) (e : Entry) (t : I
   abbrev fresh : ℕ
   fresh = fresh_of e.reply
 
-  outcome_done : refusals s caller e.call ≡ [] → step s e.client e.call fresh ≡ done s e.client caller e.call fresh
-  outcome_done n = ap (λ rs. first_or s rs (done s e.client caller e.call fresh)) n
+  outcome_done : refusals s caller e.call ≡ [] → step s e.client e.call fresh ≡ done_of s e.client caller e.call fresh
+  outcome_done n = ap (λ rs. first_or s rs (done_of s e.client caller e.call fresh)) n
 
   fresh_client : refusals s caller e.call ≡ [] → IsTrue (is_spawn e.call) → has s.clients fresh ≡ false
   fresh_client n is =
@@ -245,22 +244,22 @@ module _ (from : State) (layer : Layer) (x : ℕ) (s : State) (e : Entry) (t : I
   new_caller : IsTrue (is_connect e.call) → has s.clients e.client ≡ false
   new_caller is = m.caller ∙ ap not is
 
-  entry_clients : ClientsAfter s (after s e) x layer
+  pub entry_clients : ClientsAfter s (after s e) x layer
   entry_clients = by (refusals s caller e.call) refl
     where
-      by : (rs : List Reply) → refusals s caller e.call ≡ rs → ClientsAfter s (first_or s rs (done s e.client caller e.call fresh)).1 x layer
+      by : (rs : List Reply) → refusals s caller e.call ≡ rs → ClientsAfter s (first_or s rs (done_of s e.client caller e.call fresh)).1 x layer
       by [] n = done_clients s e.client x layer t small e.call fresh (passes s caller e.call n) (fresh_client n) new_caller
       by (r ∷ rs) n = same_clients s s x layer refl
 
   -- the client that a spawn brings
-  child : (c : ℕ) → e.reply ≡ Spawned c → (after s e).clients ≡ insert s.clients c (new_client caller.domain)
+  child : (c : ℕ) → e.reply ≡ Spawned c → (after s e).clients ≡ insert s.clients c (child_of s.rules caller)
   child c is =
       let n = no_refusal s e.client e.call fresh (Spawned c) refl (m.answered ∙ is) in
       ap (λ (o : Reply × State). o.1.clients) (outcome_done n)
       ∙ spawned_by s e.client caller e.call fresh c (ap (λ (o : Reply × State). o.0) (sym (outcome_done n)) ∙ m.answered ∙ is)
 
-  child_is : (c : ℕ) → e.reply ≡ Spawned c → get (after s e).clients c ≡ Some (new_client caller.domain)
-  child_is c is = ap (λ (k : Map nat_cmp ClientRecord). get k c) (child c is) ∙ get-insert_same nat_cmp_total nat_cmp-IsAntisymmetric s.clients c (new_client caller.domain)
+  child_is : (c : ℕ) → e.reply ≡ Spawned c → get (after s e).clients c ≡ Some (child_of s.rules caller)
+  child_is c is = ap (λ (k : Map nat_cmp ClientRecord). get k c) (child c is) ∙ get-insert_same nat_cmp_total nat_cmp-IsAntisymmetric s.clients c (child_of s.rules caller)
 
   module _ (P : ℕ → Type 0) (h : Holds from layer x P s) (back : (right : ℕ) → InReach s layer x right → InReach from layer x right) where
     holds_after : Holds from layer x (Confined P e) (after s e)
@@ -268,23 +267,28 @@ module _ (from : State) (layer : Layer) (x : ℕ) (s : State) (e : Entry) (t : I
       there = λ c b. elim b [ inl p ↦ entry_clients.there c (h.there c p) | inr p ↦ ap is_some (child_is c p.1) ];
       under = λ c b. elim b [
         | inl p ↦ entry_clients.under c (h.there c p) (h.under c p)
-        | inr p ↦ subst (λ (k : ClientRecord). Contains k.domain layer) (sym (ap (λ o. unwrap_or o (new_client [])) (child_is c p.1))) (h.under e.client p.0)
+        | inr p ↦ subst (λ (k : ClientRecord). Contains k.domain layer) (sym (ap (λ o. unwrap_or o new_client) (child_is c p.1))) (h.under e.client p.0)
       ];
       files = λ c b fd d g. elim b [
         | inl p ↦ elim (entry_clients.files c (h.there c p) (h.under c p) fd d g) [
           | inl k ↦ h.files c p fd d k
           | inr k ↦ (λ i r. back read_file (k.0 i r), λ i w. back write_file (k.1 i w))
         ]
-        | inr p ↦ absurd (cc (sym (get-empty Descriptor nat_cmp fd) ∙ ap (λ o. get (unwrap_or o (new_client [])).descriptors fd) (sym (child_is c p.1)) ∙ g))
+        | inr p ↦ copied s.rules.copies p.0 fd d (ap (λ o. get (unwrap_or o new_client).descriptors fd) (sym (child_is c p.1)) ∙ g)
       ];
     }
+      where
+        -- a spawned client has its parent's descriptors, or none
+        copied : (copies : Bool) → P e.client → (fd : ℕ) (d : Descriptor) → get (cond copies caller.descriptors empty) fd ≡ Some d → (d.inode ≡ x → d.reads ≡ true → InReach from layer x read_file) × (d.inode ≡ x → d.writes ≡ true → InReach from layer x write_file)
+        copied true p fd d g = h.files e.client p fd d g
+        copied false p fd d g = absurd (cc (sym (get-empty Descriptor nat_cmp fd) ∙ g))
 
-    reading : P e.client → read_from s e ≡ Some x → InReach from layer x read_file
+    reading : P e.client → ReadsFrom s e x → InReach from layer x read_file
     reading p r =
-        let w = read_case caller e.call e.reply x r in
-        let n = no_refusal s e.client e.call fresh (Bytes w.3) refl (m.answered ∙ w.5) in
-        let d = described caller w.0 (λ d. d.reads) EBADF (ap (number_refusals caller) (sym w.4) ∙ (passes s caller e.call n).numbers) in
-        (h.files e.client p w.0 d.0 d.1).0 (sym (inode_at_is caller w.0 d.0 d.1) ∙ w.6) d.2
+        let n = no_refusal s e.client e.call fresh (Bytes r.bytes) refl (m.answered ∙ r.answered) in
+        let numbers : number_refusals caller (Read r.fd r.offset r.count) ≡ [] = ap (number_refusals caller) (sym r.call) ∙ (passes s caller e.call n).numbers in
+        let d = described caller r.fd (λ d. d.reads) EBADF (nil_right (refuse (nat_lt DATA_BYTES r.count) EINVAL) _ numbers) in
+        (h.files e.client p r.fd d.0 d.1).0 (sym (inode_at_is caller r.fd d.0 d.1) ∙ r.from) d.2
 
     changing : P e.client → ChangesBytes s (after s e) x → InReach from layer x write_file ⊎ InReach from layer x truncate
     changing p b = by (refusals s caller e.call) refl b.after
@@ -292,7 +296,7 @@ module _ (from : State) (layer : Layer) (x : ℕ) (s : State) (e : Entry) (t : I
         same : get s.nodes x ≡ Some b.new → ⊥
         same g = b.differ (ap (λ (k : Node). k.bytes) (same_Some b.old b.new (sym b.before ∙ g)))
 
-        by : (rs : List Reply) → refusals s caller e.call ≡ rs → get (first_or s rs (done s e.client caller e.call fresh)).1.nodes x ≡ Some b.new → InReach from layer x write_file ⊎ InReach from layer x truncate
+        by : (rs : List Reply) → refusals s caller e.call ≡ rs → get (first_or s rs (done_of s e.client caller e.call fresh)).1.nodes x ≡ Some b.new → InReach from layer x write_file ⊎ InReach from layer x truncate
         by [] n g = elim (done_bytes s e.client x layer t small e.call fresh b.new (passes s caller e.call n) g) [
           | inl k ↦ absurd (same k)
           | inr (inl k) ↦ inl ((h.files e.client p k.1 k.0 k.2).1 k.3 k.4)
@@ -311,10 +315,10 @@ withheld from layer x s (e ∷ es) P t l u small h back = (
 )
 
 pub bytes_are_withheld : BytesAreWithheld
-bytes_are_withheld room early late legal layer under inode has none =
-    let s = state_after (start room) early in
-    let t = after_tree (start room) early (start_tree room) in
-    withheld s layer inode s late (IsConfined layer s) t (legal_late (start room) early late legal) under (named_below s t has.0 inode has.1)
+bytes_are_withheld rules room early late legal layer under inode has none =
+    let s = state_after (start rules room) early in
+    let t = after_tree (start rules room) early (start_tree rules room) in
+    withheld s layer inode s late (IsConfined layer s) t (legal_late (start rules room) early late legal) under (named_below s t has.0 inode has.1)
     (record {
       there = λ c p. p.there;
       under = λ c p. p.under;

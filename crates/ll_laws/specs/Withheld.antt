@@ -1,16 +1,14 @@
 -- Which bytes clients under a layer may read and change of an inode that none of them has open. own
-use Rattle.std.specs.Prelude.{◌≡◌, ◌≢◌, ◌⊎◌, ℕ, true, List, [], ◌∷◌, ◌++◌, Option, Some, None, ⊤, Contains}
+use Rattle.std.specs.Prelude.{◌≡◌, ◌≢◌, ◌⊎◌, ℕ, true, List, [], ◌∷◌, ◌++◌, Some, ⊤, Contains}
 use Rattle.ll_rights.specs.Map.{get, has}
 use Rattle.ll_rights.specs.Right as right
 use Rattle.ll_rules.specs.Layer.{Layer}
-use Rattle.ll_seq.specs.declared.call.Call.{Call}
 use Rattle.ll_seq.specs.declared.call.Call.TheVariants.{Read}
-use Rattle.ll_seq.specs.declared.client.ClientRecord.{ClientRecord}
 use Rattle.ll_seq.specs.declared.client.Descriptor.{Descriptor}
 use Rattle.ll_seq.specs.declared.node.Node.{Node}
-use Rattle.ll_seq.specs.declared.reply.Reply.{Reply}
 use Rattle.ll_seq.specs.declared.reply.Reply.TheVariants.{Bytes, Spawned}
 use Rattle.ll_seq.specs.declared.reply.Entry.{Entry}
+use Rattle.ll_seq.specs.declared.rules.Rules.{Rules}
 use Rattle.ll_seq.specs.State.{State, start}
 use Rattle.ll_seq.specs.Effects.{inode_at}
 use Rattle.ll_seq.specs.Step.{client_of}
@@ -18,13 +16,15 @@ use Rattle.ll_seq.specs.History.{IsLegal, state_after, after}
 use Rattle.ll_seq.specs.Reach.{InReach, HasName}
 use Rattle.ll_laws.specs.NoGain.{MovesUnder}
 
--- the inode from which a read was answered
-abbrev pub bytes_read : ClientRecord → Call → Reply → Option ℕ
-bytes_read c (Read fd offset count) (Bytes bytes) = Some (inode_at c fd)
-bytes_read c _ _ = None
-
-abbrev pub read_from : State → Entry → Option ℕ
-read_from s e = bytes_read (client_of s e.client) e.call e.reply
+-- The entry tells bytes of the inode. (No call but read is answered by bytes)
+pub record ReadsFrom (s : State) (e : Entry) (inode : ℕ) : Type 0 where
+  pub fd : ℕ
+  pub offset : ℕ
+  pub count : ℕ
+  pub bytes : List ℕ
+  pub call : e.call ≡ Read fd offset count
+  pub answered : e.reply ≡ Bytes bytes
+  pub from : inode_at (client_of s e.client) fd ≡ inode
 
 -- the node lives on with other bytes
 pub record ChangesBytes (s t : State) (inode : ℕ) : Type 0 where
@@ -48,7 +48,7 @@ Confined Was e client = Was client ⊎ (Was e.client × (e.reply ≡ Spawned cli
 abbrev pub Withheld : Layer → ℕ → State → (ℕ → Type 0) → State → List Entry → Type 0
 Withheld layer inode cut Was s [] = ⊤
 Withheld layer inode cut Was s (e ∷ es) =
-    (Was e.client → read_from s e ≡ Some inode → InReach cut layer inode right.read_file)
+    (Was e.client → ReadsFrom s e inode → InReach cut layer inode right.read_file)
     × (Was e.client → ChangesBytes s (after s e) inode → InReach cut layer inode right.write_file ⊎ InReach cut layer inode right.truncate)
     × Withheld layer inode cut (Confined Was e) (after s e) es
 
@@ -56,8 +56,8 @@ Withheld layer inode cut Was s (e ∷ es) =
 -- all of them, and from whom they spawn, where each move after it is made under the layer
 abbrev pub BytesAreWithheld : Type 0
 BytesAreWithheld =
-    (room : ℕ) (early late : List Entry) → IsLegal (start room) (early ++ late) →
-    let cut = state_after (start room) early in
+    (rules : Rules) (room : ℕ) (early late : List Entry) → IsLegal (start rules room) (early ++ late) →
+    let cut = state_after (start rules room) early in
     (layer : Layer) → MovesUnder layer cut late →
     (inode : ℕ) → HasName cut inode →
     ((client : ℕ) → IsConfined layer cut client → (fd : ℕ) (d : Descriptor) → get (client_of cut client).descriptors fd ≡ Some d → d.inode ≢ inode) →

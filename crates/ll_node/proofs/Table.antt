@@ -1,9 +1,8 @@
 -- What std's table of names says of the map that it means.
-use Rattle.std.specs.Prelude.{◌≡◌, ℕ, Bool, true, cond, ◌&&◌, List, [], ◌∷◌, ◌++◌, length, map, Option, Some, None, All, String, string_bytes, string_cmp, refl}
-use Rattle.std.specs.declared.cmp.Ordering.{Ordering}
+use Rattle.std.specs.Prelude.{◌≡◌, ℕ, Bool, true, cond, ◌&&◌, List, [], ◌∷◌, length, map, Option, Some, None, All, String, string_bytes, string_cmp, refl}
 use Rattle.std.specs.declared.cmp.Ordering.TheVariants.{Less}
 use Rattle.std.specs.Ordering.{nat_cmp, is_eq, is_lt, eq_by_cmp}
-use Rattle.std.specs.Cmp.{IsTotalOrder, eq_by_cmp_equiv}
+use Rattle.std.specs.Cmp.{eq_by_cmp_equiv}
 use Rattle.std.specs.Cmp.Lexicographic.{slice_cmp, nat_list_cmp_total}
 use Rattle.std.specs.List.{AllByRecursion}
 use Rattle.std.specs.List.Sorted.{IsStrictlySortedBy}
@@ -19,7 +18,6 @@ use Rattle.std.proofs.lemmas.Map.Text.{btree_map_updates_text, is_eq-slice_cmp}
 use Rattle.ll_rights.specs.Map.{get, insert, remove, entries, same_list_map}
 use Rattle.ll_rights.proofs.Maps.{get-from_sorted, get-insert, get-remove, entries-from_sorted, same_map}
 use Rattle.ll_path.specs.Name.{IsName}
-use Rattle.ll_node.specs.Slot.{NameMap}
 use Rattle.ll_node.specs.Rows.{rows_of, names_in, AreRows}
 
 pub names_exact : IsAntisymmetric (slice_cmp nat_cmp)

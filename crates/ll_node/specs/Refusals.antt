@@ -1,4 +1,5 @@
--- When a change of a node's names or bytes is refused. Of the refusals that hold the first is given. Their order and the limits are own
+-- When a change of a node's names or bytes is refused. Of the refusals that hold the first is given. Their order and
+-- the limits are own
 use Rattle.std.specs.Prelude.{ℕ, ◌+◌, not, ◌&&◌, List, ◌++◌, length, nat_lt, nat_le}
 use Rattle.ll_rights.specs.declared.errno.Errno.{Errno}
 use Rattle.ll_rights.specs.declared.errno.Errno.TheVariants.{ENOENT, EEXIST, ENOSPC, EFBIG}

@@ -52,7 +52,12 @@ impl Model for Slot {
 
     ghost use Rattle.ll_node.specs.Held.{names_of, bytes_of, has_names};
 
-    ghost view = { λ slot. record { kind = slot.kind; names = names_of slot.held; bytes = bytes_of slot.held; mark = slot.mark } };
+    ghost view = { λ slot. record {
+      kind = slot.kind;
+      names = names_of slot.held;
+      bytes = bytes_of slot.held;
+      mark = slot.mark;
+    } };
 
     ghost invariant = { λ slot. has_names slot.held ≡ is_dir slot.kind };
 }
@@ -225,7 +230,8 @@ impl Slot {
         }
     }
 
-    /// Puts the bytes in from the offset on, over what stands there. A gap before them is zeros; no bytes change nothing.
+    /// Puts the bytes in from the offset on, over what stands there. A gap before them is zeros; no bytes change
+    /// nothing.
     pub fn write_at(&mut self, offset: u64, bytes: &[u8]) -> Result<(), Errno>
         requires { is_dir self.old.kind ≡ false }
         ensures ok { OnOk result (self.new ≡ record self.old { bytes = written self.old.bytes offset bytes.now }) }

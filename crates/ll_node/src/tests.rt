@@ -1,5 +1,7 @@
-//! That the calls succeed where there is memory, and what they answer in the order of their manuals. What asks for memory is
-//! tried once more where it gets none, as `rt try --test --fail-alloc N` refuses it once; then nothing may have changed.
+//! That the calls succeed where there is memory, and what they answer in the order of their manuals.
+//!
+//! What asks for memory is tried once more where it gets none, as `rt try --test --fail-alloc N` refuses it once in each
+//! test; then nothing may have changed.
 
 use crate::Slot;
 use ll_path::Name;
@@ -58,22 +60,30 @@ fn rename(rt: &impl Abort, slot: &mut Slot, old: &str, new: &str) -> Result<(), 
 #[test]
 fn directories(rt: HostRuntime) -> Result<(), Fail> {
     let mut slot = Slot::new(rt.alloc(), Kind::Dir);
-    names(&rt, &slot, &[])?;
-    for (name, inode) in [("b", 2), ("ab", 3), ("B", 4), ("a", 5)] {
-        assert_eq!(rt; insert(&rt, &mut slot, name, inode), Ok(()), "{name}");
+    for (name, inode, want) in [
+        ("b", 2, Ok(())),
+        ("ab", 3, Ok(())),
+        ("B", 4, Ok(())),
+        ("a", 5, Ok(())),
+        ("a", 9, Err(Errno::EEXIST)),
+    ] {
+        assert_eq!(rt; insert(&rt, &mut slot, name, inode), want, "{name}");
     }
     names(&rt, &slot, &["B", "a", "ab", "b"])?;
-    assert_eq!(rt; insert(&rt, &mut slot, "a", 9), Err(Errno::EEXIST));
-    assert_eq!(rt; slot.replace("a", 6), Ok(5));
-    assert_eq!(rt; slot.replace("c", 6), Err(Errno::ENOENT));
-    assert_eq!(rt; rename(&rt, &mut slot, "b", "a"), Err(Errno::EEXIST));
-    assert_eq!(rt; rename(&rt, &mut slot, "c", "a"), Err(Errno::ENOENT));
-    assert_eq!(rt; rename(&rt, &mut slot, "b", "A"), Ok(()));
-    assert_eq!(rt; slot.remove("ab"), Ok(3));
-    assert_eq!(rt; slot.remove("ab"), Err(Errno::ENOENT));
-    names(&rt, &slot, &["A", "B", "a"])?;
-    assert_eq!(rt; slot.look_up("A"), Some(2));
-    assert_eq!(rt; slot.look_up("b"), None);
+    for (name, want) in [("a", Ok(5)), ("a", Ok(6)), ("c", Err(Errno::ENOENT))] {
+        assert_eq!(rt; slot.replace(name, 6), want, "{name}");
+    }
+    for (old, new, want) in [
+        ("b", "a", Err(Errno::EEXIST)),
+        ("c", "a", Err(Errno::ENOENT)),
+        ("b", "A", Ok(())),
+    ] {
+        assert_eq!(rt; rename(&rt, &mut slot, old, new), want, "{old}");
+    }
+    for (name, want) in [("ab", Ok(3)), ("ab", Err(Errno::ENOENT)), ("A", Ok(2))] {
+        assert_eq!(rt; slot.remove(name), want, "{name}");
+    }
+    names(&rt, &slot, &["B", "a"])?;
     Ok(())
 }
 
@@ -158,34 +168,52 @@ fn set_len(
 #[test]
 fn files(rt: HostRuntime) -> Result<(), Fail> {
     let mut slot = Slot::new(rt.alloc(), Kind::Reg);
-    bytes(&rt, &slot, b"")?;
-    assert_eq!(rt; set_len(&rt, &mut slot, 2, b"")?, Ok(()));
-    bytes(&rt, &slot, b"\0\0")?;
-    assert_eq!(rt; write(&rt, &mut slot, 0, b"hi", b"\0\0")?, Ok(()));
-    assert_eq!(rt; write(&rt, &mut slot, 4, b"!", b"hi")?, Ok(()));
-    bytes(&rt, &slot, b"hi\0\0!")?;
-    assert_eq!(rt; write(&rt, &mut slot, 65_535, b"x", b"hi\0\0!")?, Ok(()));
+    let mut before = b"".as_slice();
+    for (len, want) in [
+        (2, b"\0\0".as_slice()),
+        (1, b"\0"),
+        (40, &[0; 40]),
+        (2, b"\0\0"),
+    ] {
+        assert_eq!(rt; set_len(&rt, &mut slot, len, before)?, Ok(()), "{len}");
+        bytes(&rt, &slot, want)?;
+        before = want;
+    }
+    for (offset, new, want) in [
+        (0, b"hi".as_slice(), b"hi".as_slice()),
+        (4, b"!", b"hi\0\0!"),
+        (1, b"o", b"ho\0\0!"),
+        (u64::MAX, b"", b"ho\0\0!"),
+    ] {
+        assert_eq!(rt;
+            write(&rt, &mut slot, offset, new, before)?,
+            Ok(()),
+            "{offset}"
+        );
+        bytes(&rt, &slot, want)?;
+        before = want;
+    }
+    assert_eq!(rt;
+        write(&rt, &mut slot, 65_536, b"x", before)?,
+        Err(Errno::EFBIG)
+    );
+    assert_eq!(rt; set_len(&rt, &mut slot, 65_537, before)?, Err(Errno::EFBIG));
+    bytes(&rt, &slot, before)?;
+    assert_eq!(rt; write(&rt, &mut slot, 65_535, b"x", before)?, Ok(()));
     assert_eq!(rt; slot.len(), 65_536);
-    assert_eq!(rt; set_len(&rt, &mut slot, 1, b"")?, Ok(()));
-    assert_eq!(rt; set_len(&rt, &mut slot, 3, b"h")?, Ok(()));
-    bytes(&rt, &slot, b"h\0\0")?;
-    assert_eq!(rt; write(&rt, &mut slot, u64::MAX, b"", b"h\0\0")?, Ok(()));
-    assert_eq!(rt;
-        write(&rt, &mut slot, 65_536, b"x", b"h\0\0")?,
-        Err(Errno::EFBIG)
-    );
-    assert_eq!(rt;
-        set_len(&rt, &mut slot, 65_537, b"h\0\0")?,
-        Err(Errno::EFBIG)
-    );
-    bytes(&rt, &slot, b"h\0\0")?;
     Ok(())
+}
+
+/// Only what threads may share is taken.
+fn is_shareable<T: Send + Sync>(_: &T) -> bool {
+    true
 }
 
 #[test]
 fn other_nodes(rt: HostRuntime) -> Result<(), Fail> {
     for kind in [Kind::Reg, Kind::Sym, Kind::Fifo, Kind::Dir] {
         let mut slot = Slot::new(rt.alloc(), kind);
+        assert!(rt; is_shareable(&slot));
         assert_eq!(rt; slot.kind(), kind);
         slot.set_mark(Some(3));
         assert_eq!(rt; slot.mark(), Some(3));

@@ -89,7 +89,7 @@ module _ (s a : State) (n number : ℕ) (c : ClientRecord) (d : Descriptor) (tak
   pub given_back : (after : State) → get s.clients n ≡ Some c → get c.descriptors number ≡ None
       → after ≡ with_client a n (record (client_of a n) { descriptors = remove (client_of a n).descriptors number }) → after ≡ s
   given_back after there free is =
-      is ∙ ap (λ (x : ClientRecord). with_client a n (record x { descriptors = remove x.descriptors number })) (ap (λ o. unwrap_or o (new_client [])) got_holder)
+      is ∙ ap (λ (x : ClientRecord). with_client a n (record x { descriptors = remove x.descriptors number })) (ap (λ o. unwrap_or o new_client) got_holder)
       ∙ ap (λ m. with_client a n (record c { descriptors = m })) (remove-insert c.descriptors number d free)
       ∙ ap (λ z. with_client z n c) taken
       ∙ ap (λ m. record s { clients = m }) (insert_back nat_cmp_total nat_cmp-IsAntisymmetric s.clients n c holder there)

@@ -8,13 +8,13 @@ use Rattle.ll_seq.specs.declared.client.ClientRecord.{ClientRecord}
 use Rattle.ll_seq.specs.declared.call.Call.{Call}
 use Rattle.ll_seq.specs.declared.reply.Reply.{Reply}
 use Rattle.ll_seq.specs.declared.reply.Reply.TheVariants.{Refused, Denied}
+use Rattle.ll_seq.specs.Call.{first_path, second_path}
 use Rattle.ll_seq.specs.State.{State}
 use Rattle.ll_seq.specs.Asked.{call_denials}
 use Rattle.ll_seq.specs.Stages.{text_refusals, number_refusals, relation_refusals, walk_refusals, existence_refusals, kind_refusals, limit_refusals}
 use Rattle.ll_seq.specs.Effects.{done}
 use Rattle.ll_seq.specs.Step.{step, first_or, refusals, client_of}
-use Rattle.ll_plain.specs.Deciding.{Comes, ComesBy}
-use Rattle.ll_plain.specs.Outcomes.{Steps}
+use Rattle.ll_plain.specs.Outcomes.{Comes, ComesBy, Steps}
 use Rattle.ll_seq.specs.Fails.{Fails}
 
 -- ---- lists
@@ -37,10 +37,10 @@ both_free xs ys e f = ap (λ zs. zs ++ ys) e ∙ f
 -- ---- parts
 
 abbrev before : State → ClientRecord → Call → List Errno
-before s c call = text_refusals call ++ (number_refusals c call ++ (relation_refusals call ++ (walk_refusals s call ++ existence_refusals s call)))
+before s c call = text_refusals call ++ (number_refusals c call ++ (relation_refusals call (first_path call) (second_path call) ++ (walk_refusals s call ++ existence_refusals s call (first_path call) (second_path call))))
 
 abbrev afterwards : State → ClientRecord → Call → List Errno
-afterwards s c call = kind_refusals s c call ++ limit_refusals s c call
+afterwards s c call = kind_refusals s c call (first_path call) (second_path call) ++ limit_refusals s c call (first_path call) (second_path call)
 
 abbrev parts : List Errno → List Denial → List Errno → List Reply
 parts b d a = map Refused b ++ (map Denied d ++ map Refused a)
@@ -70,14 +70,18 @@ module _ (s : State) (n : ℕ) (call : Call) where
   abbrev late : List Errno
   late = afterwards s (client_of s n) call
 
+  -- what the call does
+  abbrev does_so : ℕ → Reply × State
+  does_so fresh = done s n (client_of s n) call (first_path call) (second_path call) fresh
+
   in_parts : refusals s (client_of s n) call ≡ parts early policy late
   in_parts =
-      by_parts (text_refusals call) (number_refusals (client_of s n) call) (relation_refusals call) (walk_refusals s call) (existence_refusals s call)
-      policy (kind_refusals s (client_of s n) call) (limit_refusals s (client_of s n) call)
+      by_parts (text_refusals call) (number_refusals (client_of s n) call) (relation_refusals call (first_path call) (second_path call)) (walk_refusals s call) (existence_refusals s call (first_path call) (second_path call))
+      policy (kind_refusals s (client_of s n) call (first_path call) (second_path call)) (limit_refusals s (client_of s n) call (first_path call) (second_path call))
 
   step_in_parts : (fresh : ℕ) (b : List Errno) (d : List Denial) (a : List Errno) → early ≡ b → policy ≡ d → late ≡ a
-      → step s n call fresh ≡ first_or s (parts b d a) (done s n (client_of s n) call fresh)
-  step_in_parts fresh b d a eb ed ea = ap (λ rs. first_or s rs (done s n (client_of s n) call fresh)) (in_parts ∙ (λ i. parts (eb i) (ed i) (ea i)))
+      → step s n call fresh ≡ first_or s (parts b d a) (does_so fresh)
+  step_in_parts fresh b d a eb ed ea = ap (λ rs. first_or s rs (does_so fresh)) (in_parts ∙ (λ i. parts (eb i) (ed i) (ea i)))
 
   first_errno : (b : List Errno) (rest : List Reply) (o : Reply × State) (e : Errno) → slice_get b 0 ≡ Some e → first_or s (map Refused b ++ rest) o ≡ (Refused e, s)
   first_errno [] rest o e h = absurd cc
@@ -111,13 +115,13 @@ module _ (s : State) (n : ℕ) (call : Call) where
       pub refused_after : (e : Errno) → slice_get late 0 ≡ Some e → Comes s n call (Refused e) s
       refused_after e h fresh = inl (steps_after e h fresh)
 
-      pub steps_done : late ≡ [] → (reply : Reply) (after : State) → ((fresh : ℕ) → ◌≡◌ {A = Reply × State} (reply, after) (done s n (client_of s n) call fresh)) → Steps s n call reply after
+      pub steps_done : late ≡ [] → (reply : Reply) (after : State) → ((fresh : ℕ) → ◌≡◌ {A = Reply × State} (reply, after) (does_so fresh)) → Steps s n call reply after
       steps_done fits reply after same fresh = same fresh ∙ sym (step_in_parts fresh [] [] [] free (none_first policy allowed) fits)
 
-      pub does_by : late ≡ [] → (fresh : ℕ) (reply : Reply) (after : State) → ◌≡◌ {A = Reply × State} (reply, after) (done s n (client_of s n) call fresh) → ComesBy fresh s n call reply after
+      pub does_by : late ≡ [] → (fresh : ℕ) (reply : Reply) (after : State) → ◌≡◌ {A = Reply × State} (reply, after) (does_so fresh) → ComesBy fresh s n call reply after
       does_by fits fresh reply after same = inl (same ∙ sym (step_in_parts fresh [] [] [] free (none_first policy allowed) fits))
 
-      pub does : late ≡ [] → (reply : Reply) (after : State) → ((fresh : ℕ) → ◌≡◌ {A = Reply × State} (reply, after) (done s n (client_of s n) call fresh)) → Comes s n call reply after
+      pub does : late ≡ [] → (reply : Reply) (after : State) → ((fresh : ℕ) → ◌≡◌ {A = Reply × State} (reply, after) (does_so fresh)) → Comes s n call reply after
       does fits reply after same fresh = does_by fits fresh reply after (same fresh)
 
       pub starves : late ≡ [] → (after : State) → after ≡ s → Comes s n call (Refused NoMemory) after

@@ -1,5 +1,6 @@
-pub mod Deciding
 pub mod Memory
 pub mod Outcomes
 pub mod Reaching
+pub mod Refusal
 pub mod Tables
+pub mod Walking

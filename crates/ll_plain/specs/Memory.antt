@@ -1,12 +1,27 @@
 -- Which calls the plain tree may need memory for. own
 use Rattle.std.specs.Prelude.{Bool, true, false}
 use Rattle.ll_seq.specs.declared.call.Call.{Call}
-use Rattle.ll_seq.specs.declared.call.Call.TheVariants.{Close, Stat, Exec, Unlink, Rmdir}
+use Rattle.ll_seq.specs.declared.call.Call.TheVariants.{Make, Open, Read, Write, Ftruncate, Close, Truncate, ReadDir, Stat, Exec, Unlink, Rmdir, Rename, RenameNoreplace, Exchange, Link, Ruleset, Allow, Confine, Spawn, Connect}
 
 abbrev pub takes_memory : Call → Bool
-takes_memory (Close number) = false
+takes_memory (Make kind target) = true
+takes_memory (Open mode target) = true
+takes_memory (Read fd offset count) = true
+takes_memory (Write fd offset bytes) = true
+takes_memory (Ftruncate fd size) = true
+takes_memory (Close fd) = false
+takes_memory (Truncate target size) = true
+takes_memory (ReadDir target) = true
 takes_memory (Stat target) = false
 takes_memory (Exec target) = false
 takes_memory (Unlink target) = false
 takes_memory (Rmdir target) = false
-takes_memory _ = true
+takes_memory (Rename old new) = true
+takes_memory (RenameNoreplace old new) = true
+takes_memory (Exchange old new) = false
+takes_memory (Link old new) = true
+takes_memory (Ruleset rights) = true
+takes_memory (Allow number target rights) = true
+takes_memory (Confine number) = true
+takes_memory Spawn = true
+takes_memory Connect = true

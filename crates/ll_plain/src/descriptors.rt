@@ -5,22 +5,22 @@ ghost use Rattle.ll_rights.specs.Map.{get, has, remove};
 ghost use Rattle.ll_rights.specs.declared.errno.Errno.{Errno};
 ghost use Rattle.ll_seq.specs.State.{bytes_of};
 ghost use Rattle.ll_seq.specs.Stages.{without, is_too_long};
-ghost use Rattle.ll_seq.specs.Effects.{inode_at, overwritten, with_bytes, with_client};
 ghost use Rattle.ll_seq.specs.Step.{client_of};
-ghost use Rattle.ll_plain.specs.Deciding.{Comes};
-ghost use Rattle.ll_plain.specs.Outcomes.{Steps};
+ghost use Rattle.ll_plain.specs.Outcomes.{Comes, Steps};
 ghost use Rattle.ll_seq.specs.declared.call.Call.TheVariants as calls;
 ghost use Rattle.ll_seq.specs.declared.client.ClientRecord as record_of;
 
 use crate::Plain;
-use crate::files::MOST_BYTES;
 use ll_decide::{Cause, Denial, Place};
 use ll_path::Data;
+use ll_rights::limits::{DATA_BYTES, FILE_BYTES};
 use ll_rights::{Errno, Right};
 use ll_seq::{Descriptor, Reply};
 use std::alloc::AllocError;
 
-const MOST_READ: u64 = 4096;
+const MOST_READ: u64 = DATA_BYTES as u64;
+
+const MOST_BYTES: u64 = FILE_BYTES as u64;
 
 /// Whether these bytes would end behind what a file may have.
 fn ends_too_late(offset: u64, len: u64) -> bool
@@ -91,15 +91,6 @@ impl Plain {
         }
     }
 
-    fn put(&mut self, inode: u64, offset: usize, bytes: &[u8]) -> Result<(), AllocError>
-        requires { offset + length bytes.now < 2 ^ 64 }
-        ensures ok { OnOk result (self.new ≡ with_bytes self.old inode (overwritten (bytes_of self.old inode) offset bytes.now)) }
-        ensures err { OnErr result (self.new ≡ self.old) }
-    {
-        self.nodes.write(inode, offset, bytes)?;
-        Ok(())
-    }
-
     pub(crate) fn write(&mut self, client: u64, number: u64, offset: u64, bytes: &Data) -> Reply
         ensures { Comes self.old client (calls.Write number offset bytes.now) result self.new }
     {
@@ -142,14 +133,6 @@ impl Plain {
             Err(_) => Reply::Refused(Errno::NoMemory),
             Ok(()) => Reply::Done,
         }
-    }
-
-    /// Frees the client's descriptor.
-    pub(crate) fn free(&mut self, client: u64, number: u64)
-        requires { has self.old.clients client ≡ true }
-        ensures { self.new ≡ with_client self.old client (record (client_of self.old client) { descriptors = remove (client_of self.old client).descriptors number }) }
-    {
-        self.clients.close(client, number);
     }
 
     pub(crate) fn close(&mut self, client: u64, number: u64) -> Reply

@@ -2,40 +2,42 @@
 #![tactic(auto)]
 
 mod descriptors;
-mod files;
-mod moves;
-mod names;
-mod policy;
+mod enact;
+mod paths;
 mod reach;
+mod resolve;
 mod rulesets;
+mod tables;
 #[cfg(test)]
 mod tests;
 mod walk;
+mod writes;
 
 ghost use Rattle.std.specs.Prelude.{◌≡◌, ◌≢◌, ◌<◌, ◌≤◌, ◌+◌, ◌-◌, ◌^◌, ℕ, [], true, false, not, IfOk};
 ghost use Rattle.ll_rights.specs.Map.{has};
-ghost use Rattle.ll_seq.specs.State.{State, start};
-ghost use Rattle.ll_plain.specs.Memory.{takes_memory};
-ghost use Rattle.ll_plain.specs.Outcomes.{Outcome};
-ghost use Rattle.ll_seq.specs.Step.{step, refusals, client_of, IsAnswer};
 ghost use Rattle.ll_seq.specs.History.{is_connect};
+ghost use Rattle.ll_seq.specs.State.{State, start};
+ghost use Rattle.ll_seq.specs.Step.{step, refusals, client_of, IsAnswer};
 ghost use Rattle.ll_seq.specs.declared.reply.Reply.{Reply};
+ghost use Rattle.ll_plain.specs.Memory.{takes_memory};
+ghost use Rattle.ll_plain.specs.Outcomes.{ComesBy};
+ghost use Rattle.ll_plain.specs.Refusal.{is_refusal};
 
 use ll_rights::{Errno, Kind};
-use ll_seq::{Call, ClientRecord, Content, Dentries, Node, Reply, NumberMap};
+use ll_seq::{Call, ClientRecord, Content, Dentries, Node, NumberMap, Reply, Rules};
 use std::alloc::{AllocError, Global};
 use std::marker::Model;
 
 const ROOT: u64 = 1;
 
-/// The tree as its definition reads: tables in plain order, every path walked from the root, every right asked upward.
-/// Contracts see the state.
+/// The tree as its definition reads: tables in plain order, every path walked from the root. Contracts see the state.
 #[derive(Drop)]
 pub struct Plain {
     entries: Dentries,
     nodes: NumberMap<Node>,
     next: u64,
     room: usize,
+    rules: Rules,
     clients: NumberMap<ClientRecord>,
     alloc: Global,
 }
@@ -49,17 +51,17 @@ impl Model for Plain {
 
     ghost coded = { coded_state };
 
-    ghost view = { λ tree. record { entries = tree.entries; nodes = tree.nodes; next = tree.next; room = tree.room; clients = tree.clients } };
+    ghost view = { λ tree. record { entries = tree.entries; nodes = tree.nodes; next = tree.next; room = tree.room; rules = tree.rules; clients = tree.clients } };
 
     ghost invariant = { λ tree. IsBelow tree.nodes tree.next };
 }
 
 impl Plain {
     /// A tree of the root alone, without a client, in which this many nodes may live.
-    pub fn new(alloc: Global, nodes: usize) -> Result<Plain, AllocError>
+    pub fn new(alloc: Global, rules: Rules, nodes: usize) -> Result<Plain, AllocError>
         requires some { 1 ≤ nodes }
         requires most { nodes ≤ 4096 }
-        ensures { IfOk result (λ tree. tree ≡ start nodes) }
+        ensures { IfOk result (λ tree. tree ≡ start rules nodes) }
     {
         let root = Node {
             kind: Kind::Dir,
@@ -72,6 +74,7 @@ impl Plain {
             nodes: table,
             next: ROOT + 1,
             room: nodes,
+            rules,
             clients: NumberMap::new(alloc),
             alloc,
         })
@@ -81,7 +84,7 @@ impl Plain {
     /// nothing has changed. `fresh` is the number that a spawned client would get, which no client has.
     pub fn apply(&mut self, client: u64, call: &Call, fresh: u64) -> Reply
         requires caller { has self.old.clients client ≡ not (is_connect call.now) }
-        requires fresh { has self.old.clients fresh ≡ false }
+        requires fresh { call.now ≡ Call.Spawn → has self.old.clients fresh ≡ false }
         requires next { self.old.next < 2 ^ 64 - 1 }
 
         ensures step { result ≢ Reply.Refused Errno.NoMemory → ◌≡◌ {A = Reply × State} (result, self.new) (step self.old client call.now fresh) }
@@ -95,37 +98,43 @@ impl Plain {
 
         // What follows from these for every call.
         ensures answers { IsAnswer result }
+        ensures kept { is_refusal result ≡ true → self.new ≡ self.old }
         ensures clients_stay { (other : ℕ) → has self.old.clients other ≡ true → has self.new.clients other ≡ true }
         ensures no_other_client { (other : ℕ) → other ≢ client → result ≢ Reply.Spawned other → has self.new.clients other ≡ has self.old.clients other }
         ensures spawned { (number : ℕ) → result ≡ Reply.Spawned number → (number ≡ fresh) × (has self.new.clients number ≡ true) }
         ensures numbers { self.new.next ≤ self.old.next + 1 }
     {
-        self.reply(client, call, fresh)
+        let told = self.reply(client, call, fresh);
+        told.by_type();
+        told
     }
 
     fn reply(&mut self, client: u64, call: &Call, fresh: u64) -> Reply
         requires caller { has self.old.clients client ≡ not (is_connect call.now) }
-        requires fresh { has self.old.clients fresh ≡ false }
+        requires fresh { call.now ≡ Call.Spawn → has self.old.clients fresh ≡ false }
         requires next { self.old.next < 2 ^ 64 - 1 }
-        ensures { Outcome fresh self.old client call.now result self.new }
+        ensures comes { ComesBy fresh self.old client call.now result self.new }
+        ensures memory { takes_memory call.now ≡ false → result ≢ Reply.Refused Errno.NoMemory }
     {
         match call {
-            Call::Make(kind, target) => self.make(client, *kind, target),
-            Call::Open(mode, target) => self.open(client, *mode, target),
+            Call::Make(_, _) => self.perform(client, call),
+            Call::Open(_, _) => self.perform(client, call),
+            Call::Truncate(_, _) => self.perform(client, call),
+            Call::ReadDir(_) => self.perform(client, call),
+            Call::Stat(_) => self.perform(client, call),
+            Call::Exec(_) => self.perform(client, call),
+            Call::Unlink(_) => self.perform(client, call),
+            Call::Rmdir(_) => self.perform(client, call),
+            Call::Rename(_, _) => self.perform(client, call),
+            Call::RenameNoreplace(_, _) => self.perform(client, call),
+            Call::Exchange(_, _) => self.perform(client, call),
+            Call::Link(_, _) => self.perform(client, call),
+            Call::Allow(_, _, _) => self.perform(client, call),
             Call::Read(number, offset, count) => self.read(client, *number, *offset, *count),
             Call::Write(number, offset, bytes) => self.write(client, *number, *offset, bytes),
             Call::Ftruncate(number, size) => self.ftruncate(client, *number, *size),
             Call::Close(number) => self.close(client, *number),
-            Call::Truncate(target, size) => self.truncate(client, target, *size),
-            Call::ReadDir(target) => self.read_dir(client, target),
-            Call::Stat(target) => self.stat(client, target),
-            Call::Exec(target) => self.exec(client, target),
-            Call::Unlink(target) => self.unlink(client, target),
-            Call::Rmdir(target) => self.rmdir(client, target),
-            Call::Rename(old, new) => self.rename(client, old, new),
-            Call::Link(old, new) => self.link(client, old, new),
             Call::Ruleset(rights) => self.create_ruleset(client, *rights),
-            Call::Allow(number, target, rights) => self.allow(client, *number, target, *rights),
             Call::Confine(number) => self.confine(client, *number),
             Call::Spawn => self.spawn(client, fresh),
             Call::Connect => self.connect(client),

@@ -11,8 +11,8 @@ ghost use Rattle.ll_seq.specs.History.{is_connect};
 
 use crate::Plain;
 use ll_path::{Data, Target, Word};
-use ll_rights::{Access, Errno, Kind};
-use ll_seq::{AccessMode, Call, Creation, Mode, Reply};
+use ll_rights::{Abi, Access, Errno, Kind};
+use ll_seq::{AccessMode, Call, Creation, Mode, Reply, Rules};
 use std::alloc::{AllocError, Global};
 use std::process::Abort;
 use std::test::Fail;
@@ -57,6 +57,8 @@ enum Ask {
     Unlink(&'static str),
     Rmdir(&'static str),
     Rename(&'static str, &'static str),
+    RenameNoreplace(&'static str, &'static str),
+    Exchange(&'static str, &'static str),
     Link(&'static str, &'static str),
     Ruleset(u64),
     Allow(u64, &'static str, u64),
@@ -150,6 +152,14 @@ impl Ask {
                 let old = target(alloc, old, round)?;
                 Call::Rename(old, target(alloc, new, round)?)
             }
+            Ask::RenameNoreplace(old, new) => {
+                let old = target(alloc, old, round)?;
+                Call::RenameNoreplace(old, target(alloc, new, round)?)
+            }
+            Ask::Exchange(old, new) => {
+                let old = target(alloc, old, round)?;
+                Call::Exchange(old, target(alloc, new, round)?)
+            }
             Ask::Link(old, new) => {
                 let old = target(alloc, old, round)?;
                 Call::Link(old, target(alloc, new, round)?)
@@ -162,6 +172,13 @@ impl Ask {
             Ask::Spawn => Call::Spawn,
         };
         Ok(call)
+    }
+}
+
+fn rules() -> Rules {
+    Rules {
+        abi: Abi::NEWEST,
+        copies: true,
     }
 }
 
@@ -179,11 +196,11 @@ struct Session {
 }
 
 impl Session {
-    fn start(alloc: Global, nodes: usize) -> Result<Session, AllocError>
+    fn start(alloc: Global, rules: Rules, nodes: usize) -> Result<Session, AllocError>
         requires some { 1 ≤ nodes }
         requires most { nodes ≤ 4096 }
     {
-        let mut tree = Plain::new(alloc, nodes)?;
+        let mut tree = Plain::new(alloc, rules, nodes)?;
         let Reply::Done = tree.apply(1, &Call::Connect, 2) else {
             return Err(AllocError);
         };
@@ -198,7 +215,7 @@ impl Session {
     fn new(rt: &impl Abort, alloc: Global, nodes: usize) -> Result<Session, AllocError> {
         assert!(rt; 1 <= nodes);
         assert!(rt; nodes <= 4_096);
-        again!(Session::start(alloc, nodes))
+        again!(Session::start(alloc, rules(), nodes))
     }
 
     /// Makes the client's call. A client that it spawns gets the next number.
@@ -254,7 +271,10 @@ const MADE_OPENED_AND_MOVED: &[Row] = &[
     (Ask::Make(Kind::Dir, "/d#"), Told::Done),
     (Ask::Open(READ_WRITE_MADE, "/d#/f"), Told::Above(0)),
     (Ask::Link("/d#/f", "/l#"), Told::Done),
-    (Ask::Rename("/l#", "/m#"), Told::Done),
+    (Ask::Rename("/l#", "/k#"), Told::Done),
+    (Ask::RenameNoreplace("/k#", "/m#"), Told::Done),
+    (Ask::Exchange("/d#", "/m#"), Told::Done),
+    (Ask::Exchange("/d#", "/m#"), Told::Done),
     (Ask::Truncate("/m#", 100), Told::Done),
     (Ask::Ruleset(0x4), Told::Above(0)),
     (Ask::Allow(0, "/m#", 0x4), Told::Done),

@@ -1,158 +1,191 @@
 //! Walks from the root.
 
-ghost use Rattle.std.specs.Prelude.{◌≡◌, ◌==◌, ◌++◌, [], Some, slice_get, IfOk, IfErr, is_none, unwrap_or};
-ghost use Rattle.ll_rights.specs.declared.kind.Kind.{Kind};
-ghost use Rattle.ll_rights.specs.Errno.{refuse};
-ghost use Rattle.ll_rights.specs.Kind.{is_dir};
-ghost use Rattle.ll_path.specs.Path.{parent, is_root};
-ghost use Rattle.ll_seq.specs.Call.{path_of};
-ghost use Rattle.ll_seq.specs.State.{child, kind_of, root};
-ghost use Rattle.ll_seq.specs.Tree.{named};
-ghost use Rattle.ll_seq.specs.Stages.{bad_text, in_the_way, way_to, missing};
-ghost use Rattle.ll_plain.specs.Deciding.{Stands};
+ghost use Rattle.std.specs.Prelude.{◌≡◌, ◌∷◌, ◌++◌, ℕ, List, [], length, option_and_then, option_map, slice_get};
+ghost use Rattle.std.specs.Option.{option_map_or};
+ghost use Rattle.ll_rights.specs.declared.errno.Errno as errno;
+ghost use Rattle.ll_decide.specs.Masks.{AreMasks};
+ghost use Rattle.ll_path.specs.Path.{Path};
+ghost use Rattle.ll_answer.specs.Found.{there_in};
+ghost use Rattle.ll_seq.specs.State.{child};
+ghost use Rattle.ll_seq.specs.Stages as stages;
+ghost use Rattle.ll_plain.specs.Walking.{IsWalk, IsPathWalk};
 
 use crate::{Plain, ROOT};
-use ll_path::{Names, Path, Target};
+use ll_answer::{Spot, There};
+use ll_decide::Masks;
+use ll_path::{Names, Path};
 use ll_rights::{Errno, Kind};
+use ll_rules::Domain;
 
-/// A path's last name, and the directory in which it stands.
+/// Where a walk along some names stands.
 #[derive(Drop)]
-pub struct Spot<'a> {
-    pub path: &'a Path,
-    pub directory: u64,
-    pub name: &'a str,
+pub struct Walk {
+    /// The node that the names lead to, if they lead to one.
+    pub end: Option<u64>,
+    /// What is in the way first, if anything is.
+    pub way: Option<Errno>,
+    /// What each layer grants there.
+    pub masks: Masks,
 }
 
-impl Spot<'_> {
-    /// Whether both names stand in one directory.
-    pub(crate) fn is_beside(&self, other: &Spot<'_>) -> bool
-        ensures { result ≡ (self.now.directory == other.now.directory) }
-    {
-        self.directory == other.directory
+/// What the walk along a path finds.
+#[derive(Drop)]
+pub struct PathWalk {
+    pub spot: Spot,
+    /// What each layer grants on the path's parent.
+    pub parent: Masks,
+    /// What each layer grants on the path.
+    pub itself: Masks,
+}
+
+/// Why a node of this kind is no directory. Where there is none, it is missing.
+fn no_directory(kind: Option<Kind>) -> Option<Errno>
+    ensures { result ≡ slice_get (stages.no_directory kind) 0 }
+{
+    match kind {
+        None => Some(Errno::ENOENT),
+        Some(Kind::Dir) => None,
+        Some(Kind::Sym) => Some(Errno::ELOOP),
+        Some(_) => Some(Errno::ENOTDIR),
     }
+}
+
+/// The first of two refusals.
+fn first(one: Option<Errno>, other: Option<Errno>) -> Option<Errno>
+    ensures { (ones others : List errno.Errno) → one ≡ slice_get ones 0 → other ≡ slice_get others 0 → result ≡ slice_get (ones ++ others) 0 }
+{
+    match one {
+        Some(errno) => Some(errno),
+        None => other,
+    }
+}
+
+/// What is granted with one node more on the chain, if there is one.
+fn granted_at(domain: &Domain, mut masks: Masks, node: Option<u64>) -> Masks
+    requires { length masks ≡ length domain.now }
+    ensures masks { (inodes : List ℕ) → AreMasks masks domain.now inodes → AreMasks result domain.now (inodes ++ option_map_or (λ j. j ∷ []) node []) }
+    ensures len { length result ≡ length domain.now }
+{
+    if let Some(inode) = node {
+        masks.down(domain, inode);
+    }
+    masks
 }
 
 impl Plain {
-    /// What the directory has under the name.
-    pub(crate) fn child(&self, directory: u64, name: &str) -> Option<u64>
-        ensures { result ≡ child self.now directory name.now }
+    /// The walk of the empty path.
+    fn start(&self, domain: &Domain) -> Walk
+        ensures { IsWalk self.now domain.now [] result }
     {
-        self.entries.get(directory, name)
+        Walk {
+            end: Some(ROOT),
+            way: None,
+            masks: Masks::root(self.alloc, domain),
+        }
     }
 
-    pub(crate) fn kind(&self, inode: u64) -> Option<Kind>
-        ensures { result ≡ kind_of self.now inode }
+    /// Why what stands there is no directory.
+    fn in_the_way(&self, node: Option<u64>) -> Option<Errno>
+        ensures { result ≡ slice_get (stages.no_directory (stages.kind_of_child self.now node)) 0 }
     {
-        self.nodes.get(inode).map(|node| node.kind)
+        match node {
+            None => no_directory(None),
+            Some(inode) => no_directory(self.kind(inode)),
+        }
     }
 
-    /// The node's kind; where there is no node, a regular file's.
-    pub(crate) fn kind_or_file(&self, inode: u64) -> Kind
-        ensures { result ≡ unwrap_or (kind_of self.now inode) Kind.Reg }
+    /// What the directory has under the name, if there is one.
+    fn beneath(&self, directory: Option<u64>, name: &str) -> Option<u64>
+        ensures { result ≡ option_and_then (λ d. child self.now d name.now) directory }
     {
-        self.kind(inode).unwrap_or(Kind::Reg)
+        match directory {
+            None => None,
+            Some(directory) => self.child(directory, name),
+        }
     }
 
-    pub(crate) fn is_dir(&self, inode: u64) -> bool
-        ensures { result ≡ is_dir (unwrap_or (kind_of self.now inode) Kind.Reg) }
+    /// The walk along one name more.
+    fn step(&self, domain: &Domain, walk: Walk, name: &str) -> Walk
+        requires { length walk.masks ≡ length domain.now }
+        ensures { (names : Path) → IsWalk self.now domain.now names walk → IsWalk self.now domain.now (names ++ name.now ∷ []) result }
     {
-        self.kind(inode) == Some(Kind::Dir)
+        let Some(directory) = walk.end else {
+            return walk;
+        };
+        let end = self.child(directory, name);
+        Walk {
+            end,
+            way: first(walk.way, self.in_the_way(end)),
+            masks: granted_at(domain, walk.masks, end),
+        }
     }
 
-    /// The directory that the names lead to, or what is in the way first.
-    pub(crate) fn walk(&self, names: Names<'_>) -> Result<u64, Errno>
-        ensures way { IfOk result (λ directory. in_the_way self.now names.entry root ≡ []) }
-        ensures found { IfOk result (λ directory. named self.now names.entry ≡ Some directory) }
-        ensures blocked { IfErr result (λ errno. slice_get (in_the_way self.now names.entry root) 0 ≡ Some errno) }
+    /// The walk along the names.
+    fn walk(&self, domain: &Domain, names: Names<'_>) -> Walk
+        ensures { IsWalk self.now domain.now names.entry result }
     {
-        let mut directory = ROOT;
+        let mut walk = self.start(domain);
         for name in names {
-            let Some(next) = self.child(directory, name) else {
-                return Err(Errno::ENOENT);
-            };
-            match self.kind(next) {
-                None => return Err(Errno::ENOENT),
-                Some(Kind::Dir) => directory = next,
-                Some(Kind::Sym) => return Err(Errno::ELOOP),
-                Some(_) => return Err(Errno::ENOTDIR),
-            }
+            walk = self.step(domain, walk, name);
         }
-        Ok(directory)
+        walk
     }
 
-    /// The inode that the path names, if there is one, or what is in the way.
-    pub(crate) fn seek(&self, path: &Path) -> Result<Option<u64>, Errno>
-        ensures way { IfOk result (λ inode. in_the_way self.now (parent path.now) root ≡ []) }
-        ensures found { IfOk result (λ inode. named self.now path.now ≡ inode) }
-        ensures refused { IfErr result (λ errno. slice_get (in_the_way self.now (parent path.now) root) 0 ≡ Some errno) }
+    /// What stands where the inode does.
+    fn there(&self, inode: u64) -> There
+        ensures { result ≡ there_in self.now inode }
     {
-        let Some((parent, last)) = path.split_last() else {
-            return Ok(Some(ROOT));
-        };
-        match self.walk(parent) {
-            Err(errno) => Err(errno),
-            Ok(directory) => Ok(self.child(directory, last)),
+        There {
+            inode,
+            kind: self.kind_or_file(inode),
+            has_names: self.has_names(inode),
+            has_many_names: self.has_many_names(inode),
         }
     }
 
-    /// The inode that the path names, or why there is none.
-    pub(crate) fn look_up(&self, path: &Path) -> Result<u64, Errno>
-        ensures way { IfOk result (λ inode. in_the_way self.now (parent path.now) root ≡ []) }
-        ensures found { IfOk result (λ inode. named self.now path.now ≡ Some inode) }
-        ensures refused { IfErr result (λ errno. slice_get (in_the_way self.now (parent path.now) root ++ refuse (is_none (named self.now path.now)) Errno.ENOENT) 0 ≡ Some errno) }
+    fn there_if(&self, node: Option<u64>) -> Option<There>
+        ensures { result ≡ option_map (there_in self.now) node }
     {
-        match self.seek(path) {
-            Err(errno) => Err(errno),
-            Ok(None) => Err(Errno::ENOENT),
-            Ok(Some(inode)) => Ok(inode),
+        match node {
+            None => None,
+            Some(inode) => Some(self.there(inode)),
         }
     }
 
-    /// The path that the target spells and the inode that this names, or why there is none.
-    pub(crate) fn find<'a>(&self, target: &'a Target) -> Result<(&'a Path, u64), Errno>
-        ensures path { IfOk result (λ found. found.0.now ≡ path_of target.now) }
-        ensures free { IfOk result (λ found. bad_text target.now ++ (way_to self.now target.now ++ missing self.now target.now) ≡ []) }
-        ensures found { IfOk result (λ found. named self.now (path_of target.now) ≡ Some found.1) }
-        ensures refused { IfErr result (λ errno. slice_get (bad_text target.now ++ (way_to self.now target.now ++ missing self.now target.now)) 0 ≡ Some errno) }
+    pub(crate) fn walk_root(&self, domain: &Domain) -> PathWalk
+        ensures { IsPathWalk self.now domain.now [] result }
     {
-        let path = match target {
-            Target::Bad(bad) => return Err(bad.errno),
-            Target::Good(path) => path,
-        };
-        match self.look_up(path) {
-            Err(errno) => Err(errno),
-            Ok(inode) => Ok((path, inode)),
+        PathWalk {
+            spot: Spot {
+                way: None,
+                directory: ROOT,
+                is_crowded: self.is_crowded(ROOT),
+                there: Some(self.there(ROOT)),
+            },
+            parent: Masks::root(self.alloc, domain),
+            itself: Masks::root(self.alloc, domain),
         }
     }
 
-    /// Where the last name of the path stands, or what is in the way. The root's has no place.
-    pub(crate) fn spot<'a>(&self, path: &'a Path) -> Result<Spot<'a>, Errno>
-        ensures stands { IfOk result (λ spot. Stands self.now path.now spot) }
-        ensures free { IfOk result (λ spot. refuse (is_root path.now) Errno.EBUSY ++ in_the_way self.now (parent path.now) root ≡ []) }
-        ensures refused { IfErr result (λ errno. slice_get (refuse (is_root path.now) Errno.EBUSY ++ in_the_way self.now (parent path.now) root) 0 ≡ Some errno) }
+    /// The walk along the path, which is the only one along it.
+    pub(crate) fn walk_path(&self, domain: &Domain, path: &Path) -> PathWalk
+        ensures { IsPathWalk self.now domain.now path.now result }
     {
         let Some((parent, name)) = path.split_last() else {
-            return Err(Errno::EBUSY);
+            return self.walk_root(domain);
         };
-        match self.walk(parent) {
-            Err(errno) => Err(errno),
-            Ok(directory) => Ok(Spot {
-                path,
+        let walk = self.walk(domain, parent);
+        let directory = walk.end.unwrap_or(0);
+        let node = self.beneath(walk.end, name);
+        PathWalk {
+            spot: Spot {
+                way: walk.way,
                 directory,
-                name,
-            }),
-        }
-    }
-
-    /// Where the last name of the path stands that the target spells, or why it stands nowhere.
-    pub(crate) fn find_spot<'a>(&self, target: &'a Target) -> Result<Spot<'a>, Errno>
-        ensures stands { IfOk result (λ spot. Stands self.now (path_of target.now) spot) }
-        ensures free { IfOk result (λ spot. bad_text target.now ++ (refuse (is_root (path_of target.now)) Errno.EBUSY ++ way_to self.now target.now) ≡ []) }
-        ensures refused { IfErr result (λ errno. slice_get (bad_text target.now ++ (refuse (is_root (path_of target.now)) Errno.EBUSY ++ way_to self.now target.now)) 0 ≡ Some errno) }
-    {
-        match target {
-            Target::Bad(bad) => Err(bad.errno),
-            Target::Good(path) => self.spot(path),
+                is_crowded: self.is_crowded(directory),
+                there: self.there_if(node),
+            },
+            itself: granted_at(domain, walk.masks.copy(), node),
+            parent: walk.masks,
         }
     }
 }

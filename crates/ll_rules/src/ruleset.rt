@@ -43,6 +43,32 @@ impl Ruleset {
         })
     }
 
+    /// Why a rule is refused on a node of this kind.
+    pub fn refusal(&self, kind: Kind, rights: Access) -> Option<Errno>
+        ensures { result ≡ slice_get (rule_refusals self.now kind rights.0) 0 }
+    {
+        if rights.0 == 0 {
+            return Some(Errno::ENOMSG);
+        }
+        if !rights.is_within(self.layer.handled()) {
+            return Some(Errno::EINVAL);
+        }
+        if !kind.is_dir() && !rights.is_within(Access::FILE) {
+            return Some(Errno::EINVAL);
+        }
+        None
+    }
+
+    /// Why a rule on the inode is one too many.
+    pub fn limit(&self, inode: u64) -> Option<Errno>
+        ensures { result ≡ slice_get (rule_limit self.now inode) 0 }
+    {
+        if self.layer.rule_count() >= RULESET_INODES && !self.layer.has_inode(inode) {
+            return Some(Errno::E2BIG);
+        }
+        None
+    }
+
     /// Adds a rule on the inode of a node of this kind. A second rule on one inode is joined with
     /// the first.
     pub fn allow(&mut self, inode: u64, kind: Kind, rights: Access) -> Result<(), Errno>
@@ -55,17 +81,11 @@ impl Ruleset {
         ensures starved { result ≡ Err Errno.NoMemory → rule_refusals self.old kind rights.0 ++ rule_limit self.old inode ≡ [] }
         ensures err { OnErr result (self.new ≡ self.old) }
     {
-        if rights.0 == 0 {
-            return Err(Errno::ENOMSG);
+        if let Some(errno) = self.refusal(kind, rights) {
+            return Err(errno);
         }
-        if !rights.is_within(self.layer.handled()) {
-            return Err(Errno::EINVAL);
-        }
-        if !kind.is_dir() && !rights.is_within(Access::FILE) {
-            return Err(Errno::EINVAL);
-        }
-        if self.layer.rule_count() >= RULESET_INODES && !self.layer.has_inode(inode) {
-            return Err(Errno::E2BIG);
+        if let Some(errno) = self.limit(inode) {
+            return Err(errno);
         }
         if self.layer.add_rule(inode, rights).is_err() {
             return Err(Errno::NoMemory);

@@ -39,6 +39,7 @@ use Rattle.ll_seq.specs.Asked.{call_denials}
 use Rattle.ll_seq.specs.Stages.{bad_text, text_refusals, number_refusals, relation_refusals, walk_refusals, existence_refusals, kind_refusals, limit_refusals, in_the_way, kind_of_child, no_directory, way_to, missing, present, without, no_space, lying, replace_refusals, crowds, has_many_names, not_to_open, not_to_truncate, has_names, is_too_long, ruleset_at, is_crowded, lowest_free}
 use Rattle.ll_seq.specs.Effects.{lives, let_go, without_name, with_moved, renamed, dentry_of, resized, overwritten, with_bytes, with_client, with_node, with_opened, emptied, after_opening, written, inode_at, child_of, done}
 use Rattle.ll_seq.specs.Step.{step, first_or, refusals, refusals_at, client_of, IsAnswer}
+use Rattle.ll_seq.proofs.Results.{wants_memory}
 
 -- ---- refusals
 
@@ -365,20 +366,21 @@ done_settles s number c Connect at new fresh = tt
 step-settles : (s : State) (number : ℕ) (call : Call) (fresh : ℕ) → Settles (step s number call fresh).0
 step-settles s number call fresh = refused_or (λ r z. Settles r) s (refusals s (client_of s number) call) (done_now s number call fresh) (all_refuse s number call fresh) (λ r refuses. refuses.0) (done_settles s number (client_of s number) call (first_path call) (second_path call) fresh)
 
-settled_answer : (r : Reply) → Settles r → IsAnswer r
-settled_answer Done h = tt
-settled_answer (Opened n) h = tt
-settled_answer (Bytes bytes) h = tt
-settled_answer (Wrote n) h = tt
-settled_answer (Listed names) h = tt
-settled_answer (Found status) h = tt
-settled_answer (Created n) h = tt
-settled_answer (Spawned n) h = tt
-settled_answer (Denied d) h = tt
-settled_answer (Refused errno) h = inl h
-
-pub step-IsAnswer : (s : State) (number : ℕ) (call : Call) (fresh : ℕ) → IsAnswer (step s number call fresh).0
-step-IsAnswer s number call fresh = settled_answer (step s number call fresh).0 (step-settles s number call fresh)
+-- What is answered is the step's reply or want of memory, and what its types keep of it holds
+pub answered : (s : State) (number : ℕ) (call : Call) (fresh : ℕ) (r : Reply) → (((errno : Errno) → r ≢ Refused errno) → IsAnswer r) → (r ≢ Refused NoMemory → r ≡ (step s number call fresh).0) → IsAnswer r
+answered s number call fresh (Refused errno) by_type is = elim (wants_memory errno) [
+  | inl memory ↦ inr memory
+  | inr other ↦ inl (subst Settles (sym (is (λ e. other (cc e)))) (step-settles s number call fresh))
+]
+answered s number call fresh Done by_type is = tt
+answered s number call fresh (Opened n) by_type is = tt
+answered s number call fresh (Bytes bytes) by_type is = by_type (λ errno e. cc e)
+answered s number call fresh (Wrote n) by_type is = tt
+answered s number call fresh (Listed names) by_type is = by_type (λ errno e. cc e)
+answered s number call fresh (Found status) by_type is = tt
+answered s number call fresh (Created n) by_type is = tt
+answered s number call fresh (Spawned n) by_type is = tt
+answered s number call fresh (Denied d) by_type is = tt
 
 -- ---- the state after
 

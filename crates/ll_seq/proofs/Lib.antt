@@ -1,12 +1,15 @@
 pub mod Bytes
 pub mod Chains
 pub mod Consequences
+pub mod Counts
 pub mod DentryOrder
 pub mod Examples
 pub mod Histories
+pub mod Kept
 pub mod Numbers
 pub mod Parted
 pub mod Results
+pub mod Rising
 pub mod Rows
 pub mod Searches
 pub mod Tables

@@ -20,7 +20,7 @@ if_err (Err e) p f = f e p
 
 -- ---- refusals
 
-wants_memory : (errno : Errno) → (errno ≡ NoMemory) ⊎ (errno ≢ NoMemory)
+pub wants_memory : (errno : Errno) → (errno ≡ NoMemory) ⊎ (errno ≢ NoMemory)
 wants_memory NoMemory = inl refl
 wants_memory _ = inr (λ e. cc)
 

@@ -1,13 +1,12 @@
 -- The entries of a directory stand together.
-use Rattle.std.proofs.Common.{◌≡◌, ◌==◌, ℕ, zero, suc, ◌-◌, ◌<◌, ◌≤◌, Bool, true, false, cond, T, List, [], ◌∷◌, length, filter, take, drop, get_or, ltb, leb, refl, ap, sym, ◌∙◌, subst, inl, inr, arith}
+use Rattle.std.proofs.Common.{◌≡◌, ◌==◌, ℕ, zero, suc, ◌-◌, ◌≤◌, Bool, true, false, cond, T, List, [], ◌∷◌, length, filter, take, drop, get_or, ltb, leb, refl, ap, sym, ◌∙◌, subst, inl, inr, arith}
 use Rattle.std.specs.declared.cmp.Ordering.{Ordering}
-use Rattle.std.specs.declared.cmp.Ordering.TheVariants.{Less, Equal, Greater}
+use Rattle.std.specs.declared.cmp.Ordering.TheVariants.{Less}
 use Rattle.std.specs.Ordering.{nat_cmp, ordering_then}
 use Rattle.std.specs.FinMap.Entries.{is_sorted}
 use Rattle.std.specs.List.Sorted.{IsNonDecreasingBy, IsPartitionPoint}
 use Rattle.std.proofs.lemmas.Bool.{cases_lt}
 use Rattle.std.proofs.lemmas.Bool.Decides.{nat_tests}
-use Rattle.ll_rights.proofs.Maps.{true_is}
 use Rattle.ll_seq.specs.declared.dentries.Dentry.{Dentry}
 use Rattle.ll_seq.specs.State.{dentry_cmp}
 use Rattle.ll_seq.proofs.DentryOrder.{dentry_total, dentry_exact}
@@ -60,12 +59,12 @@ module _ (directory : ℕ) where
   between (e ∷ es) zero zero within low high =
       let past : in_it e ≡ false = let more = high.1 0 e (omega arith) (omega arith) in grind (arith, nat_tests) in
       let rest = between es zero zero (omega arith) (λ k d le lt. absurd (omega arith), λ k d le lt. low.1 (suc k) d (omega arith) (omega arith))
-          (λ k d le lt. absurd (omega arith), λ k d le lt. high.1 (suc k) d (omega arith) (omega arith)) in
+      (λ k d le lt. absurd (omega arith), λ k d le lt. high.1 (suc k) d (omega arith) (omega arith)) in
       rest ∙ sym (ap (λ b. cond b (e ∷ filter in_it es) (filter in_it es)) past)
   between (e ∷ es) zero (suc end) within low high =
       let here : in_it e ≡ true = let less = low.1 0 e (omega arith) (omega arith) in let more = high.0 0 e (omega arith) (omega arith) in grind (arith, nat_tests) in
       let rest = between es zero end (omega arith) (λ k d le lt. absurd (omega arith), λ k d le lt. low.1 (suc k) d (omega arith) (omega arith))
-          (λ k d le lt. high.0 (suc k) d (omega arith) (omega arith), λ k d le lt. high.1 (suc k) d (omega arith) (omega arith)) in
+      (λ k d le lt. high.0 (suc k) d (omega arith) (omega arith), λ k d le lt. high.1 (suc k) d (omega arith) (omega arith)) in
       let more : suc end - 0 ≡ suc (end - 0) = omega arith in
       ap (λ n. take n (e ∷ es)) more ∙ ap (λ xs. e ∷ xs) rest ∙ sym (ap (λ b. cond b (e ∷ filter in_it es) (filter in_it es)) here)
   between (e ∷ es) (suc start) zero within low high =
@@ -73,6 +72,6 @@ module _ (directory : ℕ) where
   between (e ∷ es) (suc start) (suc end) within low high =
       let short : in_it e ≡ false = let less = low.0 0 e (omega arith) (omega arith) in grind (arith, nat_tests) in
       let rest = between es start end (omega arith) (λ k d le lt. low.0 (suc k) d (omega arith) (omega arith), λ k d le lt. low.1 (suc k) d (omega arith) (omega arith))
-          (λ k d le lt. high.0 (suc k) d (omega arith) (omega arith), λ k d le lt. high.1 (suc k) d (omega arith) (omega arith)) in
+      (λ k d le lt. high.0 (suc k) d (omega arith) (omega arith), λ k d le lt. high.1 (suc k) d (omega arith) (omega arith)) in
       let less : suc end - suc start ≡ end - start = omega arith in
       ap (λ n. take n (drop start es)) less ∙ rest ∙ sym (ap (λ b. cond b (e ∷ filter in_it es) (filter in_it es)) short)

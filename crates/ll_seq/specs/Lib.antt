@@ -2,8 +2,10 @@ pub mod Asked
 pub mod Call
 pub mod Codes
 pub mod Effects
+pub mod Facts
 pub mod Fails
 pub mod History
+pub mod Listed
 pub mod Reach
 pub mod Stages
 pub mod State

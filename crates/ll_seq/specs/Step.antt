@@ -6,9 +6,10 @@ use Rattle.ll_rights.specs.Map.{get}
 use Rattle.ll_seq.specs.declared.client.ClientRecord.{ClientRecord}
 use Rattle.ll_seq.specs.declared.call.Call.{Call}
 use Rattle.ll_seq.specs.declared.reply.Reply.{Reply}
-use Rattle.ll_seq.specs.declared.reply.Reply.TheVariants.{Refused, Denied}
+use Rattle.ll_seq.specs.declared.reply.Reply.TheVariants.{Done, Opened, Bytes, Wrote, Listed, Found, Created, Spawned, Refused, Denied}
 use Rattle.ll_path.specs.Path.{Path}
 use Rattle.ll_seq.specs.Call.{first_path, second_path}
+use Rattle.ll_seq.specs.Listed.{IsData, AreListed}
 use Rattle.ll_seq.specs.State.{State, new_client}
 use Rattle.ll_seq.specs.Asked.{call_denials}
 use Rattle.ll_seq.specs.Stages.{text_refusals, number_refusals, relation_refusals, walk_refusals, existence_refusals, kind_refusals, limit_refusals}
@@ -41,7 +42,15 @@ abbrev pub step : State → ℕ → Call → ℕ → Reply × State
 step s number call fresh = first_or s (refusals s (client_of s number) call) (done s number (client_of s number) call (first_path call) (second_path call) fresh)
 
 -- What the tree answers of itself: what policy refuses it tells as a denial; its entries are counted by others, and what is
--- no call it never sees
+-- no call it never sees. Bytes are data, and listed names are names that rise
 abbrev pub IsAnswer : Reply → Type 0
+IsAnswer Done = ⊤
+IsAnswer (Opened number) = ⊤
+IsAnswer (Bytes bytes) = IsData bytes
+IsAnswer (Wrote count) = ⊤
+IsAnswer (Listed names) = AreListed names
+IsAnswer (Found status) = ⊤
+IsAnswer (Created number) = ⊤
+IsAnswer (Spawned number) = ⊤
 IsAnswer (Refused errno) = ((3 ≤ errno_number errno) × (errno_number errno ≤ 20)) ⊎ (errno ≡ NoMemory)
-IsAnswer _ = ⊤
+IsAnswer (Denied denial) = ⊤

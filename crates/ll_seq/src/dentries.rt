@@ -113,9 +113,7 @@ impl Dentries {
     fn rows_of(&self, directory: u64) -> &[(Dentry, u64)]
         ensures { result.now ≡ filter (λ (e : dentries_of.Dentry × ℕ). e.0.directory == directory) (entries self.now) }
     {
-        let start = self
-            .rows
-            .partition_point(|row| row.0.directory < directory);
+        let start = self.rows.partition_point(|row| row.0.directory < directory);
         let end = self
             .rows
             .partition_point(|row| row.0.directory <= directory);
@@ -156,7 +154,8 @@ impl Dentries {
         let Err(place) = search(&self.rows, directory, name.as_str()) else {
             unreachable!();
         };
-        self.rows.insert(place, (Dentry { directory, name }, inode))?;
+        self.rows
+            .insert(place, (Dentry { directory, name }, inode))?;
         Ok(())
     }
 

@@ -6,20 +6,22 @@ mod call;
 mod client;
 mod clients;
 mod dentries;
+mod facts;
 mod listing;
 mod node;
 mod nodes;
+mod number_map;
 mod reply;
 mod rules;
-mod number_map;
 #[cfg(test)]
 mod tests;
 
 pub use call::{AccessMode, Call, Creation, Mode};
 pub use client::{ClientRecord, Descriptor, Rulesets};
 pub use dentries::{Dentries, Dentry};
+pub use facts::{Fact, MOST_OPENS};
 pub use listing::Listing;
 pub use node::{Content, Node};
+pub use number_map::NumberMap;
 pub use reply::{Entry, Reply, Status};
 pub use rules::Rules;
-pub use number_map::NumberMap;

@@ -1,12 +1,13 @@
 //! Lists of names.
 
 ghost use Rattle.std.specs.Prelude.{◌≡◌, [], ◌∷◌, ◌++◌, OnOk, OnErr};
+ghost use Rattle.ll_seq.specs.Listed.{AreListed};
 
 use ll_path::Name;
 use std::alloc::{AllocError, Global};
 use std::marker::Model;
 
-/// Names in the order in which they are told. Contracts see the list.
+/// Names that rise by bytes, as they are told. Contracts see the list.
 #[derive(Drop)]
 pub struct Listing {
     names: Vec<Name>,
@@ -14,10 +15,13 @@ pub struct Listing {
 
 impl Model for Listing {
     ghost use Rattle.std.specs.Prelude.{List, ℕ};
+    ghost use Rattle.ll_seq.specs.Listed.{AreListed};
 
     ghost Value = { List (List ℕ) };
 
     ghost view = { λ listing. listing.names.items };
+
+    ghost invariant = { λ listing. AreListed listing.names.items };
 }
 
 impl Listing {
@@ -30,13 +34,15 @@ impl Listing {
     }
 
     pub fn names(&self) -> &[Name]
-        ensures { result.now ≡ self.now }
+        ensures names { result.now ≡ self.now }
+        ensures listed { AreListed self.now }
     {
         &self.names
     }
 
-    /// One name more, at the end.
+    /// One name more, at the end. It is above those before it.
     pub fn push(&mut self, name: Name) -> Result<(), AllocError>
+        requires { AreListed (self.old ++ name ∷ []) }
         ensures ok { OnOk result (self.new ≡ self.old ++ name ∷ []) }
         ensures err { OnErr result (self.new ≡ self.old) }
     {

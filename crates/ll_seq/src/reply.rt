@@ -1,5 +1,9 @@
 //! Replies.
 
+ghost use Rattle.std.specs.Prelude.{◌≢◌, ◌<◌, ℕ, slice_index};
+ghost use Rattle.ll_rights.specs.declared.errno.Errno as errno_of;
+ghost use Rattle.ll_seq.specs.Step.{IsAnswer};
+
 use crate::call::Call;
 use crate::listing::Listing;
 use ll_decide::Denial;
@@ -35,6 +39,28 @@ pub enum Reply {
     Spawned(u64),
     Refused(Errno),
     Denied(Denial),
+}
+
+/// Nothing happens. What the type of bytes keeps of them.
+fn fit(bytes: &[u8])
+    ensures { (i : ℕ) → slice_index bytes.now i < 256 }
+{
+    let _bytes = bytes;
+}
+
+impl Reply {
+    /// Nothing happens. What the types of a reply keep of it: but for a refusal it is one that the tree may give.
+    pub fn by_type(&self)
+        ensures { ((errno : errno_of.Errno) → self.now ≢ Reply.Refused errno) → IsAnswer self.now }
+    {
+        match self {
+            Reply::Bytes(bytes) => fit(bytes.as_slice()),
+            Reply::Listed(listing) => {
+                listing.names();
+            }
+            _ => {}
+        }
+    }
 }
 
 /// One entry of a history: who called, what, and what was answered.

@@ -2,7 +2,7 @@
 //!
 //! What asks for memory is tried once more where it gets none, as `rt try --test --fail-alloc N` refuses it once.
 
-use crate::{ClientRecord, Content, Descriptor, Dentries, Listing, Node, NumberMap};
+use crate::{ClientRecord, Content, Dentries, Descriptor, Fact, Listing, Node, NumberMap, Rules};
 use ll_path::Name;
 use ll_rights::{Abi, Access, Kind};
 use std::alloc::{AllocError, Global};
@@ -76,6 +76,24 @@ fn bytes_are_written(rt: HostRuntime) -> Result<(), Fail> {
     Ok(())
 }
 
+fn make(facts: &mut NumberMap<Fact>, inode: u64) -> Result<(), AllocError> {
+    if facts.get(inode).is_some() {
+        return Ok(());
+    }
+    facts.make(1, inode, Kind::Reg)
+}
+
+#[test]
+fn nodes_are_counted(rt: HostRuntime) -> Result<(), Fail> {
+    let mut facts = again!(NumberMap::of_root(rt.alloc()))?;
+    again!(make(&mut facts, 2))?;
+    let root = facts.get(1).ok_or("no root")?;
+    assert_eq!(rt; root.names, 1);
+    let file = facts.get(2).ok_or("no file")?;
+    assert_eq!(rt; (file.links, file.opens), (1, 0));
+    Ok(())
+}
+
 const READER: Descriptor = Descriptor {
     inode: 2,
     reads: true,
@@ -83,8 +101,13 @@ const READER: Descriptor = Descriptor {
     kept: None,
 };
 
+const COPIES: Rules = Rules {
+    abi: Abi::NEWEST,
+    copies: true,
+};
+
 #[test]
-fn a_client_confines_itself_and_opens(rt: HostRuntime) -> Result<(), Fail> {
+fn a_client_confines_itself_opens_and_spawns(rt: HostRuntime) -> Result<(), Fail> {
     let mut client = ClientRecord::new(rt.alloc());
     assert_eq!(rt;
         again!(client.create_ruleset(rt.alloc(), Abi::NEWEST, Access(0x4))),
@@ -96,5 +119,7 @@ fn a_client_confines_itself_and_opens(rt: HostRuntime) -> Result<(), Fail> {
     assert_eq!(rt; again!(client.confine(0)), Ok(()));
     assert_eq!(rt; client.domain.len(), 1);
     assert_eq!(rt; again!(client.open(READER)), Ok(0));
+    let child = again!(client.child(rt.alloc(), COPIES))?;
+    assert_eq!(rt; child.descriptors.get(0).copied(), Some(READER));
     Ok(())
 }

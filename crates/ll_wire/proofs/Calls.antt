@@ -1,5 +1,6 @@
 -- What a call is whose first token is known.
-use Rattle.std.proofs.Common.{◌≡◌, ℕ, ◌^◌, ◌<◌, Bool, false, List, [], ◌∷◌, codes, Result, Ok, Err, inl, inr, refl, ap, sym, ◌∙◌, subst}
+use Rattle.std.proofs.Common.{◌≡◌, ℕ, ◌^◌, ◌<◌, Bool, true, false, List, [], ◌∷◌, codes, Result, Ok, Err, inl, inr, refl, ap, sym, ◌∙◌, subst}
+use Rattle.std.specs.Prelude.{⊤}
 use Rattle.std.specs.Result.{MatchResult}
 use Rattle.std.specs.Str.{bytes_eq}
 use Rattle.std.specs.Fmt.{decimal}
@@ -14,13 +15,13 @@ use Rattle.ll_path.specs.Word.{IsWord}
 use Rattle.ll_path.specs.Target.{target_text}
 use Rattle.ll_seq.specs.declared.call.Mode.{Mode}
 use Rattle.ll_seq.specs.declared.call.Call.{Call}
-use Rattle.ll_seq.specs.declared.call.Call.TheVariants.{Make, Open, Read, Write, Ftruncate, Close, Truncate, ReadDir, Stat, Exec, Unlink, Rmdir, Rename, Link, Ruleset, Allow, Confine, Spawn}
+use Rattle.ll_seq.specs.declared.call.Call.TheVariants.{Make, Open, Read, Write, Ftruncate, Close, Truncate, ReadDir, Stat, Exec, Unlink, Rmdir, Rename, RenameNoreplace, Exchange, Link, Ruleset, Allow, Confine, Spawn}
 use Rattle.ll_wire.specs.Grammar.{mode_text, SpellsTarget, IsData, data_text}
-use Rattle.ll_wire.specs.Reads.{Reads, SpellsOneTarget, SpellsTwoTargets, SpellsCall, SpellsNumber, SpellsRights, SpellsData}
+use Rattle.ll_wire.specs.Reads.{Reads, ReadsBy, ReadsCall, holds_text, SpellsOneTarget, SpellsTwoTargets, SpellsCall, SpellsNumber, SpellsRights, SpellsData}
 use Rattle.ll_wire.proofs.Targets.{text_is, own_text, some_target}
 
 -- whether the first token is the name
-abbrev first_is : List ℕ → List (List ℕ) → Bool
+abbrev pub first_is : List ℕ → List (List ℕ) → Bool
 first_is name [] = false
 first_is name (token ∷ tokens) = bytes_eq name token
 
@@ -91,6 +92,14 @@ pub rename_is : IsOfTargets (codes "rename") (λ targets. Rename targets.0 targe
 rename_is args (Rename old new) h = ((old, new), (h.0.0, h.0.1, cc), refl)
 rename_is args call h = absurd (false≢true (sym (ap (first_is (codes "rename")) h.1)))
 
+pub rename_noreplace_is : IsOfTargets (codes "rename_noreplace") (λ targets. RenameNoreplace targets.0 targets.1)
+rename_noreplace_is args (RenameNoreplace old new) h = ((old, new), (h.0.0, h.0.1, cc), refl)
+rename_noreplace_is args call h = absurd (false≢true (sym (ap (first_is (codes "rename_noreplace")) h.1)))
+
+pub exchange_is : IsOfTargets (codes "exchange") (λ targets. Exchange targets.0 targets.1)
+exchange_is args (Exchange old new) h = ((old, new), (h.0.0, h.0.1, cc), refl)
+exchange_is args call h = absurd (false≢true (sym (ap (first_is (codes "exchange")) h.1)))
+
 pub link_is : IsOfTargets (codes "link") (λ targets. Link targets.0 targets.1)
 link_is args (Link old new) h = ((old, new), (h.0.0, h.0.1, cc), refl)
 link_is args call h = absurd (false≢true (sym (ap (first_is (codes "link")) h.1)))
@@ -116,49 +125,51 @@ spawn_is args Spawn h = (cc, refl)
 spawn_is args call h = absurd (false≢true (sym (ap (first_is (codes "spawn")) h.1)))
 
 -- where a part can't be read, the whole can't, for the same reason
-fails : {V W : Type 0} (P : V → Type 0) (Q : W → Type 0) (e : Errno) → ((w : W) → Q w → (v : V) × P v) → ((v : V) → P v → (w : W) × Q w) → Reads P (Err e) → Reads Q (Err e)
-fails P Q e part whole (inl h) = inl (h.0, λ w is. let v = part w is in h.1 v.0 v.1)
-fails P Q e part whole (inr h) = let w = whole h.1 h.2 in inr (h.0, w.0, w.1)
+fails : {V W : Type 0} (P : V → Type 0) (Q U : W → Type 0) (e : Errno) → ((w : W) → Q w → (v : V) × P v) → ((v : V) → P v → (w : W) × Q w × U w) → Reads P (Err e) → ReadsBy Q U (Err e)
+fails P Q U e part whole (inl h) = inl (h.0, λ w is. let v = part w is in h.1 v.0 v.1)
+fails P Q U e part whole (inr h) = let w = whole h.1 h.2 in inr (h.0, w.0, w.1, w.2)
 
 -- where a part is read, the whole that is made of it is
-pub whole_reads : {V W : Type 0} (P : V → Type 0) (Q : W → Type 0) (make : V → W) → ((w : W) → Q w → (v : V) × P v) → ((v : V) → P v → Q (make v))
-    → (r : Result V Errno) (s : Result W Errno) → MatchResult r (λ v. s ≡ Ok (make v)) (λ e. s ≡ Err e) → Reads P r → Reads Q s
-whole_reads P Q make part whole (Ok v) s e h = rw e (whole v h)
-whole_reads P Q make part whole (Err d) s e h = rw e (fails P Q d part (λ v is. (make v, whole v is)) h)
+pub whole_reads : {V W : Type 0} (P T : V → Type 0) (Q U : W → Type 0) (make : V → W) → ((w : W) → Q w → (v : V) × P v) → ((v : V) → P v → Q (make v)) → ((v : V) → P v → T v → U (make v))
+    → (r : Result V Errno) (s : Result W Errno) → MatchResult r (λ v. s ≡ Ok (make v)) (λ e. s ≡ Err e) → ReadsBy P T r → ReadsBy Q U s
+whole_reads P T Q U make part whole takes (Ok v) s e h = rw e (whole v h)
+whole_reads P T Q U make part whole takes (Err d) s e (inl h) = rw e (inl (h.0, λ w is. let v = part w is in h.1 v.0 v.1))
+whole_reads P T Q U make part whole takes (Err d) s e (inr h) = rw e (inr (h.0, make h.1, whole h.1 h.2, takes h.1 h.2 h.3))
 
 pub same_err : {V : Type 0} (r : Result V Errno) → MatchResult r (λ v. r ≡ Ok v) (λ e. r ≡ Err e)
 same_err (Ok v) = refl
 same_err (Err e) = refl
 
 pub one_reads : (args : List (List ℕ)) (path : List ℕ) (r : Result Target Errno) → args ≡ path ∷ [] → Reads (SpellsTarget path) r → Reads (SpellsOneTarget args) r
-one_reads args path r parts h = whole_reads (SpellsTarget path) (SpellsOneTarget args) (λ target. target)
+one_reads args path r parts h = whole_reads (SpellsTarget path) (λ _. ⊤) (SpellsOneTarget args) (λ _. ⊤) (λ target. target)
     (λ target is. let same : target_text target ≡ path = cc in (target, subst (λ (w : List ℕ). SpellsTarget w target) same is.0))
-    (λ target is. let same = text_is path target is in (own_text path target is, cc))
+    (λ target is. let same = text_is path target is in (own_text path target is, cc)) (λ target is takes. tt)
     r r (same_err r) h
 
 -- a call of one target, by the reader of its target
 pub call_reads : (name : List ℕ) (make : Target → Call) → IsOfTarget name make → ((target : Target) → SpellsTarget (target_text target) target → SpellsCall (name ∷ target_text target ∷ []) (make target))
-    → (tokens args : List (List ℕ)) (r : Result Target Errno) (s : Result Call Errno) → tokens ≡ name ∷ args → MatchResult r (λ target. s ≡ Ok (make target)) (λ e. s ≡ Err e)
-    → Reads (SpellsOneTarget args) r → Reads (SpellsCall tokens) s
-call_reads name make is own tokens args r s parts m h = whole_reads (SpellsOneTarget args) (SpellsCall tokens) make
+    → ((target : Target) → holds_text (make target) ≡ true) → (tokens args : List (List ℕ)) (r : Result Target Errno) (s : Result Call Errno) → tokens ≡ name ∷ args → MatchResult r (λ target. s ≡ Ok (make target)) (λ e. s ≡ Err e)
+    → Reads (SpellsOneTarget args) r → ReadsCall tokens s
+call_reads name make is own holds tokens args r s parts m h = whole_reads (SpellsOneTarget args) (λ _. ⊤) (SpellsCall tokens) (λ call. holds_text call ≡ true) make
     (λ call k. let o = is args call (k.0, sym parts ∙ k.1) in (o.0, o.1))
     (λ target k. let spelled = own target k.0 in (spelled.0, parts ∙ ap (λ (x : List (List ℕ)). name ∷ x) k.1 ∙ spelled.1))
+    (λ target k takes. holds target)
     r s m h
 
 -- where one of two words can't be read, neither can both
 pub first_fails : (args : List (List ℕ)) (first second : List ℕ) (e : Errno) → args ≡ first ∷ second ∷ [] → IsWord second
     → Reads (SpellsTarget first) (Err e) → Reads (SpellsTwoTargets args) (Err e)
-first_fails args first second e parts word = fails (SpellsTarget first) (SpellsTwoTargets args) e
+first_fails args first second e parts word = fails (SpellsTarget first) (SpellsTwoTargets args) (λ _. ⊤) e
     (λ targets is. let same : target_text targets.0 ≡ first = cc in (targets.0, subst (λ (w : List ℕ). SpellsTarget w targets.0) same is.0))
     (λ target is. let same = text_is first target is in let other = some_target second in let same_other = text_is second other.0 (word, other.1) in
-    ((target, other.0), (own_text first target is, own_text second other.0 (word, other.1), cc)))
+    ((target, other.0), (own_text first target is, own_text second other.0 (word, other.1), cc), tt))
 
 pub second_fails : (args : List (List ℕ)) (first second : List ℕ) (one : Target) (e : Errno) → args ≡ first ∷ second ∷ [] → SpellsTarget first one
     → Reads (SpellsTarget second) (Err e) → Reads (SpellsTwoTargets args) (Err e)
-second_fails args first second one e parts h = fails (SpellsTarget second) (SpellsTwoTargets args) e
+second_fails args first second one e parts h = fails (SpellsTarget second) (SpellsTwoTargets args) (λ _. ⊤) e
     (λ targets is. let same : target_text targets.1 ≡ second = cc in (targets.1, subst (λ (w : List ℕ). SpellsTarget w targets.1) same is.1))
     (λ target is. let same = text_is second target is in let same_one = text_is first one h in
-    ((one, target), (own_text first one h, own_text second target is, cc)))
+    ((one, target), (own_text first one h, own_text second target is, cc), tt))
 
 pub both_read : (args : List (List ℕ)) (first second : List ℕ) (one two : Target) → args ≡ first ∷ second ∷ [] → SpellsTarget first one → SpellsTarget second two → SpellsTwoTargets args (one, two)
 both_read args first second one two parts h k =
@@ -167,39 +178,40 @@ both_read args first second one two parts h k =
 -- a call of two targets, by the reader of them
 pub pair_reads : (name : List ℕ) (make : Target × Target → Call) → IsOfTargets name make
     → ((targets : Target × Target) → SpellsTarget (target_text targets.0) targets.0 → SpellsTarget (target_text targets.1) targets.1 → SpellsCall (name ∷ target_text targets.0 ∷ target_text targets.1 ∷ []) (make targets))
-    → (tokens args : List (List ℕ)) (r : Result (Target × Target) Errno) (s : Result Call Errno) → tokens ≡ name ∷ args → MatchResult r (λ targets. s ≡ Ok (make targets)) (λ e. s ≡ Err e)
-    → Reads (SpellsTwoTargets args) r → Reads (SpellsCall tokens) s
-pair_reads name make is own tokens args r s parts m h = whole_reads (SpellsTwoTargets args) (SpellsCall tokens) make
+    → ((targets : Target × Target) → holds_text (make targets) ≡ true) → (tokens args : List (List ℕ)) (r : Result (Target × Target) Errno) (s : Result Call Errno) → tokens ≡ name ∷ args → MatchResult r (λ targets. s ≡ Ok (make targets)) (λ e. s ≡ Err e)
+    → Reads (SpellsTwoTargets args) r → ReadsCall tokens s
+pair_reads name make is own holds tokens args r s parts m h = whole_reads (SpellsTwoTargets args) (λ _. ⊤) (SpellsCall tokens) (λ call. holds_text call ≡ true) make
     (λ call k. let o = is args call (k.0, sym parts ∙ k.1) in (o.0, o.1))
     (λ targets k. let spelled = own targets k.0 k.1 in (spelled.0, parts ∙ ap (λ (x : List (List ℕ)). name ∷ x) k.2 ∙ spelled.1))
+    (λ targets k takes. holds targets)
     r s m h
 
 pub make_fails : (args : List (List ℕ)) (kind : Kind) (path : List ℕ) (e : Errno) → args ≡ kind_text kind ∷ path ∷ []
-    → Reads (SpellsTarget path) (Err e) → Reads (SpellsCall (codes "make" ∷ args)) (Err e)
-make_fails args kind path e parts = fails (SpellsTarget path) (SpellsCall (codes "make" ∷ args)) e
+    → Reads (SpellsTarget path) (Err e) → ReadsCall (codes "make" ∷ args) (Err e)
+make_fails args kind path e parts = fails (SpellsTarget path) (SpellsCall (codes "make" ∷ args)) (λ call. holds_text call ≡ true) e
     (λ call is. let m = make_is args call is in let same : target_text m.1 ≡ path = cc in (m.1, subst (λ (w : List ℕ). SpellsTarget w m.1) same m.2))
-    (λ target is. let same = text_is path target is in (Make kind target, (own_text path target is, cc)))
+    (λ target is. let same = text_is path target is in (Make kind target, (own_text path target is, cc), refl))
 
 pub open_fails : (args : List (List ℕ)) (mode : Mode) (path : List ℕ) (e : Errno) → args ≡ mode_text mode ∷ path ∷ []
-    → Reads (SpellsTarget path) (Err e) → Reads (SpellsCall (codes "open" ∷ args)) (Err e)
-open_fails args mode path e parts = fails (SpellsTarget path) (SpellsCall (codes "open" ∷ args)) e
+    → Reads (SpellsTarget path) (Err e) → ReadsCall (codes "open" ∷ args) (Err e)
+open_fails args mode path e parts = fails (SpellsTarget path) (SpellsCall (codes "open" ∷ args)) (λ call. holds_text call ≡ true) e
     (λ call is. let m = open_is args call is in let same : target_text m.1 ≡ path = cc in (m.1, subst (λ (w : List ℕ). SpellsTarget w m.1) same m.2))
-    (λ target is. let same = text_is path target is in (Open mode target, (own_text path target is, cc)))
+    (λ target is. let same = text_is path target is in (Open mode target, (own_text path target is, cc), refl))
 
 pub truncate_fails : (args : List (List ℕ)) (path size_word : List ℕ) (size : ℕ) (e : Errno) → args ≡ path ∷ size_word ∷ []
-    → SpellsNumber size_word size → Reads (SpellsTarget path) (Err e) → Reads (SpellsCall (codes "truncate" ∷ args)) (Err e)
-truncate_fails args path size_word size e parts n = fails (SpellsTarget path) (SpellsCall (codes "truncate" ∷ args)) e
+    → SpellsNumber size_word size → Reads (SpellsTarget path) (Err e) → ReadsCall (codes "truncate" ∷ args) (Err e)
+truncate_fails args path size_word size e parts n = fails (SpellsTarget path) (SpellsCall (codes "truncate" ∷ args)) (λ call. holds_text call ≡ true) e
     (λ call is. let m = truncate_is args call is in let same : target_text m.0 ≡ path = cc in (m.0, subst (λ (w : List ℕ). SpellsTarget w m.0) same m.2))
-    (λ target is. let same = text_is path target is in (Truncate target size, ((own_text path target is, n.0), cc)))
+    (λ target is. let same = text_is path target is in (Truncate target size, ((own_text path target is, n.0), cc), refl))
 
 pub allow_fails : (args : List (List ℕ)) (ruleset_word path rights_word : List ℕ) (number : ℕ) (rights : Access) (e : Errno) → args ≡ ruleset_word ∷ path ∷ rights_word ∷ []
-    → SpellsNumber ruleset_word number → SpellsRights rights_word rights → Reads (SpellsTarget path) (Err e) → Reads (SpellsCall (codes "allow" ∷ args)) (Err e)
-allow_fails args ruleset_word path rights_word number rights e parts n r = fails (SpellsTarget path) (SpellsCall (codes "allow" ∷ args)) e
+    → SpellsNumber ruleset_word number → SpellsRights rights_word rights → Reads (SpellsTarget path) (Err e) → ReadsCall (codes "allow" ∷ args) (Err e)
+allow_fails args ruleset_word path rights_word number rights e parts n r = fails (SpellsTarget path) (SpellsCall (codes "allow" ∷ args)) (λ call. holds_text call ≡ true) e
     (λ call is. let m = allow_is args call is in let same : target_text m.1 ≡ path = cc in (m.1, subst (λ (w : List ℕ). SpellsTarget w m.1) same m.4))
-    (λ target is. let same = text_is path target is in (Allow number target rights, ((n.0, own_text path target is, r.0), cc)))
+    (λ target is. let same = text_is path target is in (Allow number target rights, ((n.0, own_text path target is, r.0), cc), refl))
 
 pub write_fails : (args : List (List ℕ)) (fd_word offset_word word : List ℕ) (fd offset : ℕ) (e : Errno) → args ≡ fd_word ∷ offset_word ∷ word ∷ []
-    → SpellsNumber fd_word fd → SpellsNumber offset_word offset → Reads (SpellsData word) (Err e) → Reads (SpellsCall (codes "write" ∷ args)) (Err e)
-write_fails args fd_word offset_word word fd offset e parts f o = fails (SpellsData word) (SpellsCall (codes "write" ∷ args)) e
+    → SpellsNumber fd_word fd → SpellsNumber offset_word offset → Reads (SpellsData word) (Err e) → ReadsCall (codes "write" ∷ args) (Err e)
+write_fails args fd_word offset_word word fd offset e parts f o = fails (SpellsData word) (SpellsCall (codes "write" ∷ args)) (λ call. holds_text call ≡ true) e
     (λ call is. let m = write_is args call is in (m.2, (m.5, cc)))
-    (λ bytes is. (Write fd offset bytes, ((f.0, o.0, is.0), cc)))
+    (λ bytes is. (Write fd offset bytes, ((f.0, o.0, is.0), cc), refl))

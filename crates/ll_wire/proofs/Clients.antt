@@ -9,7 +9,7 @@ use Rattle.ll_rights.specs.declared.errno.Errno.{Errno}
 use Rattle.ll_seq.specs.declared.call.Call.{Call}
 use Rattle.ll_seq.specs.declared.call.Call.TheVariants as calls
 use Rattle.ll_wire.specs.Grammar.{call_tokens, IsCall, client_tokens}
-use Rattle.ll_wire.specs.Reads.{Reads, SpellsNumber, NamesClient, SpellsCall, SpellsTokens}
+use Rattle.ll_wire.specs.Reads.{ReadsBy, ReadsCall, holds_text, SpellsNumber, NamesClient, SpellsCall, SpellsTokens}
 use Rattle.ll_wire.proofs.Calls.{whole_reads}
 
 of_other : (client : ℕ) → 2 ≤ client → client_tokens client ≡ (64 ∷ decimal client) ∷ []
@@ -44,6 +44,8 @@ no_call_named (calls.Exec target) = refl
 no_call_named (calls.Unlink target) = refl
 no_call_named (calls.Rmdir target) = refl
 no_call_named (calls.Rename old new) = refl
+no_call_named (calls.RenameNoreplace old new) = refl
+no_call_named (calls.Exchange old new) = refl
 no_call_named (calls.Link old new) = refl
 no_call_named (calls.Ruleset rights) = refl
 no_call_named (calls.Allow number target rights) = refl
@@ -74,10 +76,11 @@ after_name tokens others first client parts name n call h = elim (by_client toke
 ]
 
 pub named_reads : (tokens others : List (List ℕ)) (first : List ℕ) (client : ℕ) (r : Result Call Errno) (s : Result (ℕ × Call) Errno) → tokens ≡ first ∷ others → NamesClient first client
-    → MatchResult r (λ call. s ≡ Ok (client, call)) (λ e. s ≡ Err e) → Reads (SpellsCall others) r → Reads (λ (v : ℕ × Call). SpellsTokens tokens v.0 v.1) s
-named_reads tokens others first client r s parts name made h = whole_reads (SpellsCall others) (λ (v : ℕ × Call). SpellsTokens tokens v.0 v.1) (λ call. (client, call))
+    → MatchResult r (λ call. s ≡ Ok (client, call)) (λ e. s ≡ Err e) → ReadsCall others r → ReadsBy (λ (v : ℕ × Call). SpellsTokens tokens v.0 v.1) (λ v. holds_text v.1 ≡ true) s
+named_reads tokens others first client r s parts name made h = whole_reads (SpellsCall others) (λ call. holds_text call ≡ true) (λ (v : ℕ × Call). SpellsTokens tokens v.0 v.1) (λ (v : ℕ × Call). holds_text v.1 ≡ true) (λ call. (client, call))
     (λ v is. (v.1, after_name tokens others first client parts name v.0 v.1 is))
     (λ call is. ((omega arith, name.1), is.0, parts ∙ ap (λ (t : List ℕ). t ∷ others) name.2 ∙ ap (λ (ts : List (List ℕ)). (64 ∷ decimal client) ∷ ts) is.1 ∙ ap (λ (ts : List (List ℕ)). ts ++ call_tokens call) (sym (of_other client name.0))))
+    (λ call is takes. takes)
     r s made h
 
 -- where the first token names no client, the first client calls
@@ -88,10 +91,11 @@ unnamed_call tokens others first parts none n call h = elim (by_client tokens n 
 ]
 
 pub unnamed_reads : (tokens others : List (List ℕ)) (first : List ℕ) (r : Result Call Errno) (s : Result (ℕ × Call) Errno) → tokens ≡ first ∷ others → ((client : ℕ) → NamesClient first client → ⊥)
-    → MatchResult r (λ call. s ≡ Ok (1, call)) (λ e. s ≡ Err e) → Reads (SpellsCall tokens) r → Reads (λ (v : ℕ × Call). SpellsTokens tokens v.0 v.1) s
-unnamed_reads tokens others first r s parts none made h = whole_reads (SpellsCall tokens) (λ (v : ℕ × Call). SpellsTokens tokens v.0 v.1) (λ call. (1, call))
+    → MatchResult r (λ call. s ≡ Ok (1, call)) (λ e. s ≡ Err e) → ReadsCall tokens r → ReadsBy (λ (v : ℕ × Call). SpellsTokens tokens v.0 v.1) (λ v. holds_text v.1 ≡ true) s
+unnamed_reads tokens others first r s parts none made h = whole_reads (SpellsCall tokens) (λ call. holds_text call ≡ true) (λ (v : ℕ × Call). SpellsTokens tokens v.0 v.1) (λ (v : ℕ × Call). holds_text v.1 ≡ true) (λ call. (1, call))
     (λ v is. (v.1, unnamed_call tokens others first parts none v.0 v.1 is))
     (λ call is. ((omega arith, omega arith), is.0, is.1))
+    (λ call is takes. takes)
     r s made h
 
 -- ---- clients that there are
@@ -113,10 +117,10 @@ first_is tokens others first parts none n call h = elim (by_client tokens n call
   | inr named ↦ (let same : first ≡ named.1 = cc in absurd (none n (named.3.0, named.3.1, same ∙ named.3.2)))
 ]
 
-pub within : {V : Type 0} (P Q : V → Type 0) (r : Result V Errno) → Reads P r → ((v : V) → P v → Q v) → Reads (λ v. P v × Q v) r
-within P Q (Ok v) h also = (h, also v h)
-within P Q (Err e) (inl h) also = inl (h.0, λ v is. h.1 v is.0)
-within P Q (Err e) (inr h) also = inr (h.0, h.1, (h.2, also h.1 h.2))
+pub within : {V : Type 0} (P Q T : V → Type 0) (r : Result V Errno) → ReadsBy P T r → ((v : V) → P v → Q v) → ReadsBy (λ v. P v × Q v) T r
+within P Q T (Ok v) h also = (h, also v h)
+within P Q T (Err e) (inl h) also = inl (h.0, λ v is. h.1 v is.0)
+within P Q T (Err e) (inr h) also = inr (h.0, h.1, (h.2, also h.1 h.2), h.3)
 
 -- ---- counting
 
@@ -135,6 +139,8 @@ few_tokens (calls.Exec target) h = (omega arith, omega arith)
 few_tokens (calls.Unlink target) h = (omega arith, omega arith)
 few_tokens (calls.Rmdir target) h = (omega arith, omega arith)
 few_tokens (calls.Rename old new) h = (omega arith, omega arith)
+few_tokens (calls.RenameNoreplace old new) h = (omega arith, omega arith)
+few_tokens (calls.Exchange old new) h = (omega arith, omega arith)
 few_tokens (calls.Link old new) h = (omega arith, omega arith)
 few_tokens (calls.Ruleset rights) h = (omega arith, omega arith)
 few_tokens (calls.Allow number target rights) h = (omega arith, omega arith)

@@ -4,6 +4,7 @@ pub mod Digits
 pub mod Joined
 pub mod Lines
 pub mod Numbers
+pub mod Replies
 pub mod Rights
 pub mod Targets
 pub mod Tokens

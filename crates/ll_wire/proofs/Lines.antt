@@ -1,5 +1,5 @@
 -- Lines and their tokens.
-use Rattle.std.proofs.Common.{◌≡◌, ◌≢◌, ℕ, ◌<◌, ◌≤◌, List, [], ◌∷◌, ◌++◌, length, take, refl, ap, sym, ◌∙◌, arith, Result, subst, length-append}
+use Rattle.std.proofs.Common.{◌≡◌, ◌≢◌, ℕ, ◌<◌, ◌≤◌, true, List, [], ◌∷◌, ◌++◌, length, take, refl, ap, sym, ◌∙◌, arith, Result, subst, length-append}
 use Rattle.std.specs.Prelude.{◌==◌}
 use Rattle.std.specs.List.{slice_split, AllByRecursion, join_with_byte}
 use Rattle.std.specs.Str.{IsAscii, IsUtf8}
@@ -9,12 +9,12 @@ use Rattle.std.proofs.lemmas.List.Splits.{join_with_byte-slice_split}
 use Rattle.ll_rights.specs.declared.errno.Errno.{Errno}
 use Rattle.ll_seq.specs.declared.call.Call.{Call}
 use Rattle.ll_wire.specs.Grammar.{client_tokens, call_tokens, SpellsCommand}
-use Rattle.ll_wire.specs.Reads.{Reads, SpellsTokens}
+use Rattle.ll_wire.specs.Reads.{ReadsBy, holds_text, SpellsTokens}
 use Rattle.ll_wire.proofs.Tokens.{IsToken, command_is_tokens, cut_at_spaces, body_is_ascii}
 use Rattle.ll_wire.proofs.Calls.{whole_reads, same_err}
 use Rattle.ll_wire.proofs.Clients.{at_most_five}
 
-same_front : (xs ys : List ℕ) (a b : ℕ) → xs ++ a ∷ [] ≡ ys ++ b ∷ [] → xs ≡ ys
+pub same_front : (xs ys : List ℕ) (a b : ℕ) → xs ++ a ∷ [] ≡ ys ++ b ∷ [] → xs ≡ ys
 same_front xs ys a b e =
     let len : length xs ≡ length ys = omega (arith, ap length e, length-append xs (a ∷ []), length-append ys (b ∷ [])) in
     sym (take_at xs (a ∷ []) (length xs) refl) ∙ ap (take (length xs)) e ∙ take_at ys (b ∷ []) (length xs) (sym len)
@@ -27,7 +27,7 @@ no_body line none client call is =
     let tokens = client_tokens client ++ call_tokens call in
     none (join_with_byte 32 tokens) (body_is_ascii tokens (command_is_tokens client call is.is_client is.is_call)) is.text
 
-cut : (tokens : List (List ℕ)) → 1 ≤ length tokens → AllByRecursion IsToken tokens → slice_split (λ b. b == 32) (join_with_byte 32 tokens) ≡ tokens
+pub cut : (tokens : List (List ℕ)) → 1 ≤ length tokens → AllByRecursion IsToken tokens → slice_split (λ b. b == 32) (join_with_byte 32 tokens) ≡ tokens
 cut [] some h = absurd (omega arith)
 cut (token ∷ tokens) some h = cut_at_spaces token tokens h
 
@@ -54,9 +54,10 @@ spells line body tokens client call short e t is = record {
 
 -- what is read from a line's tokens is read from the line
 pub line_reads : (line body : List ℕ) (tokens : List (List ℕ)) (r : Result (ℕ × Call) Errno) → length line ≤ 16384 → line ≡ body ++ 10 ∷ [] → tokens ≡ slice_split (λ b. b == 32) body
-    → (clients : ℕ) → Reads (λ (v : ℕ × Call). SpellsTokens tokens v.0 v.1 × (v.0 ≤ clients)) r → Reads (λ (v : ℕ × Call). SpellsCommand line v.0 v.1 × (v.0 ≤ clients)) r
+    → (clients : ℕ) → ReadsBy (λ (v : ℕ × Call). SpellsTokens tokens v.0 v.1 × (v.0 ≤ clients)) (λ v. holds_text v.1 ≡ true) r → ReadsBy (λ (v : ℕ × Call). SpellsCommand line v.0 v.1 × (v.0 ≤ clients)) (λ v. holds_text v.1 ≡ true) r
 line_reads line body tokens r short e t clients h =
-    whole_reads (λ (v : ℕ × Call). SpellsTokens tokens v.0 v.1 × (v.0 ≤ clients)) (λ (v : ℕ × Call). SpellsCommand line v.0 v.1 × (v.0 ≤ clients)) (λ v. v)
+    whole_reads (λ (v : ℕ × Call). SpellsTokens tokens v.0 v.1 × (v.0 ≤ clients)) (λ (v : ℕ × Call). holds_text v.1 ≡ true)
+    (λ (v : ℕ × Call). SpellsCommand line v.0 v.1 × (v.0 ≤ clients)) (λ (v : ℕ × Call). holds_text v.1 ≡ true) (λ v. v)
     (λ v is. let own = tokens_are line body v.0 v.1 e is.0 in (v, ((own.0, own.1, t ∙ own.2), is.1)))
-    (λ v is. (spells line body tokens v.0 v.1 short e t is.0, is.1))
+    (λ v is. (spells line body tokens v.0 v.1 short e t is.0, is.1)) (λ v is takes. takes)
     r r (same_err r) h

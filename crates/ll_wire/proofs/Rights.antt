@@ -22,6 +22,10 @@ placed : (right : ℕ) → right < 15 → place_of (right_text right) ≡ right
 unfolding place_of
 placed right known = eqb-true _ _ (agree_below_at (λ k. place_of (right_text k) == k) (λ _. true) 15 right refl known)
 
+-- a text is the name of one right
+pub same_right : (some other : ℕ) → some < 15 → other < 15 → right_text some ≡ right_text other → some ≡ other
+same_right some other h k e = sym (placed some h) ∙ ap place_of e ∙ placed other k
+
 no_place : place_of (codes "none") ≡ 15
 unfolding place_of
 no_place = refl

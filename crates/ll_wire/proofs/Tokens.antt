@@ -36,18 +36,18 @@ IsToken token = AllByRecursion IsVisible token
 
 -- ---- literals, by a test that computes
 
-abbrev visible : List ℕ → Bool
+abbrev pub visible : List ℕ → Bool
 visible [] = true
 visible (b ∷ bs) = leb 33 b && (leb b 126 && visible bs)
 
-visible_is : (token : List ℕ) → visible token ≡ true → IsToken token
+pub visible_is : (token : List ℕ) → visible token ≡ true → IsToken token
 visible_is [] e = tt
 visible_is (b ∷ bs) e =
     let p = and_parts (leb 33 b) (leb b 126 && visible bs) e in
     let q = and_parts (leb b 126) (visible bs) p.1 in
     ((leb-true _ _ p.0, leb-true _ _ q.0), visible_is bs q.1)
 
-kind_token : (kind : Kind) → IsToken (kind_text kind)
+pub kind_token : (kind : Kind) → IsToken (kind_text kind)
 kind_token kinds.Reg = visible_is (codes "reg") refl
 kind_token kinds.Dir = visible_is (codes "dir") refl
 kind_token kinds.Sym = visible_is (codes "sym") refl
@@ -62,10 +62,10 @@ digits_token : (ds : List ℕ) → AllDigits 10 ds → IsToken ds
 digits_token [] h = tt
 digits_token (d ∷ ds) h = let r = digit_from_value d h.0 in ((omega arith, omega arith), digits_token ds h.1)
 
-number_token : (n : ℕ) → n < 2 ^ 64 → IsToken (decimal n)
+pub number_token : (n : ℕ) → n < 2 ^ 64 → IsToken (decimal n)
 number_token n h = digits_token (decimal n) (decimal_is_IsNumeral n h).0.1
 
-all_append : {A : Type 0} (P : A → Type 0) (xs ys : List A) → AllByRecursion P xs → AllByRecursion P ys → AllByRecursion P (xs ++ ys)
+pub all_append : {A : Type 0} (P : A → Type 0) (xs ys : List A) → AllByRecursion P xs → AllByRecursion P ys → AllByRecursion P (xs ++ ys)
 all_append P [] ys h k = k
 all_append P (x ∷ xs) ys h k = (h.0, all_append P xs ys h.1 k)
 
@@ -100,7 +100,7 @@ digits_are_token : (text : List ℕ) → AllByRecursion IsDigit text → IsToken
 digits_are_token [] h = tt
 digits_are_token (c ∷ text) h = (digit_is_visible c h.0, digits_are_token text h.1)
 
-data_token : (bytes : List ℕ) → IsData bytes → IsToken (data_text bytes)
+pub data_token : (bytes : List ℕ) → IsData bytes → IsToken (data_text bytes)
 data_token bytes h = elim (data_digits bytes h) [
   | inl none ↦ rw none (visible_is (codes "-") refl)
   | inr digits ↦ digits_are_token (data_text bytes) digits
@@ -163,6 +163,8 @@ call_is_tokens (calls.Exec target) h = (visible_is (codes "exec") refl, (h.0.2, 
 call_is_tokens (calls.Unlink target) h = (visible_is (codes "unlink") refl, (h.0.2, tt))
 call_is_tokens (calls.Rmdir target) h = (visible_is (codes "rmdir") refl, (h.0.2, tt))
 call_is_tokens (calls.Rename old new) h = (visible_is (codes "rename") refl, (h.0.0.2, (h.1.0.2, tt)))
+call_is_tokens (calls.RenameNoreplace old new) h = (visible_is (codes "rename_noreplace") refl, (h.0.0.2, (h.1.0.2, tt)))
+call_is_tokens (calls.Exchange old new) h = (visible_is (codes "exchange") refl, (h.0.0.2, (h.1.0.2, tt)))
 call_is_tokens (calls.Link old new) h = (visible_is (codes "link") refl, (h.0.0.2, (h.1.0.2, tt)))
 call_is_tokens (calls.Ruleset rights) h = (visible_is (codes "ruleset") refl, (rights_token rights.0, tt))
 call_is_tokens (calls.Allow number target rights) h = (visible_is (codes "allow") refl, (number_token number h.0, (h.1.0.2, (rights_token rights.0, tt))))

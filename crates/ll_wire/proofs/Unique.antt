@@ -23,7 +23,7 @@ use Rattle.ll_seq.specs.declared.call.Call.{Call}
 use Rattle.ll_seq.specs.declared.call.Call.TheVariants as calls
 use Rattle.ll_wire.specs.Grammar.{way_text, truncate_text, creation_text, mode_text, SpellsTarget, data_text, client_tokens, call_tokens, IsCall, SpellsCommand}
 use Rattle.ll_wire.proofs.Rights.{same_set}
-use Rattle.ll_wire.proofs.Calls.{IsOfTarget, make_is, open_is, read_is, write_is, ftruncate_is, close_is, truncate_is, list_is, stat_is, exec_is, unlink_is, rmdir_is, IsOfTargets, rename_is, link_is, ruleset_is, allow_is, confine_is, spawn_is}
+use Rattle.ll_wire.proofs.Calls.{IsOfTarget, make_is, open_is, read_is, write_is, ftruncate_is, close_is, truncate_is, list_is, stat_is, exec_is, unlink_is, rmdir_is, IsOfTargets, rename_is, rename_noreplace_is, exchange_is, link_is, ruleset_is, allow_is, confine_is, spawn_is}
 use Rattle.ll_wire.proofs.Clients.{same_client}
 use Rattle.ll_wire.proofs.Digits.{same_data}
 use Rattle.ll_wire.proofs.Lines.{tokens_are}
@@ -43,7 +43,7 @@ kind_of_text Sock = refl
 kind_of_text Char = refl
 kind_of_text Block = refl
 
-same_kind : (some other : Kind) → kind_text some ≡ kind_text other → some ≡ other
+pub same_kind : (some other : Kind) → kind_text some ≡ kind_text other → some ≡ other
 same_kind some other e = sym (kind_of_text some) ∙ ap kind_of e ∙ kind_of_text other
 
 abbrev starts_with_w : List ℕ → Bool
@@ -178,6 +178,8 @@ same_call (calls.Exec target) other h k e = same_by (codes "exec") calls.Exec ex
 same_call (calls.Unlink target) other h k e = same_by (codes "unlink") calls.Unlink unlink_is target other h k e
 same_call (calls.Rmdir target) other h k e = same_by (codes "rmdir") calls.Rmdir rmdir_is target other h k e
 same_call (calls.Rename old new) other h k e = same_pair_by (codes "rename") (λ targets. calls.Rename targets.0 targets.1) rename_is old new other h.0 h.1 k e
+same_call (calls.RenameNoreplace old new) other h k e = same_pair_by (codes "rename_noreplace") (λ targets. calls.RenameNoreplace targets.0 targets.1) rename_noreplace_is old new other h.0 h.1 k e
+same_call (calls.Exchange old new) other h k e = same_pair_by (codes "exchange") (λ targets. calls.Exchange targets.0 targets.1) exchange_is old new other h.0 h.1 k e
 same_call (calls.Link old new) other h k e = same_pair_by (codes "link") (λ targets. calls.Link targets.0 targets.1) link_is old new other h.0 h.1 k e
 same_call (calls.Ruleset rights) other h k e =
     let o = ruleset_is (access_text rights.0 ∷ []) other (k, e) in

@@ -16,7 +16,8 @@ use Rattle.ll_seq.specs.declared.call.Creation.{Creation}
 use Rattle.ll_seq.specs.declared.call.Creation.TheVariants.{Never, IfMissing, Exclusive}
 use Rattle.ll_seq.specs.declared.call.Mode.{Mode}
 use Rattle.ll_seq.specs.declared.call.Call.{Call}
-use Rattle.ll_seq.specs.declared.call.Call.TheVariants.{Make, Open, Read, Write, Ftruncate, Close, Truncate, ReadDir, Stat, Exec, Unlink, Rmdir, Rename, Link, Ruleset, Allow, Confine, Spawn, Connect}
+use Rattle.ll_seq.specs.declared.call.Call.TheVariants.{Make, Open, Read, Write, Ftruncate, Close, Truncate, ReadDir, Stat, Exec, Unlink, Rmdir, Rename, RenameNoreplace, Exchange, Link, Ruleset, Allow, Confine, Spawn, Connect}
+use Rattle.ll_seq.specs.Listed.{AreListed}
 use Rattle.ll_seq.specs.declared.reply.Reply.{Reply}
 use Rattle.ll_seq.specs.declared.reply.Reply.TheVariants.{Done, Opened, Bytes, Wrote, Listed, Found, Created, Spawned, Refused, Denied}
 
@@ -70,6 +71,8 @@ call_tokens (Exec target) = codes "exec" ∷ target_text target ∷ []
 call_tokens (Unlink target) = codes "unlink" ∷ target_text target ∷ []
 call_tokens (Rmdir target) = codes "rmdir" ∷ target_text target ∷ []
 call_tokens (Rename old new) = codes "rename" ∷ target_text old ∷ target_text new ∷ []
+call_tokens (RenameNoreplace old new) = codes "rename_noreplace" ∷ target_text old ∷ target_text new ∷ []
+call_tokens (Exchange old new) = codes "exchange" ∷ target_text old ∷ target_text new ∷ []
 call_tokens (Link old new) = codes "link" ∷ target_text old ∷ target_text new ∷ []
 call_tokens (Ruleset rights) = codes "ruleset" ∷ access_text rights.0 ∷ []
 call_tokens (Allow number target rights) = codes "allow" ∷ decimal number ∷ target_text target ∷ access_text rights.0 ∷ []
@@ -92,6 +95,8 @@ IsCall (Exec target) = SpellsTarget (target_text target) target
 IsCall (Unlink target) = SpellsTarget (target_text target) target
 IsCall (Rmdir target) = SpellsTarget (target_text target) target
 IsCall (Rename old new) = SpellsTarget (target_text old) old × SpellsTarget (target_text new) new
+IsCall (RenameNoreplace old new) = SpellsTarget (target_text old) old × SpellsTarget (target_text new) new
+IsCall (Exchange old new) = SpellsTarget (target_text old) old × SpellsTarget (target_text new) new
 IsCall (Link old new) = SpellsTarget (target_text old) old × SpellsTarget (target_text new) new
 IsCall (Ruleset rights) = rights.0 < 2 ^ 64
 IsCall (Allow number target rights) = (number < 2 ^ 64) × SpellsTarget (target_text target) target × (rights.0 < 2 ^ 64)
@@ -133,9 +138,9 @@ reply_tokens (Denied d) = codes "denied" ∷ errno_text (cause_errno d.cause) �
 abbrev pub IsReply : Reply → Type 0
 IsReply Done = ⊤
 IsReply (Opened number) = number < 2 ^ 64
-IsReply (Bytes bytes) = ⊤
+IsReply (Bytes bytes) = IsData bytes
 IsReply (Wrote count) = count < 2 ^ 64
-IsReply (Listed names) = ⊤
+IsReply (Listed names) = AreListed names
 IsReply (Found s) = (s.inode < 2 ^ 64) × (s.size < 2 ^ 64) × (s.links < 2 ^ 64)
 IsReply (Created number) = number < 2 ^ 64
 IsReply (Spawned number) = number < 2 ^ 64
@@ -144,3 +149,7 @@ IsReply (Denied d) = (d.layer < 2 ^ 64) × (d.right < 15)
 
 abbrev pub reply_line : Reply → List ℕ
 reply_line reply = line_of (reply_tokens reply)
+
+-- The line spells the reply
+abbrev pub SpellsReply : List ℕ → Reply → Type 0
+SpellsReply line reply = IsReply reply × (line ≡ reply_line reply)

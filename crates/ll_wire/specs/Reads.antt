@@ -1,5 +1,5 @@
 -- What reading a text answers. own
-use Rattle.std.specs.Prelude.{◌≡◌, ℕ, ◌^◌, ◌<◌, ◌≤◌, ◌⊎◌, List, [], ◌∷◌, ◌++◌, Option, Some, None, Result, Ok, Err, decimal}
+use Rattle.std.specs.Prelude.{◌≡◌, ⊤, Bool, true, false, ℕ, ◌^◌, ◌<◌, ◌≤◌, ◌⊎◌, List, [], ◌∷◌, ◌++◌, Option, Some, None, Result, Ok, Err, decimal}
 use Rattle.ll_rights.specs.declared.errno.Errno.{Errno}
 use Rattle.ll_rights.specs.declared.errno.Errno.TheVariants.{NoMemory, BadLine}
 use Rattle.ll_rights.specs.declared.access.Access.{Access}
@@ -7,12 +7,41 @@ use Rattle.ll_rights.specs.Access.{access_text}
 use Rattle.ll_path.specs.declared.target.Target.{Target}
 use Rattle.ll_path.specs.Target.{target_text}
 use Rattle.ll_seq.specs.declared.call.Call.{Call}
-use Rattle.ll_wire.specs.Grammar.{SpellsTarget, IsData, data_text, call_tokens, IsCall, client_tokens, IsClient}
+use Rattle.ll_seq.specs.declared.call.Call.TheVariants.{Make, Open, Read, Write, Ftruncate, Close, Truncate, ReadDir, Stat, Exec, Unlink, Rmdir, Rename, RenameNoreplace, Exchange, Link, Ruleset, Allow, Confine, Spawn, Connect}
+use Rattle.ll_seq.specs.declared.reply.Reply.{Reply}
+use Rattle.ll_wire.specs.Grammar.{SpellsTarget, IsData, data_text, call_tokens, IsCall, client_tokens, IsClient, reply_tokens, IsReply}
 
--- The value that is spelled; BadLine only where none is, and NoMemory only where one is
+-- The value that is spelled; BadLine only where none is, and NoMemory only where one is that takes memory to be read
+abbrev pub ReadsBy : {V : Type 0} → (Spells Takes : V → Type 0) → Result V Errno → Type 0
+ReadsBy Spells Takes (Ok v) = Spells v
+ReadsBy {V} Spells Takes (Err e) = ((e ≡ BadLine) × ((v : V) → Spells v → ⊥)) ⊎ ((e ≡ NoMemory) × (v : V) × Spells v × Takes v)
+
 abbrev pub Reads : {V : Type 0} → (V → Type 0) → Result V Errno → Type 0
-Reads Spells (Ok v) = Spells v
-Reads {V} Spells (Err e) = ((e ≡ BadLine) × ((v : V) → Spells v → ⊥)) ⊎ ((e ≡ NoMemory) × (v : V) × Spells v)
+Reads Spells = ReadsBy Spells (λ _. ⊤)
+
+-- The call holds a word or bytes, which take memory to be read. Every other call takes none
+abbrev pub holds_text : Call → Bool
+holds_text (Make kind target) = true
+holds_text (Open mode target) = true
+holds_text (Read fd offset count) = false
+holds_text (Write fd offset bytes) = true
+holds_text (Ftruncate fd size) = false
+holds_text (Close fd) = false
+holds_text (Truncate target size) = true
+holds_text (ReadDir target) = true
+holds_text (Stat target) = true
+holds_text (Exec target) = true
+holds_text (Unlink target) = true
+holds_text (Rmdir target) = true
+holds_text (Rename old new) = true
+holds_text (RenameNoreplace old new) = true
+holds_text (Exchange old new) = true
+holds_text (Link old new) = true
+holds_text (Ruleset rights) = false
+holds_text (Allow number target rights) = true
+holds_text (Confine number) = false
+holds_text Spawn = false
+holds_text Connect = false
 
 -- the value that is spelled, or none where none is
 abbrev pub Finds : {V : Type 0} → (V → Type 0) → Option V → Type 0
@@ -50,6 +79,13 @@ SpellsTwoTargets tokens targets =
 abbrev pub SpellsCall : List (List ℕ) → Call → Type 0
 SpellsCall tokens call = IsCall call × (tokens ≡ call_tokens call)
 
+abbrev pub ReadsCall : List (List ℕ) → Result Call Errno → Type 0
+ReadsCall tokens = ReadsBy (SpellsCall tokens) (λ call. holds_text call ≡ true)
+
 -- the tokens spell the call, made by this client of the session
 abbrev pub SpellsTokens : List (List ℕ) → ℕ → Call → Type 0
 SpellsTokens tokens client call = IsClient client × IsCall call × (tokens ≡ client_tokens client ++ call_tokens call)
+
+-- the tokens spell the reply
+abbrev pub SpellsReplyTokens : List (List ℕ) → Reply → Type 0
+SpellsReplyTokens tokens reply = IsReply reply × (tokens ≡ reply_tokens reply)

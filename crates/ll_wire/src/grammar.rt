@@ -1,11 +1,17 @@
-//! A law of the grammar.
+//! Laws of the grammar.
 
 ghost use Rattle.std.specs.Prelude.{◌≡◌, ℕ, List};
 ghost use Rattle.ll_seq.specs.declared.call.Call.{Call};
-ghost use Rattle.ll_wire.specs.Grammar.{SpellsCommand};
+ghost use Rattle.ll_seq.specs.declared.reply.Reply.{Reply};
+ghost use Rattle.ll_wire.specs.Grammar.{SpellsCommand, SpellsReply};
 
 /// A line spells at most one command, of one client.
 pub fn spells_one()
     ensures { (line : List ℕ) (client other_client : ℕ) (call other_call : Call) → SpellsCommand line client call
         → SpellsCommand line other_client other_call → (client ≡ other_client) × (call ≡ other_call) }
+{}
+
+/// A line spells at most one reply.
+pub fn spells_one_reply()
+    ensures { (line : List ℕ) (reply other : Reply) → SpellsReply line reply → SpellsReply line other → reply ≡ other }
 {}

@@ -9,6 +9,6 @@ mod tests;
 mod token;
 mod write;
 
-pub use grammar::spells_one;
+pub use grammar::{spells_one, spells_one_reply};
 pub use read::{LINE_LIMIT, read_command};
 pub use write::{command_text, reply_text};

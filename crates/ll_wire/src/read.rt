@@ -1,8 +1,8 @@
 //! Reading commands.
 
-ghost use Rattle.std.specs.Prelude.{◌≡◌, ◌≤◌, ◌∷◌, map, codes};
+ghost use Rattle.std.specs.Prelude.{◌≡◌, ◌≤◌, ◌∷◌, true, map, codes};
 ghost use Rattle.ll_wire.specs.Grammar.{mode_text, SpellsTarget, SpellsCommand};
-ghost use Rattle.ll_wire.specs.Reads.{Reads, Finds, SpellsOneTarget, SpellsTwoTargets, SpellsCall, SpellsTokens};
+ghost use Rattle.ll_wire.specs.Reads.{Reads, ReadsBy, ReadsCall, holds_text, Finds, SpellsOneTarget, SpellsTwoTargets, SpellsCall, SpellsTokens};
 
 use crate::bytes::data_of;
 use crate::token::{body_of, client_of, number_of, tokens_of};
@@ -57,7 +57,7 @@ fn target_of(alloc: Global, text: &str) -> Result<Target, Errno>
 }
 
 fn make(alloc: Global, args: &[&str]) -> Result<Call, Errno>
-    ensures { Reads (SpellsCall (codes "make" ∷ map (λ t. t.now) args.now)) result }
+    ensures { ReadsCall (codes "make" ∷ map (λ t. t.now) args.now) result }
 {
     let [kind, path] = args else {
         return Err(Errno::BadLine);
@@ -72,7 +72,7 @@ fn make(alloc: Global, args: &[&str]) -> Result<Call, Errno>
 }
 
 fn open(alloc: Global, args: &[&str]) -> Result<Call, Errno>
-    ensures { Reads (SpellsCall (codes "open" ∷ map (λ t. t.now) args.now)) result }
+    ensures { ReadsCall (codes "open" ∷ map (λ t. t.now) args.now) result }
 {
     let [mode, path] = args else {
         return Err(Errno::BadLine);
@@ -87,7 +87,7 @@ fn open(alloc: Global, args: &[&str]) -> Result<Call, Errno>
 }
 
 fn read(args: &[&str]) -> Result<Call, Errno>
-    ensures { Reads (SpellsCall (codes "read" ∷ map (λ t. t.now) args.now)) result }
+    ensures { ReadsCall (codes "read" ∷ map (λ t. t.now) args.now) result }
 {
     let [fd, offset, count] = args else {
         return Err(Errno::BadLine);
@@ -99,7 +99,7 @@ fn read(args: &[&str]) -> Result<Call, Errno>
 }
 
 fn write(alloc: Global, args: &[&str]) -> Result<Call, Errno>
-    ensures { Reads (SpellsCall (codes "write" ∷ map (λ t. t.now) args.now)) result }
+    ensures { ReadsCall (codes "write" ∷ map (λ t. t.now) args.now) result }
 {
     let [fd, offset, bytes] = args else {
         return Err(Errno::BadLine);
@@ -117,7 +117,7 @@ fn write(alloc: Global, args: &[&str]) -> Result<Call, Errno>
 }
 
 fn ftruncate(args: &[&str]) -> Result<Call, Errno>
-    ensures { Reads (SpellsCall (codes "ftruncate" ∷ map (λ t. t.now) args.now)) result }
+    ensures { ReadsCall (codes "ftruncate" ∷ map (λ t. t.now) args.now) result }
 {
     let [fd, size] = args else {
         return Err(Errno::BadLine);
@@ -129,7 +129,7 @@ fn ftruncate(args: &[&str]) -> Result<Call, Errno>
 }
 
 fn close(args: &[&str]) -> Result<Call, Errno>
-    ensures { Reads (SpellsCall (codes "close" ∷ map (λ t. t.now) args.now)) result }
+    ensures { ReadsCall (codes "close" ∷ map (λ t. t.now) args.now) result }
 {
     let [fd] = args else {
         return Err(Errno::BadLine);
@@ -141,7 +141,7 @@ fn close(args: &[&str]) -> Result<Call, Errno>
 }
 
 fn truncate(alloc: Global, args: &[&str]) -> Result<Call, Errno>
-    ensures { Reads (SpellsCall (codes "truncate" ∷ map (λ t. t.now) args.now)) result }
+    ensures { ReadsCall (codes "truncate" ∷ map (λ t. t.now) args.now) result }
 {
     let [path, size] = args else {
         return Err(Errno::BadLine);
@@ -182,7 +182,7 @@ fn two_targets(alloc: Global, args: &[&str]) -> Result<(Target, Target), Errno>
 }
 
 fn ruleset(args: &[&str]) -> Result<Call, Errno>
-    ensures { Reads (SpellsCall (codes "ruleset" ∷ map (λ t. t.now) args.now)) result }
+    ensures { ReadsCall (codes "ruleset" ∷ map (λ t. t.now) args.now) result }
 {
     let [rights] = args else {
         return Err(Errno::BadLine);
@@ -194,7 +194,7 @@ fn ruleset(args: &[&str]) -> Result<Call, Errno>
 }
 
 fn allow(alloc: Global, args: &[&str]) -> Result<Call, Errno>
-    ensures { Reads (SpellsCall (codes "allow" ∷ map (λ t. t.now) args.now)) result }
+    ensures { ReadsCall (codes "allow" ∷ map (λ t. t.now) args.now) result }
 {
     let [ruleset, path, rights] = args else {
         return Err(Errno::BadLine);
@@ -212,7 +212,7 @@ fn allow(alloc: Global, args: &[&str]) -> Result<Call, Errno>
 }
 
 fn confine(args: &[&str]) -> Result<Call, Errno>
-    ensures { Reads (SpellsCall (codes "confine" ∷ map (λ t. t.now) args.now)) result }
+    ensures { ReadsCall (codes "confine" ∷ map (λ t. t.now) args.now) result }
 {
     let [ruleset] = args else {
         return Err(Errno::BadLine);
@@ -224,7 +224,7 @@ fn confine(args: &[&str]) -> Result<Call, Errno>
 }
 
 fn spawn(args: &[&str]) -> Result<Call, Errno>
-    ensures { Reads (SpellsCall (codes "spawn" ∷ map (λ t. t.now) args.now)) result }
+    ensures { ReadsCall (codes "spawn" ∷ map (λ t. t.now) args.now) result }
 {
     if !args.is_empty() {
         return Err(Errno::BadLine);
@@ -233,7 +233,7 @@ fn spawn(args: &[&str]) -> Result<Call, Errno>
 }
 
 fn call_of(alloc: Global, tokens: &[&str]) -> Result<Call, Errno>
-    ensures { Reads (SpellsCall (map (λ t. t.now) tokens.now)) result }
+    ensures { ReadsCall (map (λ t. t.now) tokens.now) result }
 {
     let [name, args @ ..] = tokens else {
         return Err(Errno::BadLine);
@@ -252,6 +252,10 @@ fn call_of(alloc: Global, tokens: &[&str]) -> Result<Call, Errno>
         "unlink" => only_target(alloc, args).map(Call::Unlink),
         "rmdir" => only_target(alloc, args).map(Call::Rmdir),
         "rename" => two_targets(alloc, args).map(|(old, new)| Call::Rename(old, new)),
+        "rename_noreplace" => {
+            two_targets(alloc, args).map(|(old, new)| Call::RenameNoreplace(old, new))
+        }
+        "exchange" => two_targets(alloc, args).map(|(old, new)| Call::Exchange(old, new)),
         "link" => two_targets(alloc, args).map(|(old, new)| Call::Link(old, new)),
         "ruleset" => ruleset(args),
         "allow" => allow(alloc, args),
@@ -264,7 +268,7 @@ fn call_of(alloc: Global, tokens: &[&str]) -> Result<Call, Errno>
 // The client whose name comes first, or the first client, and its call, if there is such a client.
 fn command_of(alloc: Global, tokens: &[&str], clients: u64) -> Result<(u64, Call), Errno>
     requires { 1 ≤ clients }
-    ensures { Reads (λ v. SpellsTokens (map (λ t. t.now) tokens.now) v.0 v.1 × (v.0 ≤ clients)) result }
+    ensures { ReadsBy (λ v. SpellsTokens (map (λ t. t.now) tokens.now) v.0 v.1 × (v.0 ≤ clients)) (λ v. holds_text v.1 ≡ true) result }
 {
     let [first, others @ ..] = tokens else {
         return Err(Errno::BadLine);
@@ -277,10 +281,11 @@ fn command_of(alloc: Global, tokens: &[&str], clients: u64) -> Result<(u64, Call
 }
 
 /// The call that a line spells, and which of the session's clients makes it (the first is 1).
-/// `BadLine` where it spells none of one of them, and `NoMemory` where it spells one that finds no room.
+/// `BadLine` where it spells none of one of them, and `NoMemory` where it spells one that finds no room for a word or
+/// bytes.
 pub fn read_command(alloc: Global, line: &[u8], clients: u64) -> Result<(u64, Call), Errno>
     requires { 1 ≤ clients }
-    ensures { Reads (λ v. SpellsCommand line.now v.0 v.1 × (v.0 ≤ clients)) result }
+    ensures { ReadsBy (λ v. SpellsCommand line.now v.0 v.1 × (v.0 ≤ clients)) (λ v. holds_text v.1 ≡ true) result }
 {
     if line.len() > LINE_LIMIT {
         return Err(Errno::BadLine);

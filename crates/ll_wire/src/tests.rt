@@ -4,9 +4,9 @@ ghost use Rattle.ll_wire.specs.Grammar.{IsReply};
 
 use crate::{command_text, read_command, reply_text};
 use ll_decide::{Cause, Denial, Place};
-use ll_path::{Data, Name};
+use ll_path::Data;
 use ll_rights::{Errno, Kind, Right};
-use ll_seq::{Listing, Reply, Status};
+use ll_seq::{Reply, Status};
 use std::alloc::{AllocError, Global};
 use std::test::Fail;
 
@@ -38,6 +38,8 @@ const LINES: &[&[u8]] = &[
     b"unlink /d/f\n",
     b"rmdir /g\n",
     b"rename /a/f x\n",
+    b"rename_noreplace /a/f /x\n",
+    b"exchange /a/f /b\n",
     b"link /f /g\n",
     b"ruleset 0x8001\n",
     b"allow 0 /f read_file,refer\n",
@@ -72,20 +74,8 @@ fn numbers(rt: HostRuntime) -> Result<(), Fail> {
     Ok(())
 }
 
-fn listing(alloc: Global, names: &[&str]) -> Result<Listing, AllocError> {
-    let mut listing = Listing::new(alloc);
-    for name in names {
-        if let Ok(name) = Name::new(String::from_str(alloc, name)?) {
-            listing.push(name)?;
-        }
-    }
-    Ok(listing)
-}
-
 #[test]
 fn texts(rt: HostRuntime) -> Result<(), Fail> {
-    let three = listing(rt.alloc(), &["f", "p", "s"])?;
-    assert!(rt; is_written(rt.alloc(), Reply::Listed(three), "names f p s\n")?);
     let bytes = Data::new(b"\0\x0f\xf0\xff".as_slice().to_vec(rt.alloc())?)?;
     assert!(rt; is_written(rt.alloc(), Reply::Bytes(bytes), "data 000ff0ff\n")?);
     let root = Status {

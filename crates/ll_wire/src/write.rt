@@ -157,6 +157,10 @@ fn call_text(alloc: Global, call: &Call) -> Result<String, AllocError>
         Call::Unlink(target) => line_text(alloc, "unlink", &[target.as_str()]),
         Call::Rmdir(target) => line_text(alloc, "rmdir", &[target.as_str()]),
         Call::Rename(old, new) => two_args(alloc, "rename", old.as_str(), new.as_str()),
+        Call::RenameNoreplace(old, new) => {
+            two_args(alloc, "rename_noreplace", old.as_str(), new.as_str())
+        }
+        Call::Exchange(old, new) => two_args(alloc, "exchange", old.as_str(), new.as_str()),
         Call::Link(old, new) => two_args(alloc, "link", old.as_str(), new.as_str()),
         Call::Ruleset(rights) => {
             let rights = rights.text(alloc)?;

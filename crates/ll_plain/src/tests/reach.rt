@@ -1,7 +1,7 @@
 //! What layers grant on inodes, before and after a file gets another name.
 
 use super::{Ask, Row, Session, Told};
-use ll_rights::{Access, Errno, Kind};
+use ll_rights::{Abi, Access, Errno, Kind};
 use ll_rules::{Domain, Ruleset};
 use std::alloc::Global;
 use std::process::Abort;
@@ -42,7 +42,7 @@ const READABLE: Handled = (
 const NOTHING_EXECUTED: Handled = (Access(0x1), &[]);
 
 fn ruleset(alloc: Global, layer: Handled) -> Result<Ruleset, Errno> {
-    let mut made = Ruleset::create(alloc, layer.0)?;
+    let mut made = Ruleset::create(alloc, Abi::NEWEST, layer.0)?;
     for (inode, kind, rights) in layer.1 {
         again!(made.allow(*inode, *kind, *rights))?;
     }

@@ -13,7 +13,7 @@ invariant_of-self-in-Err c =
 pub returns-in-Err-clause-err : goal.returns-in-Err-clause-err
 returns-in-Err-clause-err c =
     let back = c.remove.ensures ∙ ap (λ m. remove m c.self.inside.next) c.in_ok-insert.ensures.ok ∙ remove-insert c.self.inside.nodes c.self.inside.next _ (next_is_new c.self.inside.nodes c.self.inside.next c.self.invariant) in
-    (λ i. record { entries = c.in-Err.ensures.err i; nodes = back i; next = c.self.inside.next; room = c.self.inside.room; clients = c.self.inside.clients }) ∙ c.self.view_is
+    (λ i. record { entries = c.in-Err.ensures.err i; nodes = back i; next = c.self.inside.next; room = c.self.inside.room; rules = c.self.inside.rules; clients = c.self.inside.clients }) ∙ c.self.view_is
 
 pub invariant_of-self-2 : goal.invariant_of-self-2
 invariant_of-self-2 c = one_above c.self.inside.nodes c.insert.new.self c.self.inside.next _ c.self.invariant c.in_ok-insert.ensures.ok

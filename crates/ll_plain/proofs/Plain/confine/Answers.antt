@@ -4,7 +4,8 @@ use Rattle.ll_rights.specs.declared.errno.Errno.TheVariants.{EBADF}
 use Rattle.ll_seq.specs.declared.reply.Reply.TheVariants.{Done}
 use Rattle.ll_seq.specs.declared.call.Call.TheVariants.{Confine}
 use Rattle.ll_seq.specs.Step.{client_of}
-use Rattle.ll_plain.proofs.Calls.{refused_if, not_refused, no_denials, got_client, kept, client_changed, number_below}
+use Rattle.ll_plain.proofs.Clients.{got_client, kept, client_changed}
+use Rattle.ll_plain.proofs.Records.{refused_if, not_refused, no_denials, number_below}
 use Rattle.ll_plain.proofs.Parts.{refused_before, does, fails, first_stays, both_free}
 use Rattle.ll_plain.proofs.Plain.confine.Goals as goal
 

@@ -4,9 +4,9 @@ use Rattle.ll_rights.specs.declared.errno.Errno.TheVariants.{EMFILE}
 use Rattle.ll_rights.specs.Map.{insert}
 use Rattle.ll_seq.specs.declared.reply.Reply.TheVariants.{Done}
 use Rattle.ll_seq.specs.declared.call.Call.TheVariants.{Connect}
-use Rattle.ll_seq.specs.State.{new_client}
 use Rattle.ll_seq.specs.Step.{client_of}
-use Rattle.ll_plain.proofs.Calls.{not_refused, no_denials, kept, client_changed}
+use Rattle.ll_plain.proofs.Clients.{kept, client_changed}
+use Rattle.ll_plain.proofs.Records.{not_refused, no_denials}
 use Rattle.ll_plain.proofs.Parts.{does, starves}
 use Rattle.ll_plain.proofs.Plain.connect.Goals as goal
 
@@ -16,4 +16,4 @@ returns-in-Err c = starves c.args.self.now c.args.client (Connect) refl (no_deni
 pub returns : goal.returns
 returns c =
     does c.args.self.now c.args.client (Connect) refl (no_denials c.args.self.now (client_of c.args.self.now c.args.client).domain) (not_refused _ EMFILE (search rules)) Done _
-    (λ fresh. ap (λ z. (Done, z)) (client_changed _ c.args.self.now c.insert.new.self c.args.client _ c.self.view_is (c.in_default.ensures.ok ∙ ap (insert c.self.inside.clients c.args.client) (c.new-record.ensures ∙ ap new_client c.empty.ensures))))
+    (λ fresh. ap (λ z. (Done, z)) (client_changed _ c.args.self.now c.insert.new.self c.args.client _ c.self.view_is (c.in_default.ensures.ok ∙ ap (insert c.self.inside.clients c.args.client) c.new-record.ensures)))

@@ -1,5 +1,5 @@
 use Rattle.std.proofs.Common.{List, ℕ, ◌∙◌, subst}
-use Rattle.landtree.specs.StubGrammar.{SpellsCommand}
+use Rattle.ll_wire.specs.Grammar.{SpellsCommand}
 use Rattle.landtree.proofs.Cuts.{kept}
 use Rattle.landtree.proofs.Replies.{called, spells_none, too_long, not_read}
 use Rattle.landtree.proofs.session.OpenSession.reply.Goals as goal

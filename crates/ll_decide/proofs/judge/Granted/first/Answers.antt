@@ -1,4 +1,4 @@
-use Rattle.std.proofs.Common.{◌≡◌, ◌<◌, ◌+◌, ◌∙◌, sym, ap, length, arith}
+use Rattle.std.proofs.Common.{◌+◌, ◌∙◌, sym, ap, length, arith}
 use Rattle.std.specs.Prelude.{List, slice_get}
 use Rattle.ll_decide.specs.declared.denial.Denial.{Denial}
 use Rattle.ll_decide.specs.Search.{is_in, fails, of_layer}

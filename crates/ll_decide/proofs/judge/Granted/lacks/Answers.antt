@@ -1,4 +1,3 @@
-use Rattle.std.proofs.Common.{refl}
 use Rattle.ll_decide.proofs.Sets.{lacks_at}
 use Rattle.ll_decide.proofs.judge.Granted.lacks.Goals as goal
 

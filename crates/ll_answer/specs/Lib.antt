@@ -1,0 +1,6 @@
+pub mod Decided
+pub mod Demanded
+pub mod Effect
+pub mod Found
+pub mod Lean
+pub mod Passed

@@ -1,0 +1,148 @@
+//! What refuses a call before policy is asked.
+
+ghost use Rattle.std.specs.Prelude.{◌≡◌, None, true, slice_get};
+ghost use Rattle.ll_rights.specs.Errno.{refuse};
+ghost use Rattle.ll_path.specs.Path.{is_root};
+ghost use Rattle.ll_seq.specs.Call.{path_of, first_path, second_path};
+ghost use Rattle.ll_seq.specs.Stages as stages;
+ghost use Rattle.ll_seq.specs.State.{State};
+ghost use Rattle.ll_answer.specs.Found.{AreFacts, Stands};
+ghost use Rattle.ll_answer.specs.Passed.{Passed, before_policy, has_path};
+
+use crate::found::{Found, Spot};
+use crate::refusals::{first, refuse};
+use crate::targets::{Targets, targets_of};
+use ll_path::{Path, Target};
+use ll_rights::Errno;
+use ll_seq::{Call, ClientRecord};
+
+fn bad_text(target: &Target) -> Option<Errno>
+    ensures { result ≡ slice_get (stages.bad_text target.now) 0 }
+{
+    match target {
+        Target::Good(_) => None,
+        Target::Bad(bad) => Some(bad.errno),
+    }
+}
+
+fn text_refusal(call: &Call) -> Option<Errno>
+    ensures { result ≡ slice_get (stages.text_refusals call.now) 0 }
+{
+    match targets_of(call) {
+        Targets::No => None,
+        Targets::One(target) => bad_text(target),
+        Targets::Two(old, new) => first(bad_text(old), bad_text(new)),
+    }
+}
+
+fn number_refusal(caller: &ClientRecord, call: &Call) -> Option<Errno>
+    ensures { has_path call.now ≡ true → result ≡ slice_get (stages.number_refusals caller.now call.now) 0 }
+{
+    match call {
+        Call::Allow(number, _, _) => refuse(caller.rulesets.get(*number).is_none(), Errno::EBADF),
+        Call::Make(..) | Call::Open(..) | Call::Truncate(..) | Call::ReadDir(_) => None,
+        Call::Stat(_) | Call::Exec(_) | Call::Unlink(_) | Call::Rmdir(_) => None,
+        Call::Rename(..) | Call::RenameNoreplace(..) | Call::Exchange(..) | Call::Link(..) => None,
+        Call::Read(..) | Call::Write(..) | Call::Ftruncate(..) | Call::Close(_) => None,
+        Call::Ruleset(_) | Call::Confine(_) | Call::Spawn | Call::Connect => None,
+    }
+}
+
+fn names_root(target: &Target) -> bool
+    ensures { result ≡ is_root (path_of target.now) }
+{
+    match target {
+        Target::Good(path) => path.is_root(),
+        Target::Bad(_) => true,
+    }
+}
+
+fn paths_lying(old: &Path, new: &Path, above: Errno) -> Option<Errno>
+    ensures { result ≡ slice_get (stages.lying old.now new.now above) 0 }
+{
+    if old.is_root() || new.is_root() {
+        return Some(Errno::EBUSY);
+    }
+    if new.is_beneath(old) {
+        return Some(Errno::EINVAL);
+    }
+    refuse(old.is_beneath(new), above)
+}
+
+fn lying(old: &Target, new: &Target, above: Errno) -> Option<Errno>
+    ensures { result ≡ slice_get (stages.lying (path_of old.now) (path_of new.now) above) 0 }
+{
+    match (old, new) {
+        (Target::Good(old), Target::Good(new)) => paths_lying(old, new, above),
+        _ => Some(Errno::EBUSY),
+    }
+}
+
+fn relation_refusal(call: &Call) -> Option<Errno>
+    ensures { result ≡ slice_get (stages.relation_refusals call.now (first_path call.now) (second_path call.now)) 0 }
+{
+    match call {
+        Call::Make(_, target) => refuse(names_root(target), Errno::EBUSY),
+        Call::Unlink(target) => refuse(names_root(target), Errno::EBUSY),
+        Call::Rmdir(target) => refuse(names_root(target), Errno::EBUSY),
+        Call::Rename(old, new) => lying(old, new, Errno::ENOTEMPTY),
+        Call::RenameNoreplace(old, new) => lying(old, new, Errno::EEXIST),
+        Call::Exchange(old, new) => lying(old, new, Errno::EINVAL),
+        Call::Link(old, new) => lying(old, new, Errno::EEXIST),
+        Call::Open(..) | Call::Truncate(..) | Call::ReadDir(_) | Call::Stat(_) => None,
+        Call::Exec(_) | Call::Allow(..) => None,
+        Call::Read(..) | Call::Write(..) | Call::Ftruncate(..) | Call::Close(_) => None,
+        Call::Ruleset(_) | Call::Confine(_) | Call::Spawn | Call::Connect => None,
+    }
+}
+
+fn walk_refusal(call: &Call, found: &Found) -> Option<Errno>
+    ensures { (s : State) → AreFacts s call.now found.now → result ≡ slice_get (stages.walk_refusals s call.now) 0 }
+{
+    match targets_of(call) {
+        Targets::No => None,
+        Targets::One(_) => found.first.way,
+        Targets::Two(_, _) => first(found.first.way, found.second.way),
+    }
+}
+
+fn existence_refusal(call: &Call, old: &Spot, new: &Spot) -> Option<Errno>
+    ensures { (s : State) → Stands s (first_path call.now) old.now → Stands s (second_path call.now) new.now
+        → result ≡ slice_get (stages.existence_refusals s call.now (first_path call.now) (second_path call.now)) 0 }
+{
+    let missing = refuse(!old.exists(), Errno::ENOENT);
+    let present = refuse(old.exists(), Errno::EEXIST);
+    match call {
+        Call::Make(_, _) => present,
+        Call::Open(mode, _) if mode.creation.is_exclusive() => present,
+        Call::Open(mode, _) if mode.creation.creates() => None,
+        Call::Open(_, _) => missing,
+        Call::Truncate(_, _) => missing,
+        Call::ReadDir(_) => missing,
+        Call::Stat(_) => missing,
+        Call::Exec(_) => missing,
+        Call::Unlink(_) => missing,
+        Call::Rmdir(_) => missing,
+        Call::Rename(_, _) => missing,
+        Call::RenameNoreplace(_, _) => first(missing, refuse(new.exists(), Errno::EEXIST)),
+        Call::Exchange(_, _) => first(missing, refuse(!new.exists(), Errno::ENOENT)),
+        Call::Link(_, _) => first(missing, refuse(new.exists(), Errno::EEXIST)),
+        Call::Allow(_, _, _) => missing,
+        Call::Read(..) | Call::Write(..) | Call::Ftruncate(..) | Call::Close(_) => None,
+        Call::Ruleset(_) | Call::Confine(_) | Call::Spawn | Call::Connect => None,
+    }
+}
+
+/// What refuses the call before policy is asked.
+pub fn refused_before(caller: &ClientRecord, call: &Call, found: &Found) -> Option<Errno>
+    ensures refused { (s : State) → has_path call.now ≡ true → AreFacts s call.now found.now
+        → result ≡ slice_get (before_policy s caller.now call.now) 0 }
+    ensures passed { result ≡ None → (s : State) → has_path call.now ≡ true → AreFacts s call.now found.now
+        → Passed s caller.now call.now found.now }
+{
+    let existence = existence_refusal(call, &found.first, &found.second);
+    let walk = first(walk_refusal(call, found), existence);
+    let relation = first(relation_refusal(call), walk);
+    let number = first(number_refusal(caller, call), relation);
+    first(text_refusal(call), number)
+}

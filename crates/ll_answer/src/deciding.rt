@@ -1,0 +1,46 @@
+//! A call, from what is found to what it does.
+
+ghost use Rattle.std.specs.Prelude.{◌≡◌, ℕ, true, length, MatchResult};
+ghost use Rattle.ll_decide.specs.Judge.{AreGranted};
+ghost use Rattle.ll_seq.specs.State.{State};
+ghost use Rattle.ll_seq.specs.Step.{client_of};
+ghost use Rattle.ll_answer.specs.Decided.{IsRefused, IsDone};
+ghost use Rattle.ll_answer.specs.Demanded.{chains};
+ghost use Rattle.ll_answer.specs.Found.{AreFacts};
+ghost use Rattle.ll_answer.specs.Passed.{has_path};
+
+use crate::before::refused_before;
+use crate::changes::Effect;
+use crate::demanding::demands_of;
+use crate::effects::effect_of;
+use crate::found::Found;
+use crate::later::refused_after;
+use ll_decide::{Granted, least_denial};
+use ll_seq::{Call, ClientRecord, Reply};
+
+/// What the caller's call does, which names a path, or the reply where it does nothing.
+pub fn decide<'a>(
+    caller: &ClientRecord,
+    call: &'a Call,
+    found: &Found,
+    granted: &Granted<'_>,
+) -> Result<Effect<'a>, Reply>
+    requires other { length granted.now.other.now ≡ length granted.now.itself.now }
+    requires parent { length granted.now.parent.now ≡ length granted.now.itself.now }
+    requires entered { length granted.now.entered.now ≡ length granted.now.itself.now }
+    ensures { (s : State) (n : ℕ) → client_of s n ≡ caller.now → has_path call.now ≡ true
+        → AreFacts s call.now found.now → AreGranted caller.now.domain (chains s call.now) granted.now
+        → MatchResult result (IsDone s n call.now) (IsRefused s n call.now) }
+{
+    if let Some(errno) = refused_before(caller, call, found) {
+        return Err(Reply::Refused(errno));
+    }
+    let demands = demands_of(call, found);
+    if let Some(denial) = least_denial(&demands, granted) {
+        return Err(Reply::Denied(denial));
+    }
+    if let Some(errno) = refused_after(caller, call, found) {
+        return Err(Reply::Refused(errno));
+    }
+    Ok(effect_of(caller, call, found, granted))
+}

@@ -1,0 +1,25 @@
+//! Refusals, the first first.
+
+ghost use Rattle.std.specs.Prelude.{◌≡◌, List, [], ◌++◌, slice_get};
+ghost use Rattle.ll_rights.specs.Errno.{refuse};
+ghost use Rattle.ll_rights.specs.declared.errno.Errno.{Errno};
+
+use ll_rights::Errno;
+
+/// The refusal, where the test says so.
+pub(crate) fn refuse(test: bool, errno: Errno) -> Option<Errno>
+    ensures { result ≡ slice_get (refuse test errno) 0 }
+{
+    if test { Some(errno) } else { None }
+}
+
+/// The first refusal of two lists of them.
+pub(crate) fn first(one: Option<Errno>, other: Option<Errno>) -> Option<Errno>
+    ensures { (ones others : List Errno) → one ≡ slice_get ones 0 → (ones ≡ [] → other ≡ slice_get others 0)
+        → result ≡ slice_get (ones ++ others) 0 }
+{
+    match one {
+        Some(errno) => Some(errno),
+        None => other,
+    }
+}

@@ -1,0 +1,150 @@
+//! What a decided call answers and changes.
+
+ghost use Rattle.std.specs.Prelude.{◌≡◌, ◌<◌, ◌-◌, ◌^◌, Some, None, true, OnOk, OnErr, IfOk, is_ok, is_some};
+ghost use Rattle.ll_rights.specs.Map.{has, insert};
+ghost use Rattle.ll_seq.specs.Effects.{status_of, with_client};
+ghost use Rattle.ll_seq.specs.Stages.{lowest_free};
+ghost use Rattle.ll_seq.specs.Step.{client_of};
+ghost use Rattle.ll_answer.specs.Effect.{Fits, FitsRule, HasRoom, after, descriptor_of, told, with_opening, with_rule_of};
+ghost use Rattle.ll_answer.specs.Lean.{adds_nothing, is_short};
+
+use crate::Plain;
+use ll_answer::{Answer, Change, Opening, Rule};
+use ll_rights::Kind;
+use ll_seq::{Descriptor, Reply, Status};
+use std::alloc::AllocError;
+
+fn descriptor(opening: &Opening<'_>, inode: u64) -> Descriptor
+    ensures { result ≡ descriptor_of opening.now inode }
+{
+    Descriptor {
+        inode,
+        reads: opening.reads,
+        writes: opening.writes,
+        kept: opening.kept,
+    }
+}
+
+impl Plain {
+    fn status(&self, inode: u64, kind: Kind) -> Status
+        ensures { result ≡ status_of self.now inode kind }
+    {
+        let links = match kind {
+            Kind::Dir => 1,
+            _ => self.links(inode),
+        };
+        Status {
+            inode,
+            kind,
+            size: self.size(inode) as u64,
+            links: links as u64,
+        }
+    }
+
+    /// The reply that tells the answer of the tree as it is.
+    pub(crate) fn tell(&self, answer: Answer) -> Result<Reply, AllocError>
+        ensures told { IfOk result (λ reply. reply ≡ told self.now answer) }
+        ensures short { is_short answer ≡ true → is_ok result ≡ true }
+    {
+        match answer {
+            Answer::Done => Ok(Reply::Done),
+            Answer::Opened(number) => Ok(Reply::Opened(number)),
+            Answer::Status(inode, kind) => Ok(Reply::Found(self.status(inode, kind))),
+            Answer::Names(inode) => Ok(Reply::Listed(self.entries.names_in(self.alloc, inode)?)),
+        }
+    }
+
+    /// The client's lowest free descriptor, which there is, becomes this one.
+    fn take(&mut self, client: u64, file: Descriptor) -> Result<u64, AllocError>
+        requires caller { has self.old.clients client ≡ true }
+        requires free { is_some (lowest_free (client_of self.old client).descriptors) ≡ true }
+        ensures free { IfOk result (λ number. lowest_free (client_of self.old client).descriptors ≡ Some number) }
+        ensures ok { IfOk result (λ number. self.new ≡ with_client self.old client (record (client_of self.old client) { descriptors = insert (client_of self.old client).descriptors number file })) }
+        ensures err { OnErr result (self.new ≡ self.old) }
+    {
+        match self.clients.open(client, file) {
+            Ok(number) => Ok(number),
+            Err(_) => Err(AllocError),
+        }
+    }
+
+    /// Makes the file and opens it, or does neither.
+    fn open_new(&mut self, client: u64, opening: &Opening<'_>) -> Result<(), AllocError>
+        requires caller { has self.old.clients client ≡ true }
+        requires next { self.old.next < 2 ^ 64 - 1 }
+        requires free { lowest_free (client_of self.old client).descriptors ≡ Some opening.now.number }
+        requires room { HasRoom self.old opening.now.at }
+        ensures ok { OnOk result (self.new ≡ with_opening self.old client (client_of self.old client) opening.now None) }
+        ensures err { OnErr result (self.new ≡ self.old) }
+    {
+        let file = descriptor(opening, self.next);
+        let number = self.take(client, file)?;
+        if let Err(error) = self.add(&opening.at, Kind::Reg) {
+            self.free(client, number);
+            return Err(error);
+        }
+        Ok(())
+    }
+
+    /// Opens the file that is there.
+    fn open_there(
+        &mut self,
+        client: u64,
+        opening: &Opening<'_>,
+        inode: u64,
+    ) -> Result<(), AllocError>
+        requires caller { has self.old.clients client ≡ true }
+        requires free { lowest_free (client_of self.old client).descriptors ≡ Some opening.now.number }
+        ensures ok { OnOk result (self.new ≡ with_opening self.old client (client_of self.old client) opening.now (Some inode)) }
+        ensures err { OnErr result (self.new ≡ self.old) }
+    {
+        let _ = self.take(client, descriptor(opening, inode))?;
+        if opening.is_emptied {
+            self.empty(inode);
+        }
+        Ok(())
+    }
+
+    /// The client's ruleset has this rule too.
+    fn allow(&mut self, client: u64, rule: &Rule) -> Result<(), AllocError>
+        requires caller { has self.old.clients client ≡ true }
+        requires fits { FitsRule self.old (client_of self.old client) rule.now }
+        ensures ok { OnOk result (self.new ≡ with_client self.old client (with_rule_of (client_of self.old client) rule.now)) }
+        ensures err { OnErr result (self.new ≡ self.old) }
+    {
+        let done = self
+            .clients
+            .allow(client, rule.number, rule.inode, rule.kind, rule.rights);
+        match done {
+            Ok(()) => Ok(()),
+            Err(_) => Err(AllocError),
+        }
+    }
+
+    /// Makes the client's change. Where there is no memory, nothing changes.
+    pub(crate) fn enact(&mut self, client: u64, change: &Change<'_>) -> Result<(), AllocError>
+        requires caller { has self.old.clients client ≡ true }
+        requires next { self.old.next < 2 ^ 64 - 1 }
+        requires fits { Fits self.old (client_of self.old client) change.now }
+        ensures ok { OnOk result (self.new ≡ after self.old client (client_of self.old client) change.now) }
+        ensures err { OnErr result (self.new ≡ self.old) }
+        ensures lean { adds_nothing change.now ≡ true → is_ok result ≡ true }
+    {
+        match change {
+            Change::Nothing => {}
+            Change::Make(at, kind) => self.add(at, *kind)?,
+            Change::Take(at, inode) => self.take_name(at, *inode),
+            Change::Name(at, inode) => self.add_name(at, *inode)?,
+            Change::Move(old, new, inode) => self.move_name(old, new, *inode)?,
+            Change::Replace(old, new, inode, other) => self.move_over(old, new, *inode, *other),
+            Change::Exchange(old, new, inode, other) => self.exchange(old, new, *inode, *other),
+            Change::Resize(inode, size) => self.set_len(*inode, *size as usize)?,
+            Change::Open(opening) => match opening.there {
+                None => self.open_new(client, opening)?,
+                Some(inode) => self.open_there(client, opening, inode)?,
+            },
+            Change::Allow(rule) => self.allow(client, rule)?,
+        }
+        Ok(())
+    }
+}

@@ -1,0 +1,87 @@
+//! What is found for a call, and what it comes to.
+
+ghost use Rattle.std.specs.Prelude.{◌≡◌, ℕ, true, MatchOption, MatchResult};
+ghost use Rattle.ll_rights.specs.Map.{has};
+ghost use Rattle.ll_seq.specs.Call.{first_path, path_of, second_path};
+ghost use Rattle.ll_seq.specs.Step.{client_of};
+ghost use Rattle.ll_answer.specs.Decided.{IsDone, IsRefused};
+ghost use Rattle.ll_answer.specs.Passed.{has_path};
+ghost use Rattle.ll_plain.specs.Walking.{IsPathWalk};
+
+use crate::Plain;
+use crate::walk::PathWalk;
+use ll_answer::{Effect, Found, Targets, decide, targets_of};
+use ll_decide::Granted;
+use ll_path::Target;
+use ll_rules::Domain;
+use ll_seq::{Call, ClientRecord, Reply};
+
+impl Plain {
+    /// The walk along what the word spells. A word that is no path stands for the root here.
+    fn walk_target(&self, domain: &Domain, target: &Target) -> PathWalk
+        ensures { IsPathWalk self.now domain.now (path_of target.now) result }
+    {
+        match target {
+            Target::Good(path) => self.walk_path(domain, path),
+            Target::Bad(_) => self.walk_root(domain),
+        }
+    }
+
+    /// The walk along the call's path, or those along both.
+    fn walks(&self, domain: &Domain, call: &Call) -> (PathWalk, Option<PathWalk>)
+        ensures first { IsPathWalk self.now domain.now (first_path call.now) result.0 }
+        ensures second { MatchOption result.1 (second_path call.now ≡ first_path call.now) (IsPathWalk self.now domain.now (second_path call.now)) }
+    {
+        match targets_of(call) {
+            Targets::No => (self.walk_root(domain), None),
+            Targets::One(target) => (self.walk_target(domain, target), None),
+            Targets::Two(old, new) => (
+                self.walk_target(domain, old),
+                Some(self.walk_target(domain, new)),
+            ),
+        }
+    }
+
+    /// What the caller's call comes to, of which these walks are.
+    fn decided<'a>(
+        &self,
+        caller: &ClientRecord,
+        call: &'a Call,
+        first: &PathWalk,
+        second: &PathWalk,
+    ) -> Result<Effect<'a>, Reply>
+        requires path { has_path call.now ≡ true }
+        requires first { IsPathWalk self.now caller.now.domain (first_path call.now) first.now }
+        requires second { IsPathWalk self.now caller.now.domain (second_path call.now) second.now }
+        ensures { (client : ℕ) → client_of self.now client ≡ caller.now → MatchResult result (IsDone self.now client call.now) (IsRefused self.now client call.now) }
+    {
+        let found = Found {
+            first: first.spot,
+            second: second.spot,
+            is_full: self.is_full(),
+        };
+        let granted = Granted {
+            itself: &first.itself,
+            other: &second.itself,
+            parent: &first.parent,
+            entered: &second.parent,
+        };
+        decide(caller, call, &found, &granted)
+    }
+
+    /// What the client's call does, which names a path, or the reply where it does nothing.
+    pub(crate) fn effect<'a>(&self, client: u64, call: &'a Call) -> Result<Effect<'a>, Reply>
+        requires caller { has self.now.clients client ≡ true }
+        requires path { has_path call.now ≡ true }
+        ensures { MatchResult result (IsDone self.now client call.now) (IsRefused self.now client call.now) }
+    {
+        let Some(caller) = self.clients.get(client) else {
+            unreachable!()
+        };
+        let (first, second) = self.walks(&caller.domain, call);
+        match &second {
+            None => self.decided(caller, call, &first, &first),
+            Some(second) => self.decided(caller, call, &first, second),
+        }
+    }
+}

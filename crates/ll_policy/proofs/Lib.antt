@@ -1,0 +1,7 @@
+pub mod Digits
+pub mod Firsts
+pub mod Keys
+pub mod Listed
+pub mod PathTests
+pub mod Pieces
+pub mod Texts

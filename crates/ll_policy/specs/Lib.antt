@@ -1,0 +1,7 @@
+pub mod Answers
+pub mod Calls
+pub mod Faults
+pub mod Kept
+pub mod Plan
+pub mod Table
+pub mod Value

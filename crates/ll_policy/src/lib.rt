@@ -1,0 +1,15 @@
+//! Policies: what a TOML document says of files that are made first, and of the layers that clients of a profile get.
+#![tactic(auto)]
+
+mod fault;
+mod node;
+mod path_text;
+mod policy;
+mod profile;
+mod table;
+#[cfg(test)]
+mod tests;
+mod values;
+
+pub use fault::PolicyFault;
+pub use policy::Policy;

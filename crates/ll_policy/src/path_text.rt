@@ -1,0 +1,59 @@
+//! Paths in a policy.
+
+ghost use Rattle.std.specs.Prelude.{◌≡◌, not, IfOk};
+ghost use Rattle.ll_policy.specs.Answers.{Reads};
+ghost use Rattle.ll_policy.specs.Calls.{path_to};
+ghost use Rattle.ll_policy.specs.Faults.{fault_if};
+ghost use Rattle.ll_policy.specs.Value.{is_path};
+ghost use Rattle.ll_policy.specs.declared.fault.PolicyFault.TheVariants.{BadPath};
+
+use crate::fault::PolicyFault;
+use ll_path::{Path, Target, Word};
+use std::alloc::{AllocError, Global};
+use std::marker::Model;
+
+/// A path that several calls may need. Contracts see its text.
+#[derive(Drop)]
+pub(crate) struct PathText {
+    path: Path,
+}
+
+impl Model for PathText {
+    ghost use Rattle.std.specs.Prelude.{◌≡◌, ℕ, List, []};
+    ghost use Rattle.ll_path.specs.Word.{IsWord};
+    ghost use Rattle.ll_path.specs.Path.{path_text, text_refusals};
+
+    ghost Value = { List ℕ };
+
+    ghost view = { λ kept. path_text kept.path };
+
+    ghost invariant = { λ kept. IsWord (path_text kept.path) × (text_refusals (path_text kept.path) ≡ []) };
+}
+
+impl PathText {
+    /// The path that a text spells.
+    pub(crate) fn read(alloc: Global, text: &str) -> Result<PathText, PolicyFault>
+        ensures { Reads (fault_if (not (is_path text.now)) BadPath) (λ path. path ≡ text.now) result }
+    {
+        if !Word::fits(text) {
+            return Err(PolicyFault::BadPath);
+        }
+        let Ok(word) = Word::new(String::from_str(alloc, text)?) else {
+            unreachable!()
+        };
+        match Path::parse(word) {
+            Ok(path) => Ok(PathText { path }),
+            Err(_) => Err(PolicyFault::BadPath),
+        }
+    }
+
+    /// The path for one call.
+    pub(crate) fn target(&self, alloc: Global) -> Result<Target, AllocError>
+        ensures { IfOk result (λ target. target ≡ path_to self.now) }
+    {
+        match Word::new(String::from_str(alloc, self.path.as_str())?) {
+            Ok(word) => Ok(Target::read(word)),
+            Err(_) => unreachable!(),
+        }
+    }
+}

@@ -1,0 +1,147 @@
+//! Policies.
+
+ghost use Rattle.std.specs.Prelude.{bytes_eq, ⊤, ◌≡◌, ◌⊎◌, ◌≤◌, [], Some, pos, option_map, slice_get, OnOk, IfOk, IfErr};
+ghost use Rattle.std.specs.Map.{lookup};
+ghost use Rattle.toml.specs.Parse.{parse_document};
+ghost use Rattle.toml.specs.View.{table_view};
+ghost use Rattle.ll_policy.specs.Answers.{Checks, Reads};
+ghost use Rattle.ll_policy.specs.Faults.{document_faults, level_faults, other_keys, policy_faults, top_faults, top_keys};
+ghost use Rattle.ll_policy.specs.Kept.{IsTop};
+ghost use Rattle.ll_policy.specs.Plan.{IsPlan, IsPlanOf, level_by};
+ghost use Rattle.ll_policy.specs.declared.fault.PolicyFault.TheVariants.{NoMemory};
+
+use crate::fault::PolicyFault;
+use crate::node::{Node, opening_calls, read_nodes};
+use crate::profile::{Profile, read_profiles};
+use crate::table::{named_tables, only, tables};
+use crate::values::{is_two, level, version};
+use ll_seq::Call;
+use std::alloc::{AllocError, Global};
+use std::marker::Model;
+use toml::{Table, Value};
+
+// What stands in a document's table itself.
+#[derive(Drop)]
+struct Top<'a> {
+    abi: u64,
+    nodes: &'a [Value],
+    profiles: Option<&'a Table>,
+}
+
+// The document has no keys but those of its version.
+fn only_top(table: &Table, two: bool) -> Result<(), PolicyFault>
+    ensures { Checks (other_keys (top_keys two) (table_view table.now)) (λ _. ⊤) result }
+{
+    if two {
+        only(table, &["version", "abi", "node", "profile"])
+    } else {
+        only(table, &["version", "node", "profile"])
+    }
+}
+
+// The level that a document of the second version tells, or the one that the first means.
+fn level_of(table: &Table, two: bool) -> Result<u64, PolicyFault>
+    ensures { Checks (level_faults two (table_view table.now))
+        (λ level. (pos level ≡ level_by two (table_view table.now)) × (1 ≤ level) × (level ≤ 3)) result }
+{
+    if two { level(table) } else { Ok(3) }
+}
+
+fn read_top<'a>(table: &'a Table) -> Result<Top<'a>, PolicyFault>
+    ensures { Checks (top_faults (table_view table.now)) (IsTop (table_view table.now)) result }
+{
+    let two = is_two(table);
+    only_top(table, two)?;
+    version(table)?;
+    let abi = level_of(table, two)?;
+    let nodes = tables(table, "node")?;
+    let profiles = named_tables(table, "profile")?;
+    Ok(Top {
+        abi,
+        nodes,
+        profiles,
+    })
+}
+
+/// Calls that a first client makes, and calls of clients by the names of profiles.
+#[derive(Drop)]
+pub struct Policy {
+    abi: u64,
+    nodes: Vec<Node>,
+    profiles: Vec<Profile>,
+}
+
+impl Model for Policy {
+    ghost use Rattle.std.specs.Prelude.{ℕ, ◌≤◌, map};
+    ghost use Rattle.ll_policy.specs.Plan.{Plan};
+
+    ghost Value = { Plan };
+
+    ghost use Rattle.ll_policy.specs.Kept.{opening_of, named_calls};
+
+    ghost view = { λ policy. record { abi = policy.abi; opening = opening_of policy.nodes.items; profiles = map named_calls policy.profiles.items } };
+
+    ghost invariant = { λ policy. (1 ≤ policy.abi) × (policy.abi ≤ 3) };
+}
+
+impl Policy {
+    // The policy of a document's table.
+    fn read(alloc: Global, table: &Table) -> Result<Policy, PolicyFault>
+        ensures { Reads (policy_faults (table_view table.now)) (IsPlan (table_view table.now)) result }
+    {
+        let top = read_top(table)?;
+        let nodes = read_nodes(alloc, top.nodes)?;
+        let profiles = match top.profiles {
+            Some(profiles) => read_profiles(alloc, profiles)?,
+            None => Vec::new(alloc),
+        };
+        Ok(Policy {
+            abi: top.abi,
+            nodes,
+            profiles,
+        })
+    }
+
+    /// The policy that a text gives, or its first fault. Where memory runs out, `NoMemory` may come in place of either.
+    pub fn from_text(alloc: Global, text: &str) -> Result<Policy, PolicyFault>
+        ensures right { OnOk result (document_faults (parse_document text.now) ≡ []) }
+        ensures plan { IfOk result (IsPlanOf (parse_document text.now)) }
+        ensures fault { IfErr result (λ fault. (fault ≡ NoMemory)
+            ⊎ (slice_get (document_faults (parse_document text.now)) 0 ≡ Some fault)) }
+    {
+        match toml::table_from_str(alloc, text) {
+            Ok(table) => Policy::read(alloc, &table),
+            Err(error) if error.is_memory() => Err(PolicyFault::NoMemory),
+            Err(_) => Err(PolicyFault::NotToml),
+        }
+    }
+
+    /// The ABI level of the tree that the policy is for.
+    pub fn abi(&self) -> u64
+        ensures value { result ≡ self.now.abi }
+        ensures first { 1 ≤ result }
+        ensures last { result ≤ 3 }
+    {
+        self.abi
+    }
+
+    /// The calls that a client makes before all others, in order.
+    pub fn opening(&self, alloc: Global) -> Result<Vec<Call>, AllocError>
+        ensures { IfOk result (λ calls. calls.items ≡ self.now.opening) }
+    {
+        opening_calls(alloc, &self.nodes)
+    }
+
+    /// The calls that each client of this profile makes first, in order. None where the policy has no such profile.
+    pub fn profile(&self, alloc: Global, name: &str) -> Result<Option<Vec<Call>>, AllocError>
+        ensures { IfOk result (λ found. option_map (λ calls. calls.items) found
+            ≡ lookup (bytes_eq name.now) self.now.profiles) }
+    {
+        for profile in &self.profiles {
+            if profile.is_named(name) {
+                return Ok(Some(profile.calls(alloc)?));
+            }
+        }
+        Ok(None)
+    }
+}

@@ -1,0 +1,5 @@
+use Rattle.ll_wire.proofs.Replies.{spells_one_reply}
+use Rattle.ll_wire.proofs.grammar.spells_one_reply.Goals as goal
+
+pub returns : goal.returns
+returns c = spells_one_reply
