@@ -5,7 +5,9 @@ pub mod Devices
 pub mod Endings
 pub mod Entered
 pub mod Kept
+pub mod Legal
 pub mod Matched
+pub mod Memory
 pub mod Numbers
 pub mod Opening
 pub mod Places

@@ -1,17 +1,16 @@
--- The number of nodes that a word gives, and what the matches of `run` ask for.
-use Rattle.std.proofs.Common.{◌≡◌, ◌∙◌, ◌<◌, ◌^◌, ◌&&◌, ℕ, Bool, true, false, Option, Some, None, refl, sym, ap, ap₂, cond, codes, option_map, nat_le}
+-- The number that a word gives, and what the matches of `run` ask for.
+use Rattle.std.proofs.Common.{◌≡◌, ◌∙◌, ◌<◌, ◌≤◌, ◌^◌, ◌&&◌, ℕ, Bool, true, false, Option, Some, None, refl, sym, ap, ap₂, cond, codes, option_map, is_some, nat_le}
 use Rattle.std.specs.Prelude.{option_and_then}
 use Rattle.std.specs.Str.Parse.{IsNumeral, digits_value, without_leading_plus}
 use Rattle.std.proofs.lemmas.Bool.{le-leb, leb-true}
-use Rattle.clap.specs.Words.{Text, first_value, one_text, rows_of}
+use Rattle.clap.specs.Words.{Text, first_of, first_value, one_of, one_text, rows_of}
 use Rattle.clap.specs.ValueTests.{accepts}
+use Rattle.clap.specs.declared.builder.value_parser.ValueParser.{ValueParser}
+use Rattle.clap.specs.declared.builder.value_parser.ValueParser.TheVariants.{Unsigned}
 use Rattle.clap.specs.declared.parser.matches.Found.{Found}
 use Rattle.clap.proofs.ValueTestLemmas.{Accepts-accepts, accepts-Accepts}
 use Rattle.clap.proofs.WalkLemmas.{both, first_value-rows, one_text-rows}
-use Rattle.landtree.specs.Options.{asked, node_numbers, nodes_in}
-
-abbrev pub allowed : ℕ → Option ℕ
-allowed n = cond (nat_le 1 n && nat_le n 4096) (Some n) None
+use Rattle.landtree.specs.Options.{asked, levels, node_numbers, number_in}
 
 abbrev number : Text → ℕ
 number t = digits_value 10 (without_leading_plus t)
@@ -20,37 +19,69 @@ number t = digits_value 10 (without_leading_plus t)
 abbrev IsNumber : Text → Type 0
 IsNumber t = IsNumeral 10 (without_leading_plus t) × (number t < 2 ^ 64)
 
--- of such a text the range decides
-in_range : (t : Text) → IsNumber t → nodes_in t ≡ allowed (number t)
-in_range t is = ap (λ (b : Bool). cond b (Some (number t)) None) (same (accepts false node_numbers t) (nat_le 1 (number t) && nat_le (number t) 4096)
-    (λ e. let in_bounds = accepts-Accepts false node_numbers t e in rw (le-leb _ _ in_bounds.2, le-leb _ _ in_bounds.3) refl)
-    (λ e. let bounds = both _ _ e in Accepts-accepts false node_numbers t (is.0, is.1, leb-true _ _ bounds.0, leb-true _ _ bounds.1)))
-  where
-    same : (a b : Bool) → (a ≡ true → b ≡ true) → (b ≡ true → a ≡ true) → a ≡ b
-    same true b to from = sym (to refl)
-    same false true to from = from refl
-    same false false to from = refl
-
--- and of any other text nothing comes
-no_number : (t : Text) → (IsNumber t → ⊥) → nodes_in t ≡ None
-no_number t not = go (accepts false node_numbers t) refl
-  where
-    go : (b : Bool) → accepts false node_numbers t ≡ b → cond b (Some (number t)) None ≡ None
-    go true e = let in_bounds = accepts-Accepts false node_numbers t e in absurd (not (in_bounds.0, in_bounds.1))
-    go false e = refl
-
 -- what `get_one` reads of a text, and the range lets through
 abbrev pub Reads : Text → Option ℕ → Type 0
 Reads t (Some n) = IsNumber t × (n ≡ number t)
 Reads t None = IsNumber t → ⊥
 
-pub number_read : (text : Option Text) (r : Option ℕ) → (text ≡ None → r ≡ None) → ((t : Text) → text ≡ Some t → Reads t r)
-    → option_and_then allowed r ≡ option_and_then nodes_in text
-number_read None r none value = ap (option_and_then allowed) (none refl)
-number_read (Some t) (Some n) none value = let read = value t refl in ap allowed read.1 ∙ sym (in_range t read.0)
-number_read (Some t) None none value = sym (no_number t (value t refl))
+module _ (low high : ℕ) where
+  abbrev parser : ValueParser
+  parser = Unsigned low high
 
-pub asked_of : (f : Found) (path : Option Text) (n : Option ℕ) → path ≡ first_value f (codes "SCRIPT") → n ≡ option_and_then nodes_in (one_text f (codes "nodes"))
-    → option_and_then (λ p. option_map (λ k. (p, k)) n) path ≡ asked (rows_of f)
-asked_of f path n e g = ap₂ (λ (p : Option Text) (m : Option ℕ). option_and_then (λ q. option_map (λ k. (q, k)) m) p)
-    (e ∙ first_value-rows f (codes "SCRIPT")) (g ∙ ap (option_and_then nodes_in) (one_text-rows f (codes "nodes")))
+  abbrev pub allowed : ℕ → Option ℕ
+  allowed n = cond (nat_le low n && nat_le n high) (Some n) None
+
+  same : (a b : Bool) → (a ≡ true → b ≡ true) → (b ≡ true → a ≡ true) → a ≡ b
+  same true b to from = sym (to refl)
+  same false true to from = from refl
+  same false false to from = refl
+
+  -- of such a text the range decides
+  in_range : (t : Text) → IsNumber t → number_in parser t ≡ allowed (number t)
+  in_range t is = ap (λ (b : Bool). cond b (Some (number t)) None) (same (accepts false parser t) (nat_le low (number t) && nat_le (number t) high)
+      (λ e. let in_bounds = accepts-Accepts false parser t e in rw (le-leb _ _ in_bounds.2, le-leb _ _ in_bounds.3) refl)
+      (λ e. let bounds = both _ _ e in Accepts-accepts false parser t (is.0, is.1, leb-true _ _ bounds.0, leb-true _ _ bounds.1)))
+
+  -- and of any other text nothing comes
+  no_number : (t : Text) → (IsNumber t → ⊥) → number_in parser t ≡ None
+  no_number t not = go (accepts false parser t) refl
+    where
+      go : (b : Bool) → accepts false parser t ≡ b → cond b (Some (number t)) None ≡ None
+      go true e = let in_bounds = accepts-Accepts false parser t e in absurd (not (in_bounds.0, in_bounds.1))
+      go false e = refl
+
+  pub number_read : (text : Option Text) (r : Option ℕ) → (text ≡ None → r ≡ None) → ((t : Text) → text ≡ Some t → Reads t r)
+      → option_and_then allowed r ≡ option_and_then (number_in parser) text
+  number_read None r none value = ap (option_and_then allowed) (none refl)
+  number_read (Some t) (Some n) none value = let read = value t refl in ap allowed read.1 ∙ sym (in_range t read.0)
+  number_read (Some t) None none value = sym (no_number t (value t refl))
+
+  pub within : (n : ℕ) → low ≤ n → n ≤ high → Some n ≡ allowed n
+  within n first last = rw (le-leb low n first, le-leb n high last) refl
+
+  pub beyond : (n : ℕ) → ((low ≤ n) × (n ≤ high) → ⊥) → None ≡ allowed n
+  beyond n out = go (nat_le low n) (nat_le n high) refl refl
+    where
+      go : (a b : Bool) → nat_le low n ≡ a → nat_le n high ≡ b → None ≡ cond (a && b) (Some n) None
+      go true true e f = absurd (out (leb-true low n e, leb-true n high f))
+      go true false e f = refl
+      go false b e f = refl
+
+-- what is asked for, where each part is there
+abbrev pub together : Option Text → Option ℕ → Option ℕ → Option (Text × ℕ × ℕ)
+together path n level = option_and_then (λ p. option_and_then (λ k. option_map (λ l. (p, k, l)) level) n) path
+
+pub asked_of : (f : Found) (path : Option Text) (n level : Option ℕ) → path ≡ first_value f (codes "SCRIPT")
+    → n ≡ option_and_then (number_in node_numbers) (one_text f (codes "nodes")) → level ≡ option_and_then (number_in levels) (one_text f (codes "abi"))
+    → together path n level ≡ asked (rows_of f)
+asked_of f path n level e g h =
+    ap₂ (λ (p : Option Text) (m : Option ℕ). together p m level) (e ∙ first_value-rows f (codes "SCRIPT")) (g ∙ ap (option_and_then (number_in node_numbers)) (one_text-rows f (codes "nodes")))
+    ∙ ap (together (first_of (codes "SCRIPT") (rows_of f)) (option_and_then (number_in node_numbers) (one_of (codes "nodes") (rows_of f)))) (h ∙ ap (option_and_then (number_in levels)) (one_text-rows f (codes "abi")))
+
+-- no level, whatever the number of nodes
+pub no_level : (n : Option ℕ) (path : Text) → None ≡ together (Some path) n None
+no_level None path = refl
+no_level (Some n) path = refl
+
+pub whole : (p : Option Text) (m l : Option ℕ) (path : Text) (n level : ℕ) → p ≡ Some path → m ≡ Some n → l ≡ Some level → is_some (together p m l) ≡ true
+whole p m l path n level e f g = rw (e, f, g) refl

@@ -1,5 +1,5 @@
 -- The reply to a piece.
-use Rattle.std.proofs.Common.{◌≡◌, ◌≢◌, ℕ, ◌+◌, ◌-◌, ◌<◌, ◌≤◌, true, false, List, ◌++◌, length, Option, None, Some, Err, refl, sym, ap, subst, ◌∙◌, arith, inl, inr, ◌⊎◌}
+use Rattle.std.proofs.Common.{◌≡◌, ◌≢◌, ℕ, ◌+◌, ◌-◌, ◌<◌, ◌≤◌, Bool, true, false, List, [], ◌++◌, length, Option, None, Some, Err, refl, sym, ap, subst, ◌∙◌, arith, inl, inr, ◌⊎◌}
 use Rattle.std.specs.Prelude.{slice_get, IsSomeAnd}
 use Rattle.std.proofs.lemmas.Bool.{cases_lt}
 use Rattle.ll_rights.specs.declared.errno.Errno.{Errno}
@@ -10,13 +10,15 @@ use Rattle.ll_seq.specs.declared.reply.Reply.{Reply}
 use Rattle.ll_seq.specs.declared.reply.Reply.TheVariants.{Refused, Spawned}
 use Rattle.ll_seq.specs.State.{State}
 use Rattle.ll_seq.specs.Stages.{numbers_from}
-use Rattle.ll_seq.specs.Step.{step}
+use Rattle.ll_seq.specs.Step.{step, refusals, client_of}
+use Rattle.ll_plain.specs.Memory.{takes_memory}
 use Rattle.ll_wire.specs.Grammar.{SpellsCommand}
-use Rattle.ll_wire.specs.Reads.{Reads}
+use Rattle.ll_wire.specs.Reads.{ReadsBy, holds_text}
 use Rattle.landtree.specs.declared.line.Line.{Line}
 use Rattle.landtree.specs.declared.tree.SessionTree.{SessionTree}
-use Rattle.landtree.specs.Transcript.{Session, IsFull, brought, next, answered, starved, calls, bad}
+use Rattle.landtree.specs.Transcript.{Session, IsFull, MayStarve, brought, next, answered, starved, calls, unread, bad}
 use Rattle.landtree.specs.Progress.{Holds, StandsAt, AnswersLine}
+use Rattle.landtree.proofs.Memory.{is_starved, not_false}
 use Rattle.landtree.proofs.Places.{in_place, no_place, joined, same_place}
 
 -- the piece is answered, and this tree is left
@@ -35,6 +37,8 @@ pub record Made (before after : SessionTree) (n : ℕ) (call : Call) (reply : Re
   pub free : has before.plain.clients (before.clients + 1) ≡ false
   pub step : reply ≢ Refused NoMemory → ◌≡◌ {A = Reply × State} (reply, after.plain) (step before.plain n call (before.clients + 1))
   pub no_memory : reply ≡ Refused NoMemory → after.plain ≡ before.plain
+  pub starved : reply ≡ Refused NoMemory → refusals before.plain (client_of before.plain n) call ≡ []
+  pub memory : takes_memory call ≡ false → reply ≢ Refused NoMemory
   pub clients : after.clients ≡ before.clients + length (brought reply)
   pub spawned : (told : ℕ) → reply ≡ Spawned told → told ≡ before.clients + 1
 
@@ -57,28 +61,25 @@ module _ (s : Session) (piece : List ℕ) (before after : SessionTree) (n : ℕ)
     },
   )
 
+  may_starve : takes_memory call ≡ true → refusals before.plain (client_of before.plain n) call ≡ [] → MayStarve s n call
+  may_starve takes none = (takes, ap (λ (z : State). refusals z (client_of z n) call) stands.tree ∙ none)
+
   -- the tree found no memory
-  stayed : after.plain ≡ before.plain → after.clients ≡ before.clients → Answered s piece (Refused NoMemory) after
-  stayed tree clients = (
+  stayed : after.plain ≡ before.plain → after.clients ≡ before.clients → MayStarve s n call → Answered s piece (Refused NoMemory) after
+  stayed tree clients may = (
     s,
-    calls n n call (Refused NoMemory) (Refused NoMemory) s is.0 caller starved refl,
+    calls n n call (Refused NoMemory) (Refused NoMemory) s is.0 caller (starved may) refl,
     record { tree = stands.tree ∙ sym tree; clients = stands.clients ∙ ap (numbers_from 1) (sym clients); limit = stands.limit },
   )
-
-for_memory : (errno : Errno) → (Refused errno ≡ Refused NoMemory) ⊎ (Refused errno ≢ Refused NoMemory)
-for_memory NoMemory = inl refl
-for_memory _ = inr (λ e. absurd cc)
-
-is_starved : (reply : Reply) → (reply ≡ Refused NoMemory) ⊎ (reply ≢ Refused NoMemory)
-is_starved (Refused errno) = for_memory errno
-is_starved _ = inr (λ e. absurd cc)
 
 pub called : (s : Session) (piece : List ℕ) (before after : SessionTree) (n : ℕ) (call : Call) (reply : Reply)
     → StandsAt before s → Spells before.clients piece (n, call) → Made before after n call reply → Answered s piece reply after
 called s piece before after n call reply stands is made = elim (is_starved reply) [
   | inl e ↦ (
       let kept : after.clients ≡ before.clients = made.clients ∙ ap (λ (r : Reply). before.clients + length (brought r)) e ∙ (let same : before.clients + 0 ≡ before.clients = omega arith in same) in
-      subst (λ (r : Reply). Answered s piece r after) (sym e) (stayed s piece before after n call stands is (made.no_memory e) kept))
+      let takes : takes_memory call ≡ true = not_false (takes_memory call) (λ spares. made.memory spares e) in
+      subst (λ (r : Reply). Answered s piece r after) (sym e)
+          (stayed s piece before after n call stands is (made.no_memory e) kept (may_starve s piece before after n call stands is takes (made.starved e))))
   | inr ne ↦ stepped s piece before after n call stands is reply made ne
 ]
 
@@ -99,10 +100,11 @@ spells_none s piece left none stands = (
 pub too_long : (line : Line) (piece : List ℕ) (clients : ℕ) → line.is_long ≡ true → Holds line piece → (v : ℕ × Call) → Spells clients piece v → ⊥
 too_long line piece clients e held v is = let more : 16384 < length piece = rw e at held in let less = is.0.short in omega arith
 
--- nothing was read from the piece: it spells nothing, or there was no memory
-pub not_read : (s : Session) (piece bytes : List ℕ) (left : SessionTree) (errno : Errno) → bytes ≡ piece → Reads (Spells left.clients bytes) (Err errno) → StandsAt left s
-    → Answered s piece (Refused errno) left
+-- nothing was read from the piece: it spells nothing, or there was no memory for its word or bytes
+pub not_read : (s : Session) (piece bytes : List ℕ) (left : SessionTree) (errno : Errno) → bytes ≡ piece
+    → ReadsBy (Spells left.clients bytes) (λ (v : ℕ × Call). holds_text v.1 ≡ true) (Err errno) → StandsAt left s → Answered s piece (Refused errno) left
 not_read s piece bytes left errno same (inl h) stands = subst (λ (e : Errno). Answered s piece (Refused e) left) (sym h.0)
     (spells_none s piece left (λ v is. h.1 v (subst (λ (p : List ℕ). Spells left.clients p v) (sym same) is)) stands)
 not_read s piece bytes left errno same (inr h) stands = subst (λ (e : Errno). Answered s piece (Refused e) left) (sym h.0)
-    (stayed s piece left left h.1.0 h.1.1 stands (subst (λ (p : List ℕ). Spells left.clients p h.1) same h.2) refl refl)
+    (let is = subst (λ (p : List ℕ). Spells left.clients p h.1) same h.2 in
+    (s, unread h.1.0 h.1.0 h.1.1 is.0 (caller s piece left left h.1.0 h.1.1 stands is) h.3, stands))

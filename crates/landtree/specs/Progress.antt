@@ -1,5 +1,5 @@
 -- How far a run has come, for the functions below `run_script` alone: its own contract cites nothing of this file.
-use Rattle.std.specs.Prelude.{◌≡◌, ◌≢◌, ◌⊎◌, ℕ, ◌+◌, ◌≤◌, ◌<◌, List, ◌++◌, length, Option, None, MatchBool}
+use Rattle.std.specs.Prelude.{⊤, ◌≡◌, ◌≢◌, ◌⊎◌, ℕ, ◌+◌, ◌≤◌, ◌<◌, List, ◌++◌, length, Option, None, MatchBool}
 use Rattle.std.specs.List.{AllByRecursion}
 use Rattle.std.specs.Io.KnownBytes.{Appends}
 use Rattle.ll_seq.specs.declared.reply.Reply.{Reply}
@@ -10,11 +10,24 @@ use Rattle.landtree.specs.declared.fault.SessionFault.TheVariants as fault
 use Rattle.landtree.specs.declared.line.Line.{Line}
 use Rattle.landtree.specs.declared.tree.SessionTree.{SessionTree}
 use Rattle.landtree.specs.declared.session.OpenSession.{OpenSession}
-use Rattle.landtree.specs.Transcript.{Session, Called, Answers, Transcript, pieces}
+use Rattle.landtree.specs.declared.session.Opened.{Opened}
+use Rattle.landtree.specs.declared.session.Opened.TheVariants.{Begun, Refused}
+use Rattle.landtree.specs.Run.{Lines}
+use Rattle.landtree.specs.Transcript.{Session, Called, Answers, pieces}
 
 -- the bytes since the last line feed: kept, or over 16,384 of them
 abbrev pub Holds : Line → List ℕ → Type 0
 Holds line part = MatchBool line.is_long (16384 < length part) ((line.bytes.items ≡ part) × (length part ≤ 16384))
+
+-- this of the session that the opening began
+abbrev pub IfBegun : Opened → (OpenSession → Type 0) → Type 0
+IfBegun (Begun session) P = P session
+IfBegun (Refused reply) P = ⊤
+
+-- this of the reply that refused it
+abbrev pub IfRefused : Opened → (Reply → Type 0) → Type 0
+IfRefused (Begun session) P = ⊤
+IfRefused (Refused reply) P = P reply
 
 -- the numbers that inodes and clients have had
 abbrev pub used : SessionTree → ℕ
@@ -28,9 +41,6 @@ pub record StandsAt (of : SessionTree) (s : Session) : Type 0 where
 
 abbrev pub AnswersLine : Session → List ℕ → Reply → Session → Type 0
 AnswersLine = Answers (λ s. s.clients) Called
-
-abbrev pub Lines : Session → List (List ℕ) → List ℕ → Session → Type 0
-Lines = Transcript (λ s. s.clients) Called
 
 -- what ends the answering of lines: a failed write, or want of memory
 abbrev pub IsOfWriting : SessionFault → Type 0

@@ -1,44 +1,72 @@
 -- A whole run of a script. own
-use Rattle.std.specs.Prelude.{◌≡◌, ℕ, List, [], ◌∷◌, ◌++◌, Option, None, Result, Ok, Err, ◌⊎◌}
+use Rattle.std.specs.Prelude.{⊤, ◌≡◌, ℕ, List, [], ◌∷◌, ◌++◌, Option, None, ◌⊎◌}
 use Rattle.std.specs.Io.KnownBytes.{Appends}
+use Rattle.ll_rights.specs.declared.errno.Errno.TheVariants.{NoMemory}
 use Rattle.ll_seq.specs.declared.call.Call.TheVariants.{Connect}
 use Rattle.ll_seq.specs.declared.reply.Reply.{Reply}
-use Rattle.ll_seq.specs.declared.reply.Reply.TheVariants.{Done}
+use Rattle.ll_seq.specs.declared.reply.Reply.TheVariants.{Done, Refused}
 use Rattle.ll_seq.specs.State.{State, start}
 use Rattle.ll_seq.specs.Step.{step}
+use Rattle.ll_seq.specs.History.{IsLegal, state_after}
 use Rattle.ll_wire.specs.Grammar.{reply_line}
+use Rattle.landtree.specs.declared.fault.RunFault.{RunFault}
+use Rattle.landtree.specs.declared.fault.RunFault.TheVariants as run
 use Rattle.landtree.specs.declared.setup.Setup.{Setup}
 use Rattle.landtree.specs.Transcript.{Session, Called, Transcript, pieces}
 
 -- a fresh tree after its first client has connected
-abbrev pub connected : ℕ → State
-connected nodes = (step (start nodes) 1 Connect 0).1
+abbrev pub connected : Setup → State
+connected setup = (step (start setup.rules setup.nodes) 1 Connect 0).1
 
 -- The session of that client. Its connect is the first entry: from the start of the tree on, the entries alone give the tree
-abbrev pub opening : Setup → Session
-opening setup = record { tree = connected setup.nodes; clients = 1 ∷ []; entries = record { client = 1; call = Connect; reply = Done } ∷ []; limit = None }
+abbrev pub joined : Setup → Session
+joined setup = record { tree = connected setup; clients = 1 ∷ []; entries = record { client = 1; call = Connect; reply = Done } ∷ []; limit = None }
 
 -- the most reads of one input
 abbrev pub most_reads : ℕ
 most_reads = 1000000000
 
--- What a run starts with: the session after the opening, or the reply to the first call of the opening that is refused.
--- A connect to a fresh tree is never refused
-abbrev pub Starts : Setup → Result Session Reply → Type 0
-Starts setup (Ok first) = first ≡ opening setup
-Starts setup (Err reply) = ⊥
+-- How the opening of a run ends: with a session, with a connect or profile call that is refused, or with an opening call that is
+pub data Opening : Type 0 where
+  begun : Session → Opening
+  refused : Reply → Opening
+  stopped : Opening
+
+-- The opening is one connect to a fresh tree, which only want of memory refuses
+abbrev pub Opens : Setup → Opening → Type 0
+Opens setup (begun first) = first ≡ joined setup
+Opens setup (refused reply) = reply ≡ Refused NoMemory
+Opens setup stopped = ⊥
+
+abbrev pub Lines : Session → List (List ℕ) → List ℕ → Session → Type 0
+Lines = Transcript (λ s. s.clients) Called
+
+-- The fault may end a run: there is an opening call to be refused, or the session has begun or can't
+abbrev pub MayEnd : Setup → RunFault → Type 0
+MayEnd setup run.Opening = Opens setup stopped
+MayEnd setup (run.Session fault) = ⊤
 
 -- What a run reads of its input, and what it writes: all of it and the transcript, or nothing and the refusal
 abbrev pub Runs : Setup → (input left text : List ℕ) → Type 0
 Runs setup input left text =
-    ((first last : Session) × Starts setup (Ok first) × (left ≡ []) × Transcript (λ s. s.clients) Called first (pieces input) text last)
-    ⊎ ((reply : Reply) × Starts setup (Err reply) × (left ≡ input) × (text ≡ reply_line reply))
+    ((first last : Session) × Opens setup (begun first) × (left ≡ []) × Lines first (pieces input) text last)
+    ⊎ ((reply : Reply) × Opens setup (refused reply) × (left ≡ input) × (text ≡ reply_line reply))
 
--- A run that a fault ends: what it writes is a beginning of the transcript of some first pieces of its input
+-- A run that a fault ends: it writes a beginning of the transcript of some first pieces of its input, or of the refusal, or its
+-- opening stops and nothing is written
 abbrev pub Begins : Setup → (input text : List ℕ) → Type 0
 Begins setup input text =
-    (first last : Session) × (done more : List (List ℕ)) × (whole back : List ℕ) × Starts setup (Ok first) × (pieces input ≡ done ++ more)
-    × Transcript (λ s. s.clients) Called first done whole last × (whole ≡ text ++ back)
+    ((first last : Session) × (done more : List (List ℕ)) × (whole back : List ℕ) × Opens setup (begun first) × (pieces input ≡ done ++ more)
+        × Lines first done whole last × (whole ≡ text ++ back))
+    ⊎ ((reply : Reply) × (back : List ℕ) × Opens setup (refused reply) × (reply_line reply ≡ text ++ back))
+    ⊎ (Opens setup stopped × (text ≡ []))
+
+-- The entries of a run, line after line, are a legal history of its tree, and lead to the tree that it has then
+abbrev pub RunsLegally : Type 0
+RunsLegally =
+    (setup : Setup) (first last : Session) (done : List (List ℕ)) (text : List ℕ) → Opens setup (begun first) → Lines first done text last →
+    let empty = start setup.rules setup.nodes in
+    IsLegal empty last.entries × (last.tree ≡ state_after empty last.entries)
 
 -- What a writer that tells its bytes has gained is such a text
 abbrev pub Writes : (contents contents' : Option (List ℕ)) → (List ℕ → Type 0) → Type 0

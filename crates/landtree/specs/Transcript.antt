@@ -1,5 +1,5 @@
 -- What is written for what is read, line by line. own
-use Rattle.std.specs.Prelude.{◌≡◌, ℕ, ◌+◌, ◌-◌, ◌≤◌, false, List, [], ◌∷◌, ◌++◌, length, Option, Some, None, slice_get, ◌==◌, if◌then◌else◌, IsSomeAnd}
+use Rattle.std.specs.Prelude.{◌≡◌, ℕ, ◌+◌, ◌-◌, ◌≤◌, true, false, List, [], ◌∷◌, ◌++◌, length, Option, Some, None, slice_get, ◌==◌, if◌then◌else◌, IsSomeAnd}
 use Rattle.std.specs.List.{onto_first}
 use Rattle.ll_rights.specs.declared.errno.Errno.TheVariants.{HistoryFull, NoMemory, BadLine}
 use Rattle.ll_seq.specs.declared.call.Call.{Call}
@@ -8,8 +8,10 @@ use Rattle.ll_seq.specs.declared.reply.Reply.TheVariants.{Refused, Spawned}
 use Rattle.ll_seq.specs.declared.reply.Entry.{Entry}
 use Rattle.ll_rights.specs.Map.{has}
 use Rattle.ll_seq.specs.State.{State}
-use Rattle.ll_seq.specs.Step.{step}
+use Rattle.ll_seq.specs.Step.{step, refusals, client_of}
+use Rattle.ll_plain.specs.Memory.{takes_memory}
 use Rattle.ll_wire.specs.Grammar.{SpellsCommand, reply_line}
+use Rattle.ll_wire.specs.Reads.{holds_text}
 
 -- A stream is cut after each line feed. What stands after the last one is a piece too
 abbrev pub pieces : List ℕ → List (List ℕ)
@@ -36,13 +38,17 @@ brought _ = []
 abbrev pub next : Session → ℕ → Call → Reply → State → Session
 next s client call reply tree = record s { tree = tree; clients = s.clients ++ brought reply; entries = s.entries ++ record { client = client; call = call; reply = reply } ∷ [] }
 
+-- The call takes memory, and nothing refuses it
+abbrev pub MayStarve : Session → ℕ → Call → Type 0
+MayStarve s client call = (takes_memory call ≡ true) × (refusals s.tree (client_of s.tree client) call ≡ [])
+
 -- A client makes a call. The tree makes one step, unless the history is full or a growth was refused: then nothing
 -- changes. A client that is spawned gets a number that no client has
 pub data Called (s : Session) (client : ℕ) (call : Call) : Reply → Session → Type 0 where
   answered : (reply : Reply) (tree : State) (fresh : ℕ) → (IsFull s → ⊥) → has s.tree.clients fresh ≡ false → ◌≡◌ {A = Reply × State} (reply, tree) (step s.tree client call fresh)
       → Called s client call reply (next s client call reply tree)
   full : IsFull s → Called s client call (Refused HistoryFull) s
-  starved : Called s client call (Refused NoMemory) s
+  starved : MayStarve s client call → Called s client call (Refused NoMemory) s
 
 -- The lines name a client by its place in the session
 abbrev pub as_written : List ℕ → Reply → Reply
@@ -52,11 +58,13 @@ as_written clients reply = reply
 -- In what follows, S is what is known between two lines, `clients` the session's clients in it, by their numbers, and
 -- `Called s client call reply t` says that a client's call gets this reply and leaves t
 module _ {S : Type 0} (clients : S → List ℕ) (Called : S → ℕ → Call → Reply → S → Type 0) where
-  -- A piece that spells a call of a client of the session is answered by the reply to that call; every other piece by
-  -- `refused 23 BadLine`
+  -- A piece that spells a call of a client of the session is answered by the reply to that call, or, where the call holds a
+  -- word or bytes, for want of memory to read them; every other piece is answered by `refused 23 BadLine`
   pub data Answers (s : S) (piece : List ℕ) : Reply → S → Type 0 where
     calls : (n client : ℕ) (call : Call) (reply written : Reply) (t : S) → SpellsCommand piece n call → slice_get (clients s) (n - 1) ≡ Some client
         → Called s client call reply t → written ≡ as_written (clients s) reply → Answers s piece written t
+    unread : (n client : ℕ) (call : Call) → SpellsCommand piece n call → slice_get (clients s) (n - 1) ≡ Some client → holds_text call ≡ true
+        → Answers s piece (Refused NoMemory) s
     bad : ((n : ℕ) (call : Call) → SpellsCommand piece n call → slice_get (clients s) (n - 1) ≡ None) → Answers s piece (Refused BadLine) s
 
   -- Each piece gives one line, in order

@@ -1,5 +1,7 @@
 //! Why a run ends early.
 
+ghost use Rattle.std.specs.Prelude.{◌≡◌};
+
 use thiserror::Error;
 
 /// Why a session ends before its input does.
@@ -22,4 +24,14 @@ pub enum RunFault {
     Opening,
     #[error("{0}")]
     Session(SessionFault),
+}
+
+impl From<SessionFault> for RunFault {
+    ghost use Rattle.landtree.specs.declared.fault.RunFault.{RunFault};
+
+    ghost from_gives = { λ fault r. r ≡ RunFault.Session fault };
+
+    fn from(fault: SessionFault) -> RunFault {
+        RunFault::Session(fault)
+    }
 }

@@ -5,6 +5,7 @@ mod failure;
 mod fault;
 #[cfg(test)]
 mod fuse;
+mod laws;
 mod line;
 mod options;
 mod output;
@@ -21,10 +22,10 @@ ghost use Rattle.std.specs.Prelude.{◌≡◌, ◌≢◌, ◌⊎◌, [], map, Er
 ghost use Rattle.std.specs.Process.{exit_status};
 ghost use Rattle.clap.specs.Words.{fault_of, kind_of};
 ghost use Rattle.landtree.specs.declared.fault.RunFault.{RunFault};
-ghost use Rattle.landtree.specs.declared.fault.SessionFault.{SessionFault};
 ghost use Rattle.landtree.specs.declared.failure.Failure.{Failure};
 ghost use Rattle.landtree.specs.Failure.{failure_by, failure_of, status_at};
 ghost use Rattle.landtree.specs.Options.{landtree, EndsWell};
+ghost use Rattle.landtree.specs.Run.{MayEnd};
 
 use failure::Failure;
 use options::Options;
@@ -53,7 +54,8 @@ fn told(rt: &HostRuntime, error: &clap::Error) -> Result<(), Failure>
 }
 
 fn run_options(rt: &HostRuntime, options: &Options) -> Result<(), Failure>
-    ensures { IfErr result (λ failure. (fault : SessionFault) × (failure ≡ failure_of (RunFault.Session fault))) }
+    ensures { IfErr result (λ failure. (fault : RunFault)
+        × MayEnd options.now.setup fault × (failure ≡ failure_of fault)) }
 {
     let mut out = rt.stdout();
     if options.script == "-" {

@@ -2,10 +2,14 @@
 
 ghost use Rattle.std.specs.Prelude.{◌≡◌, IfErr, OnOk, OnErr};
 ghost use Rattle.std.specs.Io.KnownBytes.{Appends};
+ghost use Rattle.ll_wire.specs.Grammar.{IsReply, reply_line};
 ghost use Rattle.landtree.specs.declared.fault.SessionFault.{SessionFault};
-ghost use Rattle.landtree.specs.Progress.{AppendsFront};
+ghost use Rattle.landtree.specs.Progress.{AppendsFront, IsOfWriting};
 
 use crate::fault::SessionFault;
+use ll_wire::reply_text;
+use ll_seq::Reply;
+use std::alloc::Global;
 use std::io::Write;
 
 /// Writes the whole text. No failure is tried again.
@@ -23,4 +27,17 @@ pub fn write_text<W: Write>(writer: &mut W, text: &str) -> Result<(), SessionFau
         }
     }
     Ok(())
+}
+
+/// Writes the reply's line.
+pub fn write_reply<W: Write>(alloc: Global, reply: Reply, writer: &mut W) -> Result<(), SessionFault>
+    requires { IsReply reply }
+    ensures ok { OnOk result (Appends (W.contents writer.old) (W.contents writer.new) (reply_line reply)) }
+    ensures err { OnErr result (AppendsFront (W.contents writer.old) (W.contents writer.new) (reply_line reply)) }
+    ensures fault { IfErr result (λ fault. IsOfWriting fault) }
+{
+    let Ok(text) = reply_text(alloc, &reply) else {
+        return Err(SessionFault::NoMemory);
+    };
+    write_text(writer, text.as_str())
 }

@@ -2,9 +2,8 @@
 
 ghost use Rattle.std.specs.Prelude.{◌≡◌, ℕ, List, OnOk, OnErr, IfErr, IfSome, Some};
 ghost use Rattle.landtree.specs.declared.fault.RunFault.{RunFault};
-ghost use Rattle.landtree.specs.declared.fault.SessionFault.{SessionFault};
 ghost use Rattle.landtree.specs.Failure.{failure_of};
-ghost use Rattle.landtree.specs.Run.{Runs, Begins, Writes};
+ghost use Rattle.landtree.specs.Run.{Runs, Begins, MayEnd, Writes};
 
 use crate::failure::Failure;
 use crate::options::Options;
@@ -12,18 +11,20 @@ use crate::run::run_script;
 use std::alloc::Global;
 use std::io::{Read, Write};
 
-/// Runs a script over a tree of as many nodes as the options tell.
+/// Runs a script over a tree as the options tell.
 pub fn perform<R: Read, W: Write>(
     alloc: Global,
     options: &Options,
     script: &mut R,
     out: &mut W,
 ) -> Result<(), Failure>
-    ensures transcript { OnOk result (IfSome (R.remaining script.old) (λ input. (left : List ℕ) × (R.remaining script.new ≡ Some left)
+    ensures transcript { OnOk result (IfSome (R.remaining script.old) (λ input. (left : List ℕ)
+        × (R.remaining script.new ≡ Some left)
         × Writes (W.contents out.old) (W.contents out.new) (Runs options.now.setup input left))) }
     ensures beginning { OnErr result (IfSome (R.remaining script.old) (λ input.
         Writes (W.contents out.old) (W.contents out.new) (Begins options.now.setup input))) }
-    ensures failure { IfErr result (λ failure. (fault : SessionFault) × (failure ≡ failure_of (RunFault.Session fault))) }
+    ensures failure { IfErr result (λ failure. (fault : RunFault)
+        × MayEnd options.now.setup fault × (failure ≡ failure_of fault)) }
 {
     match run_script(alloc, &options.setup, script, out) {
         Ok(()) => Ok(()),

@@ -5,11 +5,12 @@ ghost use Rattle.std.specs.Io.KnownBytes.{Consumes, IsAtEnd};
 ghost use Rattle.landtree.specs.declared.fault.RunFault.{RunFault};
 ghost use Rattle.landtree.specs.declared.fault.SessionFault.{SessionFault};
 ghost use Rattle.landtree.specs.Transcript.{Session};
-ghost use Rattle.landtree.specs.Run.{Runs, Begins, Writes, most_reads};
+ghost use Rattle.landtree.specs.Run.{Runs, Begins, MayEnd, Writes, most_reads};
 ghost use Rattle.landtree.specs.Progress.{used, HasBegun, IsWritten, Progress};
 
 use crate::fault::{RunFault, SessionFault};
-use crate::session::OpenSession;
+use crate::output::write_reply;
+use crate::session::{OpenSession, Opened};
 use crate::setup::Setup;
 use std::alloc::Global;
 use std::io::{Read, Write};
@@ -47,7 +48,8 @@ fn read_all<R: Read, W: Write>(
         → Progress first input input old (W.contents writer.old) session.old
         → HasBegun first input old (W.contents writer.new)) }
     ensures numbers { used session.new.tree < 2 ^ 63 }
-    ensures long { result ≡ Err SessionFault.TooLong → (input : List ℕ) → R.remaining reader.old ≡ Some input → most_reads ≤ length input }
+    ensures long { result ≡ Err SessionFault.TooLong
+        → (input : List ℕ) → R.remaining reader.old ≡ Some input → most_reads ≤ length input }
 {
     let mut chunk = [0u8; 512];
     for _read in 0..MOST_READS {
@@ -67,28 +69,30 @@ fn read_all<R: Read, W: Write>(
 
 // Reads the input to its end, and answers each line.
 fn run_session<R: Read, W: Write>(
-    session: &mut OpenSession,
+    mut session: OpenSession,
     reader: &mut R,
     writer: &mut W,
 ) -> Result<(), SessionFault>
-    requires room { used session.old.tree ≤ 4 }
+    requires room { used session.tree ≤ 4 }
     ensures ok { OnOk result ((first : Session) (input : List ℕ) (old : Option (List ℕ))
         → R.remaining reader.old ≡ Some input
-        → Progress first input input old (W.contents writer.old) session.old
+        → Progress first input input old (W.contents writer.old) session
         → (R.remaining reader.new ≡ Some []) × IsWritten first input old (W.contents writer.new)) }
     ensures err { OnErr result ((first : Session) (input : List ℕ) (old : Option (List ℕ))
         → R.remaining reader.old ≡ Some input
-        → Progress first input input old (W.contents writer.old) session.old
+        → Progress first input input old (W.contents writer.old) session
         → HasBegun first input old (W.contents writer.new)) }
-    ensures long { result ≡ Err SessionFault.TooLong → (input : List ℕ) → R.remaining reader.old ≡ Some input → most_reads ≤ length input }
+    ensures long { result ≡ Err SessionFault.TooLong
+        → (input : List ℕ) → R.remaining reader.old ≡ Some input → most_reads ≤ length input }
 {
-    if let Err(fault) = read_all(session, reader, writer) {
+    if let Err(fault) = read_all(&mut session, reader, writer) {
         return Err(fault);
     }
     session.finish(writer)
 }
 
-/// Reads a script of command lines, and writes the reply lines.
+/// Reads a script of command lines, and writes the reply lines. Where the opening is refused, that reply's line is all
+/// that it writes, and it reads nothing.
 pub fn run_script<R: Read, W: Write>(
     alloc: Global,
     setup: &Setup,
@@ -96,23 +100,19 @@ pub fn run_script<R: Read, W: Write>(
     writer: &mut W,
 ) -> Result<(), RunFault>
     // Where no fault is answered: what was read, what is left of the input, and what was written, are those of a run.
-    ensures transcript { OnOk result (IfSome (R.remaining reader.old) (λ input. (left : List ℕ) × (R.remaining reader.new ≡ Some left)
+    ensures transcript { OnOk result (IfSome (R.remaining reader.old) (λ input. (left : List ℕ)
+        × (R.remaining reader.new ≡ Some left)
         × Writes (W.contents writer.old) (W.contents writer.new) (Runs setup.now input left))) }
-    // With a fault, what was written is a beginning of the transcript of some first pieces of the input.
+    // With a fault, what was written is a beginning of such a text.
     ensures beginning { OnErr result (IfSome (R.remaining reader.old) (λ input.
         Writes (W.contents writer.old) (W.contents writer.new) (Begins setup.now input))) }
-    // The opening, one connect, is never refused.
-    ensures fault { IfErr result (λ fault. (of : SessionFault) × (fault ≡ RunFault.Session of)) }
+    ensures fault { IfErr result (λ fault. MayEnd setup.now fault) }
     // Each read gives a byte at least.
-    ensures long { result ≡ Err (RunFault.Session SessionFault.TooLong) → (input : List ℕ) → R.remaining reader.old ≡ Some input
-        → most_reads ≤ length input }
+    ensures long { result ≡ Err (RunFault.Session SessionFault.TooLong)
+        → (input : List ℕ) → R.remaining reader.old ≡ Some input → most_reads ≤ length input }
 {
-    let mut session = match OpenSession::open(alloc, setup) {
-        Ok(session) => session,
-        Err(fault) => return Err(RunFault::Session(fault)),
-    };
-    if let Err(fault) = run_session(&mut session, reader, writer) {
-        return Err(RunFault::Session(fault));
+    match OpenSession::open(alloc, setup)? {
+        Opened::Begun(session) => Ok(run_session(session, reader, writer)?),
+        Opened::Refused(reply) => Ok(write_reply(alloc, reply, writer)?),
     }
-    Ok(())
 }

@@ -1,5 +1,7 @@
 //! Script files.
 
+ghost use Rattle.std.specs.Prelude.{option_and_then};
+
 use std::fs::File;
 use std::io;
 use std::io::Read;
@@ -24,6 +26,9 @@ impl<'a, R: Files> ScriptFile<'a, R> {
 }
 
 impl<R: Files> Read for ScriptFile<'_, R> {
+    // What is left of the opened file. Before, nothing is known of it.
+    ghost remaining = { λ script. option_and_then R.File.remaining script.file };
+
     fn read(&mut self, buf: &mut [u8]) -> io::Result<usize> {
         match &mut self.file {
             Some(file) => file.read(buf),

@@ -4,12 +4,13 @@ ghost use Rattle.std.specs.Prelude.{◌≡◌, ◌<◌, ◌≤◌, ◌+◌, ◌-
 
 use crate::fault::SessionFault;
 use crate::line::Line;
-use crate::output::write_text;
+use crate::output::write_reply;
 use crate::setup::Setup;
+use ll_plain::Plain;
+use ll_wire::read_command;
 use crate::tree::SessionTree;
 use ll_rights::Errno;
 use ll_seq::Reply;
-use ll_wire::{read_command, reply_text};
 use std::alloc::Global;
 use std::io::Write;
 
@@ -21,28 +22,39 @@ pub struct OpenSession {
     pub line: Line,
 }
 
+/// How an opening ends.
+#[derive(Drop)]
+pub enum Opened {
+    Begun(OpenSession),
+    /// The reply to the connect that is refused.
+    Refused(Reply),
+}
+
 impl OpenSession {
     ghost use Rattle.ll_wire.specs.Grammar.{IsReply};
     ghost use Rattle.landtree.specs.declared.fault.SessionFault.{SessionFault};
     ghost use Rattle.landtree.specs.Transcript.{Session};
-    ghost use Rattle.landtree.specs.Run.{opening};
-    ghost use Rattle.landtree.specs.Progress.{used, Holds, StandsAt, AnswersLine, IsAnswered, IsStarted, HasBegun, IsWritten, IsOfWriting, Progress};
+    ghost use Rattle.landtree.specs.Run.{joined, Opens, refused};
+    ghost use Rattle.landtree.specs.Progress.{used, Holds, IfBegun, IfRefused, StandsAt, AnswersLine, IsAnswered, IsStarted, HasBegun, IsWritten, IsOfWriting, Progress};
 
-    /// The session after its client has connected to a fresh tree.
-    pub fn open(alloc: Global, setup: &Setup) -> Result<OpenSession, SessionFault>
-        ensures session { IfOk result (λ session. StandsAt session.tree (opening setup.now)) }
-        ensures line { IfOk result (λ session. Holds session.line []) }
-        ensures numbers { IfOk result (λ session. used session.tree ≤ 4) }
+    /// Opens a fresh tree, and connects its first client.
+    pub fn open(alloc: Global, setup: &Setup) -> Result<Opened, SessionFault>
+        ensures session { IfOk result (λ opened. IfBegun opened (λ session. StandsAt session.tree (joined setup.now))) }
+        ensures line { IfOk result (λ opened. IfBegun opened (λ session. Holds session.line [])) }
+        ensures numbers { IfOk result (λ opened. IfBegun opened (λ session. used session.tree ≤ 4)) }
+        ensures refused { IfOk result (λ opened. IfRefused opened (λ reply. Opens setup.now (refused reply))) }
         ensures fault { IfErr result (λ fault. fault ≡ SessionFault.NoMemory) }
     {
-        let tree = match SessionTree::open(alloc, setup.nodes) {
-            Ok(tree) => tree,
-            Err(fault) => return Err(fault),
+        let Ok(plain) = Plain::new(alloc, setup.rules, setup.nodes) else {
+            return Err(SessionFault::NoMemory);
         };
         let Ok(line) = Line::new(alloc) else {
             return Err(SessionFault::NoMemory);
         };
-        Ok(OpenSession { alloc, tree, line })
+        match SessionTree::join(plain) {
+            Ok(tree) => Ok(Opened::Begun(OpenSession { alloc, tree, line })),
+            Err(reply) => Ok(Opened::Refused(reply)),
+        }
     }
 
     // Makes the call that the line spells. The reply to the line, whether it spells one or not.
@@ -73,10 +85,7 @@ impl OpenSession {
         ensures fault { IfErr result (λ fault. IsOfWriting fault) }
     {
         let reply = self.reply();
-        let Ok(text) = reply_text(self.alloc, &reply) else {
-            return Err(SessionFault::NoMemory);
-        };
-        write_text(writer, text.as_str())
+        write_reply(self.alloc, reply, writer)
     }
 
     fn take_byte<W: Write>(&mut self, byte: u8, writer: &mut W) -> Result<(), SessionFault>

@@ -1,22 +1,29 @@
 //! What a run starts with.
 
-ghost use Rattle.std.specs.Prelude.{◌≡◌, ◌≤◌, ◌&&◌, nat_le, Some, None, option_map, if◌then◌else◌};
+ghost use Rattle.std.specs.Prelude.{◌≡◌, ◌≤◌, ◌<◌, IfSome, IfNone};
+ghost use Rattle.ll_rights.specs.declared.limits.TheConstants.{TREE_NODES};
 
-/// How many nodes may live in the tree, the root among them.
+use ll_rights::limits::TREE_NODES;
+use ll_seq::Rules;
+
+/// The rules of the tree, and how many nodes may live in it, the root among them.
 #[derive(Clone, Copy, Debug, PartialEq, Eq)]
 pub struct Setup {
+    pub rules: Rules,
     pub nodes: usize,
     ghost some: { 1 ≤ nodes },
-    ghost most: { nodes ≤ 4096 },
+    ghost most: { nodes ≤ TREE_NODES },
 }
 
 impl Setup {
-    /// A tree of so many nodes, from 1 to 4,096.
-    pub fn new(nodes: usize) -> Option<Setup>
-        ensures { option_map (λ s. s.nodes) result ≡ (if nat_le 1 nodes && nat_le nodes 4096 then Some nodes else None) }
+    /// A tree of so many nodes, of which there are some and no more than a tree may have.
+    pub fn new(rules: Rules, nodes: usize) -> Option<Setup>
+        ensures rules { IfSome result (λ setup. setup.rules ≡ rules) }
+        ensures nodes { IfSome result (λ setup. setup.nodes ≡ nodes) }
+        ensures none { IfNone result (1 ≤ nodes → TREE_NODES < nodes) }
     {
-        if 1 <= nodes && nodes <= 4096 {
-            Some(Setup { nodes })
+        if 1 <= nodes && nodes <= TREE_NODES {
+            Some(Setup { rules, nodes })
         } else {
             None
         }

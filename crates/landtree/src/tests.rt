@@ -8,9 +8,17 @@ use crate::fuse::{Sink, Source};
 use crate::options::Options;
 use crate::run::run_script;
 use crate::setup::Setup;
+<<<<<<< HEAD
+use ll_rights::Abi;
+use ll_seq::Rules;
+use std::test::Fail;
+
+const SETUP: Setup = Setup { rules: Rules { abi: Abi::NEWEST, copies: true }, nodes: 1024 };
+=======
 use std::test::Fail;
 
 const SETUP: Setup = Setup { nodes: 1024 };
+>>>>>>> spec
 
 const TEN_LINES: &[u8] = b"\
 make dir /a

@@ -1,6 +1,7 @@
 //! ABI levels.
 
-ghost use Rattle.std.specs.Prelude.{◌≡◌, ◌<◌, ◌≤◌, IfSome, IfNone};
+ghost use Rattle.std.specs.Prelude.{◌≡◌, ◌≤◌};
+ghost use Rattle.std.specs.Option.{SomeIff};
 
 use std::marker::Model;
 
@@ -28,8 +29,7 @@ impl Abi {
 
     /// The level of this number, if there is one.
     pub fn new(number: u64) -> Option<Abi>
-        ensures some { IfSome result (λ abi. abi ≡ number) }
-        ensures none { IfNone result (1 ≤ number → 3 < number) }
+        ensures { SomeIff result ((1 ≤ number) × (number ≤ 3)) number }
     {
         match number {
             1..=3 => Some(Abi {

@@ -15,8 +15,9 @@ demanding = on_top (λ (s : Shape). record s { subcommand_required = true })
 pub returns : goal.returns
 returns c =
     let script_is : rule_of c.help-script.result ≡ script = search rules in
-    let run_is : app_of c.in_ok-run.run' ≡ run = c.in_ok-run.ensures.shape c.nodes_option.ensures.local
-    ∙ ap₂ with_rule (c.in_ok-arg.ensures.shape (search rules) ∙ ap₂ with_rule (ap app_of_fields c.about.ensures ∙ c.new-2.ensures.app) script_is) c.nodes_option.ensures.rule in
+    let script_added = c.in_ok-arg.ensures.shape (search rules) ∙ ap₂ with_rule (ap app_of_fields c.about.ensures ∙ c.new-2.ensures.app) script_is in
+    let nodes_added = c.in_ok-arg-2.ensures.shape c.nodes_option.ensures.local ∙ ap₂ with_rule script_added c.nodes_option.ensures.rule in
+    let run_is : app_of c.in_ok-run.run' ≡ run = c.in_ok-run.ensures.shape c.abi_option.ensures.local ∙ ap₂ with_rule nodes_added c.abi_option.ensures.rule in
     let top_is : app_of c.subcommand_required.result ≡ demanding (versioned (new_app (codes "landtree"))) = ap app_of_fields c.subcommand_required.ensures
     ∙ ap demanding (ap app_of_fields c.version.ensures ∙ ap versioned (ap app_of_fields c.about-2.ensures ∙ c.new-3.ensures.app)) in
     let local : (out-Command c.in_ok-run.run').has_globals ≡ false = search rules in

@@ -6,8 +6,8 @@ use Rattle.landtree.proofs.Asked.{never_none}
 use Rattle.landtree.proofs.Matched.{command_free, no_fault}
 use Rattle.landtree.proofs.options.Options.read.Goals as goal
 
-abbrev fields : Option Options → Option (Text × ℕ)
-fields = option_map (λ (o : Options). (o.script.now, o.setup.nodes))
+abbrev fields : Option Options → Option (Text × ℕ × ℕ)
+fields = option_map (λ (o : Options). (o.script.now, o.setup.nodes, o.setup.rules.abi))
 
 pub unreachable-requires-in_default-of_run : goal.unreachable-requires-in_default-of_run
 unreachable-requires-in_default-of_run c =

@@ -12,7 +12,15 @@ returns-in-Ok-clause-answers c s piece held stands =
     let same = c.deref.ensures.value ∙ kept c.args.self.now.line piece c.if-self.false held in
     called s piece c.args.self.now.tree c.call.new.self c.in-Ok.client c.in-Ok.call c.call.result stands
     (subst (λ (p : List ℕ). SpellsCommand p c.in-Ok.client c.in-Ok.call) same c.in-Ok.ensures.0, c.in-Ok.ensures.1)
-    (record { free = c.call.ensures.fresh; step = c.call.ensures.step; no_memory = c.call.ensures.no_memory; clients = c.call.ensures.clients; spawned = c.call.ensures.spawned })
+    (record {
+      free = c.call.ensures.fresh;
+      step = c.call.ensures.step;
+      no_memory = c.call.ensures.no_memory;
+      starved = c.call.ensures.starved;
+      memory = c.call.ensures.memory;
+      clients = c.call.ensures.clients;
+      spawned = c.call.ensures.spawned;
+    })
 
 pub returns-in-Err-clause-answers : goal.returns-in-Err-clause-answers
 returns-in-Err-clause-answers c s piece held stands =
