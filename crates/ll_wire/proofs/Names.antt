@@ -11,7 +11,7 @@ use Rattle.std.proofs.Math.Seq.{split_at}
 use Rattle.std.proofs.lemmas.List.{map-id}
 use Rattle.std.proofs.lemmas.List.Splits.{join_with_byte-slice_split, length-slice_split}
 use Rattle.ll_path.specs.Name.{IsName}
-use Rattle.ll_seq.specs.Listing.{AreListed}
+use Rattle.ll_seq.specs.Listed.{AreListed}
 use Rattle.ll_wire.specs.Reads.{SpellsNames}
 use Rattle.ll_wire.proofs.Joined.{joined}
 use Rattle.ll_wire.proofs.OneReply.{names_tokens}

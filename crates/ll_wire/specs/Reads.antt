@@ -12,7 +12,7 @@ use Rattle.ll_seq.specs.declared.call.Call.{Call}
 use Rattle.ll_seq.specs.declared.call.Call.TheVariants.{Make, Open, Read, Write, Ftruncate, Close, Truncate, ReadDir, Stat, Exec, Unlink, Rmdir, Rename, RenameNoreplace, Exchange, Link, Ruleset, Allow, Confine, Spawn, Connect}
 use Rattle.ll_seq.specs.declared.reply.Reply.{Reply}
 use Rattle.ll_seq.specs.declared.reply.Reply.TheVariants.{Done, Opened, Bytes, Wrote, Listed, Found, Created, Spawned, Refused, Denied}
-use Rattle.ll_seq.specs.Listing.{AreListed}
+use Rattle.ll_seq.specs.Listed.{AreListed}
 use Rattle.ll_wire.specs.Grammar.{SpellsTarget, IsData, data_text, call_tokens, IsCall, client_tokens, IsClient, reply_tokens, IsReply}
 
 -- The value that is spelled; BadLine only where none is, and NoMemory only where one is that takes memory to be read
