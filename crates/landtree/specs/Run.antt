@@ -41,7 +41,7 @@ Opens setup stopped = ⊥
 abbrev pub Lines : Session → List (List ℕ) → List ℕ → Session → Type 0
 Lines = Transcript (λ s. s.clients) Called
 
--- The fault may end a run: there is an opening call to be refused, or the session has begun or can't
+-- The fault may end a run of this setup: a refused opening call only where the opening can stop at one
 abbrev pub MayEnd : Setup → RunFault → Type 0
 MayEnd setup run.Opening = Opens setup stopped
 MayEnd setup (run.Session fault) = ⊤

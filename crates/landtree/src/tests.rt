@@ -8,17 +8,11 @@ use crate::fuse::{Sink, Source};
 use crate::options::Options;
 use crate::run::run_script;
 use crate::setup::Setup;
-<<<<<<< HEAD
 use ll_rights::Abi;
 use ll_seq::Rules;
 use std::test::Fail;
 
 const SETUP: Setup = Setup { rules: Rules { abi: Abi::NEWEST, copies: true }, nodes: 1024 };
-=======
-use std::test::Fail;
-
-const SETUP: Setup = Setup { nodes: 1024 };
->>>>>>> spec
 
 const TEN_LINES: &[u8] = b"\
 make dir /a
@@ -92,21 +86,27 @@ fn writes_fail(rt: HostRuntime) -> Result<(), Fail> {
     Ok(())
 }
 
-// What the words ask for: the script and the number of nodes.
-fn asked<'a>(rt: &HostRuntime, words: &'a [&'a str]) -> Option<(&'a str, usize)> {
+// What the words ask for: the script, the number of nodes and the level.
+fn asked<'a>(rt: &HostRuntime, words: &'a [&'a str]) -> Option<(&'a str, usize, u64)> {
     match Options::read(rt.alloc(), words) {
-        Ok(options) => Some((options.script, options.setup.nodes)),
+        Ok(options) => {
+            let setup = options.setup;
+            Some((options.script, setup.nodes, setup.rules.abi.number()))
+        }
         Err(_) => None,
     }
 }
 
 #[test]
 fn words(rt: HostRuntime) {
-    let table: [(&[&str], Option<(&str, usize)>); 5] = [
-        (&["landtree", "run", "-"], Some(("-", 1024))),
-        (&["landtree", "run", "s", "--nodes", "2"], Some(("s", 2))),
-        (&["landtree", "run", "--nodes=4096", "s"], Some(("s", 4096))),
+    let table: [(&[&str], Option<(&str, usize, u64)>); 8] = [
+        (&["landtree", "run", "-"], Some(("-", 1024, 3))),
+        (&["landtree", "run", "s", "--nodes", "2"], Some(("s", 2, 3))),
+        (&["landtree", "run", "--nodes=4096", "s"], Some(("s", 4096, 3))),
+        (&["landtree", "run", "--abi", "1", "s"], Some(("s", 1024, 1))),
         (&["landtree", "run", "s", "--nodes", "4097"], None),
+        (&["landtree", "run", "s", "--abi", "0"], None),
+        (&["landtree", "run", "s", "--abi", "4"], None),
         (&["landtree", "run"], None),
     ];
     for (words, want) in table {
@@ -118,6 +118,7 @@ fn words(rt: HostRuntime) {
 fn failures(rt: HostRuntime) -> Result<(), Fail> {
     let texts = [
         (Failure::CommandLine, "landtree: command line"),
+        (Failure::Opening, "landtree: opening call refused"),
         (Failure::File, "landtree: file"),
         (Failure::Output, "landtree: output"),
         (Failure::NoMemory, "landtree: no memory"),
