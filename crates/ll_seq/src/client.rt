@@ -129,9 +129,10 @@ impl ClientRecord {
         } else {
             NumberMap::new(alloc)
         };
+        let rulesets = Rulesets::new(alloc);
         Ok(ClientRecord {
             domain: self.domain.copy()?,
-            rulesets: Rulesets::new(alloc),
+            rulesets,
             descriptors,
         })
     }

@@ -5,7 +5,7 @@ use Rattle.std.proofs.lemmas.List.{append-nil, take_all}
 use Rattle.std.proofs.lemmas.List.Concat.{flat_map-cons}
 use Rattle.ll_wire.specs.Grammar.{line_of}
 
-joined : {A : Type 0} (f : A → List ℕ) (first : List ℕ) (others : List A) → join_with_byte 32 (first ∷ map f others) ≡ first ++ flat_map (λ t. 32 ∷ f t) others
+pub joined : {A : Type 0} (f : A → List ℕ) (first : List ℕ) (others : List A) → join_with_byte 32 (first ∷ map f others) ≡ first ++ flat_map (λ t. 32 ∷ f t) others
 joined f first [] = sym (append-nil first)
 joined f first (t ∷ ts) = ap (λ (x : List ℕ). first ++ 32 ∷ x) (joined f (f t) ts) ∙ ap (λ (x : List ℕ). first ++ x) (sym (flat_map-cons (λ t. 32 ∷ f t) t ts))
 

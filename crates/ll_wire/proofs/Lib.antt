@@ -3,8 +3,10 @@ pub mod Clients
 pub mod Digits
 pub mod Joined
 pub mod Lines
+pub mod Names
 pub mod Numbers
-pub mod Replies
+pub mod ReadReplies
+pub mod OneReply
 pub mod Rights
 pub mod Targets
 pub mod Tokens

@@ -6,6 +6,7 @@ use Rattle.ll_rights.specs.Access.{access_text}
 use Rattle.ll_rights.specs.Errno.{errno_number, errno_text}
 use Rattle.ll_rights.specs.Kind.{kind_text}
 use Rattle.ll_rights.specs.Right.{right_text}
+use Rattle.ll_rights.specs.declared.limits.TheConstants.{DATA_BYTES, TREE_CLIENTS}
 use Rattle.ll_path.specs.Word.{IsWord}
 use Rattle.ll_path.specs.Target.{IsTarget, target_text}
 use Rattle.ll_path.specs.declared.target.Target.{Target}
@@ -20,6 +21,7 @@ use Rattle.ll_seq.specs.declared.call.Call.TheVariants.{Make, Open, Read, Write,
 use Rattle.ll_seq.specs.Listed.{AreListed}
 use Rattle.ll_seq.specs.declared.reply.Reply.{Reply}
 use Rattle.ll_seq.specs.declared.reply.Reply.TheVariants.{Done, Opened, Bytes, Wrote, Listed, Found, Created, Spawned, Refused, Denied}
+use Rattle.ll_wire.specs.declared.read.TheConstants.{LINE_LIMIT}
 
 -- a line: tokens with one space (32) between any two, and a line feed (10)
 abbrev pub line_of : List (List ℕ) → List ℕ
@@ -44,9 +46,9 @@ creation_text Exclusive = codes "cx"
 abbrev pub mode_text : Mode → List ℕ
 mode_text mode = way_text mode.access ++ truncate_text mode.truncate ++ creation_text mode.creation
 
--- what a write brings and a read gives: at most 4,096 bytes
+-- what a write brings and a read gives
 abbrev pub IsData : List ℕ → Type 0
-IsData bytes = IsBytes bytes × (length bytes ≤ 4096)
+IsData bytes = IsBytes bytes × (length bytes ≤ DATA_BYTES)
 
 -- two hexadecimal digits a byte, with lower-case letters. No bytes are a hyphen
 abbrev pub data_text : List ℕ → List ℕ
@@ -104,9 +106,9 @@ IsCall (Confine number) = number < 2 ^ 64
 IsCall Spawn = ⊤
 IsCall Connect = ⊥
 
--- the clients of a session are counted from 1, and there are at most 64
+-- the clients of a session are counted from 1
 abbrev pub IsClient : ℕ → Type 0
-IsClient client = (1 ≤ client) × (client ≤ 64)
+IsClient client = (1 ≤ client) × (client ≤ TREE_CLIENTS)
 
 -- which client of the session calls, by `@` (64) and its number. The first is not named
 abbrev pub client_tokens : ℕ → List (List ℕ)
@@ -116,7 +118,7 @@ client_tokens client = if client == 1 then [] else (64 ∷ decimal client) ∷ [
 pub record SpellsCommand (line : List ℕ) (client : ℕ) (call : Call) : Type 0 where
   pub is_client : IsClient client
   pub is_call : IsCall call
-  pub short : length line ≤ 16384
+  pub short : length line ≤ LINE_LIMIT
   pub text : line ≡ line_of (client_tokens client ++ call_tokens call)
 
 -- ---- replies

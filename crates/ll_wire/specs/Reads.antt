@@ -1,14 +1,18 @@
 -- What reading a text answers. own
 use Rattle.std.specs.Prelude.{◌≡◌, ⊤, Bool, true, false, ℕ, ◌^◌, ◌<◌, ◌≤◌, ◌⊎◌, List, [], ◌∷◌, ◌++◌, Option, Some, None, Result, Ok, Err, decimal}
+use Rattle.std.specs.List.{flat_map, join_with_byte}
 use Rattle.ll_rights.specs.declared.errno.Errno.{Errno}
 use Rattle.ll_rights.specs.declared.errno.Errno.TheVariants.{NoMemory, BadLine}
 use Rattle.ll_rights.specs.declared.access.Access.{Access}
 use Rattle.ll_rights.specs.Access.{access_text}
+use Rattle.ll_rights.specs.declared.limits.TheConstants.{TREE_CLIENTS}
 use Rattle.ll_path.specs.declared.target.Target.{Target}
 use Rattle.ll_path.specs.Target.{target_text}
 use Rattle.ll_seq.specs.declared.call.Call.{Call}
 use Rattle.ll_seq.specs.declared.call.Call.TheVariants.{Make, Open, Read, Write, Ftruncate, Close, Truncate, ReadDir, Stat, Exec, Unlink, Rmdir, Rename, RenameNoreplace, Exchange, Link, Ruleset, Allow, Confine, Spawn, Connect}
 use Rattle.ll_seq.specs.declared.reply.Reply.{Reply}
+use Rattle.ll_seq.specs.declared.reply.Reply.TheVariants.{Done, Opened, Bytes, Wrote, Listed, Found, Created, Spawned, Refused, Denied}
+use Rattle.ll_seq.specs.Listing.{AreListed}
 use Rattle.ll_wire.specs.Grammar.{SpellsTarget, IsData, data_text, call_tokens, IsCall, client_tokens, IsClient, reply_tokens, IsReply}
 
 -- The value that is spelled; BadLine only where none is, and NoMemory only where one is that takes memory to be read
@@ -63,7 +67,7 @@ IsDigit c = ((48 ≤ c) × (c ≤ 57)) ⊎ ((97 ≤ c) × (c ≤ 102))
 
 -- the token names a client that isn't the first
 abbrev pub NamesClient : List ℕ → ℕ → Type 0
-NamesClient token client = (2 ≤ client) × (client ≤ 64) × (token ≡ 64 ∷ decimal client)
+NamesClient token client = (2 ≤ client) × (client ≤ TREE_CLIENTS) × (token ≡ 64 ∷ decimal client)
 
 -- the tokens are one, which is the target's
 abbrev pub SpellsOneTarget : List (List ℕ) → Target → Type 0
@@ -86,6 +90,31 @@ ReadsCall tokens = ReadsBy (SpellsCall tokens) (λ call. holds_text call ≡ tru
 abbrev pub SpellsTokens : List (List ℕ) → ℕ → Call → Type 0
 SpellsTokens tokens client call = IsClient client × IsCall call × (tokens ≡ client_tokens client ++ call_tokens call)
 
+-- The reply tells names or bytes, which take memory to be read. Every other reply takes none
+abbrev pub tells_text : Reply → Bool
+tells_text Done = false
+tells_text (Opened number) = false
+tells_text (Bytes bytes) = true
+tells_text (Wrote count) = false
+tells_text (Listed names) = true
+tells_text (Found s) = false
+tells_text (Created number) = false
+tells_text (Spawned number) = false
+tells_text (Refused errno) = false
+tells_text (Denied d) = false
+
+-- the text is the names', a space before each
+abbrev pub SpellsNames : List ℕ → List (List ℕ) → Type 0
+SpellsNames text names = AreListed names × (text ≡ flat_map (λ name. 32 ∷ name) names)
+
+-- the tokens are one, which is the number's
+abbrev pub SpellsOneNumber : List (List ℕ) → ℕ → Type 0
+SpellsOneNumber tokens number = (number < 2 ^ 64) × (tokens ≡ decimal number ∷ [])
+
 -- the tokens spell the reply
 abbrev pub SpellsReplyTokens : List (List ℕ) → Reply → Type 0
 SpellsReplyTokens tokens reply = IsReply reply × (tokens ≡ reply_tokens reply)
+
+-- what stands before the line feed spells the reply
+abbrev pub SpellsReplyBody : List ℕ → Reply → Type 0
+SpellsReplyBody body reply = IsReply reply × (body ≡ join_with_byte 32 (reply_tokens reply))

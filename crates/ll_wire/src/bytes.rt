@@ -6,6 +6,7 @@ ghost use Rattle.ll_wire.specs.Reads.{Reads, SpellsData, IsDigit};
 
 use ll_path::Data;
 use ll_rights::Errno;
+use ll_rights::limits::DATA_BYTES;
 use std::alloc::{AllocError, Global};
 
 fn are_digits(token: &str) -> bool
@@ -23,7 +24,7 @@ fn spells_data(token: &str) -> bool
     if token == "-" {
         return true;
     }
-    if token.len() < 2 || token.len() > 8192 || token.len() % 2 != 0 {
+    if token.len() < 2 || token.len() > 2 * DATA_BYTES || token.len() % 2 != 0 {
         return false;
     }
     are_digits(token)

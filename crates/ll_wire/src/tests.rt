@@ -1,8 +1,8 @@
-//! A line of each command written back, and each reply written.
+//! A line of each command and of each reply written back, and replies written.
 
 ghost use Rattle.ll_wire.specs.Grammar.{IsReply};
 
-use crate::{command_text, read_command, reply_text};
+use crate::{command_text, read_command, read_reply, reply_text};
 use ll_decide::{Cause, Denial, Place};
 use ll_path::Data;
 use ll_rights::{Errno, Kind, Right};
@@ -52,6 +52,38 @@ const LINES: &[&[u8]] = &[
 fn each_command_is_written_back(rt: HostRuntime) -> Result<(), Fail> {
     for line in LINES {
         assert!(rt; is_written_back(rt.alloc(), line)?, "{line:?}");
+    }
+    Ok(())
+}
+
+// Whether the line spells a reply, and the reply's spelling is the line.
+fn is_reply_written_back(alloc: Global, line: &[u8]) -> Result<bool, AllocError> {
+    let Ok(reply) = read_reply(alloc, line) else {
+        return Ok(false);
+    };
+    let text = reply_text(alloc, &reply)?;
+    Ok(text.as_bytes() == line)
+}
+
+const REPLIES: &[&[u8]] = &[
+    b"ok\n",
+    b"fd 63\n",
+    b"data -\n",
+    b"data 68656c6c6f\n",
+    b"wrote 0\n",
+    b"names\n",
+    b"names f p s\n",
+    b"stat 3 reg 5 2\n",
+    b"ruleset 0\n",
+    b"client 64\n",
+    b"refused 3 ENOENT\n",
+    b"denied EACCES layer 1 read_file at\n",
+];
+
+#[test]
+fn each_reply_is_written_back(rt: HostRuntime) -> Result<(), Fail> {
+    for line in REPLIES {
+        assert!(rt; is_reply_written_back(rt.alloc(), line)?, "{line:?}");
     }
     Ok(())
 }

@@ -5,6 +5,8 @@ ghost use Rattle.std.specs.List.{slice_split};
 ghost use Rattle.std.specs.Str.{IsAscii};
 ghost use Rattle.ll_wire.specs.Reads.{Finds, SpellsNumber, NamesClient};
 
+use ll_rights::limits::TREE_CLIENTS;
+
 // What stands before the line feed.
 pub(crate) fn body_of(line: &[u8]) -> Option<&str>
     ensures found { IfSome result (λ body. line.now ≡ body.now ++ 10 ∷ []) }
@@ -62,7 +64,7 @@ pub(crate) fn client_of(token: &str) -> Option<u64>
     ensures { Finds (NamesClient token.now) result }
 {
     let number = number_of(token.strip_prefix('@')?)?;
-    if number < 2 || number > 64 {
+    if number < 2 || number > TREE_CLIENTS as u64 {
         return None;
     }
     Some(number)

@@ -1,4 +1,4 @@
-use Rattle.ll_wire.proofs.Replies.{spells_one_reply}
+use Rattle.ll_wire.proofs.OneReply.{spells_one_reply}
 use Rattle.ll_wire.proofs.grammar.spells_one_reply.Goals as goal
 
 pub returns : goal.returns

@@ -1,12 +1,8 @@
-use Rattle.std.proofs.Common.{◌≡◌, ◌≢◌, ◌∷◌, ℕ, List, Option, Some, Bor, arith, inl, inr, lit<, subst}
-use Rattle.std.specs.Option.{MatchOption}
+use Rattle.std.proofs.Common.{arith, inl, inr, lit<}
 use Rattle.std.proofs.lemmas.Str.Pattern.{strip_prefix_char}
 use Rattle.ll_wire.proofs.Clients.{not_named, number_named}
+use Rattle.ll_wire.proofs.Names.{behind}
 use Rattle.ll_wire.proofs.token.client_of.Goals as goal
-
-after_sign : (token : List ℕ) (found : Option (Bor (List ℕ))) (digits : Bor (List ℕ)) → MatchOption found ((rest : List ℕ) → token ≢ 64 ∷ rest) (λ x. token ≡ 64 ∷ x.now)
-    → found ≡ Some digits → token ≡ 64 ∷ digits.now
-after_sign token found digits h e = subst (λ r. MatchOption r ((rest : List ℕ) → token ≢ 64 ∷ rest) (λ x. token ≡ 64 ∷ x.now)) e h
 
 pub returns-in_err-strip_prefix : goal.returns-in_err-strip_prefix
 unfolding lib.Utf8.encode
@@ -14,6 +10,6 @@ returns-in_err-strip_prefix c = rw c.from_residual.ensures (not_named _ c.in_err
 
 pub returns-then-number-lt2 : goal.returns-then-number-lt2
 returns-then-number-lt2 c v is =
-    let starts = after_sign _ _ _ (strip_prefix_char 64 c.args.token.now c.strip_prefix.result c.strip_prefix.ensures.cases (lit< tt)) c.in_ok-strip_prefix.was in
+    let starts = behind 64 _ _ _ (strip_prefix_char 64 c.args.token.now c.strip_prefix.result c.strip_prefix.ensures.cases (lit< tt)) c.in_ok-strip_prefix.was in
     let same = number_named c.args.token.now _ c.in_ok-number.number v starts c.in_ok-number.ensures is in
     elim c.then-number-lt2.either [ inl low ↦ omega arith | inr high ↦ omega arith ]

@@ -1,8 +1,8 @@
 -- A line spells one reply.
-use Rattle.std.proofs.Common.{◌≡◌, ◌≢◌, ℕ, ◌-◌, ◌^◌, ◌<◌, ◌≤◌, true, List, [], ◌∷◌, length, codes, refl, ap, sym, subst, ◌∙◌, arith}
+use Rattle.std.proofs.Common.{◌≡◌, ◌≢◌, ℕ, ◌^◌, ◌<◌, ◌≤◌, true, List, [], ◌∷◌, length, codes, refl, ap, sym, subst, ◌∙◌, arith}
 use Rattle.std.specs.Prelude.{◌==◌, if◌then◌else◌, slice_index_or}
 use Rattle.std.specs.Str.{bytes_eq}
-use Rattle.std.specs.List.{AllByRecursion, join_with_byte, slice_split}
+use Rattle.std.specs.List.{AllByRecursion, join_with_byte, position_or_len, slice_split}
 use Rattle.std.specs.Fmt.{decimal}
 use Rattle.std.proofs.lemmas.Bool.{agree_below_at, false≢true}
 use Rattle.std.proofs.lemmas.Fmt.{decimal_injective}
@@ -75,7 +75,7 @@ bytes_token : (name : List ℕ) → AllByRecursion (λ b. IsVisible b × (b ≢ 
 bytes_token [] h = tt
 bytes_token (b ∷ name) h = (h.0.0, bytes_token name h.1)
 
-names_tokens : (names : List (List ℕ)) → AllByRecursion IsName names → AllByRecursion IsToken names
+pub names_tokens : (names : List (List ℕ)) → AllByRecursion IsName names → AllByRecursion IsToken names
 names_tokens [] h = tt
 names_tokens (name ∷ names) h = (bytes_token name h.0.2, names_tokens names h.1)
 
@@ -95,38 +95,41 @@ reply_is_tokens (Denied d) h =
 
 -- ---- each word
 
-errno_of : ℕ → Errno
-errno_of number = slice_index_or (errnos.EACCES ∷ errnos.EXDEV ∷ errnos.ENOENT ∷ errnos.EEXIST ∷ errnos.ENOTDIR ∷ errnos.EISDIR ∷ errnos.ENOTEMPTY ∷ errnos.EINVAL ∷ errnos.EPERM ∷ errnos.EBUSY ∷ errnos.EBADF ∷ errnos.EMFILE ∷ errnos.ENOSPC ∷ errnos.EMLINK ∷ errnos.ENAMETOOLONG ∷ errnos.EFBIG ∷ errnos.ELOOP ∷ errnos.ENXIO ∷ errnos.E2BIG ∷ errnos.ENOMSG ∷ errnos.HistoryFull ∷ errnos.NoMemory ∷ errnos.BadLine ∷ errnos.Stale ∷ []) (number - 1) errnos.Stale
+abbrev all_errnos : List Errno
+all_errnos = errnos.EACCES ∷ errnos.EXDEV ∷ errnos.ENOENT ∷ errnos.EEXIST ∷ errnos.ENOTDIR ∷ errnos.EISDIR ∷ errnos.ENOTEMPTY ∷ errnos.EINVAL ∷ errnos.EPERM ∷ errnos.EBUSY ∷ errnos.EBADF ∷ errnos.EMFILE ∷ errnos.ENOSPC ∷ errnos.EMLINK ∷ errnos.ENAMETOOLONG ∷ errnos.EFBIG ∷ errnos.ELOOP ∷ errnos.ENXIO ∷ errnos.E2BIG ∷ errnos.ENOMSG ∷ errnos.HistoryFull ∷ errnos.NoMemory ∷ errnos.BadLine ∷ errnos.Stale ∷ []
 
-errno_of_number : (errno : Errno) → errno_of (errno_number errno) ≡ errno
+errno_of : List ℕ → Errno
+errno_of text = slice_index_or all_errnos (position_or_len (λ errno. bytes_eq (errno_text errno) text) all_errnos) errnos.Stale
+
+errno_of_text : (errno : Errno) → errno_of (errno_text errno) ≡ errno
 unfolding errno_of
-errno_of_number errnos.EACCES = refl
-errno_of_number errnos.EXDEV = refl
-errno_of_number errnos.ENOENT = refl
-errno_of_number errnos.EEXIST = refl
-errno_of_number errnos.ENOTDIR = refl
-errno_of_number errnos.EISDIR = refl
-errno_of_number errnos.ENOTEMPTY = refl
-errno_of_number errnos.EINVAL = refl
-errno_of_number errnos.EPERM = refl
-errno_of_number errnos.EBUSY = refl
-errno_of_number errnos.EBADF = refl
-errno_of_number errnos.EMFILE = refl
-errno_of_number errnos.ENOSPC = refl
-errno_of_number errnos.EMLINK = refl
-errno_of_number errnos.ENAMETOOLONG = refl
-errno_of_number errnos.EFBIG = refl
-errno_of_number errnos.ELOOP = refl
-errno_of_number errnos.ENXIO = refl
-errno_of_number errnos.E2BIG = refl
-errno_of_number errnos.ENOMSG = refl
-errno_of_number errnos.HistoryFull = refl
-errno_of_number errnos.NoMemory = refl
-errno_of_number errnos.BadLine = refl
-errno_of_number errnos.Stale = refl
+errno_of_text errnos.EACCES = refl
+errno_of_text errnos.EXDEV = refl
+errno_of_text errnos.ENOENT = refl
+errno_of_text errnos.EEXIST = refl
+errno_of_text errnos.ENOTDIR = refl
+errno_of_text errnos.EISDIR = refl
+errno_of_text errnos.ENOTEMPTY = refl
+errno_of_text errnos.EINVAL = refl
+errno_of_text errnos.EPERM = refl
+errno_of_text errnos.EBUSY = refl
+errno_of_text errnos.EBADF = refl
+errno_of_text errnos.EMFILE = refl
+errno_of_text errnos.ENOSPC = refl
+errno_of_text errnos.EMLINK = refl
+errno_of_text errnos.ENAMETOOLONG = refl
+errno_of_text errnos.EFBIG = refl
+errno_of_text errnos.ELOOP = refl
+errno_of_text errnos.ENXIO = refl
+errno_of_text errnos.E2BIG = refl
+errno_of_text errnos.ENOMSG = refl
+errno_of_text errnos.HistoryFull = refl
+errno_of_text errnos.NoMemory = refl
+errno_of_text errnos.BadLine = refl
+errno_of_text errnos.Stale = refl
 
-same_errno : (some other : Errno) → errno_number some ≡ errno_number other → some ≡ other
-same_errno some other e = sym (errno_of_number some) ∙ ap errno_of e ∙ errno_of_number other
+pub same_errno : (some other : Errno) → errno_text some ≡ errno_text other → some ≡ other
+same_errno some other e = sym (errno_of_text some) ∙ ap errno_of e ∙ errno_of_text other
 
 abbrev cause_of : List ℕ → Cause
 cause_of text = if bytes_eq text (codes "EACCES") then causes.EACCES else causes.EXDEV
@@ -228,8 +231,7 @@ same_reply (Created number) other h k e = same_number_by (codes "ruleset") Creat
 same_reply (Spawned number) other h k e = same_number_by (codes "client") Spawned spawned_is number other h k e
 same_reply (Refused errno) other h k e =
     let o = refused_is (decimal (errno_number errno) ∷ errno_text errno ∷ []) other (k, e) in
-    let numbers = decimal_injective (errno_number errno) (errno_number o.0) (omega (arith, h.1)) (omega (arith, o.1.1)) cc in
-    ap Refused (same_errno errno o.0 numbers) ∙ sym o.3
+    ap Refused (same_errno errno o.0 cc) ∙ sym o.3
 same_reply (Denied d) other h k e =
     let o = denied_is (errno_text (cause_errno d.cause) ∷ codes "layer" ∷ decimal d.layer ∷ right_text d.right ∷ place_text d.place ∷ []) other (k, e) in
     let reasons = same_cause d.cause o.0.cause cc in
