@@ -236,9 +236,9 @@ run_asked rest e =
     let rows = finished run_built.rules h in
     let path = script_read (find (λ r. bytes_eq r.id (codes "SCRIPT")) rows) (given rows defaults.1) (λ r is. (found_good _ rows r is all.0).0) in
     let nodes_row = number_read node_numbers (find (λ r. bytes_eq r.id (codes "nodes")) rows) (found_any _ rows all.1)
-        (λ r is. let f = found_good _ rows r is all.0 in let fits = f.0.3 f.1 in (f.0.0, f.0.1, f.0.2, fits.0, fits.1)) in
+    (λ r is. let f = found_good _ rows r is all.0 in let fits = f.0.3 f.1 in (f.0.0, f.0.1, f.0.2, fits.0, fits.1)) in
     let abi_row = number_read levels (find (λ r. bytes_eq r.id (codes "abi")) rows) (found_any _ rows all.2)
-        (λ r is. let f = found_good _ rows r is all.0 in let fits = f.0.4 f.1 in (f.0.0, f.0.1, f.0.2, fits.0, fits.1)) in
+    (λ r is. let f = found_good _ rows r is all.0 in let fits = f.0.4 f.1 in (f.0.0, f.0.1, f.0.2, fits.0, fits.1)) in
     λ none. true≢false (sym (whole _ _ _ path.0 nodes_row.0 abi_row.0 path.1 nodes_row.1 abi_row.1) ∙ ap is_some none)
 
 pub never_none : (words : List Text) → fault_of landtree words ≡ [] → asked_by words ≢ None

@@ -20,7 +20,6 @@ use Rattle.landtree.specs.declared.setup.Setup.{Setup}
 use Rattle.landtree.specs.Run.{Lines, RunsLegally, joined}
 use Rattle.landtree.specs.Transcript.{Session, Called, Answers, answered, full, starved, calls, unread, bad, brought}
 
-
 -- a call that has a spelling is no connect
 pub no_connect : (call : Call) → IsCall call → is_connect call ≡ false
 no_connect (Make kind target) is = refl
@@ -117,10 +116,10 @@ module _ (empty : State) where
       → IsSound empty s → IsSound empty t
   by_call s t client call answer other there (answered reply tree fresh vacant free is) sound =
       let outcome : ◌≡◌ {A = Reply × State} (step s.tree client call (fresh_of reply)) (reply, tree) =
-          ap (λ (p : Reply × State). step s.tree client call (fresh_of p.0)) is ∙ by_reply s.tree client call fresh ∙ sym is in
+      ap (λ (p : Reply × State). step s.tree client call (fresh_of p.0)) is ∙ by_reply s.tree client call fresh ∙ sym is in
       let told : (number : ℕ) → reply ≡ Spawned number → (number ≡ fresh) × (has tree.clients number ≡ true) = λ number e.
-          let spawned = step-spawned s.tree client call fresh number (ap (λ (p : Reply × State). p.0) (sym is) ∙ e) in
-          (spawned.0, ap (λ (p : Reply × State). has p.1.clients number) is ∙ spawned.1) in
+      let spawned = step-spawned s.tree client call fresh number (ap (λ (p : Reply × State). p.0) (sym is) ∙ e) in
+      (spawned.0, ap (λ (p : Reply × State). has p.1.clients number) is ∙ spawned.1) in
       let entry : Entry = record { client = client; call = call; reply = reply } in
       let stands : MayStand s.tree entry = record {
         caller = there ∙ ap not (sym other);

@@ -79,7 +79,7 @@ called s piece before after n call reply stands is made = elim (is_starved reply
       let kept : after.clients ≡ before.clients = made.clients ∙ ap (λ (r : Reply). before.clients + length (brought r)) e ∙ (let same : before.clients + 0 ≡ before.clients = omega arith in same) in
       let takes : takes_memory call ≡ true = not_false (takes_memory call) (λ spares. made.memory spares e) in
       subst (λ (r : Reply). Answered s piece r after) (sym e)
-          (stayed s piece before after n call stands is (made.no_memory e) kept (may_starve s piece before after n call stands is takes (made.starved e))))
+      (stayed s piece before after n call stands is (made.no_memory e) kept (may_starve s piece before after n call stands is takes (made.starved e))))
   | inr ne ↦ stepped s piece before after n call stands is reply made ne
 ]
 

@@ -57,7 +57,7 @@ Runs setup input left text =
 abbrev pub Begins : Setup → (input text : List ℕ) → Type 0
 Begins setup input text =
     ((first last : Session) × (done more : List (List ℕ)) × (whole back : List ℕ) × Opens setup (begun first) × (pieces input ≡ done ++ more)
-        × Lines first done whole last × (whole ≡ text ++ back))
+    × Lines first done whole last × (whole ≡ text ++ back))
     ⊎ ((reply : Reply) × (back : List ℕ) × Opens setup (refused reply) × (reply_line reply ≡ text ++ back))
     ⊎ (Opens setup stopped × (text ≡ []))
 

@@ -7,8 +7,8 @@ ghost use Rattle.landtree.specs.declared.fault.SessionFault.{SessionFault};
 ghost use Rattle.landtree.specs.Progress.{AppendsFront, IsOfWriting};
 
 use crate::fault::SessionFault;
-use ll_wire::reply_text;
 use ll_seq::Reply;
+use ll_wire::reply_text;
 use std::alloc::Global;
 use std::io::Write;
 
@@ -30,7 +30,11 @@ pub fn write_text<W: Write>(writer: &mut W, text: &str) -> Result<(), SessionFau
 }
 
 /// Writes the reply's line.
-pub fn write_reply<W: Write>(alloc: Global, reply: Reply, writer: &mut W) -> Result<(), SessionFault>
+pub fn write_reply<W: Write>(
+    alloc: Global,
+    reply: Reply,
+    writer: &mut W,
+) -> Result<(), SessionFault>
     requires { IsReply reply }
     ensures ok { OnOk result (Appends (W.contents writer.old) (W.contents writer.new) (reply_line reply)) }
     ensures err { OnErr result (AppendsFront (W.contents writer.old) (W.contents writer.new) (reply_line reply)) }

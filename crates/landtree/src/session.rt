@@ -6,11 +6,11 @@ use crate::fault::SessionFault;
 use crate::line::Line;
 use crate::output::write_reply;
 use crate::setup::Setup;
-use ll_plain::Plain;
-use ll_wire::read_command;
 use crate::tree::SessionTree;
+use ll_plain::Plain;
 use ll_rights::Errno;
 use ll_seq::Reply;
+use ll_wire::read_command;
 use std::alloc::Global;
 use std::io::Write;
 

@@ -12,7 +12,13 @@ use ll_rights::Abi;
 use ll_seq::Rules;
 use std::test::Fail;
 
-const SETUP: Setup = Setup { rules: Rules { abi: Abi::NEWEST, copies: true }, nodes: 1024 };
+const SETUP: Setup = Setup {
+    rules: Rules {
+        abi: Abi::NEWEST,
+        copies: true,
+    },
+    nodes: 1024,
+};
 
 const TEN_LINES: &[u8] = b"\
 make dir /a
@@ -86,13 +92,10 @@ fn writes_fail(rt: HostRuntime) -> Result<(), Fail> {
     Ok(())
 }
 
-// What the words ask for: the script, the number of nodes and the level.
-fn asked<'a>(rt: &HostRuntime, words: &'a [&'a str]) -> Option<(&'a str, usize, u64)> {
+// What the words ask for: the script, and with which setup.
+fn asked<'a>(rt: &HostRuntime, words: &'a [&'a str]) -> Option<(&'a str, Setup)> {
     match Options::read(rt.alloc(), words) {
-        Ok(options) => {
-            let setup = options.setup;
-            Some((options.script, setup.nodes, setup.rules.abi.number()))
-        }
+        Ok(options) => Some((options.script, options.setup)),
         Err(_) => None,
     }
 }
@@ -102,15 +105,26 @@ fn words(rt: HostRuntime) {
     let table: [(&[&str], Option<(&str, usize, u64)>); 8] = [
         (&["landtree", "run", "-"], Some(("-", 1024, 3))),
         (&["landtree", "run", "s", "--nodes", "2"], Some(("s", 2, 3))),
-        (&["landtree", "run", "--nodes=4096", "s"], Some(("s", 4096, 3))),
-        (&["landtree", "run", "--abi", "1", "s"], Some(("s", 1024, 1))),
+        (
+            &["landtree", "run", "--nodes=4096", "s"],
+            Some(("s", 4096, 3)),
+        ),
+        (
+            &["landtree", "run", "--abi", "1", "s"],
+            Some(("s", 1024, 1)),
+        ),
         (&["landtree", "run", "s", "--nodes", "4097"], None),
         (&["landtree", "run", "s", "--abi", "0"], None),
         (&["landtree", "run", "s", "--abi", "4"], None),
         (&["landtree", "run"], None),
     ];
     for (words, want) in table {
-        assert_eq!(rt; asked(&rt, words), want, "{words:?}");
+        let got = asked(&rt, words).map(|(script, setup)| (
+            script,
+            setup.nodes,
+            setup.rules.abi.number(),
+        ));
+        assert_eq!(rt; got, want, "{words:?}");
     }
 }
 

@@ -49,6 +49,6 @@ returns-clause-asked c =
     let setup = c.in_ok-setup.setup in
     asked_of (found_of c.args.run.now) (Some c.in_ok-script.script.now) (Some setup.nodes) (Some setup.rules.abi) c.in_ok-script.ensures
     (within 1 4096 setup.nodes setup.some setup.most ∙ ap (allowed 1 4096) c.in_ok-setup.ensures.nodes
-        ∙ number_read 1 4096 _ (Some c.in_ok-nodes.nodes) nodes.none (λ t e. (nodes.value t e).0))
+    ∙ number_read 1 4096 _ (Some c.in_ok-nodes.nodes) nodes.none (λ t e. (nodes.value t e).0))
     (ap (λ (r : Rules). Some r.abi) c.in_ok-setup.ensures.rules ∙ ap Some c.in_ok-abi.ensures.1 ∙ within 1 3 c.in_ok-get_one.field-0 c.in_ok-abi.ensures.0.0 c.in_ok-abi.ensures.0.1
-        ∙ number_read 1 3 _ (Some c.in_ok-get_one.field-0) level.none (λ t e. (level.value t e).0))
+    ∙ number_read 1 3 _ (Some c.in_ok-get_one.field-0) level.none (λ t e. (level.value t e).0))
