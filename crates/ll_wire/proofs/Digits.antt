@@ -7,7 +7,8 @@ use Rattle.std.proofs.lemmas.Bool.{cases_lt, eqb-true, agree_below_at, false≢t
 use Rattle.std.proofs.lemmas.List.Elements.{All-from_recursion, recursion_from_All}
 use Rattle.hex.specs.Hex.{IsBytes, encode_with, encode_lower, lower_digits, decode_of}
 use Rattle.hex.proofs.HexLemmas.{length-encode_with, decode_of-encode_lower, decode_of-same}
-use Rattle.ll_wire.specs.Grammar.{IsData, data_text}
+use Rattle.ll_seq.specs.Listed.{IsData}
+use Rattle.ll_wire.specs.Grammar.{data_text}
 use Rattle.ll_wire.specs.Reads.{SpellsData, IsDigit}
 
 -- ---- one digit

@@ -8,10 +8,10 @@ use Rattle.std.specs.Ordering.{nat_cmp}
 use Rattle.std.specs.declared.cmp.Ordering.{Ordering}
 use Rattle.std.specs.Cmp.Lexicographic.{slice_cmp, nat_list_cmp_total}
 use Rattle.std.proofs.Math.Seq.{split_at}
-use Rattle.std.proofs.lemmas.List.{map-id}
+use Rattle.std.proofs.lemmas.List.{append_assoc, map-id}
 use Rattle.std.proofs.lemmas.List.Splits.{join_with_byte-slice_split, length-slice_split}
 use Rattle.ll_path.specs.Name.{IsName}
-use Rattle.ll_seq.specs.Listing.{AreListed}
+use Rattle.ll_seq.specs.Listed.{AreListed}
 use Rattle.ll_wire.specs.Reads.{SpellsNames}
 use Rattle.ll_wire.proofs.Joined.{joined}
 use Rattle.ll_wire.proofs.OneReply.{names_tokens}
@@ -89,6 +89,23 @@ name_at all before name k h lt front at =
       all_at IsName before name (drop (suc k) all) (subst (AllByRecursion IsName) cut h.0),
       next_rises [] before name (drop (suc k) all) (subst (λ (names : List (List ℕ)). Rise ([] ∷ names)) cut (from_empty all h)),
     )
+
+all_before : {X : Type 0} (P : X → Type 0) (xs ys : List X) → AllByRecursion P (xs ++ ys) → AllByRecursion P xs
+all_before P [] ys h = tt
+all_before P (x ∷ xs) ys h = (h.0, all_before P xs ys h.1)
+
+rise_before : (names others : List (List ℕ)) → Rise (names ++ others) → Rise names
+unfolding IsStrictlySortedBy
+rise_before [] others h = tt
+rise_before (name ∷ names) others h = (all_before (λ other. order name other ≡ Less) names others h.0, rise_before names others h.1)
+
+-- the names up to a place of a listing
+pub listed_to : (all before : List (List ℕ)) (name : List ℕ) (k : ℕ) → AreListed all → k < length all → before ≡ take k all → name ≡ get_or all k name → AreListed (before ++ name ∷ [])
+listed_to all before name k h lt front at =
+    let others = drop (suc k) all in
+    let cut : all ≡ before ++ name ∷ others = split_at all k name lt ∙ (λ i. sym front i ++ sym at i ∷ others) in
+    let again : all ≡ (before ++ name ∷ []) ++ others = cut ∙ sym (append_assoc before (name ∷ []) others) in
+    (all_before IsName (before ++ name ∷ []) others (subst (AllByRecursion IsName) again h.0), rise_before (before ++ name ∷ []) others (subst Rise again h.1))
 
 -- ---- the text of a listing
 

@@ -19,11 +19,11 @@ use Rattle.ll_decide.specs.declared.denial.Cause.TheVariants as causes
 use Rattle.ll_decide.specs.declared.denial.Place.{Place}
 use Rattle.ll_decide.specs.declared.denial.Place.TheVariants as places
 use Rattle.ll_decide.specs.declared.denial.Denial.{Denial}
-use Rattle.ll_seq.specs.Listed.{AreListed}
+use Rattle.ll_seq.specs.Listed.{IsData, AreListed}
 use Rattle.ll_seq.specs.declared.reply.Status.{Status}
 use Rattle.ll_seq.specs.declared.reply.Reply.{Reply}
 use Rattle.ll_seq.specs.declared.reply.Reply.TheVariants.{Done, Opened, Bytes, Wrote, Listed, Found, Created, Spawned, Refused, Denied}
-use Rattle.ll_wire.specs.Grammar.{IsData, data_text, reply_tokens, IsReply, SpellsReply}
+use Rattle.ll_wire.specs.Grammar.{data_text, reply_tokens, IsReply, SpellsReply}
 use Rattle.ll_wire.specs.Reads.{SpellsReplyTokens}
 use Rattle.ll_wire.proofs.Tokens.{IsToken, visible, visible_is, number_token, kind_token, data_token}
 use Rattle.ll_wire.proofs.Calls.{first_is}

@@ -27,7 +27,8 @@ use Rattle.ll_seq.specs.declared.call.Creation.TheVariants.{Never, IfMissing, Ex
 use Rattle.ll_seq.specs.declared.call.Mode.{Mode}
 use Rattle.ll_seq.specs.declared.call.Call.{Call}
 use Rattle.ll_seq.specs.declared.call.Call.TheVariants as calls
-use Rattle.ll_wire.specs.Grammar.{way_text, truncate_text, creation_text, mode_text, IsData, data_text, call_tokens, IsCall, client_tokens, IsClient}
+use Rattle.ll_seq.specs.Listed.{IsData}
+use Rattle.ll_wire.specs.Grammar.{way_text, truncate_text, creation_text, mode_text, data_text, call_tokens, IsCall, client_tokens, IsClient}
 use Rattle.ll_wire.specs.Reads.{IsDigit}
 use Rattle.ll_wire.proofs.Digits.{data_digits}
 

@@ -1,12 +1,12 @@
 -- The one spelling of each command and of each reply. own
 use Rattle.std.specs.Prelude.{◌≡◌, ⊤, ℕ, ◌^◌, ◌≤◌, ◌<◌, ◌==◌, Bool, List, [], ◌∷◌, ◌++◌, length, codes, decimal, if◌then◌else◌}
 use Rattle.std.specs.List.{join_with_byte}
-use Rattle.hex.specs.Hex.{IsBytes, encode_lower}
+use Rattle.hex.specs.Hex.{encode_lower}
 use Rattle.ll_rights.specs.Access.{access_text}
 use Rattle.ll_rights.specs.Errno.{errno_number, errno_text}
 use Rattle.ll_rights.specs.Kind.{kind_text}
 use Rattle.ll_rights.specs.Right.{right_text}
-use Rattle.ll_rights.specs.declared.limits.TheConstants.{DATA_BYTES, TREE_CLIENTS}
+use Rattle.ll_rights.specs.declared.limits.TheConstants.{TREE_CLIENTS}
 use Rattle.ll_path.specs.Word.{IsWord}
 use Rattle.ll_path.specs.Target.{IsTarget, target_text}
 use Rattle.ll_path.specs.declared.target.Target.{Target}
@@ -18,7 +18,7 @@ use Rattle.ll_seq.specs.declared.call.Creation.TheVariants.{Never, IfMissing, Ex
 use Rattle.ll_seq.specs.declared.call.Mode.{Mode}
 use Rattle.ll_seq.specs.declared.call.Call.{Call}
 use Rattle.ll_seq.specs.declared.call.Call.TheVariants.{Make, Open, Read, Write, Ftruncate, Close, Truncate, ReadDir, Stat, Exec, Unlink, Rmdir, Rename, RenameNoreplace, Exchange, Link, Ruleset, Allow, Confine, Spawn, Connect}
-use Rattle.ll_seq.specs.Listed.{AreListed}
+use Rattle.ll_seq.specs.Listed.{IsData, AreListed}
 use Rattle.ll_seq.specs.declared.reply.Reply.{Reply}
 use Rattle.ll_seq.specs.declared.reply.Reply.TheVariants.{Done, Opened, Bytes, Wrote, Listed, Found, Created, Spawned, Refused, Denied}
 use Rattle.ll_wire.specs.declared.read.TheConstants.{LINE_LIMIT}
@@ -45,10 +45,6 @@ creation_text Exclusive = codes "cx"
 -- The ways of the bytes, t where the file is emptied, c where a missing one is made, and x after it where there must be none
 abbrev pub mode_text : Mode → List ℕ
 mode_text mode = way_text mode.access ++ truncate_text mode.truncate ++ creation_text mode.creation
-
--- what a write brings and a read gives
-abbrev pub IsData : List ℕ → Type 0
-IsData bytes = IsBytes bytes × (length bytes ≤ DATA_BYTES)
 
 -- two hexadecimal digits a byte, with lower-case letters. No bytes are a hyphen
 abbrev pub data_text : List ℕ → List ℕ

@@ -12,8 +12,8 @@ use Rattle.ll_seq.specs.declared.call.Call.{Call}
 use Rattle.ll_seq.specs.declared.call.Call.TheVariants.{Make, Open, Read, Write, Ftruncate, Close, Truncate, ReadDir, Stat, Exec, Unlink, Rmdir, Rename, RenameNoreplace, Exchange, Link, Ruleset, Allow, Confine, Spawn, Connect}
 use Rattle.ll_seq.specs.declared.reply.Reply.{Reply}
 use Rattle.ll_seq.specs.declared.reply.Reply.TheVariants.{Done, Opened, Bytes, Wrote, Listed, Found, Created, Spawned, Refused, Denied}
-use Rattle.ll_seq.specs.Listing.{AreListed}
-use Rattle.ll_wire.specs.Grammar.{SpellsTarget, IsData, data_text, call_tokens, IsCall, client_tokens, IsClient, reply_tokens, IsReply}
+use Rattle.ll_seq.specs.Listed.{IsData, AreListed}
+use Rattle.ll_wire.specs.Grammar.{SpellsTarget, data_text, call_tokens, IsCall, client_tokens, IsClient, reply_tokens, IsReply}
 
 -- The value that is spelled; BadLine only where none is, and NoMemory only where one is that takes memory to be read
 abbrev pub ReadsBy : {V : Type 0} → (Spells Takes : V → Type 0) → Result V Errno → Type 0

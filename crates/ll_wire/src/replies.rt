@@ -2,7 +2,7 @@
 
 ghost use Rattle.std.specs.Prelude.{◌≡◌, ◌<◌, ◌^◌, ◌==◌, ◌∷◌, [], true, false, map, codes, decimal, IfOk, MatchBool};
 ghost use Rattle.std.specs.List.{slice_split};
-ghost use Rattle.ll_seq.specs.Listing.{AreListed};
+ghost use Rattle.ll_seq.specs.Listed.{AreListed};
 ghost use Rattle.ll_seq.specs.declared.reply.Reply.{Reply};
 ghost use Rattle.ll_wire.specs.Grammar.{SpellsReply};
 ghost use Rattle.ll_wire.specs.Reads.{Reads, ReadsBy, Finds, tells_text, SpellsNames, SpellsOneNumber, SpellsReplyTokens, SpellsReplyBody};
