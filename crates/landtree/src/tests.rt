@@ -92,39 +92,36 @@ fn writes_fail(rt: HostRuntime) -> Result<(), Fail> {
     Ok(())
 }
 
-// What the words ask for: the script, and with which setup.
-fn asked<'a>(rt: &HostRuntime, words: &'a [&'a str]) -> Option<(&'a str, Setup)> {
-    match Options::read(rt.alloc(), words) {
-        Ok(options) => Some((options.script, options.setup)),
-        Err(_) => None,
-    }
+fn are(options: &Options, script: &str, nodes: usize, level: u64) -> bool {
+    let setup = &options.setup;
+    options.script == script && setup.nodes == nodes && setup.rules.abi.number() == level
 }
 
 #[test]
-fn words(rt: HostRuntime) {
-    let table: [(&[&str], Option<(&str, usize, u64)>); 8] = [
-        (&["landtree", "run", "-"], Some(("-", 1024, 3))),
-        (&["landtree", "run", "s", "--nodes", "2"], Some(("s", 2, 3))),
-        (
-            &["landtree", "run", "--nodes=4096", "s"],
-            Some(("s", 4096, 3)),
-        ),
-        (
-            &["landtree", "run", "--abi", "1", "s"],
-            Some(("s", 1024, 1)),
-        ),
-        (&["landtree", "run", "s", "--nodes", "4097"], None),
-        (&["landtree", "run", "s", "--abi", "0"], None),
-        (&["landtree", "run", "s", "--abi", "4"], None),
-        (&["landtree", "run"], None),
+fn words(rt: HostRuntime) -> Result<(), Fail> {
+    let table: [(&[&str], &str, usize, u64); 4] = [
+        (&["landtree", "run", "-"], "-", 1024, 3),
+        (&["landtree", "run", "s", "--nodes", "2"], "s", 2, 3),
+        (&["landtree", "run", "--nodes=4096", "s"], "s", 4096, 3),
+        (&["landtree", "run", "--abi", "1", "s"], "s", 1024, 1),
     ];
-    for (words, want) in table {
-        let got = asked(&rt, words).map(|(script, setup)| (
-            script,
-            setup.nodes,
-            setup.rules.abi.number(),
-        ));
-        assert_eq!(rt; got, want, "{words:?}");
+    for (words, script, nodes, level) in table {
+        let options = Options::read(rt.alloc(), words)?;
+        assert!(rt; are(&options, script, nodes, level), "{words:?}");
+    }
+    Ok(())
+}
+
+#[test]
+fn refused_words(rt: HostRuntime) {
+    let table: [&[&str]; 4] = [
+        &["landtree", "run", "s", "--nodes", "4097"],
+        &["landtree", "run", "s", "--abi", "0"],
+        &["landtree", "run", "s", "--abi", "4"],
+        &["landtree", "run"],
+    ];
+    for words in table {
+        assert!(rt; Options::read(rt.alloc(), words).is_err(), "{words:?}");
     }
 }
 
