@@ -1,0 +1,4 @@
+pub mod Walk
+pub mod World
+pub mod Walks
+pub mod Growing
