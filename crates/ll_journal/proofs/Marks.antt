@@ -117,4 +117,4 @@ apart = record {
 }
 
 pub marks_are_apart : MarksAreApart
-marks_are_apart rules room limit steps = steps_kept Apart apart (new_world rules room limit) steps (λ c d v u e. absurd (cc (sym e ∙ get-empty Walk nat_cmp c)))
+marks_are_apart rules room limit steps = λ c v e d u. steps_kept Apart apart (new_world rules room limit) steps (λ c d v u e. absurd (cc (sym e ∙ get-empty Walk nat_cmp c))) c d v u e

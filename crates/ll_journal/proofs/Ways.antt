@@ -1,5 +1,5 @@
 -- A call that isn't refused meets nothing in its way: its walk, where that is right, isn't blocked.
-use Rattle.std.specs.Prelude.{◌≡◌, ℕ, true, false, cond, not, ◌&&◌, List, [], ◌∷◌, ◌++◌, length, drop, Option, Some, None, is_none, unwrap_or, option_map, option_and_then, refl}
+use Rattle.std.specs.Prelude.{◌≡◌, ℕ, true, false, cond, List, [], ◌∷◌, ◌++◌, length, drop, Option, Some, None, is_none, unwrap_or, option_and_then, refl}
 use Rattle.std.specs.Option.{option_map_or}
 use Rattle.std.proofs.Common.{sym, ap, ◌∙◌}
 use Rattle.ll_rights.specs.declared.kind.Kind.{Kind}
@@ -20,7 +20,7 @@ use Rattle.ll_seq.specs.Stages.{in_the_way, way_to, walk_refusals, no_directory,
 use Rattle.std.specs.List.{flat_map}
 use Rattle.ll_laws.proofs.Chains.{same_Some}
 use Rattle.ll_laws.proofs.Stages.{nil_left, nil_right}
-use Rattle.ll_journal.specs.Walk.{Leg, Position, Above, Down, Split, trunk_path, if_directory, directory_under, leg_below, further_by, is_blocked, turn}
+use Rattle.ll_journal.specs.Walk.{Leg, Position, Above, Down, Split, trunk_path, if_directory, is_blocked_by, is_blocked, turn}
 use Rattle.ll_journal.specs.Walks.{IsRight, AreRight, AreOnPaths}
 
 -- ---- parts of a way
@@ -62,18 +62,12 @@ clear_directory s (Some i) e = by (kind_of s i) e
     by (Some Char) f = absurd (cc f)
     by (Some Block) f = absurd (cc f)
 
-map_there : {A B : Type 0} (f : A → B) (o : Option A) → is_none o ≡ false → is_none (option_map f o) ≡ false
-map_there f None e = e
-map_there f (Some x) e = refl
-
-leg_clear : (s : State) (domain : List Layer) (leg : Leg) → IsRight s domain leg → in_the_way s (leg.walked ++ leg.ahead) root ≡ [] → is_blocked s domain leg ≡ false
+leg_clear : (s : State) (domain : List Layer) (leg : Leg) → IsRight s domain leg → in_the_way s (leg.walked ++ leg.ahead) root ≡ [] → is_blocked s leg ≡ false
 leg_clear s domain leg r w = by leg.ahead (way_rest s leg.walked leg.ahead root leg.here w r.names)
   where
-    by : (p : Path) → in_the_way s p leg.here ≡ [] → (not (is_root p) && is_none (further_by s domain leg p)) ≡ false
+    by : (p : Path) → in_the_way s p leg.here ≡ [] → is_blocked_by s leg.here p ≡ false
     by [] v = refl
-    by (name ∷ rest) v =
-        map_there (leg_below domain leg name rest) (directory_under s leg.here name)
-        (clear_directory s (child s leg.here name) (nil_left (no_directory (kind_of_child s (child s leg.here name))) (option_map_or (in_the_way s rest) (child s leg.here name) []) v))
+    by (name ∷ rest) v = clear_directory s (child s leg.here name) (nil_left (no_directory (kind_of_child s (child s leg.here name))) (option_map_or (in_the_way s rest) (child s leg.here name) []) v)
 
 -- ---- the common beginning
 
@@ -112,13 +106,13 @@ second_clear s [] e = refl
 second_clear s (t ∷ []) e = nil_left (way_to s t) [] e
 second_clear s (t ∷ (u ∷ ts)) e = nil_left (way_to s u) (flat_map (way_to s) ts) (nil_right (way_to s t) (flat_map (way_to s) (u ∷ ts)) e)
 
-pub not_blocked : (s : State) (domain : List Layer) (call : Call) (at : Position) → walk_refusals s call ≡ [] → AreOnPaths call at → AreRight s domain at → option_map_or (is_blocked s domain) (turn at) false ≡ false
+pub not_blocked : (s : State) (domain : List Layer) (call : Call) (at : Position) → walk_refusals s call ≡ [] → AreOnPaths call at → AreRight s domain at → option_map_or (is_blocked s) (turn at) false ≡ false
 not_blocked s domain call Above clear on r = refl
 not_blocked s domain call (Down trunk) clear on r =
     let w = common_left (parent (first_path call)) (parent (second_path call)) in
     leg_clear s domain trunk r (ap (λ p. in_the_way s p root) on ∙ way_front s (trunk_path call) w.0 root (ap (λ p. in_the_way s p root) w.1 ∙ first_clear s (targets call) clear))
 not_blocked s domain call (Split trunk old new) clear on r =
-    elim (is_root old.ahead) as (λ b. is_blocked s domain (cond b new old) ≡ false) [
+    elim (is_root old.ahead) as (λ b. is_blocked s (cond b new old) ≡ false) [
       | true ↦ leg_clear s domain new r.2 (ap (λ p. in_the_way s p root) on.2 ∙ second_clear s (targets call) clear)
       | false ↦ leg_clear s domain old r.1 (ap (λ p. in_the_way s p root) on.1 ∙ first_clear s (targets call) clear)
     ]

@@ -314,7 +314,7 @@ module _ (w : World) (number : ℕ) (walk : Walk) (h : Holds w) (is : get w.walk
   unmarked : refusals (shown w) (client_of (shown w) number) walk.call ≡ [] → list_any (is_marked_by_other w number) (last_nodes (shown w) walk.call) ≡ false
   unmarked none =
       let free = not_blocked (shown w) (domain_of w number) walk.call walk.at (passes (shown w) (client_of (shown w) number) walk.call none).way (h.under_way number walk is).on_paths (h.right number walk is not_stale) in
-      let ends = second (option_map_or (is_blocked (shown w) (domain_of w number)) (turn walk.at) false) (at_ends walk.call walk.at && not (list_any (is_marked_by_other w number) (last_nodes (shown w) walk.call))) free (both (not walk.stale) _ may).1 in
+      let ends = second (option_map_or (is_blocked (shown w)) (turn walk.at) false) (at_ends walk.call walk.at && not (list_any (is_marked_by_other w number) (last_nodes (shown w) walk.call))) free (both (not walk.stale) _ may).1 in
       not_true _ (both (at_ends walk.call walk.at) _ ends).1
 
   module _ (c : ℕ) (u : Walk) (other : c ≢ number) (there : get w.walks c ≡ Some u) (not_passed : list_any (walk_passes u) moved ≡ false) where

@@ -82,8 +82,12 @@ abbrev pub further : State → List Layer → Leg → Option Leg
 further s domain leg = further_by s domain leg leg.ahead
 
 -- a name is left, and names no directory
-abbrev pub is_blocked : State → List Layer → Leg → Bool
-is_blocked s domain leg = not (is_root leg.ahead) && is_none (further s domain leg)
+abbrev pub is_blocked_by : State → ℕ → Path → Bool
+is_blocked_by s here [] = false
+is_blocked_by s here (name ∷ rest) = is_none (directory_under s here name)
+
+abbrev pub is_blocked : State → Leg → Bool
+is_blocked s leg = is_blocked_by s leg.here leg.ahead
 
 -- ---- Where a walk is
 

@@ -41,34 +41,32 @@ pub record IsUnderWay (w : World) (number : ℕ) (walk : Walk) : Type 0 where
   pub walked : is_walked (client_of (shown w) number) walk.call ≡ true
   pub on_paths : AreOnPaths walk.call walk.at
 
--- ---- Over every list of steps
+-- ---- After every list of steps
+
+abbrev pub AfterSteps : (World → Type 0) → Type 0
+AfterSteps P = (rules : Rules) (room limit : ℕ) (steps : List Step) → P (world_after (new_world rules room limit) steps)
+
+-- so of each walk that is under way
+abbrev pub OfWalks : World → (ℕ → Walk → Type 0) → Type 0
+OfWalks w P = (number : ℕ) (walk : Walk) → get w.walks number ≡ Some walk → P number walk
 
 abbrev pub HistoryIsLegal : Type 0
 HistoryIsLegal =
     (rules : Rules) (room limit : ℕ) (steps : List Step) →
     IsLegal (start rules room) (world_after (new_world rules room limit) steps).history
 
--- Each walk is under way, and where it isn't stale, what it has found so far is so in the shown state
+-- where a walk isn't stale, what it has found so far is so in the shown state
 abbrev pub WalksAreValid : Type 0
-WalksAreValid =
-    (rules : Rules) (room limit : ℕ) (steps : List Step) →
-    let w = world_after (new_world rules room limit) steps in
-    (number : ℕ) (walk : Walk) → get w.walks number ≡ Some walk →
-    IsUnderWay w number walk × (walk.stale ≡ false → AreRight (shown w) (domain_of w number) walk.at)
+WalksAreValid = AfterSteps (λ w. OfWalks w (λ number walk.
+    IsUnderWay w number walk × (walk.stale ≡ false → AreRight (shown w) (domain_of w number) walk.at)))
 
 -- a directory carries the mark of one walk at most
 abbrev pub MarksAreApart : Type 0
-MarksAreApart =
-    (rules : Rules) (room limit : ℕ) (steps : List Step) →
-    let w = world_after (new_world rules room limit) steps in
-    (c d : ℕ) (v u : Walk) → get w.walks c ≡ Some v → get w.walks d ≡ Some u →
-    (inode : ℕ) → marks v inode ≡ true → marks u inode ≡ true → c ≡ d
+MarksAreApart = AfterSteps (λ w. OfWalks w (λ c v. OfWalks w (λ d u.
+    (inode : ℕ) → marks v inode ≡ true → marks u inode ≡ true → c ≡ d)))
 
 abbrev pub StartsAreFew : Type 0
-StartsAreFew =
-    (rules : Rules) (room limit : ℕ) (steps : List Step) →
-    let w = world_after (new_world rules room limit) steps in
-    (number : ℕ) (walk : Walk) → get w.walks number ≡ Some walk → walk.starts ≤ 4
+StartsAreFew = AfterSteps (λ w. OfWalks w (λ number walk. walk.starts ≤ 4))
 
 -- one of the calls that take the gate, or on its fourth start and not above the root
 abbrev pub needs_gate : Walk → Bool
@@ -76,8 +74,5 @@ needs_gate walk = takes_gate walk.call || ((walk.starts == 4) && not (is_above w
 
 -- such a walk holds the gate, and is never stale
 abbrev pub GateHolderIsNeverStale : Type 0
-GateHolderIsNeverStale =
-    (rules : Rules) (room limit : ℕ) (steps : List Step) →
-    let w = world_after (new_world rules room limit) steps in
-    (number : ℕ) (walk : Walk) → get w.walks number ≡ Some walk → needs_gate walk ≡ true →
-    (w.gate ≡ Some number) × (walk.stale ≡ false)
+GateHolderIsNeverStale = AfterSteps (λ w. OfWalks w (λ number walk.
+    needs_gate walk ≡ true → (w.gate ≡ Some number) × (walk.stale ≡ false)))

@@ -1,4 +1,5 @@
--- A tree whose clients' walks are under way, and the steps in which they go on, each at once. own
+-- A tree whose clients' walks are under way, and the steps in which they go on, each at once. Memory has no part in it: whoever
+-- takes the steps says what is left where it runs out. own
 use Rattle.std.specs.Prelude.{ℕ, ◌+◌, Bool, true, false, not, ◌&&◌, ◌||◌, ◌==◌, List, [], ◌∷◌, ◌++◌, map, filter, length, Option, Some, None, nat_le, is_none, unwrap_or, option_to_list, option_map, option_and_then, if◌then◌else◌}
 use Rattle.std.specs.declared.cmp.Ordering.{Ordering}
 use Rattle.std.specs.Ordering.{nat_cmp}
@@ -167,7 +168,7 @@ domain_of w number = (client_of (shown w) number).domain
 abbrev pub may_commit : World → ℕ → Walk → Bool
 may_commit w number walk =
     not walk.stale
-    && (option_map_or (is_blocked (shown w) (domain_of w number)) (turn walk.at) false
+    && (option_map_or (is_blocked (shown w)) (turn walk.at) false
     || (at_ends walk.call walk.at && not (list_any (is_marked_by_other w number) (last_nodes (shown w) walk.call))))
 
 -- ---- Answers
