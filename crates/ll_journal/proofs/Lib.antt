@@ -8,5 +8,6 @@ pub mod Turns
 pub mod Worlds
 pub mod Marks
 pub mod Gates
+pub mod Commits
 pub mod Growing
 pub mod Examples

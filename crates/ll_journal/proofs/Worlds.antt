@@ -104,7 +104,7 @@ pub record Holds (w : World) : Type 0 where
   pub under_way : (number : ℕ) (walk : Walk) → get w.walks number ≡ Some walk → IsUnderWay w number walk
   pub right : (number : ℕ) (walk : Walk) → get w.walks number ≡ Some walk → walk.stale ≡ false → AreRight (shown w) (domain_of w number) walk.at
 
-tree_of : (w : World) → IsTree (shown w)
+pub tree_of : (w : World) → IsTree (shown w)
 tree_of w = after_tree (start w.rules w.room) w.history (start_tree w.rules w.room)
 
 -- the state is the same, and one walk is new

@@ -1,6 +1,7 @@
 //! A tree that many clients share: the walks of their calls, and the steps by which these go on.
 #![tactic(auto)]
 
+ghost use Rattle.ll_journal.specs.Commits.{BlockedAreRefused, EndsAreReached};
 ghost use Rattle.ll_journal.specs.Growing.{HistoryGrows, NoGainBetween, WithheldBetween};
 ghost use Rattle.ll_journal.specs.Walks.{GateHolderIsNeverStale, HistoryIsLegal, MarksAreApart, StartsAreFew, WalksAreValid};
 
@@ -27,6 +28,16 @@ pub fn starts_are_few()
 /// Neither a call that takes the move gate nor a walk on its fourth start is overtaken.
 pub fn gate_holder_is_never_stale()
     ensures { GateHolderIsNeverStale }
+{}
+
+/// A walk at its ends stands in the directories of its call's last names.
+pub fn ends_are_reached()
+    ensures { EndsAreReached }
+{}
+
+/// A walk that can't go on is refused for the name that stops it.
+pub fn blocked_are_refused()
+    ensures { BlockedAreRefused }
 {}
 
 /// A history only grows, and never beyond its limit.
