@@ -41,13 +41,16 @@ MovesUnder layer s [] = ⊤
 MovesUnder layer s (e ∷ es) =
     (IsTrue (is_move e.call) → e.reply ≡ Done → Contains (client_of s e.client).domain layer) × MovesUnder layer (after s e) es
 
--- Cut a legal history in two. Of what has a name at the cut the layer reaches nothing at the end that it didn't reach at the
+-- Of what has a name at the cut between two parts of a history the layer reaches nothing at the end that it didn't reach at the
 -- cut, where each move after it is made under the layer
-abbrev pub NoGain : Type 0
-NoGain =
-    (rules : Rules) (room : ℕ) (early late : List Entry) → IsLegal (start rules room) (early ++ late) →
+abbrev pub GainsNothing : Rules → ℕ → List Entry → List Entry → Type 0
+GainsNothing rules room early late =
     let cut = state_after (start rules room) early in
     let end = state_after (start rules room) (early ++ late) in
     (layer : Layer) → MovesUnder layer cut late →
     (inode : ℕ) → HasName cut inode →
     (right : ℕ) → InReach end layer inode right → InReach cut layer inode right
+
+-- so wherever a legal history is cut in two
+abbrev pub NoGain : Type 0
+NoGain = (rules : Rules) (room : ℕ) (early late : List Entry) → IsLegal (start rules room) (early ++ late) → GainsNothing rules room early late

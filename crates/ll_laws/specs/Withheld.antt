@@ -52,13 +52,16 @@ Withheld layer inode cut Was s (e ∷ es) =
     × (Was e.client → ChangesBytes s (after s e) inode → InReach cut layer inode right.write_file ⊎ InReach cut layer inode right.truncate)
     × Withheld layer inode cut (Confined Was e) (after s e) es
 
--- Cut a legal history in two. Of an inode that no client under the layer has open at the cut the bytes are withheld from
--- all of them, and from whom they spawn, where each move after it is made under the layer
-abbrev pub BytesAreWithheld : Type 0
-BytesAreWithheld =
-    (rules : Rules) (room : ℕ) (early late : List Entry) → IsLegal (start rules room) (early ++ late) →
+-- Of an inode that no client under the layer has open at the cut between two parts of a history the bytes are withheld from all
+-- of them, and from whom they spawn, where each move after it is made under the layer
+abbrev pub Withholds : Rules → ℕ → List Entry → List Entry → Type 0
+Withholds rules room early late =
     let cut = state_after (start rules room) early in
     (layer : Layer) → MovesUnder layer cut late →
     (inode : ℕ) → HasName cut inode →
     ((client : ℕ) → IsConfined layer cut client → (fd : ℕ) (d : Descriptor) → get (client_of cut client).descriptors fd ≡ Some d → d.inode ≢ inode) →
     Withheld layer inode cut (IsConfined layer cut) cut late
+
+-- so wherever a legal history is cut in two
+abbrev pub BytesAreWithheld : Type 0
+BytesAreWithheld = (rules : Rules) (room : ℕ) (early late : List Entry) → IsLegal (start rules room) (early ++ late) → Withholds rules room early late

@@ -3,6 +3,7 @@
 
 mod descriptors;
 mod enact;
+mod numbers;
 mod paths;
 mod reach;
 mod resolve;

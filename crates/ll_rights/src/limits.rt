@@ -41,3 +41,6 @@ pub const NODE_NAMES: usize = 1000;
 
 /// Bytes of a file. own
 pub const FILE_BYTES: usize = 65536;
+
+/// Entries of a history. own
+pub const HISTORY_ENTRIES: usize = 1_000_000;

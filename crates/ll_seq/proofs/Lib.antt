@@ -4,6 +4,7 @@ pub mod Consequences
 pub mod Counts
 pub mod DentryOrder
 pub mod Examples
+pub mod Gaps
 pub mod Histories
 pub mod Kept
 pub mod Numbers

@@ -24,7 +24,7 @@ is_less Greater h = absurd h
 
 module _ {K X : Type 0} {R : K → K → Ordering} (o : IsTotalOrder R) (exact : IsAntisymmetric R) where
   -- what is found stands in a row
-  row_of_found : (es : List (K × X)) (q : K) (x : X) → find R q es ≡ Some x → (i : ℕ) × (slice_get es i ≡ Some (q, x))
+  pub row_of_found : (es : List (K × X)) (q : K) (x : X) → find R q es ≡ Some x → (i : ℕ) × (slice_get es i ≡ Some (q, x))
   row_of_found [] q x f = absurd (cc f)
   row_of_found (e ∷ es) q x f = elim (eq_by_cmp R q e.0) as (λ b. eq_by_cmp R q e.0 ≡ b → cond b (Some e.1) (find R q es) ≡ Some x → (i : ℕ) × (slice_get (e ∷ es) i ≡ Some (q, x))) [
     | true ↦ λ t g. let key : q ≡ e.0 = exact q e.0 (equal_at _ t) in let value : e.1 ≡ x = cc in (0, λ i. Some (sym key i, value i))

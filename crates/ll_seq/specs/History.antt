@@ -45,3 +45,8 @@ state_after s (e ∷ es) = state_after (after s e) es
 -- a client's calls and their replies, in order
 abbrev pub part : List Entry → ℕ → List (Call × Reply)
 part es client = map (λ (e : Entry). (e.call, e.reply)) (filter (λ (e : Entry). e.client == client) es)
+
+-- what is kept of a history: its entries, and how many it may hold
+pub record Log : Type 0 where
+  pub entries : List Entry
+  pub limit : ℕ

@@ -1,6 +1,6 @@
 //! Lists of names.
 
-ghost use Rattle.std.specs.Prelude.{◌≡◌, [], ◌∷◌, ◌++◌, OnOk, OnErr};
+ghost use Rattle.std.specs.Prelude.{◌≡◌, ◌↔◌, [], ◌∷◌, ◌++◌, IsTrue, OnOk, OnErr};
 ghost use Rattle.ll_seq.specs.Listed.{AreListed};
 
 use ll_path::Name;
@@ -22,6 +22,21 @@ impl Model for Listing {
     ghost view = { λ listing. listing.names.items };
 
     ghost invariant = { λ listing. AreListed listing.names.items };
+}
+
+/// Whether both are the same names.
+fn are_same(names: &[Name], others: &[Name]) -> bool
+    ensures { IsTrue result ↔ (names.now ≡ others.now) }
+{
+    if names.len() != others.len() {
+        return false;
+    }
+    for (i, name) in names.iter().enumerate() {
+        if name.as_str() != others[i].as_str() {
+            return false;
+        }
+    }
+    true
 }
 
 impl Listing {
@@ -48,5 +63,12 @@ impl Listing {
     {
         self.names.push(name)?;
         Ok(())
+    }
+
+    /// Whether both tell the same names.
+    pub fn is(&self, other: &Listing) -> bool
+        ensures { IsTrue result ↔ (self.now ≡ other.now) }
+    {
+        are_same(&self.names, &other.names)
     }
 }

@@ -1,6 +1,6 @@
 //! Tables by number.
 
-ghost use Rattle.std.specs.Prelude.{◌≡◌, ◌<◌, ◌≤◌, Some, None, IsTrue, IfSome, IfNone, IfOk, IfErr, OnOk, OnErr, length, slice_get};
+ghost use Rattle.std.specs.Prelude.{◌≡◌, ◌<◌, ◌≤◌, false, Some, None, IsTrue, IfSome, IfNone, IfOk, IfErr, OnOk, OnErr, length, slice_get};
 ghost use Rattle.std.specs.Ordering.{nat_cmp};
 ghost use Rattle.std.specs.Option.{option_copied};
 ghost use Rattle.std.specs.FinMap.Entries.{find, is_sorted};
@@ -53,6 +53,19 @@ pub(crate) fn index_of<V>(rows: &[(u64, V)], number: u64) -> Option<usize>
     search(rows, number).ok()
 }
 
+/// The first place whose row has another number: no row has it.
+fn gap<V>(rows: &[(u64, V)]) -> u64
+    requires { IsTrue (is_sorted nat_cmp rows.now) }
+    ensures { find nat_cmp result rows.now ≡ None }
+{
+    for (i, row) in rows.iter().enumerate() {
+        if row.0 != i as u64 {
+            return i as u64;
+        }
+    }
+    rows.len() as u64
+}
+
 impl<V> NumberMap<V> {
     ghost use Rattle.ll_rights.specs.Map.{empty, get, has, insert, len, remove};
 
@@ -81,6 +94,13 @@ impl<V> NumberMap<V> {
         ensures { result ≡ has self.now number }
     {
         self.get(number).is_some()
+    }
+
+    /// A number that has no value.
+    pub fn unused(&self) -> u64
+        ensures { has self.now result ≡ false }
+    {
+        gap(&self.rows)
     }
 
     /// The same map again.

@@ -1,6 +1,6 @@
 //! Replies.
 
-ghost use Rattle.std.specs.Prelude.{◌≢◌, ◌<◌, ℕ, slice_index};
+ghost use Rattle.std.specs.Prelude.{◌≡◌, ◌≢◌, ◌<◌, ◌↔◌, ℕ, IsTrue, slice_index};
 ghost use Rattle.ll_rights.specs.declared.errno.Errno as errno_of;
 ghost use Rattle.ll_seq.specs.Step.{IsAnswer};
 
@@ -59,6 +59,25 @@ impl Reply {
                 listing.names();
             }
             _ => {}
+        }
+    }
+
+    /// Whether the replies are the same.
+    pub fn is(&self, other: &Reply) -> bool
+        ensures { IsTrue result ↔ (self.now ≡ other.now) }
+    {
+        match (self, other) {
+            (Reply::Done, Reply::Done) => true,
+            (Reply::Opened(number), Reply::Opened(other)) => number == other,
+            (Reply::Bytes(bytes), Reply::Bytes(other)) => bytes.as_slice() == other.as_slice(),
+            (Reply::Wrote(count), Reply::Wrote(other)) => count == other,
+            (Reply::Listed(listing), Reply::Listed(other)) => listing.is(other),
+            (Reply::Found(status), Reply::Found(other)) => status == other,
+            (Reply::Created(number), Reply::Created(other)) => number == other,
+            (Reply::Spawned(number), Reply::Spawned(other)) => number == other,
+            (Reply::Refused(errno), Reply::Refused(other)) => errno == other,
+            (Reply::Denied(denial), Reply::Denied(other)) => denial == other,
+            _ => false,
         }
     }
 }

@@ -1,0 +1,68 @@
+//! One entry after those before it.
+
+ghost use Rattle.std.specs.Prelude.{◌≡◌, ◌<◌, ◌≤◌, ◌+◌, ◌-◌, ◌^◌, ◌↔◌, ℕ, [], true, IsTrue, IfOk, OnErr};
+ghost use Rattle.ll_rights.specs.Map.{has};
+ghost use Rattle.ll_plain.specs.Memory.{takes_memory};
+ghost use Rattle.ll_seq.specs.History.{is_connect, MayStand, after};
+ghost use Rattle.ll_seq.specs.Step.{client_of, refusals};
+
+use ll_plain::Plain;
+use ll_rights::Errno;
+use ll_seq::{Call, Entry, Reply};
+use std::alloc::AllocError;
+
+fn is_connect(call: &Call) -> bool
+    ensures { result ≡ is_connect call.now }
+{
+    matches!(call, Call::Connect)
+}
+
+fn is_done(reply: &Reply) -> bool
+    ensures { IsTrue result ↔ (reply.now ≡ Reply.Done) }
+{
+    matches!(reply, Reply::Done)
+}
+
+fn wants_memory(reply: &Reply) -> bool
+    ensures { IsTrue result ↔ (reply.now ≡ Reply.Refused Errno.NoMemory) }
+{
+    matches!(reply, Reply::Refused(Errno::NoMemory))
+}
+
+/// The number of whom the entry spawns: the one that its reply tells, or else one that no client has.
+fn fresh_number(tree: &Plain, reply: &Reply) -> u64
+    ensures told { (number : ℕ) → reply.now ≡ Reply.Spawned number → result ≡ number }
+    ensures free { has tree.now.clients result ≡ true → reply.now ≡ Reply.Spawned result }
+{
+    match reply {
+        Reply::Spawned(number) => *number,
+        _ => tree.free_number(),
+    }
+}
+
+/// Makes the entry's call, and tells whether the entry may stand here.
+pub(crate) fn may_stand(tree: &mut Plain, entry: &Entry) -> Result<bool, AllocError>
+    requires { tree.old.next < 2 ^ 64 - 1 }
+    ensures stands { IfOk result (λ stands. IsTrue stands ↔ MayStand tree.old entry.now) }
+    ensures after { IfOk result (λ stands. IsTrue stands → tree.new ≡ after tree.old entry.now) }
+    ensures numbers { tree.new.next ≤ tree.old.next + 1 }
+    ensures takes { OnErr result (takes_memory entry.now.call ≡ true) }
+    ensures starved { OnErr result (refusals tree.old (client_of tree.old entry.now.client) entry.now.call ≡ []) }
+{
+    let connects = is_connect(&entry.call);
+    if tree.has_client(entry.client) == connects {
+        return Ok(false);
+    }
+    if connects && !is_done(&entry.reply) {
+        return Ok(false);
+    }
+    let fresh = fresh_number(tree, &entry.reply);
+    if tree.has_client(fresh) {
+        return Ok(false);
+    }
+    let told = tree.apply(entry.client, &entry.call, fresh);
+    if wants_memory(&told) {
+        return Err(AllocError);
+    }
+    Ok(told.is(&entry.reply))
+}
