@@ -35,7 +35,8 @@ NoGainBetween =
     (inode : ℕ) → HasName (shown w) inode →
     (right : ℕ) → InReach (shown v) layer inode right → InReach (shown w) layer inode right
 
--- And the bytes of an inode that no client under the layer had open are withheld from all of them, and from whom they spawn
+-- And the bytes of an inode that no client under the layer had open are withheld from all of these, and from whom they
+-- spawn
 abbrev pub WithheldBetween : Type 0
 WithheldBetween =
     (rules : Rules) (room limit : ℕ) (early late : List Step) →

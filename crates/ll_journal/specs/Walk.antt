@@ -47,8 +47,8 @@ masks_below (layer ∷ layers) (mask ∷ masks) inode = mask_below layer mask in
 
 -- ---- Legs
 
--- A branch as far as it has come. walked: the names that it took. ahead: those that are left. chain: the inodes from the
--- root to the directory where it stands, here. masks: one for each layer, the oldest first
+-- A branch as far as it has come. walked: the names that it took. ahead: those that are left. chain: the inodes from
+-- the root to the directory where it stands, here. masks: one for each layer, the oldest first
 pub record Leg : Type 0 where
   pub walked : Path
   pub ahead : Path
@@ -102,8 +102,8 @@ is_blocked s leg = is_blocked_by s leg.here leg.ahead
 
 -- ---- Where a walk is
 
--- Above the root; or on its one branch, of two paths on what is common to both; or past the fork, where it stands in the
--- common directory still and has a leg for each path
+-- Above the root; or on its one branch, of two paths on what is common to both; or past the fork, where it still stands
+-- in the common directory, and has a leg for each path
 pub data Position : Type 0 where
   Above : Position
   Down : (trunk : Leg) → Position

@@ -1,5 +1,5 @@
--- A tree whose clients' walks are under way, and the steps by which they go on, one after the other. Memory has no part in
--- it: whoever takes the steps says what is left where it runs out. own
+-- A tree whose clients' walks are under way, and the steps by which they go on, one after the other. Memory has no part
+-- in it: whoever takes the steps says what is left where it runs out. own
 use Rattle.std.specs.Prelude.{ℕ, ◌+◌, Bool, true, false, not, ◌&&◌, ◌||◌, ◌==◌, List, [], ◌∷◌, ◌++◌, map, filter, length, Option, Some, None, nat_le, is_none, unwrap_or, option_to_list, option_map, option_and_then, if◌then◌else◌}
 use Rattle.std.specs.declared.cmp.Ordering.{Ordering}
 use Rattle.std.specs.Ordering.{nat_cmp}
@@ -38,15 +38,16 @@ pub record World : Type 0 where
   pub gate : Option ℕ
 
 abbrev pub new_world : Rules → ℕ → ℕ → World
-new_world rules room limit = record { rules = rules; room = room; limit = limit; history = []; walks = empty; gate = None }
+new_world rules room limit =
+    record { rules = rules; room = room; limit = limit; history = []; walks = empty; gate = None }
 
 -- The tree that all see is the one that the history made: a walk changes nothing of it before its commit
 abbrev pub shown : World → State
 shown w = state_after (start w.rules w.room) w.history
 
--- Join: a new client connects. Each other step is that of the client of a number. Begin: its call sets out. Descend: one
--- directory further. Fork: a call of two paths leaves what is common to both. Commit: the call is answered. Restart: the walk
--- starts again. FdCommit, ClientStep: a call that doesn't walk, on a descriptor or not
+-- Join: a new client connects. Each other step is that of the client of a number. Begin: its call sets out. Descend:
+-- one directory further. Fork: a call of two paths leaves what is common to both. Commit: the call is answered. Restart:
+-- the walk starts again. FdCommit, ClientStep: a call that doesn't walk, on a descriptor or not
 pub data Step : Type 0 where
   Join : Step
   Begin : ℕ → Call → Step
@@ -169,8 +170,8 @@ last_nodes s call = flat_map (λ (target : Target). last_node s (path_of target)
 abbrev pub domain_of : World → ℕ → List Layer
 domain_of w number = (client_of (shown w) number).domain
 
--- It isn't stale. The leg in turn can't go on, which is the answer. Or each branch is at its end, and no other walk stands in
--- the node of a last name, which the call might remove
+-- It isn't stale. The leg in turn can't go on, which is the answer. Or each branch is at its end, and no other walk
+-- stands in the node of a last name, which the call might remove
 abbrev pub may_commit : World → ℕ → Walk → Bool
 may_commit w number walk =
     not walk.stale
@@ -266,7 +267,7 @@ begin w number call =
     then Some (Begun, begun w number call)
     else None
 
--- The first descent is to the root. On its fourth start the walk takes the gate, so that nothing it passes is moved any more
+-- The first descent is to the root. On its fourth start the walk takes the gate, so that nothing on its way is moved
 abbrev pub entered : World → ℕ → Walk → World
 entered w number walk = record w {
   walks = insert w.walks number (record walk { at = Down (first_leg (domain_of w number) (trunk_path walk.call)) });
