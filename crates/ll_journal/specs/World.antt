@@ -46,8 +46,8 @@ abbrev pub shown : World → State
 shown w = state_after (start w.rules w.room) w.history
 
 -- Join: a new client connects. Each other step is that of the client of a number. Begin: its call sets out. Descend:
--- one directory further. Fork: a call of two paths leaves what is common to both. Commit: the call is answered. Restart:
--- the walk starts again. FdCommit, ClientStep: a call that doesn't walk, on a descriptor or not
+-- one directory further. Fork: a call of two paths leaves what is common to both. Commit: the call is answered.
+-- Restart: the walk starts again. FdCommit, ClientStep: a call that doesn't walk, on a descriptor or not
 pub data Step : Type 0 where
   Join : Step
   Begin : ℕ → Call → Step
