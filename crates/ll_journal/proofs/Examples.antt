@@ -171,26 +171,27 @@ pub overtaken_three_times : lines world (
 unfolding empty checked get insert remove entries from_sorted map_values numbers_from
 overtaken_three_times = refl
 
--- An exchange moves two directories: whoever passes either starts again. It holds the gate meanwhile
+-- An exchange, which waits while a walk stands in one of its directories, moves two: whoever passes either starts again
 pub overtaken_by_an_exchange : lines world (
     One Join ∷ One Join ∷ One Join
-    ∷ Do 1 (Make Dir (path (codes "/a")))
-    ∷ Do 1 (Make Dir (path (codes "/a/c")))
-    ∷ Do 1 (Make Dir (path (codes "/b")))
+    ∷ Do 1 (Make Dir (path (codes "/a"))) ∷ Do 1 (Make Dir (path (codes "/a/c")))
+    ∷ Do 1 (Make Dir (path (codes "/b"))) ∷ Do 1 (Make Dir (path (codes "/b/d")))
     ∷ One (Begin 1 (Make Reg (path (codes "/a/c/x")))) ∷ One (Descend 1) ∷ One (Descend 1) ∷ One (Descend 1)
-    ∷ One (Begin 2 (Make Reg (path (codes "/b/x")))) ∷ One (Descend 2) ∷ One (Descend 2)
+    ∷ One (Begin 2 (Make Reg (path (codes "/b/d/x")))) ∷ One (Descend 2) ∷ One (Descend 2)
     ∷ One (Begin 3 (Exchange (path (codes "/a")) (path (codes "/b")))) ∷ One (Descend 3) ∷ One (Fork 3)
-    ∷ One (Commit 3) ∷ One (Commit 2) ∷ One (Commit 3) ∷ One (Commit 1) ∷ One (Restart 1) ∷ Do 1 (Spawn)
-    ∷ One (Descend 1) ∷ One (Descend 1) ∷ One (Commit 1)
+    ∷ One (Commit 3) ∷ One (Descend 2) ∷ One (Commit 3)
+    ∷ One (Commit 1) ∷ One (Restart 1) ∷ One (ClientStep 1 Spawn) ∷ One (Descend 1) ∷ One (Descend 1) ∷ One (Commit 1)
+    ∷ One (Commit 2) ∷ One (Restart 2) ∷ One (Descend 2) ∷ One (Descend 2) ∷ One (Commit 2)
     ∷ Do 1 Spawn ∷ Do 4 (Stat (path (codes "/b/c")))
     ∷ [])
     ≡ (
-      Joined 1 ∷ Joined 2 ∷ Joined 3 ∷ ok ∷ ok ∷ ok
+      Joined 1 ∷ Joined 2 ∷ Joined 3 ∷ ok ∷ ok ∷ ok ∷ ok
           ∷ Begun ∷ Stands 1 ∷ Stands 2 ∷ Stands 3 ∷ Begun ∷ Stands 1 ∷ Stands 4 ∷ Begun ∷ Stands 1 ∷ Forked
-          ∷ NotNow ∷ ok ∷ ok ∷ NotNow ∷ Restarted ∷ NotNow
-          ∷ Stands 1 ∷ Stands 4 ∷ Replied (Refused ENOENT)
+          ∷ NotNow ∷ Stands 5 ∷ ok
+          ∷ NotNow ∷ Restarted ∷ NotNow ∷ Stands 1 ∷ Stands 4 ∷ Replied (Refused ENOENT)
+          ∷ NotNow ∷ Restarted ∷ Stands 1 ∷ Stands 2 ∷ Replied (Refused ENOENT)
           ∷ Replied (Spawned 4) ∷ Replied (Found (record { inode = 3; kind = Dir; size = 0; links = 1 })) ∷ [],
-      11,
+      12,
     )
 unfolding empty checked get insert remove entries from_sorted map_values numbers_from
 overtaken_by_an_exchange = refl

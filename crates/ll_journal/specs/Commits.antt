@@ -38,5 +38,8 @@ EndsAreReached = AfterSteps (λ w. OfWalks w (λ number walk.
 -- Where the next name of the leg in turn names no directory, that is what the call is refused for
 abbrev pub BlockedAreRefused : Type 0
 BlockedAreRefused = AfterSteps (λ w. OfWalks w (λ number walk.
-    walk.stale ≡ false → (leg : Leg) → turn walk.at ≡ Some leg → (name : Name) (rest : Path) → leg.ahead ≡ name ∷ rest → (errno : Errno) →
-    slice_get (no_directory (kind_of_child (shown w) (child (shown w) leg.here name))) 0 ≡ Some errno → reply_to w number walk.call ≡ Refused errno))
+    walk.stale ≡ false → (leg : Leg) → turn walk.at ≡ Some leg →
+    (name : Name) (rest : Path) → leg.ahead ≡ name ∷ rest →
+    (errno : Errno) →
+    slice_get (no_directory (kind_of_child (shown w) (child (shown w) leg.here name))) 0 ≡ Some errno →
+    reply_to w number walk.call ≡ Refused errno))

@@ -23,8 +23,8 @@ HistoryGrows =
     let v = world_after w late in
     ((added : List Entry) × Came w v added) × (length v.history ≤ limit)
 
--- While each move that is done between two worlds is made under the layer, it reaches nothing later that it didn't reach, of
--- what had a name
+-- While each move that is done between two worlds is made under a layer, it reaches nothing later that it didn't reach
+-- before, of what had a name then
 abbrev pub NoGainBetween : Type 0
 NoGainBetween =
     (rules : Rules) (room limit : ℕ) (early late : List Step) →
@@ -35,7 +35,8 @@ NoGainBetween =
     (inode : ℕ) → HasName (shown w) inode →
     (right : ℕ) → InReach (shown v) layer inode right → InReach (shown w) layer inode right
 
--- And the bytes of an inode that no client under the layer had open are withheld from all of them, and from whom they spawn
+-- And the bytes of an inode that no client under the layer had open are withheld from all of these, and from whom they
+-- spawn
 abbrev pub WithheldBetween : Type 0
 WithheldBetween =
     (rules : Rules) (room limit : ℕ) (early late : List Step) →
@@ -44,5 +45,6 @@ WithheldBetween =
     (added : List Entry) → Came w v added →
     (layer : Layer) → MovesUnder layer (shown w) added →
     (inode : ℕ) → HasName (shown w) inode →
-    ((client : ℕ) → IsConfined layer (shown w) client → (fd : ℕ) (d : Descriptor) → get (client_of (shown w) client).descriptors fd ≡ Some d → d.inode ≢ inode) →
+    ((client : ℕ) → IsConfined layer (shown w) client →
+    (fd : ℕ) (d : Descriptor) → get (client_of (shown w) client).descriptors fd ≡ Some d → d.inode ≢ inode) →
     Withheld layer inode (shown w) (IsConfined layer (shown w)) (shown w) added

@@ -1,4 +1,4 @@
--- A walk: a call on its way down the tree, and the directories that it holds marked meanwhile. own, after path_resolution(7)
+-- A walk: a call on its way down the tree, and the directories that it holds marked. own, after path_resolution(7)
 use Rattle.std.specs.Prelude.{ℕ, Bool, true, false, not, ◌&&◌, ◌||◌, ◌==◌, List, [], ◌∷◌, ◌++◌, map, filter, length, drop, Option, Some, None, is_none, option_map, option_and_then, if◌then◌else◌}
 use Rattle.std.specs.List.{list_any}
 use Rattle.ll_rights.specs.Right.{all_rights}
@@ -47,8 +47,8 @@ masks_below (layer ∷ layers) (mask ∷ masks) inode = mask_below layer mask in
 
 -- ---- Legs
 
--- A branch as far as it has come. walked: the names that it took. ahead: those that are left. chain: the inodes from the root
--- to the directory where it stands. masks: one for each layer
+-- A branch as far as it has come. walked: the names that it took. ahead: those that are left. chain: the inodes from
+-- the root to the directory where it stands, here. masks: one for each layer, the oldest first
 pub record Leg : Type 0 where
   pub walked : Path
   pub ahead : Path
@@ -58,17 +58,28 @@ pub record Leg : Type 0 where
 
 -- at the root, with this way to go
 abbrev pub first_leg : List Layer → Path → Leg
-first_leg domain way = record { walked = []; ahead = way; chain = root ∷ []; here = root; masks = masks_below domain (map first_mask domain) root }
+first_leg domain way = record {
+  walked = [];
+  ahead = way;
+  chain = root ∷ [];
+  here = root;
+  masks = masks_below domain (map first_mask domain) root;
+}
 
 -- in the directory that the next name names
 abbrev pub leg_below : List Layer → Leg → Name → Path → ℕ → Leg
-leg_below domain leg name rest inode =
-    record { walked = leg.walked ++ name ∷ []; ahead = rest; chain = leg.chain ++ inode ∷ []; here = inode; masks = masks_below domain leg.masks inode }
+leg_below domain leg name rest inode = record {
+  walked = leg.walked ++ name ∷ [];
+  ahead = rest;
+  chain = leg.chain ++ inode ∷ [];
+  here = inode;
+  masks = masks_below domain leg.masks inode;
+}
 
 abbrev pub if_directory : State → ℕ → Option ℕ
 if_directory s inode = if is_dir (kind_or_file s inode) then Some inode else None
 
--- What the directory has under the name, if that is a directory
+-- what the directory has under the name, if that is a directory
 abbrev pub directory_under : State → ℕ → Name → Option ℕ
 directory_under s directory name = option_and_then (if_directory s) (child s directory name)
 
@@ -91,8 +102,8 @@ is_blocked s leg = is_blocked_by s leg.here leg.ahead
 
 -- ---- Where a walk is
 
--- Above the root; or on its one branch, of two paths on what is common to both; or past the fork, where it stands in the
--- common directory still and has a leg for each path
+-- Above the root; or on its one branch, of two paths on what is common to both; or past the fork, where it still stands
+-- in the common directory, and has a leg for each path
 pub data Position : Type 0 where
   Above : Position
   Down : (trunk : Leg) → Position
@@ -125,7 +136,7 @@ at_ends call (Split trunk old new) = is_root old.ahead && is_root new.ahead
 abbrev pub toward : Leg → Path → Leg
 toward leg path = record leg { ahead = drop (length leg.walked) (parent path) }
 
--- Past the fork, if it stands there: two paths, and no name left that is common to both
+-- past the fork, if it stands there: two paths, and no name left that is common to both
 abbrev pub forked : Call → Position → Option Position
 forked call Above = None
 forked call (Down trunk) =

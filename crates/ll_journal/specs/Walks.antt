@@ -15,8 +15,8 @@ use Rattle.ll_seq.specs.History.{IsLegal}
 use Rattle.ll_journal.specs.Walk.{Walk, Leg, Position, Above, Down, Split, trunk_path, rights_where, marks, is_above}
 use Rattle.ll_journal.specs.World.{World, Step, new_world, world_after, shown, domain_of, is_walked, takes_gate}
 
--- The names that the leg took name the directory where it stands, the chain are the inodes that they lead by, and each mask
--- are the rights that the layer grants there
+-- The names that the leg took name the directory where it stands, its chain are the inodes that these lead by, and its
+-- masks are the rights that each layer grants there
 pub record IsRight (s : State) (domain : List Layer) (leg : Leg) : Type 0 where
   pub names : named s leg.walked ≡ Some leg.here
   pub directory : kind_of s leg.here ≡ Some Dir
@@ -33,7 +33,9 @@ abbrev pub AreOnPaths : Call → Position → Type 0
 AreOnPaths call Above = ⊤
 AreOnPaths call (Down trunk) = trunk.walked ++ trunk.ahead ≡ trunk_path call
 AreOnPaths call (Split trunk old new) =
-    (trunk.walked ≡ trunk_path call) × (old.walked ++ old.ahead ≡ parent (first_path call)) × (new.walked ++ new.ahead ≡ parent (second_path call))
+    (trunk.walked ≡ trunk_path call)
+    × (old.walked ++ old.ahead ≡ parent (first_path call))
+    × (new.walked ++ new.ahead ≡ parent (second_path call))
 
 -- the caller is there, its call still is one that walks, and the walk is on its way
 pub record IsUnderWay (w : World) (number : ℕ) (walk : Walk) : Type 0 where

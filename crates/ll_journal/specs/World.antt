@@ -1,5 +1,5 @@
--- A tree whose clients' walks are under way, and the steps in which they go on, each at once. Memory has no part in it: whoever
--- takes the steps says what is left where it runs out. own
+-- A tree whose clients' walks are under way, and the steps by which they go on, one after the other. Memory has no part
+-- in it: whoever takes the steps says what is left where it runs out. own
 use Rattle.std.specs.Prelude.{ℕ, ◌+◌, Bool, true, false, not, ◌&&◌, ◌||◌, ◌==◌, List, [], ◌∷◌, ◌++◌, map, filter, length, Option, Some, None, nat_le, is_none, unwrap_or, option_to_list, option_map, option_and_then, if◌then◌else◌}
 use Rattle.std.specs.declared.cmp.Ordering.{Ordering}
 use Rattle.std.specs.Ordering.{nat_cmp}
@@ -38,13 +38,16 @@ pub record World : Type 0 where
   pub gate : Option ℕ
 
 abbrev pub new_world : Rules → ℕ → ℕ → World
-new_world rules room limit = record { rules = rules; room = room; limit = limit; history = []; walks = empty; gate = None }
+new_world rules room limit =
+    record { rules = rules; room = room; limit = limit; history = []; walks = empty; gate = None }
 
 -- The tree that all see is the one that the history made: a walk changes nothing of it before its commit
 abbrev pub shown : World → State
 shown w = state_after (start w.rules w.room) w.history
 
--- each but the first by the client of a number
+-- Join: a new client connects. Each other step is that of the client of a number. Begin: its call sets out. Descend:
+-- one directory further. Fork: a call of two paths leaves what is common to both. Commit: the call is answered.
+-- Restart: the walk starts again. FdCommit, ClientStep: a call that doesn't walk, on a descriptor or not
 pub data Step : Type 0 where
   Join : Step
   Begin : ℕ → Call → Step
@@ -97,27 +100,30 @@ descriptor_of call.Connect = None
 
 -- The refusals of the first three stages, which look neither at the tree nor at layers
 abbrev pub early_refusals : ClientRecord → Call → List Errno
-early_refusals c call = text_refusals call ++ number_refusals c call ++ relation_refusals call (first_path call) (second_path call)
+early_refusals c call =
+    text_refusals call ++ number_refusals c call ++ relation_refusals call (first_path call) (second_path call)
 
 -- A call that names a path walks, unless an early stage refuses it
 abbrev pub is_walked : ClientRecord → Call → Bool
 is_walked c call = has_any (targets call) && not (has_any (early_refusals c call))
 
--- One on a descriptor that the client has is a step, refused or not
+-- One on a descriptor that the client has is a step of that file, refused or not
 abbrev pub is_on_descriptor : ClientRecord → Call → Bool
 is_on_descriptor c call = option_map_or (has c.descriptors) (descriptor_of call) false
 
--- So is any other, but for a connect: nothing of the tree is needed for its answer
+-- Any other but a connect is a step of the client's alone: its answer needs no node
 abbrev pub is_alone : ClientRecord → Call → Bool
 is_alone c call = not (is_connect call) && not (is_walked c call) && not (is_on_descriptor c call)
 
 -- ---- What is marked, and who holds the gate
 
+-- some walk stands in the directory
 abbrev pub is_marked : World → ℕ → Bool
 is_marked w inode = list_any (λ (e : ℕ × Walk). marks e.1 inode) (entries w.walks)
 
 abbrev pub is_marked_by_other : World → ℕ → ℕ → Bool
-is_marked_by_other w number inode = list_any (λ (e : ℕ × Walk). not (e.0 == number) && marks e.1 inode) (entries w.walks)
+is_marked_by_other w number inode =
+    list_any (λ (e : ℕ × Walk). not (e.0 == number) && marks e.1 inode) (entries w.walks)
 
 -- nobody else holds the gate
 abbrev pub may_hold : World → ℕ → Bool
@@ -147,7 +153,7 @@ moving (call.Confine number) = []
 moving call.Spawn = []
 moving call.Connect = []
 
--- one of the three calls of which only one is on its way at a time
+-- Of the calls that may move directories only one is under way at a time: it holds the gate from its beginning
 abbrev pub takes_gate : Call → Bool
 takes_gate call = has_any (moving call)
 
@@ -160,11 +166,12 @@ last_node s path = when (not (is_root path)) (option_to_list (named s path))
 abbrev pub last_nodes : State → Call → List ℕ
 last_nodes s call = flat_map (λ (target : Target). last_node s (path_of target)) (targets call)
 
+-- the client's layers, which stay while its walk is under way
 abbrev pub domain_of : World → ℕ → List Layer
 domain_of w number = (client_of (shown w) number).domain
 
--- The leg in turn can't go on, and that is the answer. Or each branch is at its end, and no other walk stands in a node of a
--- last name, which the call might remove
+-- It isn't stale. The leg in turn can't go on, which is the answer. Or each branch is at its end, and no other walk
+-- stands in the node of a last name, which the call might remove
 abbrev pub may_commit : World → ℕ → Walk → Bool
 may_commit w number walk =
     not walk.stale
@@ -185,7 +192,8 @@ abbrev pub reply_to : World → ℕ → Call → Reply
 reply_to w number call = (step (shown w) number call (next_number w)).0
 
 abbrev pub with_entry : World → ℕ → Call → Reply → World
-with_entry w number call reply = record w { history = w.history ++ record { client = number; call = call; reply = reply } ∷ [] }
+with_entry w number call reply =
+    record w { history = w.history ++ record { client = number; call = call; reply = reply } ∷ [] }
 
 -- A full history takes no entry, and then the call isn't made
 abbrev pub answered : World → ℕ → Call → Reply × World
@@ -224,14 +232,14 @@ moved_by s call reply =
     when (is_done reply && not (is_same_node s (first_path call) (second_path call)))
     (filter (λ inode. is_dir (kind_or_file s inode)) (map (inode_of s) (moving call)))
 
--- A walk that passes one of them has names behind it that name something else now
+-- A walk with one of them on its chain is stale: its names lead elsewhere now
 abbrev pub overtaken : List ℕ → Walk → Walk
 overtaken moved walk = record walk { stale = walk.stale || list_any (passes walk) moved }
 
 abbrev pub with_stale : List ℕ → World → World
 with_stale moved w = record w { walks = map_values (overtaken moved) w.walks }
 
--- ---- The steps, each None where it isn't enabled
+-- ---- The steps. Each is None where it isn't enabled, and the words above it say where it is
 
 -- the client is there, and no walk of it is under way
 abbrev pub is_idle : World → ℕ → Bool
@@ -245,26 +253,28 @@ joined w reply next = (Replied reply, w)
 abbrev pub join : World → Outcome × World
 join w = let r = answered w (next_number w) call.Connect in joined w r.0 r.1
 
--- above the root, with the gate if it needs that from the beginning
+-- above the root, with the gate if it is one of those calls
 abbrev pub begun : World → ℕ → Call → World
 begun w number call = record w {
   walks = insert w.walks number (record { call = call; starts = 1; stale = false; at = Above });
   gate = if takes_gate call then Some number else w.gate;
 }
 
+-- Its client is idle, the call is one that walks, and nobody holds the gate if the call takes it
 abbrev pub begin : World → ℕ → Call → Option (Outcome × World)
 begin w number call =
     if is_idle w number && is_walked (client_of (shown w) number) call && (not (takes_gate call) || is_none w.gate)
     then Some (Begun, begun w number call)
     else None
 
--- The first descent is to the root. On the fourth start it takes the gate, so that no call moves a directory any more
+-- The first descent is to the root. On its fourth start the walk takes the gate, so that nothing on its way is moved
 abbrev pub entered : World → ℕ → Walk → World
 entered w number walk = record w {
   walks = insert w.walks number (record walk { at = Down (first_leg (domain_of w number) (trunk_path walk.call)) });
   gate = if walk.starts == 4 then Some number else w.gate;
 }
 
+-- The root is unmarked, and on the fourth start nobody else holds the gate
 abbrev pub enter : World → ℕ → Walk → Option (Outcome × World)
 enter w number walk =
     if not (is_marked w root) && (not (walk.starts == 4) || may_hold w number)
@@ -275,21 +285,24 @@ enter w number walk =
 abbrev pub stood : World → ℕ → Walk → Leg → World
 stood w number walk leg = with_walk w number (record walk { at = with_turn walk.at leg })
 
+-- No walk stands there
 abbrev pub stand : World → ℕ → Walk → Leg → Option (Outcome × World)
 stand w number walk leg = if not (is_marked w leg.here) then Some (Stands leg.here, stood w number walk leg) else None
 
+-- The walk isn't stale, and is above the root, or its leg in turn has a next name that names a directory
 abbrev pub descend : World → ℕ → Walk → Option (Outcome × World)
 descend w number walk =
     if walk.stale then None
     else if is_above walk.at then enter w number walk
     else option_and_then (stand w number walk) (option_and_then (further (shown w) (domain_of w number)) (turn walk.at))
 
+-- The walk isn't stale, and stands at the fork
 abbrev pub fork : World → ℕ → Walk → Option (Outcome × World)
 fork w number walk =
     if walk.stale then None
     else option_map (λ at. (Forked, with_walk w number (record walk { at = at }))) (forked walk.call walk.at)
 
--- the walk has ended, with its call's answer
+-- The walk has ended with its call's answer, and whoever it overtook is stale
 abbrev pub committed : World → ℕ → Walk → Outcome × World
 committed w number walk =
     let r = answered (without_walk w number) number walk.call in
@@ -298,23 +311,26 @@ committed w number walk =
 abbrev pub commit : World → ℕ → Walk → Option (Outcome × World)
 commit w number walk = if may_commit w number walk then Some (committed w number walk) else None
 
--- without marks, above the root
+-- above the root, so without marks, and not stale
 abbrev pub restarted : World → ℕ → Walk → World
 restarted w number walk = with_walk w number (record walk { starts = walk.starts + 1; stale = false; at = Above })
 
+-- Only a stale walk starts again
 abbrev pub restart : World → ℕ → Walk → Option (Outcome × World)
 restart w number walk = if walk.stale then Some (Restarted, restarted w number walk) else None
 
 abbrev pub replied : World → ℕ → Call → Outcome × World
 replied w number call = let r = answered w number call in (Replied r.0, r.1)
 
--- a call that doesn't walk
+-- A call that doesn't walk: its client is idle, and it is one for this step
 abbrev pub direct : World → ℕ → Bool → Call → Option (Outcome × World)
 direct w number allowed call = if is_idle w number && allowed then Some (replied w number call) else None
 
+-- a step of the client's walk
 abbrev pub walking : World → ℕ → (World → ℕ → Walk → Option (Outcome × World)) → Option (Outcome × World)
 walking w number f = option_and_then (f w number) (get w.walks number)
 
+-- what comes of the step, if it may be made
 abbrev pub enabled : World → Step → Option (Outcome × World)
 enabled w Join = Some (join w)
 enabled w (Begin number call) = begin w number call
@@ -325,7 +341,7 @@ enabled w (Restart number) = walking w number restart
 enabled w (FdCommit number call) = direct w number (is_on_descriptor (client_of (shown w) number) call) call
 enabled w (ClientStep number call) = direct w number (is_alone (client_of (shown w) number) call) call
 
--- what comes of a step, and the world after it
+-- A step that isn't enabled changes nothing
 abbrev pub advance : World → Step → Outcome × World
 advance w step' = unwrap_or (enabled w step') (NotNow, w)
 
