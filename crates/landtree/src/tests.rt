@@ -1,16 +1,16 @@
-//! Devices that fail, the words that are read, and the texts of the fault lines.
+//! Devices that fail, and the texts of the fault lines.
 //!
-//! The scenes are scripts, in worked/ at the top of the repository: the built program runs them.
+//! The words and the scenes are in worked/ at the top of the repository: the built program runs them. What is run and
+//! compared is in small functions, each slow thing once, since that is quick to prove.
 
 use crate::failure::Failure;
 use crate::fault::{RunFault, SessionFault};
 use crate::fuse::{Sink, Source};
-use crate::options::Options;
 use crate::run::run_script;
 use crate::setup::Setup;
 use ll_rights::Abi;
 use ll_seq::Rules;
-use std::test::Fail;
+use std::alloc::Global;
 
 const SETUP: Setup = Setup {
     rules: Rules {
@@ -45,88 +45,99 @@ fd 0
 refused 23 BadLine
 ";
 
+/// So many calls are never made.
+const ENOUGH: usize = 1_000_000;
+
+#[derive(Clone, Copy, PartialEq, Eq)]
+enum Ended {
+    Well,
+    ReadFailed,
+    WriteFailed,
+    Otherwise,
+}
+
+fn how(ended: &Result<(), RunFault>) -> Ended {
+    match ended {
+        Ok(()) => Ended::Well,
+        Err(RunFault::Session(SessionFault::Read)) => Ended::ReadFailed,
+        Err(RunFault::Session(SessionFault::Write)) => Ended::WriteFailed,
+        Err(_) => Ended::Otherwise,
+    }
+}
+
+/// Runs the ten lines with a reader and a writer that take so many calls before they fail.
+fn run(alloc: Global, reads: usize, writes: usize) -> (Ended, Sink) {
+    let mut reader = Source {
+        rest: TEN_LINES,
+        calls: reads,
+    };
+    let mut writer = Sink {
+        held: Vec::new(alloc),
+        calls: writes,
+        failures: 0,
+    };
+    let ended = run_script(alloc, &SETUP, &mut reader, &mut writer);
+    (how(&ended), writer)
+}
+
+/// How many bytes are written before the read after so many fails, where it does and they are right.
+fn written(alloc: Global, reads: usize) -> Option<usize> {
+    let (ended, writer) = run(alloc, reads, ENOUGH);
+    let want = if reads > TEN_LINES.len() {
+        Ended::Well
+    } else {
+        Ended::ReadFailed
+    };
+    if ended == want && TEN_REPLIES.starts_with(writer.held.as_slice()) {
+        Some(writer.held.len())
+    } else {
+        None
+    }
+}
+
 #[test]
-fn reads_fail(rt: HostRuntime) -> Result<(), Fail> {
+fn reads_fail(rt: HostRuntime) {
     let mut most = 0;
-    for calls in 0..TEN_LINES.len() + 2 {
-        let mut reader = Source {
-            rest: TEN_LINES,
-            calls,
-        };
-        let mut out = Vec::new(rt.alloc());
-        let ended = run_script(rt.alloc(), &SETUP, &mut reader, &mut out);
-        if calls > TEN_LINES.len() {
-            assert!(rt; ended.is_ok());
-        } else {
-            assert!(rt; matches!(ended, Err(RunFault::Session(SessionFault::Read))));
-        }
-        assert!(rt; TEN_REPLIES.starts_with(out.as_slice()));
-        assert!(rt; most <= out.len());
-        most = out.len();
+    for reads in 0..TEN_LINES.len() + 2 {
+        let len = written(rt.alloc(), reads);
+        assert!(rt;
+            matches!(len, Some(len) if most <= len),
+            "after {reads} reads"
+        );
+        most = len.unwrap_or(0);
     }
-    assert_eq!(rt; most, TEN_REPLIES.len());
-    Ok(())
+    assert!(rt; most == TEN_REPLIES.len());
+}
+
+/// Whether the write after so many fails once and ends the run, and what came before it is right.
+fn fails_once(alloc: Global, writes: usize) -> bool {
+    let (ended, writer) = run(alloc, ENOUGH, writes);
+    if writes >= TEN_REPLIES.len() {
+        return ended == Ended::Well
+            && writer.failures == 0
+            && writer.held.as_slice() == TEN_REPLIES;
+    }
+    ended == Ended::WriteFailed
+        && writer.failures == 1
+        && writer.held.as_slice() == &TEN_REPLIES[..writes]
 }
 
 #[test]
-fn writes_fail(rt: HostRuntime) -> Result<(), Fail> {
-    for calls in 0..TEN_REPLIES.len() + 2 {
-        let mut reader = TEN_LINES;
-        let mut writer = Sink {
-            held: Vec::new(rt.alloc()),
-            calls,
-            failures: 0,
-        };
-        let ended = run_script(rt.alloc(), &SETUP, &mut reader, &mut writer);
-        let taken = calls.min(TEN_REPLIES.len());
-        if taken == TEN_REPLIES.len() {
-            assert!(rt; ended.is_ok());
-            assert_eq!(rt; writer.failures, 0);
-        } else {
-            assert!(rt; matches!(ended, Err(RunFault::Session(SessionFault::Write))));
-            // No failed write is tried again.
-            assert_eq!(rt; writer.failures, 1);
-        }
-        assert_eq!(rt; writer.held.as_slice(), &TEN_REPLIES[..taken]);
+fn writes_fail(rt: HostRuntime) {
+    for writes in 0..TEN_REPLIES.len() + 2 {
+        assert!(rt; fails_once(rt.alloc(), writes), "after {writes} writes");
     }
-    Ok(())
 }
 
-fn are(options: &Options, script: &str, nodes: usize, level: u64) -> bool {
-    let setup = &options.setup;
-    options.script == script && setup.nodes == nodes && setup.rules.abi.number() == level
-}
-
-#[test]
-fn words(rt: HostRuntime) -> Result<(), Fail> {
-    let table: [(&[&str], &str, usize, u64); 4] = [
-        (&["landtree", "run", "-"], "-", 1024, 3),
-        (&["landtree", "run", "s", "--nodes", "2"], "s", 2, 3),
-        (&["landtree", "run", "--nodes=4096", "s"], "s", 4096, 3),
-        (&["landtree", "run", "--abi", "1", "s"], "s", 1024, 1),
-    ];
-    for (words, script, nodes, level) in table {
-        let options = Options::read(rt.alloc(), words)?;
-        assert!(rt; are(&options, script, nodes, level), "{words:?}");
-    }
-    Ok(())
-}
-
-#[test]
-fn refused_words(rt: HostRuntime) {
-    let table: [&[&str]; 4] = [
-        &["landtree", "run", "s", "--nodes", "4097"],
-        &["landtree", "run", "s", "--abi", "0"],
-        &["landtree", "run", "s", "--abi", "4"],
-        &["landtree", "run"],
-    ];
-    for words in table {
-        assert!(rt; Options::read(rt.alloc(), words).is_err(), "{words:?}");
+fn is_told(alloc: Global, failure: &Failure, want: &str) -> bool {
+    match format!(in alloc; "{failure}") {
+        Ok(text) => text.as_str() == want,
+        Err(_) => false,
     }
 }
 
 #[test]
-fn failures(rt: HostRuntime) -> Result<(), Fail> {
+fn failures(rt: HostRuntime) {
     let texts = [
         (Failure::CommandLine, "landtree: command line"),
         (Failure::Opening, "landtree: opening call refused"),
@@ -134,9 +145,7 @@ fn failures(rt: HostRuntime) -> Result<(), Fail> {
         (Failure::Output, "landtree: output"),
         (Failure::NoMemory, "landtree: no memory"),
     ];
-    for (failure, want) in texts {
-        let text = format!(in rt.alloc(); "{failure}")?;
-        assert_eq!(rt; text.as_str(), want);
+    for (failure, want) in &texts {
+        assert!(rt; is_told(rt.alloc(), failure, want));
     }
-    Ok(())
 }

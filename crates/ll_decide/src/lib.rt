@@ -6,8 +6,6 @@ mod demands;
 mod denial;
 mod judge;
 mod masks;
-#[cfg(test)]
-mod tests;
 
 pub use demands::{Demands, On, Way};
 pub use denial::{Cause, Denial, Place};

@@ -9,7 +9,5 @@
 
 mod directory;
 mod slot;
-#[cfg(test)]
-mod tests;
 
 pub use slot::Slot;

@@ -7,8 +7,6 @@ mod name;
 mod names;
 mod path;
 mod target;
-#[cfg(test)]
-mod tests;
 mod word;
 
 pub use bytes::Data;

@@ -9,8 +9,6 @@ mod reach;
 mod resolve;
 mod rulesets;
 mod tables;
-#[cfg(test)]
-mod tests;
 mod walk;
 mod writes;
 

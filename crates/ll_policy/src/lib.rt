@@ -7,8 +7,6 @@ mod path_text;
 mod policy;
 mod profile;
 mod table;
-#[cfg(test)]
-mod tests;
 mod values;
 
 pub use fault::PolicyFault;

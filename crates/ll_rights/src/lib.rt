@@ -8,8 +8,6 @@ mod errno;
 mod kind;
 pub mod limits;
 mod right;
-#[cfg(test)]
-mod tests;
 
 pub use abi::Abi;
 pub use access::Access;

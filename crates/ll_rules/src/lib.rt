@@ -4,8 +4,6 @@
 mod domain;
 mod layer;
 mod ruleset;
-#[cfg(test)]
-mod tests;
 
 pub use domain::Domain;
 pub use layer::Layer;

@@ -14,8 +14,6 @@ mod nodes;
 mod number_map;
 mod reply;
 mod rules;
-#[cfg(test)]
-mod tests;
 
 pub use call::{AccessMode, Call, Creation, Mode};
 pub use client::{ClientRecord, Descriptor, Rulesets};

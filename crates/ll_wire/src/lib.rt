@@ -5,8 +5,6 @@ mod bytes;
 mod grammar;
 mod read;
 mod replies;
-#[cfg(test)]
-mod tests;
 mod token;
 mod write;
 

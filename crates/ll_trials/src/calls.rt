@@ -1,0 +1,23 @@
+//! The words of calls, read by small functions, since one that does all of it is slow to prove.
+
+use ll_path::{Target, Word};
+use std::alloc::Global;
+
+fn word(alloc: Global, text: &str) -> Option<Word> {
+    let Ok(text) = String::from_str(alloc, text) else {
+        return None;
+    };
+    Word::new(text).ok()
+}
+
+fn read(word: Word) -> Target {
+    Target::read(word)
+}
+
+/// What the text spells.
+pub fn target(alloc: Global, text: &str) -> Option<Target> {
+    match word(alloc, text) {
+        Some(word) => Some(read(word)),
+        None => None,
+    }
+}

@@ -1,0 +1,36 @@
+//! Tests of what no clause of the libraries says: that calls find memory, and values from outside of the repository.
+//!
+//! A crate with tests is proved twice, so the libraries have none of their own. They are tables of plain data, gone
+//! through by small functions, since that is quick to prove: a call that is let go costs the prover 16 s at each place
+//! where its scope ends, and 1.5 s in all by `drop`.
+//!
+//! Each public call that takes memory is run once with enough of it, by the built program (worked/) or here:
+//!
+//! | library | by worked/ | here |
+//! |---|---|---|
+//! | ll_rights | | `Access::text`: `wire` |
+//! | ll_path | `Name::from_text`, `Word` and `Data` of lines | |
+//! | ll_rules | `Ruleset::create`, `allow`, `Domain::stack`, `copy` | `Ruleset::copy`: `seq` |
+//! | ll_seq | all but the counts of nodes | these: `seq` |
+//! | ll_node | | all of `Slot`: `node` |
+//! | ll_plain | `Plain::new`, each call of `Plain::apply` | `Plain::reach`, which takes none: `plain` |
+//! | ll_wire | `read_command`, `reply_text` | `command_text`, `read_reply`: `wire` |
+//! | ll_policy | | all of `Policy`: `policy` |
+//!
+//! ll_decide and ll_answer take no memory that may be missing.
+#![tactic(auto)]
+
+#[cfg(test)]
+mod calls;
+#[cfg(test)]
+mod node;
+#[cfg(test)]
+mod plain;
+#[cfg(test)]
+mod policy;
+#[cfg(test)]
+mod rights;
+#[cfg(test)]
+mod seq;
+#[cfg(test)]
+mod wire;
