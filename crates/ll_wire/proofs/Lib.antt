@@ -1,12 +1,15 @@
 pub mod Calls
 pub mod Clients
 pub mod Digits
+pub mod Entries
+pub mod Fronts
+pub mod Headers
 pub mod Joined
 pub mod Lines
 pub mod Names
 pub mod Numbers
-pub mod ReadReplies
 pub mod OneReply
+pub mod ReadReplies
 pub mod Rights
 pub mod Targets
 pub mod Tokens
