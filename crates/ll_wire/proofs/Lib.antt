@@ -11,6 +11,7 @@ pub mod Numbers
 pub mod OneReply
 pub mod ReadReplies
 pub mod Rights
+pub mod Sizes
 pub mod Targets
 pub mod Tokens
 pub mod Unique

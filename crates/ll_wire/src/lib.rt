@@ -14,7 +14,7 @@ mod token;
 mod write;
 
 pub use entry::{ENTRY_LIMIT, entry_text, read_entry};
-pub use grammar::{spells_one, spells_one_entry, spells_one_header, spells_one_reply};
+pub use grammar::{entries_fit, spells_one, spells_one_entry, spells_one_header, spells_one_reply};
 pub use header::{Header, Version, header_text, read_header};
 pub use read::{LINE_LIMIT, read_command};
 pub use replies::read_reply;
