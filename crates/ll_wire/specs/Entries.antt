@@ -71,7 +71,8 @@ level_tokens (Three abi) = codes "abi" ∷ decimal abi ∷ []
 
 -- The version, how many nodes may live in the tree, and the tree's ABI level, which version 1 doesn't tell
 abbrev pub header_tokens : Header → List (List ℕ)
-header_tokens h = codes "landtree-history" ∷ version_text h.version ∷ codes "nodes" ∷ decimal h.nodes ∷ level_tokens h.version
+header_tokens h =
+    codes "landtree-history" ∷ version_text h.version ∷ codes "nodes" ∷ decimal h.nodes ∷ level_tokens h.version
 
 -- The line spells the header
 abbrev pub SpellsHeader : List ℕ → Header → Type 0

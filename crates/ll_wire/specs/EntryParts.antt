@@ -21,11 +21,13 @@ SpellsEntryReply text reply = IsEntryReply reply × (text ≡ join_with_byte 32 
 -- the text spells what stands behind the client: the call, the sign, and the reply
 abbrev pub SpellsAnswered : List ℕ → Call → Reply → Type 0
 SpellsAnswered text call reply =
-    IsEntryCall call × IsEntryReply reply × (text ≡ join_with_byte 32 (call_tokens call ++ codes "=" ∷ reply_tokens reply))
+    IsEntryCall call × IsEntryReply reply
+    × (text ≡ join_with_byte 32 (call_tokens call ++ codes "=" ∷ reply_tokens reply))
 
 -- the text spells the calls that the tokens do, with the replies that the rest does
 abbrev pub CutsAt : List ℕ → List (List ℕ) → List ℕ → Type 0
-CutsAt text tokens rest = (call : Call) (reply : Reply) → SpellsAnswered text call reply ↔ (SpellsEntryCall tokens call × SpellsEntryReply rest reply)
+CutsAt text tokens rest = (call : Call) (reply : Reply)
+    → SpellsAnswered text call reply ↔ (SpellsEntryCall tokens call × SpellsEntryReply rest reply)
 
 -- what stands before the line feed spells the entry
 abbrev pub SpellsEntryBody : List ℕ → Entry → Type 0
@@ -39,7 +41,8 @@ SpellsLevel token abi = (1 ≤ abi) × (abi ≤ 3) × (token ≡ decimal abi)
 
 -- the first token is the version's, and the others tell its level
 abbrev pub SpellsVersion : List ℕ → List (List ℕ) → Version → Type 0
-SpellsVersion number level version = IsVersion version × (number ≡ version_text version) × (level ≡ level_tokens version)
+SpellsVersion number level version =
+    IsVersion version × (number ≡ version_text version) × (level ≡ level_tokens version)
 
 abbrev pub SpellsHeaderTokens : List (List ℕ) → Header → Type 0
 SpellsHeaderTokens tokens header = IsHeader header × (tokens ≡ header_tokens header)

@@ -21,7 +21,8 @@ pub const ENTRY_LIMIT: usize = 300_000;
 
 // How many tokens a call of this name has, the name among them.
 fn call_len(name: &str) -> usize
-    ensures call { (call : Call) (args : List (List ℕ)) → call_tokens call ≡ name.now ∷ args → result ≡ length (call_tokens call) }
+    ensures call { (call : Call) (args : List (List ℕ)) → call_tokens call ≡ name.now ∷ args
+        → result ≡ length (call_tokens call) }
     ensures most { result ≤ 4 }
 {
     match name {
@@ -36,7 +37,8 @@ fn call_len(name: &str) -> usize
 // The call's tokens, so many, and what stands behind the sign `=` after them. A path may be that sign too.
 fn cut_of<'a>(text: &'a str, tokens: &mut [&'a str]) -> Option<(usize, &'a str)>
     requires { 4 ≤ length tokens.old }
-    ensures found { IfSome result (λ x. (x.0 ≤ length tokens.new) × CutsAt text.entry.now (map (λ t. t.now) (take x.0 tokens.new)) x.1.now) }
+    ensures found { IfSome result (λ x. (x.0 ≤ length tokens.new)
+        × CutsAt text.entry.now (map (λ t. t.now) (take x.0 tokens.new)) x.1.now) }
     ensures none { IfNone result ((call : Call) (reply : Reply) → SpellsAnswered text.entry.now call reply → ⊥) }
 {
     let (name, _) = first_of(text)?;
@@ -58,7 +60,7 @@ fn entry_call_of(alloc: Global, tokens: &[&str]) -> Result<Call, Errno>
     call_of(alloc, tokens)
 }
 
-// A reply that the tree itself gave.
+// A reply that the tree itself gave: HistoryFull (21), NoMemory and BadLine are no entry's.
 fn entry_reply_of(alloc: Global, body: &str) -> Result<Reply, Errno>
     ensures { ReadsBy (SpellsEntryReply body.now) (λ reply. tells_text reply ≡ true) result }
 {
@@ -70,9 +72,11 @@ fn entry_reply_of(alloc: Global, body: &str) -> Result<Reply, Errno>
 
 // Both, where both are read. Want of memory is told only where both are spelled.
 fn both(call: Result<Call, Errno>, reply: Result<Reply, Errno>) -> Result<(Call, Reply), Errno>
-    ensures { (tokens : List (List ℕ)) (body : List ℕ) → ReadsBy (SpellsEntryCall tokens) (λ call. holds_text call ≡ true) call
+    ensures { (tokens : List (List ℕ)) (body : List ℕ)
+        → ReadsBy (SpellsEntryCall tokens) (λ call. holds_text call ≡ true) call
         → ReadsBy (SpellsEntryReply body) (λ reply. tells_text reply ≡ true) reply
-        → ReadsBy (λ v. SpellsEntryCall tokens v.0 × SpellsEntryReply body v.1) (λ v. (holds_text v.0 || tells_text v.1) ≡ true) result }
+        → ReadsBy (λ v. SpellsEntryCall tokens v.0 × SpellsEntryReply body v.1)
+        (λ v. (holds_text v.0 || tells_text v.1) ≡ true) result }
 {
     match call {
         Ok(call) => reply.map(|reply| (call, reply)),
@@ -115,8 +119,8 @@ fn entry_of(alloc: Global, body: &str) -> Result<Entry, Errno>
     })
 }
 
-/// The entry that a line of a history spells. `BadLine` where it spells none, and `NoMemory` where it spells one whose call
-/// or reply finds no room.
+/// The entry that a line of a history spells. `BadLine` where it spells none, and `NoMemory` where it spells one whose
+/// call or reply finds no room.
 pub fn read_entry(alloc: Global, line: &[u8]) -> Result<Entry, Errno>
     ensures { ReadsBy (SpellsEntry line.now) (λ e. entry_holds_text e ≡ true) result }
 {

@@ -28,11 +28,13 @@ pub fn spells_one_entry()
 
 /// The line of an entry is never too long to be read, unless it lists more names than a directory has.
 pub fn entries_fit()
-    ensures { (entry : Entry) → IsEntry entry → ((names : List (List ℕ)) → entry.reply ≡ Listed names → length names ≤ DIRECTORY_ENTRIES)
+    ensures { (entry : Entry) → IsEntry entry
+        → ((names : List (List ℕ)) → entry.reply ≡ Listed names → length names ≤ DIRECTORY_ENTRIES)
         → SpellsEntry (entry_line entry) entry }
 {}
 
 /// A line spells at most one header of a history.
 pub fn spells_one_header()
-    ensures { (line : List ℕ) (header other : Header) → SpellsHeader line header → SpellsHeader line other → header ≡ other }
+    ensures { (line : List ℕ) (header other : Header) → SpellsHeader line header → SpellsHeader line other
+        → header ≡ other }
 {}

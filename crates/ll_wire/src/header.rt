@@ -50,7 +50,8 @@ impl Version {
 
     // The level's number, where the version tells it.
     fn level(self) -> Option<u64>
-        ensures { MatchOption result (level_tokens self ≡ []) (λ abi. level_tokens self ≡ codes "abi" ∷ decimal abi ∷ []) }
+        ensures { MatchOption result (level_tokens self ≡ [])
+            (λ abi. level_tokens self ≡ codes "abi" ∷ decimal abi ∷ []) }
     {
         match self {
             Version::One => None,

@@ -40,7 +40,8 @@ pub(crate) fn tokens_of<'a>(body: &'a str, tokens: &mut [&'a str]) -> Option<usi
 
 // The first token, and what stands behind the space after it.
 pub(crate) fn first_of(text: &str) -> Option<(&str, &str)>
-    ensures found { IfSome result (λ x. slice_split (λ b. b == 32) text.now ≡ x.0.now ∷ slice_split (λ b. b == 32) x.1.now) }
+    ensures found { IfSome result (λ x. slice_split (λ b. b == 32) text.now
+        ≡ x.0.now ∷ slice_split (λ b. b == 32) x.1.now) }
     ensures none { IfNone result (slice_split (λ b. b == 32) text.now ≡ text.now ∷ []) }
 {
     text.split_once(' ')
