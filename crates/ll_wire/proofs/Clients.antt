@@ -8,7 +8,7 @@ use Rattle.std.proofs.lemmas.Fmt.{decimal_injective}
 use Rattle.ll_rights.specs.declared.errno.Errno.{Errno}
 use Rattle.ll_seq.specs.declared.call.Call.{Call}
 use Rattle.ll_seq.specs.declared.call.Call.TheVariants as calls
-use Rattle.ll_wire.specs.Grammar.{call_tokens, IsCall, client_tokens}
+use Rattle.ll_wire.specs.Grammar.{call_tokens, client_tokens}
 use Rattle.ll_wire.specs.Reads.{ReadsBy, ReadsCall, holds_text, SpellsNumber, NamesClient, SpellsCall, SpellsTokens}
 use Rattle.ll_wire.proofs.Calls.{whole_reads}
 
@@ -125,28 +125,28 @@ within P Q T (Err e) (inr h) also = inr (h.0, h.1, (h.2, also h.1 h.2), h.3)
 -- ---- counting
 
 -- a call has one to four tokens
-few_tokens : (call : Call) → IsCall call → (1 ≤ length (call_tokens call)) × (length (call_tokens call) ≤ 4)
-few_tokens (calls.Make kind target) h = (omega arith, omega arith)
-few_tokens (calls.Open mode target) h = (omega arith, omega arith)
-few_tokens (calls.Read fd offset count) h = (omega arith, omega arith)
-few_tokens (calls.Write fd offset bytes) h = (omega arith, omega arith)
-few_tokens (calls.Ftruncate fd size) h = (omega arith, omega arith)
-few_tokens (calls.Close fd) h = (omega arith, omega arith)
-few_tokens (calls.Truncate target size) h = (omega arith, omega arith)
-few_tokens (calls.ReadDir target) h = (omega arith, omega arith)
-few_tokens (calls.Stat target) h = (omega arith, omega arith)
-few_tokens (calls.Exec target) h = (omega arith, omega arith)
-few_tokens (calls.Unlink target) h = (omega arith, omega arith)
-few_tokens (calls.Rmdir target) h = (omega arith, omega arith)
-few_tokens (calls.Rename old new) h = (omega arith, omega arith)
-few_tokens (calls.RenameNoreplace old new) h = (omega arith, omega arith)
-few_tokens (calls.Exchange old new) h = (omega arith, omega arith)
-few_tokens (calls.Link old new) h = (omega arith, omega arith)
-few_tokens (calls.Ruleset rights) h = (omega arith, omega arith)
-few_tokens (calls.Allow number target rights) h = (omega arith, omega arith)
-few_tokens (calls.Confine number) h = (omega arith, omega arith)
-few_tokens calls.Spawn h = (omega arith, omega arith)
-few_tokens calls.Connect h = absurd h
+pub few_tokens : (call : Call) → (1 ≤ length (call_tokens call)) × (length (call_tokens call) ≤ 4)
+few_tokens (calls.Make kind target) = (omega arith, omega arith)
+few_tokens (calls.Open mode target) = (omega arith, omega arith)
+few_tokens (calls.Read fd offset count) = (omega arith, omega arith)
+few_tokens (calls.Write fd offset bytes) = (omega arith, omega arith)
+few_tokens (calls.Ftruncate fd size) = (omega arith, omega arith)
+few_tokens (calls.Close fd) = (omega arith, omega arith)
+few_tokens (calls.Truncate target size) = (omega arith, omega arith)
+few_tokens (calls.ReadDir target) = (omega arith, omega arith)
+few_tokens (calls.Stat target) = (omega arith, omega arith)
+few_tokens (calls.Exec target) = (omega arith, omega arith)
+few_tokens (calls.Unlink target) = (omega arith, omega arith)
+few_tokens (calls.Rmdir target) = (omega arith, omega arith)
+few_tokens (calls.Rename old new) = (omega arith, omega arith)
+few_tokens (calls.RenameNoreplace old new) = (omega arith, omega arith)
+few_tokens (calls.Exchange old new) = (omega arith, omega arith)
+few_tokens (calls.Link old new) = (omega arith, omega arith)
+few_tokens (calls.Ruleset rights) = (omega arith, omega arith)
+few_tokens (calls.Allow number target rights) = (omega arith, omega arith)
+few_tokens (calls.Confine number) = (omega arith, omega arith)
+few_tokens calls.Spawn = (omega arith, omega arith)
+few_tokens calls.Connect = (omega arith, omega arith)
 
 at_most_one : (client : ℕ) → length (client_tokens client) ≤ 1
 at_most_one client = of (client == 1)
@@ -156,10 +156,10 @@ at_most_one client = of (client == 1)
     of false = omega arith
 
 -- with the client's name there are at most five
-pub at_most_five : (client : ℕ) (call : Call) → IsCall call
+pub at_most_five : (client : ℕ) (call : Call)
     → (1 ≤ length (client_tokens client ++ call_tokens call)) × (length (client_tokens client ++ call_tokens call) ≤ 5)
-at_most_five client call h =
-    let few = few_tokens call h in
+at_most_five client call =
+    let few = few_tokens call in
     let one = at_most_one client in
     let both = length-append (client_tokens client) (call_tokens call) in
     (omega arith, omega arith)

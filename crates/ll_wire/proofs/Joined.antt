@@ -3,12 +3,11 @@ use Rattle.std.proofs.Common.{◌≡◌, ◌≤◌, ℕ, List, [], ◌∷◌, �
 use Rattle.std.specs.List.{flat_map, join_with_byte}
 use Rattle.std.proofs.lemmas.List.{append-nil, take_all}
 use Rattle.std.proofs.lemmas.List.Concat.{flat_map-cons}
-use Rattle.ll_wire.specs.Grammar.{line_of}
 
 pub joined : {A : Type 0} (f : A → List ℕ) (first : List ℕ) (others : List A) → join_with_byte 32 (first ∷ map f others) ≡ first ++ flat_map (λ t. 32 ∷ f t) others
 joined f first [] = sym (append-nil first)
 joined f first (t ∷ ts) = ap (λ (x : List ℕ). first ++ 32 ∷ x) (joined f (f t) ts) ∙ ap (λ (x : List ℕ). first ++ x) (sym (flat_map-cons (λ t. 32 ∷ f t) t ts))
 
-pub line_is : {A : Type 0} (f : A → List ℕ) (first : List ℕ) (others : List A) (k : ℕ) (text : List ℕ) → length others ≤ k → text ≡ (first ++ flat_map (λ t. 32 ∷ f t) (take k others)) ++ 10 ∷ []
-    → text ≡ line_of (first ∷ map f others)
-line_is f first others k text le e = e ∙ ap (λ (x : List ℕ). x ++ 10 ∷ []) (rw (take_all k others le) (sym (joined f first others)))
+pub spaced_is : {A : Type 0} (f : A → List ℕ) (first : List ℕ) (others : List A) (k : ℕ) (text : List ℕ) → length others ≤ k → text ≡ first ++ flat_map (λ t. 32 ∷ f t) (take k others)
+    → text ≡ join_with_byte 32 (first ∷ map f others)
+spaced_is f first others k text le e = e ∙ rw (take_all k others le) (sym (joined f first others))

@@ -37,11 +37,11 @@ pub tokens_are : (line body : List ℕ) (client : ℕ) (call : Call) → line �
 tokens_are line body client call e is =
     let tokens = client_tokens client ++ call_tokens call in
     let same = same_front body (join_with_byte 32 tokens) 10 10 (sym e ∙ is.text) in
-    let few = at_most_five client call is.is_call in
+    let few = at_most_five client call in
     (is.is_client, is.is_call, ap (slice_split (λ b. b == 32)) same ∙ cut tokens few.0 (command_is_tokens client call is.is_client is.is_call))
 
 pub too_many : (line body : List ℕ) → line ≡ body ++ 10 ∷ [] → 5 < length (slice_split (λ b. b == 32) body) → (client : ℕ) (call : Call) → SpellsCommand line client call → ⊥
-too_many line body e more client call is = omega (arith, ap length (tokens_are line body client call e is).2, (at_most_five client call is.is_call).1)
+too_many line body e more client call is = omega (arith, ap length (tokens_are line body client call e is).2, (at_most_five client call).1)
 
 spells : (line body : List ℕ) (tokens : List (List ℕ)) (client : ℕ) (call : Call) → length line ≤ 16384 → line ≡ body ++ 10 ∷ [] → tokens ≡ slice_split (λ b. b == 32) body
     → SpellsTokens tokens client call → SpellsCommand line client call

@@ -212,7 +212,7 @@ same_number_by name make is number other h k e =
     let o = is (decimal number ∷ []) other (k, e) in
     ap make (decimal_injective number o.0 h o.1 cc) ∙ sym o.3
 
-same_reply : (some other : Reply) → IsReply some → IsReply other → reply_tokens some ≡ reply_tokens other → some ≡ other
+pub same_reply : (some other : Reply) → IsReply some → IsReply other → reply_tokens some ≡ reply_tokens other → some ≡ other
 same_reply Done other h k e = sym (done_is [] other (k, e)).1
 same_reply (Opened number) other h k e = same_number_by (codes "fd") Opened opened_is number other h k e
 same_reply (Bytes bytes) other h k e =
@@ -240,7 +240,7 @@ same_reply (Denied d) other h k e =
     let stands = same_place d.place o.0.place cc in
     (λ i. Denied (record { cause = reasons i; layer = layers i; right = rights i; place = stands i })) ∙ sym o.3
 
-some_tokens : (reply : Reply) → 1 ≤ length (reply_tokens reply)
+pub some_tokens : (reply : Reply) → 1 ≤ length (reply_tokens reply)
 some_tokens Done = omega arith
 some_tokens (Opened number) = omega arith
 some_tokens (Bytes bytes) = omega arith

@@ -150,7 +150,7 @@ rights_token set = elim (cases_lt 0 set) [
 
 -- ---- calls
 
-call_is_tokens : (call : Call) → IsCall call → AllByRecursion IsToken (call_tokens call)
+pub call_is_tokens : (call : Call) → IsCall call → AllByRecursion IsToken (call_tokens call)
 call_is_tokens (calls.Make kind target) h = (visible_is (codes "make") refl, (kind_token kind, (h.0.2, tt)))
 call_is_tokens (calls.Open mode target) h = (visible_is (codes "open") refl, (mode_token mode, (h.0.2, tt)))
 call_is_tokens (calls.Read fd offset count) h = (visible_is (codes "read") refl, (number_token fd h.0, (number_token offset h.1, (number_token count h.2, tt))))

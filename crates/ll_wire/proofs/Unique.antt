@@ -135,7 +135,7 @@ same_pair_by name make is old new other h g k e =
     let news = same_target new o.0.1 g o.1.1 cc in
     (λ i. make (olds i, news i)) ∙ sym o.2
 
-same_call : (some other : Call) → IsCall some → IsCall other → call_tokens some ≡ call_tokens other → some ≡ other
+pub same_call : (some other : Call) → IsCall some → IsCall other → call_tokens some ≡ call_tokens other → some ≡ other
 same_call (calls.Make kind target) other h k e =
     let o = make_is (kind_text kind ∷ target_text target ∷ []) other (k, e) in
     let kinds = same_kind kind o.0 cc in

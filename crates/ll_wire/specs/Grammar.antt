@@ -76,7 +76,7 @@ call_tokens (Ruleset rights) = codes "ruleset" ∷ access_text rights.0 ∷ []
 call_tokens (Allow number target rights) = codes "allow" ∷ decimal number ∷ target_text target ∷ access_text rights.0 ∷ []
 call_tokens (Confine number) = codes "confine" ∷ decimal number ∷ []
 call_tokens Spawn = codes "spawn" ∷ []
-call_tokens Connect = []
+call_tokens Connect = codes "connect" ∷ []
 
 -- The calls that have a spelling. A target is what its own text spells
 abbrev pub IsCall : Call → Type 0

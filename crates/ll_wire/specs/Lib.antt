@@ -1,2 +1,4 @@
+pub mod Entries
+pub mod EntryParts
 pub mod Grammar
 pub mod Reads

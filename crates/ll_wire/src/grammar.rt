@@ -1,8 +1,13 @@
 //! Laws of the grammar.
 
-ghost use Rattle.std.specs.Prelude.{◌≡◌, ℕ, List};
+ghost use Rattle.std.specs.Prelude.{◌≡◌, ◌≤◌, ℕ, List, length};
+ghost use Rattle.ll_rights.specs.declared.limits.TheConstants.{DIRECTORY_ENTRIES};
 ghost use Rattle.ll_seq.specs.declared.call.Call.{Call};
+ghost use Rattle.ll_seq.specs.declared.reply.Entry.{Entry};
 ghost use Rattle.ll_seq.specs.declared.reply.Reply.{Reply};
+ghost use Rattle.ll_seq.specs.declared.reply.Reply.TheVariants.{Listed};
+ghost use Rattle.ll_wire.specs.declared.header.Header.{Header};
+ghost use Rattle.ll_wire.specs.Entries.{IsEntry, entry_line, SpellsEntry, SpellsHeader};
 ghost use Rattle.ll_wire.specs.Grammar.{SpellsCommand, SpellsReply};
 
 /// A line spells at most one command, of one client.
@@ -14,4 +19,22 @@ pub fn spells_one()
 /// A line spells at most one reply.
 pub fn spells_one_reply()
     ensures { (line : List ℕ) (reply other : Reply) → SpellsReply line reply → SpellsReply line other → reply ≡ other }
+{}
+
+/// A line spells at most one entry of a history: where its call ends is never in doubt.
+pub fn spells_one_entry()
+    ensures { (line : List ℕ) (entry other : Entry) → SpellsEntry line entry → SpellsEntry line other → entry ≡ other }
+{}
+
+/// The line of an entry is never too long to be read, unless it lists more names than a directory has.
+pub fn entries_fit()
+    ensures { (entry : Entry) → IsEntry entry
+        → ((names : List (List ℕ)) → entry.reply ≡ Listed names → length names ≤ DIRECTORY_ENTRIES)
+        → SpellsEntry (entry_line entry) entry }
+{}
+
+/// A line spells at most one header of a history.
+pub fn spells_one_header()
+    ensures { (line : List ℕ) (header other : Header) → SpellsHeader line header → SpellsHeader line other
+        → header ≡ other }
 {}

@@ -1,14 +1,19 @@
-//! The lines of a session: commands and replies, read and written. `specs/Grammar.antt` spells each.
+//! The lines of a session, commands and replies, and those of a history, read and written. `specs/Grammar.antt` and
+//! `specs/Entries.antt` spell each.
 #![tactic(auto)]
 
 mod bytes;
+mod entry;
 mod grammar;
+mod header;
 mod read;
 mod replies;
 mod token;
 mod write;
 
-pub use grammar::{spells_one, spells_one_reply};
+pub use entry::{ENTRY_LIMIT, entry_text, read_entry};
+pub use grammar::{entries_fit, spells_one, spells_one_entry, spells_one_header, spells_one_reply};
+pub use header::{Header, Version, header_text, read_header};
 pub use read::{LINE_LIMIT, read_command};
 pub use replies::read_reply;
 pub use write::{command_text, reply_text};

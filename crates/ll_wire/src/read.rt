@@ -232,7 +232,7 @@ fn spawn(args: &[&str]) -> Result<Call, Errno>
     Ok(Call::Spawn)
 }
 
-fn call_of(alloc: Global, tokens: &[&str]) -> Result<Call, Errno>
+pub(crate) fn call_of(alloc: Global, tokens: &[&str]) -> Result<Call, Errno>
     ensures { ReadsCall (map (λ t. t.now) tokens.now) result }
 {
     let [name, args @ ..] = tokens else {

@@ -144,7 +144,7 @@ fn short_reply(tokens: &[&str]) -> Option<Reply>
     }
 }
 
-fn reply_of(alloc: Global, body: &str) -> Result<Reply, Errno>
+pub(crate) fn reply_of(alloc: Global, body: &str) -> Result<Reply, Errno>
     ensures { ReadsBy (SpellsReplyBody body.now) (λ reply. tells_text reply ≡ true) result }
 {
     if let Some(names) = body.strip_prefix("names") {

@@ -38,6 +38,31 @@ pub(crate) fn tokens_of<'a>(body: &'a str, tokens: &mut [&'a str]) -> Option<usi
     Some(count)
 }
 
+// The first token, and what stands behind the space after it.
+pub(crate) fn first_of(text: &str) -> Option<(&str, &str)>
+    ensures found { IfSome result (λ x. slice_split (λ b. b == 32) text.now
+        ≡ x.0.now ∷ slice_split (λ b. b == 32) x.1.now) }
+    ensures none { IfNone result (slice_split (λ b. b == 32) text.now ≡ text.now ∷ []) }
+{
+    text.split_once(' ')
+}
+
+// The first tokens, so many, and what stands behind the space after them.
+pub(crate) fn front_of<'a>(text: &'a str, count: usize, tokens: &mut [&'a str]) -> Option<&'a str>
+    requires { count ≤ length tokens.old }
+    ensures found { IfSome result (λ rest. slice_split (λ b. b == 32) text.entry.now
+        ≡ map (λ s. s.now) (take count tokens.new) ++ slice_split (λ b. b == 32) rest.now) }
+    ensures none { IfNone result (length (slice_split (λ b. b == 32) text.entry.now) ≤ count) }
+{
+    let mut rest = text;
+    for i in 0..count {
+        let (token, others) = first_of(rest)?;
+        tokens[i] = token;
+        rest = others;
+    }
+    Some(rest)
+}
+
 // No sign, and no zero in front.
 fn is_plain(token: &str) -> bool
     ensures { MatchBool result ((0 < length token.now) × (slice_index token.now 0 ≢ 43) × (slice_index token.now 0 ≡ 48 → length token.now ≡ 1))

@@ -1,7 +1,8 @@
 //! Writing commands and replies.
 
 ghost use Rattle.std.specs.Prelude.{◌≡◌, [], ◌∷◌, ◌++◌, map, decimal, codes, IfOk, OnOk, string_bytes};
-ghost use Rattle.ll_wire.specs.Grammar.{line_of, mode_text, call_tokens, IsCall, client_tokens, IsClient, IsReply, reply_line};
+ghost use Rattle.std.specs.List.{join_with_byte};
+ghost use Rattle.ll_wire.specs.Grammar.{line_of, mode_text, call_tokens, IsCall, client_tokens, IsClient, reply_tokens, IsReply, reply_line};
 
 use crate::bytes::data_text;
 use ll_decide::Denial;
@@ -24,14 +25,21 @@ fn ended(mut text: String) -> Result<String, AllocError>
     Ok(text)
 }
 
-fn line_text(alloc: Global, first: &str, others: &[&str]) -> Result<String, AllocError>
-    ensures { IfOk result (λ text. string_bytes text ≡ line_of (first.now ∷ map (λ t. t.now) others.now)) }
+// The tokens with a space between any two.
+fn spaced_text(alloc: Global, first: &str, others: &[&str]) -> Result<String, AllocError>
+    ensures { IfOk result (λ text. string_bytes text ≡ join_with_byte 32 (first.now ∷ map (λ t. t.now) others.now)) }
 {
     let mut text = String::from_str(alloc, first)?;
     for token in others {
         push_token(&mut text, token)?;
     }
-    ended(text)
+    Ok(text)
+}
+
+pub(crate) fn line_text(alloc: Global, first: &str, others: &[&str]) -> Result<String, AllocError>
+    ensures { IfOk result (λ text. string_bytes text ≡ line_of (first.now ∷ map (λ t. t.now) others.now)) }
+{
+    ended(spaced_text(alloc, first, others)?)
 }
 
 fn mode_text(alloc: Global, mode: Mode) -> Result<String, AllocError>
@@ -55,17 +63,17 @@ fn mode_text(alloc: Global, mode: Mode) -> Result<String, AllocError>
 }
 
 fn number_text(alloc: Global, name: &str, number: u64) -> Result<String, AllocError>
-    ensures { IfOk result (λ text. string_bytes text ≡ line_of (name.now ∷ decimal number ∷ [])) }
+    ensures { IfOk result (λ text. string_bytes text ≡ join_with_byte 32 (name.now ∷ decimal number ∷ [])) }
 {
     let number = number.to_string(alloc)?;
-    line_text(alloc, name, &[number.as_str()])
+    spaced_text(alloc, name, &[number.as_str()])
 }
 
 // A call's name and two tokens. They share a lifetime, since an array of references has one.
 fn two_args<'a>(alloc: Global, name: &str, one: &'a str, two: &'a str) -> Result<String, AllocError>
-    ensures { IfOk result (λ text. string_bytes text ≡ line_of (name.now ∷ one.now ∷ two.now ∷ [])) }
+    ensures { IfOk result (λ text. string_bytes text ≡ join_with_byte 32 (name.now ∷ one.now ∷ two.now ∷ [])) }
 {
-    line_text(alloc, name, &[one, two])
+    spaced_text(alloc, name, &[one, two])
 }
 
 fn three_args<'a>(
@@ -75,20 +83,20 @@ fn three_args<'a>(
     two: &'a str,
     three: &'a str,
 ) -> Result<String, AllocError>
-    ensures { IfOk result (λ text. string_bytes text ≡ line_of (name.now ∷ one.now ∷ two.now ∷ three.now ∷ [])) }
+    ensures { IfOk result (λ text. string_bytes text ≡ join_with_byte 32 (name.now ∷ one.now ∷ two.now ∷ three.now ∷ [])) }
 {
-    line_text(alloc, name, &[one, two, three])
+    spaced_text(alloc, name, &[one, two, three])
 }
 
 fn open_text(alloc: Global, mode: Mode, target: &Target) -> Result<String, AllocError>
-    ensures { IfOk result (λ text. string_bytes text ≡ line_of (call_tokens (Call.Open mode target.now))) }
+    ensures { IfOk result (λ text. string_bytes text ≡ join_with_byte 32 (call_tokens (Call.Open mode target.now))) }
 {
     let mode = mode_text(alloc, mode)?;
     two_args(alloc, "open", mode.as_str(), target.as_str())
 }
 
 fn read_text(alloc: Global, fd: u64, offset: u64, count: u64) -> Result<String, AllocError>
-    ensures { IfOk result (λ text. string_bytes text ≡ line_of (call_tokens (Call.Read fd offset count))) }
+    ensures { IfOk result (λ text. string_bytes text ≡ join_with_byte 32 (call_tokens (Call.Read fd offset count))) }
 {
     let fd = fd.to_string(alloc)?;
     let offset = offset.to_string(alloc)?;
@@ -97,7 +105,7 @@ fn read_text(alloc: Global, fd: u64, offset: u64, count: u64) -> Result<String, 
 }
 
 fn write_text(alloc: Global, fd: u64, offset: u64, bytes: &Data) -> Result<String, AllocError>
-    ensures { IfOk result (λ text. string_bytes text ≡ line_of (call_tokens (Call.Write fd offset bytes.now))) }
+    ensures { IfOk result (λ text. string_bytes text ≡ join_with_byte 32 (call_tokens (Call.Write fd offset bytes.now))) }
 {
     let fd = fd.to_string(alloc)?;
     let offset = offset.to_string(alloc)?;
@@ -106,7 +114,7 @@ fn write_text(alloc: Global, fd: u64, offset: u64, bytes: &Data) -> Result<Strin
 }
 
 fn ftruncate_text(alloc: Global, fd: u64, size: u64) -> Result<String, AllocError>
-    ensures { IfOk result (λ text. string_bytes text ≡ line_of (call_tokens (Call.Ftruncate fd size))) }
+    ensures { IfOk result (λ text. string_bytes text ≡ join_with_byte 32 (call_tokens (Call.Ftruncate fd size))) }
 {
     let fd = fd.to_string(alloc)?;
     let size = size.to_string(alloc)?;
@@ -114,7 +122,7 @@ fn ftruncate_text(alloc: Global, fd: u64, size: u64) -> Result<String, AllocErro
 }
 
 fn truncate_text(alloc: Global, target: &Target, size: u64) -> Result<String, AllocError>
-    ensures { IfOk result (λ text. string_bytes text ≡ line_of (call_tokens (Call.Truncate target.now size))) }
+    ensures { IfOk result (λ text. string_bytes text ≡ join_with_byte 32 (call_tokens (Call.Truncate target.now size))) }
 {
     let size = size.to_string(alloc)?;
     two_args(alloc, "truncate", target.as_str(), size.as_str())
@@ -126,7 +134,7 @@ fn allow_text(
     target: &Target,
     rights: Access,
 ) -> Result<String, AllocError>
-    ensures { IfOk result (λ text. string_bytes text ≡ line_of (call_tokens (Call.Allow number target.now rights))) }
+    ensures { IfOk result (λ text. string_bytes text ≡ join_with_byte 32 (call_tokens (Call.Allow number target.now rights))) }
 {
     let number = number.to_string(alloc)?;
     let rights = rights.text(alloc)?;
@@ -139,9 +147,8 @@ fn allow_text(
     )
 }
 
-fn call_text(alloc: Global, call: &Call) -> Result<String, AllocError>
-    requires { IsCall call.now }
-    ensures { IfOk result (λ text. string_bytes text ≡ line_of (call_tokens call.now)) }
+pub(crate) fn call_text(alloc: Global, call: &Call) -> Result<String, AllocError>
+    ensures { IfOk result (λ text. string_bytes text ≡ join_with_byte 32 (call_tokens call.now)) }
 {
     match call {
         Call::Make(kind, target) => two_args(alloc, "make", kind.text(), target.as_str()),
@@ -151,11 +158,11 @@ fn call_text(alloc: Global, call: &Call) -> Result<String, AllocError>
         Call::Ftruncate(fd, size) => ftruncate_text(alloc, *fd, *size),
         Call::Close(fd) => number_text(alloc, "close", *fd),
         Call::Truncate(target, size) => truncate_text(alloc, target, *size),
-        Call::ReadDir(target) => line_text(alloc, "list", &[target.as_str()]),
-        Call::Stat(target) => line_text(alloc, "stat", &[target.as_str()]),
-        Call::Exec(target) => line_text(alloc, "exec", &[target.as_str()]),
-        Call::Unlink(target) => line_text(alloc, "unlink", &[target.as_str()]),
-        Call::Rmdir(target) => line_text(alloc, "rmdir", &[target.as_str()]),
+        Call::ReadDir(target) => spaced_text(alloc, "list", &[target.as_str()]),
+        Call::Stat(target) => spaced_text(alloc, "stat", &[target.as_str()]),
+        Call::Exec(target) => spaced_text(alloc, "exec", &[target.as_str()]),
+        Call::Unlink(target) => spaced_text(alloc, "unlink", &[target.as_str()]),
+        Call::Rmdir(target) => spaced_text(alloc, "rmdir", &[target.as_str()]),
         Call::Rename(old, new) => two_args(alloc, "rename", old.as_str(), new.as_str()),
         Call::RenameNoreplace(old, new) => {
             two_args(alloc, "rename_noreplace", old.as_str(), new.as_str())
@@ -164,12 +171,12 @@ fn call_text(alloc: Global, call: &Call) -> Result<String, AllocError>
         Call::Link(old, new) => two_args(alloc, "link", old.as_str(), new.as_str()),
         Call::Ruleset(rights) => {
             let rights = rights.text(alloc)?;
-            line_text(alloc, "ruleset", &[rights.as_str()])
+            spaced_text(alloc, "ruleset", &[rights.as_str()])
         }
         Call::Allow(number, target, rights) => allow_text(alloc, *number, target, *rights),
         Call::Confine(number) => number_text(alloc, "confine", *number),
-        Call::Spawn => line_text(alloc, "spawn", &[]),
-        Call::Connect => unreachable!(),
+        Call::Spawn => spaced_text(alloc, "spawn", &[]),
+        Call::Connect => spaced_text(alloc, "connect", &[]),
     }
 }
 
@@ -181,40 +188,40 @@ pub fn command_text(alloc: Global, client: u64, call: &Call) -> Result<String, A
 {
     let text = call_text(alloc, call)?;
     if client == 1 {
-        return Ok(text);
+        return ended(text);
     }
     let client = client.to_string(alloc)?;
     let mut line = String::from_str(alloc, "@")?;
     line.push_str(client.as_str())?;
     push_token(&mut line, text.as_str())?;
-    Ok(line)
+    ended(line)
 }
 
 fn bytes_text(alloc: Global, bytes: &Data) -> Result<String, AllocError>
-    ensures { IfOk result (λ text. string_bytes text ≡ reply_line (Reply.Bytes bytes.now)) }
+    ensures { IfOk result (λ text. string_bytes text ≡ join_with_byte 32 (reply_tokens (Reply.Bytes bytes.now))) }
 {
     let bytes = data_text(alloc, bytes)?;
-    line_text(alloc, "data", &[bytes.as_str()])
+    spaced_text(alloc, "data", &[bytes.as_str()])
 }
 
 fn names_text(alloc: Global, names: &[Name]) -> Result<String, AllocError>
-    ensures { IfOk result (λ text. string_bytes text ≡ line_of (codes "names" ∷ names.now)) }
+    ensures { IfOk result (λ text. string_bytes text ≡ join_with_byte 32 (codes "names" ∷ names.now)) }
 {
     let mut text = String::from_str(alloc, "names")?;
     for name in names {
         push_token(&mut text, name.as_str())?;
     }
-    ended(text)
+    Ok(text)
 }
 
 fn status_text(alloc: Global, status: &Status) -> Result<String, AllocError>
-    ensures { IfOk result (λ text. string_bytes text ≡ reply_line (Reply.Found status.now)) }
+    ensures { IfOk result (λ text. string_bytes text ≡ join_with_byte 32 (reply_tokens (Reply.Found status.now))) }
 {
     let inode = status.inode.to_string(alloc)?;
     let kind = status.kind.text();
     let size = status.size.to_string(alloc)?;
     let links = status.links.to_string(alloc)?;
-    line_text(
+    spaced_text(
         alloc,
         "stat",
         &[inode.as_str(), kind, size.as_str(), links.as_str()],
@@ -222,26 +229,25 @@ fn status_text(alloc: Global, status: &Status) -> Result<String, AllocError>
 }
 
 fn denial_text(alloc: Global, denial: &Denial) -> Result<String, AllocError>
-    ensures { IfOk result (λ text. string_bytes text ≡ reply_line (Reply.Denied denial.now)) }
+    ensures { IfOk result (λ text. string_bytes text ≡ join_with_byte 32 (reply_tokens (Reply.Denied denial.now))) }
 {
     let errno = denial.cause.errno().text();
     let layer = denial.layer.to_string(alloc)?;
     let right = denial.right.text();
     let place = denial.place.text();
-    line_text(
+    spaced_text(
         alloc,
         "denied",
         &[errno, "layer", layer.as_str(), right, place],
     )
 }
 
-/// The one spelling of a reply.
-pub fn reply_text(alloc: Global, reply: &Reply) -> Result<String, AllocError>
-    requires { IsReply reply.now }
-    ensures { IfOk result (λ text. string_bytes text ≡ reply_line reply.now) }
+// The reply's line without its line feed.
+pub(crate) fn reply_body(alloc: Global, reply: &Reply) -> Result<String, AllocError>
+    ensures { IfOk result (λ text. string_bytes text ≡ join_with_byte 32 (reply_tokens reply.now)) }
 {
     match reply {
-        Reply::Done => line_text(alloc, "ok", &[]),
+        Reply::Done => spaced_text(alloc, "ok", &[]),
         Reply::Opened(number) => number_text(alloc, "fd", *number),
         Reply::Bytes(bytes) => bytes_text(alloc, bytes),
         Reply::Wrote(count) => number_text(alloc, "wrote", *count),
@@ -251,8 +257,16 @@ pub fn reply_text(alloc: Global, reply: &Reply) -> Result<String, AllocError>
         Reply::Spawned(number) => number_text(alloc, "client", *number),
         Reply::Refused(errno) => {
             let number = errno.number().to_string(alloc)?;
-            line_text(alloc, "refused", &[number.as_str(), errno.text()])
+            spaced_text(alloc, "refused", &[number.as_str(), errno.text()])
         }
         Reply::Denied(denial) => denial_text(alloc, denial),
     }
+}
+
+/// The one spelling of a reply.
+pub fn reply_text(alloc: Global, reply: &Reply) -> Result<String, AllocError>
+    requires { IsReply reply.now }
+    ensures { IfOk result (λ text. string_bytes text ≡ reply_line reply.now) }
+{
+    ended(reply_body(alloc, reply)?)
 }

@@ -1,0 +1,5 @@
+use Rattle.ll_wire.proofs.Entries.{spells_one_entry}
+use Rattle.ll_wire.proofs.grammar.spells_one_entry.Goals as goal
+
+pub returns : goal.returns
+returns c = spells_one_entry
