@@ -1,4 +1,4 @@
-//! Audits: whether the entries of a history are the calls of one tree, one after the other, each with the reply that it got.
+//! Audits: whether the entries of a history are the calls of one tree, one after the other, each with its reply.
 #![tactic(auto)]
 
 mod entry;
@@ -24,7 +24,8 @@ pub fn follow(tree: &mut Plain, entries: &[Entry]) -> Result<(), AuditFault>
     requires { tree.old.next + length entries.now < 2 ^ 64 }
     ensures legal { OnOk result (IsLegal tree.old entries.now) }
     ensures after { OnOk result (tree.new ≡ state_after tree.old entries.now) }
-    ensures illegal { IfErr result (λ fault. (number : ℕ) → fault ≡ AuditFault.Illegal number → IsFirstIllegal tree.old entries.now number) }
+    ensures illegal { IfErr result (λ fault. (number : ℕ) → fault ≡ AuditFault.Illegal number
+        → IsFirstIllegal tree.old entries.now number) }
     ensures starved { IfErr result (λ fault. fault ≡ AuditFault.NoMemory → Starves tree.old entries.now) }
 {
     for (i, entry) in entries.iter().enumerate() {
@@ -42,11 +43,14 @@ pub fn audit(alloc: Global, rules: Rules, nodes: usize, history: &History) -> Re
     requires some { 1 ≤ nodes }
     requires most { nodes ≤ TREE_NODES }
     ensures legal { OnOk result (IsLegal (start rules nodes) history.now.entries) }
-    ensures illegal { IfErr result (λ fault. (number : ℕ) → fault ≡ AuditFault.Illegal number → IsFirstIllegal (start rules nodes) history.now.entries number) }
+    ensures illegal { IfErr result (λ fault. (number : ℕ) → fault ≡ AuditFault.Illegal number
+        → IsFirstIllegal (start rules nodes) history.now.entries number) }
 
     // What the laws say of the history.
-    ensures reach { OnOk result ((early late : List entries.Entry) → early ++ late ≡ history.now.entries → GainsNothing rules nodes early late) }
-    ensures bytes { OnOk result ((early late : List entries.Entry) → early ++ late ≡ history.now.entries → Withholds rules nodes early late) }
+    ensures reach { OnOk result ((early late : List entries.Entry) → early ++ late ≡ history.now.entries
+        → GainsNothing rules nodes early late) }
+    ensures bytes { OnOk result ((early late : List entries.Entry) → early ++ late ≡ history.now.entries
+        → Withholds rules nodes early late) }
 {
     let Ok(mut tree) = Plain::new(alloc, rules, nodes) else {
         return Err(AuditFault::NoMemory);

@@ -7,8 +7,8 @@ use ll_rights::limits::HISTORY_ENTRIES;
 use std::alloc::{AllocError, Global};
 use std::marker::Model;
 
-/// Entries in their order, and how many there may be. Room for all of them is there from the start, so adding one takes no
-/// memory. Contracts see the list of the entries, and the limit.
+/// Entries in their order, and how many there may be. Room for all of them is there from the start, so adding one
+/// takes no memory. Contracts see the list of the entries, and the limit.
 #[derive(Drop)]
 pub struct History {
     entries: Vec<Entry>,
@@ -25,7 +25,8 @@ impl Model for History {
 
     ghost view = { λ history. record { entries = history.entries.items; limit = history.limit } };
 
-    ghost invariant = { λ history. (length history.entries.items ≤ history.limit) × (history.limit ≤ vec_capacity history.entries) × (history.limit ≤ HISTORY_ENTRIES) };
+    ghost invariant = { λ history. (length history.entries.items ≤ history.limit)
+        × (history.limit ≤ vec_capacity history.entries) × (history.limit ≤ HISTORY_ENTRIES) };
 }
 
 impl History {
