@@ -1,7 +1,5 @@
-pub mod Below
 pub mod Clients
 pub mod Granting
-pub mod Living
 pub mod Moved
 pub mod Parts
 pub mod Reaches
@@ -9,5 +7,6 @@ pub mod Records
 pub mod Refusals
 pub mod Shortcuts
 pub mod Spared
+pub mod Tied
 pub mod Walks
 pub mod Written

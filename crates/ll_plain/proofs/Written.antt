@@ -1,13 +1,15 @@
 -- The files of descriptors, and what is written to them.
-use Rattle.std.specs.Prelude.{◌≡◌, ℕ, zero, suc, ◌<◌, ◌==◌, ◌&&◌, nat_lt, Bool, true, false, if◌then◌else◌, Some, List, [], length, refl}
+use Rattle.std.specs.Prelude.{◌≡◌, ℕ, zero, suc, ◌<◌, ◌==◌, ◌&&◌, nat_lt, Bool, true, false, if◌then◌else◌, Option, Some, None, List, [], length, refl}
 use Rattle.std.proofs.Common.{ap, sym, ◌∙◌, arith}
 use Rattle.std.proofs.lemmas.Bool.{eqb-true, eqb-false, lt-ltb}
 use Rattle.std.specs.Option.{option_map_or}
 use Rattle.ll_rights.specs.declared.errno.Errno.TheVariants.{EFBIG}
 use Rattle.ll_rights.specs.Errno.{refuse}
-use Rattle.ll_rights.specs.Map.{get}
+use Rattle.std.specs.Ordering.{nat_cmp}
+use Rattle.ll_rights.specs.Map.{Map, get, insert}
 use Rattle.ll_seq.specs.declared.client.ClientRecord.{ClientRecord}
 use Rattle.ll_seq.specs.declared.client.Descriptor.{Descriptor}
+use Rattle.ll_seq.specs.declared.node.Node.{Node}
 use Rattle.ll_seq.specs.declared.reply.Reply.{Reply}
 use Rattle.ll_seq.specs.declared.reply.Reply.TheVariants.{Wrote}
 use Rattle.ll_seq.specs.State.{State, bytes_of}
@@ -48,3 +50,15 @@ writes_some s after inode file offset bytes put n e len same here is =
       (is ∙ (λ j. with_bytes s (here j) (overwritten (bytes_of s (here j)) offset (same j)))
           ∙ ap (λ b. if b then s else with_bytes s inode (overwritten (bytes_of s inode) offset bytes)) (sym e)) i,
     )
+
+-- ---- other bytes in the table
+
+pub bytes_changed : (a s : State) (nodes : Map nat_cmp Node) (inode : ℕ) (f : List ℕ → List ℕ) → a ≡ s
+    → nodes ≡ option_map_or (λ (n : Node). insert a.nodes inode (record n { bytes = f n.bytes })) (get a.nodes inode) a.nodes
+    → record a { nodes = nodes } ≡ with_bytes s inode (f (bytes_of s inode))
+bytes_changed a s nodes inode f is same = ap (λ m. record a { nodes = m }) same ∙ ap (λ (z : State). record z { nodes = option_map_or (λ (n : Node). insert z.nodes inode (record n { bytes = f n.bytes })) (get z.nodes inode) z.nodes }) is ∙ of (get s.nodes inode)
+  where
+    of : (o : Option Node) → record s { nodes = option_map_or (λ (n : Node). insert s.nodes inode (record n { bytes = f n.bytes })) o s.nodes }
+        ≡ option_map_or (λ (n : Node). record s { nodes = insert s.nodes inode (record n { bytes = f (option_map_or (λ (m : Node). m.bytes) o []) }) }) o s
+    of None = refl
+    of (Some n) = refl

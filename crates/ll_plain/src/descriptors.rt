@@ -142,8 +142,7 @@ impl Plain {
         let Some(file) = self.descriptor(client, number) else {
             return Reply::Refused(Errno::EBADF);
         };
-        self.free(client, number);
-        self.let_go(file.inode);
+        self.free(client, number, file);
         Reply::Done
     }
 }

@@ -1,8 +1,9 @@
 //! What a decided call answers and changes.
 
-ghost use Rattle.std.specs.Prelude.{◌≡◌, ◌<◌, ◌-◌, ◌^◌, Some, None, true, OnOk, OnErr, IfOk, is_ok, is_some};
-ghost use Rattle.ll_rights.specs.Map.{has, insert};
+ghost use Rattle.std.specs.Prelude.{◌≡◌, ◌<◌, ◌-◌, ◌^◌, Some, None, true, OnOk, OnErr, IfOk, is_ok};
+ghost use Rattle.ll_rights.specs.Map.{has};
 ghost use Rattle.ll_seq.specs.Effects.{status_of, with_client};
+ghost use Rattle.ll_seq.specs.Reach.{HasName};
 ghost use Rattle.ll_seq.specs.Stages.{lowest_free};
 ghost use Rattle.ll_seq.specs.Step.{client_of};
 ghost use Rattle.ll_answer.specs.Effect.{Fits, FitsRule, HasRoom, after, descriptor_of, told, with_opening, with_rule_of};
@@ -54,20 +55,6 @@ impl Plain {
         }
     }
 
-    /// The client's lowest free descriptor, which there is, becomes this one.
-    fn take(&mut self, client: u64, file: Descriptor) -> Result<u64, AllocError>
-        requires caller { has self.old.clients client ≡ true }
-        requires free { is_some (lowest_free (client_of self.old client).descriptors) ≡ true }
-        ensures free { IfOk result (λ number. lowest_free (client_of self.old client).descriptors ≡ Some number) }
-        ensures ok { IfOk result (λ number. self.new ≡ with_client self.old client (record (client_of self.old client) { descriptors = insert (client_of self.old client).descriptors number file })) }
-        ensures err { OnErr result (self.new ≡ self.old) }
-    {
-        match self.clients.open(client, file) {
-            Ok(number) => Ok(number),
-            Err(_) => Err(AllocError),
-        }
-    }
-
     /// Makes the file and opens it, or does neither.
     fn open_new(&mut self, client: u64, opening: &Opening<'_>) -> Result<(), AllocError>
         requires caller { has self.old.clients client ≡ true }
@@ -77,10 +64,11 @@ impl Plain {
         ensures ok { OnOk result (self.new ≡ with_opening self.old client (client_of self.old client) opening.now None) }
         ensures err { OnErr result (self.new ≡ self.old) }
     {
-        let file = descriptor(opening, self.next);
-        let number = self.take(client, file)?;
-        if let Err(error) = self.add(&opening.at, Kind::Reg) {
-            self.free(client, number);
+        let inode = self.next;
+        self.add(&opening.at, Kind::Reg)?;
+        if let Err(error) = self.take(client, descriptor(opening, inode)) {
+            self.take_name(&opening.at, inode);
+            self.next -= 1;
             return Err(error);
         }
         Ok(())
@@ -95,9 +83,12 @@ impl Plain {
     ) -> Result<(), AllocError>
         requires caller { has self.old.clients client ≡ true }
         requires free { lowest_free (client_of self.old client).descriptors ≡ Some opening.now.number }
+        requires named { HasName self.old inode }
         ensures ok { OnOk result (self.new ≡ with_opening self.old client (client_of self.old client) opening.now (Some inode)) }
         ensures err { OnErr result (self.new ≡ self.old) }
     {
+        // What has a name has a node, by what the tables keep.
+        let _ = &self.nodes;
         let _ = self.take(client, descriptor(opening, inode))?;
         if opening.is_emptied {
             self.empty(inode);
@@ -112,13 +103,13 @@ impl Plain {
         ensures ok { OnOk result (self.new ≡ with_client self.old client (with_rule_of (client_of self.old client) rule.now)) }
         ensures err { OnErr result (self.new ≡ self.old) }
     {
-        let done = self
+        if let Err(_) = self
             .clients
-            .allow(client, rule.number, rule.inode, rule.kind, rule.rights);
-        match done {
-            Ok(()) => Ok(()),
-            Err(_) => Err(AllocError),
+            .allow(client, rule.number, rule.inode, rule.kind, rule.rights)
+        {
+            return Err(AllocError);
         }
+        Ok(())
     }
 
     /// Makes the client's change. Where there is no memory, nothing changes.

@@ -23,17 +23,19 @@ ghost use Rattle.ll_plain.specs.Outcomes.{ComesBy};
 ghost use Rattle.ll_plain.specs.Refusal.{is_refusal};
 
 use ll_rights::{Errno, Kind};
-use ll_seq::{Call, ClientRecord, Content, Dentries, Node, NumberMap, Reply, Rules};
+use ll_seq::{Call, ClientRecord, Content, Dentries, Fact, Node, NumberMap, Reply, Rules};
 use std::alloc::{AllocError, Global};
 use std::marker::Model;
 
 const ROOT: u64 = 1;
 
-/// The tree as its definition reads: tables in plain order, every path walked from the root. Contracts see the state.
+/// The tree as its definition reads: tables in plain order, every path walked from the root, and beside them what is
+/// counted of each node. Contracts see the state.
 #[derive(Drop)]
 pub struct Plain {
     entries: Dentries,
     nodes: NumberMap<Node>,
+    facts: NumberMap<Fact>,
     next: u64,
     room: usize,
     rules: Rules,
@@ -44,7 +46,7 @@ pub struct Plain {
 impl Model for Plain {
     ghost use Rattle.ll_seq.specs.State.{State};
     ghost use Rattle.ll_seq.specs.Codes.{coded_state};
-    ghost use Rattle.ll_plain.specs.Tables.{IsBelow};
+    ghost use Rattle.ll_plain.specs.Tables.{IsTied};
 
     ghost Value = { State };
 
@@ -52,7 +54,7 @@ impl Model for Plain {
 
     ghost view = { λ tree. record { entries = tree.entries; nodes = tree.nodes; next = tree.next; room = tree.room; rules = tree.rules; clients = tree.clients } };
 
-    ghost invariant = { λ tree. IsBelow tree.nodes tree.next };
+    ghost invariant = { λ tree. IsTied (record { entries = tree.entries; nodes = tree.nodes; next = tree.next; room = tree.room; rules = tree.rules; clients = tree.clients }) tree.facts };
 }
 
 impl Plain {
@@ -71,6 +73,7 @@ impl Plain {
         Ok(Plain {
             entries: Dentries::new(alloc),
             nodes: table,
+            facts: NumberMap::of_root(alloc)?,
             next: ROOT + 1,
             room: nodes,
             rules,

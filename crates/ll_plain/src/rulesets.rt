@@ -72,9 +72,16 @@ impl Plain {
         let Ok(child) = self.child_of(client) else {
             return Reply::Refused(Errno::NoMemory);
         };
+        if !self.facts.have_room(&child.descriptors) {
+            return Reply::Refused(Errno::NoMemory);
+        }
         if let Err(_) = self.clients.insert(fresh, child) {
             return Reply::Refused(Errno::NoMemory);
         }
+        let Some(child) = self.clients.get(fresh) else {
+            unreachable!()
+        };
+        self.facts.open_all(&child.descriptors);
         Reply::Spawned(fresh)
     }
 

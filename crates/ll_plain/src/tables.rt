@@ -5,9 +5,8 @@ ghost use Rattle.ll_rights.specs.declared.kind.Kind.{Kind};
 ghost use Rattle.ll_rights.specs.Map.{len};
 ghost use Rattle.ll_seq.specs.State.{bytes_of, child, kind_of, name_count};
 ghost use Rattle.ll_seq.specs.Stages.{has_names, has_many_names, is_crowded};
-ghost use Rattle.ll_seq.specs.Effects.{lives};
 
-use crate::{Plain, ROOT};
+use crate::Plain;
 use ll_rights::Kind;
 use ll_rights::limits::{DIRECTORY_ENTRIES, NODE_NAMES};
 
@@ -63,14 +62,10 @@ impl Plain {
     pub(crate) fn links(&self, inode: u64) -> usize
         ensures { result ≡ name_count self.now inode }
     {
-        self.entries.count_of(inode)
-    }
-
-    /// Whether something keeps the node alive: that it is the root, a name or a descriptor.
-    pub(crate) fn lives(&self, inode: u64) -> bool
-        ensures { result ≡ lives self.now inode }
-    {
-        inode == ROOT || self.links(inode) != 0 || self.clients.has_open(inode)
+        match self.facts.get(inode) {
+            None => 0,
+            Some(fact) => fact.links,
+        }
     }
 
     /// How many bytes the node has.

@@ -1,26 +1,35 @@
 //! What one change writes into the tables.
 
-ghost use Rattle.std.specs.Prelude.{◌≡◌, ◌≢◌, ◌<◌, ◌-◌, ◌+◌, ◌^◌, [], Some, None, true, OnOk, OnErr, length};
-ghost use Rattle.ll_rights.specs.Map.{has, remove};
-ghost use Rattle.ll_path.specs.Name.{IsName};
-ghost use Rattle.ll_seq.specs.State.{bytes_of, child, dentry};
+ghost use Rattle.std.specs.Prelude.{◌≡◌, ◌<◌, ◌-◌, ◌+◌, ◌^◌, [], Some, true, OnOk, OnErr, IfOk, if◌then◌else◌, is_some, length};
+ghost use Rattle.ll_rights.specs.Map.{get, has, insert, remove};
+ghost use Rattle.ll_seq.specs.State.{bytes_of, child};
 ghost use Rattle.ll_seq.specs.Effects.{let_go, overwritten, resized, with_bytes, with_client, with_moved, with_name, with_node, without_name};
+ghost use Rattle.ll_seq.specs.Stages.{lowest_free};
 ghost use Rattle.ll_seq.specs.Step.{client_of};
+ghost use Rattle.ll_answer.specs.Effect.{FitsExchange, FitsMove, FitsName, FitsReplace, HasRoom, dentry_at};
 
 use crate::Plain;
 use ll_answer::At;
 use ll_path::Name;
 use ll_rights::Kind;
-use ll_seq::{Content, Node};
+use ll_seq::{Content, Descriptor, Node, NumberMap};
 use std::alloc::AllocError;
 
+/// Forgets the node that lost a name or a descriptor, if it goes.
+fn forget(nodes: &mut NumberMap<Node>, inode: u64, goes: bool)
+    ensures { nodes.new ≡ (if goes then remove nodes.old inode else nodes.old) }
+{
+    if goes {
+        nodes.remove(inode);
+    }
+}
+
 impl Plain {
-    /// A new empty node has this name, which the directory doesn't have.
+    /// A new empty node has this name.
     pub(crate) fn add(&mut self, at: &At<'_>, kind: Kind) -> Result<(), AllocError>
         requires next { self.old.next < 2 ^ 64 - 1 }
-        requires name { IsName at.now.name.now }
-        requires missing { child self.old at.now.directory at.now.name.now ≡ None }
-        ensures ok { OnOk result (self.new ≡ with_node self.old kind (dentry at.now.directory at.now.name.now)) }
+        requires room { HasRoom self.old at.now }
+        ensures ok { OnOk result (self.new ≡ with_node self.old kind (dentry_at at.now)) }
         ensures err { OnErr result (self.new ≡ self.old) }
     {
         let name = Name::from_text(self.alloc, at.name)?;
@@ -33,37 +42,35 @@ impl Plain {
             self.nodes.remove(self.next);
             return Err(error);
         }
+        if let Err(error) = self.facts.make(at.directory, self.next, kind) {
+            self.entries.remove(at.directory, at.name);
+            self.nodes.remove(self.next);
+            return Err(error);
+        }
         self.next += 1;
         Ok(())
     }
 
-    /// The node has this name too, which the directory doesn't have.
+    /// The node has this name too.
     pub(crate) fn add_name(&mut self, at: &At<'_>, inode: u64) -> Result<(), AllocError>
-        requires name { IsName at.now.name.now }
-        requires missing { child self.old at.now.directory at.now.name.now ≡ None }
-        ensures ok { OnOk result (self.new ≡ with_name self.old (dentry at.now.directory at.now.name.now) inode) }
+        requires { FitsName self.old at.now inode }
+        ensures ok { OnOk result (self.new ≡ with_name self.old (dentry_at at.now) inode) }
         ensures err { OnErr result (self.new ≡ self.old) }
     {
         let name = Name::from_text(self.alloc, at.name)?;
         self.entries.insert(at.directory, name, inode)?;
+        self.facts.name(at.directory, inode);
         Ok(())
     }
 
     /// The node loses this name, and goes where nothing keeps it alive.
     pub(crate) fn take_name(&mut self, at: &At<'_>, inode: u64)
-        ensures { self.new ≡ without_name self.old (dentry at.now.directory at.now.name.now) inode }
+        requires { child self.old at.now.directory at.now.name.now ≡ Some inode }
+        ensures { self.new ≡ without_name self.old (dentry_at at.now) inode }
     {
         self.entries.remove(at.directory, at.name);
-        self.let_go(inode);
-    }
-
-    /// Takes away the node that lost a name or a descriptor, where nothing keeps it alive.
-    pub(crate) fn let_go(&mut self, inode: u64)
-        ensures { self.new ≡ let_go self.old inode }
-    {
-        if !self.lives(inode) {
-            self.nodes.remove(inode);
-        }
+        let goes = self.facts.unname(at.directory, inode);
+        forget(&mut self.nodes, inode, goes);
     }
 
     /// The node has the new name, which no node has, in the place of the old one.
@@ -73,34 +80,35 @@ impl Plain {
         new: &At<'_>,
         inode: u64,
     ) -> Result<(), AllocError>
-        requires name { IsName new.now.name.now }
-        requires there { child self.old old.now.directory old.now.name.now ≡ Some inode }
-        requires missing { child self.old new.now.directory new.now.name.now ≡ None }
-        ensures ok { OnOk result (self.new ≡ with_moved self.old (dentry old.now.directory old.now.name.now) (dentry new.now.directory new.now.name.now) inode) }
+        requires { FitsMove self.old old.now new.now inode }
+        ensures ok { OnOk result (self.new ≡ with_moved self.old (dentry_at old.now) (dentry_at new.now) inode) }
         ensures err { OnErr result (self.new ≡ self.old) }
     {
-        self.add_name(new, inode)?;
+        let name = Name::from_text(self.alloc, new.name)?;
+        self.entries.insert(new.directory, name, inode)?;
         self.entries.remove(old.directory, old.name);
+        let _ = self.facts.rename(old.directory, new.directory, inode, None);
         Ok(())
     }
 
-    /// The node has the new name in the place of the old one, and another node loses it.
+    /// The node has the new name in the place of the old one, and another node loses it, and goes where nothing keeps it
+    /// alive.
     pub(crate) fn move_over(&mut self, old: &At<'_>, new: &At<'_>, inode: u64, replaced: u64)
-        requires there { child self.old old.now.directory old.now.name.now ≡ Some inode }
-        requires other { child self.old new.now.directory new.now.name.now ≡ Some replaced }
-        requires differ { inode ≢ replaced }
-        ensures { self.new ≡ let_go (with_moved self.old (dentry old.now.directory old.now.name.now) (dentry new.now.directory new.now.name.now) inode) replaced }
+        requires { FitsReplace self.old old.now new.now inode replaced }
+        ensures { self.new ≡ let_go (with_moved self.old (dentry_at old.now) (dentry_at new.now) inode) replaced }
     {
         self.entries.replace(new.directory, new.name, inode);
         self.entries.remove(old.directory, old.name);
-        self.let_go(replaced);
+        let goes = self
+            .facts
+            .rename(old.directory, new.directory, inode, Some(replaced));
+        forget(&mut self.nodes, replaced, goes);
     }
 
     /// Two nodes have each other's name.
     pub(crate) fn exchange(&mut self, old: &At<'_>, new: &At<'_>, inode: u64, other: u64)
-        requires there { child self.old old.now.directory old.now.name.now ≡ Some inode }
-        requires other { child self.old new.now.directory new.now.name.now ≡ Some other }
-        ensures { self.new ≡ with_name (with_name self.old (dentry new.now.directory new.now.name.now) inode) (dentry old.now.directory old.now.name.now) other }
+        requires { FitsExchange self.old old.now new.now inode other }
+        ensures { self.new ≡ with_name (with_name self.old (dentry_at new.now) inode) (dentry_at old.now) other }
     {
         self.entries.replace(new.directory, new.name, inode);
         self.entries.replace(old.directory, old.name, other);
@@ -132,11 +140,33 @@ impl Plain {
         Ok(())
     }
 
-    /// The client's descriptor is free.
-    pub(crate) fn free(&mut self, client: u64, number: u64)
-        requires { has self.old.clients client ≡ true }
-        ensures { self.new ≡ with_client self.old client (record (client_of self.old client) { descriptors = remove (client_of self.old client).descriptors number }) }
+    /// The client's lowest free descriptor, which there is, becomes this one.
+    pub(crate) fn take(&mut self, client: u64, file: Descriptor) -> Result<u64, AllocError>
+        requires caller { has self.old.clients client ≡ true }
+        requires free { is_some (lowest_free (client_of self.old client).descriptors) ≡ true }
+        requires there { has self.old.nodes file.inode ≡ true }
+        ensures free { IfOk result (λ number. lowest_free (client_of self.old client).descriptors ≡ Some number) }
+        ensures ok { IfOk result (λ number. self.new ≡ with_client self.old client (record (client_of self.old client) { descriptors = insert (client_of self.old client).descriptors number file })) }
+        ensures err { OnErr result (self.new ≡ self.old) }
+    {
+        if !self.facts.has_room(file.inode) {
+            return Err(AllocError);
+        }
+        let Ok(number) = self.clients.open(client, file) else {
+            return Err(AllocError);
+        };
+        self.facts.open(file.inode);
+        Ok(number)
+    }
+
+    /// The client's descriptor, which is this one, is free, and its node goes where nothing keeps it alive.
+    pub(crate) fn free(&mut self, client: u64, number: u64, file: Descriptor)
+        requires caller { has self.old.clients client ≡ true }
+        requires there { get (client_of self.old client).descriptors number ≡ Some file }
+        ensures { self.new ≡ let_go (with_client self.old client (record (client_of self.old client) { descriptors = remove (client_of self.old client).descriptors number })) file.inode }
     {
         self.clients.close(client, number);
+        let goes = self.facts.close(file.inode);
+        forget(&mut self.nodes, file.inode, goes);
     }
 }

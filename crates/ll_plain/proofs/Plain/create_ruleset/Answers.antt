@@ -13,6 +13,8 @@ use Rattle.ll_seq.specs.Step.{client_of}
 use Rattle.ll_plain.proofs.Clients.{got_client, kept, client_changed}
 use Rattle.ll_plain.proofs.Records.{no_denials}
 use Rattle.ll_plain.proofs.Parts.{does, fails}
+use Rattle.ll_plain.specs.contracts.Plain.{the_view}
+use Rattle.ll_plain.proofs.Tied.{tied_client}
 use Rattle.ll_plain.proofs.Plain.create_ruleset.Goals as goal
 
 pub returns-in-Err : goal.returns-in-Err
@@ -29,3 +31,9 @@ returns c =
     does c.args.self.now c.args.client (Ruleset c.args.rights) refl (no_denials c.args.self.now (client_of c.args.self.now c.args.client).domain)
     (ap (λ (z : State). create_refusals z.rules.abi c.args.rights.0 ++ refuse (nat_le CLIENT_RULESETS (length C.rulesets)) EMFILE) (sym c.self.view_is) ∙ made.0) _ _
     (λ fresh i. (Created (made.1 i), client_changed _ c.args.self.now c.create_ruleset.new.self c.args.client _ c.self.view_is made.2 i))
+
+pub invariant_of-self-2 : goal.invariant_of-self-2
+invariant_of-self-2 c =
+    let holder : ClientRecord = client_of c.args.self.now c.args.client in
+    let there = got_client _ c.args.self.now c.args.client c.self.view_is c.requires in
+    tied_client (the_view c.self.inside) c.self.inside.facts c.args.client c.create_ruleset.new.self holder _ c.self.invariant there (c.in-Ok.ensures.ok holder there).2 refl
