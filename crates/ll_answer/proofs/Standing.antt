@@ -9,7 +9,8 @@ use Rattle.ll_rights.specs.declared.kind.Kind.{Kind}
 use Rattle.ll_rights.specs.declared.kind.Kind.TheVariants.{Reg, Dir, Sym, Fifo, Sock, Char, Block}
 use Rattle.ll_rights.specs.Errno.{refuse}
 use Rattle.ll_rights.specs.Kind.{is_dir}
-use Rattle.ll_rights.specs.Map.{Map, get, insert, same_list_map}
+use Rattle.ll_rights.specs.Codes.{same_list_map}
+use Rattle.ll_rights.specs.Map.{Map, get, insert}
 use Rattle.ll_rights.proofs.Maps.{insert_cases, same_map}
 use Rattle.ll_path.specs.Name.{IsName}
 use Rattle.ll_path.specs.Path.{Path, parent, last_name, is_root}

@@ -1,16 +1,14 @@
--- Masks: for each layer of a domain the set of the rights that it grants on a chain of inodes from the root on. own
+-- Masks: the sets of rights that a domain's layers grant on a chain of inodes from the root on. own
 use Rattle.std.specs.Prelude.{◌≡◌, ℕ, ◌^◌, ◌<◌, List, map}
 use Rattle.std.specs.List.{AllZip}
 use Rattle.ll_rights.specs.Access.{holds}
 use Rattle.ll_rules.specs.Layer.{Layer, grants_on}
 use Rattle.ll_decide.specs.declared.masks.Mask.{Mask}
 
--- the mask is the set of the rights that the layer grants on the chain
 pub record IsMask (mask : ℕ) (layer : Layer) (inodes : List ℕ) : Type 0 where
   pub known : mask < 2 ^ 15
   pub same : (right : ℕ) → right < 15 → holds mask right ≡ grants_on layer inodes right
 
--- there is one for each layer, in the layers' order
 abbrev pub AreMasks : List ℕ → List Layer → List ℕ → Type 0
 AreMasks masks domain inodes = AllZip (λ mask layer. IsMask mask layer inodes) masks domain
 

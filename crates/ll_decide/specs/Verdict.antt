@@ -1,5 +1,5 @@
--- What a domain denies. A layer may be kept as anything that tells what it grants on what stands for a path.
--- landlock.rst, "Layers of file path access rights": a call is allowed where every layer grants every right that it asks
+-- What a domain denies: every layer has to grant every right that is asked. landlock.rst, "Layers of file path access
+-- rights". A layer may be kept as anything that tells what it grants on what stands for a path
 use Rattle.std.specs.Prelude.{ℕ, Bool, true, false, not, ◌&&◌, List, [], ◌∷◌, ◌++◌, Option, ◌==◌, slice_get, filter, if◌then◌else◌}
 use Rattle.std.specs.List.{list_any, flat_map, enumerate_from}
 use Rattle.ll_rights.specs.Right.{refer, all_rights}
@@ -10,14 +10,12 @@ use Rattle.ll_decide.specs.declared.denial.Place.{Place}
 use Rattle.ll_decide.specs.declared.denial.Place.TheVariants.{At, Old, New}
 use Rattle.ll_decide.specs.declared.denial.Denial.{Denial}
 
--- a right that a call asks on a path
 pub record Ask (P : Type 0) : Type 0 where
   pub path : P
   pub right : ℕ
   pub place : Place
 
--- A node that a call gives a name in another directory: its own path, that directory's, the set of rights that mean
--- something for it, and where a denial says that it would gain one
+-- a node that gets a name in another directory. relevant: the rights that mean something for it
 pub record Move (P : Type 0) : Type 0 where
   pub from : P
   pub into : P
@@ -39,7 +37,7 @@ places = At ∷ Old ∷ New ∷ []
 abbrev pub rights_without_refer : List ℕ
 rights_without_refer = filter (λ right. not (right == refer)) all_rights
 
--- the denials for which the test says yes, by layer from 1, then right, then place
+-- by layer from 1, then right, then place
 abbrev pub denials : {A : Type 0} → Cause → List A → List ℕ → List Place → (A → ℕ → Place → Bool) → List Denial
 denials {A} cause layers rights places test =
     flat_map (λ (l : ℕ × A). flat_map (λ right. flat_map (λ place.
@@ -47,18 +45,18 @@ denials {A} cause layers rights places test =
     places) rights) (enumerate_from 1 layers)
 
 module _ {A P : Type 0} (grants : A → P → ℕ → Bool) where
-  -- the layer doesn't grant some right that is asked so
+  -- the layer doesn't grant what is asked so
   abbrev pub lacks : List (Ask P) → A → ℕ → Place → Bool
-  lacks asks layer right place = list_any (λ (a : Ask P). (a.right == right) && is_at a.place place && not (grants layer a.path right)) asks
+  lacks asks layer right place = list_any (λ (a : Ask P).
+      (a.right == right) && is_at a.place place && not (grants layer a.path right)) asks
 
-  -- In its new directory some node would have a right that it doesn't have by its own path.
-  -- linux/landlock.h, LANDLOCK_ACCESS_FS_REFER: no right may be gained by a rename or link
+  -- the new directory would give a node a right that its path doesn't. linux/landlock.h, LANDLOCK_ACCESS_FS_REFER
   abbrev pub gains : List (Move P) → A → ℕ → Place → Bool
   gains moves layer right place = list_any (λ (m : Move P).
-      is_at m.place place && holds m.relevant right && grants layer m.into right && not (grants layer m.from right)) moves
+      is_at m.place place && holds m.relevant right
+      && grants layer m.into right && not (grants layer m.from right)) moves
 
-  -- All denials of a call, of which the first is given: what is missing, a missing refer after the rest, then what moving
-  -- nodes would gain
+  -- The first is given: what is missing, a missing refer, then what would be gained
   abbrev pub all_denials : List A → List (Ask P) → List (Move P) → List Denial
   all_denials layers asks moves =
       denials EACCES layers rights_without_refer places (lacks asks)

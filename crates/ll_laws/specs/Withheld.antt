@@ -1,4 +1,4 @@
--- Which bytes clients under a layer may read and change of an inode that none of them has open. own
+-- Which bytes clients under a layer read and change of what none of them has open. own
 use Rattle.std.specs.Prelude.{◌≡◌, ◌≢◌, ◌⊎◌, ℕ, true, List, [], ◌∷◌, ◌++◌, Some, ⊤, Contains}
 use Rattle.ll_rights.specs.Map.{get, has}
 use Rattle.ll_rights.specs.Right as right
@@ -16,7 +16,7 @@ use Rattle.ll_seq.specs.History.{IsLegal, state_after, after}
 use Rattle.ll_seq.specs.Reach.{InReach, HasName}
 use Rattle.ll_laws.specs.NoGain.{MovesUnder}
 
--- The entry tells bytes of the inode. (No call but read is answered by bytes)
+-- no call but read is answered by bytes
 pub record ReadsFrom (s : State) (e : Entry) (inode : ℕ) : Type 0 where
   pub fd : ℕ
   pub offset : ℕ
@@ -26,7 +26,6 @@ pub record ReadsFrom (s : State) (e : Entry) (inode : ℕ) : Type 0 where
   pub answered : e.reply ≡ Bytes bytes
   pub from : inode_at (client_of s e.client) fd ≡ inode
 
--- the node lives on with other bytes
 pub record ChangesBytes (s t : State) (inode : ℕ) : Type 0 where
   pub old : Node
   pub new : Node
@@ -34,34 +33,36 @@ pub record ChangesBytes (s t : State) (inode : ℕ) : Type 0 where
   pub after : get t.nodes inode ≡ Some new
   pub differ : old.bytes ≢ new.bytes
 
--- the client is there, and the layer is in its domain
 pub record IsConfined (layer : Layer) (s : State) (client : ℕ) : Type 0 where
   pub there : has s.clients client ≡ true
   pub under : Contains (client_of s client).domain layer
 
--- those who were confined, and whom one of them spawned by this entry
+-- who was, and whom one of these spawned by this entry
 abbrev pub Confined : (ℕ → Type 0) → Entry → ℕ → Type 0
 Confined Was e client = Was client ⊎ (Was e.client × (e.reply ≡ Spawned client))
 
--- While the entries are made, no confined client reads from the inode unless read_file was in reach at the cut, and none
--- changes its bytes unless write_file or truncate was
+-- No confined client reads from the inode unless read_file was in reach at the cut, nor changes its bytes unless
+-- write_file or truncate was
 abbrev pub Withheld : Layer → ℕ → State → (ℕ → Type 0) → State → List Entry → Type 0
 Withheld layer inode cut Was s [] = ⊤
 Withheld layer inode cut Was s (e ∷ es) =
     (Was e.client → ReadsFrom s e inode → InReach cut layer inode right.read_file)
-    × (Was e.client → ChangesBytes s (after s e) inode → InReach cut layer inode right.write_file ⊎ InReach cut layer inode right.truncate)
+    × (Was e.client → ChangesBytes s (after s e) inode →
+    InReach cut layer inode right.write_file ⊎ InReach cut layer inode right.truncate)
     × Withheld layer inode cut (Confined Was e) (after s e) es
 
--- Of an inode that no client under the layer has open at the cut between two parts of a history the bytes are withheld from all
--- of them, and from whom they spawn, where each move after it is made under the layer
+-- Where each move after the cut is made under the layer, the bytes of an inode that no client under it has open then are
+-- withheld from them, and from whom they spawn
 abbrev pub Withholds : Rules → ℕ → List Entry → List Entry → Type 0
 Withholds rules room early late =
     let cut = state_after (start rules room) early in
     (layer : Layer) → MovesUnder layer cut late →
     (inode : ℕ) → HasName cut inode →
-    ((client : ℕ) → IsConfined layer cut client → (fd : ℕ) (d : Descriptor) → get (client_of cut client).descriptors fd ≡ Some d → d.inode ≢ inode) →
+    ((client : ℕ) → IsConfined layer cut client → (fd : ℕ) (d : Descriptor) →
+    get (client_of cut client).descriptors fd ≡ Some d → d.inode ≢ inode) →
     Withheld layer inode cut (IsConfined layer cut) cut late
 
 -- so wherever a legal history is cut in two
 abbrev pub BytesAreWithheld : Type 0
-BytesAreWithheld = (rules : Rules) (room : ℕ) (early late : List Entry) → IsLegal (start rules room) (early ++ late) → Withholds rules room early late
+BytesAreWithheld = (rules : Rules) (room : ℕ) (early late : List Entry) → IsLegal (start rules room) (early ++ late) →
+    Withholds rules room early late

@@ -1,4 +1,4 @@
--- What an iterator over a path's names has left. own
+-- What an iterator over a path's names has left, for its model: no public contract cites this file.
 use Rattle.std.specs.Prelude.{ℕ, ◌==◌, List, [], Option, Some, None}
 use Rattle.std.specs.List.{slice_split}
 use Rattle.std.specs.Borrow.{Bor}

@@ -1,4 +1,4 @@
--- Paths: what a text spells, and how two paths lie to each other. path_resolution(7), in this project's profile
+-- Paths. path_resolution(7), in this project's profile
 use Rattle.std.specs.Prelude.{ℕ, ◌==◌, Bool, true, false, not, ◌&&◌, ◌||◌, List, [], ◌∷◌, ◌++◌, length, nat_eq, nat_lt, drop, if◌then◌else◌, codes}
 use Rattle.std.specs.List.{slice_split, starts_with, list_any, join_with_byte}
 use Rattle.ll_rights.specs.declared.errno.Errno.{Errno}
@@ -6,23 +6,23 @@ use Rattle.ll_rights.specs.declared.errno.Errno.TheVariants.{EINVAL, ENAMETOOLON
 use Rattle.ll_rights.specs.Errno.{refuse}
 use Rattle.ll_path.specs.Name.{same_name}
 
--- a path is the list of its names from the root on; the empty list is the root
+-- the names from the root on; the root has none
 abbrev pub Path : Type 0
 Path = List (List ℕ)
 
--- the names that a text spells: what stands between its slashes (47). The text `/` has none
+-- what stands between a text's slashes (47). `/` has no name
 abbrev pub names_in : List ℕ → Path
 names_in text = if nat_lt (length text) 2 then [] else slice_split (λ b. b == 47) (drop 1 text)
 
--- an empty name, or one of the two that this profile leaves out
+-- empty, or one of the two that this profile leaves out
 abbrev pub is_no_name : List ℕ → Bool
 is_no_name name = (length name == 0) || same_name name (codes ".") || same_name name (codes "..")
 
--- a name of more than NAME_MAX bytes
+-- NAME_MAX
 abbrev pub is_long_name : List ℕ → Bool
 is_long_name name = nat_lt 255 (length name)
 
--- why a word is no path: all refusals that hold, of which the first is given. With its final NUL a path has at most PATH_MAX, 4,096 bytes
+-- Why a word is no path: the first is given. With its final NUL a path has at most PATH_MAX, 4,096 bytes
 abbrev pub text_refusals : List ℕ → List Errno
 text_refusals text =
     refuse (nat_lt 4095 (length text)) ENAMETOOLONG
@@ -31,7 +31,6 @@ text_refusals text =
     ++ refuse (list_any is_long_name (names_in text)) ENAMETOOLONG
     ++ refuse (nat_lt 64 (length (names_in text))) ENAMETOOLONG
 
--- the one text of a path
 abbrev pub path_text : Path → List ℕ
 path_text path = 47 ∷ join_with_byte 47 path
 
@@ -39,25 +38,25 @@ abbrev pub is_root : Path → Bool
 is_root [] = true
 is_root (name ∷ path) = false
 
--- all names but the last. The root is its own parent
+-- the root is its own parent
 abbrev pub parent : Path → Path
 parent [] = []
 parent (name ∷ []) = []
 parent (name ∷ next ∷ path) = name ∷ parent (next ∷ path)
 
--- the root has none, and the empty text stands for it
+-- of the root the empty text
 abbrev pub last_name : Path → List ℕ
 last_name [] = []
 last_name (name ∷ []) = name
 last_name (name ∷ next ∷ path) = last_name (next ∷ path)
 
--- the second path is strictly beneath the first: it begins with all of its names, and has more
+-- the second path begins with all names of the first, and has more
 abbrev pub is_beneath : Path → Path → Bool
 is_beneath upper [] = false
 is_beneath [] (name ∷ lower) = true
 is_beneath (this ∷ upper) (name ∷ lower) = same_name this name && is_beneath upper lower
 
--- the longest common beginning of two paths
+-- the longest common beginning
 abbrev pub common : Path → Path → Path
 common [] q = []
 common (this ∷ p) [] = []

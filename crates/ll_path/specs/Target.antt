@@ -4,12 +4,11 @@ use Rattle.ll_path.specs.declared.target.Target.{Target}
 use Rattle.ll_path.specs.declared.target.Target.TheVariants.{Good, Bad}
 use Rattle.ll_path.specs.Path.{names_in, text_refusals, path_text}
 
--- the path that the word spells, or the word with the reason why it spells none
+-- the path that the word spells, or the word with the first reason why it spells none
 abbrev pub IsTarget : List ℕ → Target → Type 0
 IsTarget text (Good path) = (text_refusals text ≡ []) × (path ≡ names_in text)
 IsTarget text (Bad bad) = (bad.word ≡ text) × (slice_get (text_refusals text) 0 ≡ Some bad.errno)
 
--- the word again
 abbrev pub target_text : Target → List ℕ
 target_text (Good path) = path_text path
 target_text (Bad bad) = bad.word

@@ -8,7 +8,8 @@ use Rattle.std.specs.Option.{option_map_or}
 use Rattle.std.proofs.lemmas.Bool.{cases_lt, eqb-true, eq-eqb}
 use Rattle.ll_rights.specs.declared.kind.Kind.{Kind}
 use Rattle.ll_rights.specs.declared.kind.Kind.TheVariants.{Dir}
-use Rattle.ll_rights.specs.Map.{Map, empty, entries, get, has, insert, remove, same_list_map}
+use Rattle.ll_rights.specs.Codes.{same_list_map}
+use Rattle.ll_rights.specs.Map.{Map, empty, entries, get, has, insert, remove}
 use Rattle.ll_rights.proofs.Maps.{equal_at, get-insert, get-insert_same, get-remove, get-remove_other, get-insert_other, insert_cases, same_map}
 use Rattle.ll_path.specs.Path.{Path}
 use Rattle.ll_seq.specs.declared.client.ClientRecord.{ClientRecord}

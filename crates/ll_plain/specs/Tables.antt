@@ -1,4 +1,4 @@
--- What the plain tree's tables keep. own
+-- What the plain tree's tables keep, for its invariant: no public contract cites this file.
 use Rattle.std.specs.Prelude.{◌≡◌, ℕ, Some, None}
 use Rattle.std.specs.Ordering.{nat_cmp}
 use Rattle.ll_rights.specs.declared.kind.Kind.TheVariants.{Dir}

@@ -5,15 +5,13 @@ use Rattle.std.specs.Char.{digit_char}
 use Rattle.std.specs.Int.Digits.{digits_of}
 use Rattle.ll_rights.specs.Right.{all_rights, right_text}
 
--- whether the set has the right
 abbrev pub holds : ℕ → ℕ → Bool
 holds set right = (set / 2 ^ right) % 2 == 1
 
--- whether each right of the one set is in the other
 abbrev pub is_within : ℕ → ℕ → Bool
 is_within some set = bit_and set some == some
 
--- all fifteen rights, and those of a file that is no directory
+-- all fifteen rights; those of a file that is no directory
 abbrev pub all_set : ℕ
 all_set = 0x7fff
 
@@ -24,16 +22,14 @@ file_set = 0x4007
 abbrev pub known_set : ℕ → ℕ
 known_set abi = if nat_lt abi 2 then 0x1fff else if nat_lt abi 3 then 0x3fff else all_set
 
--- the names of those of the rights that the set has
 unfoldable pub names_among : List ℕ → ℕ → List (List ℕ)
 names_among rights set = map right_text (filter (holds set) rights)
 
--- in rising order
 abbrev pub names_in : ℕ → List (List ℕ)
 names_in set = names_among all_rights set
 
--- The one text of a set, own: `none`, or its rights' names joined by commas. A set with a bit that is no right's is a number:
--- `0x` and its digits in base 16, in lower case, with no leading zero
+-- own: `none`; the names, joined by commas (44); or with a bit that is no right's `0x` and digits in base 16, in lower
+-- case, with no leading zero
 unfoldable pub access_text : ℕ → List ℕ
 access_text set = if set == 0 then codes "none"
     else if nat_lt set (2 ^ 15) then join_with_byte 44 (names_in set)

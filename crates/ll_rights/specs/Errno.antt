@@ -1,4 +1,4 @@
--- The 24 refusals: each one's number, which orders them, and its name. errno(3) for the names in capitals; the others are own
+-- The refusals: the number that orders each, and its name. errno(3) for names in capitals; the rest is own
 use Rattle.std.specs.Prelude.{ℕ, Bool, List, [], ◌∷◌, codes, if◌then◌else◌}
 use Rattle.ll_rights.specs.declared.errno.Errno.{Errno}
 use Rattle.ll_rights.specs.declared.errno.Errno.TheVariants.{EACCES, EXDEV, ENOENT, EEXIST, ENOTDIR, EISDIR, ENOTEMPTY, EINVAL, EPERM, EBUSY, EBADF, EMFILE, ENOSPC, EMLINK, ENAMETOOLONG, EFBIG, ELOOP, ENXIO, E2BIG, ENOMSG, HistoryFull, NoMemory, BadLine, Stale}
@@ -55,6 +55,5 @@ errno_text NoMemory = codes "NoMemory"
 errno_text BadLine = codes "BadLine"
 errno_text Stale = codes "Stale"
 
--- the refusal, where the test says so
 abbrev pub refuse : Bool → Errno → List Errno
 refuse b errno = if b then errno ∷ [] else []

@@ -1,4 +1,5 @@
 pub mod Access
+pub mod Codes
 pub mod Errno
 pub mod Kind
 pub mod Map

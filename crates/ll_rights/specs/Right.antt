@@ -1,4 +1,4 @@
--- The fifteen rights, each a number. linux/landlock.h, "Filesystem flags": the bits of ABI 3, in order
+-- The fifteen rights: the bits of ABI 3, in order. linux/landlock.h, "Filesystem flags"
 use Rattle.std.specs.Prelude.{ℕ, List, [], ◌∷◌, codes, slice_get, unwrap_or}
 
 abbrev pub execute : ℕ
@@ -50,7 +50,6 @@ abbrev pub all_rights : List ℕ
 all_rights = execute ∷ write_file ∷ read_file ∷ read_dir ∷ remove_dir ∷ remove_file ∷ make_char ∷ make_dir ∷ make_reg
     ∷ make_sock ∷ make_fifo ∷ make_block ∷ make_sym ∷ refer ∷ truncate ∷ []
 
--- the name of each right, that of number 0 first
 abbrev pub right_names : List (List ℕ)
 right_names = codes "execute" ∷ codes "write_file" ∷ codes "read_file" ∷ codes "read_dir" ∷ codes "remove_dir"
     ∷ codes "remove_file" ∷ codes "make_char" ∷ codes "make_dir" ∷ codes "make_reg" ∷ codes "make_sock"

@@ -2,7 +2,8 @@
 use Rattle.std.specs.Prelude.{ℕ, refl}
 use Rattle.std.specs.Ordering.{nat_cmp}
 use Rattle.std.specs.Coded.{Coded, code_by, coded×, coded_ℕ}
-use Rattle.ll_rights.specs.Map.{Map, code}
+use Rattle.ll_rights.specs.Codes.{code}
+use Rattle.ll_rights.specs.Map.{Map}
 use Rattle.ll_rules.specs.Layer.{Layer}
 
 abbrev pub coded_layer : Coded Layer

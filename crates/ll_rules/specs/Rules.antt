@@ -1,4 +1,4 @@
--- When a ruleset is made, extended and enforced. landlock_create_ruleset(2), landlock_add_rule(2), landlock_restrict_self(2)
+-- Rulesets made, extended, enforced. landlock_create_ruleset(2), landlock_add_rule(2), landlock_restrict_self(2)
 use Rattle.std.specs.Prelude.{ℕ, not, ◌&&◌, ◌==◌, List, ◌++◌, length, nat_le, unwrap_or, bit_or}
 use Rattle.ll_rights.specs.declared.kind.Kind.{Kind}
 use Rattle.ll_rights.specs.declared.errno.Errno.{Errno}
@@ -10,28 +10,29 @@ use Rattle.ll_rights.specs.Kind.{is_dir}
 use Rattle.ll_rights.specs.Map.{empty, get, has, insert, len}
 use Rattle.ll_rules.specs.Layer.{Layer}
 
--- Of the refusals that hold the first is given. abi: the level, which knows some rights. landlock.rst, "Landlock ABI versions"
+-- the first that holds is given. landlock.rst, "Landlock ABI versions": each level knows some rights
 abbrev pub create_refusals : ℕ → ℕ → List Errno
 create_refusals abi handled = refuse (not (is_within handled (known_set abi))) EINVAL ++ refuse (handled == 0) ENOMSG
 
 abbrev pub new_ruleset : ℕ → Layer
 new_ruleset handled = record { handled = handled; rules = empty }
 
--- why a rule is refused on a node of this kind
+-- of a rule on a node of this kind
 abbrev pub rule_refusals : Layer → Kind → ℕ → List Errno
 rule_refusals ruleset' kind rights =
     refuse (rights == 0) ENOMSG
     ++ refuse (not (is_within rights ruleset'.handled)) EINVAL
     ++ refuse (not (is_dir kind) && not (is_within rights file_set)) EINVAL
 
--- a ruleset has rules on at most so many inodes. own
+-- own
 abbrev pub rule_limit : Layer → ℕ → List Errno
 rule_limit ruleset' inode = refuse (nat_le RULESET_INODES (len ruleset'.rules) && not (has ruleset'.rules inode)) E2BIG
 
--- with one rule more; two rules on one inode are joined
+-- two rules on one inode are joined
 abbrev pub with_rule : Layer → ℕ → ℕ → Layer
-with_rule ruleset' inode rights = record ruleset' { rules = insert ruleset'.rules inode (bit_or (unwrap_or (get ruleset'.rules inode) 0) rights) }
+with_rule ruleset' inode rights = record ruleset'
+    { rules = insert ruleset'.rules inode (bit_or (unwrap_or (get ruleset'.rules inode) 0) rights) }
 
--- landlock.rst, "Ruleset layers": a domain has at most so many layers
+-- landlock.rst, "Ruleset layers"
 abbrev pub layer_limit : List Layer → List Errno
 layer_limit domain = refuse (nat_le DOMAIN_LAYERS (length domain)) E2BIG

@@ -1,4 +1,4 @@
--- What a table of rules means. own
+-- What a table of rules means, for a layer's model and invariant: no public contract cites this file.
 use Rattle.std.specs.Prelude.{ℕ, IsTrue, List, map}
 use Rattle.std.specs.Ordering.{nat_cmp}
 use Rattle.std.specs.BTreeMap.{BTreeMap}

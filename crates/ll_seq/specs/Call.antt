@@ -1,4 +1,4 @@
--- The parts of calls, and the paths that they name. open(2), "File access modes", O_CREAT and O_EXCL
+-- The parts of calls. open(2), "File access modes", O_CREAT and O_EXCL
 use Rattle.std.specs.Prelude.{Bool, true, false, List, [], ◌∷◌}
 use Rattle.ll_path.specs.Path.{Path}
 use Rattle.ll_path.specs.declared.target.Target.{Target}
@@ -26,12 +26,12 @@ abbrev pub is_exclusive : Creation → Bool
 is_exclusive Exclusive = true
 is_exclusive _ = false
 
--- the path that a word spells. (A word that is no path is refused before anything is asked of it)
+-- a word that is no path is refused before anything is asked of it
 abbrev pub path_of : Target → Path
 path_of (Good path) = path
 path_of (Bad word) = []
 
--- the words of a call that stand for paths, in their order
+-- the words that stand for paths
 abbrev pub targets : Call → List Target
 targets (Make kind target) = target ∷ []
 targets (Open mode target) = target ∷ []
@@ -64,7 +64,7 @@ second_of [] = []
 second_of (target ∷ []) = path_of target
 second_of (old ∷ (new ∷ more)) = path_of new
 
--- A call of two paths has an old one and a new one. A call of one path has it as both, a call of none the root
+-- of two paths the old one and the new one; of one path it is both, and of none the root
 abbrev pub first_path : Call → Path
 first_path call = first_of (targets call)
 

@@ -2,7 +2,8 @@
 use Rattle.std.specs.Prelude.{ℕ, refl}
 use Rattle.std.specs.Ordering.{nat_cmp}
 use Rattle.std.specs.Coded.{Coded, code_by, coded×, coded_ℕ}
-use Rattle.ll_rights.specs.Map.{Map, code}
+use Rattle.ll_rights.specs.Codes.{code}
+use Rattle.ll_rights.specs.Map.{Map}
 use Rattle.ll_seq.specs.declared.client.ClientRecord.{ClientRecord}
 use Rattle.ll_seq.specs.contracts.client.ClientRecord as client
 use Rattle.ll_seq.specs.contracts.dentries.Dentry as place

@@ -1,4 +1,4 @@
--- What is counted of each node, kept as calls change the tree. own
+-- What is counted of each node, kept as calls change the tree. Cited by contracts between crates alone. own
 use Rattle.std.specs.Prelude.{◌≡◌, ℕ, ◌≤◌, Bool, true, ◌==◌, length, filter, Option, None, nat_lt, option_map}
 use Rattle.std.specs.List.{list_all, sum_by}
 use Rattle.std.specs.Option.{option_map_or}

@@ -1,5 +1,5 @@
 -- Histories of one tree. own
-use Rattle.std.specs.Prelude.{◌≡◌, ℕ, Bool, true, false, not, List, [], ◌∷◌, map, filter, ◌==◌, ⊤, IsTrue}
+use Rattle.std.specs.Prelude.{◌≡◌, ℕ, Bool, true, false, not, List, [], ◌∷◌, ⊤, IsTrue}
 use Rattle.ll_rights.specs.Map.{has}
 use Rattle.ll_seq.specs.declared.call.Call.{Call}
 use Rattle.ll_seq.specs.declared.call.Call.TheVariants.{Connect}
@@ -13,7 +13,6 @@ abbrev pub is_connect : Call → Bool
 is_connect Connect = true
 is_connect _ = false
 
--- the number that a spawned client got
 abbrev pub fresh_of : Reply → ℕ
 fresh_of (Spawned number) = number
 fresh_of _ = 0
@@ -24,7 +23,6 @@ outcome_of s e = step s e.client e.call (fresh_of e.reply)
 abbrev pub after : State → Entry → State
 after s e = (outcome_of s e).1
 
--- the entry may stand where the tree is in this state
 pub record MayStand (s : State) (e : Entry) : Type 0 where
   -- the caller is there, but for a connect, which brings it
   pub caller : has s.clients e.client ≡ not (is_connect e.call)
@@ -33,7 +31,6 @@ pub record MayStand (s : State) (e : Entry) : Type 0 where
   pub spawned : (number : ℕ) → e.reply ≡ Spawned number → has s.clients number ≡ false
   pub answered : (outcome_of s e).0 ≡ e.reply
 
--- the entries are the calls of one tree, one after the other, each with the reply that it got
 abbrev pub IsLegal : State → List Entry → Type 0
 IsLegal s [] = ⊤
 IsLegal s (e ∷ es) = MayStand s e × IsLegal (after s e) es
@@ -41,10 +38,6 @@ IsLegal s (e ∷ es) = MayStand s e × IsLegal (after s e) es
 abbrev pub state_after : State → List Entry → State
 state_after s [] = s
 state_after s (e ∷ es) = state_after (after s e) es
-
--- a client's calls and their replies, in order
-abbrev pub part : List Entry → ℕ → List (Call × Reply)
-part es client = map (λ (e : Entry). (e.call, e.reply)) (filter (λ (e : Entry). e.client == client) es)
 
 -- what is kept of a history: its entries, and how many it may hold
 pub record Log : Type 0 where

@@ -9,18 +9,17 @@ use Rattle.ll_seq.specs.State.{State, kind_of}
 use Rattle.ll_seq.specs.Tree.{named}
 use Rattle.ll_seq.specs.Asked.{grants}
 
--- the right means something for such a node. Where there is no node, none does
+-- where there is no node, no right means anything
 abbrev pub is_relevant : Option Kind → ℕ → Bool
 is_relevant None right = false
 is_relevant (Some kind) right = holds (relevant kind) right
 
--- The right means something for the inode, and some path, of any length, names the inode and has the right granted on it
+-- The right means something for the inode, and some path, of any length, names it and has the right granted
 pub record InReach (s : State) (layer : Layer) (inode right : ℕ) : Type 0 where
   pub path : Path
   pub names : named s path ≡ Some inode
   pub relevant : IsTrue (is_relevant (kind_of s inode) right)
   pub granted : IsTrue (grants s layer path right)
 
--- some path names the inode
 abbrev pub HasName : State → ℕ → Type 0
 HasName s inode = (path : Path) × (named s path ≡ Some inode)

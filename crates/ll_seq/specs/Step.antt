@@ -6,7 +6,7 @@ use Rattle.ll_rights.specs.Map.{get}
 use Rattle.ll_seq.specs.declared.client.ClientRecord.{ClientRecord}
 use Rattle.ll_seq.specs.declared.call.Call.{Call}
 use Rattle.ll_seq.specs.declared.reply.Reply.{Reply}
-use Rattle.ll_seq.specs.declared.reply.Reply.TheVariants.{Done, Opened, Bytes, Wrote, Listed, Found, Created, Spawned, Refused, Denied}
+use Rattle.ll_seq.specs.declared.reply.Reply.TheVariants.{Bytes, Listed, Refused, Denied}
 use Rattle.ll_path.specs.Path.{Path}
 use Rattle.ll_seq.specs.Call.{first_path, second_path}
 use Rattle.ll_seq.specs.Listed.{IsData, AreListed}
@@ -15,7 +15,7 @@ use Rattle.ll_seq.specs.Asked.{call_denials}
 use Rattle.ll_seq.specs.Stages.{text_refusals, number_refusals, relation_refusals, walk_refusals, existence_refusals, kind_refusals, limit_refusals}
 use Rattle.ll_seq.specs.Effects.{done}
 
--- all refusals that hold, in the order of the stages. at: the call's path, of two paths the old one; new: of two the new one
+-- in the stages' order. at: the call's path, of two paths the old one; new: of two the new one
 abbrev pub refusals_at : State → ClientRecord → Call → Path → Path → List Reply
 refusals_at s c call at new =
     map Refused (text_refusals call)
@@ -37,20 +37,14 @@ abbrev pub first_or : State → List Reply → Reply × State → Reply × State
 first_or s [] outcome = outcome
 first_or s (reply ∷ replies) outcome = (reply, s)
 
--- The reply and the next state, where the client of this number calls. fresh: the number that a spawned client gets
+-- the reply and the next state. fresh: a spawned client's number
 abbrev pub step : State → ℕ → Call → ℕ → Reply × State
-step s number call fresh = first_or s (refusals s (client_of s number) call) (done s number (client_of s number) call (first_path call) (second_path call) fresh)
+step s number call fresh = first_or s (refusals s (client_of s number) call)
+    (done s number (client_of s number) call (first_path call) (second_path call) fresh)
 
--- What the tree answers of itself: what policy refuses it tells as a denial; its entries are counted by others, and what is
--- no call it never sees. Bytes are data, and listed names are names that rise
+-- what policy refuses is a denial; others count entries and see what is no call
 abbrev pub IsAnswer : Reply → Type 0
-IsAnswer Done = ⊤
-IsAnswer (Opened number) = ⊤
 IsAnswer (Bytes bytes) = IsData bytes
-IsAnswer (Wrote count) = ⊤
 IsAnswer (Listed names) = AreListed names
-IsAnswer (Found status) = ⊤
-IsAnswer (Created number) = ⊤
-IsAnswer (Spawned number) = ⊤
 IsAnswer (Refused errno) = ((3 ≤ errno_number errno) × (errno_number errno ≤ 20)) ⊎ (errno ≡ NoMemory)
-IsAnswer (Denied denial) = ⊤
+IsAnswer _ = ⊤

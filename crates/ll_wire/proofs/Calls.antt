@@ -18,7 +18,8 @@ use Rattle.ll_seq.specs.declared.call.Call.{Call}
 use Rattle.ll_seq.specs.declared.call.Call.TheVariants.{Make, Open, Read, Write, Ftruncate, Close, Truncate, ReadDir, Stat, Exec, Unlink, Rmdir, Rename, RenameNoreplace, Exchange, Link, Ruleset, Allow, Confine, Spawn}
 use Rattle.ll_seq.specs.Listed.{IsData}
 use Rattle.ll_wire.specs.Grammar.{mode_text, SpellsTarget, data_text}
-use Rattle.ll_wire.specs.Reads.{Reads, ReadsBy, ReadsCall, holds_text, SpellsOneTarget, SpellsTwoTargets, SpellsCall, SpellsNumber, SpellsRights, SpellsData}
+use Rattle.ll_wire.specs.Parts.{Reads, ReadsCall, SpellsOneTarget, SpellsTwoTargets, SpellsCall, SpellsNumber, SpellsRights, SpellsData}
+use Rattle.ll_wire.specs.Reads.{ReadsBy, holds_text}
 use Rattle.ll_wire.proofs.Targets.{text_is, own_text, some_target}
 
 -- whether the first token is the name

@@ -9,7 +9,8 @@ use Rattle.ll_rights.specs.declared.errno.Errno.{Errno}
 use Rattle.ll_seq.specs.declared.call.Call.{Call}
 use Rattle.ll_seq.specs.declared.call.Call.TheVariants as calls
 use Rattle.ll_wire.specs.Grammar.{call_tokens, client_tokens}
-use Rattle.ll_wire.specs.Reads.{ReadsBy, ReadsCall, holds_text, SpellsNumber, NamesClient, SpellsCall, SpellsTokens}
+use Rattle.ll_wire.specs.Parts.{ReadsCall, SpellsNumber, NamesClient, SpellsCall, SpellsTokens}
+use Rattle.ll_wire.specs.Reads.{ReadsBy, holds_text}
 use Rattle.ll_wire.proofs.Calls.{whole_reads}
 
 of_other : (client : ℕ) → 2 ≤ client → client_tokens client ≡ (64 ∷ decimal client) ∷ []

@@ -9,7 +9,7 @@ use Rattle.hex.specs.Hex.{IsBytes, encode_with, encode_lower, lower_digits, deco
 use Rattle.hex.proofs.HexLemmas.{length-encode_with, decode_of-encode_lower, decode_of-same}
 use Rattle.ll_seq.specs.Listed.{IsData}
 use Rattle.ll_wire.specs.Grammar.{data_text}
-use Rattle.ll_wire.specs.Reads.{SpellsData, IsDigit}
+use Rattle.ll_wire.specs.Parts.{SpellsData, IsDigit}
 
 -- ---- one digit
 

@@ -19,7 +19,8 @@ use Rattle.ll_seq.specs.declared.reply.Reply.{Reply}
 use Rattle.ll_seq.specs.declared.reply.Reply.TheVariants.{Refused}
 use Rattle.ll_seq.specs.declared.reply.Entry.{Entry}
 use Rattle.ll_wire.specs.Grammar.{line_of, call_tokens, IsCall, reply_tokens, IsReply}
-use Rattle.ll_wire.specs.Reads.{ReadsBy, holds_text, tells_text, SpellsNumber, SpellsReplyBody}
+use Rattle.ll_wire.specs.Parts.{SpellsNumber, SpellsReplyBody}
+use Rattle.ll_wire.specs.Reads.{ReadsBy, holds_text, tells_text}
 use Rattle.ll_wire.specs.Entries.{IsEntryCall, IsEntry, entry_tokens, entry_line, SpellsEntry, entry_holds_text}
 use Rattle.ll_wire.specs.EntryParts.{SpellsEntryCall, SpellsEntryReply, SpellsAnswered, CutsAt, SpellsEntryBody}
 use Rattle.ll_wire.proofs.Calls.{first_is, whole_reads, same_err}

@@ -11,7 +11,8 @@ use Rattle.ll_wire.specs.declared.header.Version.TheVariants.{One, Two, Three}
 use Rattle.ll_wire.specs.declared.header.Header.{Header}
 use Rattle.ll_wire.specs.Entries.{IsVersion, version_text, level_tokens, IsHeader, header_tokens, SpellsHeader}
 use Rattle.ll_wire.specs.EntryParts.{SpellsNodes, SpellsLevel, SpellsVersion, SpellsHeaderTokens}
-use Rattle.ll_wire.specs.Reads.{Finds, SpellsNumber}
+use Rattle.ll_wire.specs.Parts.{SpellsNumber}
+use Rattle.ll_wire.specs.Reads.{Finds}
 use Rattle.ll_wire.proofs.Fronts.{parts, joined_parts}
 use Rattle.ll_wire.proofs.Lines.{same_front, cut}
 use Rattle.ll_wire.proofs.ReadReplies.{whole_finds}

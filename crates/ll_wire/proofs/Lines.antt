@@ -9,7 +9,8 @@ use Rattle.std.proofs.lemmas.List.Splits.{join_with_byte-slice_split}
 use Rattle.ll_rights.specs.declared.errno.Errno.{Errno}
 use Rattle.ll_seq.specs.declared.call.Call.{Call}
 use Rattle.ll_wire.specs.Grammar.{client_tokens, call_tokens, SpellsCommand}
-use Rattle.ll_wire.specs.Reads.{ReadsBy, holds_text, SpellsTokens}
+use Rattle.ll_wire.specs.Parts.{SpellsTokens}
+use Rattle.ll_wire.specs.Reads.{ReadsBy, holds_text}
 use Rattle.ll_wire.proofs.Tokens.{IsToken, command_is_tokens, cut_at_spaces, body_is_ascii}
 use Rattle.ll_wire.proofs.Calls.{whole_reads, same_err}
 use Rattle.ll_wire.proofs.Clients.{at_most_five}

@@ -12,7 +12,7 @@ use Rattle.std.proofs.lemmas.List.{append_assoc, map-id}
 use Rattle.std.proofs.lemmas.List.Splits.{join_with_byte-slice_split, length-slice_split}
 use Rattle.ll_path.specs.Name.{IsName}
 use Rattle.ll_seq.specs.Listed.{AreListed}
-use Rattle.ll_wire.specs.Reads.{SpellsNames}
+use Rattle.ll_wire.specs.Parts.{SpellsNames}
 use Rattle.ll_wire.proofs.Joined.{joined}
 use Rattle.ll_wire.proofs.OneReply.{names_tokens}
 use Rattle.ll_wire.proofs.Tokens.{cut_at_spaces}

@@ -24,7 +24,7 @@ use Rattle.ll_seq.specs.declared.reply.Status.{Status}
 use Rattle.ll_seq.specs.declared.reply.Reply.{Reply}
 use Rattle.ll_seq.specs.declared.reply.Reply.TheVariants.{Done, Opened, Bytes, Wrote, Listed, Found, Created, Spawned, Refused, Denied}
 use Rattle.ll_wire.specs.Grammar.{data_text, reply_tokens, IsReply, SpellsReply}
-use Rattle.ll_wire.specs.Reads.{SpellsReplyTokens}
+use Rattle.ll_wire.specs.Parts.{SpellsReplyTokens}
 use Rattle.ll_wire.proofs.Tokens.{IsToken, visible, visible_is, number_token, kind_token, data_token}
 use Rattle.ll_wire.proofs.Calls.{first_is}
 use Rattle.ll_wire.proofs.Digits.{same_data}

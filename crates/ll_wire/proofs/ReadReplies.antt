@@ -20,7 +20,8 @@ use Rattle.ll_decide.specs.declared.denial.Place.{Place}
 use Rattle.ll_seq.specs.declared.reply.Reply.{Reply}
 use Rattle.ll_seq.specs.declared.reply.Reply.TheVariants.{Done, Opened, Bytes, Wrote, Listed, Found, Created, Spawned, Refused, Denied}
 use Rattle.ll_wire.specs.Grammar.{reply_tokens, SpellsReply}
-use Rattle.ll_wire.specs.Reads.{Reads, ReadsBy, Finds, tells_text, SpellsNumber, SpellsData, SpellsNames, SpellsOneNumber, SpellsReplyTokens, SpellsReplyBody}
+use Rattle.ll_wire.specs.Parts.{Reads, SpellsNumber, SpellsData, SpellsNames, SpellsOneNumber, SpellsReplyTokens, SpellsReplyBody}
+use Rattle.ll_wire.specs.Reads.{ReadsBy, Finds, tells_text}
 use Rattle.ll_wire.proofs.Calls.{whole_reads, same_err}
 use Rattle.ll_wire.proofs.Lines.{same_front}
 use Rattle.ll_wire.proofs.Names.{named}

@@ -29,7 +29,7 @@ use Rattle.ll_seq.specs.declared.call.Call.{Call}
 use Rattle.ll_seq.specs.declared.call.Call.TheVariants as calls
 use Rattle.ll_seq.specs.Listed.{IsData}
 use Rattle.ll_wire.specs.Grammar.{way_text, truncate_text, creation_text, mode_text, data_text, call_tokens, IsCall, client_tokens, IsClient}
-use Rattle.ll_wire.specs.Reads.{IsDigit}
+use Rattle.ll_wire.specs.Parts.{IsDigit}
 use Rattle.ll_wire.proofs.Digits.{data_digits}
 
 abbrev pub IsToken : List ℕ → Type 0

@@ -1,5 +1,5 @@
 -- The one spelling of each command and of each reply. own
-use Rattle.std.specs.Prelude.{◌≡◌, ⊤, ℕ, ◌^◌, ◌≤◌, ◌<◌, ◌==◌, Bool, List, [], ◌∷◌, ◌++◌, length, codes, decimal, if◌then◌else◌}
+use Rattle.std.specs.Prelude.{◌≡◌, ⊤, ℕ, ◌^◌, ◌≤◌, ◌<◌, ◌==◌, Bool, true, false, List, [], ◌∷◌, ◌++◌, length, codes, decimal, if◌then◌else◌}
 use Rattle.std.specs.List.{join_with_byte}
 use Rattle.hex.specs.Hex.{encode_lower}
 use Rattle.ll_rights.specs.Access.{access_text}
@@ -27,7 +27,8 @@ use Rattle.ll_wire.specs.declared.read.TheConstants.{LINE_LIMIT}
 abbrev pub line_of : List (List ℕ) → List ℕ
 line_of tokens = join_with_byte 32 tokens ++ 10 ∷ []
 
--- ---- commands
+abbrev pub IsU64 : ℕ → Type 0
+IsU64 n = n < 2 ^ 64
 
 abbrev pub way_text : AccessMode → List ℕ
 way_text ways.Read = codes "r"
@@ -42,112 +43,108 @@ creation_text Never = []
 creation_text IfMissing = codes "c"
 creation_text Exclusive = codes "cx"
 
--- The ways of the bytes, t where the file is emptied, c where a missing one is made, and x after it where there must be none
+-- t empties the file, c makes a missing one, x after it wants none
 abbrev pub mode_text : Mode → List ℕ
 mode_text mode = way_text mode.access ++ truncate_text mode.truncate ++ creation_text mode.creation
 
--- two hexadecimal digits a byte, with lower-case letters. No bytes are a hyphen
+-- two hexadecimal digits a byte, in lower case. No bytes are a hyphen
 abbrev pub data_text : List ℕ → List ℕ
 data_text [] = codes "-"
 data_text (b ∷ bytes) = encode_lower (b ∷ bytes)
 
--- the word is a target's
 abbrev pub SpellsTarget : List ℕ → Target → Type 0
 SpellsTarget word target = IsWord word × IsTarget word target
 
-abbrev pub call_tokens : Call → List (List ℕ)
-call_tokens (Make kind target) = codes "make" ∷ kind_text kind ∷ target_text target ∷ []
-call_tokens (Open mode target) = codes "open" ∷ mode_text mode ∷ target_text target ∷ []
-call_tokens (Read fd offset count) = codes "read" ∷ decimal fd ∷ decimal offset ∷ decimal count ∷ []
-call_tokens (Write fd offset bytes) = codes "write" ∷ decimal fd ∷ decimal offset ∷ data_text bytes ∷ []
-call_tokens (Ftruncate fd size) = codes "ftruncate" ∷ decimal fd ∷ decimal size ∷ []
-call_tokens (Close fd) = codes "close" ∷ decimal fd ∷ []
-call_tokens (Truncate target size) = codes "truncate" ∷ target_text target ∷ decimal size ∷ []
-call_tokens (ReadDir target) = codes "list" ∷ target_text target ∷ []
-call_tokens (Stat target) = codes "stat" ∷ target_text target ∷ []
-call_tokens (Exec target) = codes "exec" ∷ target_text target ∷ []
-call_tokens (Unlink target) = codes "unlink" ∷ target_text target ∷ []
-call_tokens (Rmdir target) = codes "rmdir" ∷ target_text target ∷ []
-call_tokens (Rename old new) = codes "rename" ∷ target_text old ∷ target_text new ∷ []
-call_tokens (RenameNoreplace old new) = codes "rename_noreplace" ∷ target_text old ∷ target_text new ∷ []
-call_tokens (Exchange old new) = codes "exchange" ∷ target_text old ∷ target_text new ∷ []
-call_tokens (Link old new) = codes "link" ∷ target_text old ∷ target_text new ∷ []
-call_tokens (Ruleset rights) = codes "ruleset" ∷ access_text rights.0 ∷ []
-call_tokens (Allow number target rights) = codes "allow" ∷ decimal number ∷ target_text target ∷ access_text rights.0 ∷ []
-call_tokens (Confine number) = codes "confine" ∷ decimal number ∷ []
-call_tokens Spawn = codes "spawn" ∷ []
-call_tokens Connect = codes "connect" ∷ []
+-- a target is what its own text spells
+abbrev pub IsSpelled : Target → Type 0
+IsSpelled target = SpellsTarget (target_text target) target
 
--- The calls that have a spelling. A target is what its own text spells
+-- when a call has a spelling; whether it holds a word or bytes, which take memory to be read; its tokens
+abbrev pub spelling : Call → Type 0 × Bool × List (List ℕ)
+spelling (Make kind target) = (IsSpelled target, true, codes "make" ∷ kind_text kind ∷ target_text target ∷ [])
+spelling (Open mode target) = (IsSpelled target, true, codes "open" ∷ mode_text mode ∷ target_text target ∷ [])
+spelling (Read fd offset count) =
+    (IsU64 fd × IsU64 offset × IsU64 count, false, codes "read" ∷ decimal fd ∷ decimal offset ∷ decimal count ∷ [])
+spelling (Write fd offset bytes) =
+    (IsU64 fd × IsU64 offset × IsData bytes, true, codes "write" ∷ decimal fd ∷ decimal offset ∷ data_text bytes ∷ [])
+spelling (Ftruncate fd size) = (IsU64 fd × IsU64 size, false, codes "ftruncate" ∷ decimal fd ∷ decimal size ∷ [])
+spelling (Close fd) = (IsU64 fd, false, codes "close" ∷ decimal fd ∷ [])
+spelling (Truncate target size) =
+    (IsSpelled target × IsU64 size, true, codes "truncate" ∷ target_text target ∷ decimal size ∷ [])
+spelling (ReadDir target) = (IsSpelled target, true, codes "list" ∷ target_text target ∷ [])
+spelling (Stat target) = (IsSpelled target, true, codes "stat" ∷ target_text target ∷ [])
+spelling (Exec target) = (IsSpelled target, true, codes "exec" ∷ target_text target ∷ [])
+spelling (Unlink target) = (IsSpelled target, true, codes "unlink" ∷ target_text target ∷ [])
+spelling (Rmdir target) = (IsSpelled target, true, codes "rmdir" ∷ target_text target ∷ [])
+spelling (Rename old new) =
+    (IsSpelled old × IsSpelled new, true, codes "rename" ∷ target_text old ∷ target_text new ∷ [])
+spelling (RenameNoreplace old new) =
+    (IsSpelled old × IsSpelled new, true, codes "rename_noreplace" ∷ target_text old ∷ target_text new ∷ [])
+spelling (Exchange old new) =
+    (IsSpelled old × IsSpelled new, true, codes "exchange" ∷ target_text old ∷ target_text new ∷ [])
+spelling (Link old new) = (IsSpelled old × IsSpelled new, true, codes "link" ∷ target_text old ∷ target_text new ∷ [])
+spelling (Ruleset rights) = (IsU64 rights.0, false, codes "ruleset" ∷ access_text rights.0 ∷ [])
+spelling (Allow number target rights) = (
+  IsU64 number × IsSpelled target × IsU64 rights.0,
+  true,
+  codes "allow" ∷ decimal number ∷ target_text target ∷ access_text rights.0 ∷ [],
+)
+spelling (Confine number) = (IsU64 number, false, codes "confine" ∷ decimal number ∷ [])
+spelling Spawn = (⊤, false, codes "spawn" ∷ [])
+spelling Connect = (⊥, false, codes "connect" ∷ [])
+
 abbrev pub IsCall : Call → Type 0
-IsCall (Make kind target) = SpellsTarget (target_text target) target
-IsCall (Open mode target) = SpellsTarget (target_text target) target
-IsCall (Read fd offset count) = (fd < 2 ^ 64) × (offset < 2 ^ 64) × (count < 2 ^ 64)
-IsCall (Write fd offset bytes) = (fd < 2 ^ 64) × (offset < 2 ^ 64) × IsData bytes
-IsCall (Ftruncate fd size) = (fd < 2 ^ 64) × (size < 2 ^ 64)
-IsCall (Close fd) = fd < 2 ^ 64
-IsCall (Truncate target size) = SpellsTarget (target_text target) target × (size < 2 ^ 64)
-IsCall (ReadDir target) = SpellsTarget (target_text target) target
-IsCall (Stat target) = SpellsTarget (target_text target) target
-IsCall (Exec target) = SpellsTarget (target_text target) target
-IsCall (Unlink target) = SpellsTarget (target_text target) target
-IsCall (Rmdir target) = SpellsTarget (target_text target) target
-IsCall (Rename old new) = SpellsTarget (target_text old) old × SpellsTarget (target_text new) new
-IsCall (RenameNoreplace old new) = SpellsTarget (target_text old) old × SpellsTarget (target_text new) new
-IsCall (Exchange old new) = SpellsTarget (target_text old) old × SpellsTarget (target_text new) new
-IsCall (Link old new) = SpellsTarget (target_text old) old × SpellsTarget (target_text new) new
-IsCall (Ruleset rights) = rights.0 < 2 ^ 64
-IsCall (Allow number target rights) = (number < 2 ^ 64) × SpellsTarget (target_text target) target × (rights.0 < 2 ^ 64)
-IsCall (Confine number) = number < 2 ^ 64
-IsCall Spawn = ⊤
-IsCall Connect = ⊥
+IsCall call = (spelling call).0
 
--- the clients of a session are counted from 1
+abbrev pub call_tokens : Call → List (List ℕ)
+call_tokens call = (spelling call).2
+
+-- a session counts its clients from 1
 abbrev pub IsClient : ℕ → Type 0
 IsClient client = (1 ≤ client) × (client ≤ TREE_CLIENTS)
 
--- which client of the session calls, by `@` (64) and its number. The first is not named
+-- `@` (64) and the client's number. The first is not named
 abbrev pub client_tokens : ℕ → List (List ℕ)
 client_tokens client = if client == 1 then [] else (64 ∷ decimal client) ∷ []
 
--- The line spells the call, made by this client of the session
+-- the line spells the call, made by this client
 pub record SpellsCommand (line : List ℕ) (client : ℕ) (call : Call) : Type 0 where
   pub is_client : IsClient client
   pub is_call : IsCall call
   pub short : length line ≤ LINE_LIMIT
   pub text : line ≡ line_of (client_tokens client ++ call_tokens call)
 
--- ---- replies
+-- When a reply has a spelling, and its tokens. What policy refuses is a denial
+abbrev pub told : Reply → Type 0 × List (List ℕ)
+told Done = (⊤, codes "ok" ∷ [])
+told (Opened number) = (IsU64 number, codes "fd" ∷ decimal number ∷ [])
+told (Bytes bytes) = (IsData bytes, codes "data" ∷ data_text bytes ∷ [])
+told (Wrote count) = (IsU64 count, codes "wrote" ∷ decimal count ∷ [])
+told (Listed names) = (AreListed names, codes "names" ∷ names)
+told (Found s) = (
+  IsU64 s.inode × IsU64 s.size × IsU64 s.links,
+  codes "stat" ∷ decimal s.inode ∷ kind_text s.kind ∷ decimal s.size ∷ decimal s.links ∷ [],
+)
+told (Created number) = (IsU64 number, codes "ruleset" ∷ decimal number ∷ [])
+told (Spawned number) = (IsU64 number, codes "client" ∷ decimal number ∷ [])
+told (Refused errno) = (
+  (3 ≤ errno_number errno) × (errno_number errno ≤ 23),
+  codes "refused" ∷ decimal (errno_number errno) ∷ errno_text errno ∷ [],
+)
+told (Denied d) = (
+  IsU64 d.layer × (d.right < 15),
+  codes "denied" ∷ errno_text (cause_errno d.cause) ∷ codes "layer" ∷ decimal d.layer ∷ right_text d.right
+      ∷ place_text d.place ∷ [],
+)
+
+abbrev pub IsReply : Reply → Type 0
+IsReply reply = (told reply).0
 
 abbrev pub reply_tokens : Reply → List (List ℕ)
-reply_tokens Done = codes "ok" ∷ []
-reply_tokens (Opened number) = codes "fd" ∷ decimal number ∷ []
-reply_tokens (Bytes bytes) = codes "data" ∷ data_text bytes ∷ []
-reply_tokens (Wrote count) = codes "wrote" ∷ decimal count ∷ []
-reply_tokens (Listed names) = codes "names" ∷ names
-reply_tokens (Found s) = codes "stat" ∷ decimal s.inode ∷ kind_text s.kind ∷ decimal s.size ∷ decimal s.links ∷ []
-reply_tokens (Created number) = codes "ruleset" ∷ decimal number ∷ []
-reply_tokens (Spawned number) = codes "client" ∷ decimal number ∷ []
-reply_tokens (Refused errno) = codes "refused" ∷ decimal (errno_number errno) ∷ errno_text errno ∷ []
-reply_tokens (Denied d) = codes "denied" ∷ errno_text (cause_errno d.cause) ∷ codes "layer" ∷ decimal d.layer ∷ right_text d.right
-    ∷ place_text d.place ∷ []
-
--- The replies that have a spelling. What policy refuses is a denial
-abbrev pub IsReply : Reply → Type 0
-IsReply Done = ⊤
-IsReply (Opened number) = number < 2 ^ 64
-IsReply (Bytes bytes) = IsData bytes
-IsReply (Wrote count) = count < 2 ^ 64
-IsReply (Listed names) = AreListed names
-IsReply (Found s) = (s.inode < 2 ^ 64) × (s.size < 2 ^ 64) × (s.links < 2 ^ 64)
-IsReply (Created number) = number < 2 ^ 64
-IsReply (Spawned number) = number < 2 ^ 64
-IsReply (Refused errno) = (3 ≤ errno_number errno) × (errno_number errno ≤ 23)
-IsReply (Denied d) = (d.layer < 2 ^ 64) × (d.right < 15)
+reply_tokens reply = (told reply).1
 
 abbrev pub reply_line : Reply → List ℕ
 reply_line reply = line_of (reply_tokens reply)
 
--- The line spells the reply
 abbrev pub SpellsReply : List ℕ → Reply → Type 0
 SpellsReply line reply = IsReply reply × (line ≡ reply_line reply)

@@ -1,4 +1,5 @@
 pub mod Entries
 pub mod EntryParts
 pub mod Grammar
+pub mod Parts
 pub mod Reads

@@ -2,7 +2,7 @@
 
 ghost use Rattle.std.specs.Prelude.{ℕ, List, All, IsTrue, IfOk, MatchBool, ◌≡◌, ◌↔◌, string_bytes};
 ghost use Rattle.ll_wire.specs.Grammar.{data_text};
-ghost use Rattle.ll_wire.specs.Reads.{Reads, SpellsData, IsDigit};
+ghost use Rattle.ll_wire.specs.Parts.{Reads, SpellsData, IsDigit};
 
 use ll_path::Data;
 use ll_rights::Errno;

@@ -2,7 +2,8 @@
 
 ghost use Rattle.std.specs.Prelude.{◌≡◌, ◌≤◌, ◌∷◌, true, map, codes};
 ghost use Rattle.ll_wire.specs.Grammar.{mode_text, SpellsTarget, SpellsCommand};
-ghost use Rattle.ll_wire.specs.Reads.{Reads, ReadsBy, ReadsCall, holds_text, Finds, SpellsOneTarget, SpellsTwoTargets, SpellsCall, SpellsTokens};
+ghost use Rattle.ll_wire.specs.Parts.{Reads, ReadsCall, SpellsOneTarget, SpellsTwoTargets, SpellsCall, SpellsTokens};
+ghost use Rattle.ll_wire.specs.Reads.{ReadsBy, holds_text, Finds};
 
 use crate::bytes::data_of;
 use crate::token::{body_of, client_of, number_of, tokens_of};

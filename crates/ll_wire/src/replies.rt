@@ -5,7 +5,8 @@ ghost use Rattle.std.specs.List.{slice_split};
 ghost use Rattle.ll_seq.specs.Listed.{AreListed};
 ghost use Rattle.ll_seq.specs.declared.reply.Reply.{Reply};
 ghost use Rattle.ll_wire.specs.Grammar.{SpellsReply};
-ghost use Rattle.ll_wire.specs.Reads.{Reads, ReadsBy, Finds, tells_text, SpellsNames, SpellsOneNumber, SpellsReplyTokens, SpellsReplyBody};
+ghost use Rattle.ll_wire.specs.Parts.{Reads, SpellsNames, SpellsOneNumber, SpellsReplyTokens, SpellsReplyBody};
+ghost use Rattle.ll_wire.specs.Reads.{ReadsBy, Finds, tells_text};
 
 use crate::bytes::data_of;
 use crate::token::{body_of, number_of, tokens_of};

@@ -3,7 +3,8 @@
 ghost use Rattle.std.specs.Prelude.{◌≡◌, ◌≢◌, ◌<◌, ◌≤◌, ◌==◌, ◌∷◌, [], ◌++◌, ℕ, List, map, length, take, slice_index, MatchBool, IfSome, IfNone};
 ghost use Rattle.std.specs.List.{slice_split};
 ghost use Rattle.std.specs.Str.{IsAscii};
-ghost use Rattle.ll_wire.specs.Reads.{Finds, SpellsNumber, NamesClient};
+ghost use Rattle.ll_wire.specs.Parts.{SpellsNumber, NamesClient};
+ghost use Rattle.ll_wire.specs.Reads.{Finds};
 
 use ll_rights::limits::TREE_CLIENTS;
 
