@@ -1,4 +1,4 @@
--- How far a run has come, for the functions below `run_script` alone: its own contract cites nothing of this file.
+-- How far a run has come. (Support of the functions below `run_script`: no public contract cites this file.)
 use Rattle.std.specs.Prelude.{⊤, ◌≡◌, ◌≢◌, ◌⊎◌, ℕ, ◌+◌, ◌≤◌, ◌<◌, List, ◌++◌, length, Option, None, MatchBool}
 use Rattle.std.specs.List.{AllByRecursion}
 use Rattle.std.specs.Io.KnownBytes.{Appends}
@@ -7,11 +7,17 @@ use Rattle.ll_seq.specs.Stages.{numbers_from}
 use Rattle.ll_wire.specs.Grammar.{reply_line}
 use Rattle.landtree.specs.declared.fault.SessionFault.{SessionFault}
 use Rattle.landtree.specs.declared.fault.SessionFault.TheVariants as fault
+use Rattle.landtree.specs.declared.fault.RunFault.{RunFault}
+use Rattle.landtree.specs.declared.fault.RunFault.TheVariants as run
 use Rattle.landtree.specs.declared.line.Line.{Line}
+use Rattle.landtree.specs.declared.setup.Setup.{Setup}
 use Rattle.landtree.specs.declared.tree.SessionTree.{SessionTree}
+use Rattle.landtree.specs.declared.tree.Refusal.{Refusal}
+use Rattle.landtree.specs.declared.tree.Refusal.TheVariants.{Connect, Call}
 use Rattle.landtree.specs.declared.session.OpenSession.{OpenSession}
 use Rattle.landtree.specs.declared.session.Opened.{Opened}
 use Rattle.landtree.specs.declared.session.Opened.TheVariants.{Begun, Refused}
+use Rattle.landtree.specs.Opening.{Coming, unconnected, unmade, Opens, stopped}
 use Rattle.landtree.specs.Run.{Lines}
 use Rattle.landtree.specs.Transcript.{Session, Called, Answers, pieces}
 
@@ -29,14 +35,29 @@ abbrev pub IfRefused : Opened → (Reply → Type 0) → Type 0
 IfRefused (Begun session) P = ⊤
 IfRefused (Refused reply) P = P reply
 
+-- a fault that ends an opening: a loader's call is refused, or memory ran out
+abbrev pub OpensBadly : Setup → RunFault → Type 0
+OpensBadly setup run.Opening = Opens setup stopped
+OpensBadly setup (run.Session of) = of ≡ fault.NoMemory
+
+-- the reply that keeps a client from making its calls
+abbrev pub reply_in : Refusal → Reply
+reply_in (Connect reply) = reply
+reply_in (Call reply) = reply
+
+-- how its coming ends then
+abbrev pub coming_in : Refusal → Coming
+coming_in (Connect reply) = unconnected reply
+coming_in (Call reply) = unmade reply
+
 -- the numbers that inodes and clients have had
 abbrev pub used : SessionTree → ℕ
-used tree = tree.plain.next + tree.clients
+used tree = tree.plain.next + (tree.before + tree.clients)
 
--- the session with this tree, of so many clients, and without a limit
+-- the session with this tree, of so many clients after those that came before them, and without a limit
 pub record StandsAt (of : SessionTree) (s : Session) : Type 0 where
   pub tree : s.tree ≡ of.plain
-  pub clients : s.clients ≡ numbers_from 1 of.clients
+  pub clients : s.clients ≡ numbers_from (of.before + 1) of.clients
   pub limit : s.limit ≡ None
 
 abbrev pub AnswersLine : Session → List ℕ → Reply → Session → Type 0

@@ -8,17 +8,23 @@ use crate::fuse::{Sink, Source};
 use crate::options::Options;
 use crate::run::run_script;
 use crate::setup::Setup;
+use ll_policy::PolicyFault;
 use ll_rights::Abi;
 use ll_seq::Rules;
+use std::alloc::Global;
 use std::test::Fail;
 
-const SETUP: Setup = Setup {
-    rules: Rules {
-        abi: Abi::NEWEST,
-        copies: true,
-    },
-    nodes: 1024,
-};
+fn setup(alloc: Global) -> Setup {
+    Setup {
+        rules: Rules {
+            abi: Abi::NEWEST,
+            copies: true,
+        },
+        nodes: 1024,
+        loader: None,
+        profile: Vec::new(alloc),
+    }
+}
 
 const TEN_LINES: &[u8] = b"\
 make dir /a
@@ -47,6 +53,7 @@ refused 23 BadLine
 
 #[test]
 fn reads_fail(rt: HostRuntime) -> Result<(), Fail> {
+    let setup = setup(rt.alloc());
     let mut most = 0;
     for calls in 0..TEN_LINES.len() + 2 {
         let mut reader = Source {
@@ -54,7 +61,7 @@ fn reads_fail(rt: HostRuntime) -> Result<(), Fail> {
             calls,
         };
         let mut out = Vec::new(rt.alloc());
-        let ended = run_script(rt.alloc(), &SETUP, &mut reader, &mut out);
+        let ended = run_script(rt.alloc(), &setup, &mut reader, &mut out);
         if calls > TEN_LINES.len() {
             assert!(rt; ended.is_ok());
         } else {
@@ -70,6 +77,7 @@ fn reads_fail(rt: HostRuntime) -> Result<(), Fail> {
 
 #[test]
 fn writes_fail(rt: HostRuntime) -> Result<(), Fail> {
+    let setup = setup(rt.alloc());
     for calls in 0..TEN_REPLIES.len() + 2 {
         let mut reader = TEN_LINES;
         let mut writer = Sink {
@@ -77,7 +85,7 @@ fn writes_fail(rt: HostRuntime) -> Result<(), Fail> {
             calls,
             failures: 0,
         };
-        let ended = run_script(rt.alloc(), &SETUP, &mut reader, &mut writer);
+        let ended = run_script(rt.alloc(), &setup, &mut reader, &mut writer);
         let taken = calls.min(TEN_REPLIES.len());
         if taken == TEN_REPLIES.len() {
             assert!(rt; ended.is_ok());
@@ -92,23 +100,31 @@ fn writes_fail(rt: HostRuntime) -> Result<(), Fail> {
     Ok(())
 }
 
-fn are(options: &Options, script: &str, nodes: usize, level: u64) -> bool {
-    let setup = &options.setup;
-    options.script == script && setup.nodes == nodes && setup.rules.abi.number() == level
+fn are(options: &Options, script: &str, nodes: usize, level: Option<Abi>) -> bool {
+    options.script == script && options.nodes == nodes && options.level == level
 }
 
 #[test]
 fn words(rt: HostRuntime) -> Result<(), Fail> {
-    let table: [(&[&str], &str, usize, u64); 4] = [
-        (&["landtree", "run", "-"], "-", 1024, 3),
-        (&["landtree", "run", "s", "--nodes", "2"], "s", 2, 3),
-        (&["landtree", "run", "--nodes=4096", "s"], "s", 4096, 3),
-        (&["landtree", "run", "--abi", "1", "s"], "s", 1024, 1),
+    let table: [(&[&str], &str, usize, Option<Abi>); 4] = [
+        (&["landtree", "run", "-"], "-", 1024, None),
+        (&["landtree", "run", "s", "--nodes", "2"], "s", 2, None),
+        (&["landtree", "run", "--nodes=4096", "s"], "s", 4096, None),
+        (
+            &["landtree", "run", "--abi", "3", "s"],
+            "s",
+            1024,
+            Some(Abi::NEWEST),
+        ),
     ];
     for (words, script, nodes, level) in table {
         let options = Options::read(rt.alloc(), words)?;
         assert!(rt; are(&options, script, nodes, level), "{words:?}");
+        assert!(rt; options.fit(), "{words:?}");
     }
+    let words = ["landtree", "run", "s", "--policy", "p", "--profile", "n"];
+    let options = Options::read(rt.alloc(), &words)?;
+    assert!(rt; options.policy == Some("p") && options.profile == Some("n") && options.fit());
     Ok(())
 }
 
@@ -129,6 +145,10 @@ fn refused_words(rt: HostRuntime) {
 fn failures(rt: HostRuntime) -> Result<(), Fail> {
     let texts = [
         (Failure::CommandLine, "landtree: command line"),
+        (
+            Failure::Policy(PolicyFault::BadPath),
+            "landtree: policy BadPath",
+        ),
         (Failure::Opening, "landtree: opening call refused"),
         (Failure::File, "landtree: file"),
         (Failure::Output, "landtree: output"),
