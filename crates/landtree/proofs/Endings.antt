@@ -15,7 +15,7 @@ use Rattle.landtree.specs.declared.session.Opened.TheVariants as opened
 use Rattle.landtree.specs.Transcript.{Session, pieces}
 use Rattle.landtree.specs.Opening.{begun, refused, Opens}
 use Rattle.landtree.specs.Run.{Runs, Begins, Writes}
-use Rattle.landtree.specs.Progress.{AppendsFront, Holds, IfBegun, StandsAt, IsWritten, HasBegun, Progress}
+use Rattle.landtree.specs.Progress.{AppendsFront, Holds, IfBegun, IfRefused, StandsAt, IsWritten, HasBegun, Progress}
 use Rattle.landtree.proofs.Cuts.{pieces-last, kept, has_bytes}
 use Rattle.landtree.proofs.Writing.{appends-more, front-none}
 use Rattle.landtree.proofs.Coming.{may_be_refused}
@@ -52,6 +52,9 @@ on_err (Err fault) p = p
 
 pub of_begun : (P : OpenSession → Type 0) (o : Opened) (session : OpenSession) → o ≡ opened.Begun session → IfBegun o P → P session
 of_begun P o session is h = subst (λ (x : Opened). IfBegun x P) is h
+
+pub of_refused : (P : Reply → Type 0) (o : Opened) (reply : Reply) → o ≡ opened.Refused reply → IfRefused o P → P reply
+of_refused P o reply is h = subst (λ (x : Opened). IfRefused x P) is h
 
 -- a session that is opened, and all of the input is read and answered
 abbrev pub Whole : OpenSession → (remaining remaining' old new : Option (List ℕ)) → Type 0

@@ -19,7 +19,7 @@ use Rattle.ll_seq.specs.Step.{step, first_or, refusals, client_of}
 use Rattle.ll_seq.proofs.Consequences.{step-clients_stay, step-spawned}
 use Rattle.ll_seq.proofs.Histories.{after_push, legal_append}
 use Rattle.ll_wire.specs.Grammar.{IsCall}
-use Rattle.landtree.proofs.Opening.{there_by}
+use Rattle.landtree.proofs.Opening.{paired, there_by}
 use Rattle.landtree.specs.declared.setup.Setup.{Setup}
 use Rattle.landtree.specs.Opening.{Comes, Loads, Makes, Opens, begun, following, fresh, joined, made}
 use Rattle.landtree.specs.Run.{Lines, RunsLegally}
@@ -110,9 +110,6 @@ brought_there tree (Spawned number) there = (there number refl, tt)
 brought_there tree (Refused errno) there = tt
 brought_there tree (Denied denial) there = tt
 
-abbrev told : Reply → State → Reply × State
-told reply tree = (reply, tree)
-
 -- what holds between two lines
 pub record IsSound (empty : State) (s : Session) : Type 0 where
   pub legal : IsLegal empty s.entries
@@ -158,7 +155,7 @@ module _ (empty : State) where
       → IsSound empty s → Came s n t
   by_connect s t n call reply connects done vacant (full filled) sound = absurd cc
   by_connect s t n call reply connects done vacant (starved may) sound = absurd cc
-  by_connect s t n call told connects done vacant (answered reply tree fresh room free is) sound =
+  by_connect s t n call given connects done vacant (answered reply tree fresh room free is) sound =
       let outcome : ◌≡◌ {A = Reply × State} (step s.tree n call (fresh_of reply)) (reply, tree) =
       ap (λ (p : Reply × State). step s.tree n call (fresh_of p.0)) is ∙ by_reply s.tree n call fresh ∙ sym is in
       let entry : Entry = record { client = n; call = call; reply = reply } in
@@ -169,7 +166,7 @@ module _ (empty : State) where
         answered = ap (λ (p : Reply × State). p.0) outcome;
       } in
       let here : has tree.clients n ≡ true = there_by s.tree tree n fresh vacant
-      (sym (ap (λ (r : Reply). told r tree) done) ∙ is ∙ ap (λ (c : Call). step s.tree n c fresh) connects) in
+      (sym (ap (λ (r : Reply). paired r tree) done) ∙ is ∙ ap (λ (c : Call). step s.tree n c fresh) connects) in
       let others : AreThere tree s.clients = still_there s.tree tree s.clients
       (λ k e. ap (λ (p : Reply × State). has p.1.clients k) is ∙ step-clients_stay s.tree n call fresh k e) sound.there in
       let brings : AreThere tree (brought reply) = brought_there tree reply (λ number e. absurd (let both : Done ≡ Spawned number = sym done ∙ e in cc)) in (

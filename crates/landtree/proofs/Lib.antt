@@ -13,5 +13,5 @@ pub mod Numbers
 pub mod Opening
 pub mod Places
 pub mod Replies
-pub mod Told
+pub mod Known
 pub mod Writing

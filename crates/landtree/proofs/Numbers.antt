@@ -1,5 +1,6 @@
 -- The number that a word gives, and what the matches of `run` ask for.
 use Rattle.std.proofs.Common.{◌≡◌, ◌∙◌, ◌<◌, ◌≤◌, ◌^◌, ◌&&◌, ℕ, Bool, true, false, Option, Some, None, refl, sym, ap, ap₂, cond, codes, option_map, is_some, nat_le}
+use Rattle.std.specs.Option.{SomeIff}
 use Rattle.std.specs.Prelude.{option_and_then}
 use Rattle.std.specs.Str.Parse.{IsNumeral, digits_value, without_leading_plus}
 use Rattle.std.proofs.lemmas.Bool.{le-leb, leb-true}
@@ -66,6 +67,11 @@ module _ (low high : ℕ) where
       go true true e f = absurd (out (leb-true low n e, leb-true n high f))
       go true false e f = refl
       go false b e f = refl
+
+-- the level of a number
+pub level_allowed : (o : Option ℕ) (n : ℕ) → SomeIff o ((1 ≤ n) × (n ≤ 3)) n → o ≡ allowed 1 3 n
+level_allowed (Some level) n h = ap Some h.1 ∙ within 1 3 n h.0.0 h.0.1
+level_allowed None n h = beyond 1 3 n h
 
 -- what is asked for, where each part is there
 abbrev pub together : Option Text → Option ℕ → Option ℕ → Option Text → Option Text → Option Asked

@@ -31,7 +31,7 @@ pub nobody : (rules : Rules) (nodes number : ℕ) → has (start rules nodes).cl
 unfolding empty get
 nobody rules nodes number = refl
 
-abbrev paired : Reply → State → Reply × State
+abbrev pub paired : Reply → State → Reply × State
 paired reply s = (reply, s)
 
 -- it comes, or is refused
@@ -89,6 +89,7 @@ pub record Met (before after : SessionTree) (reply : Reply) : Type 0 where
   pub alone_still : after.before ≡ 0
   pub clients : reply ≡ Done → after.clients ≡ before.clients + 1
 
+-- what a call of the tree's connect tells
 abbrev pub ConnectedBy : Session → Reply → SessionTree → Type 0
 ConnectedBy s reply left = (t : Session) × Connects s reply t × (reply ≡ Done → StandsAt left (joined s t))
 

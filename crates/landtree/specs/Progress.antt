@@ -1,5 +1,5 @@
 -- How far a run has come. (Support of the functions below `run_script`: no public contract cites this file.)
-use Rattle.std.specs.Prelude.{⊤, ◌≡◌, ◌≢◌, ◌⊎◌, ℕ, ◌+◌, ◌≤◌, ◌<◌, List, ◌++◌, length, Option, None, MatchBool}
+use Rattle.std.specs.Prelude.{⊤, ◌≡◌, ◌≢◌, ◌⊎◌, ℕ, ◌+◌, ◌≤◌, ◌<◌, List, ◌++◌, length, Option, None, MatchBool, if◌then◌else◌}
 use Rattle.std.specs.List.{AllByRecursion}
 use Rattle.std.specs.Io.KnownBytes.{Appends}
 use Rattle.ll_seq.specs.declared.reply.Reply.{Reply}
@@ -13,7 +13,6 @@ use Rattle.landtree.specs.declared.line.Line.{Line}
 use Rattle.landtree.specs.declared.setup.Setup.{Setup}
 use Rattle.landtree.specs.declared.tree.SessionTree.{SessionTree}
 use Rattle.landtree.specs.declared.tree.Refusal.{Refusal}
-use Rattle.landtree.specs.declared.tree.Refusal.TheVariants.{Connect, Call}
 use Rattle.landtree.specs.declared.session.OpenSession.{OpenSession}
 use Rattle.landtree.specs.declared.session.Opened.{Opened}
 use Rattle.landtree.specs.declared.session.Opened.TheVariants.{Begun, Refused}
@@ -40,15 +39,9 @@ abbrev pub OpensBadly : Setup → RunFault → Type 0
 OpensBadly setup run.Opening = Opens setup stopped
 OpensBadly setup (run.Session of) = of ≡ fault.NoMemory
 
--- the reply that keeps a client from making its calls
-abbrev pub reply_in : Refusal → Reply
-reply_in (Connect reply) = reply
-reply_in (Call reply) = reply
-
--- how its coming ends then
+-- how the coming of a client ends that this reply kept from its calls
 abbrev pub coming_in : Refusal → Coming
-coming_in (Connect reply) = unconnected reply
-coming_in (Call reply) = unmade reply
+coming_in refusal = if refusal.at_connect then unconnected refusal.reply else unmade refusal.reply
 
 -- the numbers that inodes and clients have had
 abbrev pub used : SessionTree → ℕ

@@ -109,7 +109,12 @@ pub fn setup_of<R: Read>(alloc: Global, options: &Options, file: &mut R) -> Resu
     if options.policy.is_none() {
         return Ok(by_level(alloc, options));
     }
-    let text = read_text(alloc, file)?;
-    let policy = policy_of(alloc, text.as_slice())?;
-    by_policy(alloc, options, &policy)
+    let text = match read_text(alloc, file) {
+        Ok(text) => text,
+        Err(failure) => return Err(failure),
+    };
+    match policy_of(alloc, text.as_slice()) {
+        Ok(policy) => by_policy(alloc, options, &policy),
+        Err(failure) => Err(failure),
+    }
 }

@@ -6,7 +6,7 @@ use crate::fault::{RunFault, SessionFault};
 use crate::line::Line;
 use crate::output::write_reply;
 use crate::setup::Setup;
-use crate::tree::{Refusal, SessionTree};
+use crate::tree::SessionTree;
 use ll_plain::Plain;
 use ll_rights::Errno;
 use ll_seq::Reply;
@@ -57,8 +57,12 @@ impl OpenSession {
         let mut tree = SessionTree::new(plain);
         match tree.load(&setup.loader) {
             Ok(()) => {}
-            Err(Refusal::Connect(reply)) => return Ok(Opened::Refused(reply)),
-            Err(Refusal::Call(_)) => return Err(RunFault::Opening),
+            Err(refusal) => {
+                if refusal.at_connect {
+                    return Ok(Opened::Refused(refusal.reply));
+                }
+                return Err(RunFault::Opening);
+            }
         }
         let before = tree.clients;
         match tree.bring(setup.profile.as_slice()) {
@@ -67,8 +71,7 @@ impl OpenSession {
                 tree: tree.beginning_after(before),
                 line,
             })),
-            Err(Refusal::Connect(reply)) => Ok(Opened::Refused(reply)),
-            Err(Refusal::Call(reply)) => Ok(Opened::Refused(reply)),
+            Err(refusal) => Ok(Opened::Refused(refusal.reply)),
         }
     }
 

@@ -23,11 +23,11 @@ pub struct SessionTree {
     ghost free: { (number : ℕ) → before + clients < number → has plain.clients number ≡ false },
 }
 
-/// Why a client hasn't made all its calls: the reply to its connect, or to one of them.
+/// The reply that kept a client from making all its calls: to its connect, or to one of them.
 #[derive(Drop)]
-pub enum Refusal {
-    Connect(Reply),
-    Call(Reply),
+pub struct Refusal {
+    pub at_connect: bool,
+    pub reply: Reply,
 }
 
 // Whether the call is refused, or denied.
@@ -40,7 +40,7 @@ fn is_refused(reply: &Reply) -> bool
 impl SessionTree {
     ghost use Rattle.landtree.specs.Transcript.{Session, AreOthers, Called, as_written, brought};
     ghost use Rattle.landtree.specs.Opening.{Connects, Comes, Loads, Makes, Stops, joined, made};
-    ghost use Rattle.landtree.specs.Progress.{used, StandsAt, reply_in, coming_in};
+    ghost use Rattle.landtree.specs.Progress.{used, StandsAt, coming_in};
 
     /// A fresh tree, to which nobody has connected.
     pub fn new(plain: Plain) -> SessionTree
@@ -157,7 +157,7 @@ impl SessionTree {
             → (t : Session) × Comes s calls.now (made t) × StandsAt self.new t) }
         ensures err { IfErr result (λ refusal. (s : Session) → StandsAt self.old s
             → Comes s calls.now (coming_in refusal)) }
-        ensures answers { IfErr result (λ refusal. IsAnswer (reply_in refusal)) }
+        ensures answers { IfErr result (λ refusal. IsAnswer refusal.reply) }
         ensures before { self.new.before ≡ 0 }
         ensures clients { OnOk result (self.old.clients < self.new.clients) }
         ensures numbers { used self.new ≤ used self.old + 2 ^ 60 }
@@ -165,11 +165,19 @@ impl SessionTree {
         let client = self.clients + 1;
         match self.connect() {
             Reply::Done => {}
-            reply => return Err(Refusal::Connect(reply)),
+            reply => {
+                return Err(Refusal {
+                    at_connect: true,
+                    reply,
+                });
+            }
         }
         match self.make(client, calls) {
             Ok(()) => Ok(()),
-            Err(reply) => Err(Refusal::Call(reply)),
+            Err(reply) => Err(Refusal {
+                at_connect: false,
+                reply,
+            }),
         }
     }
 
@@ -182,7 +190,7 @@ impl SessionTree {
             → (t : Session) × Loads s loader.now (made t) × StandsAt self.new t) }
         ensures err { IfErr result (λ refusal. (s : Session) → StandsAt self.old s
             → Loads s loader.now (coming_in refusal)) }
-        ensures answers { IfErr result (λ refusal. IsAnswer (reply_in refusal)) }
+        ensures answers { IfErr result (λ refusal. IsAnswer refusal.reply) }
         ensures before { self.new.before ≡ 0 }
         ensures numbers { used self.new ≤ used self.old + 2 ^ 60 }
     {

@@ -1,6 +1,7 @@
 use Rattle.std.proofs.Common.{[]}
+use Rattle.landtree.specs.Opening.{Opens, refused}
 use Rattle.landtree.specs.Progress.{Holds}
-use Rattle.landtree.proofs.Endings.{Begun, of_begun, on_err, runs, run_stops, not_opened}
+use Rattle.landtree.proofs.Endings.{Begun, of_begun, of_refused, on_err, refusal_stops, runs, run_stops, not_opened}
 use Rattle.landtree.proofs.run.run_script.Goals as goal
 
 pub returns-in_err-session-clause-beginning : goal.returns-in_err-session-clause-beginning
@@ -22,3 +23,10 @@ returns-in_ok-run_session-in-Begun-clause-transcript g c =
     (of_begun (λ session. Holds session.line []) _ _ c.in-Begun.is c.in_ok-session.ensures.line)
     (of_begun (Begun c.args.setup.now) _ _ c.in-Begun.is c.in_ok-session.ensures.session)
     c.in_ok-run_session-in-Begun.ensures.ok
+
+pub returns-in_err-write_reply-in-Refused-clause-beginning : goal.returns-in_err-write_reply-in-Refused-clause-beginning
+returns-in_err-write_reply-in-Refused-clause-beginning g c =
+    on_err c.from_residual-in_err-write_reply-in-Refused.result
+    (refusal_stops c.args.setup.now (g.R.Read.remaining c.args.reader.now) (g.W.Write.contents c.args.writer.now) (g.W.Write.contents c.write_reply.new.writer) c.in-Refused.reply
+    (of_refused (λ reply. Opens c.args.setup.now (refused reply)) _ _ c.in-Refused.is c.in_ok-session.ensures.refused)
+    c.in_err-write_reply-in-Refused.ensures.err)

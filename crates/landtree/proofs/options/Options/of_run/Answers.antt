@@ -1,4 +1,4 @@
-use Rattle.std.proofs.Common.{◌∙◌, ap, arith, refl, Option, Some, None, option_map}
+use Rattle.std.proofs.Common.{◌∙◌, ap, arith, rules, refl, inl, inr, Option, Some, None, option_map}
 use Rattle.clap.specs.Words.{Text, found_of}
 use Rattle.landtree.specs.declared.options.Options.{Options}
 use Rattle.landtree.specs.Options.{Asked, asked_in}
@@ -22,11 +22,14 @@ pub returns-then-nodes-lt1 : goal.returns-then-nodes-lt1
 returns-then-nodes-lt1 c =
     let nodes = c.in_ok-nodes.ensures in
     asked_of (found_of c.args.run.now) (Some c.in_ok-script.script.now) None _ _ _ c.in_ok-script.ensures
-    (beyond 1 4096 c.in_ok-nodes.nodes (λ h. ?) ∙ number_read 1 4096 _ (Some c.in_ok-nodes.nodes) nodes.none (λ t e. (nodes.value t e).0)) refl refl refl
+    (beyond 1 4096 c.in_ok-nodes.nodes (λ h. elim c.then-nodes-lt1.either [
+      | inl less ↦ (let a = h.0 in omega (arith, less))
+      | inr more ↦ (let a = h.1 in omega (arith, more.1))
+    ]) ∙ number_read 1 4096 _ (Some c.in_ok-nodes.nodes) nodes.none (λ t e. (nodes.value t e).0)) refl refl refl
 
 pub returns : goal.returns
 returns c =
     let nodes = c.in_ok-nodes.ensures in
-    asked_of (found_of c.args.run.now) (Some c.in_ok-script.script.now) (Some c.in_ok-nodes.nodes) c.level.result _ _ c.in_ok-script.ensures
-    (within 1 4096 c.in_ok-nodes.nodes ? ? ∙ number_read 1 4096 _ (Some c.in_ok-nodes.nodes) nodes.none (λ t e. (nodes.value t e).0))
-    c.level_of.ensures c.policy.ensures c.profile.ensures
+    asked_of (found_of c.args.run.now) (Some c.in_ok-script.script.now) (Some c.in_ok-nodes.nodes) c.level_of-level.result _ _ c.in_ok-script.ensures
+    (within 1 4096 c.in_ok-nodes.nodes (search rules) (search rules) ∙ number_read 1 4096 _ (Some c.in_ok-nodes.nodes) nodes.none (λ t e. (nodes.value t e).0))
+    c.level_of-level.ensures c.get_str-policy.ensures c.get_str-profile.ensures

@@ -1,4 +1,4 @@
-use Rattle.std.proofs.Common.{◌≡◌, ◌∙◌, ◌+◌, ap, sym, arith, inl, inr}
+use Rattle.std.proofs.Common.{◌≡◌, ◌∙◌, ◌+◌, ap, sym, refl, arith, inl, inr}
 use Rattle.std.proofs.lemmas.Bool.{cases_lt}
 use Rattle.ll_rights.specs.Map.{has}
 use Rattle.ll_seq.specs.declared.reply.Reply.TheVariants.{Done, Spawned}
@@ -19,7 +19,26 @@ invariant_of-self c =
     }
 
 pub returns-in-Done-clause-connects : goal.returns-in-Done-clause-connects
-returns-in-Done-clause-connects c s stands = connected_by s c.args.self.now _ c.apply-reply.result stands ?
+returns-in-Done-clause-connects c s stands = connected_by s c.args.self.now _ c.apply-reply.result stands
+    (record {
+      alone = c.requires.before;
+      free = c.args.self.now.free (c.args.self.now.clients + 1) (let alone = c.requires.before in omega arith);
+      step = c.apply-reply.ensures.step;
+      starved = c.apply-reply.ensures.starved;
+      alone_still = c.requires.before;
+      clients = λ _. refl;
+    })
 
-pub returns-in_default : goal.returns-in_default
-returns-in_default c = ?
+pub returns-in_default-clause-connects : goal.returns-in_default-clause-connects
+returns-in_default-clause-connects c s stands = connected_by s c.args.self.now _ c.apply-reply.result stands
+    (record {
+      alone = c.requires.before;
+      free = c.args.self.now.free (c.args.self.now.clients + 1) (let alone = c.requires.before in omega arith);
+      step = c.apply-reply.ensures.step;
+      starved = c.apply-reply.ensures.starved;
+      alone_still = c.requires.before;
+      clients = λ done. absurd (c.in_default.not-Done done);
+    })
+
+pub returns-in_default-clause-clients : goal.returns-in_default-clause-clients
+returns-in_default-clause-clients c done = absurd (c.in_default.not-Done done)
