@@ -1,7 +1,7 @@
--- Words in which clap finds no fault name a script, a number of nodes and a level.
+-- Words in which clap finds no fault name a script and a number of nodes.
 use Rattle.std.proofs.Common.{◌≡◌, ◌≢◌, ◌∙◌, ap, ap₂, subst, ℕ, Bool, true, false, cond, codes, refl, sym, List, [], ◌∷◌, ◌++◌, length, not, Option, Some, None, is_some, ◌||◌, true≢false}
 use Rattle.std.specs.Prelude.{option_and_then, option_map, slice_get}
-use Rattle.std.specs.List.{find, fold, list_any}
+use Rattle.std.specs.List.{AllByRecursion, find, fold, list_any}
 use Rattle.std.specs.Option.{option_map_or}
 use Rattle.std.specs.Str.{bytes_eq}
 use Rattle.std.specs.Str.Parse.{digits_value, without_leading_plus}
@@ -20,20 +20,16 @@ use Rattle.clap.specs.declared.parser.matches.ValueSource.{ValueSource}
 use Rattle.clap.specs.declared.parser.matches.ValueSource.TheVariants.{CommandLine, DefaultValue}
 use Rattle.clap.specs.declared.builder.value_parser.Reading.{Reading}
 use Rattle.clap.specs.declared.builder.value_parser.Reading.TheVariants.{AsWritten}
-use Rattle.landtree.specs.Options.{abi, asked, asked_by, landtree, levels, node_numbers, nodes, number_in, run, script}
+use Rattle.landtree.specs.Options.{abi, asked, asked_by, landtree, node_numbers, nodes, number_in, run, script, valued}
 use Rattle.landtree.proofs.Kept.{Keeps, by_words, no_faults, settles}
 use Rattle.landtree.proofs.Entered.{built_enters}
 use Rattle.landtree.proofs.Numbers.{whole}
 
 -- ---- what the rows of `run` hold
 
--- of the option with this name the parser accepts the value
-abbrev Fits : Text → ValueParser → Row → Text → Type 0
-Fits name parser r v = bytes_eq r.id name ≡ true → (accepts false parser v ≡ true) × (r.reading ≡ AsWritten)
-
--- a first value, and for the options one that their parser accepts
+-- a first value, and for the nodes one that their parser accepts
 abbrev GoodRow : Row → Type 0
-GoodRow r = (v : Text) × (vs : List Text) × (r.values ≡ v ∷ vs) × Fits (codes "nodes") node_numbers r v × Fits (codes "abi") levels r v
+GoodRow r = (v : Text) × (vs : List Text) × (r.values ≡ v ∷ vs) × (bytes_eq r.id (codes "nodes") ≡ true → (accepts false node_numbers v ≡ true) × (r.reading ≡ AsWritten))
 
 abbrev Good : List Row → Type 0
 Good [] = Unit {0}
@@ -54,14 +50,10 @@ good_at id change missing (r ∷ rs) changes m g = go (bytes_eq r.id id) (good_a
 good_without : (id : Text) (rows : List Row) → Good rows → Good (without id rows)
 good_without id rows g = good_at id (λ _. []) [] rows (λ r h. tt) tt g
 
--- the value that is given to this argument
-abbrev Given : Text → ValueParser → Text → Reading → Text → Type 0
-Given name parser id how v = bytes_eq id name ≡ true → (accepts false parser v ≡ true) × (how ≡ AsWritten)
-
 good_values : (id : Text) (how : Reading) (s : ValueSource) (v : Text) (vs : List Text) (rows : List Row)
-    → Given (codes "nodes") node_numbers id how v → Given (codes "abi") levels id how v → Good rows → Good (with_values id how s (v ∷ vs) rows)
-good_values id how s v vs rows node level g = good_at id (more_values s (v ∷ vs)) _ rows
-    (λ r h. ((h.0, h.1 ++ v ∷ vs, ap (λ l. l ++ v ∷ vs) h.2, h.3, h.4), tt)) ((v, vs, refl, node, level), tt) g
+    → (bytes_eq id (codes "nodes") ≡ true → (accepts false node_numbers v ≡ true) × (how ≡ AsWritten)) → Good rows → Good (with_values id how s (v ∷ vs) rows)
+good_values id how s v vs rows given g = good_at id (more_values s (v ∷ vs)) _ rows
+    (λ r h. ((h.0, h.1 ++ v ∷ vs, ap (λ l. l ++ v ∷ vs) h.2, h.3), tt)) ((v, vs, refl, given), tt) g
 
 -- ---- the arguments of `run`, as clap builds them
 
@@ -74,18 +66,36 @@ nodes_built = filled nodes
 abbrev abi_built : Rule
 abi_built = filled abi
 
+abbrev policy_built : Rule
+policy_built = filled (valued (codes "policy"))
+
+abbrev profile_built : Rule
+profile_built = filled (valued (codes "profile"))
+
 abbrev help_built : Rule
 help_built = filled help_rule
 
 abbrev run_built : Shape
-run_built = record run.top { rules = script_built ∷ nodes_built ∷ abi_built ∷ help_built ∷ []; disable_help_subcommand = true; is_built = true }
+run_built = record run.top { rules = script_built ∷ nodes_built ∷ abi_built ∷ policy_built ∷ profile_built ∷ help_built ∷ []; disable_help_subcommand = true; is_built = true }
 
 no_option : (e : false ≡ true) → {A : Type 0} → A
 no_option e = absurd (true≢false (sym e))
 
 script_keeps : Keeps Good script_built
 script_keeps again [] rows e g = absurd cc
-script_keeps again (v ∷ vs) rows e g = good_values (codes "SCRIPT") _ CommandLine v vs _ (λ same. no_option same) (λ same. no_option same) (good_without (codes "SCRIPT") rows g)
+script_keeps again (v ∷ vs) rows e g = good_values (codes "SCRIPT") _ CommandLine v vs _ (λ same. no_option same) (good_without (codes "SCRIPT") rows g)
+
+abi_keeps : Keeps Good abi_built
+abi_keeps again [] rows e g = absurd cc
+abi_keeps again (v ∷ vs) rows e g = good_values (codes "abi") _ CommandLine v vs _ (λ same. no_option same) (good_without (codes "abi") rows g)
+
+policy_keeps : Keeps Good policy_built
+policy_keeps again [] rows e g = absurd cc
+policy_keeps again (v ∷ vs) rows e g = good_values (codes "policy") _ CommandLine v vs _ (λ same. no_option same) (good_without (codes "policy") rows g)
+
+profile_keeps : Keeps Good profile_built
+profile_keeps again [] rows e g = absurd cc
+profile_keeps again (v ∷ vs) rows e g = good_values (codes "profile") _ CommandLine v vs _ (λ same. no_option same) (good_without (codes "profile") rows g)
 
 accepted : (ignore_case : Bool) (p : ValueParser) (t : Text) → value_kinds ignore_case p t ≡ [] → accepts ignore_case p t ≡ true
 accepted ignore_case p t e = go (accepts ignore_case p t) (refused_kind p) e
@@ -103,30 +113,21 @@ nodes_keep again [] rows e g = absurd cc
 nodes_keep again (v ∷ vs) rows e g =
     let action : set_fault again nodes_built (v ∷ vs) rows ≡ [] = (no_faults (range_kinds 1 1 (length (v ∷ vs))) _ e).1 in
     let values : values_kinds false node_numbers (v ∷ vs) ≡ [] = (no_faults (repeat_fault again (codes "nodes") rows) _ action).1 in
-    good_values (codes "nodes") _ CommandLine v vs _ (λ same. (first_accepted node_numbers v vs values, refl)) (λ same. no_option same) (good_without (codes "nodes") rows g)
-
-abi_keeps : Keeps Good abi_built
-abi_keeps again [] rows e g = absurd cc
-abi_keeps again (v ∷ vs) rows e g =
-    let action : set_fault again abi_built (v ∷ vs) rows ≡ [] = (no_faults (range_kinds 1 1 (length (v ∷ vs))) _ e).1 in
-    let values : values_kinds false levels (v ∷ vs) ≡ [] = (no_faults (repeat_fault again (codes "abi") rows) _ action).1 in
-    good_values (codes "abi") _ CommandLine v vs _ (λ same. no_option same) (λ same. (first_accepted levels v vs values, refl)) (good_without (codes "abi") rows g)
+    good_values (codes "nodes") _ CommandLine v vs _ (λ same. (first_accepted node_numbers v vs values, refl)) (good_without (codes "nodes") rows g)
 
 help_keeps : Keeps Good help_built
 help_keeps again values rows e g = g
 
-one_of_four : (P : Rule → Type 0) (p : Rule → Bool) (w x y z a : Rule) → P w → P x → P y → P z → find p (w ∷ x ∷ y ∷ z ∷ []) ≡ Some a → P a
-one_of_four P p w x y z a pw px py pz e = go (p w) (p x) (p y) (p z) e
+found_there : (P : Rule → Type 0) (p : Rule → Bool) (rules : List Rule) (a : Rule) → AllByRecursion P rules → find p rules ≡ Some a → P a
+found_there P p [] a all e = absurd cc
+found_there P p (x ∷ xs) a all e = go (p x) e (λ e'. found_there P p xs a all.1 e')
   where
-    go : (b d f h : Bool) → cond b (Some w) (cond d (Some x) (cond f (Some y) (cond h (Some z) None))) ≡ Some a → P a
-    go true d f h e' = let same : w ≡ a = cc in subst P same pw
-    go false true f h e' = let same : x ≡ a = cc in subst P same px
-    go false false true h e' = let same : y ≡ a = cc in subst P same py
-    go false false false true e' = let same : z ≡ a = cc in subst P same pz
-    go false false false false e' = absurd cc
+    go : (b : Bool) → cond b (Some x) (find p xs) ≡ Some a → (find p xs ≡ Some a → P a) → P a
+    go true e' later = let same : x ≡ a = cc in subst P same all.0
+    go false e' later = later e'
 
 run_keeps : (p : Rule → Bool) (a : Rule) → find p run_built.rules ≡ Some a → Keeps Good a
-run_keeps p a e = one_of_four (Keeps Good) p script_built nodes_built abi_built help_built a script_keeps nodes_keep abi_keeps help_keeps e
+run_keeps p a e = found_there (Keeps Good) p run_built.rules a (script_keeps, (nodes_keep, (abi_keeps, (policy_keeps, (profile_keeps, (help_keeps, tt)))))) e
 
 -- ---- the defaults
 
@@ -138,24 +139,9 @@ row_there id s how vs (r ∷ rs) same = go (bytes_eq r.id id) refl (row_there id
     go true e later = rw e refl
     go false e later = rw e later
 
--- rows of other arguments stay
-row_stays : (id other : Text) (s : ValueSource) (how : Reading) (vs : List Text) (rows : List Row) → has_row id rows ≡ true → has_row id (with_values other how s vs rows) ≡ true
-row_stays id other s how vs [] h = absurd (true≢false (sym h))
-row_stays id other s how vs (r ∷ rs) h = go (bytes_eq r.id id) (bytes_eq r.id other) refl h (row_stays id other s how vs rs)
-  where
-    go : (b d : Bool) → bytes_eq r.id id ≡ b → (b || has_row id rs) ≡ true → (has_row id rs ≡ true → has_row id (with_values other how s vs rs) ≡ true)
-        → has_row id (cond d (more_values s vs r ++ rs) (r ∷ with_values other how s vs rs)) ≡ true
-    go true true e h' later = rw e refl
-    go true false e h' later = rw e refl
-    go false true e h' later = rw e h'
-    go false false e h' later = rw e (later h')
-
--- the rows are good, and these options are among them
+-- the rows are good, and the nodes are among them
 abbrev WithNodes : List Row → Type 0
 WithNodes rows = Good rows × (has_row (codes "nodes") rows ≡ true)
-
-abbrev WithBoth : List Row → Type 0
-WithBoth rows = Good rows × (has_row (codes "nodes") rows ≡ true) × (has_row (codes "abi") rows ≡ true)
 
 nodes_given : (rows : List Row) → Good rows → WithNodes (with_default rows nodes_built)
 nodes_given rows g = go (has_row (codes "nodes") rows) refl
@@ -163,19 +149,8 @@ nodes_given rows g = go (has_row (codes "nodes") rows) refl
     go : (b : Bool) → has_row (codes "nodes") rows ≡ b → WithNodes (cond b rows (with_values (codes "nodes") AsWritten DefaultValue (codes "1024" ∷ []) rows))
     go true e = (g, e)
     go false e = (
-      good_values (codes "nodes") AsWritten DefaultValue (codes "1024") [] rows (λ same. (refl, refl)) (λ same. no_option same) g,
+      good_values (codes "nodes") AsWritten DefaultValue (codes "1024") [] rows (λ same. (refl, refl)) g,
       row_there (codes "nodes") DefaultValue AsWritten (codes "1024" ∷ []) rows refl,
-    )
-
-level_given : (rows : List Row) → WithNodes rows → WithBoth (with_default rows abi_built)
-level_given rows g = go (has_row (codes "abi") rows) refl
-  where
-    go : (b : Bool) → has_row (codes "abi") rows ≡ b → WithBoth (cond b rows (with_values (codes "abi") AsWritten DefaultValue (codes "3" ∷ []) rows))
-    go true e = (g.0, g.1, e)
-    go false e = (
-      good_values (codes "abi") AsWritten DefaultValue (codes "3") [] rows (λ same. no_option same) (λ same. (refl, refl)) g.0,
-      row_stays (codes "nodes") (codes "abi") DefaultValue AsWritten (codes "3" ∷ []) rows g.1,
-      row_there (codes "abi") DefaultValue AsWritten (codes "3" ∷ []) rows refl,
     )
 
 -- an argument with no default changes nothing
@@ -183,8 +158,16 @@ unchanged : (P : List Row → Type 0) (rows : List Row) (b : Bool) → P rows �
 unchanged P rows true g = g
 unchanged P rows false g = g
 
-run_finished : (rows : List Row) → Good rows → WithBoth (fold with_default rows run_built.rules)
-run_finished rows g = unchanged WithBoth _ _ (level_given _ (nodes_given _ (unchanged Good rows (has_row (codes "SCRIPT") rows) g)))
+run_finished : (rows : List Row) → Good rows → WithNodes (fold with_default rows run_built.rules)
+run_finished rows g =
+    let numbered = with_default (with_default rows script_built) nodes_built in
+    let levelled = with_default numbered abi_built in
+    let ruled = with_default levelled policy_built in
+    let named = with_default ruled profile_built in
+    unchanged WithNodes named (has_row help_built.id named)
+    (unchanged WithNodes ruled (has_row profile_built.id ruled)
+    (unchanged WithNodes levelled (has_row policy_built.id levelled)
+    (unchanged WithNodes numbered (has_row abi_built.id numbered) (nodes_given _ (unchanged Good rows (has_row (codes "SCRIPT") rows) g)))))
 
 -- ---- what is read of the rows
 
@@ -237,9 +220,7 @@ run_asked rest e =
     let path = script_read (find (λ r. bytes_eq r.id (codes "SCRIPT")) rows) (given rows defaults.1) (λ r is. (found_good _ rows r is all.0).0) in
     let nodes_row = number_read node_numbers (find (λ r. bytes_eq r.id (codes "nodes")) rows) (found_any _ rows all.1)
     (λ r is. let f = found_good _ rows r is all.0 in let fits = f.0.3 f.1 in (f.0.0, f.0.1, f.0.2, fits.0, fits.1)) in
-    let abi_row = number_read levels (find (λ r. bytes_eq r.id (codes "abi")) rows) (found_any _ rows all.2)
-    (λ r is. let f = found_good _ rows r is all.0 in let fits = f.0.4 f.1 in (f.0.0, f.0.1, f.0.2, fits.0, fits.1)) in
-    λ none. true≢false (sym (whole _ _ _ path.0 nodes_row.0 abi_row.0 path.1 nodes_row.1 abi_row.1) ∙ ap is_some none)
+    λ none. true≢false (sym (whole _ _ _ _ _ path.0 nodes_row.0 path.1 nodes_row.1) ∙ ap is_some none)
 
 pub never_none : (words : List Text) → fault_of landtree words ≡ [] → asked_by words ≢ None
 never_none words e none =

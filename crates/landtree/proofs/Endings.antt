@@ -5,16 +5,20 @@ use Rattle.std.specs.Io.KnownBytes.{Appends}
 use Rattle.std.proofs.lemmas.List.{append-nil}
 use Rattle.landtree.specs.declared.tree.SessionTree.{SessionTree}
 use Rattle.ll_wire.specs.Grammar.{reply_line}
+use Rattle.ll_rights.specs.declared.errno.Errno.TheVariants.{NoMemory}
 use Rattle.ll_seq.specs.declared.reply.Reply.{Reply}
+use Rattle.ll_seq.specs.declared.reply.Reply.TheVariants.{Refused}
 use Rattle.landtree.specs.declared.setup.Setup.{Setup}
 use Rattle.landtree.specs.declared.session.OpenSession.{OpenSession}
 use Rattle.landtree.specs.declared.session.Opened.{Opened}
-use Rattle.landtree.specs.declared.session.Opened.TheVariants.{Begun}
+use Rattle.landtree.specs.declared.session.Opened.TheVariants as opened
 use Rattle.landtree.specs.Transcript.{Session, pieces}
-use Rattle.landtree.specs.Run.{joined, refused, Opens, Runs, Begins, Writes}
-use Rattle.landtree.specs.Progress.{AppendsFront, Holds, IfBegun, StandsAt, IsWritten, HasBegun, Progress}
+use Rattle.landtree.specs.Opening.{begun, refused, Opens}
+use Rattle.landtree.specs.Run.{Runs, Begins, Writes}
+use Rattle.landtree.specs.Progress.{AppendsFront, Holds, IfBegun, IfRefused, StandsAt, IsWritten, HasBegun, Progress}
 use Rattle.landtree.proofs.Cuts.{pieces-last, kept, has_bytes}
 use Rattle.landtree.proofs.Writing.{appends-more, front-none}
+use Rattle.landtree.proofs.Coming.{may_be_refused}
 use Rattle.landtree.proofs.Advance.{Answering, Starting, lines-append, begins, piece_stops}
 
 -- the input ended with a line feed
@@ -46,8 +50,11 @@ pub on_err : {T E P : Type 0} → (r : Result T E) → P → OnErr r P
 on_err (Ok value) p = tt
 on_err (Err fault) p = p
 
-pub of_begun : (P : OpenSession → Type 0) (o : Opened) (session : OpenSession) → o ≡ Begun session → IfBegun o P → P session
+pub of_begun : (P : OpenSession → Type 0) (o : Opened) (session : OpenSession) → o ≡ opened.Begun session → IfBegun o P → P session
 of_begun P o session is h = subst (λ (x : Opened). IfBegun x P) is h
+
+pub of_refused : (P : Reply → Type 0) (o : Opened) (reply : Reply) → o ≡ opened.Refused reply → IfRefused o P → P reply
+of_refused P o reply is h = subst (λ (x : Opened). IfRefused x P) is h
 
 -- a session that is opened, and all of the input is read and answered
 abbrev pub Whole : OpenSession → (remaining remaining' old new : Option (List ℕ)) → Type 0
@@ -58,26 +65,26 @@ abbrev pub Part : OpenSession → (remaining old new : Option (List ℕ)) → Ty
 Part session remaining old new = (first : Session) (input : List ℕ) (old' : Option (List ℕ)) → remaining ≡ Some input
     → Progress first input input old' old session → HasBegun first input old' new
 
-pub runs : (setup : Setup) (remaining remaining' old new : Option (List ℕ)) (session : OpenSession) → Holds session.line [] → StandsAt session.tree (joined setup)
+-- the session that an opening began
+abbrev pub Begun : Setup → OpenSession → Type 0
+Begun setup session = (first : Session) × Opens setup (begun first) × StandsAt session.tree first
+
+pub runs : (setup : Setup) (remaining remaining' old new : Option (List ℕ)) (session : OpenSession) → Holds session.line [] → Begun setup session
     → Whole session remaining remaining' old new
     → IfSome remaining (λ input. (left : List ℕ) × (remaining' ≡ Some left) × Writes old new (Runs setup input left))
-runs setup None remaining' old new session held stands whole = tt
-runs setup (Some input) remaining' old new session held stands whole =
-    let w = whole (joined setup) input old refl (begins (joined setup) input old session held stands) in
-    ([], w.0, (w.1.0, inl (joined setup, w.1.1, refl, refl, w.1.2), w.1.3))
+runs setup None remaining' old new session held b whole = tt
+runs setup (Some input) remaining' old new session held b whole =
+    let w = whole b.0 input old refl (begins b.0 input old session held b.2) in
+    ([], w.0, (w.1.0, inl (b.0, w.1.1, b.1, refl, w.1.2), w.1.3))
 
-has_begun : (setup : Setup) (input : List ℕ) (old new : Option (List ℕ)) → HasBegun (joined setup) input old new → Writes old new (Begins setup input)
-has_begun setup input old new h = (h.6.0, inl (joined setup, h.3, h.0, h.1, h.2, h.6.1, refl, h.4, h.5, h.6.2), h.6.3)
+has_begun : (setup : Setup) (first : Session) (input : List ℕ) (old new : Option (List ℕ)) → Opens setup (begun first) → HasBegun first input old new → Writes old new (Begins setup input)
+has_begun setup first input old new opens h = (h.6.0, inl (first, h.3, h.0, h.1, h.2, h.6.1, opens, h.4, h.5, h.6.2), h.6.3)
 
-pub run_stops : (setup : Setup) (remaining old new : Option (List ℕ)) (session : OpenSession) → Holds session.line [] → StandsAt session.tree (joined setup)
+pub run_stops : (setup : Setup) (remaining old new : Option (List ℕ)) (session : OpenSession) → Holds session.line [] → Begun setup session
     → Part session remaining old new → IfSome remaining (λ input. Writes old new (Begins setup input))
-run_stops setup None old new session held stands part = tt
-run_stops setup (Some input) old new session held stands part =
-    has_begun setup input old new (part (joined setup) input old refl (begins (joined setup) input old session held stands))
-
-pub not_opened : (setup : Setup) (remaining old : Option (List ℕ)) → IfSome remaining (λ input. Writes old old (Begins setup input))
-not_opened setup None old = tt
-not_opened setup (Some input) old = has_begun setup input old old ([], pieces input, [], joined setup, refl, (refl, refl), front-none old [])
+run_stops setup None old new session held b part = tt
+run_stops setup (Some input) old new session held b part =
+    has_begun setup b.0 input old new b.1 (part b.0 input old refl (begins b.0 input old session held b.2))
 
 -- ---- runs whose opening is refused
 
@@ -90,3 +97,6 @@ pub refusal_stops : (setup : Setup) (remaining old new : Option (List ℕ)) (rep
     → IfSome remaining (λ input. Writes old new (Begins setup input))
 refusal_stops setup None old new reply is wrote = tt
 refusal_stops setup (Some input) old new reply is wrote = (wrote.0, inr (inl (reply, wrote.1, is, wrote.2)), wrote.3)
+
+pub not_opened : (setup : Setup) (remaining old : Option (List ℕ)) → IfSome remaining (λ input. Writes old old (Begins setup input))
+not_opened setup remaining old = refusal_stops setup remaining old old (Refused NoMemory) (may_be_refused setup) (front-none old (reply_line (Refused NoMemory)))

@@ -1,8 +1,11 @@
 -- The entries of a run are a legal history.
 use Rattle.std.proofs.Common.{◌≡◌, ℕ, zero, suc, ◌+◌, ◌-◌, true, false, true≢false, List, [], ◌∷◌, ◌++◌, Some, refl, sym, ap, subst, ◌∙◌}
-use Rattle.std.specs.Prelude.{slice_get, not}
+use Rattle.std.specs.Prelude.{drop, length, slice_get, not, IfSome, Option, None}
 use Rattle.std.specs.List.{AllByRecursion}
-use Rattle.ll_rights.specs.Map.{empty, checked, entries, get, insert, has}
+use Rattle.std.specs.declared.alloc.Global.{Global}
+use Rattle.std.specs.declared.vec.Vec.{Vec}
+use Rattle.std.proofs.lemmas.List.Elements.{recursion_from_All}
+use Rattle.ll_rights.specs.Map.{has}
 use Rattle.ll_seq.specs.declared.call.Call.{Call}
 use Rattle.ll_seq.specs.declared.call.Call.TheVariants.{Make, Open, Read, Write, Ftruncate, Close, Truncate, ReadDir, Stat, Exec, Unlink, Rmdir, Rename, RenameNoreplace, Exchange, Link, Ruleset, Allow, Confine, Spawn, Connect}
 use Rattle.ll_seq.specs.declared.reply.Entry.{Entry}
@@ -16,9 +19,11 @@ use Rattle.ll_seq.specs.Step.{step, first_or, refusals, client_of}
 use Rattle.ll_seq.proofs.Consequences.{step-clients_stay, step-spawned}
 use Rattle.ll_seq.proofs.Histories.{after_push, legal_append}
 use Rattle.ll_wire.specs.Grammar.{IsCall}
+use Rattle.landtree.proofs.Opening.{paired, there_by}
 use Rattle.landtree.specs.declared.setup.Setup.{Setup}
-use Rattle.landtree.specs.Run.{Lines, RunsLegally, joined}
-use Rattle.landtree.specs.Transcript.{Session, Called, Answers, answered, full, starved, calls, unread, bad, brought}
+use Rattle.landtree.specs.Opening.{Comes, Loads, Makes, Opens, begun, following, fresh, joined, made}
+use Rattle.landtree.specs.Run.{Lines, RunsLegally}
+use Rattle.landtree.specs.Transcript.{Session, AreOthers, Called, Answers, answered, full, starved, calls, unread, bad, brought}
 
 -- a call that has a spelling is no connect
 pub no_connect : (call : Call) → IsCall call → is_connect call ≡ false
@@ -137,9 +142,55 @@ module _ (empty : State) where
   by_call s t client call reply other there (full filled) sound = sound
   by_call s t client call reply other there (starved may) sound = sound
 
+  stays : (s t : Session) (n k : ℕ) (call : Call) (reply : Reply) → Called s n call reply t → has s.tree.clients k ≡ true → has t.tree.clients k ≡ true
+  stays s t n k call reply (answered answer tree fresh vacant free is) there = ap (λ (p : Reply × State). has p.1.clients k) is ∙ step-clients_stay s.tree n call fresh k there
+  stays s t n k call reply (full filled) there = there
+  stays s t n k call reply (starved may) there = there
+
+  -- a client that has come, where it had not
+  abbrev Came : Session → ℕ → Session → Type 0
+  Came s n t = IsSound empty (record t { clients = t.clients ++ n ∷ [] }) × (has t.tree.clients n ≡ true)
+
+  by_connect : (s t : Session) (n : ℕ) (call : Call) (reply : Reply) → call ≡ Connect → reply ≡ Done → has s.tree.clients n ≡ false → Called s n call reply t
+      → IsSound empty s → Came s n t
+  by_connect s t n call reply connects done vacant (full filled) sound = absurd cc
+  by_connect s t n call reply connects done vacant (starved may) sound = absurd cc
+  by_connect s t n call given connects done vacant (answered reply tree fresh room free is) sound =
+      let outcome : ◌≡◌ {A = Reply × State} (step s.tree n call (fresh_of reply)) (reply, tree) =
+      ap (λ (p : Reply × State). step s.tree n call (fresh_of p.0)) is ∙ by_reply s.tree n call fresh ∙ sym is in
+      let entry : Entry = record { client = n; call = call; reply = reply } in
+      let stands : MayStand s.tree entry = record {
+        caller = vacant ∙ ap (λ (c : Call). not (is_connect c)) (sym connects);
+        connected = λ _. done;
+        spawned = λ number e. absurd (let both : Done ≡ Spawned number = sym done ∙ e in cc);
+        answered = ap (λ (p : Reply × State). p.0) outcome;
+      } in
+      let here : has tree.clients n ≡ true = there_by s.tree tree n fresh vacant
+      (sym (ap (λ (r : Reply). paired r tree) done) ∙ is ∙ ap (λ (c : Call). step s.tree n c fresh) connects) in
+      let others : AreThere tree s.clients = still_there s.tree tree s.clients
+      (λ k e. ap (λ (p : Reply × State). has p.1.clients k) is ∙ step-clients_stay s.tree n call fresh k e) sound.there in
+      let brings : AreThere tree (brought reply) = brought_there tree reply (λ number e. absurd (let both : Done ≡ Spawned number = sym done ∙ e in cc)) in (
+        record {
+          legal = legal_append empty s.entries entry sound.legal (subst (λ (z : State). MayStand z entry) sound.tree stands);
+          tree = ap (λ (p : Reply × State). p.1) (sym outcome) ∙ ap (λ (z : State). (step z n call (fresh_of reply)).1) sound.tree ∙ sym (after_push empty s.entries entry);
+          there = there_more tree (s.clients ++ brought reply) (n ∷ []) (there_more tree s.clients (brought reply) others brings) (here, tt);
+        },
+        here,
+      )
+
+  by_makes : (client : ℕ) (s t : Session) (list : List Call) → AllByRecursion (λ call. is_connect call ≡ false) list → has s.tree.clients client ≡ true → Makes client s list t → IsSound empty s → IsSound empty t
+  by_makes client s t [] others there h sound = subst (IsSound empty) (sym h) sound
+  by_makes client s t (call ∷ rest) others there h sound =
+      by_makes client h.1 t rest others.1 (stays s h.1 client client call h.0 h.2 there) h.4 (by_call s h.1 client call h.0 others.0 there h.2 sound)
+
+  by_coming : (s t : Session) (list : List Call) → AreOthers list → Comes s list (made t) → IsSound empty s → IsSound empty t
+  by_coming s t list others h sound =
+      let came = by_connect s h.0 (following s) Connect Done refl refl h.1.0 h.1.1 sound in
+      by_makes (following s) (joined s h.0) t list (recursion_from_All (λ call. is_connect call ≡ false) list others) came.1 h.2 came.0
+
   by_answer : (s t : Session) (piece : List ℕ) (reply : Reply) → Answers (λ (z : Session). z.clients) Called s piece reply t → IsSound empty s → IsSound empty t
-  by_answer s t piece reply (calls n client call told written u spells at made same) sound =
-      by_call s u client call told (no_connect call spells.is_call) (there_at s.tree s.clients (n - 1) client sound.there at) made sound
+  by_answer s t piece reply (calls n client call told written u spells at was same) sound =
+      by_call s u client call told (no_connect call spells.is_call) (there_at s.tree s.clients (n - 1) client sound.there at) was sound
   by_answer s t piece reply (unread n client call spells at holds) sound = sound
   by_answer s t piece reply (bad none) sound = sound
 
@@ -147,15 +198,23 @@ module _ (empty : State) where
   by_lines s t [] text h sound = subst (IsSound empty) (sym h.1) sound
   by_lines s t (piece ∷ done) text h sound = by_lines h.1 t done h.2 h.4 (by_answer s h.1 piece h.0 h.3 sound)
 
-first_sound : (setup : Setup) → IsSound (start setup.rules setup.nodes) (joined setup)
-unfolding empty checked entries get insert
-first_sound setup = record {
-  legal = (record { caller = refl; connected = λ _. refl; spawned = λ number e. absurd cc; answered = refl }, tt);
-  tree = refl;
-  there = (refl, tt);
-}
+those_left : (tree : State) (n : ℕ) (clients : List ℕ) → AreThere tree clients → AreThere tree (drop n clients)
+those_left tree zero clients all = all
+those_left tree (suc n) [] all = tt
+those_left tree (suc n) (k ∷ clients) all = those_left tree n clients all.1
+
+by_loading : (empty : State) (s t : Session) (loader : Option (Vec Call Global)) → IfSome loader (λ list. AreOthers list.items) → Loads s loader (made t) → IsSound empty s → IsSound empty t
+by_loading empty s t (Some list) others h sound = by_coming empty s t list.items others h sound
+by_loading empty s t None others h sound = subst (IsSound empty) (sym h) sound
+
+by_opening : (setup : Setup) (first : Session) → Opens setup (begun first) → IsSound (start setup.rules setup.nodes) first
+by_opening setup first h =
+    let empty = start setup.rules setup.nodes in
+    let loaded = by_loading empty (fresh setup) h.0 setup.loader setup.loads h.2 (record { legal = tt; tree = refl; there = tt }) in
+    let came = by_coming empty h.0 h.1 setup.profile.items setup.makes h.3 loaded in
+    subst (IsSound empty) (sym h.4) (record { legal = came.legal; tree = came.tree; there = those_left h.1.tree (length h.0.clients) h.1.clients came.there })
 
 pub legally : RunsLegally
-legally setup first last done text begun lines =
-    let sound = by_lines (start setup.rules setup.nodes) first last done text lines (subst (IsSound (start setup.rules setup.nodes)) (sym begun) (first_sound setup)) in
+legally setup first last done text opens lines =
+    let sound = by_lines (start setup.rules setup.nodes) first last done text lines (by_opening setup first opens) in
     (sound.legal, sound.tree)

@@ -1,5 +1,6 @@
 pub mod Advance
 pub mod Asked
+pub mod Coming
 pub mod Cuts
 pub mod Devices
 pub mod Endings
@@ -12,4 +13,5 @@ pub mod Numbers
 pub mod Opening
 pub mod Places
 pub mod Replies
+pub mod Known
 pub mod Writing

@@ -1,5 +1,6 @@
 -- The number that a word gives, and what the matches of `run` ask for.
 use Rattle.std.proofs.Common.{◌≡◌, ◌∙◌, ◌<◌, ◌≤◌, ◌^◌, ◌&&◌, ℕ, Bool, true, false, Option, Some, None, refl, sym, ap, ap₂, cond, codes, option_map, is_some, nat_le}
+use Rattle.std.specs.Option.{SomeIff}
 use Rattle.std.specs.Prelude.{option_and_then}
 use Rattle.std.specs.Str.Parse.{IsNumeral, digits_value, without_leading_plus}
 use Rattle.std.proofs.lemmas.Bool.{le-leb, leb-true}
@@ -10,7 +11,7 @@ use Rattle.clap.specs.declared.builder.value_parser.ValueParser.TheVariants.{Uns
 use Rattle.clap.specs.declared.parser.matches.Found.{Found}
 use Rattle.clap.proofs.ValueTestLemmas.{Accepts-accepts, accepts-Accepts}
 use Rattle.clap.proofs.WalkLemmas.{both, first_value-rows, one_text-rows}
-use Rattle.landtree.specs.Options.{asked, levels, node_numbers, number_in}
+use Rattle.landtree.specs.Options.{Asked, asked, levels, node_numbers, number_in}
 
 abbrev number : Text → ℕ
 number t = digits_value 10 (without_leading_plus t)
@@ -67,21 +68,33 @@ module _ (low high : ℕ) where
       go true false e f = refl
       go false b e f = refl
 
+-- the level of a number
+pub level_allowed : (o : Option ℕ) (n : ℕ) → SomeIff o ((1 ≤ n) × (n ≤ 3)) n → o ≡ allowed 1 3 n
+level_allowed (Some level) n h = ap Some h.1 ∙ within 1 3 n h.0.0 h.0.1
+level_allowed None n h = beyond 1 3 n h
+
 -- what is asked for, where each part is there
-abbrev pub together : Option Text → Option ℕ → Option ℕ → Option (Text × ℕ × ℕ)
-together path n level = option_and_then (λ p. option_and_then (λ k. option_map (λ l. (p, k, l)) level) n) path
+abbrev pub together : Option Text → Option ℕ → Option ℕ → Option Text → Option Text → Option Asked
+together path n level policy profile = option_and_then (λ p. option_map (λ k. record { script = p; nodes = k; level = level; policy = policy; profile = profile }) n) path
 
-pub asked_of : (f : Found) (path : Option Text) (n level : Option ℕ) → path ≡ first_value f (codes "SCRIPT")
-    → n ≡ option_and_then (number_in node_numbers) (one_text f (codes "nodes")) → level ≡ option_and_then (number_in levels) (one_text f (codes "abi"))
-    → together path n level ≡ asked (rows_of f)
-asked_of f path n level e g h =
-    ap₂ (λ (p : Option Text) (m : Option ℕ). together p m level) (e ∙ first_value-rows f (codes "SCRIPT")) (g ∙ ap (option_and_then (number_in node_numbers)) (one_text-rows f (codes "nodes")))
-    ∙ ap (together (first_of (codes "SCRIPT") (rows_of f)) (option_and_then (number_in node_numbers) (one_of (codes "nodes") (rows_of f)))) (h ∙ ap (option_and_then (number_in levels)) (one_text-rows f (codes "abi")))
+pub asked_of : (f : Found) (path : Option Text) (n level : Option ℕ) (policy profile : Option Text) → path ≡ first_value f (codes "SCRIPT")
+    → n ≡ option_and_then (number_in node_numbers) (one_text f (codes "nodes")) → level ≡ option_and_then (number_in levels) (one_of (codes "abi") (rows_of f))
+    → policy ≡ first_value f (codes "policy") → profile ≡ first_value f (codes "profile")
+    → together path n level policy profile ≡ asked (rows_of f)
+asked_of f path n level policy profile e g h i j =
+    let script = first_of (codes "SCRIPT") (rows_of f) in
+    let count = option_and_then (number_in node_numbers) (one_of (codes "nodes") (rows_of f)) in
+    let number = option_and_then (number_in levels) (one_of (codes "abi") (rows_of f)) in
+    ap (λ (p : Option Text). together p n level policy profile) (e ∙ first_value-rows f (codes "SCRIPT"))
+    ∙ ap (λ (m : Option ℕ). together script m level policy profile) (g ∙ ap (option_and_then (number_in node_numbers)) (one_text-rows f (codes "nodes")))
+    ∙ ap (λ (l : Option ℕ). together script count l policy profile) h
+    ∙ ap (λ (q : Option Text). together script count number q profile) (i ∙ first_value-rows f (codes "policy"))
+    ∙ ap (λ (r : Option Text). together script count number (first_of (codes "policy") (rows_of f)) r) (j ∙ first_value-rows f (codes "profile"))
 
--- no level, whatever the number of nodes
-pub no_level : (n : Option ℕ) (path : Text) → None ≡ together (Some path) n None
-no_level None path = refl
-no_level (Some n) path = refl
+-- nothing without a number of nodes
+pub no_nodes : (path : Option Text) (level : Option ℕ) (policy profile : Option Text) → None ≡ together path None level policy profile
+no_nodes None level policy profile = refl
+no_nodes (Some path) level policy profile = refl
 
-pub whole : (p : Option Text) (m l : Option ℕ) (path : Text) (n level : ℕ) → p ≡ Some path → m ≡ Some n → l ≡ Some level → is_some (together p m l) ≡ true
-whole p m l path n level e f g = rw (e, f, g) refl
+pub whole : (p : Option Text) (m l : Option ℕ) (q r : Option Text) (path : Text) (n : ℕ) → p ≡ Some path → m ≡ Some n → is_some (together p m l q r) ≡ true
+whole p m l q r path n e f = rw (e, f) refl

@@ -3,11 +3,13 @@ use Rattle.std.specs.Prelude.{ℕ, Option, Some, None, Result, Ok, Err}
 use Rattle.clap.specs.declared.error.kind.ErrorKind.{ErrorKind}
 use Rattle.clap.specs.declared.error.kind.ErrorKind.TheVariants.{DisplayHelp, DisplayVersion}
 use Rattle.clap.specs.declared.error.kind.ErrorKind.TheVariants as kind
+use Rattle.ll_policy.specs.declared.fault.PolicyFault.{PolicyFault}
+use Rattle.ll_policy.specs.declared.fault.PolicyFault.TheVariants as wrong
 use Rattle.landtree.specs.declared.fault.RunFault.{RunFault}
 use Rattle.landtree.specs.declared.fault.RunFault.TheVariants as run
 use Rattle.landtree.specs.declared.fault.SessionFault.TheVariants as session
 use Rattle.landtree.specs.declared.failure.Failure.{Failure}
-use Rattle.landtree.specs.declared.failure.Failure.TheVariants.{CommandLine, Opening, File, Output, NoMemory}
+use Rattle.landtree.specs.declared.failure.Failure.TheVariants.{CommandLine, Policy, Opening, File, Output, NoMemory}
 
 abbrev pub failure_of : RunFault → Failure
 failure_of run.Opening = Opening
@@ -16,8 +18,14 @@ failure_of (run.Session session.Write) = Output
 failure_of (run.Session session.NoMemory) = NoMemory
 failure_of (run.Session session.TooLong) = File
 
+-- the same of what is wrong with a policy
+abbrev pub failure_in : PolicyFault → Failure
+failure_in wrong.NoMemory = NoMemory
+failure_in fault = Policy fault
+
 abbrev pub status_of : Failure → ℕ
 status_of CommandLine = 2
+status_of (Policy fault) = 2
 status_of Opening = 2
 status_of File = 1
 status_of Output = 1

@@ -1,5 +1,5 @@
--- How far a run has come, for the functions below `run_script` alone: its own contract cites nothing of this file.
-use Rattle.std.specs.Prelude.{⊤, ◌≡◌, ◌≢◌, ◌⊎◌, ℕ, ◌+◌, ◌≤◌, ◌<◌, List, ◌++◌, length, Option, None, MatchBool}
+-- How far a run has come. (Support of the functions below `run_script`: no public contract cites this file.)
+use Rattle.std.specs.Prelude.{⊤, ◌≡◌, ◌≢◌, ◌⊎◌, ℕ, ◌+◌, ◌≤◌, ◌<◌, List, ◌++◌, length, Option, None, MatchBool, if◌then◌else◌}
 use Rattle.std.specs.List.{AllByRecursion}
 use Rattle.std.specs.Io.KnownBytes.{Appends}
 use Rattle.ll_seq.specs.declared.reply.Reply.{Reply}
@@ -7,11 +7,16 @@ use Rattle.ll_seq.specs.Stages.{numbers_from}
 use Rattle.ll_wire.specs.Grammar.{reply_line}
 use Rattle.landtree.specs.declared.fault.SessionFault.{SessionFault}
 use Rattle.landtree.specs.declared.fault.SessionFault.TheVariants as fault
+use Rattle.landtree.specs.declared.fault.RunFault.{RunFault}
+use Rattle.landtree.specs.declared.fault.RunFault.TheVariants as run
 use Rattle.landtree.specs.declared.line.Line.{Line}
+use Rattle.landtree.specs.declared.setup.Setup.{Setup}
 use Rattle.landtree.specs.declared.tree.SessionTree.{SessionTree}
+use Rattle.landtree.specs.declared.tree.Refusal.{Refusal}
 use Rattle.landtree.specs.declared.session.OpenSession.{OpenSession}
 use Rattle.landtree.specs.declared.session.Opened.{Opened}
 use Rattle.landtree.specs.declared.session.Opened.TheVariants.{Begun, Refused}
+use Rattle.landtree.specs.Opening.{Coming, unconnected, unmade, Opens, stopped}
 use Rattle.landtree.specs.Run.{Lines}
 use Rattle.landtree.specs.Transcript.{Session, Called, Answers, pieces}
 
@@ -29,14 +34,23 @@ abbrev pub IfRefused : Opened → (Reply → Type 0) → Type 0
 IfRefused (Begun session) P = ⊤
 IfRefused (Refused reply) P = P reply
 
+-- a fault that ends an opening: a loader's call is refused, or memory ran out
+abbrev pub OpensBadly : Setup → RunFault → Type 0
+OpensBadly setup run.Opening = Opens setup stopped
+OpensBadly setup (run.Session of) = of ≡ fault.NoMemory
+
+-- how the coming of a client ends that this reply kept from its calls
+abbrev pub coming_in : Refusal → Coming
+coming_in refusal = if refusal.at_connect then unconnected refusal.reply else unmade refusal.reply
+
 -- the numbers that inodes and clients have had
 abbrev pub used : SessionTree → ℕ
-used tree = tree.plain.next + tree.clients
+used tree = tree.plain.next + (tree.before + tree.clients)
 
--- the session with this tree, of so many clients, and without a limit
+-- the session with this tree, of so many clients after those that came before them, and without a limit
 pub record StandsAt (of : SessionTree) (s : Session) : Type 0 where
   pub tree : s.tree ≡ of.plain
-  pub clients : s.clients ≡ numbers_from 1 of.clients
+  pub clients : s.clients ≡ numbers_from (of.before + 1) of.clients
   pub limit : s.limit ≡ None
 
 abbrev pub AnswersLine : Session → List ℕ → Reply → Session → Type 0

@@ -1,42 +1,19 @@
 -- A whole run of a script. own
-use Rattle.std.specs.Prelude.{⊤, ◌≡◌, ℕ, List, [], ◌∷◌, ◌++◌, Option, None, ◌⊎◌}
+use Rattle.std.specs.Prelude.{⊤, ◌≡◌, ℕ, List, [], ◌++◌, Option, ◌⊎◌}
 use Rattle.std.specs.Io.KnownBytes.{Appends}
-use Rattle.ll_rights.specs.declared.errno.Errno.TheVariants.{NoMemory}
-use Rattle.ll_seq.specs.declared.call.Call.TheVariants.{Connect}
 use Rattle.ll_seq.specs.declared.reply.Reply.{Reply}
-use Rattle.ll_seq.specs.declared.reply.Reply.TheVariants.{Done, Refused}
-use Rattle.ll_seq.specs.State.{State, start}
-use Rattle.ll_seq.specs.Step.{step}
+use Rattle.ll_seq.specs.State.{start}
 use Rattle.ll_seq.specs.History.{IsLegal, state_after}
 use Rattle.ll_wire.specs.Grammar.{reply_line}
 use Rattle.landtree.specs.declared.fault.RunFault.{RunFault}
 use Rattle.landtree.specs.declared.fault.RunFault.TheVariants as run
 use Rattle.landtree.specs.declared.setup.Setup.{Setup}
 use Rattle.landtree.specs.Transcript.{Session, Called, Transcript, pieces}
-
--- a fresh tree after its first client has connected
-abbrev pub connected : Setup → State
-connected setup = (step (start setup.rules setup.nodes) 1 Connect 0).1
-
--- The session of that client. Its connect is the first entry: from the start of the tree on, the entries alone give the tree
-abbrev pub joined : Setup → Session
-joined setup = record { tree = connected setup; clients = 1 ∷ []; entries = record { client = 1; call = Connect; reply = Done } ∷ []; limit = None }
+use Rattle.landtree.specs.Opening.{Opens, begun, refused, stopped}
 
 -- the most reads of one input
 abbrev pub most_reads : ℕ
 most_reads = 1000000000
-
--- How the opening of a run ends: with a session, with a connect or profile call that is refused, or with an opening call that is
-pub data Opening : Type 0 where
-  begun : Session → Opening
-  refused : Reply → Opening
-  stopped : Opening
-
--- The opening is one connect to a fresh tree, which only want of memory refuses
-abbrev pub Opens : Setup → Opening → Type 0
-Opens setup (begun first) = first ≡ joined setup
-Opens setup (refused reply) = reply ≡ Refused NoMemory
-Opens setup stopped = ⊥
 
 abbrev pub Lines : Session → List (List ℕ) → List ℕ → Session → Type 0
 Lines = Transcript (λ s. s.clients) Called

@@ -1,12 +1,13 @@
 -- What is written for what is read, line by line. own
 use Rattle.std.specs.Prelude.{◌≡◌, ℕ, ◌+◌, ◌-◌, ◌≤◌, true, false, List, [], ◌∷◌, ◌++◌, length, Option, Some, None, slice_get, ◌==◌, if◌then◌else◌, IsSomeAnd}
-use Rattle.std.specs.List.{onto_first}
+use Rattle.std.specs.List.{All, onto_first}
 use Rattle.ll_rights.specs.declared.errno.Errno.TheVariants.{HistoryFull, NoMemory, BadLine}
 use Rattle.ll_seq.specs.declared.call.Call.{Call}
 use Rattle.ll_seq.specs.declared.reply.Reply.{Reply}
 use Rattle.ll_seq.specs.declared.reply.Reply.TheVariants.{Refused, Spawned}
 use Rattle.ll_seq.specs.declared.reply.Entry.{Entry}
 use Rattle.ll_rights.specs.Map.{has}
+use Rattle.ll_seq.specs.History.{is_connect}
 use Rattle.ll_seq.specs.State.{State}
 use Rattle.ll_seq.specs.Step.{step, refusals, client_of}
 use Rattle.ll_plain.specs.Memory.{takes_memory}
@@ -49,6 +50,10 @@ pub data Called (s : Session) (client : ℕ) (call : Call) : Reply → Session �
       → Called s client call reply (next s client call reply tree)
   full : IsFull s → Called s client call (Refused HistoryFull) s
   starved : MayStarve s client call → Called s client call (Refused NoMemory) s
+
+-- calls that a client makes after its connect: none is another
+abbrev pub AreOthers : List Call → Type 0
+AreOthers = All (λ call. is_connect call ≡ false)
 
 -- The lines name a client by its place in the session
 abbrev pub as_written : List ℕ → Reply → Reply

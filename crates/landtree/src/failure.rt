@@ -2,10 +2,11 @@
 
 ghost use Rattle.std.specs.Prelude.{◌≡◌};
 ghost use Rattle.clap.specs.Words.{kind_of};
-ghost use Rattle.landtree.specs.Failure.{failure_by, failure_of, status_of};
+ghost use Rattle.landtree.specs.Failure.{failure_by, failure_in, failure_of, status_of};
 
 use crate::fault::{RunFault, SessionFault};
 use clap::error::ErrorKind;
+use ll_policy::PolicyFault;
 use thiserror::Error;
 
 /// Why the program ends with a status other than 0.
@@ -13,6 +14,8 @@ use thiserror::Error;
 pub enum Failure {
     #[error("landtree: command line")]
     CommandLine,
+    #[error("landtree: policy {0}")]
+    Policy(PolicyFault),
     #[error("landtree: opening call refused")]
     Opening,
     #[error("landtree: file")]
@@ -37,6 +40,16 @@ impl Failure {
         }
     }
 
+    /// What a fault of a policy is for the program.
+    pub fn of_policy(fault: PolicyFault) -> Failure
+        ensures { result ≡ failure_in fault }
+    {
+        match fault {
+            PolicyFault::NoMemory => Failure::NoMemory,
+            fault => Failure::Policy(fault),
+        }
+    }
+
     /// What clap's error is for the program. None where it is a text to print, as help and the version are.
     pub fn of_words(error: &clap::Error) -> Option<Failure>
         ensures { result ≡ failure_by (kind_of error.now) }
@@ -54,6 +67,7 @@ impl Failure {
     {
         match self {
             Failure::CommandLine => 2,
+            Failure::Policy(_) => 2,
             Failure::Opening => 2,
             Failure::File => 1,
             Failure::Output => 1,

@@ -1,36 +1,41 @@
 //! Landtree, the program: runs scripts of command lines over a tree in memory.
 #![tactic(auto)]
 
+mod command;
 mod failure;
 mod fault;
 #[cfg(test)]
 mod fuse;
+mod input;
 mod laws;
 mod line;
 mod options;
 mod output;
+mod policy;
 mod program;
 mod run;
-mod script;
 mod session;
 mod setup;
 #[cfg(test)]
 mod tests;
 mod tree;
 
-ghost use Rattle.std.specs.Prelude.{◌≡◌, ◌≢◌, ◌⊎◌, [], map, Err, IfErr, IfNone, IfSome, OnOk};
+ghost use Rattle.std.specs.Prelude.{◌≡◌, ◌≢◌, ◌⊎◌, ℕ, true, false, List, [], map, Some, None, Err, IfErr, IfNone, IfSome, OnOk};
 ghost use Rattle.std.specs.Process.{exit_status};
 ghost use Rattle.clap.specs.Words.{fault_of, kind_of};
 ghost use Rattle.landtree.specs.declared.fault.RunFault.{RunFault};
 ghost use Rattle.landtree.specs.declared.failure.Failure.{Failure};
 ghost use Rattle.landtree.specs.Failure.{failure_by, failure_of, status_at};
-ghost use Rattle.landtree.specs.Options.{landtree, EndsWell};
+ghost use Rattle.landtree.specs.Options.{Asked, asked_by, asked_in, fits, landtree, EndsWell};
+ghost use Rattle.landtree.specs.Policy.{MayFail};
 ghost use Rattle.landtree.specs.Run.{MayEnd};
 
 use failure::Failure;
+use input::InputFile;
 use options::Options;
+use policy::setup_of;
 use program::perform;
-use script::ScriptFile;
+use setup::Setup;
 use std::process::ExitCode;
 use std::{env, io};
 
@@ -53,27 +58,43 @@ fn told(rt: &HostRuntime, error: &clap::Error) -> Result<(), Failure>
     }
 }
 
-fn run_options(rt: &HostRuntime, options: &Options) -> Result<(), Failure>
+// Runs the script of this name.
+fn run_setup(rt: &HostRuntime, setup: &Setup, script: &str) -> Result<(), Failure>
     ensures { IfErr result (λ failure. (fault : RunFault)
-        × MayEnd options.now.setup fault × (failure ≡ failure_of fault)) }
+        × MayEnd setup.now fault × (failure ≡ failure_of fault)) }
 {
     let mut out = rt.stdout();
-    if options.script == "-" {
-        perform(rt.alloc(), options, &mut rt.stdin(), &mut out)
+    if script == "-" {
+        perform(rt.alloc(), setup, &mut rt.stdin(), &mut out)
     } else {
-        let mut script = ScriptFile::new(rt, options.script);
-        perform(rt.alloc(), options, &mut script, &mut out)
+        perform(rt.alloc(), setup, &mut InputFile::new(rt, script), &mut out)
     }
+}
+
+// Sets up what is asked for, and runs the script.
+fn run_options(rt: &HostRuntime, options: &Options) -> Result<(), Failure>
+    ensures { IfErr result (λ failure. (text : List ℕ) × MayFail (asked_in options.now) text failure) }
+{
+    let mut file = InputFile::new(rt, options.policy.unwrap_or(""));
+    let setup = setup_of(rt.alloc(), options, &mut file)?;
+    run_setup(rt, &setup, options.script)
 }
 
 fn run_words(rt: &HostRuntime, words: &[&str]) -> Result<(), Failure>
     ensures ok { OnOk result (EndsWell (fault_of landtree (map (λ w. w.now) words.now))) }
     ensures mistake { (EndsWell (fault_of landtree (map (λ w. w.now) words.now)) → ⊥)
         → (result ≡ Err Failure.CommandLine) ⊎ (result ≡ Err Failure.NoMemory) }
-    ensures run { fault_of landtree (map (λ w. w.now) words.now) ≡ [] → result ≢ Err Failure.CommandLine }
+    // Where clap finds no fault: options that don't go together are told so, and else only a profile may be wrong.
+    ensures unfit { (asked : Asked) → fault_of landtree (map (λ w. w.now) words.now) ≡ []
+        → asked_by (map (λ w. w.now) words.now) ≡ Some asked → fits asked ≡ false
+        → (result ≡ Err Failure.CommandLine) ⊎ (result ≡ Err Failure.NoMemory) }
+    ensures run { (asked : Asked) → fault_of landtree (map (λ w. w.now) words.now) ≡ []
+        → asked_by (map (λ w. w.now) words.now) ≡ Some asked → fits asked ≡ true → asked.profile ≡ None
+        → result ≢ Err Failure.CommandLine }
 {
     match Options::read(rt.alloc(), words) {
-        Ok(options) => run_options(rt, &options),
+        Ok(options) if options.fit() => run_options(rt, &options),
+        Ok(_) => Err(Failure::CommandLine),
         Err(error) => told(rt, &error),
     }
 }

@@ -1,85 +1,65 @@
-//! The words of the command line.
+//! What the words of the command line ask for.
 
-ghost use Rattle.std.specs.Prelude.{◌≡◌, map, option_map, IfOk, IfSome, Some, true, false};
-ghost use Rattle.clap.specs.Words.{FailsBy, app_of, fault_of, found_of, rows_of, rule_of};
-ghost use Rattle.landtree.specs.Options.{abi, asked, asked_by, landtree, nodes};
+ghost use Rattle.std.specs.Prelude.{◌≡◌, ◌≤◌, codes, map, option_map, IfOk, Some};
+ghost use Rattle.ll_rights.specs.declared.limits.TheConstants.{TREE_NODES};
 
-use crate::setup::Setup;
-use clap::{Arg, ArgMatches, Command, Error, value_parser};
+use crate::command::landtree_command;
+use clap::{ArgMatches, Error};
 use ll_rights::Abi;
 use ll_rights::limits::TREE_NODES;
-use ll_seq::Rules;
-use std::alloc::{AllocError, Global};
+use std::alloc::Global;
 
-fn nodes_option<'a>(alloc: Global) -> Arg<'a>
-    ensures rule { rule_of result ≡ nodes }
-    ensures local { result.global ≡ false }
-{
-    Arg::new(alloc, "nodes")
-        .long("nodes")
-        .value_name("N")
-        .value_parser(value_parser!(usize).range(1..=TREE_NODES as i64))
-        .default_value("1024")
-        .help("How many nodes may live in the tree, the root counted")
-}
-
-fn abi_option<'a>(alloc: Global) -> Arg<'a>
-    ensures rule { rule_of result ≡ abi }
-    ensures local { result.global ≡ false }
-{
-    Arg::new(alloc, "abi")
-        .long("abi")
-        .value_name("A")
-        .value_parser(value_parser!(u64).range(1..=3))
-        .default_value("3")
-        .help("The level of Landlock's ABI, whose rights a ruleset may handle")
-}
-
-fn landtree_command<'a>(alloc: Global) -> Result<Command<'a>, AllocError>
-    ensures { IfOk result (λ command. app_of command ≡ landtree) }
-{
-    let script = Arg::new(alloc, "SCRIPT")
-        .required(true)
-        .help("The script's file, or `-` for standard input");
-    let run = Command::new(alloc, "run")
-        .about("Runs a script: a command a line in, a reply a line out")
-        .arg(script)?
-        .arg(nodes_option(alloc))?
-        .arg(abi_option(alloc))?;
-    Command::new(alloc, "landtree")
-        .about("A file tree in memory whose clients confine themselves with Landlock rulesets")
-        .version("0.1.0")
-        .subcommand_required(true)
-        .subcommand(run)
-}
-
-/// What the program is asked to do: to run the script in this file, or in standard input where it is `-`, over a tree
-/// with this setup.
+/// What the program is asked to do: to run the script in this file, or in standard input where it is `-`, over a tree in
+/// which so many nodes may live, at this level or by the policy in this file, whose profile the first client has.
 #[derive(Drop)]
 pub struct Options<'a> {
     pub script: &'a str,
-    pub setup: Setup,
+    pub nodes: usize,
+    pub level: Option<Abi>,
+    pub policy: Option<&'a str>,
+    pub profile: Option<&'a str>,
+    ghost some: { 1 ≤ nodes },
+    ghost most: { nodes ≤ TREE_NODES },
 }
 
 impl<'a> Options<'a> {
-    // What the subcommand's matches ask for. The program's clients hand copies of their descriptors on.
+    ghost use Rattle.clap.specs.Words.{FailsBy, fault_of, found_of, rows_of};
+    ghost use Rattle.landtree.specs.Options.{asked, asked_by, asked_in, fits, landtree, levels, number_of};
+
+    // The level that the matches tell.
+    fn level_of(run: &ArgMatches) -> Option<Abi>
+        ensures { result ≡ number_of (codes "abi") levels (rows_of (found_of run.now)) }
+    {
+        match run.get_one::<u64>("abi") {
+            Some(number) => Abi::new(number),
+            None => None,
+        }
+    }
+
+    // What the subcommand's matches ask for.
     fn of_run(run: &ArgMatches<'a>) -> Option<Options<'a>>
-        ensures asked { option_map (λ o. (o.script.now, o.setup.nodes, o.setup.rules.abi)) result
-            ≡ asked (rows_of (found_of run.now)) }
-        ensures copies { IfSome result (λ o. o.setup.rules.copies ≡ true) }
+        ensures { option_map asked_in result ≡ asked (rows_of (found_of run.now)) }
     {
         let script = run.get_str("SCRIPT")?;
         let nodes = run.get_one::<usize>("nodes")?;
-        let abi = Abi::new(run.get_one::<u64>("abi")?)?;
-        let setup = Setup::new(Rules { abi, copies: true }, nodes)?;
-        Some(Options { script, setup })
+        if nodes < 1 || TREE_NODES < nodes {
+            return None;
+        }
+        let level = Options::level_of(run);
+        let policy = run.get_str("policy");
+        let profile = run.get_str("profile");
+        Some(Options {
+            script,
+            nodes,
+            level,
+            policy,
+            profile,
+        })
     }
 
     /// What the words ask for, of which the first is the program's name.
     pub fn read(alloc: Global, words: &'a [&'a str]) -> Result<Options<'a>, Error>
-        ensures asked { IfOk result (λ o. asked_by (map (λ w. w.now) words.entry.now)
-            ≡ Some (o.script.now, o.setup.nodes, o.setup.rules.abi)) }
-        ensures copies { IfOk result (λ o. o.setup.rules.copies ≡ true) }
+        ensures asked { IfOk result (λ o. asked_by (map (λ w. w.now) words.entry.now) ≡ Some (asked_in o)) }
         ensures fault { FailsBy (fault_of landtree (map (λ w. w.now) words.entry.now)) result }
     {
         let matches = landtree_command(alloc)?.try_get_matches_from(words)?;
@@ -90,5 +70,15 @@ impl<'a> Options<'a> {
             unreachable!()
         };
         Ok(options)
+    }
+
+    /// Whether the options go together: a level without a policy, a profile with one.
+    pub fn fit(&self) -> bool
+        ensures { result ≡ fits (asked_in self.now) }
+    {
+        match self.policy {
+            Some(_) => self.level.is_none(),
+            None => self.profile.is_none(),
+        }
     }
 }

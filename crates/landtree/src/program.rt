@@ -6,27 +6,27 @@ ghost use Rattle.landtree.specs.Failure.{failure_of};
 ghost use Rattle.landtree.specs.Run.{Runs, Begins, MayEnd, Writes};
 
 use crate::failure::Failure;
-use crate::options::Options;
 use crate::run::run_script;
+use crate::setup::Setup;
 use std::alloc::Global;
 use std::io::{Read, Write};
 
-/// Runs a script over a tree as the options tell.
+/// Runs a script over a tree that is set up so.
 pub fn perform<R: Read, W: Write>(
     alloc: Global,
-    options: &Options,
+    setup: &Setup,
     script: &mut R,
     out: &mut W,
 ) -> Result<(), Failure>
     ensures transcript { OnOk result (IfSome (R.remaining script.old) (λ input. (left : List ℕ)
         × (R.remaining script.new ≡ Some left)
-        × Writes (W.contents out.old) (W.contents out.new) (Runs options.now.setup input left))) }
+        × Writes (W.contents out.old) (W.contents out.new) (Runs setup.now input left))) }
     ensures beginning { OnErr result (IfSome (R.remaining script.old) (λ input.
-        Writes (W.contents out.old) (W.contents out.new) (Begins options.now.setup input))) }
+        Writes (W.contents out.old) (W.contents out.new) (Begins setup.now input))) }
     ensures failure { IfErr result (λ failure. (fault : RunFault)
-        × MayEnd options.now.setup fault × (failure ≡ failure_of fault)) }
+        × MayEnd setup.now fault × (failure ≡ failure_of fault)) }
 {
-    match run_script(alloc, &options.setup, script, out) {
+    match run_script(alloc, setup, script, out) {
         Ok(()) => Ok(()),
         Err(fault) => Err(Failure::of_run(fault)),
     }

@@ -38,7 +38,7 @@ fn read_all<R: Read, W: Write>(
     reader: &mut R,
     writer: &mut W,
 ) -> Result<(), SessionFault>
-    requires room { used session.old.tree ≤ 4 }
+    requires room { used session.old.tree ≤ 2 ^ 62 }
     ensures ok { OnOk result ((first : Session) (input : List ℕ) (old : Option (List ℕ))
         → R.remaining reader.old ≡ Some input
         → Progress first input input old (W.contents writer.old) session.old
@@ -73,7 +73,7 @@ fn run_session<R: Read, W: Write>(
     reader: &mut R,
     writer: &mut W,
 ) -> Result<(), SessionFault>
-    requires room { used session.tree ≤ 4 }
+    requires room { used session.tree ≤ 2 ^ 62 }
     ensures ok { OnOk result ((first : Session) (input : List ℕ) (old : Option (List ℕ))
         → R.remaining reader.old ≡ Some input
         → Progress first input input old (W.contents writer.old) session

@@ -2,7 +2,7 @@
 
 ghost use Rattle.std.specs.Prelude.{◌≡◌, ◌<◌, ◌≤◌, ◌+◌, ◌-◌, ◌*◌, ◌^◌, ◌∷◌, [], ◌++◌, length, ℕ, List, Option, OnOk, OnErr, IfErr, IfOk};
 
-use crate::fault::SessionFault;
+use crate::fault::{RunFault, SessionFault};
 use crate::line::Line;
 use crate::output::write_reply;
 use crate::setup::Setup;
@@ -20,13 +20,14 @@ pub struct OpenSession {
     alloc: Global,
     pub tree: SessionTree,
     pub line: Line,
+    ghost some: { 1 ≤ tree.clients },
 }
 
 /// How an opening ends.
 #[derive(Drop)]
 pub enum Opened {
     Begun(OpenSession),
-    /// The reply to the connect that is refused.
+    /// The reply to the connect or the profile's call that is refused.
     Refused(Reply),
 }
 
@@ -34,26 +35,43 @@ impl OpenSession {
     ghost use Rattle.ll_wire.specs.Grammar.{IsReply};
     ghost use Rattle.landtree.specs.declared.fault.SessionFault.{SessionFault};
     ghost use Rattle.landtree.specs.Transcript.{Session};
-    ghost use Rattle.landtree.specs.Run.{joined, Opens, refused};
-    ghost use Rattle.landtree.specs.Progress.{used, Holds, IfBegun, IfRefused, StandsAt, AnswersLine, IsAnswered, IsStarted, HasBegun, IsWritten, IsOfWriting, Progress};
+    ghost use Rattle.landtree.specs.Opening.{Opens, begun, refused};
+    ghost use Rattle.landtree.specs.Progress.{used, Holds, IfBegun, IfRefused, OpensBadly, StandsAt, AnswersLine, IsAnswered, IsStarted, HasBegun, IsWritten, IsOfWriting, Progress};
 
-    /// Opens a fresh tree, and connects its first client.
-    pub fn open(alloc: Global, setup: &Setup) -> Result<Opened, SessionFault>
-        ensures session { IfOk result (λ opened. IfBegun opened (λ session. StandsAt session.tree (joined setup.now))) }
+    /// Opens a fresh tree, to which the loader comes, if there is one, and then the first client.
+    pub fn open(alloc: Global, setup: &Setup) -> Result<Opened, RunFault>
+        ensures session { IfOk result (λ opened. IfBegun opened (λ session.
+            (first : Session) × Opens setup.now (begun first) × StandsAt session.tree first)) }
         ensures line { IfOk result (λ opened. IfBegun opened (λ session. Holds session.line [])) }
-        ensures numbers { IfOk result (λ opened. IfBegun opened (λ session. used session.tree ≤ 4)) }
+        ensures numbers { IfOk result (λ opened. IfBegun opened (λ session. used session.tree ≤ 2 ^ 62)) }
         ensures refused { IfOk result (λ opened. IfRefused opened (λ reply. Opens setup.now (refused reply))) }
-        ensures fault { IfErr result (λ fault. fault ≡ SessionFault.NoMemory) }
+        ensures has_text { IfOk result (λ opened. IfRefused opened IsReply) }
+        ensures fault { IfErr result (λ fault. OpensBadly setup.now fault) }
     {
         let Ok(plain) = Plain::new(alloc, setup.rules, setup.nodes) else {
-            return Err(SessionFault::NoMemory);
+            return Err(RunFault::Session(SessionFault::NoMemory));
         };
         let Ok(line) = Line::new(alloc) else {
-            return Err(SessionFault::NoMemory);
+            return Err(RunFault::Session(SessionFault::NoMemory));
         };
-        match SessionTree::join(plain) {
-            Ok(tree) => Ok(Opened::Begun(OpenSession { alloc, tree, line })),
-            Err(reply) => Ok(Opened::Refused(reply)),
+        let mut tree = SessionTree::new(plain);
+        match tree.load(&setup.loader) {
+            Ok(()) => {}
+            Err(refusal) => {
+                if refusal.at_connect {
+                    return Ok(Opened::Refused(refusal.reply));
+                }
+                return Err(RunFault::Opening);
+            }
+        }
+        let before = tree.clients;
+        match tree.bring(setup.profile.as_slice()) {
+            Ok(()) => Ok(Opened::Begun(OpenSession {
+                alloc,
+                tree: tree.beginning_after(before),
+                line,
+            })),
+            Err(refusal) => Ok(Opened::Refused(refusal.reply)),
         }
     }
 
@@ -69,7 +87,7 @@ impl OpenSession {
             return Reply::Refused(Errno::BadLine);
         }
         match read_command(self.alloc, &self.line.bytes, self.tree.clients) {
-            Ok((client, call)) => self.tree.call(client, &call),
+            Ok((place, call)) => self.tree.call_at(place, &call),
             Err(errno) => Reply::Refused(errno),
         }
     }

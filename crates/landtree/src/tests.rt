@@ -12,13 +12,17 @@ use ll_rights::Abi;
 use ll_seq::Rules;
 use std::alloc::Global;
 
-const SETUP: Setup = Setup {
-    rules: Rules {
-        abi: Abi::NEWEST,
-        copies: true,
-    },
-    nodes: 1024,
-};
+fn setup(alloc: Global) -> Setup {
+    Setup {
+        rules: Rules {
+            abi: Abi::NEWEST,
+            copies: true,
+        },
+        nodes: 1024,
+        loader: None,
+        profile: Vec::new(alloc),
+    }
+}
 
 const TEN_LINES: &[u8] = b"\
 make dir /a
@@ -76,7 +80,9 @@ fn run(alloc: Global, reads: usize, writes: usize) -> (Ended, Sink) {
         calls: writes,
         failures: 0,
     };
-    let ended = run_script(alloc, &SETUP, &mut reader, &mut writer);
+    let setup = setup(alloc);
+    let ended = run_script(alloc, &setup, &mut reader, &mut writer);
+    drop(setup);
     (how(&ended), writer)
 }
 

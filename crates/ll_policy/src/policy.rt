@@ -1,9 +1,11 @@
 //! Policies.
 
-ghost use Rattle.std.specs.Prelude.{bytes_eq, ⊤, ◌≡◌, ◌⊎◌, ◌≤◌, [], Some, pos, option_map, slice_get, OnOk, IfOk, IfErr};
+ghost use Rattle.std.specs.Prelude.{bytes_eq, ⊤, ◌≡◌, ◌⊎◌, ◌≤◌, [], Some, pos, option_map, slice_get, OnOk, IfOk, IfErr, IfSome, false};
+ghost use Rattle.std.specs.List.{AllByRecursion};
 ghost use Rattle.std.specs.Map.{lookup};
 ghost use Rattle.toml.specs.Parse.{parse_document};
 ghost use Rattle.toml.specs.View.{table_view};
+ghost use Rattle.ll_seq.specs.History.{is_connect};
 ghost use Rattle.ll_policy.specs.Answers.{Checks, Reads};
 ghost use Rattle.ll_policy.specs.Faults.{document_faults, level_faults, other_keys, policy_faults, top_faults, top_keys};
 ghost use Rattle.ll_policy.specs.Kept.{IsTop};
@@ -15,6 +17,7 @@ use crate::node::{Node, opening_calls, read_nodes};
 use crate::profile::{Profile, read_profiles};
 use crate::table::{named_tables, only, tables};
 use crate::values::{is_two, level, version};
+use ll_rights::Abi;
 use ll_seq::Call;
 use std::alloc::{AllocError, Global};
 use std::marker::Model;
@@ -66,13 +69,13 @@ fn read_top<'a>(table: &'a Table) -> Result<Top<'a>, PolicyFault>
 /// Calls that a first client makes, and calls of clients by the names of profiles.
 #[derive(Drop)]
 pub struct Policy {
-    abi: u64,
+    abi: Abi,
     nodes: Vec<Node>,
     profiles: Vec<Profile>,
 }
 
 impl Model for Policy {
-    ghost use Rattle.std.specs.Prelude.{ℕ, ◌≤◌, map};
+    ghost use Rattle.std.specs.Prelude.{map};
     ghost use Rattle.ll_policy.specs.Plan.{Plan};
 
     ghost Value = { Plan };
@@ -80,8 +83,6 @@ impl Model for Policy {
     ghost use Rattle.ll_policy.specs.Kept.{opening_of, named_calls};
 
     ghost view = { λ policy. record { abi = policy.abi; opening = opening_of policy.nodes.items; profiles = map named_calls policy.profiles.items } };
-
-    ghost invariant = { λ policy. (1 ≤ policy.abi) × (policy.abi ≤ 3) };
 }
 
 impl Policy {
@@ -90,13 +91,16 @@ impl Policy {
         ensures { Reads (policy_faults (table_view table.now)) (IsPlan (table_view table.now)) result }
     {
         let top = read_top(table)?;
+        let Some(abi) = Abi::new(top.abi) else {
+            unreachable!()
+        };
         let nodes = read_nodes(alloc, top.nodes)?;
         let profiles = match top.profiles {
             Some(profiles) => read_profiles(alloc, profiles)?,
             None => Vec::new(alloc),
         };
         Ok(Policy {
-            abi: top.abi,
+            abi,
             nodes,
             profiles,
         })
@@ -117,25 +121,27 @@ impl Policy {
     }
 
     /// The ABI level of the tree that the policy is for.
-    pub fn abi(&self) -> u64
-        ensures value { result ≡ self.now.abi }
-        ensures first { 1 ≤ result }
-        ensures last { result ≤ 3 }
+    pub fn abi(&self) -> Abi
+        ensures { result ≡ self.now.abi }
     {
         self.abi
     }
 
-    /// The calls that a client makes before all others, in order.
+    /// The calls that a client makes before all others, in order. None of them is a connect.
     pub fn opening(&self, alloc: Global) -> Result<Vec<Call>, AllocError>
-        ensures { IfOk result (λ calls. calls.items ≡ self.now.opening) }
+        ensures calls { IfOk result (λ calls. calls.items ≡ self.now.opening) }
+        ensures connects { IfOk result (λ calls. AllByRecursion (λ call. is_connect call ≡ false) calls.items) }
     {
         opening_calls(alloc, &self.nodes)
     }
 
     /// The calls that each client of this profile makes first, in order. None where the policy has no such profile.
+    /// No call is a connect.
     pub fn profile(&self, alloc: Global, name: &str) -> Result<Option<Vec<Call>>, AllocError>
-        ensures { IfOk result (λ found. option_map (λ calls. calls.items) found
+        ensures calls { IfOk result (λ found. option_map (λ calls. calls.items) found
             ≡ lookup (bytes_eq name.now) self.now.profiles) }
+        ensures connects { IfOk result (λ found. IfSome found (λ calls.
+            AllByRecursion (λ call. is_connect call ≡ false) calls.items)) }
     {
         for profile in &self.profiles {
             if profile.is_named(name) {

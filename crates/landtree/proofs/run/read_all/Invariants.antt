@@ -1,11 +1,11 @@
-use Rattle.std.proofs.Common.{◌≡◌, ◌+◌, ◌*◌, ◌≤◌, List, ℕ, Option, Some, length}
+use Rattle.std.proofs.Common.{◌≡◌, ◌+◌, ◌*◌, ◌^◌, ◌≤◌, List, ℕ, Option, Some, length}
 use Rattle.landtree.specs.Transcript.{Session}
 use Rattle.landtree.specs.Progress.{used, Progress}
 use Rattle.landtree.proofs.run.read_all.Given as goal
 
 abbrev pub invariant-loop-read : goal.invariant-loop-read
 invariant-loop-read g l = record {
-  numbers : used l.session.tree ≤ 4 + 1024 * l._read;
+  numbers : used l.session.tree ≤ 2 ^ 62 + 1024 * l._read;
   progress : (first : Session) (input : List ℕ) (old : Option (List ℕ))
       → g.R.Read.remaining l.fn.reader ≡ Some input
       → Progress first input input old (g.W.Write.contents l.fn.writer) l.fn.session

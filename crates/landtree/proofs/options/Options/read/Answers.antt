@@ -1,13 +1,13 @@
 use Rattle.std.proofs.Common.{◌≡◌, ◌∙◌, sym, ap, rules, map, option_map, ℕ, Option, []}
 use Rattle.clap.specs.Words.{Text, fault_of}
-use Rattle.landtree.specs.Options.{asked_by, landtree}
+use Rattle.landtree.specs.Options.{Asked, asked_by, asked_in, landtree}
 use Rattle.landtree.specs.declared.options.Options.{Options}
 use Rattle.landtree.proofs.Asked.{never_none}
 use Rattle.landtree.proofs.Matched.{command_free, no_fault}
 use Rattle.landtree.proofs.options.Options.read.Goals as goal
 
-abbrev fields : Option Options → Option (Text × ℕ × ℕ)
-fields = option_map (λ (o : Options). (o.script.now, o.setup.nodes, o.setup.rules.abi))
+abbrev fields : Option Options → Option Asked
+fields = option_map asked_in
 
 pub unreachable-requires-in_default-of_run : goal.unreachable-requires-in_default-of_run
 unreachable-requires-in_default-of_run c =

@@ -1,7 +1,7 @@
 use Rattle.std.proofs.Common.{List, ℕ, ◌∙◌, subst}
 use Rattle.ll_wire.specs.Grammar.{SpellsCommand}
 use Rattle.landtree.proofs.Cuts.{kept}
-use Rattle.landtree.proofs.Replies.{called, spells_none, too_long, not_read}
+use Rattle.landtree.proofs.Replies.{answered_by, spells_none, too_long, not_read}
 use Rattle.landtree.proofs.session.OpenSession.reply.Goals as goal
 
 pub returns-then-self-clause-answers : goal.returns-then-self-clause-answers
@@ -10,17 +10,8 @@ returns-then-self-clause-answers c s piece held stands = spells_none s piece _ (
 pub returns-in-Ok-clause-answers : goal.returns-in-Ok-clause-answers
 returns-in-Ok-clause-answers c s piece held stands =
     let same = c.deref.ensures.value ∙ kept c.args.self.now.line piece c.if-self.false held in
-    called s piece c.args.self.now.tree c.call.new.self c.in-Ok.client c.in-Ok.call c.call.result stands
-    (subst (λ (p : List ℕ). SpellsCommand p c.in-Ok.client c.in-Ok.call) same c.in-Ok.ensures.0, c.in-Ok.ensures.1)
-    (record {
-      free = c.call.ensures.fresh;
-      step = c.call.ensures.step;
-      no_memory = c.call.ensures.no_memory;
-      starved = c.call.ensures.starved;
-      memory = c.call.ensures.memory;
-      clients = c.call.ensures.clients;
-      spawned = c.call.ensures.spawned;
-    })
+    answered_by s piece c.in-Ok.place c.args.self.now.tree.clients c.in-Ok.call c.call_at.result c.call_at.new.self
+    (subst (λ (p : List ℕ). SpellsCommand p c.in-Ok.place c.in-Ok.call) same c.in-Ok.ensures.0, c.in-Ok.ensures.1) (c.call_at.ensures.called s stands)
 
 pub returns-in-Err-clause-answers : goal.returns-in-Err-clause-answers
 returns-in-Err-clause-answers c s piece held stands =

@@ -1,4 +1,4 @@
-use Rattle.std.proofs.Common.{◌≡◌, ap, sym, ◌∙◌, arith, inl, inr}
+use Rattle.std.proofs.Common.{◌≡◌, ◌+◌, ap, sym, ◌∙◌, arith, inl, inr}
 use Rattle.std.proofs.lemmas.Bool.{cases_lt}
 use Rattle.ll_rights.specs.Map.{has}
 use Rattle.ll_seq.specs.declared.reply.Reply.TheVariants.{Spawned}
@@ -8,8 +8,7 @@ pub invariant_of-self : goal.invariant_of-self
 invariant_of-self c =
     let told = c.apply-reply.ensures.spawned c.in-Spawned.field-0 c.in-Spawned.is in
     record {
-      some = omega arith;
-      connected = λ number first last. elim (cases_lt c.args.self.now.clients number) [
+      connected = λ number first last. elim (cases_lt (c.args.self.now.before + c.args.self.now.clients) number) [
         | inl more ↦ (let same : number ≡ c.in-Spawned.field-0 = (let next = told.0 in omega arith) in ap (λ k. has c.apply-reply.new.self.clients k) same ∙ told.1)
         | inr less ↦ c.apply-reply.ensures.clients_stay number (c.args.self.now.connected number first less)
       ];

@@ -1,0 +1,33 @@
+-- What a reader has told, and what follows from it.
+use Rattle.std.proofs.Common.{◌≡◌, ◌∙◌, ℕ, List, [], Option, None, Some, refl, sym, subst, option_map, is_some, false, inl, inr, ◌⊎◌}
+use Rattle.std.specs.Prelude.{IfSome}
+use Rattle.std.specs.Borrow.{Bor}
+use Rattle.landtree.specs.declared.failure.Failure.{Failure}
+use Rattle.landtree.specs.declared.failure.Failure.TheVariants.{File, NoMemory}
+use Rattle.landtree.specs.declared.options.Options.{Options}
+use Rattle.landtree.specs.declared.setup.Setup.{Setup}
+use Rattle.landtree.specs.Options.{Asked, asked_in}
+use Rattle.landtree.specs.Policy.{ByLevel, IsSetBy, Lacks}
+
+-- some text that it tells, if it tells any
+pub a_text : (o : Option (List ℕ)) → (text : List ℕ) × IfSome o (λ told. text ≡ told)
+a_text None = ([], tt)
+a_text (Some told) = (told, refl)
+
+pub same_text : (o : Option (List ℕ)) (x y : List ℕ) → x ≡ y → IfSome o (λ told. y ≡ told) → IfSome o (λ told. x ≡ told)
+same_text None x y e h = tt
+same_text (Some told) x y e h = e ∙ h
+
+-- the file can't be read
+pub unread : (asked : Asked) (text : List ℕ) (failure : Failure) → (failure ≡ File) ⊎ (failure ≡ NoMemory) → Lacks asked text failure
+unread asked text failure (inl e) = subst (Lacks asked text) (sym e) tt
+unread asked text failure (inr e) = subst (Lacks asked text) (sym e) tt
+
+-- no policy is asked for
+pub set_by_level : (options : Options) (text : List ℕ) (setup : Setup) → is_some options.policy ≡ false → ByLevel (asked_in options) setup
+    → IsSetBy (asked_in options).policy (asked_in options) text setup
+set_by_level options text setup none by = go options.policy none
+  where
+    go : (file : Option (Bor (List ℕ))) → is_some file ≡ false → IsSetBy (option_map (λ (t : Bor (List ℕ)). t.now) file) (asked_in options) text setup
+    go None e = by
+    go (Some file) e = absurd cc

@@ -1,0 +1,90 @@
+//! The command line that clap reads.
+
+ghost use Rattle.std.specs.Prelude.{◌≡◌, codes, IfOk, false};
+ghost use Rattle.clap.specs.Words.{app_of, rule_of};
+ghost use Rattle.clap.specs.declared.builder.command.Command.TheViews.{out-Command as fields_of};
+ghost use Rattle.landtree.specs.Options.{abi, landtree, nodes, run, script, valued};
+
+use clap::{Arg, Command, value_parser};
+use ll_rights::limits::TREE_NODES;
+use std::alloc::{AllocError, Global};
+
+fn nodes_option<'a>(alloc: Global) -> Arg<'a>
+    ensures rule { rule_of result ≡ nodes }
+    ensures local { result.global ≡ false }
+{
+    Arg::new(alloc, "nodes")
+        .long("nodes")
+        .value_name("N")
+        .value_parser(value_parser!(usize).range(1..=TREE_NODES as i64))
+        .default_value("1024")
+        .help("How many nodes may live in the tree, the root counted")
+}
+
+fn abi_option<'a>(alloc: Global) -> Arg<'a>
+    ensures rule { rule_of result ≡ abi }
+    ensures local { result.global ≡ false }
+{
+    Arg::new(alloc, "abi")
+        .long("abi")
+        .value_name("A")
+        .value_parser(value_parser!(u64).range(1..=3))
+        .help(
+            "The level of Landlock's ABI, whose rights a ruleset may handle (3; not beside a policy)",
+        )
+}
+
+fn policy_option<'a>(alloc: Global) -> Arg<'a>
+    ensures rule { rule_of result ≡ valued (codes "policy") }
+    ensures local { result.global ≡ false }
+{
+    Arg::new(alloc, "policy")
+        .long("policy")
+        .value_name("FILE")
+        .help("A policy's file: nodes that are made first, layers of profiles, and the level")
+}
+
+fn profile_option<'a>(alloc: Global) -> Arg<'a>
+    ensures rule { rule_of result ≡ valued (codes "profile") }
+    ensures local { result.global ≡ false }
+{
+    Arg::new(alloc, "profile")
+        .long("profile")
+        .value_name("NAME")
+        .help("The policy's profile whose layers the first client gets")
+}
+
+fn script_argument<'a>(alloc: Global) -> Arg<'a>
+    ensures rule { rule_of result ≡ script }
+    ensures local { result.global ≡ false }
+{
+    Arg::new(alloc, "SCRIPT")
+        .required(true)
+        .help("The script's file, or `-` for standard input")
+}
+
+fn run_command<'a>(alloc: Global) -> Result<Command<'a>, AllocError>
+    ensures app { IfOk result (λ command. app_of command ≡ run) }
+    ensures local { IfOk result (λ command. (fields_of command).has_globals ≡ false) }
+{
+    let by_level = Command::new(alloc, "run")
+        .about("Runs a script: a command a line in, a reply a line out")
+        .arg(script_argument(alloc))?
+        .arg(nodes_option(alloc))?
+        .arg(abi_option(alloc))?;
+    let by_policy = by_level.arg(policy_option(alloc))?;
+    let run = by_policy.arg(profile_option(alloc))?;
+    Ok(run)
+}
+
+/// The program's words.
+pub fn landtree_command<'a>(alloc: Global) -> Result<Command<'a>, AllocError>
+    ensures { IfOk result (λ command. app_of command ≡ landtree) }
+{
+    let run = run_command(alloc)?;
+    Command::new(alloc, "landtree")
+        .about("A file tree in memory whose clients confine themselves with Landlock rulesets")
+        .version("0.1.0")
+        .subcommand_required(true)
+        .subcommand(run)
+}
