@@ -2,3 +2,4 @@ pub mod Entries
 pub mod EntryParts
 pub mod Grammar
 pub mod Reads
+pub mod Pieces
