@@ -15,3 +15,4 @@ pub mod Sizes
 pub mod Targets
 pub mod Tokens
 pub mod Unique
+pub mod Pieces

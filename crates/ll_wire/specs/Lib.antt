@@ -3,3 +3,4 @@ pub mod EntryParts
 pub mod Grammar
 pub mod Parts
 pub mod Reads
+pub mod Pieces
