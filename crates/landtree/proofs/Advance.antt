@@ -6,10 +6,11 @@ use Rattle.landtree.specs.declared.tree.SessionTree.{SessionTree}
 use Rattle.ll_wire.specs.Grammar.{reply_line}
 use Rattle.landtree.specs.declared.line.Line.{Line}
 use Rattle.landtree.specs.declared.session.OpenSession.{OpenSession}
-use Rattle.landtree.specs.Transcript.{Session, pieces}
+use Rattle.ll_wire.specs.Pieces.{pieces}
+use Rattle.landtree.specs.Transcript.{Session}
 use Rattle.landtree.specs.Run.{Lines}
 use Rattle.landtree.specs.Progress.{Holds, StandsAt, AnswersLine, IsAnswered, IsStarted, HasBegun, Progress}
-use Rattle.landtree.proofs.Cuts.{IsOpen, open-append, pieces-line}
+use Rattle.ll_wire.proofs.Pieces.{IsOpen, open-append, pieces-line}
 use Rattle.landtree.proofs.Writing.{appends-more, appends-none, front-more}
 
 -- the line took a byte

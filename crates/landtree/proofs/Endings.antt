@@ -12,11 +12,13 @@ use Rattle.landtree.specs.declared.setup.Setup.{Setup}
 use Rattle.landtree.specs.declared.session.OpenSession.{OpenSession}
 use Rattle.landtree.specs.declared.session.Opened.{Opened}
 use Rattle.landtree.specs.declared.session.Opened.TheVariants as opened
-use Rattle.landtree.specs.Transcript.{Session, pieces}
+use Rattle.ll_wire.specs.Pieces.{pieces}
+use Rattle.landtree.specs.Transcript.{Session}
 use Rattle.landtree.specs.Opening.{begun, refused, Opens}
 use Rattle.landtree.specs.Run.{Runs, Begins, Writes}
 use Rattle.landtree.specs.Progress.{AppendsFront, Holds, IfBegun, IfRefused, StandsAt, IsWritten, HasBegun, Progress}
-use Rattle.landtree.proofs.Cuts.{pieces-last, kept, has_bytes}
+use Rattle.ll_wire.proofs.Pieces.{pieces-last}
+use Rattle.landtree.proofs.Cuts.{kept, has_bytes}
 use Rattle.landtree.proofs.Writing.{appends-more, front-none}
 use Rattle.landtree.proofs.Coming.{may_be_refused}
 use Rattle.landtree.proofs.Advance.{Answering, Starting, lines-append, begins, piece_stops}

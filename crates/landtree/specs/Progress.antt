@@ -18,7 +18,8 @@ use Rattle.landtree.specs.declared.session.Opened.{Opened}
 use Rattle.landtree.specs.declared.session.Opened.TheVariants.{Begun, Refused}
 use Rattle.landtree.specs.Opening.{Coming, unconnected, unmade, Opens, stopped}
 use Rattle.landtree.specs.Run.{Lines}
-use Rattle.landtree.specs.Transcript.{Session, Called, Answers, pieces}
+use Rattle.ll_wire.specs.Pieces.{pieces}
+use Rattle.landtree.specs.Transcript.{Session, Called, Answers}
 
 -- the bytes since the last line feed: kept, or over 16,384 of them
 abbrev pub Holds : Line → List ℕ → Type 0

@@ -8,7 +8,8 @@ use Rattle.ll_wire.specs.Grammar.{reply_line}
 use Rattle.landtree.specs.declared.fault.RunFault.{RunFault}
 use Rattle.landtree.specs.declared.fault.RunFault.TheVariants as run
 use Rattle.landtree.specs.declared.setup.Setup.{Setup}
-use Rattle.landtree.specs.Transcript.{Session, Called, Transcript, pieces}
+use Rattle.ll_wire.specs.Pieces.{pieces}
+use Rattle.landtree.specs.Transcript.{Session, Called, Transcript}
 use Rattle.landtree.specs.Opening.{Opens, begun, refused, stopped}
 
 -- the most reads of one input

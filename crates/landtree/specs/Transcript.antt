@@ -14,11 +14,6 @@ use Rattle.ll_plain.specs.Memory.{takes_memory}
 use Rattle.ll_wire.specs.Grammar.{SpellsCommand, reply_line}
 use Rattle.ll_wire.specs.Reads.{holds_text}
 
--- A stream is cut after each line feed. What stands after the last one is a piece too
-abbrev pub pieces : List ℕ → List (List ℕ)
-pieces [] = []
-pieces (b ∷ bs) = if b == 10 then (b ∷ []) ∷ pieces bs else onto_first b (pieces bs)
-
 -- Between two lines: the tree, the session's clients by their numbers, the entries of the history, and how many of
 -- them there may be
 pub record Session : Type 0 where

@@ -223,7 +223,7 @@ fn is_read(alloc: Global) -> Result<bool, PolicyFault> {
     let is_opened = opens(alloc, &policy, OPENING)?;
     let is_confined = has_profile(alloc, &policy, "reader", LAYERS)?;
     let is_another = has_profile(alloc, &policy, "writer", &[])?;
-    Ok(policy.abi() == 2 && is_opened && is_confined && !is_another)
+    Ok(policy.abi().number() == 2 && is_opened && is_confined && !is_another)
 }
 
 #[test]
