@@ -1,5 +1,4 @@
--- The words of the command line, as clap matches them: `landtree run SCRIPT`, with `--nodes N`, `--abi A`, `--policy FILE` and
--- `--profile NAME`. own
+-- The words of the command line, as clap matches them. own
 use Rattle.std.specs.Prelude.{◌≡◌, ◌⊎◌, ℕ, List, [], ◌∷◌, Option, Some, None, is_some, option_and_then, option_map, codes, Bool, true, false, not, if◌then◌else◌}
 use Rattle.std.specs.Str.Parse.{digits_value, without_leading_plus}
 use Rattle.clap.specs.declared.error.kind.ErrorKind.TheVariants.{DisplayHelp, DisplayVersion}
@@ -41,7 +40,6 @@ run =
 abbrev pub landtree : App
 landtree = with_subcommand (on_top (λ s. record s { has_version = true; subcommand_required = true }) (new_app (codes "landtree"))) run.top
 
--- what the words of `run` ask for
 pub record Asked : Type 0 where
   pub script : Text
   pub nodes : ℕ

@@ -24,14 +24,13 @@ abbrev pub MayEnd : Setup → RunFault → Type 0
 MayEnd setup run.Opening = Opens setup stopped
 MayEnd setup (run.Session fault) = ⊤
 
--- What a run reads of its input, and what it writes: all of it and the transcript, or nothing and the refusal
+-- A run reads all and writes the transcript, or reads nothing and writes the refusal
 abbrev pub Runs : Setup → (input left text : List ℕ) → Type 0
 Runs setup input left text =
     ((first last : Session) × Opens setup (begun first) × (left ≡ []) × Lines first (pieces input) text last)
     ⊎ ((reply : Reply) × Opens setup (refused reply) × (left ≡ input) × (text ≡ reply_line reply))
 
--- A run that a fault ends: it writes a beginning of the transcript of some first pieces of its input, or of the refusal, or its
--- opening stops and nothing is written
+-- What a run that a fault ends has written: a beginning of the transcript of some first pieces, or of the refusal, or nothing
 abbrev pub Begins : Setup → (input text : List ℕ) → Type 0
 Begins setup input text =
     ((first last : Session) × (done more : List (List ℕ)) × (whole back : List ℕ) × Opens setup (begun first) × (pieces input ≡ done ++ more)

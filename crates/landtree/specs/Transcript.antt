@@ -14,8 +14,7 @@ use Rattle.ll_plain.specs.Memory.{takes_memory}
 use Rattle.ll_wire.specs.Grammar.{SpellsCommand, reply_line}
 use Rattle.ll_wire.specs.Reads.{holds_text}
 
--- Between two lines: the tree, the session's clients by their numbers, the entries of the history, and how many of
--- them there may be
+-- Between two lines: the tree, the clients by number, the entries, and how many these may be
 pub record Session : Type 0 where
   pub tree : State
   pub clients : List ℕ
@@ -25,12 +24,11 @@ pub record Session : Type 0 where
 abbrev pub IsFull : Session → Type 0
 IsFull s = IsSomeAnd s.limit (λ most. most ≤ length s.entries)
 
--- the client that the reply brings
 abbrev pub brought : Reply → List ℕ
 brought (Spawned number) = number ∷ []
 brought _ = []
 
--- after a call that is entered in the history
+-- after an entered call
 abbrev pub next : Session → ℕ → Call → Reply → State → Session
 next s client call reply tree = record s { tree = tree; clients = s.clients ++ brought reply; entries = s.entries ++ record { client = client; call = call; reply = reply } ∷ [] }
 
@@ -38,8 +36,7 @@ next s client call reply tree = record s { tree = tree; clients = s.clients ++ b
 abbrev pub MayStarve : Session → ℕ → Call → Type 0
 MayStarve s client call = (takes_memory call ≡ true) × (refusals s.tree (client_of s.tree client) call ≡ [])
 
--- A client makes a call. The tree makes one step, unless the history is full or a growth was refused: then nothing
--- changes. A client that is spawned gets a number that no client has
+-- The tree makes one step, unless the history is full or a growth was refused. A spawned client's number is unused
 pub data Called (s : Session) (client : ℕ) (call : Call) : Reply → Session → Type 0 where
   answered : (reply : Reply) (tree : State) (fresh : ℕ) → (IsFull s → ⊥) → has s.tree.clients fresh ≡ false → ◌≡◌ {A = Reply × State} (reply, tree) (step s.tree client call fresh)
       → Called s client call reply (next s client call reply tree)
@@ -50,13 +47,12 @@ pub data Called (s : Session) (client : ℕ) (call : Call) : Reply → Session �
 abbrev pub AreOthers : List Call → Type 0
 AreOthers = All (λ call. is_connect call ≡ false)
 
--- The lines name a client by its place in the session
+-- lines name clients by their places
 abbrev pub as_written : List ℕ → Reply → Reply
 as_written clients (Spawned number) = Spawned (length clients + 1)
 as_written clients reply = reply
 
--- In what follows, S is what is known between two lines, `clients` the session's clients in it, by their numbers, and
--- `Called s client call reply t` says that a client's call gets this reply and leaves t
+-- S: what is known between two lines. `Called s client call reply t`: the call gets this reply and leaves t
 module _ {S : Type 0} (clients : S → List ℕ) (Called : S → ℕ → Call → Reply → S → Type 0) where
   -- A piece that spells a call of a client of the session is answered by the reply to that call, or, where the call holds a
   -- word or bytes, for want of memory to read them; every other piece is answered by `refused 23 BadLine`
