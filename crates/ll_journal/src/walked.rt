@@ -1,0 +1,35 @@
+//! Which step makes a call.
+
+ghost use Rattle.std.specs.Prelude.{◌≡◌};
+ghost use Rattle.ll_seq.specs.Call.{targets};
+ghost use Rattle.ll_journal.specs.World as world;
+
+use ll_answer::{Targets, refused_early, targets_of};
+use ll_seq::{Call, ClientRecord};
+
+/// Whether it may move directories.
+pub(crate) fn takes_gate(call: &Call) -> bool
+    ensures { result ≡ world.takes_gate call.now }
+{
+    matches!(
+        call,
+        Call::Rename(..) | Call::RenameNoreplace(..) | Call::Exchange(..)
+    )
+}
+
+fn names_path(call: &Call) -> bool
+    ensures { result ≡ world.has_any (targets call.now) }
+{
+    match targets_of(call) {
+        Targets::No => false,
+        Targets::One(_) => true,
+        Targets::Two(_, _) => true,
+    }
+}
+
+/// Whether it walks.
+pub(crate) fn walks(caller: &ClientRecord, call: &Call) -> bool
+    ensures { result ≡ world.is_walked caller.now call.now }
+{
+    names_path(call) && refused_early(caller, call).is_none()
+}
