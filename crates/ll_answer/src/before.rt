@@ -149,8 +149,9 @@ pub fn refused_before(caller: &ClientRecord, call: &Call, found: &Found) -> Opti
 
 /// What refuses the call whatever the tree is: by its words, its numbers and how its paths lie.
 pub fn refused_early(caller: &ClientRecord, call: &Call) -> Option<Errno>
-    ensures { has_path call.now ≡ true → result ≡ slice_get (stages.text_refusals call.now
-        ++ stages.number_refusals caller.now call.now ++ stages.relation_refusals call.now (first_path call.now) (second_path call.now)) 0 }
+    ensures { has_path call.now ≡ true
+        → result ≡ slice_get (stages.text_refusals call.now ++ stages.number_refusals caller.now call.now
+        ++ stages.relation_refusals call.now (first_path call.now) (second_path call.now)) 0 }
 {
     let number = first(number_refusal(caller, call), relation_refusal(call));
     first(text_refusal(call), number)

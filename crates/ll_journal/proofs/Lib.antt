@@ -13,3 +13,4 @@ pub mod Growing
 pub mod Examples
 pub mod Opened
 pub mod Begun
+pub mod Starting

@@ -47,8 +47,10 @@ AreSeated s seats = (number : ℕ) → get s.clients number ≡ option_map (λ (
 
 -- the places tell of each inode that lies in a slot which one that is, and of no other number any
 pub record ArePlaced (inodes : List ℕ) (places : Map nat_cmp ℕ) : Type 0 where
-  pub lies : (slot inode : ℕ) → slice_get inodes slot ≡ Some inode → inode ≢ 0 → get places inode ≡ Some slot
-  pub there : (inode slot : ℕ) → get places inode ≡ Some slot → (slice_get inodes slot ≡ Some inode) × (inode ≢ 0)
+  pub lies :
+      (slot inode : ℕ) → slice_get inodes slot ≡ Some inode → inode ≢ 0 → get places inode ≡ Some slot
+  pub there :
+      (inode slot : ℕ) → get places inode ≡ Some slot → (slice_get inodes slot ≡ Some inode) × (inode ≢ 0)
 
 -- nothing lies in the slot
 abbrev pub IsVacant : List ℕ → ℕ → Type 0

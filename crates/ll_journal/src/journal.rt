@@ -1,12 +1,14 @@
 //! The journal.
 
-ghost use Rattle.std.specs.Prelude.{◌≡◌, ◌≤◌, ◌∷◌, replicate, IfOk};
+ghost use Rattle.std.specs.Prelude.{◌≡◌, ◌<◌, ◌≤◌, suc, [], ◌∷◌, length, replicate, None, IfOk, IfErr, IfSome, IfNone, OnOk, OnErr};
 ghost use Rattle.std.specs.List.{range_with_len};
 ghost use Rattle.ll_rights.specs.declared.limits.TheConstants.{HISTORY_ENTRIES};
 ghost use Rattle.ll_seq.specs.State.{root};
+ghost use Rattle.ll_journal.specs.Kept.{seat_at};
 
 use crate::seat::Seat;
-use ll_seq::{Fact, History, NumberMap, Rules};
+use crate::walked::{is_free, next_gate};
+use ll_seq::{Call, Fact, History, NumberMap, Rules};
 use std::alloc::{AllocError, Global};
 use std::marker::Model;
 
@@ -75,8 +77,25 @@ fn free(alloc: Global, others: usize) -> Result<Vec<u64>, AllocError>
     Ok(free)
 }
 
+/// The place of the seat of the client of this number.
+fn place_of(seats: &[Seat], client: u64) -> Option<usize>
+    ensures some { IfSome result (λ place. (client ≡ suc place) × (place < length seats.now)) }
+    ensures none { IfNone result (seat_at seats.now client ≡ None) }
+{
+    if client == 0 {
+        return None;
+    }
+    let place = client as usize - 1;
+    if place < seats.len() {
+        Some(place)
+    } else {
+        None
+    }
+}
+
 impl Journal {
-    ghost use Rattle.ll_journal.specs.Book.{new_book};
+    ghost use Rattle.ll_journal.specs.Book.{Spares, new_book};
+    ghost use Rattle.ll_journal.specs.World.{Begin, Begun, NotNow, advance};
 
     /// A tree of the root alone, in which so many nodes may live, without a client. Room is reserved for so many
     /// entries of the history.
@@ -106,5 +125,28 @@ impl Journal {
             places,
             free: free(alloc, nodes + SPARES - 1)?,
         })
+    }
+
+    /// The client's call sets out, or comes back where it may not. Takes no memory.
+    pub fn begin(&mut self, client: u64, call: Call) -> Result<(), Call>
+        ensures begun { OnOk result (advance self.old.world (Begin client call) ≡ (Begun, self.new.world)) }
+        ensures not_now { OnErr result (advance self.old.world (Begin client call) ≡ (NotNow, self.old.world)) }
+        ensures back { IfErr result (λ back. back ≡ call) }
+        ensures same { OnErr result (self.new ≡ self.old) }
+        ensures spares { Spares self.old self.new [] }
+    {
+        let Some(place) = place_of(&self.seats, client) else {
+            return Err(call);
+        };
+        if !self.seats[place].may_begin(&call) {
+            return Err(call);
+        }
+        if !is_free(self.gate, &call) {
+            return Err(call);
+        }
+        self.gate = next_gate(self.gate, client, &call);
+        let seat = &mut self.seats[place];
+        seat.begin(call);
+        Ok(())
     }
 }

@@ -104,7 +104,8 @@ impl Seat {
     /// The call sets out, above the root.
     pub(crate) fn begin(&mut self, call: Call)
         ensures { self.new ≡ record self.old {
-            walk = Some (record { call = call; starts = 1; stale = false; at = Above }) } }
+          walk = Some (record { call = call; starts = 1; stale = false; at = Above });
+        } }
     {
         self.call = Some(call);
         self.starts = 1;
