@@ -1,6 +1,6 @@
 //! What refuses a call before policy is asked.
 
-ghost use Rattle.std.specs.Prelude.{◌≡◌, None, true, slice_get};
+ghost use Rattle.std.specs.Prelude.{◌≡◌, ◌++◌, None, true, slice_get};
 ghost use Rattle.ll_rights.specs.Errno.{refuse};
 ghost use Rattle.ll_path.specs.Path.{is_root};
 ghost use Rattle.ll_seq.specs.Call.{path_of, first_path, second_path};
@@ -144,5 +144,15 @@ pub fn refused_before(caller: &ClientRecord, call: &Call, found: &Found) -> Opti
     let walk = first(walk_refusal(call, found), existence);
     let relation = first(relation_refusal(call), walk);
     let number = first(number_refusal(caller, call), relation);
+    first(text_refusal(call), number)
+}
+
+/// What refuses the call whatever the tree is: by its words, its numbers and how its paths lie.
+pub fn refused_early(caller: &ClientRecord, call: &Call) -> Option<Errno>
+    ensures { has_path call.now ≡ true
+        → result ≡ slice_get (stages.text_refusals call.now ++ stages.number_refusals caller.now call.now
+        ++ stages.relation_refusals call.now (first_path call.now) (second_path call.now)) 0 }
+{
+    let number = first(number_refusal(caller, call), relation_refusal(call));
     first(text_refusal(call), number)
 }

@@ -13,7 +13,7 @@ mod later;
 mod refusals;
 mod targets;
 
-pub use before::refused_before;
+pub use before::{refused_before, refused_early};
 pub use changes::{Answer, At, Change, Effect, Opening, Rule};
 pub use deciding::decide;
 pub use demanding::demands_of;

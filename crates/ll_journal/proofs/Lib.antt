@@ -11,3 +11,6 @@ pub mod Gates
 pub mod Commits
 pub mod Growing
 pub mod Examples
+pub mod Opened
+pub mod Begun
+pub mod Starting

@@ -3,3 +3,7 @@ pub mod World
 pub mod Walks
 pub mod Commits
 pub mod Growing
+pub mod Book
+pub mod Codes
+pub mod Seated
+pub mod Kept

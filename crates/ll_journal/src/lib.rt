@@ -1,9 +1,17 @@
 //! A tree that many clients share: the walks of their calls, and the steps by which these go on.
 #![tactic(auto)]
 
+mod held;
+mod journal;
+mod seat;
+mod walked;
+
 ghost use Rattle.ll_journal.specs.Commits.{BlockedAreRefused, EndsAreReached};
 ghost use Rattle.ll_journal.specs.Growing.{HistoryGrows, NoGainBetween, WithheldBetween};
 ghost use Rattle.ll_journal.specs.Walks.{GateHolderIsNeverStale, HistoryIsLegal, MarksAreApart, StartsAreFew, WalksAreValid};
+
+pub use held::Held;
+pub use journal::Journal;
 
 /// Whatever steps are made, in whatever order, the history is one of the sequential tree.
 pub fn history_is_legal()

@@ -1,0 +1,98 @@
+-- A journal that was just opened keeps what it has to.
+use Rattle.std.specs.Prelude.{◌≡◌, ◌≢◌, ◌⊎◌, ℕ, zero, suc, ◌+◌, ◌<◌, ◌≤◌, List, [], ◌∷◌, ◌++◌, length, replicate, Some, None, option_map, slice_get, refl}
+use Rattle.std.specs.List.{AllByRecursion, range_with_len}
+use Rattle.std.specs.Ordering.{nat_cmp}
+use Rattle.std.specs.Cmp.{nat_cmp_total}
+use Rattle.std.specs.FinMap.{nat_cmp-IsAntisymmetric}
+use Rattle.std.proofs.Common.{sym, subst, ap, ◌∙◌, inl, inr, arith}
+use Rattle.std.proofs.lemmas.List.{replicate_more, length-replicate}
+use Rattle.ll_rights.specs.Map.{Map, empty, get, insert}
+use Rattle.ll_rights.proofs.Maps.{get-empty, get-insert_same, got_inserted}
+use Rattle.ll_laws.proofs.Chains.{same_Some}
+use Rattle.ll_seq.specs.declared.client.ClientRecord.{ClientRecord}
+use Rattle.ll_seq.specs.declared.reply.Entry.{Entry}
+use Rattle.ll_seq.specs.declared.rules.Rules.{Rules}
+use Rattle.ll_seq.specs.State.{start}
+use Rattle.ll_seq.specs.Facts.{AreKept}
+use Rattle.ll_seq.specs.History.{state_after}
+use Rattle.ll_journal.specs.declared.journal.Journal.TheInside.{Inside}
+use Rattle.ll_journal.specs.Book.{Seat}
+use Rattle.ll_journal.specs.Kept.{seat_at, AreSeated, ArePlaced, IsVacant, IsKept}
+
+-- so many numbers, and one more
+pub one_more : (first count : ℕ) → range_with_len first (count + 1) ≡ range_with_len first count ++ (first + count) ∷ []
+one_more first zero = ap (λ n. n ∷ []) (omega arith)
+one_more first (suc count) =
+    let longer : suc count + 1 ≡ suc (count + 1) = omega arith in
+    let same : first + 1 + count ≡ first + suc count = omega arith in
+    ap (range_with_len first) longer ∙ ap (λ ns. first ∷ ns) (one_more (first + 1) count ∙ ap (λ n. range_with_len (first + 1) count ++ n ∷ []) same)
+
+abbrev vacant : ℕ → List ℕ
+vacant others = replicate others 0
+
+pub vacant_more : (count : ℕ) → vacant count ++ 0 ∷ [] ≡ vacant (count + 1)
+vacant_more count = replicate_more count 0
+
+vacant_at : (others k : ℕ) → k < others → slice_get (vacant others) k ≡ Some 0
+vacant_at zero k lt = absurd (omega arith)
+vacant_at (suc others) zero lt = refl
+vacant_at (suc others) (suc k) lt = vacant_at others k (omega arith)
+
+nothing_else : (others k inode : ℕ) → slice_get (vacant others) k ≡ Some inode → inode ≡ 0
+nothing_else zero k inode e = absurd (cc e)
+nothing_else (suc others) zero inode e = sym (same_Some 0 inode e)
+nothing_else (suc others) (suc k) inode e = nothing_else others k inode e
+
+abbrev opened : ℕ → List ℕ
+opened others = 1 ∷ vacant others
+
+-- all slots but the first are vacant
+vacant_slots : (others first count : ℕ) → first + count ≤ others → AllByRecursion (IsVacant (opened others)) (range_with_len (suc first) count)
+vacant_slots others first zero fits = tt
+vacant_slots others first (suc count) fits =
+    let next : suc (suc first) ≡ suc first + 1 = omega arith in
+    (vacant_at others first (omega arith), subst (λ n. AllByRecursion (IsVacant (opened others)) (range_with_len n count)) next (vacant_slots others (suc first) count (omega arith)))
+
+abbrev places : Map nat_cmp ℕ
+places = insert empty 1 0
+
+lies : (others slot inode : ℕ) → slice_get (opened others) slot ≡ Some inode → inode ≢ 0 → get places inode ≡ Some slot
+lies others zero inode e some = ap (get places) (sym (same_Some 1 inode e)) ∙ get-insert_same nat_cmp_total nat_cmp-IsAntisymmetric empty 1 0
+lies others (suc slot) inode e some = absurd (some (nothing_else others slot inode e))
+
+there : (others inode slot : ℕ) → ((inode ≡ 1) × (slot ≡ 0)) ⊎ (get {X = ℕ} {R = nat_cmp} empty inode ≡ Some slot) → (slice_get (opened others) slot ≡ Some inode) × (inode ≢ 0)
+there others inode slot (inl a) = let one = a.0 in (ap (slice_get (opened others)) a.1 ∙ ap Some (sym a.0), λ z. absurd (omega (arith, one, z)))
+there others inode slot (inr a) = absurd (cc (sym (get-empty ℕ nat_cmp inode) ∙ a))
+
+-- the root lies in the first
+placed : (others : ℕ) → ArePlaced (opened others) places
+placed others = record {
+  lies = lies others;
+  there = λ inode slot e. there others inode slot (got_inserted nat_cmp_total nat_cmp-IsAntisymmetric empty 1 0 inode slot e);
+}
+
+nobody_there : (number : ℕ) → option_map (λ (seat : Seat). seat.client) (seat_at [] number) ≡ None
+nobody_there zero = refl
+nobody_there (suc place) = refl
+
+seated : (rules : Rules) (room : ℕ) → AreSeated (start rules room) []
+seated rules room number = get-empty ClientRecord nat_cmp number ∙ sym (nobody_there number)
+
+-- in a tree of the root alone
+module _ (j : Inside) (others : ℕ) (all : others ≡ j.room + 63) (none : j.history.entries ≡ []) (nobody : j.seats.items ≡ []) where
+  kept_by : ((rules : Rules) (room : ℕ) → AreKept (start rules room) j.facts) → j.inodes.items ≡ opened others → j.places ≡ places → j.free.items ≡ range_with_len 1 others → IsKept j
+  kept_by facts inodes found free = record {
+    facts = subst (λ (es : List Entry). AreKept (state_after (start j.rules j.room) es) j.facts) (sym none) (facts j.rules j.room);
+    seated =
+        subst (AreSeated (state_after (start j.rules j.room) j.history.entries)) (sym nobody)
+        (subst (λ (es : List Entry). AreSeated (state_after (start j.rules j.room) es) []) (sym none) (seated j.rules j.room));
+    placed = subst (ArePlaced j.inodes.items) (sym found) (subst (λ ns. ArePlaced ns places) (sym inodes) (placed others));
+    slots = ap length inodes ∙ ap suc (length-replicate others 0) ∙ (omega (arith, all));
+    free = subst (AllByRecursion (IsVacant j.inodes.items)) (sym free)
+        (subst (λ ns. AllByRecursion (IsVacant ns) (range_with_len 1 others)) (sym inodes) (vacant_slots others 0 others (omega arith)));
+    spares = subst (AllByRecursion (λ (seat : Seat). IsVacant j.inodes.items seat.spare)) (sym nobody) tt;
+  }
+
+pub kept : (j : Inside) (some others : ℕ) → some ≡ j.room + 63 → others ≡ j.room + 63 → j.history.entries ≡ [] → j.seats.items ≡ [] → ((rules : Rules) (room : ℕ) → AreKept (start rules room) j.facts)
+    → j.inodes.items ≡ opened some → j.places ≡ places → j.free.items ≡ range_with_len 1 others → IsKept j
+kept j some others all same none nobody facts inodes found free = kept_by j some all none nobody facts inodes found (free ∙ ap (range_with_len 1) (same ∙ sym all))

@@ -1,0 +1,93 @@
+-- What contracts see of the journal, and the account of a slot: what has to lie behind its lock. own
+use Rattle.std.specs.Prelude.{◌≡◌, ◌≢◌, ℕ, zero, suc, ◌+◌, Bool, false, ◌==◌, List, [], ◌∷◌, map, filter, replicate, slice_index_or, length, Option, Some, None, if◌then◌else◌, ⊤}
+use Rattle.std.specs.List.{range_with_len}
+use Rattle.std.specs.Option.{option_map_or}
+use Rattle.ll_rights.specs.declared.kind.Kind.TheVariants.{Reg}
+use Rattle.ll_rights.specs.Map.{get, entries, from_entries}
+use Rattle.ll_node.specs.Slot.{NameMap, new_slot}
+use Rattle.ll_seq.specs.declared.client.ClientRecord.{ClientRecord}
+use Rattle.ll_seq.specs.declared.dentries.Dentry.{Dentry}
+use Rattle.ll_seq.specs.declared.rules.Rules.{Rules}
+use Rattle.ll_seq.specs.State.{State, bytes_of, root}
+use Rattle.ll_seq.specs.Tree.{kind_or_file}
+use Rattle.ll_journal.specs.declared.held.Held.{Held}
+use Rattle.ll_journal.specs.Walk.{Walk, marks}
+use Rattle.ll_journal.specs.World.{World, new_world, next_number, shown}
+
+-- A client: its record, the slot that is kept for what it makes, and its walk if one is under way
+pub record Seat : Type 0 where
+  pub client : ClientRecord
+  pub spare : ℕ
+  pub walk : Option Walk
+
+-- inodes: of each slot the inode that lies in it, 0 where it is vacant. free: the vacant slots that are nobody's spare.
+-- spares: of each client, in the order of their numbers, the vacant slot that is kept for it
+pub record Book : Type 0 where
+  pub world : World
+  pub inodes : List ℕ
+  pub free : List ℕ
+  pub spares : List ℕ
+
+-- As many slots as nodes may live, and 64 more, one for each client. The root lies in the first
+abbrev pub new_book : Rules → ℕ → ℕ → Book
+new_book rules room limit = record {
+  world = new_world rules room limit;
+  inodes = root ∷ replicate (room + 63) 0;
+  free = range_with_len 1 (room + 63);
+  spares = [];
+}
+
+-- ---- Accounts
+
+-- the names in the directory, each with what has it
+abbrev pub names_map : State → ℕ → NameMap
+names_map s directory =
+    from_entries (map (λ (e : Dentry × ℕ). (e.0.name, e.1))
+    (filter (λ (e : Dentry × ℕ). e.0.directory == directory) (entries s.entries)))
+
+-- the client's walk stands in the directory
+abbrev pub has_mark : World → ℕ → ℕ → Bool
+has_mark w inode number = option_map_or (λ (walk : Walk). marks walk inode) (get w.walks number) false
+
+-- the first of so many numbers, the highest first, whose walk stands there
+abbrev pub marked_below : World → ℕ → ℕ → Option ℕ
+marked_below w inode zero = None
+marked_below w inode (suc number) = if has_mark w inode number then Some number else marked_below w inode number
+
+-- the client whose walk stands in the directory
+abbrev pub mark_of : World → ℕ → Option ℕ
+mark_of w inode = marked_below w inode (next_number w)
+
+-- what lies in the slot of an inode: its content is as the shown state has it
+abbrev pub held_of : World → ℕ → Held
+held_of w inode = record {
+  inode = inode;
+  node = record {
+    kind = kind_or_file (shown w) inode;
+    names = names_map (shown w) inode;
+    bytes = bytes_of (shown w) inode;
+    mark = mark_of w inode;
+  };
+}
+
+-- all vacant slots are alike
+abbrev pub vacant : Held
+vacant = record { inode = 0; node = new_slot Reg }
+
+abbrev pub inode_in : Book → ℕ → ℕ
+inode_in b k = slice_index_or b.inodes k 0
+
+-- the account of a slot
+abbrev pub slot_of : Book → ℕ → Held
+slot_of b k = if inode_in b k == 0 then vacant else held_of b.world (inode_in b k)
+
+-- no slot of this list is it
+abbrev pub NotIn : ℕ → List ℕ → Type 0
+NotIn j [] = ⊤
+NotIn j (k ∷ ks) = (j ≢ k) × NotIn j ks
+
+-- what a step that is lent these slots leaves as it is
+pub record Spares (b b' : Book) (ks : List ℕ) : Type 0 where
+  pub limit : b'.world.limit ≡ b.world.limit
+  pub size : length b'.inodes ≡ length b.inodes
+  pub slots : (j : ℕ) → NotIn j ks → slot_of b' j ≡ slot_of b j
