@@ -3,12 +3,12 @@ use Rattle.std.specs.Prelude.{◌≡◌, ◌≢◌, ℕ, zero, suc, ◌+◌, Boo
 use Rattle.std.specs.List.{range_with_len}
 use Rattle.std.specs.Option.{option_map_or}
 use Rattle.ll_rights.specs.declared.kind.Kind.TheVariants.{Reg}
-use Rattle.ll_rights.specs.Map.{get, entries, from_entries}
+use Rattle.ll_rights.specs.Map.{empty, entries, get, insert}
 use Rattle.ll_node.specs.Slot.{NameMap, new_slot}
 use Rattle.ll_seq.specs.declared.client.ClientRecord.{ClientRecord}
 use Rattle.ll_seq.specs.declared.dentries.Dentry.{Dentry}
 use Rattle.ll_seq.specs.declared.rules.Rules.{Rules}
-use Rattle.ll_seq.specs.State.{State, bytes_of, root}
+use Rattle.ll_seq.specs.State.{Name, State, bytes_of, root}
 use Rattle.ll_seq.specs.Tree.{kind_or_file}
 use Rattle.ll_journal.specs.declared.held.Held.{Held}
 use Rattle.ll_journal.specs.Walk.{Walk, marks}
@@ -39,10 +39,15 @@ new_book rules room limit = record {
 
 -- ---- Accounts
 
+-- the map of these names and inodes
+abbrev pub map_of : List (Name × ℕ) → NameMap
+map_of [] = empty
+map_of (e ∷ es) = insert (map_of es) e.0 e.1
+
 -- the names in the directory, each with what has it
 abbrev pub names_map : State → ℕ → NameMap
 names_map s directory =
-    from_entries (map (λ (e : Dentry × ℕ). (e.0.name, e.1))
+    map_of (map (λ (e : Dentry × ℕ). (e.0.name, e.1))
     (filter (λ (e : Dentry × ℕ). e.0.directory == directory) (entries s.entries)))
 
 -- the client's walk stands in the directory

@@ -2,7 +2,8 @@
 use Rattle.std.specs.Prelude.{◌≡◌, ℕ, Bool, List, [], ◌∷◌, Option, refl}
 use Rattle.std.specs.Ordering.{nat_cmp}
 use Rattle.std.specs.Coded.{Coded, code_by, coded×, coded_list, coded_option, coded_bool, coded_ℕ}
-use Rattle.ll_rights.specs.Map.{Map, code}
+use Rattle.ll_rights.specs.Codes.{code}
+use Rattle.ll_rights.specs.Map.{Map}
 use Rattle.ll_path.specs.Path.{Path}
 use Rattle.ll_seq.specs.declared.call.Call.{Call}
 use Rattle.ll_seq.specs.contracts.call.Call as call
