@@ -11,11 +11,13 @@
 //! | ll_rights | | `Access::text`: `wire` |
 //! | ll_path | `Name::from_text`, `Word` and `Data` of lines | |
 //! | ll_rules | `Ruleset::create`, `allow`, `Domain::stack`, `copy` | `Ruleset::copy`: `seq` |
-//! | ll_seq | all but the counts of nodes | these: `seq` |
+//! | ll_seq | all but the counts of nodes, and histories | these: `seq`, `saved` |
 //! | ll_node | | all of `Slot`: `node` |
 //! | ll_plain | `Plain::new`, each call of `Plain::apply` | `Plain::reach`, which takes none: `plain` |
-//! | ll_wire | `read_command`, `reply_text` | `command_text`, `read_reply`: `wire` |
+//! | ll_wire | `read_command`, `reply_text` | `command_text`, `read_reply`: `wire`; entries and headers: `saved` |
 //! | ll_policy | | all of `Policy`: `policy` |
+//! | ll_audit, ll_saved | | `audit`, `judge`, `Verdict::text`: `saved` |
+//! | ll_journal | | `Journal::new`: `saved` |
 //!
 //! ll_decide and ll_answer take no memory that may be missing.
 #![tactic(auto)]
@@ -30,6 +32,8 @@ mod plain;
 mod policy;
 #[cfg(test)]
 mod rights;
+#[cfg(test)]
+mod saved;
 #[cfg(test)]
 mod seq;
 #[cfg(test)]

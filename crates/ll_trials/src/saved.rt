@@ -1,0 +1,264 @@
+//! Files of histories, and audits.
+
+ghost use Rattle.std.specs.Prelude.{◌≡◌};
+
+use ll_audit::audit;
+use ll_journal::Journal;
+use ll_rights::Abi;
+use ll_saved::judge;
+use ll_seq::{Call, Entry, History, Reply, Rules};
+use ll_wire::{Header, Version, entry_text, header_text};
+use std::alloc::Global;
+
+const RULES: Rules = Rules {
+    abi: Abi::NEWEST,
+    copies: true,
+};
+
+/// Files, and what an audit answers: worked examples.
+const FILES: &[(&str, &str)] = &[
+    (
+        "\
+landtree-history 1 nodes 64\n\
+1 connect = ok\n\
+1 make dir /a = ok\n\
+1 ruleset read_file = ruleset 0\n\
+1 confine 0 = ok\n\
+1 spawn = client 2\n\
+2 make reg /a/f = ok\n\
+2 open r /a/f = denied EACCES layer 1 read_file at\n",
+        "legal 7\n",
+    ),
+    (
+        "\
+landtree-history 1 nodes 64\n\
+1 connect = ok\n\
+1 make reg /f = ok\n\
+1 stat /f = stat 2 reg 0 1\n",
+        "legal 3\n",
+    ),
+    (
+        "\
+landtree-history 1 nodes 64\n\
+1 connect = ok\n\
+1 make reg /f = ok\n\
+1 stat /f = stat 3 reg 0 1\n",
+        "illegal at 3\n",
+    ),
+    (
+        "\
+landtree-history 1 nodes 64\n\
+1 connect = ok\n\
+1 make dir /a = ok\n\
+1 ruleset read_file = ruleset 0\n\
+1 confine 0 = ok\n\
+1 spawn = client 2\n\
+2 make reg /a/f = ok\n\
+2 open r /a/f = denied EACCES layer 2 read_file at\n",
+        "illegal at 7\n",
+    ),
+    (
+        "\
+landtree-history 1 nodes 64\n\
+1 connect = ok\n\
+1 make dir /a = ok\n\
+1 ruleset read_file = ruleset 0\n\
+1 confine 0 = ok\n\
+1 spawn = client 2\n\
+2 make reg /a/f = ok\n\
+2 open r /a/f = denied EACCES layer 1  read_file at\n",
+        "bad line 8\n",
+    ),
+    (
+        "\
+landtree-history 1 nodes 64\n\
+1 connect = ok\n\
+1 ruleset truncate = ruleset 0\n",
+        "legal 2\n",
+    ),
+    (
+        "\
+landtree-history 2 nodes 64 abi 2\n\
+1 connect = ok\n\
+1 ruleset truncate = ruleset 0\n",
+        "illegal at 2\n",
+    ),
+    (
+        "\
+landtree-history 2 nodes 2 abi 3\n\
+1 connect = ok\n\
+1 make reg /f = ok\n\
+1 open w /f = fd 0\n\
+1 ruleset truncate = ruleset 0\n\
+1 confine 0 = ok\n\
+1 open r /f = fd 1\n\
+1 spawn = client 2\n\
+2 ftruncate 0 2 = ok\n\
+2 open w /f = fd 2\n\
+2 ftruncate 2 0 = denied EACCES layer 1 truncate at\n\
+1 close 0 = ok\n\
+2 write 0 0 6869 = wrote 2\n\
+1 unlink /f = ok\n\
+2 stat /f = refused 3 ENOENT\n\
+2 read 1 0 4 = data 6869\n\
+1 read 1 0 4 = data 6869\n\
+1 make reg /g = refused 13 ENOSPC\n\
+1 close 1 = ok\n\
+2 close 0 = ok\n\
+2 close 1 = ok\n\
+2 close 2 = ok\n\
+1 make reg /g = ok\n\
+1 stat /g = stat 3 reg 0 1\n",
+        "illegal at 8\n",
+    ),
+    (
+        "\
+landtree-history 1 nodes 64\n",
+        "legal 0\n",
+    ),
+    (
+        "\
+landtree-history 1 nodes 64\n\
+1 connect = ok\n\
+1 connect = ok\n",
+        "illegal at 2\n",
+    ),
+    (
+        "\
+landtree-history 1 nodes 64\n\
+1 connect = ok\n\
+1 spawn = client 1\n",
+        "illegal at 2\n",
+    ),
+    (
+        "\
+landtree-history 1 nodes 64\n\
+1 connect = ok\n\
+1 ruleset read_file = ruleset 0\n\
+1 confine 0 = ok\n\
+1 list / = denied EACCES layer 1 read_dir at\n",
+        "illegal at 4\n",
+    ),
+    (
+        "\
+landtree-history 1 nodes 64\n\
+1 connect = ok\n\
+1 make dir /a = refused 21 HistoryFull\n",
+        "bad line 3\n",
+    ),
+    (
+        "\
+landtree-history 1 nodes 64\n\
+1 connect = ok\n\
+1 make reg /f = refused 13 ENOSPC\n",
+        "illegal at 2\n",
+    ),
+    (
+        "\
+landtree-history 1 nodes 64\n\
+1 stat / = stat 1 dir 0 1\n",
+        "illegal at 1\n",
+    ),
+    (
+        "\
+landtree-history 1 nodes 64\n\
+1 connect = ok",
+        "bad line 2\n",
+    ),
+    (
+        "\
+",
+        "bad line 1\n",
+    ),
+    (
+        "\
+landtree-history 1 nodes 0\n",
+        "bad line 1\n",
+    ),
+    (
+        "\
+landtree-history 1 nodes 4097\n",
+        "bad line 1\n",
+    ),
+    (
+        "\
+landtree-history 9 nodes 64\n",
+        "bad line 1\n",
+    ),
+];
+
+fn is_answered(alloc: Global, file: &str, want: &str) -> bool {
+    let Ok(verdict) = judge(alloc, file.as_bytes()) else {
+        return false;
+    };
+    match verdict.text(alloc) {
+        Ok(text) => text.as_str() == want,
+        Err(_) => false,
+    }
+}
+
+#[test]
+fn files_are_judged(rt: HostRuntime) {
+    for (file, want) in FILES {
+        assert!(rt; is_answered(rt.alloc(), file, want), "{want}");
+    }
+}
+
+fn connect() -> Entry
+    ensures { result ≡ record { client = 1; call = Call.Connect; reply = Reply.Done } }
+{
+    Entry {
+        client: 1,
+        call: Call::Connect,
+        reply: Reply::Done,
+    }
+}
+
+fn header_is_written(alloc: Global) -> bool {
+    let header = Header {
+        version: Version::Three(Abi::NEWEST),
+        nodes: 64,
+    };
+    match header_text(alloc, header) {
+        Ok(text) => text.as_str() == "landtree-history 3 nodes 64 abi 3\n",
+        Err(_) => false,
+    }
+}
+
+fn entry_is_written(alloc: Global) -> bool {
+    let entry = connect();
+    let text = entry_text(alloc, &entry);
+    drop(entry);
+    match text {
+        Ok(text) => text.as_str() == "1 connect = ok\n",
+        Err(_) => false,
+    }
+}
+
+fn is_audited(alloc: Global) -> bool {
+    let Ok(mut history) = History::new(alloc, 1) else {
+        return false;
+    };
+    history.push(connect());
+    let judged = audit(alloc, RULES, 64, &history);
+    drop(history);
+    judged.is_ok()
+}
+
+fn opens(alloc: Global) -> bool {
+    match Journal::new(alloc, RULES, 64, 10) {
+        Ok(journal) => {
+            drop(journal);
+            true
+        }
+        Err(_) => false,
+    }
+}
+
+#[test]
+fn histories(rt: HostRuntime) {
+    assert!(rt; header_is_written(rt.alloc()));
+    assert!(rt; entry_is_written(rt.alloc()));
+    assert!(rt; is_audited(rt.alloc()));
+    assert!(rt; opens(rt.alloc()));
+}
