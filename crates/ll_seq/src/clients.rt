@@ -1,15 +1,13 @@
 //! What clients do to their own records.
 
-ghost use Rattle.std.specs.Prelude.{◌≡◌, ◌+◌, ◌<◌, [], ◌∷◌, ◌++◌, ◌==◌, ℕ, length, nat_le, IfOk, IfErr, OnOk, OnErr, Some, true, slice_get, slice_set, is_none};
-ghost use Rattle.std.specs.List.{list_any};
+ghost use Rattle.std.specs.Prelude.{◌≡◌, ◌+◌, ◌<◌, [], ◌∷◌, ◌++◌, length, nat_le, IfOk, IfErr, OnOk, OnErr, Some, true, slice_get, slice_set, is_none};
 ghost use Rattle.ll_rights.specs.Errno.{refuse};
-ghost use Rattle.ll_rights.specs.Map.{get, has, insert, remove, entries};
+ghost use Rattle.ll_rights.specs.Map.{get, has, insert, remove};
 ghost use Rattle.ll_rules.specs.Layer.{Layer};
 ghost use Rattle.ll_rules.specs.Rules.{create_refusals, new_ruleset, rule_refusals, rule_limit, with_rule, layer_limit};
 ghost use Rattle.ll_seq.specs.Stages.{lowest_free, ruleset_at};
 ghost use Rattle.ll_seq.specs.Fails.{Fails};
 ghost use Rattle.ll_seq.specs.declared.client.ClientRecord as record_of;
-ghost use Rattle.ll_seq.specs.declared.client.Descriptor as file;
 
 use crate::client::{ClientRecord, Descriptor};
 use crate::number_map::{NumberMap, index_of};
@@ -17,33 +15,7 @@ use ll_rights::limits::CLIENT_RULESETS;
 use ll_rights::{Abi, Access, Errno, Kind};
 use std::alloc::Global;
 
-impl NumberMap<Descriptor> {
-    /// Whether one of them is the inode's.
-    pub fn is_open(&self, inode: u64) -> bool
-        ensures { result ≡ list_any (λ (d : ℕ × file.Descriptor). d.1.inode == inode) (entries self.now) }
-    {
-        for row in &self.rows {
-            if row.1.inode == inode {
-                return true;
-            }
-        }
-        false
-    }
-}
-
 impl NumberMap<ClientRecord> {
-    /// Whether one of them has the inode open.
-    pub fn has_open(&self, inode: u64) -> bool
-        ensures { result ≡ list_any (λ (c : ℕ × record_of.ClientRecord). list_any (λ (d : ℕ × file.Descriptor). d.1.inode == inode) (entries c.1.descriptors)) (entries self.now) }
-    {
-        for row in &self.rows {
-            if row.1.descriptors.is_open(inode) {
-                return true;
-            }
-        }
-        false
-    }
-
     /// Opens a file at the client's lowest free descriptor.
     pub fn open(&mut self, client: u64, descriptor: Descriptor) -> Result<u64, Errno>
         requires { has self.old client ≡ true }

@@ -138,13 +138,6 @@ impl Dentries {
         Ok(listing)
     }
 
-    /// How many names the inode has.
-    pub fn count_of(&self, inode: u64) -> usize
-        ensures { result ≡ length (filter (λ (e : dentries_of.Dentry × ℕ). e.1 == inode) (entries self.now)) }
-    {
-        self.rows.iter().filter(|row| row.1 == inode).count()
-    }
-
     /// Adds an inode under a name that the directory doesn't have.
     pub fn insert(&mut self, directory: u64, name: Name, inode: u64) -> Result<(), AllocError>
         requires { get self.old (dentry directory name) ≡ None }
