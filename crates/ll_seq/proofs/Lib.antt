@@ -1,5 +1,6 @@
 pub mod Bytes
 pub mod Chains
+pub mod Columns
 pub mod Consequences
 pub mod Counts
 pub mod DentryOrder
