@@ -133,6 +133,16 @@ fn existence_refusal(call: &Call, old: &Spot, new: &Spot) -> Option<Errno>
     }
 }
 
+/// What refuses the call whatever the tree is: by its words, its numbers and how its paths lie.
+pub fn refused_early(caller: &ClientRecord, call: &Call) -> Option<Errno>
+    ensures { has_path call.now ≡ true
+        → result ≡ slice_get (stages.text_refusals call.now ++ stages.number_refusals caller.now call.now
+        ++ stages.relation_refusals call.now (first_path call.now) (second_path call.now)) 0 }
+{
+    let number = first(number_refusal(caller, call), relation_refusal(call));
+    first(text_refusal(call), number)
+}
+
 /// What refuses the call before policy is asked.
 pub fn refused_before(caller: &ClientRecord, call: &Call, found: &Found) -> Option<Errno>
     ensures refused { (s : State) → has_path call.now ≡ true → AreFacts s call.now found.now
@@ -142,17 +152,5 @@ pub fn refused_before(caller: &ClientRecord, call: &Call, found: &Found) -> Opti
 {
     let existence = existence_refusal(call, &found.first, &found.second);
     let walk = first(walk_refusal(call, found), existence);
-    let relation = first(relation_refusal(call), walk);
-    let number = first(number_refusal(caller, call), relation);
-    first(text_refusal(call), number)
-}
-
-/// What refuses the call whatever the tree is: by its words, its numbers and how its paths lie.
-pub fn refused_early(caller: &ClientRecord, call: &Call) -> Option<Errno>
-    ensures { has_path call.now ≡ true
-        → result ≡ slice_get (stages.text_refusals call.now ++ stages.number_refusals caller.now call.now
-        ++ stages.relation_refusals call.now (first_path call.now) (second_path call.now)) 0 }
-{
-    let number = first(number_refusal(caller, call), relation_refusal(call));
-    first(text_refusal(call), number)
+    first(refused_early(caller, call), walk)
 }
