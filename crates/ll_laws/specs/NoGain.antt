@@ -17,7 +17,7 @@ are_two [] = false
 are_two (target ∷ []) = false
 are_two (old ∷ (new ∷ more)) = true
 
--- the call gives a name to a node that is there: a call of two paths
+-- rename, rename_noreplace, exchange and link, the calls of two paths: a node that is there gets a name
 abbrev pub is_move : Call → Bool
 is_move call = are_two (targets call)
 
