@@ -20,7 +20,7 @@ use Rattle.ll_journal.specs.Walks.{MarksAreApart}
 use Rattle.ll_journal.proofs.Worlds.{found, was_other}
 use Rattle.ll_journal.proofs.Turns.{Keeps, steps_kept}
 
-abbrev Apart : World → Type 0
+abbrev pub Apart : World → Type 0
 Apart w = (c d : ℕ) (v u : Walk) → get w.walks c ≡ Some v → get w.walks d ≡ Some u → (i : ℕ) → marks v i ≡ true → marks u i ≡ true → c ≡ d
 
 -- what the client marks now it marked before, or nobody did
@@ -94,7 +94,7 @@ left_apart w number moved h c d v u e f i m n =
     let b = was_other w number moved d u f in
     h c d a.1 b.1 a.2 b.2 i (ap (λ x. marks x i) a.3 ∙ m) (ap (λ x. marks x i) b.3 ∙ n)
 
-apart : Keeps Apart
+pub apart : Keeps Apart
 apart = record {
   begins = λ w number call h idle walked g.
       put_apart w number (record { call = call; starts = 1; stale = false; at = Above }) (cond (takes_gate call) (Some number) w.gate) h (λ i m. absurd (cc m));
