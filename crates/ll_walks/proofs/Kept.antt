@@ -66,10 +66,10 @@ insert_kept s p e h i d n x c away = get-insert_other dentry_total dentry_exact 
 remove_kept : (s : State) (p : Path) (e : ℕ) → IsPlace s p e → (d : ℕ) (n : Name) (x : ℕ) → child s d n ≡ Some x → named s p ≢ Some x → get (remove s.entries (dentry_of s p)) (dentry d n) ≡ Some x
 remove_kept s p e h d n x c away = get-remove_other dentry_total dentry_exact s.entries (dentry_of s p) (dentry d n) (other_dentry s p e h d n x c away) ∙ c
 
-let_go_entries : (s : State) (i : ℕ) → (let_go s i).entries ≡ s.entries
+pub let_go_entries : (s : State) (i : ℕ) → (let_go s i).entries ≡ s.entries
 let_go_entries s i = elim (lives s i) as (λ b. (cond b s (record s { nodes = remove s.nodes i })).entries ≡ s.entries) [ true ↦ refl | false ↦ refl ]
 
-with_bytes_entries : (s : State) (i : ℕ) (bytes : List ℕ) → (with_bytes s i bytes).entries ≡ s.entries
+pub with_bytes_entries : (s : State) (i : ℕ) (bytes : List ℕ) → (with_bytes s i bytes).entries ≡ s.entries
 with_bytes_entries s i bytes = elim (get s.nodes i) as (λ o. (option_map_or (λ (n : Node). record s { nodes = insert s.nodes i (record n { bytes = bytes }) }) o s).entries ≡ s.entries) [ None ↦ refl | Some n ↦ refl ]
 
 -- ---- what is empty

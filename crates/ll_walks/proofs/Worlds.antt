@@ -62,7 +62,7 @@ find_map : {K X : Type 0} (R : K → K → Ordering) (f : X → X) (q : K) (es :
 find_map R f q [] = refl
 find_map R f q (e ∷ es) = elim (eq_by_cmp R q e.0) as (λ b. cond b (Some (f e.1)) (find R q (map (λ e. (e.0, f e.1)) es)) ≡ option_map f (cond b (Some e.1) (find R q es))) [ true ↦ refl | false ↦ find_map R f q es ]
 
-get-map_values : {K X : Type 0} {R : K → K → Ordering} (f : X → X) (m : Map R X) (q : K) → get (map_values f m) q ≡ option_map f (get m q)
+pub get-map_values : {K X : Type 0} {R : K → K → Ordering} (f : X → X) (m : Map R X) (q : K) → get (map_values f m) q ≡ option_map f (get m q)
 unfolding map_values get
 get-map_values {R = R} f m q = get-from_sorted R (map (λ e. (e.0, f e.1)) m.list) q (sorted_map R f m.list ∙ true_is _ m.sorted) ∙ find_map R f q m.list
 
