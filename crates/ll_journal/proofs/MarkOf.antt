@@ -16,13 +16,13 @@ use Rattle.ll_seq.specs.Call.{first_path, second_path}
 use Rattle.ll_seq.proofs.Parted.{or_split}
 use Rattle.ll_seq.proofs.Rows.{found_of_row}
 use Rattle.ll_laws.proofs.Chains.{same_Some}
-use Rattle.ll_journal.specs.Walk.{Walk, Leg, Position, Above, Down, Split, has_two_paths, toward, turn, with_turn, forked, marks, legs}
-use Rattle.ll_journal.specs.World.{World, next_number, map_values, overtaken, with_stale, is_marked, is_marked_by_other}
+use Rattle.ll_walks.specs.Walk.{Walk, Leg, Position, Above, Down, Split, has_two_paths, toward, turn, with_turn, forked, marks, legs}
+use Rattle.ll_walks.specs.World.{World, next_number, map_values, overtaken, with_stale, is_marked, is_marked_by_other}
 use Rattle.ll_journal.specs.Book.{has_mark, marked_below, mark_of}
-use Rattle.ll_journal.proofs.Worlds.{Holds, found, get-map_values}
-use Rattle.ll_journal.proofs.Marks.{Apart}
-use Rattle.ll_journal.proofs.Tests.{both, or_false}
-use Rattle.ll_journal.proofs.Turns.{ended}
+use Rattle.ll_walks.proofs.Worlds.{Holds, found, get-map_values}
+use Rattle.ll_walks.proofs.Marks.{Apart}
+use Rattle.ll_walks.proofs.Tests.{both, or_false}
+use Rattle.ll_walks.proofs.Turns.{ended}
 
 -- ---- who has a mark
 
