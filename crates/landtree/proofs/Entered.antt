@@ -12,7 +12,7 @@ use Rattle.clap.specs.Simple.{App, Shape, entered, label_of, names_of, rows_at}
 use Rattle.clap.specs.Kinds.{check_kinds, or_else}
 use Rattle.clap.specs.Faults.{built_fault, check_fault, entered_fault, level_fault, other_fault, step_fault, turn_fault, walk_fault, word_fault}
 use Rattle.clap.specs.declared.error.kind.ErrorKind.TheVariants as kind
-use Rattle.landtree.proofs.Kept.{no_faults}
+use Rattle.landtree.proofs.ArgumentsUsed.{no_faults}
 
 abbrev help : Text
 help = codes "help"

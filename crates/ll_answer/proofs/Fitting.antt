@@ -10,7 +10,7 @@ use Rattle.ll_path.specs.Path.{Path}
 use Rattle.ll_rules.specs.Layer.{Layer}
 use Rattle.ll_rules.specs.Rules.{rule_refusals, rule_limit}
 use Rattle.ll_decide.specs.Verdict.{when}
-use Rattle.ll_seq.proofs.Numbers.{found_free}
+use Rattle.ll_seq.proofs.LowestFree.{found_free}
 use Rattle.ll_seq.specs.declared.client.ClientRecord.{ClientRecord}
 use Rattle.ll_seq.specs.Stages.{crowds, replace_refusals, has_names, has_many_names, is_crowded, no_space, no_ruleset, ruleset_at, lowest_free}
 use Rattle.ll_seq.specs.State.{State}

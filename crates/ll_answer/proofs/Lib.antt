@@ -1,5 +1,5 @@
 pub mod Asking
 pub mod Fitting
-pub mod Parts
+pub mod AnswerParts
 pub mod Standing
 pub mod Walked

@@ -9,14 +9,14 @@ use Rattle.ll_rights.specs.declared.kind.Kind.{Kind}
 use Rattle.ll_rights.specs.declared.kind.Kind.TheVariants.{Reg, Dir, Sym, Fifo, Sock, Char, Block}
 use Rattle.ll_rights.specs.Errno.{refuse}
 use Rattle.ll_rights.specs.Kind.{is_dir}
-use Rattle.ll_rights.specs.Codes.{same_list_map}
+use Rattle.ll_rights.specs.MapCodes.{same_list_map}
 use Rattle.ll_rights.specs.Map.{Map, get, insert}
 use Rattle.ll_rights.proofs.Maps.{insert_cases, same_map}
 use Rattle.ll_path.specs.Name.{IsName}
 use Rattle.ll_path.specs.Path.{Path, parent, last_name, is_root}
 use Rattle.ll_path.specs.declared.target.Target.{Target}
 use Rattle.ll_path.proofs.PathLemmas.{parent-last_name}
-use Rattle.ll_seq.proofs.Chains.{named-child}
+use Rattle.ll_seq.proofs.CutChains.{named-child}
 use Rattle.ll_seq.proofs.DentryOrder.{dentry_total, dentry_exact}
 use Rattle.ll_seq.specs.declared.dentries.Dentry.{Dentry}
 use Rattle.ll_seq.specs.Effects.{with_name}

@@ -1,3 +1,3 @@
 pub mod Following
 pub mod Judged
-pub mod Standing
+pub mod EntriesThatStand

@@ -1,4 +1,4 @@
-pub mod Asking
+pub mod OneByOne
 pub mod Bits
 pub mod Carried
 pub mod Finding

@@ -20,7 +20,7 @@ use Rattle.ll_decide.specs.Judge.{AreGranted, grants_by, grants_along}
 use Rattle.ll_decide.specs.Masks.{IsMask, AreMasks}
 use Rattle.ll_decide.specs.Search.{is_in, fails, of_right, of_layer, layers_of, by_masks}
 use Rattle.ll_decide.specs.Verdict.{Ask, Move, when, is_at, places, rights_without_refer, denials, lacks, gains, verdict}
-use Rattle.ll_decide.proofs.Asking.{holds_none}
+use Rattle.ll_decide.proofs.OneByOne.{holds_none}
 use Rattle.ll_decide.proofs.Bits.{holds-and, holds-or, holds-not}
 use Rattle.ll_decide.proofs.Carried.{length-masks}
 

@@ -59,8 +59,12 @@ gaining granted d right New = holds (set_of d There) right && granted Entered ri
 
 -- whatever a layer grants, it lacks of the list what it lacks of the sets
 abbrev pub AreAsks : Demands → List (Ask On) → Type 0
-AreAsks d asks = (granted : On → ℕ → Bool) (right : ℕ) (place : Place) → right < 15 → lacks of_itself asks granted right place ≡ lacking granted d right place
+AreAsks d asks =
+    (granted : On → ℕ → Bool) (right : ℕ) (place : Place) → right < 15 →
+    lacks of_itself asks granted right place ≡ lacking granted d right place
 
 -- and as much would be gained
 abbrev pub AreMoves : Demands → List (Move On) → Type 0
-AreMoves d moves = (granted : On → ℕ → Bool) (right : ℕ) (place : Place) → right < 15 → gains of_itself moves granted right place ≡ gaining granted d right place
+AreMoves d moves =
+    (granted : On → ℕ → Bool) (right : ℕ) (place : Place) → right < 15 →
+    gains of_itself moves granted right place ≡ gaining granted d right place

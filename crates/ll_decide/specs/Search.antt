@@ -19,7 +19,8 @@ use Rattle.ll_decide.specs.Verdict.{when, places, rights_without_refer, denials}
 
 -- one layer's denials, by its number from 1
 abbrev pub of_place : Cause → ℕ → (ℕ → Place → Bool) → ℕ → Place → List Denial
-of_place cause layer test right place = when (test right place) (record { cause = cause; layer = layer; right = right; place = place } ∷ [])
+of_place cause layer test right place =
+    when (test right place) (record { cause = cause; layer = layer; right = right; place = place } ∷ [])
 
 abbrev pub of_right : Cause → ℕ → (ℕ → Place → Bool) → ℕ → List Denial
 of_right cause layer test right = flat_map (of_place cause layer test right) places
@@ -44,4 +45,6 @@ abbrev pub of_all : Granted → Demands → Reason → Cause → List ℕ → Li
 of_all g d reason cause rights = denials cause (layers_of g) rights places (fails g d reason)
 
 abbrev pub by_masks : Granted → Demands → Option Denial
-by_masks g d = slice_get (of_all g d Lacks EACCES rights_without_refer ++ of_all g d Lacks EXDEV (refer ∷ []) ++ of_all g d Gains EXDEV all_rights) 0
+by_masks g d =
+    slice_get (of_all g d Lacks EACCES rights_without_refer ++ of_all g d Lacks EXDEV (refer ∷ [])
+    ++ of_all g d Gains EXDEV all_rights) 0

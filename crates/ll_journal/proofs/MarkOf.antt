@@ -14,7 +14,7 @@ use Rattle.ll_seq.specs.declared.call.Call.{Call}
 use Rattle.ll_seq.specs.declared.reply.Reply.{Reply}
 use Rattle.ll_seq.specs.Call.{first_path, second_path}
 use Rattle.ll_seq.proofs.Parted.{or_split}
-use Rattle.ll_seq.proofs.Rows.{found_of_row}
+use Rattle.ll_seq.proofs.DentryRows.{found_of_row}
 use Rattle.ll_laws.proofs.Chains.{same_Some}
 use Rattle.ll_walks.specs.Walk.{Walk, Leg, Position, Above, Down, Split, has_two_paths, toward, turn, with_turn, forked, marks, legs}
 use Rattle.ll_walks.specs.World.{World, next_number, map_values, overtaken, with_stale, is_marked, is_marked_by_other}

@@ -8,16 +8,16 @@ use Rattle.std.specs.FinMap.Entries.{find, is_sorted, below_all}
 use Rattle.std.proofs.Common.{sym, subst, ap, ◌∙◌}
 use Rattle.std.proofs.lemmas.Bool.{eqb-true, eq-eqb}
 use Rattle.std.proofs.lemmas.List.{length-map}
-use Rattle.ll_rights.specs.Codes.{same_list_map}
+use Rattle.ll_rights.specs.MapCodes.{same_list_map}
 use Rattle.ll_rights.specs.Map.{empty, get, insert, remove, entries, len, from_sorted}
 use Rattle.ll_rights.proofs.Maps.{equal_at, get-empty, get-insert, get-remove, get-from_sorted, entries-from_sorted, same_map}
 use Rattle.ll_node.specs.Slot.{NameMap, renamed}
-use Rattle.ll_node.proofs.Table.{names_exact}
+use Rattle.ll_node.proofs.NameTable.{names_exact}
 use Rattle.ll_seq.specs.declared.dentries.Dentry.{Dentry}
 use Rattle.ll_seq.specs.State.{Name, State, dentry, dentry_cmp, child, names_in}
 use Rattle.ll_seq.proofs.DentryOrder.{dentry_total, dentry_exact}
-use Rattle.ll_seq.proofs.Rows.{both, is_less}
-use Rattle.ll_seq.proofs.Tables.{remove-insert_other}
+use Rattle.ll_seq.proofs.DentryRows.{both, is_less}
+use Rattle.ll_seq.proofs.OrderedTables.{remove-insert_other}
 use Rattle.ll_journal.specs.Book.{map_of, names_map}
 
 -- maps of names that answer alike are one

@@ -10,7 +10,7 @@ use Rattle.ll_seq.proofs.Histories.{after_push}
 use Rattle.ll_laws.proofs.Gain.{done_of}
 use Rattle.ll_walks.specs.Walk.{Walk}
 use Rattle.ll_walks.specs.World.{World, shown, next_number, reply_to, with_entry}
-use Rattle.ll_walks.proofs.Calls.{step_again}
+use Rattle.ll_walks.proofs.OneCall.{step_again}
 use Rattle.ll_walks.proofs.Turns.{ended}
 
 -- with any reply

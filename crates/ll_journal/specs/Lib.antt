@@ -1,4 +1,4 @@
 pub mod Book
-pub mod Codes
+pub mod SeatCodes
 pub mod Seated
 pub mod Kept

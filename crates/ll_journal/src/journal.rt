@@ -37,7 +37,7 @@ pub struct Journal {
 
 impl Model for Journal {
     ghost use Rattle.ll_journal.specs.Book.{Book};
-    ghost use Rattle.ll_journal.specs.Codes.{coded_book};
+    ghost use Rattle.ll_journal.specs.SeatCodes.{coded_book};
 
     ghost Value = { Book };
 

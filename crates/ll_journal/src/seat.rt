@@ -48,7 +48,7 @@ pub(crate) struct Seat {
 
 impl Model for Seat {
     ghost use Rattle.ll_journal.specs.Book as book;
-    ghost use Rattle.ll_journal.specs.Codes.{coded_seat};
+    ghost use Rattle.ll_journal.specs.SeatCodes.{coded_seat};
 
     ghost Value = { book.Seat };
 

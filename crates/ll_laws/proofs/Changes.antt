@@ -22,10 +22,10 @@ use Rattle.ll_seq.specs.Asked.{grants}
 use Rattle.ll_seq.specs.Effects.{dentry_of, lives, let_go, with_name, with_moved, with_node, without_name, with_bytes, with_client, exchanged}
 use Rattle.ll_seq.specs.Reach.{is_relevant}
 use Rattle.ll_seq.proofs.DentryOrder.{dentry_total, dentry_exact}
-use Rattle.ll_seq.proofs.Chains.{end_append}
+use Rattle.ll_seq.proofs.CutChains.{end_append}
 use Rattle.ll_laws.proofs.Chains.{same_Some, NotFile}
 use Rattle.ll_laws.proofs.Trees.{IsTree, Shrinks, Adds, Enters, Moves, Change, shrinks, adds, moves, only_path, At}
-use Rattle.ll_laws.proofs.Stages.{neither, inode_is, parent_last, last_child, beneath_append}
+use Rattle.ll_laws.proofs.Unrefused.{neither, inode_is, parent_last, last_child, beneath_append}
 
 -- ---- the same tree
 

@@ -47,7 +47,7 @@ use Rattle.ll_seq.proofs.Histories.{after_append, legal_late}
 use Rattle.ll_seq.proofs.Parted.{or_split}
 use Rattle.ll_laws.proofs.Relevant.{is_one_of_all}
 use Rattle.ll_laws.proofs.Trees.{IsTree, root_dir, Change, shrinks, adds, moves, only_path, tree_kept, reach_kept, granted_on}
-use Rattle.ll_laws.proofs.Stages.{nil_left, nil_right, nil_both, nil_map, not_refused, neither, walked, inode_is, parent_last, last_child, IsIn, in_left, in_right, in_when, none_passes, IsIn-contains, none_denied}
+use Rattle.ll_laws.proofs.Unrefused.{nil_left, nil_right, nil_both, nil_map, not_refused, neither, walked, inode_is, parent_last, last_child, IsIn, in_left, in_right, in_when, none_passes, IsIn-contains, none_denied}
 use Rattle.ll_laws.proofs.Changes.{same_tree, more_change, shrinks_itself, without_name_shrinks, close_shrinks, with_bytes_shrinks, IsPlace, IsMove, end_below, new_adds, link_moves, renamed_moves, replaced_moves, exchange_shrinks, exchange_moves}
 
 -- what a call answers and does that isn't refused

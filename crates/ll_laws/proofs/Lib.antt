@@ -1,10 +1,10 @@
 pub mod Chains
 pub mod Relevant
 pub mod Trees
-pub mod Stages
+pub mod Unrefused
 pub mod Changes
 pub mod Gain
-pub mod Asked
-pub mod Clients
-pub mod Withheld
-pub mod Examples
+pub mod Granted
+pub mod ClientChanges
+pub mod Withholding
+pub mod LawExamples

@@ -11,7 +11,7 @@ use Rattle.ll_seq.specs.State.{Name, State, child, root, kind_of}
 use Rattle.ll_seq.specs.Tree.{end_from, chain_from, ancestors}
 use Rattle.ll_seq.specs.Asked.{grants}
 use Rattle.ll_seq.specs.Reach.{InReach, is_relevant}
-use Rattle.ll_seq.proofs.Chains.{end_append}
+use Rattle.ll_seq.proofs.CutChains.{end_append}
 use Rattle.ll_seq.proofs.Parted.{or_right, Last, last}
 use Rattle.ll_laws.proofs.Chains.{same_Some, NotFile, chain_front, chain_back, MoreEntries, before}
 use Rattle.ll_laws.proofs.Relevant.{relevant_dir}

@@ -1,3 +1,3 @@
-pub mod Listed
-pub mod Names
-pub mod Table
+pub mod RisingNames
+pub mod SlotNames
+pub mod NameTable

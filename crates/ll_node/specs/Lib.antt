@@ -1,4 +1,4 @@
-pub mod Codes
+pub mod SlotCodes
 pub mod Held
 pub mod Refusals
 pub mod Rows

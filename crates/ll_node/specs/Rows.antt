@@ -17,4 +17,6 @@ module _ {Y : Type 0} where
 
   -- the bytes strictly rise, and each text is a name
   abbrev pub AreRows : BTreeMap (String Y) ℕ → Type 0
-  AreRows table = IsTrue (is_sorted (slice_cmp nat_cmp) (rows_of table.entries)) × All (λ (text : String Y). IsName (string_bytes text)) (keys table)
+  AreRows table =
+      IsTrue (is_sorted (slice_cmp nat_cmp) (rows_of table.entries))
+      × All (λ (text : String Y). IsName (string_bytes text)) (keys table)

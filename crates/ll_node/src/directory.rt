@@ -20,7 +20,7 @@ pub(crate) struct Directory {
 
 impl Model for Directory {
     ghost use Rattle.ll_node.specs.Slot.{NameMap};
-    ghost use Rattle.ll_node.specs.Codes.{coded_names};
+    ghost use Rattle.ll_node.specs.SlotCodes.{coded_names};
 
     ghost Value = { NameMap };
 

@@ -44,7 +44,7 @@ impl Model for Slot {
     ghost use Rattle.std.specs.Prelude.{◌≡◌};
     ghost use Rattle.ll_rights.specs.Kind.{is_dir};
     ghost use Rattle.ll_node.specs.Slot as slots;
-    ghost use Rattle.ll_node.specs.Codes.{coded_slot};
+    ghost use Rattle.ll_node.specs.SlotCodes.{coded_slot};
 
     ghost Value = { slots.Slot };
 

@@ -18,7 +18,7 @@ use Rattle.ll_seq.specs.State.{State, kind_of, root}
 use Rattle.ll_seq.specs.Tree.{named}
 use Rattle.ll_seq.specs.Reach.{HasName, InReach, is_relevant}
 use Rattle.ll_plain.specs.Reaching.{Found, Leads, is_ruled}
-use Rattle.ll_seq.proofs.Chains.{end_append}
+use Rattle.ll_seq.proofs.CutChains.{end_append}
 use Rattle.ll_seq.proofs.Parted.{or_split, or_left, or_right, any_front, cut}
 use Rattle.ll_plain.proofs.Shortcuts.{shortcut}
 

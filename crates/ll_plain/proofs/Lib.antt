@@ -1,12 +1,12 @@
 pub mod Clients
 pub mod Granting
 pub mod Moved
-pub mod Parts
+pub mod StepParts
 pub mod Reaches
 pub mod Records
-pub mod Refusals
+pub mod RefusedCalls
 pub mod Shortcuts
 pub mod Spared
 pub mod Tied
-pub mod Walks
+pub mod LongerPaths
 pub mod Written

@@ -9,7 +9,7 @@ use Rattle.ll_seq.specs.declared.dentries.Dentry.{Dentry}
 use Rattle.ll_seq.specs.State.{State, dentry_cmp}
 use Rattle.ll_seq.specs.Effects.{with_name, with_moved}
 use Rattle.ll_seq.proofs.DentryOrder.{dentry_total, dentry_exact}
-use Rattle.ll_seq.proofs.Tables.{two_keys, remove-insert_other, instead}
+use Rattle.ll_seq.proofs.OrderedTables.{two_keys, remove-insert_other, instead}
 
 pub moved_name : (a s : State) (old new : Dentry) (inode : ℕ) (left : Map dentry_cmp ℕ) → a ≡ with_name s new inode → get s.entries old ≡ Some inode → get s.entries new ≡ None
     → left ≡ remove a.entries old → record a { entries = left } ≡ with_moved s old new inode

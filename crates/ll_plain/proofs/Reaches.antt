@@ -13,7 +13,7 @@ use Rattle.ll_seq.specs.State.{State, root}
 use Rattle.ll_seq.specs.Tree.{named}
 use Rattle.ll_plain.specs.Reaching.{Found, Leads, is_ruled}
 use Rattle.ll_seq.proofs.Parted.{or_split, or_left, or_right, end_push, last, any_push, any_end}
-use Rattle.ll_seq.proofs.Rows.{row_of_child, child_of_row}
+use Rattle.ll_seq.proofs.DentryRows.{row_of_child, child_of_row}
 
 -- the path's last name is that in the entry's row, and leads to the inode
 pub record ByEntry (s : State) (steps inode k : ℕ) (path : Path) : Type 0 where

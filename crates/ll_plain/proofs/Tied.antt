@@ -8,7 +8,7 @@ use Rattle.std.specs.Option.{option_map_or}
 use Rattle.std.proofs.lemmas.Bool.{cases_lt, eqb-true, eq-eqb}
 use Rattle.ll_rights.specs.declared.kind.Kind.{Kind}
 use Rattle.ll_rights.specs.declared.kind.Kind.TheVariants.{Dir}
-use Rattle.ll_rights.specs.Codes.{same_list_map}
+use Rattle.ll_rights.specs.MapCodes.{same_list_map}
 use Rattle.ll_rights.specs.Map.{Map, empty, entries, get, has, insert, remove}
 use Rattle.ll_rights.proofs.Maps.{equal_at, get-insert, get-insert_same, get-remove, get-remove_other, get-insert_other, insert_cases, same_map}
 use Rattle.ll_path.specs.Path.{Path}
@@ -27,8 +27,8 @@ use Rattle.ll_plain.specs.Tables.{HasNodes, IsTied}
 use Rattle.ll_plain.proofs.Written.{bytes_changed}
 use Rattle.ll_seq.proofs.Counts.{bit, opens_is, links-new, links-over, links-less}
 use Rattle.ll_seq.proofs.DentryOrder.{dentry_total, dentry_exact}
-use Rattle.ll_seq.proofs.Kept.{kept_bytes, kept_client, unlike}
-use Rattle.ll_seq.proofs.Tables.{remove-absent, remove-insert, two_keys}
+use Rattle.ll_seq.proofs.FactsKept.{kept_bytes, kept_client, unlike}
+use Rattle.ll_seq.proofs.OrderedTables.{remove-absent, remove-insert, two_keys}
 
 -- ---- nodes that are there
 

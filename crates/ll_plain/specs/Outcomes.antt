@@ -9,7 +9,8 @@ use Rattle.ll_seq.specs.Step.{step, refusals, client_of}
 
 -- nothing refuses the call, but there is no memory for it, and nothing has changed
 abbrev pub Starves : State → ℕ → Call → Reply → State → Type 0
-Starves s number call reply after = (reply ≡ Refused NoMemory) × (after ≡ s) × (refusals s (client_of s number) call ≡ [])
+Starves s number call reply after =
+    (reply ≡ Refused NoMemory) × (after ≡ s) × (refusals s (client_of s number) call ≡ [])
 
 -- the call comes to its step, where a spawned client gets this number
 abbrev pub StepsBy : ℕ → State → ℕ → Call → Reply → State → Type 0

@@ -45,7 +45,7 @@ pub struct Plain {
 
 impl Model for Plain {
     ghost use Rattle.ll_seq.specs.State.{State};
-    ghost use Rattle.ll_seq.specs.Codes.{coded_state};
+    ghost use Rattle.ll_seq.specs.StateCodes.{coded_state};
     ghost use Rattle.ll_plain.specs.Tables.{IsTied};
 
     ghost Value = { State };

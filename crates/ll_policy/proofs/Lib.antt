@@ -1,8 +1,8 @@
-pub mod Digits
+pub mod HexDigits
 pub mod Firsts
 pub mod Keys
-pub mod Listed
+pub mod TablesRead
 pub mod Others
 pub mod PathTests
-pub mod Pieces
+pub mod DataPieces
 pub mod Texts

@@ -9,7 +9,7 @@ use Rattle.ll_policy.specs.declared.node.Node.{Node}
 use Rattle.ll_policy.specs.declared.profile.Rule.{Rule}
 use Rattle.ll_policy.specs.declared.profile.Layer.{Layer}
 use Rattle.ll_policy.specs.Calls.{fill, write_of, writes}
-use Rattle.ll_policy.specs.Kept.{calls_of_node, opening_of, call_of_rule, calls_of_layer, calls_of_layers}
+use Rattle.ll_policy.specs.KeptCalls.{calls_of_node, opening_of, call_of_rule, calls_of_layer, calls_of_layers}
 
 abbrev pub Others : List Call → Type 0
 Others = AllByRecursion (λ call. is_connect call ≡ false)

@@ -1,7 +1,7 @@
 pub mod Answers
 pub mod Calls
 pub mod Faults
-pub mod Kept
+pub mod KeptCalls
 pub mod Plan
 pub mod Table
 pub mod Value

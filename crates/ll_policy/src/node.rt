@@ -5,7 +5,7 @@ ghost use Rattle.toml.specs.View.{table_view, items_view};
 ghost use Rattle.ll_policy.specs.Answers.{Reads};
 ghost use Rattle.ll_policy.specs.Calls.{IsNode, Joined, writes, fill};
 ghost use Rattle.ll_policy.specs.Faults.{node_faults};
-ghost use Rattle.ll_policy.specs.Kept.{calls_of_node, opening_of};
+ghost use Rattle.ll_policy.specs.KeptCalls.{calls_of_node, opening_of};
 ghost use Rattle.ll_policy.specs.Table.{tables_of};
 
 use crate::fault::PolicyFault;

@@ -8,7 +8,7 @@ ghost use Rattle.toml.specs.View.{table_view};
 ghost use Rattle.ll_seq.specs.History.{is_connect};
 ghost use Rattle.ll_policy.specs.Answers.{Checks, Reads};
 ghost use Rattle.ll_policy.specs.Faults.{document_faults, level_faults, other_keys, policy_faults, top_faults, top_keys};
-ghost use Rattle.ll_policy.specs.Kept.{IsTop};
+ghost use Rattle.ll_policy.specs.KeptCalls.{IsTop};
 ghost use Rattle.ll_policy.specs.Plan.{IsPlan, IsPlanOf, level_by};
 ghost use Rattle.ll_policy.specs.declared.fault.PolicyFault.TheVariants.{NoMemory};
 
@@ -80,7 +80,7 @@ impl Model for Policy {
 
     ghost Value = { Plan };
 
-    ghost use Rattle.ll_policy.specs.Kept.{opening_of, named_calls};
+    ghost use Rattle.ll_policy.specs.KeptCalls.{opening_of, named_calls};
 
     ghost view = { λ policy. record { abi = policy.abi; opening = opening_of policy.nodes.items; profiles = map named_calls policy.profiles.items } };
 }

@@ -7,7 +7,7 @@ ghost use Rattle.toml.specs.View.{table_view, items_view};
 ghost use Rattle.ll_policy.specs.Answers.{Reads};
 ghost use Rattle.ll_policy.specs.Calls.{IsRule, IsLayer, IsProfile, Joined};
 ghost use Rattle.ll_policy.specs.Faults.{rule_faults, layer_faults, profile_faults};
-ghost use Rattle.ll_policy.specs.Kept.{call_of_rule, calls_of_layer, calls_of_layers, named_calls};
+ghost use Rattle.ll_policy.specs.KeptCalls.{call_of_rule, calls_of_layer, calls_of_layers, named_calls};
 ghost use Rattle.ll_policy.specs.Plan.{Each};
 ghost use Rattle.ll_policy.specs.Table.{tables_of, named_tables};
 

@@ -6,7 +6,7 @@ ghost use Rattle.toml.specs.Data.{get_member, as_str, as_array, as_table};
 ghost use Rattle.toml.specs.View.{view, table_view, items_view};
 ghost use Rattle.ll_policy.specs.Answers.{Checks};
 ghost use Rattle.ll_policy.specs.Faults.{required, optional, other_keys};
-ghost use Rattle.ll_policy.specs.Kept.{named_in};
+ghost use Rattle.ll_policy.specs.KeptCalls.{named_in};
 ghost use Rattle.ll_policy.specs.Table.{has_other_key, are_tables, hold_tables, tables_of, named_tables, tables_at, named_tables_at};
 ghost use Rattle.ll_policy.specs.declared.fault.PolicyFault.{PolicyFault};
 ghost use Rattle.ll_policy.specs.declared.fault.PolicyFault.TheVariants.{WrongType};

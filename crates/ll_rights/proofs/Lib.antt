@@ -1,4 +1,4 @@
 pub mod Hex
 pub mod Maps
-pub mod Names
+pub mod RightNames
 pub mod Places

@@ -7,7 +7,7 @@ use Rattle.std.specs.Cmp.{IsTotalOrder, alike_right, eq_by_cmp_equiv, tied_itsel
 use Rattle.std.specs.FinMap.{IsAntisymmetric}
 use Rattle.std.specs.FinMap.Entries.{put, find, is_sorted, is_sorted-put, find-put, find-where_key, same_entries}
 use Rattle.std.proofs.Common.{sym, subst, ap, ◌∙◌, inl, inr}
-use Rattle.ll_rights.specs.Codes.{same_list_map}
+use Rattle.ll_rights.specs.MapCodes.{same_list_map}
 use Rattle.ll_rights.specs.Map.{Map, empty, checked, get, insert, remove, entries, from_sorted}
 
 pub true_is : (b : Bool) → T b → b ≡ true

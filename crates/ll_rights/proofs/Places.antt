@@ -6,7 +6,7 @@ use Rattle.std.specs.Ordering.{is_gt, is_lt, is_eq, eq_by_cmp, ordering_reverse}
 use Rattle.std.specs.Cmp.{IsTotalOrder, tied_itself}
 use Rattle.std.specs.FinMap.Entries.{put, find, by_order, is_sorted, below_all, where_key, is_sorted-where_key}
 use Rattle.std.proofs.Common.{zero, ap, sym, subst, ◌∙◌}
-use Rattle.ll_rights.specs.Codes.{same_list_map}
+use Rattle.ll_rights.specs.MapCodes.{same_list_map}
 use Rattle.ll_rights.specs.Map.{Map, get, from_sorted, insert as map_insert, remove as map_remove}
 use Rattle.ll_rights.proofs.Maps.{true_is, get-from_sorted, list-from_sorted, put_sorted, insert-from_sorted}
 

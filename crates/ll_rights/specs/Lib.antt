@@ -1,5 +1,5 @@
 pub mod Access
-pub mod Codes
+pub mod MapCodes
 pub mod Errno
 pub mod Kind
 pub mod Map

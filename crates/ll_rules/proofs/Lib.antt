@@ -1,3 +1,3 @@
-pub mod Examples
+pub mod LayerExamples
 pub mod Grants
-pub mod Tables
+pub mod RuleTables

@@ -1,4 +1,4 @@
-pub mod Codes
+pub mod LayerCodes
 pub mod Layer
 pub mod Rules
-pub mod Tables
+pub mod RuleTable

@@ -19,7 +19,7 @@ pub struct Domain {
 impl Model for Domain {
     ghost use Rattle.std.specs.Prelude.{List, ◌≤◌, length};
     ghost use Rattle.ll_rules.specs.Layer.{Layer};
-    ghost use Rattle.ll_rules.specs.Codes.{coded_layer};
+    ghost use Rattle.ll_rules.specs.LayerCodes.{coded_layer};
     ghost use Rattle.std.specs.Coded.{coded_list};
 
     ghost Value = { List Layer };

@@ -20,13 +20,13 @@ pub struct Layer {
 
 impl Model for Layer {
     ghost use Rattle.ll_rules.specs.Layer as layers;
-    ghost use Rattle.ll_rules.specs.Codes.{coded_layer};
+    ghost use Rattle.ll_rules.specs.LayerCodes.{coded_layer};
 
     ghost Value = { layers.Layer };
 
     ghost coded = { coded_layer };
 
-    ghost use Rattle.ll_rules.specs.Tables.{rules_of, IsTable};
+    ghost use Rattle.ll_rules.specs.RuleTable.{rules_of, IsTable};
 
     ghost view = { λ layer. record { handled = layer.handled.0; rules = rules_of layer.rules } };
 

@@ -17,7 +17,7 @@ pub struct Ruleset {
 
 impl Model for Ruleset {
     ghost use Rattle.ll_rules.specs.Layer.{Layer};
-    ghost use Rattle.ll_rules.specs.Codes.{coded_layer};
+    ghost use Rattle.ll_rules.specs.LayerCodes.{coded_layer};
 
     ghost Value = { Layer };
 

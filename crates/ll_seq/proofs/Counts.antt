@@ -18,7 +18,7 @@ use Rattle.ll_seq.specs.declared.dentries.Dentry.{Dentry}
 use Rattle.ll_seq.specs.State.{State, dentry_cmp, is_open}
 use Rattle.ll_seq.specs.Facts.{opens_in, open_count}
 use Rattle.ll_seq.proofs.DentryOrder.{dentry_total, dentry_exact}
-use Rattle.ll_seq.proofs.Rows.{both, is_less}
+use Rattle.ll_seq.proofs.DentryRows.{both, is_less}
 
 -- 1 where it holds
 abbrev pub bit : Bool → ℕ

@@ -9,7 +9,7 @@ use Rattle.std.specs.FinMap.Entries.{find, below_all, is_sorted}
 use Rattle.std.proofs.lemmas.Bool.{cases_lt}
 use Rattle.std.proofs.lemmas.Cmp.{ranked}
 use Rattle.std.proofs.lemmas.Option.{get_or_from_slice_get, slice_get_within}
-use Rattle.ll_seq.proofs.Rows.{both, lower, row_of_found}
+use Rattle.ll_seq.proofs.DentryRows.{both, lower, row_of_found}
 
 module _ {V : Type 0} where
   -- each row before one is there, and has a lower number

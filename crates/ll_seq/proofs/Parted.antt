@@ -7,7 +7,7 @@ use Rattle.std.proofs.lemmas.List.Folds.{list_any-append}
 use Rattle.ll_path.specs.Path.{Path}
 use Rattle.ll_seq.specs.State.{Name, State, child}
 use Rattle.ll_seq.specs.Tree.{end_from, chain_from}
-use Rattle.ll_seq.proofs.Chains.{end_append}
+use Rattle.ll_seq.proofs.CutChains.{end_append}
 
 pub or_split : (a b : Bool) → (a || b) ≡ true → (a ≡ true) ⊎ (b ≡ true)
 or_split true b e = inl refl

@@ -15,7 +15,7 @@ use Rattle.ll_path.specs.Name.{IsName}
 use Rattle.ll_seq.specs.declared.dentries.Dentry.{Dentry}
 use Rattle.ll_seq.specs.State.{Name, dentry_cmp}
 use Rattle.ll_seq.specs.Listed.{AreListed}
-use Rattle.ll_seq.proofs.Rows.{both, is_less}
+use Rattle.ll_seq.proofs.DentryRows.{both, is_less}
 
 abbrev by_bytes : Name → Name → Ordering
 by_bytes = slice_cmp nat_cmp

@@ -11,7 +11,7 @@ use Rattle.std.specs.List.Sorted.{IsSearchInRange, IsBinarySearchResult, IsNonDe
 use Rattle.std.proofs.lemmas.Bool.{cases_lt}
 use Rattle.std.proofs.lemmas.Option.{slice_get_cases}
 use Rattle.ll_rights.proofs.Places.{place}
-use Rattle.ll_seq.proofs.Rows.{both, lower, found_of_row}
+use Rattle.ll_seq.proofs.DentryRows.{both, lower, found_of_row}
 
 -- what a binary search for the key answers
 pub record Searched {K V : Type 0} (R : K → K → Ordering) (rows : List (K × V)) (k : K) (r : Result ℕ ℕ) : Type 0 where

@@ -21,7 +21,12 @@ open_count s inode = sum_by (λ (c : ℕ × ClientRecord). opens_in c.1.descript
 
 -- the counts of a node that lives
 abbrev pub fact_of : State → ℕ → Option Fact
-fact_of s inode = option_map (λ (kind : Kind). record { kind = kind; names = length (names_in s inode); links = name_count s inode; opens = open_count s inode }) (kind_of s inode)
+fact_of s inode = option_map (λ (kind : Kind). record {
+  kind = kind;
+  names = length (names_in s inode);
+  links = name_count s inode;
+  opens = open_count s inode;
+}) (kind_of s inode)
 
 -- nothing in the tree stands for the number
 pub record IsUnused (s : State) (inode : ℕ) : Type 0 where

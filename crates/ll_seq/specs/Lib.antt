@@ -1,6 +1,6 @@
 pub mod Asked
 pub mod Call
-pub mod Codes
+pub mod StateCodes
 pub mod Effects
 pub mod Facts
 pub mod Fails

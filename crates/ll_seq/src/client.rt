@@ -35,7 +35,7 @@ impl Model for Rulesets {
     ghost use Rattle.std.specs.Prelude.{List};
     ghost use Rattle.std.specs.Coded.{coded_list};
     ghost use Rattle.ll_rules.specs.Layer.{Layer};
-    ghost use Rattle.ll_rules.specs.Codes.{coded_layer};
+    ghost use Rattle.ll_rules.specs.LayerCodes.{coded_layer};
 
     ghost Value = { List Layer };
 

@@ -29,7 +29,7 @@ impl Model for Dentries {
     ghost use Rattle.std.specs.FinMap.Entries.{is_sorted};
     ghost use Rattle.ll_rights.specs.Map.{Map, from_sorted};
     ghost use Rattle.ll_seq.specs.State.{dentry_cmp};
-    ghost use Rattle.ll_seq.specs.Codes.{coded_entries};
+    ghost use Rattle.ll_seq.specs.StateCodes.{coded_entries};
 
     ghost Value = { Map dentry_cmp ℕ };
 

@@ -20,7 +20,7 @@ impl<V> Model for NumberMap<V> {
     ghost use Rattle.std.specs.Ordering.{nat_cmp};
     ghost use Rattle.std.specs.Coded.{coded_ℕ};
     ghost use Rattle.std.specs.FinMap.Entries.{is_sorted};
-    ghost use Rattle.ll_rights.specs.Codes.{code};
+    ghost use Rattle.ll_rights.specs.MapCodes.{code};
     ghost use Rattle.ll_rights.specs.Map.{Map, from_sorted};
 
     ghost Value = { Map nat_cmp V };

@@ -10,7 +10,7 @@ use Rattle.ll_wire.specs.Pieces.{pieces}
 use Rattle.ll_session.specs.Transcript.{Session}
 use Rattle.ll_session.specs.Run.{Lines}
 use Rattle.ll_session.specs.Progress.{Holds, StandsAt, AnswersLine, IsAnswered, IsStarted, HasBegun, Progress}
-use Rattle.ll_wire.proofs.Pieces.{IsOpen, open-append, pieces-line}
+use Rattle.ll_wire.proofs.CutStreams.{IsOpen, open-append, pieces-line}
 use Rattle.ll_session.proofs.Writing.{appends-more, appends-none, front-more}
 
 -- the line took a byte

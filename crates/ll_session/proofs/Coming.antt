@@ -16,8 +16,8 @@ use Rattle.ll_session.specs.Transcript.{Session, Called, starved}
 use Rattle.ll_session.specs.Opening.{Coming, Connects, Comes, Loads, Opens, made, unconnected, unmade, begun, refused, fresh, following, joined}
 use Rattle.ll_session.specs.declared.tree.Refusal.{Refusal}
 use Rattle.ll_session.specs.Progress.{StandsAt, coming_in}
-use Rattle.ll_session.proofs.Opening.{nobody}
-use Rattle.ll_session.proofs.Places.{after_first, how_many}
+use Rattle.ll_session.proofs.Connecting.{nobody}
+use Rattle.ll_session.proofs.SessionPlaces.{after_first, how_many}
 
 pub loads_some : (s : Session) (loader : Option (Vec Call Global)) (calls : Vec Call Global) (list : List Call) (end : Coming) → loader ≡ Some calls → list ≡ calls.items
     → Comes s list end → Loads s loader end

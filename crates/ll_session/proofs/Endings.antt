@@ -17,7 +17,7 @@ use Rattle.ll_session.specs.Transcript.{Session}
 use Rattle.ll_session.specs.Opening.{begun, refused, Opens}
 use Rattle.ll_session.specs.Run.{Runs, Begins, Writes}
 use Rattle.ll_session.specs.Progress.{AppendsFront, Holds, IfBegun, IfRefused, StandsAt, IsWritten, HasBegun, Progress}
-use Rattle.ll_wire.proofs.Pieces.{pieces-last}
+use Rattle.ll_wire.proofs.CutStreams.{pieces-last}
 use Rattle.ll_session.proofs.Cuts.{kept, has_bytes}
 use Rattle.ll_session.proofs.Writing.{appends-more, front-none}
 use Rattle.ll_session.proofs.Coming.{may_be_refused}

@@ -19,7 +19,7 @@ use Rattle.ll_seq.specs.Step.{step, first_or, refusals, client_of}
 use Rattle.ll_seq.proofs.Consequences.{step-clients_stay, step-spawned}
 use Rattle.ll_seq.proofs.Histories.{after_push, legal_append}
 use Rattle.ll_wire.specs.Grammar.{IsCall}
-use Rattle.ll_session.proofs.Opening.{paired, there_by}
+use Rattle.ll_session.proofs.Connecting.{paired, there_by}
 use Rattle.ll_session.specs.declared.setup.Setup.{Setup}
 use Rattle.ll_session.specs.Opening.{Comes, Loads, Makes, Opens, begun, following, fresh, joined, made}
 use Rattle.ll_session.specs.Run.{Lines, RunsLegally}

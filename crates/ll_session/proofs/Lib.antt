@@ -3,8 +3,8 @@ pub mod Coming
 pub mod Cuts
 pub mod Endings
 pub mod Legal
-pub mod Memory
-pub mod Opening
-pub mod Places
+pub mod Starving
+pub mod Connecting
+pub mod SessionPlaces
 pub mod Replies
 pub mod Writing

@@ -18,8 +18,8 @@ use Rattle.ll_session.specs.declared.line.Line.{Line}
 use Rattle.ll_session.specs.declared.tree.SessionTree.{SessionTree}
 use Rattle.ll_session.specs.Transcript.{Session, IsFull, MayStarve, Called, as_written, brought, next, answered, starved, calls, unread, bad}
 use Rattle.ll_session.specs.Progress.{Holds, StandsAt, AnswersLine}
-use Rattle.ll_session.proofs.Memory.{is_starved, not_false}
-use Rattle.ll_session.proofs.Places.{in_place, no_place, with_brought}
+use Rattle.ll_session.proofs.Starving.{is_starved, not_false}
+use Rattle.ll_session.proofs.SessionPlaces.{in_place, no_place, with_brought}
 
 -- the call gets this reply, and this tree is left
 abbrev pub CalledBy : Session → ℕ → Call → Reply → SessionTree → Type 0

@@ -21,7 +21,7 @@ use Rattle.ll_walks.specs.Walk.{Leg, is_in, rights_where}
 use Rattle.ll_walks.specs.World.{last_nodes, moved_by}
 use Rattle.ll_walks.specs.Walks.{IsRight}
 use Rattle.ll_walks.proofs.Tests.{itself_in}
-use Rattle.ll_walks.proofs.Kept.{not_empty, done_kinds, done_kept}
+use Rattle.ll_walks.proofs.Undisturbed.{not_empty, done_kinds, done_kept}
 
 -- ---- a way down stays
 

@@ -5,7 +5,7 @@ use Rattle.std.proofs.Common.{sym, ap, ◌∙◌}
 use Rattle.std.proofs.lemmas.Bool.{eqb-true, eq-eqb}
 use Rattle.std.proofs.lemmas.List.Folds.{list_any-append}
 use Rattle.ll_seq.proofs.Parted.{or_left, or_right}
-use Rattle.ll_laws.proofs.Stages.{neither}
+use Rattle.ll_laws.proofs.Unrefused.{neither}
 use Rattle.ll_walks.specs.Walk.{is_in}
 use Rattle.ll_walks.specs.World.{has_any}
 

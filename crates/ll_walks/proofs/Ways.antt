@@ -19,7 +19,7 @@ use Rattle.ll_seq.specs.Tree.{end_from}
 use Rattle.ll_seq.specs.Stages.{in_the_way, way_to, walk_refusals, no_directory, kind_of_child}
 use Rattle.std.specs.List.{flat_map}
 use Rattle.ll_laws.proofs.Chains.{same_Some}
-use Rattle.ll_laws.proofs.Stages.{nil_left, nil_right}
+use Rattle.ll_laws.proofs.Unrefused.{nil_left, nil_right}
 use Rattle.ll_walks.specs.Walk.{Leg, Position, Above, Down, Split, trunk_path, if_directory, is_blocked_by, is_blocked, turn}
 use Rattle.ll_walks.specs.Walks.{IsRight, AreRight, AreOnPaths}
 

@@ -34,7 +34,7 @@ use Rattle.ll_seq.proofs.Consequences.{step-clients_stay}
 use Rattle.ll_seq.proofs.Histories.{after_push, legal_append}
 use Rattle.ll_seq.proofs.Parted.{or_left, or_right}
 use Rattle.ll_laws.proofs.Chains.{same_Some}
-use Rattle.ll_laws.proofs.Stages.{nil_left, nil_map, neither}
+use Rattle.ll_laws.proofs.Unrefused.{nil_left, nil_map, neither}
 use Rattle.ll_laws.proofs.Trees.{IsTree}
 use Rattle.ll_laws.proofs.Gain.{done_of, passes, start_tree, after_tree}
 use Rattle.ll_walks.specs.Walk.{Walk, Leg, Position, Above, Down, Split, is_in, trunk_path, toward, legs, turn, with_turn, further, forked, is_blocked, at_ends, has_two_paths, marks, passes as walk_passes, first_leg}
@@ -42,8 +42,8 @@ use Rattle.ll_walks.specs.World.{World, Step, new_world, shown, is_done, early_r
 use Rattle.ll_walks.specs.Walks.{AreRight, AreOnPaths, IsUnderWay, WalksAreValid}
 use Rattle.ll_walks.specs.Sound.{AreNumbered}
 use Rattle.ll_walks.proofs.Tests.{both, second, not_true, or_false, is_nil, none_of}
-use Rattle.ll_walks.proofs.Calls.{stands, step_again, step_clients, other_client, unused, numbered}
-use Rattle.ll_walks.proofs.Masks.{first_right, toward_right, further_right, further_same}
+use Rattle.ll_walks.proofs.OneCall.{stands, step_again, step_clients, other_client, unused, numbered}
+use Rattle.ll_walks.proofs.CarriedMasks.{first_right, toward_right, further_right, further_same}
 use Rattle.ll_walks.proofs.Ways.{common_left, common_right, rest_of, not_blocked}
 use Rattle.ll_walks.proofs.Legs.{LeavesLeg, leg_kept}
 use Rattle.ll_walks.proofs.Turns.{Keeps, steps_kept}

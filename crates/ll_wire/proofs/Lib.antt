@@ -1,13 +1,13 @@
-pub mod Calls
-pub mod Clients
+pub mod FirstTokens
+pub mod NamedClients
 pub mod Digits
-pub mod Entries
+pub mod EntryTokens
 pub mod Fronts
 pub mod Headers
 pub mod Joined
 pub mod Lines
-pub mod Names
-pub mod Numbers
+pub mod NamesInOrder
+pub mod ParsedNumbers
 pub mod OneReply
 pub mod ReadReplies
 pub mod Rights
@@ -15,4 +15,4 @@ pub mod Sizes
 pub mod Targets
 pub mod Tokens
 pub mod Unique
-pub mod Pieces
+pub mod CutStreams

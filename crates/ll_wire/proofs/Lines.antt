@@ -12,8 +12,8 @@ use Rattle.ll_wire.specs.Grammar.{client_tokens, call_tokens, SpellsCommand}
 use Rattle.ll_wire.specs.Parts.{SpellsTokens}
 use Rattle.ll_wire.specs.Reads.{ReadsBy, holds_text}
 use Rattle.ll_wire.proofs.Tokens.{IsToken, command_is_tokens, cut_at_spaces, body_is_ascii}
-use Rattle.ll_wire.proofs.Calls.{whole_reads, same_err}
-use Rattle.ll_wire.proofs.Clients.{at_most_five}
+use Rattle.ll_wire.proofs.FirstTokens.{whole_reads, same_err}
+use Rattle.ll_wire.proofs.NamedClients.{at_most_five}
 
 pub same_front : (xs ys : List ℕ) (a b : ℕ) → xs ++ a ∷ [] ≡ ys ++ b ∷ [] → xs ≡ ys
 same_front xs ys a b e =

@@ -26,7 +26,7 @@ use Rattle.ll_seq.specs.declared.reply.Reply.TheVariants.{Done, Opened, Bytes, W
 use Rattle.ll_wire.specs.Grammar.{data_text, reply_tokens, IsReply, SpellsReply}
 use Rattle.ll_wire.specs.Parts.{SpellsReplyTokens}
 use Rattle.ll_wire.proofs.Tokens.{IsToken, visible, visible_is, number_token, kind_token, data_token}
-use Rattle.ll_wire.proofs.Calls.{first_is}
+use Rattle.ll_wire.proofs.FirstTokens.{first_is}
 use Rattle.ll_wire.proofs.Digits.{same_data}
 use Rattle.ll_wire.proofs.Lines.{same_front, cut}
 use Rattle.ll_wire.proofs.Rights.{same_right}

@@ -22,9 +22,9 @@ use Rattle.ll_seq.specs.declared.reply.Reply.TheVariants.{Done, Opened, Bytes, W
 use Rattle.ll_wire.specs.Grammar.{reply_tokens, SpellsReply}
 use Rattle.ll_wire.specs.Parts.{Reads, SpellsNumber, SpellsData, SpellsNames, SpellsOneNumber, SpellsReplyTokens, SpellsReplyBody}
 use Rattle.ll_wire.specs.Reads.{ReadsBy, Finds, tells_text}
-use Rattle.ll_wire.proofs.Calls.{whole_reads, same_err}
+use Rattle.ll_wire.proofs.FirstTokens.{whole_reads, same_err}
 use Rattle.ll_wire.proofs.Lines.{same_front}
-use Rattle.ll_wire.proofs.Names.{named}
+use Rattle.ll_wire.proofs.NamesInOrder.{named}
 use Rattle.ll_wire.proofs.OneReply.{IsOfNumber, same_errno, reply_is_tokens, cut_reply}
 use Rattle.ll_wire.proofs.Tokens.{body_is_ascii}
 

@@ -10,7 +10,7 @@ use Rattle.std.proofs.lemmas.Bool.{cases_lt, cases_Bool, ne_eqb, eqb-true, eqb-f
 use Rattle.std.proofs.lemmas.Slice.Eq.{bytes_eq-Decides}
 use Rattle.ll_rights.specs.Right.{right_names, right_text}
 use Rattle.ll_rights.specs.Access.{holds, names_among, names_in, access_text}
-use Rattle.ll_rights.proofs.Names.{names_yes, names_no, names_end, text_none, text_number, parts_of_text, letter_of_text}
+use Rattle.ll_rights.proofs.RightNames.{names_yes, names_no, names_end, text_none, text_number, parts_of_text, letter_of_text}
 use Rattle.ll_rights.proofs.Hex.{reads_back}
 
 -- ---- the set whose names these are

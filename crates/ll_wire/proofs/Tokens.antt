@@ -18,7 +18,7 @@ use Rattle.ll_rights.specs.declared.kind.Kind.TheVariants as kinds
 use Rattle.ll_rights.specs.Kind.{kind_text}
 use Rattle.ll_rights.specs.Right.{right_text, all_rights}
 use Rattle.ll_rights.specs.Access.{holds, names_among, names_in, access_text}
-use Rattle.ll_rights.proofs.Names.{names_yes, names_no, names_end, text_none, text_names, text_number}
+use Rattle.ll_rights.proofs.RightNames.{names_yes, names_no, names_end, text_none, text_names, text_number}
 use Rattle.ll_path.specs.Word.{IsVisible}
 use Rattle.ll_seq.specs.declared.call.AccessMode.{AccessMode}
 use Rattle.ll_seq.specs.declared.call.AccessMode.TheVariants as ways

@@ -23,8 +23,8 @@ use Rattle.ll_seq.specs.declared.call.Call.{Call}
 use Rattle.ll_seq.specs.declared.call.Call.TheVariants as calls
 use Rattle.ll_wire.specs.Grammar.{way_text, truncate_text, creation_text, mode_text, SpellsTarget, data_text, client_tokens, call_tokens, IsCall, SpellsCommand}
 use Rattle.ll_wire.proofs.Rights.{same_set}
-use Rattle.ll_wire.proofs.Calls.{IsOfTarget, make_is, open_is, read_is, write_is, ftruncate_is, close_is, truncate_is, list_is, stat_is, exec_is, unlink_is, rmdir_is, IsOfTargets, rename_is, rename_noreplace_is, exchange_is, link_is, ruleset_is, allow_is, confine_is, spawn_is}
-use Rattle.ll_wire.proofs.Clients.{same_client}
+use Rattle.ll_wire.proofs.FirstTokens.{IsOfTarget, make_is, open_is, read_is, write_is, ftruncate_is, close_is, truncate_is, list_is, stat_is, exec_is, unlink_is, rmdir_is, IsOfTargets, rename_is, rename_noreplace_is, exchange_is, link_is, ruleset_is, allow_is, confine_is, spawn_is}
+use Rattle.ll_wire.proofs.NamedClients.{same_client}
 use Rattle.ll_wire.proofs.Digits.{same_data}
 use Rattle.ll_wire.proofs.Lines.{tokens_are}
 

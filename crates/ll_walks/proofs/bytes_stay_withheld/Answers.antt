@@ -1,4 +1,4 @@
-use Rattle.ll_walks.proofs.Growing.{withheld_between}
+use Rattle.ll_walks.proofs.Growth.{withheld_between}
 use Rattle.ll_walks.proofs.bytes_stay_withheld.Goals as goal
 
 pub returns : goal.returns

@@ -1,4 +1,4 @@
-use Rattle.ll_walks.proofs.Growing.{history_grows}
+use Rattle.ll_walks.proofs.Growth.{history_grows}
 use Rattle.ll_walks.proofs.history_grows.Goals as goal
 
 pub returns : goal.returns

@@ -1,4 +1,4 @@
-use Rattle.ll_walks.proofs.Growing.{history_is_legal}
+use Rattle.ll_walks.proofs.Growth.{history_is_legal}
 use Rattle.ll_walks.proofs.history_is_legal.Goals as goal
 
 pub returns : goal.returns

@@ -1,4 +1,4 @@
-use Rattle.ll_walks.proofs.Growing.{no_gain_between}
+use Rattle.ll_walks.proofs.Growth.{no_gain_between}
 use Rattle.ll_walks.proofs.reach_never_grows.Goals as goal
 
 pub returns : goal.returns

@@ -2,7 +2,7 @@ use Rattle.std.specs.Prelude.{slice_get}
 use Rattle.std.proofs.Common.{ap, sym, ◌∙◌}
 use Rattle.ll_seq.specs.Asked.{call_denials}
 use Rattle.ll_answer.proofs.deciding.decide.Goals as goal
-use Rattle.ll_answer.proofs.Parts.{refused_early, denied, refused_late, none_refused, judged_so, comes_so}
+use Rattle.ll_answer.proofs.AnswerParts.{refused_early, denied, refused_late, none_refused, judged_so, comes_so}
 use Rattle.ll_answer.proofs.Walked.{none_first}
 use Rattle.ll_answer.specs.Demanded.{chains}
 use Rattle.ll_answer.specs.Passed.{before_policy, after_policy}

@@ -1,6 +1,6 @@
 use Rattle.std.proofs.Common.{true≢false, sym, ap, ◌∙◌}
 use Rattle.std.specs.Prelude.{not}
-use Rattle.ll_audit.proofs.Standing.{Made, stands, followed, told_its_own, opposite}
+use Rattle.ll_audit.proofs.EntriesThatStand.{Made, stands, followed, told_its_own, opposite}
 use Rattle.ll_audit.proofs.entry.may_stand.Goals as goal
 use Rattle.ll_audit.proofs.entry.may_stand.Goals.{else-connects-via-then-connects+else-not-is_done, else-connects-via-else-connects, Else-wants_memory}
 

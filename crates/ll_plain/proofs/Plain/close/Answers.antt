@@ -9,7 +9,7 @@ use Rattle.ll_seq.specs.Effects.{let_go, with_client}
 use Rattle.ll_seq.specs.Step.{client_of}
 use Rattle.ll_plain.proofs.Written.{file_is}
 use Rattle.ll_plain.proofs.Records.{no_denials}
-use Rattle.ll_plain.proofs.Parts.{steps_done, both_free}
+use Rattle.ll_plain.proofs.StepParts.{steps_done, both_free}
 use Rattle.ll_plain.proofs.Plain.close.Goals as goal
 
 pub returns : goal.returns

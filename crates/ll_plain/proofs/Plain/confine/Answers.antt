@@ -6,7 +6,7 @@ use Rattle.ll_seq.specs.declared.call.Call.TheVariants.{Confine}
 use Rattle.ll_seq.specs.Step.{client_of}
 use Rattle.ll_plain.proofs.Clients.{got_client, kept, client_changed}
 use Rattle.ll_plain.proofs.Records.{refused_if, not_refused, no_denials, number_below}
-use Rattle.ll_plain.proofs.Parts.{refused_before, does, fails, first_stays, both_free}
+use Rattle.ll_plain.proofs.StepParts.{refused_before, does, fails, first_stays, both_free}
 use Rattle.ll_plain.specs.contracts.Plain.{the_view}
 use Rattle.ll_plain.proofs.Tied.{tied_client}
 use Rattle.ll_plain.proofs.Plain.confine.Goals as goal

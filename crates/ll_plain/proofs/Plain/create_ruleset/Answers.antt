@@ -12,7 +12,7 @@ use Rattle.ll_seq.specs.declared.call.Call.TheVariants.{Ruleset}
 use Rattle.ll_seq.specs.Step.{client_of}
 use Rattle.ll_plain.proofs.Clients.{got_client, kept, client_changed}
 use Rattle.ll_plain.proofs.Records.{no_denials}
-use Rattle.ll_plain.proofs.Parts.{does, fails}
+use Rattle.ll_plain.proofs.StepParts.{does, fails}
 use Rattle.ll_plain.specs.contracts.Plain.{the_view}
 use Rattle.ll_plain.proofs.Tied.{tied_client}
 use Rattle.ll_plain.proofs.Plain.create_ruleset.Goals as goal

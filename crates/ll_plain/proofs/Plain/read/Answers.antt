@@ -8,7 +8,7 @@ use Rattle.ll_seq.specs.State.{bytes_of}
 use Rattle.ll_seq.specs.Step.{client_of}
 use Rattle.ll_plain.proofs.Written.{file_is}
 use Rattle.ll_plain.proofs.Records.{not_refused, no_denials}
-use Rattle.ll_plain.proofs.Parts.{does, starves, both_free}
+use Rattle.ll_plain.proofs.StepParts.{does, starves, both_free}
 use Rattle.ll_plain.proofs.Plain.read.Goals as goal
 
 pub returns-in-Err-bytes : goal.returns-in-Err-bytes

@@ -18,7 +18,7 @@ use Rattle.ll_plain.specs.contracts.Plain.{the_view}
 use Rattle.ll_plain.proofs.Clients.{got_client, kept, client_changed}
 use Rattle.ll_plain.proofs.Tied.{tied_with}
 use Rattle.ll_plain.proofs.Records.{refused_if, not_refused, no_denials}
-use Rattle.ll_plain.proofs.Parts.{refused_after, does_by, starves}
+use Rattle.ll_plain.proofs.StepParts.{refused_after, does_by, starves}
 use Rattle.ll_plain.proofs.Plain.spawn.Goals as goal
 
 pub returns-then-len-ge-TREE_CLIENTS : goal.returns-then-len-ge-TREE_CLIENTS

@@ -3,7 +3,7 @@ use Rattle.ll_rights.specs.Map.{has, insert}
 use Rattle.ll_seq.specs.declared.client.ClientRecord.{ClientRecord}
 use Rattle.ll_seq.specs.State.{State}
 use Rattle.ll_seq.specs.Step.{client_of}
-use Rattle.ll_seq.proofs.Numbers.{found_free}
+use Rattle.ll_seq.proofs.LowestFree.{found_free}
 use Rattle.ll_plain.specs.contracts.Plain.{the_view}
 use Rattle.ll_plain.proofs.Clients.{got_client}
 use Rattle.ll_plain.proofs.Tied.{tied_with}

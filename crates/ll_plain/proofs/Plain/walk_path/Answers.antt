@@ -6,7 +6,7 @@ use Rattle.ll_seq.specs.State.{root}
 use Rattle.ll_seq.specs.Tree.{named, ancestors, inode_of, directory_of}
 use Rattle.ll_seq.specs.Stages.{in_the_way, is_crowded}
 use Rattle.ll_answer.specs.Found.{there_in}
-use Rattle.ll_plain.proofs.Walks.{alone, beneath, end_push, chain_push}
+use Rattle.ll_plain.proofs.LongerPaths.{alone, beneath, end_push, chain_push}
 use Rattle.ll_plain.proofs.Plain.walk_path.Goals as goal
 
 pub returns : goal.returns

@@ -8,7 +8,7 @@ use Rattle.ll_seq.specs.Effects.{inode_at}
 use Rattle.ll_seq.specs.Step.{client_of}
 use Rattle.ll_plain.proofs.Written.{file_is, nothing_too_long, too_long_if, writes_nothing, writes_some}
 use Rattle.ll_plain.proofs.Records.{no_denials}
-use Rattle.ll_plain.proofs.Parts.{refused_after, does, starves, both_free}
+use Rattle.ll_plain.proofs.StepParts.{refused_after, does, starves, both_free}
 use Rattle.ll_plain.proofs.Plain.write.Goals as goal
 
 pub returns-then-is_empty : goal.returns-then-is_empty

@@ -1,5 +1,5 @@
 use Rattle.std.proofs.Common.{◌≡◌, take}
-use Rattle.ll_policy.specs.Kept.{opening_of}
+use Rattle.ll_policy.specs.KeptCalls.{opening_of}
 use Rattle.ll_policy.proofs.node.opening_calls.Given as goal
 
 abbrev pub invariant-loop-node : goal.invariant-loop-node

@@ -4,7 +4,7 @@ use Rattle.std.proofs.lemmas.List.{length_push, length-append}
 use Rattle.std.proofs.lemmas.List.FromFn.{map-range_with_len_more}
 use Rattle.ll_seq.specs.declared.call.Call.TheVariants.{Write}
 use Rattle.ll_policy.specs.Calls.{write_of}
-use Rattle.ll_policy.proofs.Pieces.{this_piece, after_piece, starts_at, pieces_end}
+use Rattle.ll_policy.proofs.DataPieces.{this_piece, after_piece, starts_at, pieces_end}
 use Rattle.ll_policy.proofs.node.push_writes.Goals as goal
 
 pub loop-piece-init : goal.loop-piece-init

@@ -2,9 +2,9 @@ use Rattle.std.proofs.Common.{◌≡◌, drop, Err, [], ◌∷◌, ◌++◌, app
 use Rattle.toml.specs.View.{table_view}
 use Rattle.ll_policy.specs.Calls.{IsNode, Joined}
 use Rattle.ll_policy.specs.Faults.{node_faults}
-use Rattle.ll_policy.specs.Kept.{calls_of_node, opening_of}
+use Rattle.ll_policy.specs.KeptCalls.{calls_of_node, opening_of}
 use Rattle.ll_policy.proofs.Keys.{tables_in}
-use Rattle.ll_policy.proofs.Listed.{next_table, next_other, fails_at, passes_at, passes_over, all_pass, no_tables, flat_map-push}
+use Rattle.ll_policy.proofs.TablesRead.{next_table, next_other, fails_at, passes_at, passes_over, all_pass, no_tables, flat_map-push}
 use Rattle.ll_policy.proofs.node.read_nodes.Goals as goal
 use Rattle.ll_policy.proofs.node.read_nodes.Goals.{in-Some+in_ok-read+in_ok-push, in_default}
 

@@ -3,7 +3,7 @@ use Rattle.std.specs.Prelude.{flat_map}
 use Rattle.ll_seq.specs.declared.call.Call.{Call}
 use Rattle.ll_policy.specs.Calls.{IsNode, Joined}
 use Rattle.ll_policy.specs.Faults.{node_faults}
-use Rattle.ll_policy.specs.Kept.{opening_of}
+use Rattle.ll_policy.specs.KeptCalls.{opening_of}
 use Rattle.ll_policy.proofs.Keys.{tables_in}
 use Rattle.ll_policy.proofs.node.read_nodes.Given as goal
 

@@ -4,9 +4,9 @@ use Rattle.std.proofs.lemmas.List.{length_push}
 use Rattle.toml.specs.View.{table_view}
 use Rattle.ll_policy.specs.Calls.{IsLayer, Joined}
 use Rattle.ll_policy.specs.Faults.{layer_faults}
-use Rattle.ll_policy.specs.Kept.{calls_of_layer, calls_of_layers}
+use Rattle.ll_policy.specs.KeptCalls.{calls_of_layer, calls_of_layers}
 use Rattle.ll_policy.proofs.Keys.{tables_in}
-use Rattle.ll_policy.proofs.Listed.{next_table, next_other, fails_at, passes_at, passes_over, all_pass, no_tables, layers-push}
+use Rattle.ll_policy.proofs.TablesRead.{next_table, next_other, fails_at, passes_at, passes_over, all_pass, no_tables, layers-push}
 use Rattle.ll_policy.proofs.profile.read_layers.Goals as goal
 use Rattle.ll_policy.proofs.profile.read_layers.Goals.{in-Some+in_ok-read+in_ok-push, in_default}
 

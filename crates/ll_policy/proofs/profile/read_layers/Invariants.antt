@@ -4,7 +4,7 @@ use Rattle.std.specs.List.{enumerate_from}
 use Rattle.ll_seq.specs.declared.call.Call.{Call}
 use Rattle.ll_policy.specs.Calls.{IsLayer, Joined}
 use Rattle.ll_policy.specs.Faults.{layer_faults}
-use Rattle.ll_policy.specs.Kept.{calls_of_layers}
+use Rattle.ll_policy.specs.KeptCalls.{calls_of_layers}
 use Rattle.ll_policy.proofs.Keys.{tables_in}
 use Rattle.ll_policy.proofs.profile.read_layers.Given as goal
 

@@ -4,11 +4,11 @@ use Rattle.toml.specs.View.{table_view, members_view}
 use Rattle.toml.proofs.Views.{Entry}
 use Rattle.ll_policy.specs.Calls.{IsProfile}
 use Rattle.ll_policy.specs.Faults.{profile_faults}
-use Rattle.ll_policy.specs.Kept.{named_calls}
+use Rattle.ll_policy.specs.KeptCalls.{named_calls}
 use Rattle.ll_policy.specs.Plan.{Each}
 use Rattle.ll_policy.specs.Table.{named_tables}
 use Rattle.ll_policy.proofs.Firsts.{Told}
-use Rattle.ll_policy.proofs.Listed.{next_named, fails_at, all_pass}
+use Rattle.ll_policy.proofs.TablesRead.{next_named, fails_at, all_pass}
 use Rattle.ll_policy.proofs.profile.read_profiles.Goals as goal
 
 pub returns-in_err-read : goal.returns-in_err-read

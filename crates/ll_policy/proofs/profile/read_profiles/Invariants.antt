@@ -4,7 +4,7 @@ use Rattle.toml.specs.View.{members_view}
 use Rattle.ll_seq.specs.declared.call.Call.{Call}
 use Rattle.ll_policy.specs.Calls.{IsProfile}
 use Rattle.ll_policy.specs.Faults.{profile_faults}
-use Rattle.ll_policy.specs.Kept.{named_calls}
+use Rattle.ll_policy.specs.KeptCalls.{named_calls}
 use Rattle.ll_policy.specs.Plan.{Each}
 use Rattle.ll_policy.specs.Table.{named_tables}
 use Rattle.ll_policy.proofs.profile.read_profiles.Given as goal

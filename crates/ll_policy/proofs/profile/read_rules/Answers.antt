@@ -2,9 +2,9 @@ use Rattle.std.proofs.Common.{◌≡◌, drop, map, Err, [], ◌∷◌, ◌++◌
 use Rattle.toml.specs.View.{table_view}
 use Rattle.ll_policy.specs.Calls.{IsRule, Joined}
 use Rattle.ll_policy.specs.Faults.{rule_faults}
-use Rattle.ll_policy.specs.Kept.{call_of_rule}
+use Rattle.ll_policy.specs.KeptCalls.{call_of_rule}
 use Rattle.ll_policy.proofs.Keys.{tables_in}
-use Rattle.ll_policy.proofs.Listed.{next_table, next_other, fails_at, passes_at, passes_over, all_pass, no_tables, map-push}
+use Rattle.ll_policy.proofs.TablesRead.{next_table, next_other, fails_at, passes_at, passes_over, all_pass, no_tables, map-push}
 use Rattle.ll_policy.proofs.profile.read_rules.Goals as goal
 use Rattle.ll_policy.proofs.profile.read_rules.Goals.{in-Some+in_ok-read+in_ok-push, in_default}
 

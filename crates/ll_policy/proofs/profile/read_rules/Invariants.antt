@@ -3,7 +3,7 @@ use Rattle.std.specs.Prelude.{flat_map}
 use Rattle.ll_seq.specs.declared.call.Call.{Call}
 use Rattle.ll_policy.specs.Calls.{IsRule, Joined}
 use Rattle.ll_policy.specs.Faults.{rule_faults}
-use Rattle.ll_policy.specs.Kept.{call_of_rule}
+use Rattle.ll_policy.specs.KeptCalls.{call_of_rule}
 use Rattle.ll_policy.proofs.Keys.{tables_in}
 use Rattle.ll_policy.proofs.profile.read_rules.Given as goal
 

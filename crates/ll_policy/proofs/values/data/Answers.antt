@@ -5,7 +5,7 @@ use Rattle.ll_rights.specs.Kind.{kind_text}
 use Rattle.ll_policy.specs.declared.fault.PolicyFault.TheVariants.{BadData}
 use Rattle.ll_policy.specs.Faults.{optional}
 use Rattle.ll_policy.specs.Value.{is_data}
-use Rattle.ll_policy.proofs.Digits.{bytes_of_nothing, decodes}
+use Rattle.ll_policy.proofs.HexDigits.{bytes_of_nothing, decodes}
 use Rattle.ll_policy.proofs.values.data.Goals as goal
 
 pub returns-in_default : goal.returns-in_default

@@ -1,7 +1,7 @@
 use Rattle.std.proofs.Common.{◌≡◌, ◌∷◌, ℕ, ◌+◌, suc, List, slice_index, take, drop, sym, ap, ◌∙◌, arith}
 use Rattle.std.proofs.lemmas.Bool.{eqb-true, eq-eqb}
 use Rattle.ll_wire.specs.Pieces.{pieces}
-use Rattle.ll_saved.proofs.Cuts.{Before, no_feed, first_feed}
+use Rattle.ll_saved.proofs.FirstLine.{Before, no_feed, first_feed}
 use Rattle.ll_saved.proofs.lines.cut.Goals as goal
 
 pub returns-in-Some-clause-first : goal.returns-in-Some-clause-first

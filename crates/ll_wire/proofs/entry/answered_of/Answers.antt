@@ -1,5 +1,5 @@
 use Rattle.std.proofs.Common.{map, take}
-use Rattle.ll_wire.proofs.Entries.{cut_reads}
+use Rattle.ll_wire.proofs.EntryTokens.{cut_reads}
 use Rattle.ll_wire.proofs.entry.answered_of.Goals as goal
 
 pub returns : goal.returns

@@ -2,7 +2,7 @@ use Rattle.std.proofs.Common.{◌≡◌, ◌≢◌, Some, Ok, Err, ap, ◌∙◌
 use Rattle.std.specs.Result.{MatchResult, result_err}
 use Rattle.std.proofs.lemmas.Bool.{false≢true}
 use Rattle.ll_rights.specs.declared.errno.Errno.TheVariants.{BadLine}
-use Rattle.ll_wire.proofs.Entries.{both_read, call_fails}
+use Rattle.ll_wire.proofs.EntryTokens.{both_read, call_fails}
 use Rattle.ll_wire.proofs.entry.both.Goals as goal
 
 pub returns-in-Ok : goal.returns-in-Ok

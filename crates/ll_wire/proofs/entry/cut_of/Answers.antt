@@ -1,5 +1,5 @@
 use Rattle.std.proofs.Common.{◌≤◌, map, take, length, codes, arith}
-use Rattle.ll_wire.proofs.Entries.{one_part, length_is, no_front, no_sign, cuts, front_length}
+use Rattle.ll_wire.proofs.EntryTokens.{one_part, length_is, no_front, no_sign, cuts, front_length}
 use Rattle.ll_wire.proofs.ReadReplies.{stripped}
 use Rattle.ll_wire.proofs.entry.cut_of.Goals as goal
 

@@ -1,5 +1,5 @@
 use Rattle.std.proofs.Common.{[], inr, refl, arith, rules, codes}
-use Rattle.ll_wire.proofs.Entries.{one_is}
+use Rattle.ll_wire.proofs.EntryTokens.{one_is}
 use Rattle.ll_wire.proofs.entry.entry_call_of.Goals as goal
 
 pub returns : goal.returns

@@ -1,6 +1,6 @@
 use Rattle.std.proofs.Common.{◌≡◌, Ok, Err, inl, refl, rules}
 use Rattle.std.specs.Result.{MatchResult}
-use Rattle.ll_wire.proofs.Entries.{short_body, no_client, entry_reads}
+use Rattle.ll_wire.proofs.EntryTokens.{short_body, no_client, entry_reads}
 use Rattle.ll_wire.proofs.entry.entry_of.Goals as goal
 
 pub returns-in_default : goal.returns-in_default

@@ -1,6 +1,6 @@
 use Rattle.std.proofs.Common.{◌<◌, inl, refl, arith}
 use Rattle.ll_rights.specs.Errno.{errno_number}
-use Rattle.ll_wire.proofs.Entries.{not_kept}
+use Rattle.ll_wire.proofs.EntryTokens.{not_kept}
 use Rattle.ll_wire.proofs.entry.entry_reply_of.Goals as goal
 
 pub returns-in-Ok-Refused : goal.returns-in-Ok-Refused

@@ -1,7 +1,7 @@
 use Rattle.std.proofs.Common.{◌≡◌, [], ◌∷◌, ◌∙◌, codes, string_bytes}
 use Rattle.std.proofs.lemmas.Result.{IfOk-weaker}
 use Rattle.ll_wire.specs.Grammar.{line_of}
-use Rattle.ll_wire.proofs.Entries.{entry_is}
+use Rattle.ll_wire.proofs.EntryTokens.{entry_is}
 use Rattle.ll_wire.proofs.entry.entry_text.Goals as goal
 
 pub returns : goal.returns

@@ -1,5 +1,5 @@
 use Rattle.std.proofs.Common.{inl, refl, arith}
-use Rattle.ll_wire.proofs.Entries.{no_entry, line_reads}
+use Rattle.ll_wire.proofs.EntryTokens.{no_entry, line_reads}
 use Rattle.ll_wire.proofs.entry.read_entry.Goals as goal
 
 pub returns-in_default : goal.returns-in_default

@@ -1,6 +1,6 @@
 use Rattle.std.proofs.Common.{arith}
 use Rattle.std.proofs.lemmas.Grind.{common_steps}
-use Rattle.ll_wire.proofs.Calls.{allow_fails}
+use Rattle.ll_wire.proofs.FirstTokens.{allow_fails}
 use Rattle.ll_wire.proofs.Targets.{text_is, own_text}
 use Rattle.ll_wire.proofs.read.allow.Goals as goal
 

@@ -2,7 +2,7 @@ use Rattle.std.proofs.Common.{◌≡◌, codes, Ok, Err, refl, rules, arith}
 use Rattle.std.specs.Result.{MatchResult}
 use Rattle.std.proofs.lemmas.Grind.{common_steps}
 use Rattle.ll_seq.specs.declared.call.Call.TheVariants.{ReadDir, Stat, Exec, Unlink, Rmdir, Rename, RenameNoreplace, Exchange, Link}
-use Rattle.ll_wire.proofs.Calls.{list_is, stat_is, exec_is, unlink_is, rmdir_is, call_reads, rename_is, rename_noreplace_is, exchange_is, link_is, pair_reads}
+use Rattle.ll_wire.proofs.FirstTokens.{list_is, stat_is, exec_is, unlink_is, rmdir_is, call_reads, rename_is, rename_noreplace_is, exchange_is, link_is, pair_reads}
 use Rattle.ll_wire.proofs.read.call_of.Goals as goal
 
 pub returns-in-list : goal.returns-in-list

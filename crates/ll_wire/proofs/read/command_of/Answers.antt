@@ -4,7 +4,7 @@ use Rattle.std.proofs.lemmas.Grind.{common_steps}
 use Rattle.ll_seq.specs.declared.call.Call.{Call}
 use Rattle.ll_wire.specs.Parts.{SpellsTokens}
 use Rattle.ll_wire.specs.Reads.{holds_text}
-use Rattle.ll_wire.proofs.Clients.{named_reads, unnamed_reads, client_is, first_is, within}
+use Rattle.ll_wire.proofs.NamedClients.{named_reads, unnamed_reads, client_is, first_is, within}
 use Rattle.ll_wire.proofs.read.command_of.Goals as goal
 
 pub returns-in-None : goal.returns-in-None

@@ -1,6 +1,6 @@
 use Rattle.std.proofs.Common.{arith}
 use Rattle.std.proofs.lemmas.Grind.{common_steps}
-use Rattle.ll_wire.proofs.Calls.{one_reads}
+use Rattle.ll_wire.proofs.FirstTokens.{one_reads}
 use Rattle.ll_wire.proofs.read.only_target.Goals as goal
 
 pub returns : goal.returns

@@ -1,6 +1,6 @@
 use Rattle.std.proofs.Common.{◌≡◌, Err, arith, rules}
 use Rattle.std.proofs.lemmas.Grind.{common_steps}
-use Rattle.ll_wire.proofs.Calls.{first_fails, second_fails, both_read}
+use Rattle.ll_wire.proofs.FirstTokens.{first_fails, second_fails, both_read}
 use Rattle.ll_wire.proofs.read.two_targets.Goals as goal
 
 pub returns-in_err-first : goal.returns-in_err-first

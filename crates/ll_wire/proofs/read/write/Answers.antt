@@ -1,6 +1,6 @@
 use Rattle.std.proofs.Common.{arith}
 use Rattle.std.proofs.lemmas.Grind.{common_steps}
-use Rattle.ll_wire.proofs.Calls.{write_fails}
+use Rattle.ll_wire.proofs.FirstTokens.{write_fails}
 use Rattle.ll_wire.proofs.read.write.Goals as goal
 
 pub returns-in-Err : goal.returns-in-Err

@@ -5,7 +5,7 @@ use Rattle.std.proofs.lemmas.List.{map-append}
 use Rattle.std.proofs.lemmas.Iterator.Splits.{YieldsList-from_str_split}
 use Rattle.std.proofs.lemmas.Iterator.Consumers.{YieldsList-so_far, YieldsList-turn, YieldsList-end}
 use Rattle.ll_path.specs.Name.{IsName}
-use Rattle.ll_wire.proofs.Names.{order, Rise, last_from, last_is, one_more, all_and, none_rise, are_listed, name_at}
+use Rattle.ll_wire.proofs.NamesInOrder.{order, Rise, last_from, last_is, one_more, all_and, none_rise, are_listed, name_at}
 use Rattle.ll_wire.proofs.replies.are_listed.Goals as goal
 use Rattle.ll_wire.proofs.replies.are_listed.Goals.{then-not-fits-via-then-not-fits, then-not-fits-via-else-not-fits+then-ne}
 

@@ -3,7 +3,7 @@ use Rattle.std.specs.List.{AllByRecursion}
 use denote.Shadow.{shadow}
 use denote.Text.{Utf8}
 use Rattle.ll_path.specs.Name.{IsName}
-use Rattle.ll_wire.proofs.Names.{last_from, Rise}
+use Rattle.ll_wire.proofs.NamesInOrder.{last_from, Rise}
 use Rattle.ll_wire.proofs.replies.are_listed.Given as goal
 
 abbrev pub invariant-loop-name : goal.invariant-loop-name

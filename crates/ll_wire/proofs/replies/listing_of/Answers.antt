@@ -4,7 +4,7 @@ use Rattle.std.specs.Prelude.{◌==◌}
 use Rattle.std.proofs.lemmas.Iterator.Splits.{YieldsList-from_str_split}
 use Rattle.std.proofs.lemmas.Iterator.Consumers.{YieldsList-so_far, YieldsList-turn, YieldsList-end}
 use Rattle.ll_seq.specs.Listed.{AreListed}
-use Rattle.ll_wire.proofs.Names.{name_at, listed_to}
+use Rattle.ll_wire.proofs.NamesInOrder.{name_at, listed_to}
 use Rattle.ll_wire.proofs.replies.listing_of.Goals as goal
 
 pub from_text-requires : goal.from_text-requires

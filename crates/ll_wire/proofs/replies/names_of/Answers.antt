@@ -4,7 +4,7 @@ use Rattle.std.specs.List.{slice_split}
 use Rattle.std.proofs.lemmas.Str.Pattern.{strip_prefix_char}
 use Rattle.ll_seq.specs.Listed.{AreListed}
 use Rattle.ll_wire.specs.Parts.{SpellsNames}
-use Rattle.ll_wire.proofs.Names.{behind, nothing_spelled, no_space, names_are, names_spelled}
+use Rattle.ll_wire.proofs.NamesInOrder.{behind, nothing_spelled, no_space, names_are, names_spelled}
 use Rattle.ll_wire.proofs.replies.names_of.Goals as goal
 
 pub returns-then-is_empty : goal.returns-then-is_empty

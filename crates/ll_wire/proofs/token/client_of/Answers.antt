@@ -1,7 +1,7 @@
 use Rattle.std.proofs.Common.{arith, inl, inr, lit<}
 use Rattle.std.proofs.lemmas.Str.Pattern.{strip_prefix_char}
-use Rattle.ll_wire.proofs.Clients.{not_named, number_named}
-use Rattle.ll_wire.proofs.Names.{behind}
+use Rattle.ll_wire.proofs.NamedClients.{not_named, number_named}
+use Rattle.ll_wire.proofs.NamesInOrder.{behind}
 use Rattle.ll_wire.proofs.token.client_of.Goals as goal
 
 pub returns-in_err-strip_prefix : goal.returns-in_err-strip_prefix

@@ -1,4 +1,4 @@
-use Rattle.ll_wire.proofs.Numbers.{no_plus, one_zero, not_empty, number_is}
+use Rattle.ll_wire.proofs.ParsedNumbers.{no_plus, one_zero, not_empty, number_is}
 use Rattle.ll_wire.proofs.token.number_of.Goals as goal
 
 pub returns-then-not-is_plain : goal.returns-then-not-is_plain

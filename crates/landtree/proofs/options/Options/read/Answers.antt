@@ -2,7 +2,7 @@ use Rattle.std.proofs.Common.{◌≡◌, ◌∙◌, sym, ap, rules, map, option_
 use Rattle.clap.specs.Words.{Text, fault_of}
 use Rattle.landtree.specs.Options.{Asked, asked_by, asked_in, landtree}
 use Rattle.landtree.specs.declared.options.Options.{Options}
-use Rattle.landtree.proofs.Asked.{never_none}
+use Rattle.landtree.proofs.Wanted.{never_none}
 use Rattle.landtree.proofs.Matched.{command_free, no_fault}
 use Rattle.landtree.proofs.options.Options.read.Goals as goal
 

@@ -2,7 +2,7 @@ use Rattle.std.proofs.Common.{ap, sym, subst, ◌∙◌}
 use Rattle.std.specs.Prelude.{[], ◌∷◌, ◌++◌, bit_or}
 use Rattle.ll_decide.specs.declared.demands.On.{On}
 use Rattle.ll_decide.specs.Demands.{AreAsks, ask_on}
-use Rattle.ll_decide.proofs.Asking.{ask_itself, ask_other, ask_parent, ask_left, ask_entered}
+use Rattle.ll_decide.proofs.OneByOne.{ask_itself, ask_other, ask_parent, ask_left, ask_entered}
 use Rattle.ll_decide.proofs.demands.Demands.ask.Goals as goal
 
 pub returns-in-Itself-clause-asks : goal.returns-in-Itself-clause-asks

@@ -1,6 +1,6 @@
 use Rattle.std.specs.Prelude.{[], ◌∷◌}
 use Rattle.ll_decide.specs.Demands.{ask_on}
-use Rattle.ll_decide.proofs.Asking.{not_when, when_so}
+use Rattle.ll_decide.proofs.OneByOne.{not_when, when_so}
 use Rattle.ll_decide.proofs.demands.Demands.ask_if.Goals as goal
 
 pub returns-then-test-clause-asks : goal.returns-then-test-clause-asks

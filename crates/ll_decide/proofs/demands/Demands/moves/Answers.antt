@@ -2,7 +2,7 @@ use Rattle.std.proofs.Common.{sym, subst}
 use Rattle.std.specs.Prelude.{[], ◌∷◌, ◌++◌}
 use Rattle.ll_decide.specs.declared.demands.Way.{Way}
 use Rattle.ll_decide.specs.Demands.{AreMoves, move_on}
-use Rattle.ll_decide.proofs.Asking.{move_there, move_back}
+use Rattle.ll_decide.proofs.OneByOne.{move_there, move_back}
 use Rattle.ll_decide.proofs.demands.Demands.moves.Goals as goal
 
 pub returns-in-There-clause-moves : goal.returns-in-There-clause-moves

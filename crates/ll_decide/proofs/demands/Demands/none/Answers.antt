@@ -1,5 +1,5 @@
 use Rattle.std.proofs.Common.{refl}
-use Rattle.ll_decide.proofs.Asking.{none_asked, none_moved}
+use Rattle.ll_decide.proofs.OneByOne.{none_asked, none_moved}
 use Rattle.ll_decide.proofs.demands.Demands.none.Goals as goal
 
 pub returns-clause-asks : goal.returns-clause-asks

@@ -1,7 +1,7 @@
 use Rattle.std.proofs.Common.{sym, ap, ◌∙◌}
 use Rattle.ll_rights.specs.Map.{get}
 use Rattle.ll_node.specs.Slot.{NameMap}
-use Rattle.ll_node.proofs.Table.{get-names_in}
+use Rattle.ll_node.proofs.NameTable.{get-names_in}
 use Rattle.ll_node.proofs.directory.Directory.get.Goals as goal
 
 pub returns : goal.returns

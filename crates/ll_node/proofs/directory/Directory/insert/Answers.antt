@@ -2,7 +2,7 @@ use Rattle.std.specs.Prelude.{string_bytes}
 use Rattle.std.proofs.Common.{sym, subst, ◌∙◌}
 use Rattle.ll_rights.specs.Map.{insert}
 use Rattle.ll_path.specs.Name.{IsName}
-use Rattle.ll_node.proofs.Table.{names_in-insert, AreRows-insert}
+use Rattle.ll_node.proofs.NameTable.{names_in-insert, AreRows-insert}
 use Rattle.ll_node.proofs.directory.Directory.insert.Goals as goal
 
 pub invariant_of-self-2 : goal.invariant_of-self-2

@@ -1,7 +1,7 @@
 use Rattle.std.proofs.Common.{sym, ap, ◌∙◌}
 use Rattle.ll_rights.specs.Map.{len}
 use Rattle.ll_node.specs.Slot.{NameMap}
-use Rattle.ll_node.proofs.Table.{length-names_in}
+use Rattle.ll_node.proofs.NameTable.{length-names_in}
 use Rattle.ll_node.proofs.directory.Directory.len.Goals as goal
 
 pub returns : goal.returns

@@ -4,8 +4,8 @@ use Rattle.std.specs.BTreeMap.{keys}
 use Rattle.ll_rights.specs.Map.{entries}
 use Rattle.ll_seq.specs.Listed.{AreListed}
 use Rattle.ll_node.specs.Slot.{NameMap}
-use Rattle.ll_node.proofs.Table.{names-names_in}
-use Rattle.ll_node.proofs.Listed.{keys_listed, listed_first}
+use Rattle.ll_node.proofs.NameTable.{names-names_in}
+use Rattle.ll_node.proofs.RisingNames.{keys_listed, listed_first}
 use Rattle.ll_node.proofs.directory.Directory.names.Goals as goal
 
 abbrev texts_told : List (String Global) → List (List ℕ)

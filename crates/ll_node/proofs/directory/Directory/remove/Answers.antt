@@ -1,7 +1,7 @@
 use Rattle.std.proofs.Common.{sym, ap, ◌∙◌}
 use Rattle.ll_rights.specs.Map.{get, remove}
 use Rattle.ll_node.specs.Slot.{NameMap}
-use Rattle.ll_node.proofs.Table.{get-names_in, names_in-remove, AreRows-remove}
+use Rattle.ll_node.proofs.NameTable.{get-names_in, names_in-remove, AreRows-remove}
 use Rattle.ll_node.proofs.directory.Directory.remove.Goals as goal
 
 pub invariant_of-self : goal.invariant_of-self

@@ -4,7 +4,7 @@ use Rattle.std.proofs.Common.{sym, ap, ◌∙◌, rules}
 use Rattle.ll_rights.specs.Map.{get, insert}
 use Rattle.ll_node.specs.Slot.{NameMap, replaced}
 use Rattle.ll_node.specs.Rows.{names_in}
-use Rattle.ll_node.proofs.Table.{get-names_in, names_in-insert, AreRows-same_keys}
+use Rattle.ll_node.proofs.NameTable.{get-names_in, names_in-insert, AreRows-same_keys}
 use Rattle.ll_node.proofs.directory.Directory.replace.Goals as goal
 
 replaced_there : (names : NameMap) (name : List ℕ) (inode old : ℕ) → Some old ≡ get names name → insert names name inode ≡ replaced names name inode

@@ -1,7 +1,7 @@
 use Rattle.std.proofs.Common.{sym, ap, ◌∙◌}
 use Rattle.ll_node.specs.Slot.{Slot}
 use Rattle.ll_node.specs.Held.{names_of}
-use Rattle.ll_node.proofs.Names.{none_under}
+use Rattle.ll_node.proofs.SlotNames.{none_under}
 use Rattle.ll_node.proofs.slot.Slot.look_up.Goals as goal
 
 pub returns-in-Bytes : goal.returns-in-Bytes

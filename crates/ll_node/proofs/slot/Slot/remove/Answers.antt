@@ -1,7 +1,7 @@
 use Rattle.std.proofs.Common.{sym, ap, ◌∙◌}
 use Rattle.ll_node.specs.Slot.{Slot}
 use Rattle.ll_node.specs.Held.{names_of}
-use Rattle.ll_node.proofs.Names.{none_under, missing_is}
+use Rattle.ll_node.proofs.SlotNames.{none_under, missing_is}
 use Rattle.ll_node.proofs.slot.Slot.remove.Goals as goal
 
 pub returns-in-Bytes-clause-refused : goal.returns-in-Bytes-clause-refused

@@ -5,7 +5,7 @@ use Rattle.ll_rights.specs.Errno.{refuse}
 use Rattle.ll_rights.specs.Map.{get, has, insert, remove}
 use Rattle.ll_node.specs.Slot.{NameMap, Slot, renamed}
 use Rattle.ll_node.specs.Held.{names_of, bytes_of}
-use Rattle.ll_node.proofs.Names.{none_under, missing_is, renamed_is}
+use Rattle.ll_node.proofs.SlotNames.{none_under, missing_is, renamed_is}
 use Rattle.ll_node.proofs.slot.Slot.rename.Goals as goal
 
 pub returns-in-Bytes-clause-refused : goal.returns-in-Bytes-clause-refused

@@ -1,7 +1,7 @@
 use Rattle.std.proofs.Common.{◌≡◌, drop, map}
 use Rattle.std.specs.Map.{lookup}
 use Rattle.std.specs.Str.{bytes_eq}
-use Rattle.ll_policy.specs.Kept.{named_calls}
+use Rattle.ll_policy.specs.KeptCalls.{named_calls}
 use Rattle.ll_policy.proofs.policy.Policy.profile.Given as goal
 
 abbrev pub invariant-loop-profile : goal.invariant-loop-profile

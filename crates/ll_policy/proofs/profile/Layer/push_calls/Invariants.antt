@@ -1,6 +1,6 @@
 use Rattle.std.proofs.Common.{◌≡◌, ◌++◌, ◌∷◌, take, map}
 use Rattle.ll_seq.specs.declared.call.Call.TheVariants.{Ruleset}
-use Rattle.ll_policy.specs.Kept.{call_of_rule}
+use Rattle.ll_policy.specs.KeptCalls.{call_of_rule}
 use Rattle.ll_policy.proofs.profile.Layer.push_calls.Given as goal
 
 abbrev pub invariant-loop-rule : goal.invariant-loop-rule

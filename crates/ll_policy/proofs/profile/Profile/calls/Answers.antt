@@ -1,7 +1,7 @@
 use Rattle.std.proofs.Common.{◌≡◌, ◌+◌, ◌++◌, ◌∷◌, [], length, take, sym, ap, ◌∙◌, arith}
 use Rattle.std.proofs.lemmas.List.{take_more, length-take-le}
-use Rattle.ll_policy.specs.Kept.{calls_of_layer, calls_of_layers}
-use Rattle.ll_policy.proofs.Listed.{calls_of_layers-append, one_layer}
+use Rattle.ll_policy.specs.KeptCalls.{calls_of_layer, calls_of_layers}
+use Rattle.ll_policy.proofs.TablesRead.{calls_of_layers-append, one_layer}
 use Rattle.ll_policy.proofs.profile.Profile.calls.Goals as goal
 
 pub loop-layer-preserved : goal.loop-layer-preserved

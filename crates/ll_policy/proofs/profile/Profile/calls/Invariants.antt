@@ -1,5 +1,5 @@
 use Rattle.std.proofs.Common.{◌≡◌, take}
-use Rattle.ll_policy.specs.Kept.{calls_of_layers}
+use Rattle.ll_policy.specs.KeptCalls.{calls_of_layers}
 use Rattle.ll_policy.proofs.profile.Profile.calls.Given as goal
 
 abbrev pub invariant-loop-layer : goal.invariant-loop-layer

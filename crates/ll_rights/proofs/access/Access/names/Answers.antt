@@ -3,7 +3,7 @@ use Rattle.std.specs.Prelude.{string_bytes}
 use Rattle.std.specs.List.{join_with_byte}
 use Rattle.std.proofs.lemmas.Bool.{eqb-true, eqb-false}
 use Rattle.ll_rights.specs.Right.{all_rights, right_text}
-use Rattle.ll_rights.proofs.Names.{text_so_far, names_end, written_none, written_first, written_next}
+use Rattle.ll_rights.proofs.RightNames.{text_so_far, names_end, written_none, written_first, written_next}
 use Rattle.ll_rights.proofs.access.Access.names.Goals as goal
 use Rattle.ll_rights.proofs.access.Access.names.Goals.{then-holds+in_ok-push_str, then-not-is_empty+in_ok-push, else-not-is_empty, else-holds}
 

@@ -8,7 +8,7 @@ use Rattle.std.proofs.lemmas.Bool.{cases_lt, false≢true}
 use Rattle.std.proofs.lemmas.Slice.Eq.{bytes_eq-Decides}
 use Rattle.ll_rights.specs.Access.{names_in, access_text}
 use Rattle.ll_rights.specs.declared.access.Access.{Access}
-use Rattle.ll_rights.proofs.Names.{text_none, text_number, text_from_names, parts_of_text, letter_of_text}
+use Rattle.ll_rights.proofs.RightNames.{text_none, text_number, text_from_names, parts_of_text, letter_of_text}
 use Rattle.ll_rights.proofs.access.Access.parse.Goals as goal
 
 pub returns-then-eq-clause-found : goal.returns-then-eq-clause-found

@@ -1,7 +1,7 @@
 use Rattle.std.proofs.Common.{length-append, lit<, arith}
 use Rattle.std.proofs.lemmas.Iterator.Consumers.{YieldsList-at, YieldsList-turn, YieldsList-end}
 use Rattle.std.proofs.lemmas.Iterator.Splits.{YieldsList-from_str_split}
-use Rattle.ll_rights.proofs.Names.{read_none, read_more, read_no_name, read_too_low, read_all}
+use Rattle.ll_rights.proofs.RightNames.{read_none, read_more, read_no_name, read_too_low, read_all}
 use Rattle.ll_rights.proofs.access.Access.parse_names.Goals as goal
 
 pub loop-name-init : goal.loop-name-init

@@ -1,7 +1,7 @@
 use Rattle.std.proofs.Common.{length}
 use Rattle.std.specs.Prelude.{◌==◌}
 use Rattle.std.specs.List.{slice_split}
-use Rattle.ll_rights.proofs.Names.{ReadSoFar}
+use Rattle.ll_rights.proofs.RightNames.{ReadSoFar}
 use Rattle.ll_rights.proofs.access.Access.parse_names.Given as goal
 
 abbrev pub invariant-loop-name : goal.invariant-loop-name

@@ -4,7 +4,7 @@ use Rattle.std.proofs.lemmas.Bool.{eqb-true, eqb-false}
 use Rattle.std.proofs.lemmas.Nat.{and_comm, and_mask}
 use Rattle.ll_rights.specs.Access.{is_within, all_set}
 use Rattle.ll_rights.proofs.Hex.{written}
-use Rattle.ll_rights.proofs.Names.{text_none, text_names, text_number}
+use Rattle.ll_rights.proofs.RightNames.{text_none, text_names, text_number}
 use Rattle.ll_rights.proofs.access.Access.text.Goals as goal
 
 pub returns-then-self-eq0 : goal.returns-then-self-eq0

@@ -4,8 +4,8 @@ use Rattle.std.proofs.Common.{sym, ap, ◌∙◌}
 use Rattle.ll_rights.specs.Map.{Map, get, insert}
 use Rattle.ll_rules.specs.Layer.{Layer}
 use Rattle.ll_rules.specs.Rules.{with_rule}
-use Rattle.ll_rules.specs.Tables.{rules_of}
-use Rattle.ll_rules.proofs.Tables.{IsTable-insert, rules_of-insert}
+use Rattle.ll_rules.specs.RuleTable.{rules_of}
+use Rattle.ll_rules.proofs.RuleTables.{IsTable-insert, rules_of-insert}
 use Rattle.ll_rules.proofs.layer.Layer.add_rule.Goals as goal
 
 pub invariant_of-self-2 : goal.invariant_of-self-2

@@ -3,7 +3,7 @@ use Rattle.std.specs.Option.{option_map}
 use Rattle.std.proofs.Common.{sym, ap, ◌∙◌}
 use Rattle.ll_rights.specs.Map.{has}
 use Rattle.ll_rules.specs.Layer.{Layer}
-use Rattle.ll_rules.proofs.Tables.{get-rules_of}
+use Rattle.ll_rules.proofs.RuleTables.{get-rules_of}
 use Rattle.ll_rules.proofs.layer.Layer.has_inode.Goals as goal
 
 is_some-map : {A B : Type 0} (f : A → B) (o : Option A) → is_some o ≡ is_some (option_map f o)

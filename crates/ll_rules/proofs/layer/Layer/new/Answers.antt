@@ -4,7 +4,7 @@ use Rattle.std.proofs.Common.{ap, ◌∙◌}
 use Rattle.ll_rights.specs.Map.{Map, from_sorted}
 use Rattle.ll_rights.proofs.Maps.{from_sorted-empty}
 use Rattle.ll_rules.specs.Layer.{Layer}
-use Rattle.ll_rules.specs.Tables.{rows_of}
+use Rattle.ll_rules.specs.RuleTable.{rows_of}
 use Rattle.ll_rules.proofs.layer.Layer.new.Goals as goal
 
 pub returns : goal.returns

@@ -6,7 +6,7 @@ use Rattle.std.proofs.Common.{sym, ap, ◌∙◌}
 use Rattle.ll_rights.specs.declared.access.Access.{Access}
 use Rattle.ll_rights.specs.Map.{get}
 use Rattle.ll_rules.specs.Layer.{Layer}
-use Rattle.ll_rules.proofs.Tables.{get-rules_of}
+use Rattle.ll_rules.proofs.RuleTables.{get-rules_of}
 use Rattle.ll_rules.proofs.layer.Layer.rule.Goals as goal
 
 set-unwrap_or : (found : Option Access) → (unwrap_or found (record { 0 = 0 })).0 ≡ unwrap_or (option_map (λ (rights : Access). rights.0) found) 0

@@ -1,7 +1,7 @@
 use Rattle.std.proofs.Common.{sym, ap, ◌∙◌}
 use Rattle.ll_rights.specs.Map.{len}
 use Rattle.ll_rules.specs.Layer.{Layer}
-use Rattle.ll_rules.proofs.Tables.{length-rules_of}
+use Rattle.ll_rules.proofs.RuleTables.{length-rules_of}
 use Rattle.ll_rules.proofs.layer.Layer.rule_count.Goals as goal
 
 pub returns : goal.returns

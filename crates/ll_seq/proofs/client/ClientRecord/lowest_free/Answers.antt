@@ -1,6 +1,6 @@
 use Rattle.std.proofs.Common.{sym, ◌∙◌}
 use Rattle.ll_seq.specs.Stages.{lowest_free}
-use Rattle.ll_seq.proofs.Numbers.{free_here, free_later, free_nowhere}
+use Rattle.ll_seq.proofs.LowestFree.{free_here, free_later, free_nowhere}
 use Rattle.ll_seq.proofs.client.ClientRecord.lowest_free.Goals as goal
 
 pub returns-then-not-has : goal.returns-then-not-has

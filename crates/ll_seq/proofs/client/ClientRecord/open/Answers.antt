@@ -1,5 +1,5 @@
 use Rattle.std.proofs.Common.{sym, ◌∙◌}
-use Rattle.ll_seq.proofs.Numbers.{found_free}
+use Rattle.ll_seq.proofs.LowestFree.{found_free}
 use Rattle.ll_seq.proofs.client.ClientRecord.open.Goals as goal
 
 pub insert-requires : goal.insert-requires

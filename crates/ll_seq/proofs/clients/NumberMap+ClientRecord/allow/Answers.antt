@@ -6,7 +6,7 @@ use Rattle.ll_rules.specs.Layer.{Layer}
 use Rattle.ll_rules.specs.Rules.{rule_refusals, rule_limit, with_rule}
 use Rattle.ll_seq.specs.declared.client.ClientRecord.{ClientRecord}
 use Rattle.ll_seq.proofs.Results.{on_ok, if_err, same_some}
-use Rattle.ll_seq.proofs.Tables.{changed, not_missing}
+use Rattle.ll_seq.proofs.OrderedTables.{changed, not_missing}
 use Rattle.ll_seq.proofs.clients.NumberMap+ClientRecord.allow.Goals as goal
 
 pub unreachable-requires : goal.unreachable-requires

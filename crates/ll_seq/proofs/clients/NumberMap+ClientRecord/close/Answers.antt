@@ -3,7 +3,7 @@ use Rattle.std.proofs.Common.{ap, ◌∙◌}
 use Rattle.ll_rights.specs.Map.{insert, remove}
 use Rattle.ll_seq.specs.declared.client.ClientRecord.{ClientRecord}
 use Rattle.ll_seq.proofs.Results.{same_some}
-use Rattle.ll_seq.proofs.Tables.{changed, not_missing}
+use Rattle.ll_seq.proofs.OrderedTables.{changed, not_missing}
 use Rattle.ll_seq.proofs.clients.NumberMap+ClientRecord.close.Goals as goal
 
 pub unreachable-requires : goal.unreachable-requires

@@ -7,7 +7,7 @@ use Rattle.ll_seq.specs.Stages.{ruleset_at}
 use Rattle.ll_seq.specs.declared.client.ClientRecord.{ClientRecord}
 use Rattle.ll_seq.specs.Fails.{Fails}
 use Rattle.ll_seq.proofs.Results.{on_ok, if_err, same_some}
-use Rattle.ll_seq.proofs.Tables.{changed, not_missing}
+use Rattle.ll_seq.proofs.OrderedTables.{changed, not_missing}
 use Rattle.ll_seq.proofs.clients.NumberMap+ClientRecord.confine.Goals as goal
 
 pub unreachable-requires : goal.unreachable-requires

@@ -8,7 +8,7 @@ use Rattle.ll_seq.specs.Stages.{lowest_free}
 use Rattle.ll_seq.specs.declared.client.ClientRecord.{ClientRecord}
 use Rattle.ll_seq.specs.Fails.{Fails}
 use Rattle.ll_seq.proofs.Results.{if_ok, if_err, same_some}
-use Rattle.ll_seq.proofs.Tables.{changed, not_missing}
+use Rattle.ll_seq.proofs.OrderedTables.{changed, not_missing}
 use Rattle.ll_seq.proofs.clients.NumberMap+ClientRecord.open.Goals as goal
 
 pub unreachable-requires : goal.unreachable-requires

@@ -1,6 +1,6 @@
 use Rattle.std.proofs.Common.{sym, ◌∙◌}
 use Rattle.ll_seq.specs.State.{dentry}
-use Rattle.ll_seq.proofs.Tables.{got, got_row}
+use Rattle.ll_seq.proofs.OrderedTables.{got, got_row}
 use Rattle.ll_seq.proofs.dentries.Dentries.get.Goals as goal
 
 pub returns-in_err-i : goal.returns-in_err-i

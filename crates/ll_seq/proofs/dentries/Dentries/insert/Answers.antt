@@ -3,7 +3,7 @@ use Rattle.std.specs.FinMap.Entries.{find}
 use Rattle.ll_rights.proofs.Places.{place, added}
 use Rattle.ll_seq.specs.State.{dentry, dentry_cmp}
 use Rattle.ll_seq.proofs.DentryOrder.{dentry_total}
-use Rattle.ll_seq.proofs.Tables.{got}
+use Rattle.ll_seq.proofs.OrderedTables.{got}
 use Rattle.ll_seq.proofs.dentries.Dentries.insert.Goals as goal
 
 pub invariant_of-self-2 : goal.invariant_of-self-2

@@ -1,6 +1,6 @@
 use Rattle.ll_seq.specs.State.{dentry}
 use Rattle.ll_seq.proofs.DentryOrder.{dentry_total, dentry_exact}
-use Rattle.ll_seq.proofs.Tables.{without, as_before}
+use Rattle.ll_seq.proofs.OrderedTables.{without, as_before}
 use Rattle.ll_seq.proofs.dentries.Dentries.remove.Goals as goal
 
 pub invariant_of-self : goal.invariant_of-self

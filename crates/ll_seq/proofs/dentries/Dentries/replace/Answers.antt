@@ -1,7 +1,7 @@
 use Rattle.std.proofs.Common.{◌∙◌}
 use Rattle.ll_seq.specs.State.{dentry}
 use Rattle.ll_seq.proofs.DentryOrder.{dentry_total}
-use Rattle.ll_seq.proofs.Tables.{changed, got, instead_there, instead_absent}
+use Rattle.ll_seq.proofs.OrderedTables.{changed, got, instead_there, instead_absent}
 use Rattle.ll_seq.proofs.dentries.Dentries.replace.Goals as goal
 
 pub invariant_of-self : goal.invariant_of-self

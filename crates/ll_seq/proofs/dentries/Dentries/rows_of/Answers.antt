@@ -2,7 +2,7 @@ use Rattle.std.proofs.Common.{◌≡◌, ◌==◌, ◌≤◌, ℕ, Bool, true, f
 use Rattle.std.specs.List.Sorted.{IsPartitionPoint, IsNonDecreasingBy}
 use Rattle.std.proofs.lemmas.List.Sorted.{IsPartitionPoint-from_clause, IsPartitionedBy-ltb, IsPartitionedBy-leb}
 use Rattle.ll_seq.specs.declared.dentries.Dentry.{Dentry}
-use Rattle.ll_seq.proofs.Tables.{of_rows}
+use Rattle.ll_seq.proofs.OrderedTables.{of_rows}
 use Rattle.ll_seq.proofs.Together.{directories_rise, in_order, between}
 use Rattle.ll_seq.proofs.dentries.Dentries.rows_of.Goals as goal
 

@@ -2,7 +2,7 @@ use Rattle.std.proofs.Common.{ℕ}
 use Rattle.std.specs.List.{list_all}
 use Rattle.ll_seq.specs.declared.client.Descriptor.{Descriptor}
 use Rattle.ll_seq.specs.Facts.{has_room}
-use Rattle.ll_seq.proofs.Tables.{of_rows}
+use Rattle.ll_seq.proofs.OrderedTables.{of_rows}
 use Rattle.ll_seq.proofs.facts.NumberMap+Fact.have_room.Goals as goal
 
 pub loop-row-init : goal.loop-row-init

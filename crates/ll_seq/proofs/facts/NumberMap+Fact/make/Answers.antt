@@ -3,7 +3,7 @@ use Rattle.ll_rights.specs.Map.{has, insert}
 use Rattle.ll_seq.specs.Stages.{has_many_names}
 use Rattle.ll_seq.specs.Effects.{with_name}
 use Rattle.ll_seq.specs.Facts.{AreKept}
-use Rattle.ll_seq.proofs.Kept.{with_bare_node, kept_make}
+use Rattle.ll_seq.proofs.FactsKept.{with_bare_node, kept_make}
 use Rattle.ll_seq.proofs.facts.NumberMap+Fact.make.Goals as goal
 
 pub returns-clause-ok : goal.returns-clause-ok

@@ -1,7 +1,7 @@
 use Rattle.std.proofs.Common.{ap, sym, subst, ◌∙◌}
 use Rattle.ll_rights.specs.Map.{has}
 use Rattle.ll_seq.specs.Stages.{is_crowded}
-use Rattle.ll_seq.proofs.Kept.{Steps, both_steps, more_names, more_links, kept_name}
+use Rattle.ll_seq.proofs.FactsKept.{Steps, both_steps, more_names, more_links, kept_name}
 use Rattle.ll_seq.proofs.facts.NumberMap+Fact.name.Goals as goal
 
 pub returns : goal.returns

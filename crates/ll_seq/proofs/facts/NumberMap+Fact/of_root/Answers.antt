@@ -6,7 +6,7 @@ use Rattle.ll_rights.proofs.Maps.{get-empty}
 use Rattle.ll_seq.specs.declared.facts.Fact.{Fact}
 use Rattle.ll_seq.specs.State.{start}
 use Rattle.ll_seq.specs.Facts.{AreKept}
-use Rattle.ll_seq.proofs.Kept.{kept_start}
+use Rattle.ll_seq.proofs.FactsKept.{kept_start}
 use Rattle.ll_seq.proofs.facts.NumberMap+Fact.of_root.Goals as goal
 
 pub add-requires : goal.add-requires

@@ -1,8 +1,8 @@
 use Rattle.std.proofs.Common.{ap, ◌∙◌}
 use Rattle.std.specs.Cmp.{nat_cmp_total}
 use Rattle.ll_rights.specs.Map.{get}
-use Rattle.ll_seq.proofs.Tables.{changed, got}
-use Rattle.ll_seq.proofs.Kept.{put_steps, no_steps}
+use Rattle.ll_seq.proofs.OrderedTables.{changed, got}
+use Rattle.ll_seq.proofs.FactsKept.{put_steps, no_steps}
 use Rattle.ll_seq.proofs.facts.NumberMap+Fact.put.Goals as goal
 
 pub invariant_of-self : goal.invariant_of-self

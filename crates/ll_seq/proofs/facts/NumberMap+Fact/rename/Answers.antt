@@ -7,7 +7,7 @@ use Rattle.ll_seq.specs.Stages.{is_crowded}
 use Rattle.ll_seq.specs.Effects.{with_moved, renamed, lives, let_go}
 use Rattle.ll_seq.specs.Facts.{AreKept}
 use Rattle.ll_seq.proofs.Results.{same_some}
-use Rattle.ll_seq.proofs.Kept.{Steps, both_steps, less_names, less_links, moved_names, name_over, names_moved, kept_let_go, goes, unlike}
+use Rattle.ll_seq.proofs.FactsKept.{Steps, both_steps, less_names, less_links, moved_names, name_over, names_moved, kept_let_go, goes, unlike}
 use Rattle.ll_seq.proofs.facts.NumberMap+Fact.rename.Goals as goal
 
 module _ (c : goal.After-let_go) (s : State) (old new : Dentry) (kept : AreKept s c.args.self.now) (from : old.directory ≡ c.args.from) (there : get s.entries old ≡ Some c.args.inode) (taken : get s.entries new ≡ c.args.replaced) where

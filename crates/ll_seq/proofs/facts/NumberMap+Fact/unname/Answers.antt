@@ -1,5 +1,5 @@
 use Rattle.std.proofs.Common.{sym, subst}
-use Rattle.ll_seq.proofs.Kept.{Steps, both_steps, less_names, less_links, name_gone, kept_taken, kept_let_go, goes}
+use Rattle.ll_seq.proofs.FactsKept.{Steps, both_steps, less_names, less_links, name_gone, kept_taken, kept_let_go, goes}
 use Rattle.ll_seq.proofs.facts.NumberMap+Fact.unname.Goals as goal
 
 pub returns-clause-kept : goal.returns-clause-kept

@@ -1,6 +1,6 @@
 use Rattle.std.specs.Cmp.{nat_cmp_total}
 use Rattle.std.proofs.Common.{[], ◌∙◌}
-use Rattle.ll_seq.proofs.Tables.{changed, got, bytes_changed, no_bytes}
+use Rattle.ll_seq.proofs.OrderedTables.{changed, got, bytes_changed, no_bytes}
 use Rattle.ll_seq.proofs.nodes.NumberMap+Node.clear.Goals as goal
 
 pub invariant_of-self : goal.invariant_of-self

@@ -2,7 +2,7 @@ use Rattle.std.specs.Cmp.{nat_cmp_total}
 use Rattle.std.proofs.Common.{◌∙◌}
 use Rattle.ll_seq.specs.Effects.{overwritten}
 use Rattle.ll_seq.proofs.Results.{on_ok}
-use Rattle.ll_seq.proofs.Tables.{changed, got, bytes_changed, no_bytes}
+use Rattle.ll_seq.proofs.OrderedTables.{changed, got, bytes_changed, no_bytes}
 use Rattle.ll_seq.proofs.nodes.NumberMap+Node.write.Goals as goal
 
 pub returns-in_default-clause-ok : goal.returns-in_default-clause-ok

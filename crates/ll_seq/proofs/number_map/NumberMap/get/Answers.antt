@@ -1,6 +1,6 @@
 use Rattle.std.proofs.Common.{sym, ap, ◌∙◌}
 use Rattle.std.specs.Option.{option_copied}
-use Rattle.ll_seq.proofs.Tables.{got, got_row}
+use Rattle.ll_seq.proofs.OrderedTables.{got, got_row}
 use Rattle.ll_seq.proofs.number_map.NumberMap.get.Goals as goal
 
 pub returns-in_err-i : goal.returns-in_err-i

@@ -2,7 +2,7 @@ use Rattle.std.proofs.Common.{ap, sym, ◌∙◌}
 use Rattle.std.specs.Ordering.{nat_cmp}
 use Rattle.std.specs.Cmp.{nat_cmp_total}
 use Rattle.ll_rights.proofs.Places.{place, added}
-use Rattle.ll_seq.proofs.Tables.{got}
+use Rattle.ll_seq.proofs.OrderedTables.{got}
 use Rattle.ll_seq.proofs.number_map.NumberMap.insert.Goals as goal
 
 pub invariant_of-self-2 : goal.invariant_of-self-2

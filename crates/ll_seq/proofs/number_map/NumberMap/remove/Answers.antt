@@ -1,6 +1,6 @@
 use Rattle.std.specs.Cmp.{nat_cmp_total}
 use Rattle.std.specs.FinMap.{nat_cmp-IsAntisymmetric}
-use Rattle.ll_seq.proofs.Tables.{without, as_before}
+use Rattle.ll_seq.proofs.OrderedTables.{without, as_before}
 use Rattle.ll_seq.proofs.number_map.NumberMap.remove.Goals as goal
 
 pub invariant_of-self : goal.invariant_of-self

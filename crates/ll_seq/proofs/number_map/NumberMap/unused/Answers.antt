@@ -1,6 +1,6 @@
 use Rattle.std.proofs.Common.{ap, ◌∙◌}
 use Rattle.std.specs.Prelude.{is_some}
-use Rattle.ll_seq.proofs.Tables.{got}
+use Rattle.ll_seq.proofs.OrderedTables.{got}
 use Rattle.ll_seq.proofs.number_map.NumberMap.unused.Goals as goal
 
 pub returns : goal.returns

@@ -1,7 +1,7 @@
 use Rattle.std.proofs.Common.{◌≡◌, sym, subst, ℕ}
 use Rattle.ll_seq.specs.declared.reply.Reply.{Reply}
 use Rattle.ll_session.specs.Opening.{Connects, Makes, Stops, joined}
-use Rattle.ll_session.proofs.Opening.{next_number}
+use Rattle.ll_session.proofs.Connecting.{next_number}
 use Rattle.ll_session.proofs.tree.SessionTree.bring.Goals as goal
 
 pub returns-in_default-clause-err : goal.returns-in_default-clause-err

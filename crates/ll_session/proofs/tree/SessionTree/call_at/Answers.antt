@@ -1,7 +1,7 @@
 use Rattle.std.proofs.Common.{◌∙◌, ap, sym, ◌+◌}
 use Rattle.ll_seq.specs.declared.reply.Reply.TheVariants.{Spawned}
 use Rattle.ll_session.specs.Transcript.{as_written}
-use Rattle.ll_session.proofs.Places.{as_it_is, next_place}
+use Rattle.ll_session.proofs.SessionPlaces.{as_it_is, next_place}
 use Rattle.ll_session.proofs.Replies.{called_at}
 use Rattle.ll_session.proofs.tree.SessionTree.call_at.Goals as goal
 

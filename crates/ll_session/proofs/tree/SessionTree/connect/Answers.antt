@@ -2,7 +2,7 @@ use Rattle.std.proofs.Common.{◌≡◌, ◌∙◌, ◌+◌, ap, sym, refl, arit
 use Rattle.std.proofs.lemmas.Bool.{cases_lt}
 use Rattle.ll_rights.specs.Map.{has}
 use Rattle.ll_seq.specs.declared.reply.Reply.TheVariants.{Done, Spawned}
-use Rattle.ll_session.proofs.Opening.{connected_by, comes_to}
+use Rattle.ll_session.proofs.Connecting.{connected_by, comes_to}
 use Rattle.ll_session.proofs.tree.SessionTree.connect.Goals as goal
 
 pub invariant_of-self : goal.invariant_of-self

@@ -1,7 +1,7 @@
 use Rattle.std.proofs.Common.{◌≡◌, ◌∙◌, ap, arith}
 use Rattle.ll_rights.specs.Map.{has}
 use Rattle.ll_seq.specs.State.{State}
-use Rattle.ll_session.proofs.Opening.{nobody}
+use Rattle.ll_session.proofs.Connecting.{nobody}
 use Rattle.ll_session.proofs.tree.SessionTree.new.Goals as goal
 
 pub invariant_of-result : goal.invariant_of-result

@@ -8,10 +8,10 @@ use Rattle.ll_rights.specs.declared.errno.Errno.TheVariants.{ENOENT}
 use Rattle.ll_rights.specs.Errno.{refuse}
 use Rattle.ll_rights.specs.Map.{empty, get, has, insert, remove, entries}
 use Rattle.ll_rights.proofs.Maps.{get-empty}
-use Rattle.ll_seq.proofs.Tables.{two_keys, remove-insert_other}
+use Rattle.ll_seq.proofs.OrderedTables.{two_keys, remove-insert_other}
 use Rattle.ll_node.specs.Slot.{NameMap, renamed}
 use Rattle.ll_node.specs.Refusals.{missing}
-use Rattle.ll_node.proofs.Table.{names_exact}
+use Rattle.ll_node.proofs.NameTable.{names_exact}
 
 pub no_names : (names : NameMap) → empty ≡ names → [] ≡ map (λ (e : List ℕ × ℕ). e.0) (entries names)
 unfolding empty entries

@@ -12,7 +12,7 @@ use Rattle.std.proofs.lemmas.List.{length-map}
 use Rattle.ll_rights.specs.declared.access.Access.{Access}
 use Rattle.ll_rights.specs.Map.{get, insert, entries, from_sorted}
 use Rattle.ll_rights.proofs.Maps.{get-from_sorted, entries-from_sorted, put_sorted, insert-from_sorted}
-use Rattle.ll_rules.specs.Tables.{rows_of, rules_of, IsTable}
+use Rattle.ll_rules.specs.RuleTable.{rows_of, rules_of, IsTable}
 
 find-rows : (es : List (ℕ × Access)) (inode : ℕ) → find nat_cmp inode (rows_of es) ≡ option_map (λ (rights : Access). rights.0) (lookup (is_at (nat_cmp inode)) es)
 find-rows [] inode = refl

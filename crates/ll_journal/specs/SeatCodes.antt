@@ -2,7 +2,7 @@
 use Rattle.std.specs.Prelude.{◌≡◌, ℕ, Bool, List, [], ◌∷◌, Option, refl}
 use Rattle.std.specs.Ordering.{nat_cmp}
 use Rattle.std.specs.Coded.{Coded, code_by, coded×, coded_list, coded_option, coded_bool, coded_ℕ}
-use Rattle.ll_rights.specs.Codes.{code}
+use Rattle.ll_rights.specs.MapCodes.{code}
 use Rattle.ll_rights.specs.Map.{Map}
 use Rattle.ll_path.specs.Path.{Path}
 use Rattle.ll_seq.specs.declared.call.Call.{Call}
@@ -12,7 +12,7 @@ use Rattle.ll_seq.specs.contracts.client.ClientRecord as client
 use Rattle.ll_seq.specs.declared.reply.Entry.{Entry}
 use Rattle.ll_seq.specs.contracts.reply.Entry as entry
 use Rattle.ll_seq.specs.declared.rules.Rules.{Rules}
-use Rattle.ll_seq.specs.Codes.{coded_rules}
+use Rattle.ll_seq.specs.StateCodes.{coded_rules}
 use Rattle.ll_walks.specs.Walk.{Leg, Mask, Position, Above, Down, Split, Walk, legs}
 use Rattle.ll_walks.specs.World.{World}
 use Rattle.ll_journal.specs.Book.{Seat, Book}

@@ -24,7 +24,7 @@ use Rattle.ll_seq.specs.Asked.{call_denials}
 use Rattle.ll_seq.specs.Stages.{text_refusals, number_refusals, relation_refusals, walk_refusals, existence_refusals, kind_refusals, limit_refusals, in_the_way, way_to, no_directory, kind_of_child}
 use Rattle.ll_seq.specs.Step.{step, first_or, client_of}
 use Rattle.ll_laws.proofs.Chains.{same_Some}
-use Rattle.ll_laws.proofs.Stages.{nil_left, nil_right, inode_is}
+use Rattle.ll_laws.proofs.Unrefused.{nil_left, nil_right, inode_is}
 use Rattle.ll_laws.proofs.Trees.{IsTree}
 use Rattle.ll_laws.proofs.Gain.{done_of}
 use Rattle.ll_walks.specs.Walk.{Leg, Position, Above, Down, Split, has_two_paths, trunk_path, turn, at_ends}

@@ -34,7 +34,7 @@ use Rattle.ll_seq.proofs.DentryOrder.{dentry_total, dentry_exact}
 use Rattle.ll_seq.proofs.Parted.{end_push}
 use Rattle.ll_laws.proofs.Chains.{same_Some}
 use Rattle.ll_laws.proofs.Trees.{IsTree, root_dir}
-use Rattle.ll_laws.proofs.Stages.{nil_left, nil_right, not_refused, neither, walked, inode_is, parent_last}
+use Rattle.ll_laws.proofs.Unrefused.{nil_left, nil_right, not_refused, neither, walked, inode_is, parent_last}
 use Rattle.ll_laws.proofs.Changes.{IsPlace, let_go_shrinks, without_name_shrinks, close_shrinks, with_bytes_shrinks}
 use Rattle.ll_laws.proofs.Gain.{done_of, Passes}
 use Rattle.ll_walks.specs.Walk.{is_in}

@@ -24,7 +24,7 @@ use Rattle.ll_seq.specs.Effects.{with_node, with_name, with_moved, with_client, 
 use Rattle.ll_seq.specs.Facts.{opens_in, open_count, AreKept, has_room, have_room}
 use Rattle.ll_seq.proofs.Counts.{bit, opens_is, names-new, links-new, names-over, links-over, names-less, links-less, opens-new, opens-less, clients-over, clients-new, client_among}
 use Rattle.ll_seq.proofs.DentryOrder.{dentry_total, dentry_exact}
-use Rattle.ll_seq.proofs.Tables.{remove-absent, two_keys}
+use Rattle.ll_seq.proofs.OrderedTables.{remove-absent, two_keys}
 
 abbrev pub Facts : Type 0
 Facts = Map nat_cmp Fact

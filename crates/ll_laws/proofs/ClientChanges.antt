@@ -20,7 +20,7 @@ use Rattle.ll_seq.specs.Stages.{without}
 use Rattle.ll_seq.specs.Effects.{lives, let_go, with_moved, renamed, with_bytes, inode_at}
 use Rattle.ll_seq.specs.Step.{client_of}
 use Rattle.ll_seq.specs.Reach.{InReach}
-use Rattle.ll_laws.proofs.Stages.{not_refused}
+use Rattle.ll_laws.proofs.Unrefused.{not_refused}
 
 -- a descriptor that was opened with what the layer grants
 abbrev pub IsOpened : State → ℕ → Layer → Descriptor → Type 0

@@ -20,7 +20,7 @@ use Rattle.ll_seq.specs.Effects.{with_bytes, with_client, with_node, with_opened
 use Rattle.ll_seq.specs.Step.{step, refusals, first_or, client_of}
 use Rattle.ll_seq.specs.History.{MayStand, is_connect, fresh_of}
 use Rattle.ll_seq.proofs.Consequences.{step-spawned}
-use Rattle.ll_laws.proofs.Clients.{let_go_clients, with_bytes_clients, renamed_clients}
+use Rattle.ll_laws.proofs.ClientChanges.{let_go_clients, with_bytes_clients, renamed_clients}
 use Rattle.ll_laws.proofs.Gain.{done_of}
 use Rattle.ll_walks.specs.Sound.{AreNumbered}
 

@@ -11,7 +11,7 @@ use Rattle.ll_seq.specs.declared.call.Call.{Call}
 use Rattle.ll_policy.specs.declared.fault.PolicyFault.{PolicyFault}
 use Rattle.ll_policy.specs.declared.profile.Layer.{Layer}
 use Rattle.ll_policy.specs.Table.{named_tables}
-use Rattle.ll_policy.specs.Kept.{calls_of_layer, calls_of_layers}
+use Rattle.ll_policy.specs.KeptCalls.{calls_of_layer, calls_of_layers}
 use Rattle.ll_policy.proofs.Firsts.{Told, told_first}
 use Rattle.ll_policy.proofs.Keys.{tables_in, tables_in-drop}
 

@@ -41,10 +41,10 @@ use Rattle.ll_laws.specs.NoGain.{MovesUnder}
 use Rattle.ll_laws.specs.Withheld.{ReadsFrom, ChangesBytes, IsConfined, Confined, Withheld, BytesAreWithheld}
 use Rattle.ll_laws.proofs.Chains.{same_Some}
 use Rattle.ll_laws.proofs.Trees.{IsTree}
-use Rattle.ll_laws.proofs.Stages.{inode_is, nil_right, not_refused}
+use Rattle.ll_laws.proofs.Unrefused.{inode_is, nil_right, not_refused}
 use Rattle.ll_laws.proofs.Gain.{Passes, passes, done_of, there_is, one_entry, kept_tree, start_tree, after_tree, named_below}
-use Rattle.ll_laws.proofs.Asked.{open_granted, truncate_granted, reading_asked, writing_asked, truncating_asked, read_is, write_is, truncate_is, may_read, may_write, may_truncate}
-use Rattle.ll_laws.proofs.Clients.{ClientsAfter, same_clients, caller_after, new_after, let_go_clients, with_bytes_clients, renamed_clients, let_go_node, with_bytes_node, renamed_node, new_node, described, inode_at_is}
+use Rattle.ll_laws.proofs.Granted.{open_granted, truncate_granted, reading_asked, writing_asked, truncating_asked, read_is, write_is, truncate_is, may_read, may_write, may_truncate}
+use Rattle.ll_laws.proofs.ClientChanges.{ClientsAfter, same_clients, caller_after, new_after, let_go_clients, with_bytes_clients, renamed_clients, let_go_node, with_bytes_node, renamed_node, new_node, described, inode_at_is}
 
 abbrev is_spawn : Call → Bool
 is_spawn Spawn = true

@@ -14,7 +14,7 @@ use Rattle.ll_seq.specs.declared.rules.Rules.{Rules}
 use Rattle.ll_seq.specs.State.{start}
 use Rattle.ll_seq.specs.History.{IsLegal}
 use Rattle.ll_laws.proofs.Gain.{no_gain}
-use Rattle.ll_laws.proofs.Withheld.{bytes_are_withheld}
+use Rattle.ll_laws.proofs.Withholding.{bytes_are_withheld}
 use Rattle.ll_walks.specs.Walk.{Walk}
 use Rattle.ll_walks.specs.World.{World, Step, new_world, world_after, is_full, next_number, reply_to}
 use Rattle.ll_walks.specs.Walks.{HistoryIsLegal}

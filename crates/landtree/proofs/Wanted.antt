@@ -21,7 +21,7 @@ use Rattle.clap.specs.declared.parser.matches.ValueSource.TheVariants.{CommandLi
 use Rattle.clap.specs.declared.builder.value_parser.Reading.{Reading}
 use Rattle.clap.specs.declared.builder.value_parser.Reading.TheVariants.{AsWritten}
 use Rattle.landtree.specs.Options.{abi, asked, asked_by, landtree, node_numbers, nodes, number_in, run, script, valued}
-use Rattle.landtree.proofs.Kept.{Keeps, by_words, no_faults, settles}
+use Rattle.landtree.proofs.ArgumentsUsed.{Keeps, by_words, no_faults, settles}
 use Rattle.landtree.proofs.Entered.{built_enters}
 use Rattle.landtree.proofs.Numbers.{whole}
 

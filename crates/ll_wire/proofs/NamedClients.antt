@@ -11,7 +11,7 @@ use Rattle.ll_seq.specs.declared.call.Call.TheVariants as calls
 use Rattle.ll_wire.specs.Grammar.{call_tokens, client_tokens}
 use Rattle.ll_wire.specs.Parts.{ReadsCall, SpellsNumber, NamesClient, SpellsCall, SpellsTokens}
 use Rattle.ll_wire.specs.Reads.{ReadsBy, holds_text}
-use Rattle.ll_wire.proofs.Calls.{whole_reads}
+use Rattle.ll_wire.proofs.FirstTokens.{whole_reads}
 
 of_other : (client : ℕ) → 2 ≤ client → client_tokens client ≡ (64 ∷ decimal client) ∷ []
 of_other client h = ap (λ (b : Bool). if b then [] else (64 ∷ decimal client) ∷ []) (ne_eqb client 1 (λ e. omega arith))

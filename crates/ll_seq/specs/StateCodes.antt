@@ -2,7 +2,7 @@
 use Rattle.std.specs.Prelude.{ℕ, refl}
 use Rattle.std.specs.Ordering.{nat_cmp}
 use Rattle.std.specs.Coded.{Coded, code_by, coded×, coded_ℕ}
-use Rattle.ll_rights.specs.Codes.{code}
+use Rattle.ll_rights.specs.MapCodes.{code}
 use Rattle.ll_rights.specs.Map.{Map}
 use Rattle.ll_seq.specs.declared.client.ClientRecord.{ClientRecord}
 use Rattle.ll_seq.specs.contracts.client.ClientRecord as client
@@ -30,4 +30,6 @@ coded_state =
     code_by (Map dentry_cmp ℕ × (Map nat_cmp Node × (ℕ × (ℕ × (Rules × Map nat_cmp ClientRecord)))))
     (coded× coded_entries (coded× coded_nodes (coded× coded_ℕ (coded× coded_ℕ (coded× coded_rules coded_clients)))))
     (λ s. (s.entries, (s.nodes, (s.next, (s.room, (s.rules, s.clients))))))
-    (λ p. record { entries = p.0; nodes = p.1.0; next = p.1.1.0; room = p.1.1.1.0; rules = p.1.1.1.1.0; clients = p.1.1.1.1.1 }) (λ _. refl)
+    (λ p. record {
+      entries = p.0; nodes = p.1.0; next = p.1.1.0; room = p.1.1.1.0; rules = p.1.1.1.1.0; clients = p.1.1.1.1.1;
+    }) (λ _. refl)

@@ -23,8 +23,8 @@ use Rattle.ll_wire.specs.Parts.{SpellsNumber, SpellsReplyBody}
 use Rattle.ll_wire.specs.Reads.{ReadsBy, holds_text, tells_text}
 use Rattle.ll_wire.specs.Entries.{IsEntryCall, IsEntry, entry_tokens, entry_line, SpellsEntry, entry_holds_text}
 use Rattle.ll_wire.specs.EntryParts.{SpellsEntryCall, SpellsEntryReply, SpellsAnswered, CutsAt, SpellsEntryBody}
-use Rattle.ll_wire.proofs.Calls.{first_is, whole_reads, same_err}
-use Rattle.ll_wire.proofs.Clients.{few_tokens}
+use Rattle.ll_wire.proofs.FirstTokens.{first_is, whole_reads, same_err}
+use Rattle.ll_wire.proofs.NamedClients.{few_tokens}
 use Rattle.ll_wire.proofs.Fronts.{parts, joined_parts, same_ends}
 use Rattle.ll_wire.proofs.Lines.{same_front, cut}
 use Rattle.ll_wire.proofs.OneReply.{reply_is_tokens, some_tokens, cut_reply, same_reply}

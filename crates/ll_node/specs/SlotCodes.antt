@@ -3,7 +3,7 @@ use Rattle.std.specs.Prelude.{ℕ, List, Option, refl}
 use Rattle.std.specs.Coded.{Coded, code_by, coded×, coded_list, coded_option, coded_ℕ}
 use Rattle.ll_rights.specs.declared.kind.Kind.{Kind}
 use Rattle.ll_rights.specs.contracts.kind.Kind as kind
-use Rattle.ll_rights.specs.Codes.{code}
+use Rattle.ll_rights.specs.MapCodes.{code}
 use Rattle.ll_node.specs.Slot.{NameMap, Slot}
 
 abbrev pub coded_names : Coded NameMap

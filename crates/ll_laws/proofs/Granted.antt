@@ -22,7 +22,7 @@ use Rattle.ll_seq.specs.Reach.{InReach, is_relevant}
 use Rattle.ll_seq.proofs.Parted.{last}
 use Rattle.ll_laws.proofs.Relevant.{for_bytes}
 use Rattle.ll_laws.proofs.Trees.{IsTree}
-use Rattle.ll_laws.proofs.Stages.{IsIn, in_left, in_right, in_when, nil_left, none_passes, none_denied}
+use Rattle.ll_laws.proofs.Unrefused.{IsIn, in_left, in_right, in_when, nil_left, none_passes, none_denied}
 
 -- a right that is asked on the call's path
 abbrev one : Path → ℕ → Ask Path

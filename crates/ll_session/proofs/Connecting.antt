@@ -23,8 +23,8 @@ use Rattle.ll_session.specs.declared.tree.SessionTree.{SessionTree}
 use Rattle.ll_session.specs.Transcript.{Session, answered, brought, starved, next}
 use Rattle.ll_session.specs.Opening.{Connects, following, joined}
 use Rattle.ll_session.specs.Progress.{StandsAt}
-use Rattle.ll_session.proofs.Memory.{is_starved}
-use Rattle.ll_session.proofs.Places.{how_many, one_more}
+use Rattle.ll_session.proofs.Starving.{is_starved}
+use Rattle.ll_session.proofs.SessionPlaces.{how_many, one_more}
 use Rattle.ll_session.proofs.Replies.{never_full}
 
 pub nobody : (rules : Rules) (nodes number : ℕ) → has (start rules nodes).clients number ≡ false

@@ -10,7 +10,7 @@ use Rattle.std.specs.FinMap.Entries.{find, is_sorted}
 use Rattle.std.proofs.lemmas.Option.{slice_get_read, get_or_from_slice_get}
 use Rattle.std.proofs.lemmas.Bool.{false≢true}
 use Rattle.std.proofs.Math.Seq.{drop-cons}
-use Rattle.ll_rights.specs.Codes.{same_list_map}
+use Rattle.ll_rights.specs.MapCodes.{same_list_map}
 use Rattle.ll_rights.specs.Map.{Map, entries, get, has, insert, remove, from_sorted}
 use Rattle.ll_rights.proofs.Maps.{equal_at, same_map, get-insert, get-remove, get-from_sorted, entries-from_sorted}
 use Rattle.ll_rights.proofs.Places.{replaced, taken}
