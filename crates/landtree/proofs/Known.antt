@@ -5,7 +5,7 @@ use Rattle.std.specs.Borrow.{Bor}
 use Rattle.landtree.specs.declared.failure.Failure.{Failure}
 use Rattle.landtree.specs.declared.failure.Failure.TheVariants.{File, NoMemory}
 use Rattle.landtree.specs.declared.options.Options.{Options}
-use Rattle.landtree.specs.declared.setup.Setup.{Setup}
+use Rattle.ll_session.specs.declared.setup.Setup.{Setup}
 use Rattle.landtree.specs.Options.{Asked, asked_in}
 use Rattle.landtree.specs.Policy.{ByLevel, IsSetBy, Lacks}
 

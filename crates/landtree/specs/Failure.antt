@@ -1,13 +1,13 @@
 -- How the program ends where it fails. own
-use Rattle.std.specs.Prelude.{ℕ, Option, Some, None, Result, Ok, Err}
+use Rattle.std.specs.Prelude.{ℕ, List, Option, Some, None, Result, Ok, Err, codes}
 use Rattle.clap.specs.declared.error.kind.ErrorKind.{ErrorKind}
 use Rattle.clap.specs.declared.error.kind.ErrorKind.TheVariants.{DisplayHelp, DisplayVersion}
 use Rattle.clap.specs.declared.error.kind.ErrorKind.TheVariants as kind
 use Rattle.ll_policy.specs.declared.fault.PolicyFault.{PolicyFault}
 use Rattle.ll_policy.specs.declared.fault.PolicyFault.TheVariants as wrong
-use Rattle.landtree.specs.declared.fault.RunFault.{RunFault}
-use Rattle.landtree.specs.declared.fault.RunFault.TheVariants as run
-use Rattle.landtree.specs.declared.fault.SessionFault.TheVariants as session
+use Rattle.ll_session.specs.declared.fault.RunFault.{RunFault}
+use Rattle.ll_session.specs.declared.fault.RunFault.TheVariants as run
+use Rattle.ll_session.specs.declared.fault.SessionFault.TheVariants as session
 use Rattle.landtree.specs.declared.failure.Failure.{Failure}
 use Rattle.landtree.specs.declared.failure.Failure.TheVariants.{CommandLine, Policy, Opening, File, Output, NoMemory}
 
@@ -42,3 +42,12 @@ failure_by _ = Some CommandLine
 abbrev pub status_at : {T : Type 0} → Result T Failure → ℕ
 status_at (Ok _) = 0
 status_at (Err failure) = status_of failure
+
+-- the line on standard error; which fault of a policy is told in it, no definition says
+abbrev pub line_of : Failure → Option (List ℕ)
+line_of CommandLine = Some (codes "landtree: command line")
+line_of (Policy fault) = None
+line_of Opening = Some (codes "landtree: opening call refused")
+line_of File = Some (codes "landtree: file")
+line_of Output = Some (codes "landtree: output")
+line_of NoMemory = Some (codes "landtree: no memory")

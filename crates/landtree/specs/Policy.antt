@@ -9,10 +9,10 @@ use Rattle.ll_policy.specs.Faults.{document_faults}
 use Rattle.ll_policy.specs.Plan.{Plan, IsPlanOf}
 use Rattle.landtree.specs.declared.failure.Failure.{Failure}
 use Rattle.landtree.specs.declared.failure.Failure.TheVariants.{CommandLine, Policy, Opening, File, Output, NoMemory}
-use Rattle.landtree.specs.declared.fault.RunFault.{RunFault}
-use Rattle.landtree.specs.declared.setup.Setup.{Setup}
+use Rattle.ll_session.specs.declared.fault.RunFault.{RunFault}
+use Rattle.ll_session.specs.declared.setup.Setup.{Setup}
 use Rattle.landtree.specs.Failure.{failure_of}
-use Rattle.landtree.specs.Run.{MayEnd}
+use Rattle.ll_session.specs.Run.{MayEnd}
 use Rattle.landtree.specs.Options.{Asked}
 
 -- the calls of the profile that is asked for, none where none is. There is no answer where the plan hasn't that profile

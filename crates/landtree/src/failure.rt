@@ -2,28 +2,39 @@
 
 ghost use Rattle.std.specs.Prelude.{◌≡◌};
 ghost use Rattle.clap.specs.Words.{kind_of};
-ghost use Rattle.landtree.specs.Failure.{failure_by, failure_in, failure_of, status_of};
+ghost use Rattle.landtree.specs.Failure.{failure_by, failure_in, failure_of, line_of, status_of};
 
-use crate::fault::{RunFault, SessionFault};
 use clap::error::ErrorKind;
 use ll_policy::PolicyFault;
-use thiserror::Error;
+use ll_session::{RunFault, SessionFault};
+use std::fmt;
+use std::fmt::Display;
 
 /// Why the program ends with a status other than 0.
-#[derive(Debug, Drop, Error)]
+#[derive(Debug, Drop)]
 pub enum Failure {
-    #[error("landtree: command line")]
     CommandLine,
-    #[error("landtree: policy {0}")]
     Policy(PolicyFault),
-    #[error("landtree: opening call refused")]
     Opening,
-    #[error("landtree: file")]
     File,
-    #[error("landtree: output")]
     Output,
-    #[error("landtree: no memory")]
     NoMemory,
+}
+
+impl Display for Failure {
+    // The line on standard error.
+    ghost output = { line_of };
+
+    fn fmt<W: fmt::Write>(&self, f: &mut fmt::Formatter<W>) -> fmt::Result {
+        match self {
+            Failure::CommandLine => f.write_str("landtree: command line"),
+            Failure::Policy(fault) => write!(f, "landtree: policy {fault}"),
+            Failure::Opening => f.write_str("landtree: opening call refused"),
+            Failure::File => f.write_str("landtree: file"),
+            Failure::Output => f.write_str("landtree: output"),
+            Failure::NoMemory => f.write_str("landtree: no memory"),
+        }
+    }
 }
 
 impl Failure {

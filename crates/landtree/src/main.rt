@@ -3,39 +3,27 @@
 
 mod command;
 mod failure;
-mod fault;
-#[cfg(test)]
-mod fuse;
 mod input;
-mod laws;
-mod line;
 mod options;
-mod output;
 mod policy;
 mod program;
-mod run;
-mod session;
-mod setup;
-#[cfg(test)]
-mod tests;
-mod tree;
 
 ghost use Rattle.std.specs.Prelude.{◌≡◌, ◌≢◌, ◌⊎◌, ℕ, true, false, List, [], map, Some, None, Err, IfErr, IfNone, IfSome, OnOk};
 ghost use Rattle.std.specs.Process.{exit_status};
 ghost use Rattle.clap.specs.Words.{fault_of, kind_of};
-ghost use Rattle.landtree.specs.declared.fault.RunFault.{RunFault};
+ghost use Rattle.ll_session.specs.declared.fault.RunFault.{RunFault};
 ghost use Rattle.landtree.specs.declared.failure.Failure.{Failure};
 ghost use Rattle.landtree.specs.Failure.{failure_by, failure_of, status_at};
 ghost use Rattle.landtree.specs.Options.{Asked, asked_by, asked_in, fits, landtree, EndsWell};
 ghost use Rattle.landtree.specs.Policy.{MayFail};
-ghost use Rattle.landtree.specs.Run.{MayEnd};
+ghost use Rattle.ll_session.specs.Run.{MayEnd};
 
 use failure::Failure;
 use input::InputFile;
+use ll_session::Setup;
 use options::Options;
 use policy::setup_of;
 use program::perform;
-use setup::Setup;
 use std::process::ExitCode;
 use std::{env, io};
 

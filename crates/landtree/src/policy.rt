@@ -4,15 +4,15 @@ ghost use Rattle.std.specs.Prelude.{◌≡◌, ◌⊎◌, ℕ, List, Some, None,
 ghost use Rattle.toml.specs.Parse.{parse_document};
 ghost use Rattle.ll_policy.specs.Plan.{IsPlanOf};
 ghost use Rattle.landtree.specs.Options.{Asked, asked_in};
-ghost use Rattle.landtree.specs.Transcript.{AreOthers};
+ghost use Rattle.ll_session.specs.Transcript.{AreOthers};
 ghost use Rattle.landtree.specs.Policy.{ByLevel, ByPlan, IsSetup, Lacks, profile_of};
 
 use crate::failure::Failure;
 use crate::options::Options;
-use crate::setup::Setup;
 use ll_policy::{Policy, PolicyFault};
 use ll_rights::Abi;
 use ll_seq::{Call, Rules};
+use ll_session::Setup;
 use std::alloc::Global;
 use std::io::{ErrorKind, Read};
 

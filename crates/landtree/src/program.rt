@@ -1,13 +1,12 @@
 //! What the program does once its words are read.
 
 ghost use Rattle.std.specs.Prelude.{◌≡◌, ℕ, List, OnOk, OnErr, IfErr, IfSome, Some};
-ghost use Rattle.landtree.specs.declared.fault.RunFault.{RunFault};
+ghost use Rattle.ll_session.specs.declared.fault.RunFault.{RunFault};
 ghost use Rattle.landtree.specs.Failure.{failure_of};
-ghost use Rattle.landtree.specs.Run.{Runs, Begins, MayEnd, Writes};
+ghost use Rattle.ll_session.specs.Run.{Runs, Begins, MayEnd, Writes};
 
 use crate::failure::Failure;
-use crate::run::run_script;
-use crate::setup::Setup;
+use ll_session::{Setup, run_script};
 use std::alloc::Global;
 use std::io::{Read, Write};
 

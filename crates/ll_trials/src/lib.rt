@@ -18,12 +18,15 @@
 //! | ll_policy | | all of `Policy`: `policy` |
 //! | ll_audit, ll_saved | | `audit`, `judge`, `Verdict::text`: `saved` |
 //! | ll_journal | | `Journal::new`: `saved` |
+//! | ll_session | `run_script` | with devices that fail: `session` |
 //!
 //! ll_decide and ll_answer take no memory that may be missing.
 #![tactic(auto)]
 
 #[cfg(test)]
 mod calls;
+#[cfg(test)]
+mod fuse;
 #[cfg(test)]
 mod node;
 #[cfg(test)]
@@ -36,5 +39,7 @@ mod rights;
 mod saved;
 #[cfg(test)]
 mod seq;
+#[cfg(test)]
+mod session;
 #[cfg(test)]
 mod wire;

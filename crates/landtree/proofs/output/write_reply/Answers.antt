@@ -1,8 +1,0 @@
-use Rattle.std.proofs.Common.{subst, List, ℕ, ◌∙◌}
-use Rattle.std.proofs.lemmas.Result.{on_err_weaker}
-use Rattle.landtree.specs.Progress.{AppendsFront}
-use Rattle.landtree.proofs.output.write_reply.Goals as goal
-
-pub returns-clause-err : goal.returns-clause-err
-returns-clause-err g c = on_err_weaker c.write_text.result
-    (λ wrote. subst (λ (t : List ℕ). AppendsFront (g.W.Write.contents c.args.writer.now) (g.W.Write.contents c.write_text.new.writer) t) (c.as_str.ensures.value ∙ c.in-Ok.ensures) wrote) c.write_text.ensures.err

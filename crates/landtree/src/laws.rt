@@ -1,8 +1,0 @@
-//! What holds of every run.
-
-ghost use Rattle.landtree.specs.Run.{RunsLegally};
-
-/// The entries of a run are a legal history of its tree, and lead to the tree that it has.
-pub fn runs_legally()
-    ensures { RunsLegally }
-{}

@@ -1,0 +1,10 @@
+pub mod Advance
+pub mod Coming
+pub mod Cuts
+pub mod Endings
+pub mod Legal
+pub mod Memory
+pub mod Opening
+pub mod Places
+pub mod Replies
+pub mod Writing

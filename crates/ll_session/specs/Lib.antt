@@ -1,0 +1,4 @@
+pub mod Opening
+pub mod Progress
+pub mod Run
+pub mod Transcript

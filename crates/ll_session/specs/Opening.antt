@@ -1,0 +1,76 @@
+-- The clients that come before the first line. own
+use Rattle.std.specs.Prelude.{◌≡◌, ◌≢◌, ◌⊎◌, ℕ, ◌+◌, true, false, List, [], ◌∷◌, ◌++◌, length, drop, Option, Some, None}
+use Rattle.std.specs.declared.vec.Vec.{Vec}
+use Rattle.std.specs.declared.alloc.Global.{Global}
+use Rattle.ll_rights.specs.Map.{has}
+use Rattle.ll_seq.specs.declared.call.Call.{Call}
+use Rattle.ll_seq.specs.declared.call.Call.TheVariants.{Connect}
+use Rattle.ll_seq.specs.declared.reply.Reply.{Reply}
+use Rattle.ll_seq.specs.declared.reply.Reply.TheVariants.{Done}
+use Rattle.ll_seq.specs.State.{start}
+use Rattle.ll_plain.specs.Refusal.{is_refusal}
+use Rattle.ll_session.specs.declared.setup.Setup.{Setup}
+use Rattle.ll_session.specs.Transcript.{Session, Called}
+
+-- a fresh tree, to which nobody has connected
+abbrev pub fresh : Setup → Session
+fresh setup = record { tree = start setup.rules setup.nodes; clients = []; entries = []; limit = None }
+
+-- the next client by number
+abbrev pub following : Session → ℕ
+following s = length s.clients + 1
+
+-- Its connect gets this reply. Nobody has that number
+abbrev pub Connects : Session → Reply → Session → Type 0
+Connects s reply t = (has s.tree.clients (following s) ≡ false) × Called s (following s) Connect reply t
+
+-- from s, after its connect has led to t, it is one of the clients
+abbrev pub joined : Session → Session → Session
+joined s t = record t { clients = t.clients ++ following s ∷ [] }
+
+-- A client makes these calls in turn, and none is refused
+abbrev pub Makes : ℕ → Session → List Call → Session → Type 0
+Makes client s [] t = t ≡ s
+Makes client s (call ∷ calls) t = (reply : Reply) × (mid : Session) × Called s client call reply mid × (is_refusal reply ≡ false) × Makes client mid calls t
+
+-- the first of them that is refused gets this reply
+abbrev pub Stops : ℕ → Session → List Call → Reply → Type 0
+Stops client s [] reply = ⊥
+Stops client s (call ∷ calls) reply =
+    (told : Reply) × (mid : Session) × Called s client call told mid × (((is_refusal told ≡ true) × (reply ≡ told)) ⊎ ((is_refusal told ≡ false) × Stops client mid calls reply))
+
+-- How the coming of a client ends: it has made its calls, its connect is refused, or one of its calls is
+pub data Coming : Type 0 where
+  made : Session → Coming
+  unconnected : Reply → Coming
+  unmade : Reply → Coming
+
+-- the next client connects and makes these calls
+abbrev pub Comes : Session → List Call → Coming → Type 0
+Comes s calls (made t) = (mid : Session) × Connects s Done mid × Makes (following s) (joined s mid) calls t
+Comes s calls (unconnected reply) = (mid : Session) × Connects s reply mid × (reply ≢ Done)
+Comes s calls (unmade reply) = (mid : Session) × Connects s Done mid × Stops (following s) (joined s mid) calls reply
+
+-- the same of a loader, if there is one
+abbrev pub Loads : Session → Option (Vec Call Global) → Coming → Type 0
+Loads s (Some calls) end = Comes s calls.items end
+Loads s None (made t) = t ≡ s
+Loads s None (unconnected reply) = ⊥
+Loads s None (unmade reply) = ⊥
+
+-- How the opening of a run ends: with a session, with a connect or a profile's call that is refused, or with a loader's call that is
+pub data Opening : Type 0 where
+  begun : Session → Opening
+  refused : Reply → Opening
+  stopped : Opening
+
+-- The loader comes, and then the first client of the session, to whom the loader doesn't belong
+abbrev pub Opens : Setup → Opening → Type 0
+Opens setup (begun first) =
+    (loaded t : Session) × Loads (fresh setup) setup.loader (made loaded) × Comes loaded setup.profile.items (made t)
+    × (first ≡ record t { clients = drop (length loaded.clients) t.clients })
+Opens setup (refused reply) =
+    Loads (fresh setup) setup.loader (unconnected reply)
+    ⊎ ((loaded : Session) × Loads (fresh setup) setup.loader (made loaded)
+    × (Comes loaded setup.profile.items (unconnected reply) ⊎ Comes loaded setup.profile.items (unmade reply)))
+Opens setup stopped = (reply : Reply) × Loads (fresh setup) setup.loader (unmade reply)

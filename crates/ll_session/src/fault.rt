@@ -1,0 +1,37 @@
+//! Why a run ends early.
+
+ghost use Rattle.std.specs.Prelude.{◌≡◌};
+
+use thiserror::Error;
+
+/// Why a session ends before its input does.
+#[derive(Debug, Drop, Error)]
+pub enum SessionFault {
+    #[error("the input can't be read")]
+    Read,
+    #[error("the output can't be written")]
+    Write,
+    #[error("no memory for the session")]
+    NoMemory,
+    #[error("the input takes too many reads")]
+    TooLong,
+}
+
+/// Why a run ends without its whole transcript.
+#[derive(Debug, Drop, Error)]
+pub enum RunFault {
+    #[error("a call of the opening is refused")]
+    Opening,
+    #[error("{0}")]
+    Session(SessionFault),
+}
+
+impl From<SessionFault> for RunFault {
+    ghost use Rattle.ll_session.specs.declared.fault.RunFault.{RunFault};
+
+    ghost from_gives = { λ fault r. r ≡ RunFault.Session fault };
+
+    fn from(fault: SessionFault) -> RunFault {
+        RunFault::Session(fault)
+    }
+}

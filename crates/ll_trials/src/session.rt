@@ -1,0 +1,133 @@
+//! Sessions over devices that fail.
+//!
+//! The scenes are in worked/ at the top of the repository: the built program runs them. What is run and compared is in
+//! small functions, each slow thing once, since that is quick to prove.
+
+use crate::fuse::{Sink, Source};
+use ll_rights::Abi;
+use ll_seq::Rules;
+use ll_session::{RunFault, SessionFault, Setup, run_script};
+use std::alloc::Global;
+
+fn setup(alloc: Global) -> Setup {
+    Setup {
+        rules: Rules {
+            abi: Abi::NEWEST,
+            copies: true,
+        },
+        nodes: 1024,
+        loader: None,
+        profile: Vec::new(alloc),
+    }
+}
+
+const TEN_LINES: &[u8] = b"\
+make dir /a
+make reg /a/f
+make  reg /a/g
+make dir /b
+make reg /b/f
+ruleset read_file
+allow 0 /a read_file
+confine 0
+open r /a/f
+open r /b/f";
+
+const TEN_REPLIES: &[u8] = b"\
+ok
+ok
+refused 23 BadLine
+ok
+ok
+ruleset 0
+ok
+ok
+fd 0
+refused 23 BadLine
+";
+
+/// So many calls are never made.
+const ENOUGH: usize = 1_000_000;
+
+#[derive(Clone, Copy, PartialEq, Eq)]
+enum Ended {
+    Well,
+    ReadFailed,
+    WriteFailed,
+    Otherwise,
+}
+
+fn how(ended: &Result<(), RunFault>) -> Ended {
+    match ended {
+        Ok(()) => Ended::Well,
+        Err(RunFault::Session(SessionFault::Read)) => Ended::ReadFailed,
+        Err(RunFault::Session(SessionFault::Write)) => Ended::WriteFailed,
+        Err(_) => Ended::Otherwise,
+    }
+}
+
+/// Runs the ten lines with a reader and a writer that take so many calls before they fail.
+fn run(alloc: Global, reads: usize, writes: usize) -> (Ended, Sink) {
+    let mut reader = Source {
+        rest: TEN_LINES,
+        calls: reads,
+    };
+    let mut writer = Sink {
+        held: Vec::new(alloc),
+        calls: writes,
+        failures: 0,
+    };
+    let setup = setup(alloc);
+    let ended = run_script(alloc, &setup, &mut reader, &mut writer);
+    drop(setup);
+    (how(&ended), writer)
+}
+
+/// How many bytes are written before the read after so many fails, where it does and they are right.
+fn written(alloc: Global, reads: usize) -> Option<usize> {
+    let (ended, writer) = run(alloc, reads, ENOUGH);
+    let want = if reads > TEN_LINES.len() {
+        Ended::Well
+    } else {
+        Ended::ReadFailed
+    };
+    if ended == want && TEN_REPLIES.starts_with(writer.held.as_slice()) {
+        Some(writer.held.len())
+    } else {
+        None
+    }
+}
+
+#[test]
+fn reads_fail(rt: HostRuntime) {
+    let mut most = 0;
+    for reads in 0..TEN_LINES.len() + 2 {
+        let len = written(rt.alloc(), reads);
+        assert!(rt;
+            matches!(len, Some(len) if most <= len),
+            "after {reads} reads"
+        );
+        most = len.unwrap_or(0);
+    }
+    assert!(rt; most == TEN_REPLIES.len());
+}
+
+/// Whether the write after so many fails once and ends the run, and what came before it is right.
+fn fails_once(alloc: Global, writes: usize) -> bool {
+    let (ended, writer) = run(alloc, ENOUGH, writes);
+    if writes >= TEN_REPLIES.len() {
+        return ended == Ended::Well
+            && writer.failures == 0
+            && writer.held.as_slice() == TEN_REPLIES;
+    }
+    ended == Ended::WriteFailed
+        && writer.failures == 1
+        && writer.held.as_slice() == &TEN_REPLIES[..writes]
+}
+
+#[test]
+fn writes_fail(rt: HostRuntime) {
+    for writes in 0..TEN_REPLIES.len() + 2 {
+        assert!(rt; fails_once(rt.alloc(), writes), "after {writes} writes");
+    }
+}
