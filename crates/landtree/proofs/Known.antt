@@ -4,9 +4,9 @@ use Rattle.std.specs.Prelude.{IfSome}
 use Rattle.std.specs.Borrow.{Bor}
 use Rattle.landtree.specs.declared.failure.Failure.{Failure}
 use Rattle.landtree.specs.declared.failure.Failure.TheVariants.{File, NoMemory}
-use Rattle.landtree.specs.declared.options.Options.{Options}
+use Rattle.landtree.specs.declared.options.RunOptions.{RunOptions}
 use Rattle.ll_session.specs.declared.setup.Setup.{Setup}
-use Rattle.landtree.specs.Options.{Asked, asked_in}
+use Rattle.landtree.specs.Options.{RunOrder, order_in}
 use Rattle.landtree.specs.Policy.{ByLevel, IsSetBy, Lacks}
 
 -- some text that it tells, if it tells any
@@ -19,15 +19,15 @@ same_text None x y e h = tt
 same_text (Some told) x y e h = e ∙ h
 
 -- the file can't be read
-pub unread : (asked : Asked) (text : List ℕ) (failure : Failure) → (failure ≡ File) ⊎ (failure ≡ NoMemory) → Lacks asked text failure
-unread asked text failure (inl e) = subst (Lacks asked text) (sym e) tt
-unread asked text failure (inr e) = subst (Lacks asked text) (sym e) tt
+pub unread : (order : RunOrder) (text : List ℕ) (failure : Failure) → (failure ≡ File) ⊎ (failure ≡ NoMemory) → Lacks order text failure
+unread order text failure (inl e) = subst (Lacks order text) (sym e) tt
+unread order text failure (inr e) = subst (Lacks order text) (sym e) tt
 
 -- no policy is asked for
-pub set_by_level : (options : Options) (text : List ℕ) (setup : Setup) → is_some options.policy ≡ false → ByLevel (asked_in options) setup
-    → IsSetBy (asked_in options).policy (asked_in options) text setup
+pub set_by_level : (options : RunOptions) (text : List ℕ) (setup : Setup) → is_some options.policy ≡ false → ByLevel (order_in options) setup
+    → IsSetBy (order_in options).policy (order_in options) text setup
 set_by_level options text setup none by = go options.policy none
   where
-    go : (file : Option (Bor (List ℕ))) → is_some file ≡ false → IsSetBy (option_map (λ (t : Bor (List ℕ)). t.now) file) (asked_in options) text setup
+    go : (file : Option (Bor (List ℕ))) → is_some file ≡ false → IsSetBy (option_map (λ (t : Bor (List ℕ)). t.now) file) (order_in options) text setup
     go None e = by
     go (Some file) e = absurd cc

@@ -1,6 +1,6 @@
-pub mod Wanted
 pub mod Entered
 pub mod ArgumentsUsed
 pub mod Known
 pub mod Matched
 pub mod Numbers
+pub mod Ordered

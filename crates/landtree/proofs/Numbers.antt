@@ -11,7 +11,7 @@ use Rattle.clap.specs.declared.builder.value_parser.ValueParser.TheVariants.{Uns
 use Rattle.clap.specs.declared.parser.matches.Found.{Found}
 use Rattle.clap.proofs.ValueTestLemmas.{Accepts-accepts, accepts-Accepts}
 use Rattle.clap.proofs.WalkLemmas.{both, first_value-rows, one_text-rows}
-use Rattle.landtree.specs.Options.{Asked, asked, levels, node_numbers, number_in}
+use Rattle.landtree.specs.Options.{RunOrder, history_numbers, levels, node_numbers, number_in, run_order}
 
 abbrev number : Text → ℕ
 number t = digits_value 10 (without_leading_plus t)
@@ -73,28 +73,41 @@ pub level_allowed : (o : Option ℕ) (n : ℕ) → SomeIff o ((1 ≤ n) × (n �
 level_allowed (Some level) n h = ap Some h.1 ∙ within 1 3 n h.0.0 h.0.1
 level_allowed None n h = beyond 1 3 n h
 
--- what is asked for, where each part is there
-abbrev pub together : Option Text → Option ℕ → Option ℕ → Option Text → Option Text → Option Asked
-together path n level policy profile = option_and_then (λ p. option_map (λ k. record { script = p; nodes = k; level = level; policy = policy; profile = profile }) n) path
+-- the run that is wanted, where each part is there
+abbrev pub together : Option Text → Option ℕ → Option ℕ → Option ℕ → Option Text → Option Text → Option Text → Option RunOrder
+together path n most level policy profile save =
+    option_and_then (λ p. option_and_then (λ k. option_map (λ m. record { script = p; nodes = k; level = level; history = m; policy = policy; profile = profile; save = save }) most) n) path
 
-pub asked_of : (f : Found) (path : Option Text) (n level : Option ℕ) (policy profile : Option Text) → path ≡ first_value f (codes "SCRIPT")
-    → n ≡ option_and_then (number_in node_numbers) (one_text f (codes "nodes")) → level ≡ option_and_then (number_in levels) (one_of (codes "abi") (rows_of f))
-    → policy ≡ first_value f (codes "policy") → profile ≡ first_value f (codes "profile")
-    → together path n level policy profile ≡ asked (rows_of f)
-asked_of f path n level policy profile e g h i j =
-    let script = first_of (codes "SCRIPT") (rows_of f) in
-    let count = option_and_then (number_in node_numbers) (one_of (codes "nodes") (rows_of f)) in
-    let number = option_and_then (number_in levels) (one_of (codes "abi") (rows_of f)) in
-    ap (λ (p : Option Text). together p n level policy profile) (e ∙ first_value-rows f (codes "SCRIPT"))
-    ∙ ap (λ (m : Option ℕ). together script m level policy profile) (g ∙ ap (option_and_then (number_in node_numbers)) (one_text-rows f (codes "nodes")))
-    ∙ ap (λ (l : Option ℕ). together script count l policy profile) h
-    ∙ ap (λ (q : Option Text). together script count number q profile) (i ∙ first_value-rows f (codes "policy"))
-    ∙ ap (λ (r : Option Text). together script count number (first_of (codes "policy") (rows_of f)) r) (j ∙ first_value-rows f (codes "profile"))
+module _ (f : Found) where
+  abbrev level_by : Option ℕ
+  level_by = option_and_then (number_in levels) (one_of (codes "abi") (rows_of f))
 
--- nothing without a number of nodes
-pub no_nodes : (path : Option Text) (level : Option ℕ) (policy profile : Option Text) → None ≡ together path None level policy profile
-no_nodes None level policy profile = refl
-no_nodes (Some path) level policy profile = refl
+  abbrev text_by : Text → Option Text
+  text_by name = first_of name (rows_of f)
 
-pub whole : (p : Option Text) (m l : Option ℕ) (q r : Option Text) (path : Text) (n : ℕ) → p ≡ Some path → m ≡ Some n → is_some (together p m l q r) ≡ true
-whole p m l q r path n e f = rw (e, f) refl
+  -- with the parts that may be missing as the matches tell them
+  abbrev pub order_by : Option Text → Option ℕ → Option ℕ → Option RunOrder
+  order_by path n most = together path n most level_by (text_by (codes "policy")) (text_by (codes "profile")) (text_by (codes "save"))
+
+  pub as_matched : (path : Option Text) (n most : Option ℕ) → path ≡ first_value f (codes "SCRIPT") → n ≡ option_and_then (number_in node_numbers) (one_text f (codes "nodes"))
+      → most ≡ option_and_then (number_in history_numbers) (one_text f (codes "history")) → order_by path n most ≡ run_order (rows_of f)
+  as_matched path n most e g h =
+      let script = first_of (codes "SCRIPT") (rows_of f) in
+      let count = option_and_then (number_in node_numbers) (one_of (codes "nodes") (rows_of f)) in
+      ap (λ (p : Option Text). order_by p n most) (e ∙ first_value-rows f (codes "SCRIPT"))
+      ∙ ap (λ (k : Option ℕ). order_by script k most) (g ∙ ap (option_and_then (number_in node_numbers)) (one_text-rows f (codes "nodes")))
+      ∙ ap (λ (m : Option ℕ). order_by script count m) (h ∙ ap (option_and_then (number_in history_numbers)) (one_text-rows f (codes "history")))
+
+  pub with_parts : (path : Option Text) (n most level : Option ℕ) (policy profile save : Option Text) → level ≡ level_by → policy ≡ first_value f (codes "policy")
+      → profile ≡ first_value f (codes "profile") → save ≡ first_value f (codes "save") → together path n most level policy profile save ≡ order_by path n most
+  with_parts path n most level policy profile save e g h i =
+      let named = text_by (codes "policy") in
+      let layered = text_by (codes "profile") in
+      ap (λ (l : Option ℕ). together path n most l policy profile save) e
+      ∙ ap (λ (q : Option Text). together path n most level_by q profile save) (g ∙ first_value-rows f (codes "policy"))
+      ∙ ap (λ (q : Option Text). together path n most level_by named q save) (h ∙ first_value-rows f (codes "profile"))
+      ∙ ap (λ (q : Option Text). together path n most level_by named layered q) (i ∙ first_value-rows f (codes "save"))
+
+pub whole : (p : Option Text) (n m l : Option ℕ) (q r s : Option Text) (path : Text) (nodes most : ℕ) → p ≡ Some path → n ≡ Some nodes → m ≡ Some most
+    → is_some (together p n m l q r s) ≡ true
+whole p n m l q r s path nodes most e f g = rw (e, f, g) refl

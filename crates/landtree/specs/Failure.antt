@@ -1,5 +1,5 @@
 -- How the program ends where it fails. own
-use Rattle.std.specs.Prelude.{ℕ, List, Option, Some, None, Result, Ok, Err, codes}
+use Rattle.std.specs.Prelude.{⊤, ℕ, List, Option, Some, None, Result, Ok, Err, codes}
 use Rattle.clap.specs.declared.error.kind.ErrorKind.{ErrorKind}
 use Rattle.clap.specs.declared.error.kind.ErrorKind.TheVariants.{DisplayHelp, DisplayVersion}
 use Rattle.clap.specs.declared.error.kind.ErrorKind.TheVariants as kind
@@ -8,8 +8,13 @@ use Rattle.ll_policy.specs.declared.fault.PolicyFault.TheVariants as wrong
 use Rattle.ll_session.specs.declared.fault.RunFault.{RunFault}
 use Rattle.ll_session.specs.declared.fault.RunFault.TheVariants as run
 use Rattle.ll_session.specs.declared.fault.SessionFault.TheVariants as session
+use Rattle.ll_saved.specs.declared.auditing.AuditFailure.{AuditFailure}
+use Rattle.ll_saved.specs.declared.auditing.AuditFailure.TheVariants as audit
+use Rattle.ll_saved.specs.declared.verdict.Verdict.TheVariants.{Legal, Illegal, BadLine}
 use Rattle.landtree.specs.declared.failure.Failure.{Failure}
 use Rattle.landtree.specs.declared.failure.Failure.TheVariants.{CommandLine, Policy, Opening, File, Output, NoMemory}
+use Rattle.landtree.specs.declared.outcome.Outcome.{Outcome}
+use Rattle.landtree.specs.declared.outcome.Outcome.TheVariants.{Done, Judged}
 
 abbrev pub failure_of : RunFault → Failure
 failure_of run.Opening = Opening
@@ -38,9 +43,22 @@ failure_by DisplayVersion = None
 failure_by kind.OutOfMemory = Some NoMemory
 failure_by _ = Some CommandLine
 
+-- the same of what ends an audit
+abbrev pub failure_at : AuditFailure → Failure
+failure_at audit.Read = File
+failure_at audit.Write = Output
+failure_at audit.NoMemory = NoMemory
+
+-- the status where the program doesn't fail: 3 only for a history that isn't found legal
+abbrev pub status_by : Outcome → ℕ
+status_by Done = 0
+status_by (Judged (Legal entries)) = 0
+status_by (Judged (Illegal entry)) = 3
+status_by (Judged (BadLine line)) = 3
+
 -- the status at the program's end
-abbrev pub status_at : {T : Type 0} → Result T Failure → ℕ
-status_at (Ok _) = 0
+abbrev pub status_at : Result Outcome Failure → ℕ
+status_at (Ok outcome) = status_by outcome
 status_at (Err failure) = status_of failure
 
 -- the line on standard error; which fault of a policy is told in it, no definition says
@@ -51,3 +69,23 @@ line_of Opening = Some (codes "landtree: opening call refused")
 line_of File = Some (codes "landtree: file")
 line_of Output = Some (codes "landtree: output")
 line_of NoMemory = Some (codes "landtree: no memory")
+
+-- a run may end so: done, or by any failure but a wrong command line
+abbrev pub EndsRun : Result Outcome Failure → Type 0
+EndsRun (Ok Done) = ⊤
+EndsRun (Ok (Judged verdict)) = ⊥
+EndsRun (Err CommandLine) = ⊥
+EndsRun (Err failure) = ⊤
+
+-- what an audit may fail for: its file, its output or memory
+abbrev pub IsOfAudit : Failure → Type 0
+IsOfAudit File = ⊤
+IsOfAudit Output = ⊤
+IsOfAudit NoMemory = ⊤
+IsOfAudit failure = ⊥
+
+-- an audit may end so: with an answer, or failing
+abbrev pub EndsAudit : Result Outcome Failure → Type 0
+EndsAudit (Ok Done) = ⊥
+EndsAudit (Ok (Judged verdict)) = ⊤
+EndsAudit (Err failure) = IsOfAudit failure

@@ -13,46 +13,46 @@ use Rattle.ll_session.specs.declared.fault.RunFault.{RunFault}
 use Rattle.ll_session.specs.declared.setup.Setup.{Setup}
 use Rattle.landtree.specs.Failure.{failure_of}
 use Rattle.ll_session.specs.Run.{MayEnd}
-use Rattle.landtree.specs.Options.{Asked}
+use Rattle.landtree.specs.Options.{RunOrder}
 
--- the calls of the profile that is asked for, none where none is. There is no answer where the plan hasn't that profile
+-- the calls of the profile that is wanted, none where none is. There is no answer where the plan hasn't that profile
 abbrev pub profile_of : Option (List ℕ) → Plan → Option (List Call)
 profile_of None plan = Some []
 profile_of (Some name) plan = lookup (bytes_eq name) plan.profiles
 
 -- the setup by a policy with this plan
-pub record ByPlan (asked : Asked) (plan : Plan) (setup : Setup) : Type 0 where
+pub record ByPlan (order : RunOrder) (plan : Plan) (setup : Setup) : Type 0 where
   pub rules : setup.rules ≡ record { abi = plan.abi; copies = true }
   pub loader : option_map (λ calls. calls.items) setup.loader ≡ Some plan.opening
-  pub profile : Some setup.profile.items ≡ profile_of asked.profile plan
+  pub profile : Some setup.profile.items ≡ profile_of order.profile plan
 
 -- the setup without a policy
-pub record ByLevel (asked : Asked) (setup : Setup) : Type 0 where
-  pub rules : setup.rules ≡ record { abi = unwrap_or asked.level 3; copies = true }
+pub record ByLevel (order : RunOrder) (setup : Setup) : Type 0 where
+  pub rules : setup.rules ≡ record { abi = unwrap_or order.level 3; copies = true }
   pub loader : setup.loader ≡ None
   pub profile : setup.profile.items ≡ []
 
 -- the setup by the policy in this text, if a file of one is named
-abbrev pub IsSetBy : Option (List ℕ) → Asked → List ℕ → Setup → Type 0
-IsSetBy None asked text setup = ByLevel asked setup
-IsSetBy (Some file) asked text setup = (plan : Plan) × IsPlanOf (parse_document text) plan × ByPlan asked plan setup
+abbrev pub IsSetBy : Option (List ℕ) → RunOrder → List ℕ → Setup → Type 0
+IsSetBy None order text setup = ByLevel order setup
+IsSetBy (Some file) order text setup = (plan : Plan) × IsPlanOf (parse_document text) plan × ByPlan order plan setup
 
--- The setup that is asked for, where the policy's file has this text
-abbrev pub IsSetup : Asked → List ℕ → Setup → Type 0
-IsSetup asked text setup = (setup.nodes ≡ asked.nodes) × IsSetBy asked.policy asked text setup
+-- The setup that is wanted, where the policy's file has this text
+abbrev pub IsSetup : RunOrder → List ℕ → Setup → Type 0
+IsSetup order text setup = (setup.nodes ≡ order.nodes) × IsSetBy order.policy order text setup
 
 -- Why there is none: the first of what is wrong with the policy's text, a profile that a right policy hasn't, a file that can't be read,
 -- want of memory
-abbrev pub Lacks : Asked → List ℕ → Failure → Type 0
-Lacks asked text (Policy fault) = ((IsUtf8 text → ⊥) × (fault ≡ NotToml)) ⊎ (IsUtf8 text × (slice_get (document_faults (parse_document text)) 0 ≡ Some fault))
-Lacks asked text CommandLine = (plan : Plan) × IsPlanOf (parse_document text) plan × (profile_of asked.profile plan ≡ None)
-Lacks asked text File = ⊤
-Lacks asked text NoMemory = ⊤
-Lacks asked text Opening = ⊥
-Lacks asked text Output = ⊥
+abbrev pub Lacks : RunOrder → List ℕ → Failure → Type 0
+Lacks order text (Policy fault) = ((IsUtf8 text → ⊥) × (fault ≡ NotToml)) ⊎ (IsUtf8 text × (slice_get (document_faults (parse_document text)) 0 ≡ Some fault))
+Lacks order text CommandLine = (plan : Plan) × IsPlanOf (parse_document text) plan × (profile_of order.profile plan ≡ None)
+Lacks order text File = ⊤
+Lacks order text NoMemory = ⊤
+Lacks order text Opening = ⊥
+Lacks order text Output = ⊥
 
 -- Why nothing is run to its end: there is no setup, or a fault ends the run of the one there is
-abbrev pub MayFail : Asked → List ℕ → Failure → Type 0
-MayFail asked text failure =
-    Lacks asked text failure
-    ⊎ ((setup : Setup) × IsSetup asked text setup × (fault : RunFault) × MayEnd setup fault × (failure ≡ failure_of fault))
+abbrev pub MayFail : RunOrder → List ℕ → Failure → Type 0
+MayFail order text failure =
+    Lacks order text failure
+    ⊎ ((setup : Setup) × IsSetup order text setup × (fault : RunFault) × MayEnd setup fault × (failure ≡ failure_of fault))

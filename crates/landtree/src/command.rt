@@ -3,10 +3,10 @@
 ghost use Rattle.std.specs.Prelude.{◌≡◌, codes, IfOk, false};
 ghost use Rattle.clap.specs.Words.{app_of, rule_of};
 ghost use Rattle.clap.specs.declared.builder.command.Command.TheViews.{out-Command as fields_of};
-ghost use Rattle.landtree.specs.Options.{abi, landtree, nodes, run, script, valued};
+ghost use Rattle.landtree.specs.Options.{abi, audit, file, history, landtree, nodes, run, script, valued};
 
 use clap::{Arg, Command, value_parser};
-use ll_rights::limits::TREE_NODES;
+use ll_rights::limits::{HISTORY_ENTRIES, TREE_NODES};
 use std::alloc::{AllocError, Global};
 
 fn nodes_option<'a>(alloc: Global) -> Arg<'a>
@@ -34,6 +34,18 @@ fn abi_option<'a>(alloc: Global) -> Arg<'a>
         )
 }
 
+fn history_option<'a>(alloc: Global) -> Arg<'a>
+    ensures rule { rule_of result ≡ history }
+    ensures local { result.global ≡ false }
+{
+    Arg::new(alloc, "history")
+        .long("history")
+        .value_name("H")
+        .value_parser(value_parser!(usize).range(1..=HISTORY_ENTRIES as i64))
+        .default_value("10000")
+        .help("How many calls the tree may answer in all, each a line of its history")
+}
+
 fn policy_option<'a>(alloc: Global) -> Arg<'a>
     ensures rule { rule_of result ≡ valued (codes "policy") }
     ensures local { result.global ≡ false }
@@ -54,6 +66,16 @@ fn profile_option<'a>(alloc: Global) -> Arg<'a>
         .help("The policy's profile whose layers the first client gets")
 }
 
+fn save_option<'a>(alloc: Global) -> Arg<'a>
+    ensures rule { rule_of result ≡ valued (codes "save") }
+    ensures local { result.global ≡ false }
+{
+    Arg::new(alloc, "save")
+        .long("save")
+        .value_name("FILE")
+        .help("The file that the history is written to at the end")
+}
+
 fn script_argument<'a>(alloc: Global) -> Arg<'a>
     ensures rule { rule_of result ≡ script }
     ensures local { result.global ≡ false }
@@ -72,9 +94,32 @@ fn run_command<'a>(alloc: Global) -> Result<Command<'a>, AllocError>
         .arg(script_argument(alloc))?
         .arg(nodes_option(alloc))?
         .arg(abi_option(alloc))?;
-    let by_policy = by_level.arg(policy_option(alloc))?;
-    let run = by_policy.arg(profile_option(alloc))?;
+    let by_policy = by_level
+        .arg(policy_option(alloc))?
+        .arg(profile_option(alloc))?;
+    let run = by_policy
+        .arg(history_option(alloc))?
+        .arg(save_option(alloc))?;
     Ok(run)
+}
+
+fn file_argument<'a>(alloc: Global) -> Arg<'a>
+    ensures rule { rule_of result ≡ file }
+    ensures local { result.global ≡ false }
+{
+    Arg::new(alloc, "FILE")
+        .required(true)
+        .help("The history's file, or `-` for standard input")
+}
+
+fn audit_command<'a>(alloc: Global) -> Result<Command<'a>, AllocError>
+    ensures app { IfOk result (λ command. app_of command ≡ audit) }
+    ensures local { IfOk result (λ command. (fields_of command).has_globals ≡ false) }
+{
+    let audit = Command::new(alloc, "audit")
+        .about("Judges a saved history: how many entries are legal, or the first that isn't")
+        .arg(file_argument(alloc))?;
+    Ok(audit)
 }
 
 /// The program's words.
@@ -82,9 +127,11 @@ pub fn landtree_command<'a>(alloc: Global) -> Result<Command<'a>, AllocError>
     ensures { IfOk result (λ command. app_of command ≡ landtree) }
 {
     let run = run_command(alloc)?;
-    Command::new(alloc, "landtree")
+    let audit = audit_command(alloc)?;
+    let with_run = Command::new(alloc, "landtree")
         .about("A file tree in memory whose clients confine themselves with Landlock rulesets")
         .version("0.1.0")
         .subcommand_required(true)
-        .subcommand(run)
+        .subcommand(run)?;
+    with_run.subcommand(audit)
 }

@@ -2,10 +2,11 @@
 
 ghost use Rattle.std.specs.Prelude.{◌≡◌};
 ghost use Rattle.clap.specs.Words.{kind_of};
-ghost use Rattle.landtree.specs.Failure.{failure_by, failure_in, failure_of, line_of, status_of};
+ghost use Rattle.landtree.specs.Failure.{failure_at, failure_by, failure_in, failure_of, line_of, status_of};
 
 use clap::error::ErrorKind;
 use ll_policy::PolicyFault;
+use ll_saved::AuditFailure;
 use ll_session::{RunFault, SessionFault};
 use std::fmt;
 use std::fmt::Display;
@@ -58,6 +59,17 @@ impl Failure {
         match fault {
             PolicyFault::NoMemory => Failure::NoMemory,
             fault => Failure::Policy(fault),
+        }
+    }
+
+    /// What ends an audit, for the program: its input is a file.
+    pub fn of_audit(failure: AuditFailure) -> Failure
+        ensures { result ≡ failure_at failure }
+    {
+        match failure {
+            AuditFailure::Read => Failure::File,
+            AuditFailure::Write => Failure::Output,
+            AuditFailure::NoMemory => Failure::NoMemory,
         }
     }
 

@@ -5,25 +5,32 @@ mod command;
 mod failure;
 mod input;
 mod options;
+mod outcome;
 mod policy;
 mod program;
+mod shown;
 
-ghost use Rattle.std.specs.Prelude.{◌≡◌, ◌≢◌, ◌⊎◌, ℕ, true, false, List, [], map, Some, None, Err, IfErr, IfNone, IfSome, OnOk};
+ghost use Rattle.std.specs.Prelude.{◌≡◌, ◌⊎◌, ℕ, true, false, List, [], map, Some, None, Err, IfErr, IfNone, IfSome, OnOk};
 ghost use Rattle.std.specs.Process.{exit_status};
-ghost use Rattle.clap.specs.Words.{fault_of, kind_of};
+ghost use Rattle.clap.specs.Words.{Text, fault_of, kind_of};
 ghost use Rattle.ll_session.specs.declared.fault.RunFault.{RunFault};
 ghost use Rattle.landtree.specs.declared.failure.Failure.{Failure};
-ghost use Rattle.landtree.specs.Failure.{failure_by, failure_of, status_at};
-ghost use Rattle.landtree.specs.Options.{Asked, asked_by, asked_in, fits, landtree, EndsWell};
+ghost use Rattle.landtree.specs.Failure.{failure_by, failure_of, status_at, EndsAudit, EndsRun, IsOfAudit};
+ghost use Rattle.landtree.specs.Options.{RunOrder, fits, landtree, order_in, ordered_by, ordered_in, to_audit, to_run};
+ghost use Rattle.landtree.specs.Options.{EndsWell};
 ghost use Rattle.landtree.specs.Policy.{MayFail};
 ghost use Rattle.ll_session.specs.Run.{MayEnd};
 
 use failure::Failure;
 use input::InputFile;
+use ll_saved::Verdict;
 use ll_session::Setup;
-use options::Options;
+use options::{Options, RunOptions};
+use outcome::Outcome;
 use policy::setup_of;
-use program::perform;
+use program::{audit, perform};
+use shown::Shown;
+use std::io::IsTerminal;
 use std::process::ExitCode;
 use std::{env, io};
 
@@ -36,13 +43,16 @@ fn words_of(rt: &HostRuntime) -> Result<Vec<String>, Failure> {
 }
 
 // Where the words ask for no run: clap's help and version are texts to print.
-fn told(rt: &HostRuntime, error: &clap::Error) -> Result<(), Failure>
+fn told(rt: &HostRuntime, error: &clap::Error) -> Result<Outcome, Failure>
     ensures failure { IfSome (failure_by (kind_of error.now)) (λ failure. result ≡ Err failure) }
     ensures text { IfNone (failure_by (kind_of error.now)) (IfErr result (λ failure. failure ≡ Failure.Output)) }
 {
     match Failure::of_words(error) {
         Some(failure) => Err(failure),
-        None => error.print(rt).map_err(|_| Failure::Output),
+        None => match error.print(rt) {
+            Ok(()) => Ok(Outcome::Done),
+            Err(_) => Err(Failure::Output),
+        },
     }
 }
 
@@ -59,35 +69,72 @@ fn run_setup(rt: &HostRuntime, setup: &Setup, script: &str) -> Result<(), Failur
     }
 }
 
-// Sets up what is asked for, and runs the script.
-fn run_options(rt: &HostRuntime, options: &Options) -> Result<(), Failure>
-    ensures { IfErr result (λ failure. (text : List ℕ) × MayFail (asked_in options.now) text failure) }
+// Sets up the run that is wanted, and runs the script.
+fn run_options(rt: &HostRuntime, options: &RunOptions) -> Result<(), Failure>
+    ensures { IfErr result (λ failure. (text : List ℕ) × MayFail (order_in options.now) text failure) }
 {
     let mut file = InputFile::new(rt, options.policy.unwrap_or(""));
     let setup = setup_of(rt.alloc(), options, &mut file)?;
     run_setup(rt, &setup, options.script)
 }
 
-fn run_words(rt: &HostRuntime, words: &[&str]) -> Result<(), Failure>
+// Judges the history in the file of this name.
+fn audit_file(rt: &HostRuntime, file: &str) -> Result<Verdict, Failure>
+    ensures { IfErr result IsOfAudit }
+{
+    let mut out = rt.stdout();
+    let mut shown = Shown::new(rt.stderr(), rt.stderr().is_terminal());
+    if file == "-" {
+        audit(rt.alloc(), &mut rt.stdin(), &mut out, &mut shown)
+    } else {
+        audit(
+            rt.alloc(),
+            &mut InputFile::new(rt, file),
+            &mut out,
+            &mut shown,
+        )
+    }
+}
+
+// Does what is wanted.
+fn carry_out(rt: &HostRuntime, options: &Options) -> Result<Outcome, Failure>
+    ensures unfit { (order : RunOrder) → ordered_in options.now ≡ to_run order → fits order ≡ false
+        → result ≡ Err Failure.CommandLine }
+    ensures run { (order : RunOrder) → ordered_in options.now ≡ to_run order → fits order ≡ true
+        → order.profile ≡ None → EndsRun result }
+    ensures audit { (file : Text) → ordered_in options.now ≡ to_audit file → EndsAudit result }
+{
+    match options {
+        Options::Run(run) if run.fit() => {
+            run_options(rt, run)?;
+            Ok(Outcome::Done)
+        }
+        Options::Run(_) => Err(Failure::CommandLine),
+        Options::Audit(file) => Ok(Outcome::Judged(audit_file(rt, file)?)),
+    }
+}
+
+fn run_words(rt: &HostRuntime, words: &[&str]) -> Result<Outcome, Failure>
     ensures ok { OnOk result (EndsWell (fault_of landtree (map (λ w. w.now) words.now))) }
     ensures mistake { (EndsWell (fault_of landtree (map (λ w. w.now) words.now)) → ⊥)
         → (result ≡ Err Failure.CommandLine) ⊎ (result ≡ Err Failure.NoMemory) }
     // Where clap finds no fault: options that don't go together are told so, and else only a profile may be wrong.
-    ensures unfit { (asked : Asked) → fault_of landtree (map (λ w. w.now) words.now) ≡ []
-        → asked_by (map (λ w. w.now) words.now) ≡ Some asked → fits asked ≡ false
+    ensures unfit { (order : RunOrder) → fault_of landtree (map (λ w. w.now) words.now) ≡ []
+        → ordered_by (map (λ w. w.now) words.now) ≡ Some (to_run order) → fits order ≡ false
         → (result ≡ Err Failure.CommandLine) ⊎ (result ≡ Err Failure.NoMemory) }
-    ensures run { (asked : Asked) → fault_of landtree (map (λ w. w.now) words.now) ≡ []
-        → asked_by (map (λ w. w.now) words.now) ≡ Some asked → fits asked ≡ true → asked.profile ≡ None
-        → result ≢ Err Failure.CommandLine }
+    ensures run { (order : RunOrder) → fault_of landtree (map (λ w. w.now) words.now) ≡ []
+        → ordered_by (map (λ w. w.now) words.now) ≡ Some (to_run order) → fits order ≡ true
+        → order.profile ≡ None → EndsRun result }
+    ensures audit { (file : Text) → fault_of landtree (map (λ w. w.now) words.now) ≡ []
+        → ordered_by (map (λ w. w.now) words.now) ≡ Some (to_audit file) → EndsAudit result }
 {
     match Options::read(rt.alloc(), words) {
-        Ok(options) if options.fit() => run_options(rt, &options),
-        Ok(_) => Err(Failure::CommandLine),
+        Ok(options) => carry_out(rt, &options),
         Err(error) => told(rt, &error),
     }
 }
 
-fn run_program(rt: &HostRuntime) -> Result<(), Failure> {
+fn run_program(rt: &HostRuntime) -> Result<Outcome, Failure> {
     let words = words_of(rt)?;
     let Ok(words) = words
         .iter()
@@ -100,11 +147,11 @@ fn run_program(rt: &HostRuntime) -> Result<(), Failure> {
 }
 
 // Says why the program fails, where it does. The status that it ends with.
-fn concluded(rt: &HostRuntime, ended: Result<(), Failure>) -> ExitCode
+fn concluded(rt: &HostRuntime, ended: Result<Outcome, Failure>) -> ExitCode
     ensures { exit_status result ≡ status_at ended }
 {
     match ended {
-        Ok(()) => ExitCode::SUCCESS,
+        Ok(outcome) => ExitCode::from(outcome.status()),
         Err(failure) => {
             let _ = eprintln!(rt; "{failure}");
             ExitCode::from(failure.status())

@@ -1,30 +1,35 @@
 //! What the words of the command line ask for.
 
 ghost use Rattle.std.specs.Prelude.{◌≡◌, ◌≤◌, codes, map, option_map, IfOk, Some};
-ghost use Rattle.ll_rights.specs.declared.limits.TheConstants.{TREE_NODES};
+ghost use Rattle.ll_rights.specs.declared.limits.TheConstants.{HISTORY_ENTRIES, TREE_NODES};
 
 use crate::command::landtree_command;
 use clap::{ArgMatches, Error};
 use ll_rights::Abi;
-use ll_rights::limits::TREE_NODES;
+use ll_rights::limits::{HISTORY_ENTRIES, TREE_NODES};
 use std::alloc::Global;
 
-/// What the program is asked to do: to run the script in this file, or in standard input where it is `-`, over a tree in
-/// which so many nodes may live, at this level or by the policy in this file, whose profile the first client has.
+/// The run that is wanted: of the script in this file, or in standard input where it is `-`, over a tree in which so many
+/// nodes may live, with so many entries of its history, at this level or by the policy in this file, whose profile the
+/// first client has. Its history is saved in a file, if one is named.
 #[derive(Drop)]
-pub struct Options<'a> {
+pub struct RunOptions<'a> {
     pub script: &'a str,
     pub nodes: usize,
     pub level: Option<Abi>,
+    pub history: usize,
     pub policy: Option<&'a str>,
     pub profile: Option<&'a str>,
+    pub save: Option<&'a str>,
     ghost some: { 1 ≤ nodes },
     ghost most: { nodes ≤ TREE_NODES },
+    ghost some_entries: { 1 ≤ history },
+    ghost most_entries: { history ≤ HISTORY_ENTRIES },
 }
 
-impl<'a> Options<'a> {
-    ghost use Rattle.clap.specs.Words.{FailsBy, fault_of, found_of, rows_of};
-    ghost use Rattle.landtree.specs.Options.{asked, asked_by, asked_in, fits, landtree, levels, number_of};
+impl<'a> RunOptions<'a> {
+    ghost use Rattle.clap.specs.Words.{found_of, rows_of};
+    ghost use Rattle.landtree.specs.Options.{fits, levels, number_of, order_in, run_order};
 
     // The level that the matches tell.
     fn level_of(run: &ArgMatches) -> Option<Abi>
@@ -36,49 +41,85 @@ impl<'a> Options<'a> {
         }
     }
 
-    // What the subcommand's matches ask for.
-    fn of_run(run: &ArgMatches<'a>) -> Option<Options<'a>>
-        ensures { option_map asked_in result ≡ asked (rows_of (found_of run.now)) }
+    // What the matches of `run` ask for.
+    fn of_matches(run: &ArgMatches<'a>) -> Option<RunOptions<'a>>
+        ensures { option_map order_in result ≡ run_order (rows_of (found_of run.now)) }
     {
         let script = run.get_str("SCRIPT")?;
         let nodes = run.get_one::<usize>("nodes")?;
         if nodes < 1 || TREE_NODES < nodes {
             return None;
         }
-        let level = Options::level_of(run);
+        let history = run.get_one::<usize>("history")?;
+        if history < 1 || HISTORY_ENTRIES < history {
+            return None;
+        }
+        let level = RunOptions::level_of(run);
         let policy = run.get_str("policy");
         let profile = run.get_str("profile");
-        Some(Options {
+        let save = run.get_str("save");
+        Some(RunOptions {
             script,
             nodes,
             level,
+            history,
             policy,
             profile,
+            save,
         })
-    }
-
-    /// What the words ask for, of which the first is the program's name.
-    pub fn read(alloc: Global, words: &'a [&'a str]) -> Result<Options<'a>, Error>
-        ensures asked { IfOk result (λ o. asked_by (map (λ w. w.now) words.entry.now) ≡ Some (asked_in o)) }
-        ensures fault { FailsBy (fault_of landtree (map (λ w. w.now) words.entry.now)) result }
-    {
-        let matches = landtree_command(alloc)?.try_get_matches_from(words)?;
-        let Some((_, run)) = matches.subcommand() else {
-            unreachable!()
-        };
-        let Some(options) = Options::of_run(run) else {
-            unreachable!()
-        };
-        Ok(options)
     }
 
     /// Whether the options go together: a level without a policy, a profile with one.
     pub fn fit(&self) -> bool
-        ensures { result ≡ fits (asked_in self.now) }
+        ensures { result ≡ fits (order_in self.now) }
     {
         match self.policy {
             Some(_) => self.level.is_none(),
             None => self.profile.is_none(),
         }
+    }
+}
+
+/// What the program is asked to do.
+#[derive(Drop)]
+pub enum Options<'a> {
+    Run(RunOptions<'a>),
+    /// To judge the history in this file, or in standard input where it is `-`.
+    Audit(&'a str),
+}
+
+impl<'a> Options<'a> {
+    ghost use Rattle.clap.specs.Words.{FailsBy, fault_of, found_of, rows_of};
+    ghost use Rattle.landtree.specs.Options.{landtree, ordered, ordered_by, ordered_in};
+
+    // What the matches of this subcommand ask for.
+    fn of_matches(name: &str, matches: &ArgMatches<'a>) -> Option<Options<'a>>
+        ensures { option_map ordered_in result ≡ ordered name.now (rows_of (found_of matches.now)) }
+    {
+        if name == "run" {
+            return match RunOptions::of_matches(matches) {
+                Some(run) => Some(Options::Run(run)),
+                None => None,
+            };
+        }
+        match matches.get_str("FILE") {
+            Some(file) => Some(Options::Audit(file)),
+            None => None,
+        }
+    }
+
+    /// What the words ask for, of which the first is the program's name.
+    pub fn read(alloc: Global, words: &'a [&'a str]) -> Result<Options<'a>, Error>
+        ensures asked { IfOk result (λ o. ordered_by (map (λ w. w.now) words.entry.now) ≡ Some (ordered_in o)) }
+        ensures fault { FailsBy (fault_of landtree (map (λ w. w.now) words.entry.now)) result }
+    {
+        let matches = landtree_command(alloc)?.try_get_matches_from(words)?;
+        let Some((name, found)) = matches.subcommand() else {
+            unreachable!()
+        };
+        let Some(options) = Options::of_matches(name, found) else {
+            unreachable!()
+        };
+        Ok(options)
     }
 }

@@ -3,12 +3,12 @@
 ghost use Rattle.std.specs.Prelude.{◌≡◌, ◌⊎◌, ℕ, List, Some, None, IfOk, IfErr, IfSome, IsOk};
 ghost use Rattle.toml.specs.Parse.{parse_document};
 ghost use Rattle.ll_policy.specs.Plan.{IsPlanOf};
-ghost use Rattle.landtree.specs.Options.{Asked, asked_in};
+ghost use Rattle.landtree.specs.Options.{RunOrder, order_in};
 ghost use Rattle.ll_session.specs.Transcript.{AreOthers};
 ghost use Rattle.landtree.specs.Policy.{ByLevel, ByPlan, IsSetup, Lacks, profile_of};
 
 use crate::failure::Failure;
-use crate::options::Options;
+use crate::options::RunOptions;
 use ll_policy::{Policy, PolicyFault};
 use ll_rights::Abi;
 use ll_seq::{Call, Rules};
@@ -32,7 +32,7 @@ fn read_text<R: Read>(alloc: Global, file: &mut R) -> Result<Vec<u8>, Failure>
 // The policy that a text gives.
 fn policy_of(alloc: Global, text: &[u8]) -> Result<Policy, Failure>
     ensures plan { IfOk result (IsPlanOf (parse_document text.now)) }
-    ensures failure { IfErr result (λ failure. (asked : Asked) → Lacks asked text.now failure) }
+    ensures failure { IfErr result (λ failure. (order : RunOrder) → Lacks order text.now failure) }
 {
     match str::from_utf8(text) {
         Ok(text) => match Policy::from_text(alloc, text) {
@@ -43,12 +43,12 @@ fn policy_of(alloc: Global, text: &[u8]) -> Result<Policy, Failure>
     }
 }
 
-// The calls of the profile that is asked for, if one is.
-fn calls_of(alloc: Global, options: &Options, policy: &Policy) -> Result<Vec<Call>, Failure>
-    ensures calls { IfOk result (λ calls. Some calls.items ≡ profile_of (asked_in options.now).profile policy.now) }
+// The calls of the profile that is wanted, if one is.
+fn calls_of(alloc: Global, options: &RunOptions, policy: &Policy) -> Result<Vec<Call>, Failure>
+    ensures calls { IfOk result (λ calls. Some calls.items ≡ profile_of (order_in options.now).profile policy.now) }
     ensures others { IfOk result (λ calls. AreOthers calls.items) }
     ensures failure { IfErr result (λ failure. (failure ≡ Failure.NoMemory)
-        ⊎ ((failure ≡ Failure.CommandLine) × (profile_of (asked_in options.now).profile policy.now ≡ None))) }
+        ⊎ ((failure ≡ Failure.CommandLine) × (profile_of (order_in options.now).profile policy.now ≡ None))) }
 {
     let Some(name) = options.profile else {
         return Ok(Vec::new(alloc));
@@ -61,11 +61,11 @@ fn calls_of(alloc: Global, options: &Options, policy: &Policy) -> Result<Vec<Cal
 }
 
 // The setup by a policy.
-fn by_policy(alloc: Global, options: &Options, policy: &Policy) -> Result<Setup, Failure>
+fn by_policy(alloc: Global, options: &RunOptions, policy: &Policy) -> Result<Setup, Failure>
     ensures nodes { IfOk result (λ setup. setup.nodes ≡ options.now.nodes) }
-    ensures setup { IfOk result (ByPlan (asked_in options.now) policy.now) }
+    ensures setup { IfOk result (ByPlan (order_in options.now) policy.now) }
     ensures failure { IfErr result (λ failure. (failure ≡ Failure.NoMemory)
-        ⊎ ((failure ≡ Failure.CommandLine) × (profile_of (asked_in options.now).profile policy.now ≡ None))) }
+        ⊎ ((failure ≡ Failure.CommandLine) × (profile_of (order_in options.now).profile policy.now ≡ None))) }
 {
     let profile = calls_of(alloc, options, policy)?;
     let Ok(opening) = policy.opening(alloc) else {
@@ -83,9 +83,9 @@ fn by_policy(alloc: Global, options: &Options, policy: &Policy) -> Result<Setup,
 }
 
 // The setup without a policy.
-fn by_level(alloc: Global, options: &Options) -> Setup
+fn by_level(alloc: Global, options: &RunOptions) -> Setup
     ensures nodes { result.nodes ≡ options.now.nodes }
-    ensures setup { ByLevel (asked_in options.now) result }
+    ensures setup { ByLevel (order_in options.now) result }
 {
     Setup {
         rules: Rules {
@@ -99,11 +99,15 @@ fn by_level(alloc: Global, options: &Options) -> Setup
 }
 
 /// What the options ask for, with the policy in this file where they name one: else it isn't read.
-pub fn setup_of<R: Read>(alloc: Global, options: &Options, file: &mut R) -> Result<Setup, Failure>
+pub fn setup_of<R: Read>(
+    alloc: Global,
+    options: &RunOptions,
+    file: &mut R,
+) -> Result<Setup, Failure>
     ensures setup { IfOk result (λ setup. (text : List ℕ) × IfSome (R.remaining file.old) (λ told. text ≡ told)
-        × IsSetup (asked_in options.now) text setup) }
+        × IsSetup (order_in options.now) text setup) }
     ensures failure { IfErr result (λ failure. (text : List ℕ) × IfSome (R.remaining file.old) (λ told. text ≡ told)
-        × Lacks (asked_in options.now) text failure) }
+        × Lacks (order_in options.now) text failure) }
     ensures alone { options.now.policy ≡ None → IsOk result }
 {
     if options.policy.is_none() {

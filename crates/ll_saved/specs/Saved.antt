@@ -30,8 +30,10 @@ Tell (line ∷ lines) h es = SpellsHeader line h × SpellEach lines es
 -- The number of the first line that is of no form, counted from 1. Without any line that is the header's
 pub data IsFirstBad (lines : List (List ℕ)) : ℕ → Type 0 where
   no_line : lines ≡ [] → IsFirstBad lines 1
-  no_header : (line : List ℕ) (more : List (List ℕ)) → lines ≡ line ∷ more → ((h : Header) → SpellsHeader line h → ⊥) → IsFirstBad lines 1
-  no_entry : (h : Header) (es : List Entry) (front back : List (List ℕ)) (line : List ℕ) → lines ≡ front ++ line ∷ back → Tell front h es
+  no_header : (line : List ℕ) (more : List (List ℕ)) → lines ≡ line ∷ more
+      → ((h : Header) → SpellsHeader line h → ⊥) → IsFirstBad lines 1
+  no_entry : (h : Header) (es : List Entry) (front back : List (List ℕ)) (line : List ℕ)
+      → lines ≡ front ++ line ∷ back → Tell front h es
       → ((e : Entry) → SpellsEntry line e → ⊥) → IsFirstBad lines (length es + 2)
 
 -- the tree that the header tells of, when it was opened
@@ -42,7 +44,8 @@ opened h = start (version_rules h.version) h.nodes
 -- there; or else how many there are
 pub data Judges (lines : List (List ℕ)) : Verdict → Type 0 where
   bad : (k : ℕ) → IsFirstBad lines k → Judges lines (BadLine k)
-  illegal : (h : Header) (es : List Entry) (k : ℕ) → Tell lines h es → IsFirstIllegal (opened h) es k → Judges lines (Illegal k)
+  illegal : (h : Header) (es : List Entry) (k : ℕ) → Tell lines h es → IsFirstIllegal (opened h) es k
+      → Judges lines (Illegal k)
   legal : (h : Header) (es : List Entry) → Tell lines h es → IsLegal (opened h) es → Judges lines (Legal (length es))
 
 abbrev pub verdict_line : Verdict → List ℕ

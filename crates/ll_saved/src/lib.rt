@@ -1,11 +1,19 @@
-//! Saved histories: what a file of one tells, and what an audit answers for it.
+//! Saved histories: what a file of one tells, what an audit answers for it, and how one is written.
 #![tactic(auto)]
 
+mod auditing;
+mod following;
 mod judging;
 mod lines;
+mod progress;
 mod reading;
+mod saving;
 mod verdict;
+mod writing;
 
+pub use auditing::{AuditFailure, run_audit};
 pub use judging::judge;
+pub use progress::{Progress, Untold};
 pub use reading::{ReadFault, Saved};
+pub use saving::{SaveFault, save};
 pub use verdict::Verdict;

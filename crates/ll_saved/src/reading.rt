@@ -44,7 +44,8 @@ impl Saved {
         ensures header { self.new.header ≡ self.old.header }
         ensures bad { IfErr result (λ fault. (k : ℕ) → fault ≡ ReadFault.BadLine k
             → (k ≡ length self.old.entries.items + 2) × ((e : entries.Entry) → SpellsEntry line.now e → ⊥)) }
-        ensures starved { IfErr result (λ fault. fault ≡ ReadFault.NoMemory → (e : entries.Entry) × SpellsEntry line.now e) }
+        ensures starved { IfErr result (λ fault. fault ≡ ReadFault.NoMemory
+            → (e : entries.Entry) × SpellsEntry line.now e) }
     {
         let entry = match read_entry(alloc, line) {
             Ok(entry) => entry,
@@ -62,8 +63,9 @@ impl Saved {
         ensures told { IfOk result (λ saved. Tell (pieces bytes.now) saved.header saved.entries.items) }
         ensures bad { IfErr result (λ fault. (k : ℕ) → fault ≡ ReadFault.BadLine k → IsFirstBad (pieces bytes.now) k) }
         // Memory is wanted for entries alone.
-        ensures starved { IfErr result (λ fault. fault ≡ ReadFault.NoMemory → (h : headers.Header) × (es : List entries.Entry)
-            × (front back : List (List ℕ)) × (pieces bytes.now ≡ front ++ back) × Tell front h es × (1 ≤ length es)) }
+        ensures starved { IfErr result (λ fault. fault ≡ ReadFault.NoMemory
+            → (h : headers.Header) × (es : List entries.Entry) × (front back : List (List ℕ))
+            × (pieces bytes.now ≡ front ++ back) × Tell front h es × (1 ≤ length es)) }
     {
         if bytes.is_empty() {
             return Err(ReadFault::BadLine(1));

@@ -2,6 +2,7 @@ use Rattle.std.proofs.Common.{◌≡◌, ◌∙◌, ap, ap₂, codes, true}
 use Rattle.std.proofs.lemmas.Result.{IfOk-weaker}
 use Rattle.clap.specs.Words.{App, app_of, new_app, with_subcommand}
 use Rattle.clap.specs.Simple.{Shape, app_of_fields, on_top}
+use Rattle.landtree.specs.Options.{audit, run}
 use Rattle.landtree.proofs.command.landtree_command.Goals as goal
 
 abbrev versioned : App → App
@@ -14,4 +15,5 @@ pub returns : goal.returns
 returns c =
     let top_is : app_of c.subcommand_required.result ≡ demanding (versioned (new_app (codes "landtree"))) = ap app_of_fields c.subcommand_required.ensures
     ∙ ap demanding (ap app_of_fields c.version.ensures ∙ ap versioned (ap app_of_fields c.about.ensures ∙ c.new.ensures.app)) in
-    IfOk-weaker c.subcommand.result _ _ (λ command adds. adds.shape c.in_ok-run.ensures.local ∙ ap₂ with_subcommand top_is (ap (λ (a : App). a.top) c.in_ok-run.ensures.app)) c.subcommand.ensures
+    let runs = c.in_ok-with_run.ensures.shape c.in_ok-run.ensures.local ∙ ap₂ with_subcommand top_is (ap (λ (a : App). a.top) c.in_ok-run.ensures.app) in
+    IfOk-weaker c.subcommand-2.result _ _ (λ command adds. adds.shape c.in_ok-audit.ensures.local ∙ ap₂ with_subcommand runs (ap (λ (a : App). a.top) c.in_ok-audit.ensures.app)) c.subcommand-2.ensures

@@ -1,5 +1,5 @@
 use Rattle.std.proofs.Common.{◌≡◌, rules}
-use Rattle.landtree.specs.Options.{asked_in}
+use Rattle.landtree.specs.Options.{order_in}
 use Rattle.landtree.proofs.Known.{a_text, same_text, set_by_level, unread}
 use Rattle.landtree.proofs.policy.setup_of.Goals as goal
 
@@ -11,11 +11,11 @@ returns-then-is_none-clause-setup g c =
 pub returns-in-Err-clause-failure : goal.returns-in-Err-clause-failure
 returns-in-Err-clause-failure g c =
     let text = a_text (g.R.Read.remaining c.args.file.now) in
-    (text.0, text.1, unread (asked_in c.args.options.now) text.0 c.in-Err.failure c.in-Err.ensures.failure)
+    (text.0, text.1, unread (order_in c.args.options.now) text.0 c.in-Err.failure c.in-Err.ensures.failure)
 
 pub returns-clause-failure : goal.returns-clause-failure
 returns-clause-failure g c = (
   c.as_slice.result.now,
   same_text (g.R.Read.remaining c.args.file.now) c.as_slice.result.now c.in-Ok.text.items c.as_slice.ensures.value c.in-Ok.ensures.text,
-  c.in-Err-policy_of.ensures.failure (asked_in c.args.options.now),
+  c.in-Err-policy_of.ensures.failure (order_in c.args.options.now),
 )

@@ -5,7 +5,7 @@ use Rattle.ll_saved.specs.declared.verdict.Verdict.TheVariants.{BadLine}
 use Rattle.ll_saved.proofs.judging.judge.Goals as goal
 
 pub returns-in-Err-BadLine-clause-verdict : goal.returns-in-Err-BadLine-clause-verdict
-returns-in-Err-BadLine-clause-verdict c =
+returns-in-Err-BadLine-clause-verdict g c =
     let line = c.in-Err-BadLine.line in
     subst (λ (n : ℕ). Judges (pieces c.args.bytes.now) (BadLine n)) (sym c.in-Err-BadLine.line-is)
     (bad line (c.in-Err-BadLine.ensures.bad line c.in-Err-BadLine.field-0-is))

@@ -9,7 +9,7 @@ use Rattle.ll_saved.specs.declared.verdict.Verdict.TheVariants.{Legal}
 use Rattle.ll_saved.proofs.reading.Saved.judged.Goals as goal
 
 pub returns-in-Ok : goal.returns-in-Ok
-returns-in-Ok c =
+returns-in-Ok g c =
     let h = c.args.self.now.header in
     let es = c.args.self.now.entries.items in
     let tree : c.in_ok-tree.tree ≡ opened h = c.in_ok-tree.ensures ∙ ap (λ (r : Rules). start r h.nodes) c.rules.ensures in
@@ -19,7 +19,7 @@ returns-in-Ok c =
     λ lines told. subst (λ (n : ℕ). Judges lines (Legal n)) (sym count) (legal h es told whole)
 
 pub returns-in-Err-Illegal : goal.returns-in-Err-Illegal
-returns-in-Err-Illegal c =
+returns-in-Err-Illegal g c =
     let h = c.args.self.now.header in
     let es = c.args.self.now.entries.items in
     let k = c.in-Err-Illegal.entry in

@@ -4,7 +4,7 @@ use Rattle.clap.specs.Words.{found_of}
 use Rattle.clap.proofs.WalkLemmas.{one_text-rows}
 use Rattle.landtree.specs.Options.{levels, number_in}
 use Rattle.landtree.proofs.Numbers.{level_allowed, number_read}
-use Rattle.landtree.proofs.options.Options.level_of.Goals as goal
+use Rattle.landtree.proofs.options.RunOptions.level_of.Goals as goal
 
 pub returns-in-None : goal.returns-in-None
 returns-in-None c =

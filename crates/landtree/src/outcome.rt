@@ -1,0 +1,26 @@
+//! What the program has done where it doesn't fail.
+
+ghost use Rattle.std.specs.Prelude.{◌≡◌};
+ghost use Rattle.landtree.specs.Failure.{status_by};
+
+use ll_saved::Verdict;
+
+#[derive(Clone, Copy, Debug)]
+pub enum Outcome {
+    /// A script is run to its end, or a text of clap's is printed.
+    Done,
+    /// A history is judged.
+    Judged(Verdict),
+}
+
+impl Outcome {
+    /// The program's exit status.
+    pub fn status(self) -> u8
+        ensures { result ≡ status_by self }
+    {
+        match self {
+            Outcome::Done | Outcome::Judged(Verdict::Legal(_)) => 0,
+            Outcome::Judged(Verdict::Illegal(_) | Verdict::BadLine(_)) => 3,
+        }
+    }
+}

@@ -1,0 +1,36 @@
+//! Progress, for people.
+
+use ll_saved::Progress;
+use std::io::Write;
+
+/// From so many entries on progress is shown.
+const MANY: usize = 100_000;
+
+/// Shows how far an audit of many entries has come, where somebody watches: a line each tenth.
+#[derive(Drop)]
+pub struct Shown<W> {
+    out: W,
+    is_watched: bool,
+    // The count that is shown next.
+    next: usize,
+}
+
+impl<W: Write> Shown<W> {
+    pub fn new(out: W, is_watched: bool) -> Self {
+        Shown {
+            out,
+            is_watched,
+            next: 0,
+        }
+    }
+}
+
+impl<W: Write> Progress for Shown<W> {
+    fn tell(&mut self, done: usize, entries: usize) {
+        if !self.is_watched || entries < MANY || done < self.next {
+            return;
+        }
+        self.next = done.saturating_add(entries / 10);
+        let _ = writeln!(self.out, "{done} of {entries} entries");
+    }
+}
