@@ -18,3 +18,6 @@ pub mod NameMaps
 pub mod MarkOf
 pub mod Shown
 pub mod SlotAccounts
+pub mod Sound
+pub mod HeldAfter
+pub mod LentSlots

@@ -395,7 +395,7 @@ fork_fits s domain call (Down trunk) next on e =
 idle : (w : World) (number : ℕ) → is_idle w number ≡ true → (has (shown w).clients number ≡ true) × (has w.walks number ≡ false)
 idle w number e = let b = both (has (shown w).clients number) (not (has w.walks number)) e in (b.0, not_true _ b.1)
 
-holds_on : Keeps Holds
+pub holds_on : Keeps Holds
 holds_on = record {
   begins = λ w number call h i walked g.
       put_walk w number (record { call = call; starts = 1; stale = false; at = Above }) (cond (takes_gate call) (Some number) w.gate) h (idle w number i).0 walked tt (λ f. tt);
