@@ -14,8 +14,8 @@ use Rattle.ll_seq.specs.declared.call.Call.{Call}
 use Rattle.ll_seq.specs.declared.call.Call.TheVariants.{Make, Open, Read, Write, Ftruncate, Close, Truncate, ReadDir, Stat, Exec, Unlink, Rmdir, Rename, RenameNoreplace, Exchange, Link, Ruleset, Allow, Confine, Spawn, Connect}
 use Rattle.ll_seq.specs.Call.{targets}
 use Rattle.ll_answer.specs.Passed.{has_path}
-use Rattle.ll_journal.specs.Walk.{Walk}
-use Rattle.ll_journal.specs.World.{has_any, early_refusals, is_walked}
+use Rattle.ll_walks.specs.Walk.{Walk}
+use Rattle.ll_walks.specs.World.{has_any, early_refusals, is_walked}
 use Rattle.ll_journal.specs.Book.{Seat}
 use Rattle.ll_journal.specs.Kept.{walks_from, seat_at}
 

@@ -1,16 +1,3 @@
-pub mod Tests
-pub mod Kept
-pub mod Calls
-pub mod Masks
-pub mod Ways
-pub mod Legs
-pub mod Turns
-pub mod Worlds
-pub mod Marks
-pub mod Gates
-pub mod Commits
-pub mod Growing
-pub mod Examples
 pub mod Opened
 pub mod Begun
 pub mod Starting

@@ -17,8 +17,8 @@ use Rattle.ll_seq.specs.Facts.{AreKept}
 use Rattle.ll_seq.specs.History.{Log, state_after}
 use Rattle.ll_journal.specs.declared.journal.Journal.TheInside.{Inside}
 use Rattle.ll_seq.specs.Step.{client_of}
-use Rattle.ll_journal.specs.Walk.{Walk, Above, marks}
-use Rattle.ll_journal.specs.World.{World, Outcome, Begun, NotNow, Begin, advance, begun, is_idle, is_walked, takes_gate, shown, next_number}
+use Rattle.ll_walks.specs.Walk.{Walk, Above, marks}
+use Rattle.ll_walks.specs.World.{World, Outcome, Begun, NotNow, Begin, advance, begun, is_idle, is_walked, takes_gate, shown, next_number}
 use Rattle.ll_journal.specs.Book.{Seat, Book, Spares, inode_in, slot_of, vacant, names_map, has_mark, marked_below}
 use Rattle.ll_journal.specs.Kept.{AreSeated, ArePlaced, IsVacant, IsKept, seat_at, walks_from, world_of}
 use Rattle.std.proofs.lemmas.Option.{slice_get-get_or}

@@ -11,8 +11,8 @@ use Rattle.ll_seq.specs.declared.rules.Rules.{Rules}
 use Rattle.ll_seq.specs.State.{Name, State, bytes_of, root}
 use Rattle.ll_seq.specs.Tree.{kind_or_file}
 use Rattle.ll_journal.specs.declared.held.Held.{Held}
-use Rattle.ll_journal.specs.Walk.{Walk, marks}
-use Rattle.ll_journal.specs.World.{World, new_world, next_number, shown}
+use Rattle.ll_walks.specs.Walk.{Walk, marks}
+use Rattle.ll_walks.specs.World.{World, new_world, next_number, shown}
 
 -- A client: its record, the slot that is kept for what it makes, and its walk if one is under way
 pub record Seat : Type 0 where

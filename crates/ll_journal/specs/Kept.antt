@@ -7,8 +7,8 @@ use Rattle.ll_rights.specs.Map.{Map, empty, get, insert}
 use Rattle.ll_seq.specs.State.{State}
 use Rattle.ll_seq.specs.Facts.{AreKept}
 use Rattle.ll_journal.specs.declared.journal.Journal.TheInside.{Inside}
-use Rattle.ll_journal.specs.Walk.{Walk}
-use Rattle.ll_journal.specs.World.{World, shown}
+use Rattle.ll_walks.specs.Walk.{Walk}
+use Rattle.ll_walks.specs.World.{World, shown}
 use Rattle.ll_journal.specs.Book.{Seat, Book}
 
 -- the walks that are under way; the first seat is that of the client of this number

@@ -1,8 +1,3 @@
-pub mod Walk
-pub mod World
-pub mod Walks
-pub mod Commits
-pub mod Growing
 pub mod Book
 pub mod Codes
 pub mod Seated

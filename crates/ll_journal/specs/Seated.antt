@@ -9,7 +9,7 @@ use Rattle.ll_journal.specs.declared.seat.Leg as kept
 use Rattle.ll_journal.specs.declared.seat.Stage.{Stage}
 use Rattle.ll_journal.specs.declared.seat.Stage.TheVariants as stage
 use Rattle.ll_journal.specs.declared.seat.Seat.TheInside.{Inside}
-use Rattle.ll_journal.specs.Walk.{Leg, Position, Above, Down, Split, Mask, rights_where, trunk_path}
+use Rattle.ll_walks.specs.Walk.{Leg, Position, Above, Down, Split, Mask, rights_where, trunk_path}
 use Rattle.ll_journal.specs.Book as book
 
 -- what each layer grants on the chain

@@ -95,7 +95,7 @@ fn place_of(seats: &[Seat], client: u64) -> Option<usize>
 
 impl Journal {
     ghost use Rattle.ll_journal.specs.Book.{Spares, new_book};
-    ghost use Rattle.ll_journal.specs.World.{Begin, Begun, NotNow, advance};
+    ghost use Rattle.ll_walks.specs.World.{Begin, Begun, NotNow, advance};
 
     /// A tree of the root alone, in which so many nodes may live, without a client. Room is reserved for so many
     /// entries of the history.

@@ -1,4 +1,4 @@
-//! A tree that many clients share: the walks of their calls, and the steps by which these go on.
+//! The journal of a tree that many clients share: the steps of their walks, each a method.
 #![tactic(auto)]
 
 mod held;
@@ -6,59 +6,5 @@ mod journal;
 mod seat;
 mod walked;
 
-ghost use Rattle.ll_journal.specs.Commits.{BlockedAreRefused, EndsAreReached};
-ghost use Rattle.ll_journal.specs.Growing.{HistoryGrows, NoGainBetween, WithheldBetween};
-ghost use Rattle.ll_journal.specs.Walks.{GateHolderIsNeverStale, HistoryIsLegal, MarksAreApart, StartsAreFew, WalksAreValid};
-
 pub use held::Held;
 pub use journal::Journal;
-
-/// Whatever steps are made, in whatever order, the history is one of the sequential tree.
-pub fn history_is_legal()
-    ensures { HistoryIsLegal }
-{}
-
-/// What a walk has found, of which no directory was moved since, is so in the tree as it is shown.
-pub fn walks_are_valid()
-    ensures { WalksAreValid }
-{}
-
-/// No directory carries two marks.
-pub fn marks_are_apart()
-    ensures { MarksAreApart }
-{}
-
-/// No walk starts more than four times.
-pub fn starts_are_few()
-    ensures { StartsAreFew }
-{}
-
-/// Neither a call that takes the move gate nor a walk on its fourth start is overtaken.
-pub fn gate_holder_is_never_stale()
-    ensures { GateHolderIsNeverStale }
-{}
-
-/// A walk at its ends stands in the directories of its call's last names.
-pub fn ends_are_reached()
-    ensures { EndsAreReached }
-{}
-
-/// A walk that can't go on is refused for the name that stops it.
-pub fn blocked_are_refused()
-    ensures { BlockedAreRefused }
-{}
-
-/// A history only grows, and never beyond its limit.
-pub fn history_grows()
-    ensures { HistoryGrows }
-{}
-
-/// What `ll_laws::reach_never_grows` says of histories, between any two worlds.
-pub fn reach_never_grows()
-    ensures { NoGainBetween }
-{}
-
-/// What `ll_laws::bytes_stay_withheld` says of histories, between any two worlds.
-pub fn bytes_stay_withheld()
-    ensures { WithheldBetween }
-{}

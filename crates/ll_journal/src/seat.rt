@@ -2,8 +2,8 @@
 
 ghost use Rattle.std.specs.Prelude.{◌≡◌, ◌&&◌, false, None, Some, is_none, IfOk};
 ghost use Rattle.ll_seq.specs.State.{new_client};
-ghost use Rattle.ll_journal.specs.Walk.{Above};
-ghost use Rattle.ll_journal.specs.World.{is_walked};
+ghost use Rattle.ll_walks.specs.Walk.{Above};
+ghost use Rattle.ll_walks.specs.World.{is_walked};
 
 use crate::walked::walks;
 use ll_decide::Masks;

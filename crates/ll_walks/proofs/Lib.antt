@@ -1,0 +1,14 @@
+pub mod Tests
+pub mod Kept
+pub mod Calls
+pub mod Masks
+pub mod Ways
+pub mod Legs
+pub mod Turns
+pub mod Worlds
+pub mod Marks
+pub mod Gates
+pub mod Commits
+pub mod Sound
+pub mod Growing
+pub mod Examples

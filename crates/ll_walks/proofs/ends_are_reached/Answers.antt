@@ -1,0 +1,5 @@
+use Rattle.ll_walks.proofs.Commits.{ends_are_reached}
+use Rattle.ll_walks.proofs.ends_are_reached.Goals as goal
+
+pub returns : goal.returns
+returns c = ends_are_reached
