@@ -11,12 +11,12 @@ use Rattle.ll_seq.specs.State.{State, root}
 use Rattle.ll_seq.specs.Step.{step, client_of}
 use Rattle.ll_seq.proofs.Parted.{or_left, or_right}
 use Rattle.ll_journal.specs.declared.held.Held.{Held}
-use Rattle.ll_journal.specs.Walk.{Walk, Leg, Position, Above, Down, Split, turn, with_turn, forked, marks, legs, is_above}
-use Rattle.ll_journal.specs.World.{World, shown, next_number, reply_to, with_entry, with_walk, without_walk, with_stale, begun, entered, stood, restarted}
+use Rattle.ll_walks.specs.Walk.{Walk, Leg, Position, Above, Down, Split, turn, with_turn, forked, marks, legs, is_above}
+use Rattle.ll_walks.specs.World.{World, shown, next_number, reply_to, with_entry, with_walk, without_walk, with_stale, begun, entered, stood, restarted}
 use Rattle.ll_journal.specs.Book.{has_mark, mark_of, held_of, NotIn}
-use Rattle.ll_journal.proofs.Tests.{or_false}
-use Rattle.ll_journal.proofs.Turns.{ended}
-use Rattle.ll_journal.proofs.Sound.{IsSound}
+use Rattle.ll_walks.specs.Sound.{IsSound}
+use Rattle.ll_walks.proofs.Tests.{or_false}
+use Rattle.ll_walks.proofs.Turns.{ended}
 use Rattle.ll_journal.proofs.Shown.{shown_reply, shown_ended}
 use Rattle.ll_journal.proofs.MarkOf.{AreClients, Leaves, are_clients, has_mark_of, has_mark_none, mark_is, mark_same, mark_put, mark_put_gone, mark_put_same, mark_gone, mark_left, leaves_removed, ended_leaves, turn_leaves, fork_leaves}
 use Rattle.ll_journal.proofs.SlotAccounts.{content_of, changed_by, step_elsewhere}
@@ -26,7 +26,7 @@ abbrev pub marked : Held → Option ℕ → Held
 marked held mark = record held { node = record held.node { mark = mark } }
 
 known : (w : World) → IsSound w → AreClients w
-known w sound = are_clients w sound.0
+known w sound = are_clients w sound
 
 not_itself : (i x : ℕ) → i ≢ x → (x == i) ≡ false
 not_itself i x other = or_false (x == i) (λ e. other (sym (eqb-true x i e)))
@@ -49,7 +49,7 @@ nowhere (Split trunk old new) i e = absurd (cc e)
 module _ (w : World) (number : ℕ) (walk : Walk) (sound : IsSound w) (is : get w.walks number ≡ Some walk) where
   -- it enters the root
   pub held_entered_root : IsSound (entered w number walk) → held_of (entered w number walk) root ≡ marked (held_of w root) (Some number)
-  held_entered_root later = ap (marked (held_of w root)) (mark_put w (entered w number walk) number _ refl root (known _ later) later.1 refl)
+  held_entered_root later = ap (marked (held_of w root)) (mark_put w (entered w number walk) number _ refl root (known _ later) later.apart refl)
 
   pub held_entered_other : IsSound (entered w number walk) → is_above walk.at ≡ true → (i : ℕ) → i ≢ root → held_of (entered w number walk) i ≡ held_of w i
   held_entered_other later high i other =
@@ -59,7 +59,7 @@ module _ (w : World) (number : ℕ) (walk : Walk) (sound : IsSound w) (is : get 
   module _ (leg : Leg) where
     -- it comes to the directory of the leg
     pub held_stood_there : IsSound (stood w number walk leg) → is_above walk.at ≡ false → held_of (stood w number walk leg) leg.here ≡ marked (held_of w leg.here) (Some number)
-    held_stood_there later low = ap (marked (held_of w leg.here)) (mark_put w (stood w number walk leg) number _ refl leg.here (known _ later) later.1 (comes walk.at low))
+    held_stood_there later low = ap (marked (held_of w leg.here)) (mark_put w (stood w number walk leg) number _ refl leg.here (known _ later) later.apart (comes walk.at low))
       where
         comes : (at : Position) → is_above at ≡ false → list_any (λ (l : Leg). l.here == leg.here) (legs (with_turn at leg)) ≡ true
         comes Above e = absurd (cc e)
@@ -75,8 +75,8 @@ module _ (w : World) (number : ℕ) (walk : Walk) (sound : IsSound w) (is : get 
     held_stood_left later i had = ap (marked (held_of w i)) (by (marks (record walk { at = with_turn walk.at leg }) i) refl)
       where
         by : (b : Bool) → marks (record walk { at = with_turn walk.at leg }) i ≡ b → mark_of (stood w number walk leg) i ≡ cond b (Some number) None
-        by true e = mark_put w (stood w number walk leg) number _ refl i (known _ later) later.1 e
-        by false e = mark_put_gone w (stood w number walk leg) number _ refl i sound.1 (has_mark_of w i number walk is ∙ had) e
+        by true e = mark_put w (stood w number walk leg) number _ refl i (known _ later) later.apart e
+        by false e = mark_put_gone w (stood w number walk leg) number _ refl i sound.apart (has_mark_of w i number walk is ∙ had) e
 
     pub held_stood_other : IsSound (stood w number walk leg) → (from : Leg) → turn walk.at ≡ Some from → (i : ℕ) → i ≢ from.here → i ≢ leg.here → held_of (stood w number walk leg) i ≡ held_of w i
     held_stood_other later from at i away other =
@@ -91,7 +91,7 @@ module _ (w : World) (number : ℕ) (walk : Walk) (sound : IsSound w) (is : get 
 
   -- it starts again
   pub held_restarted_left : IsSound (restarted w number walk) → (i : ℕ) → marks walk i ≡ true → held_of (restarted w number walk) i ≡ marked (held_of w i) None
-  held_restarted_left later i had = ap (marked (held_of w i)) (mark_put_gone w (restarted w number walk) number _ refl i sound.1 (has_mark_of w i number walk is ∙ had) refl)
+  held_restarted_left later i had = ap (marked (held_of w i)) (mark_put_gone w (restarted w number walk) number _ refl i sound.apart (has_mark_of w i number walk is ∙ had) refl)
 
   pub held_restarted_other : IsSound (restarted w number walk) → (i : ℕ) → marks walk i ≡ false → held_of (restarted w number walk) i ≡ held_of w i
   held_restarted_other later i free =
@@ -99,7 +99,7 @@ module _ (w : World) (number : ℕ) (walk : Walk) (sound : IsSound w) (is : get 
 
   -- it ends without an entry
   pub held_given_up_left : (i : ℕ) → marks walk i ≡ true → held_of (with_stale [] (without_walk w number)) i ≡ marked (held_of w i) None
-  held_given_up_left i had = ap (marked (held_of w i)) (mark_gone w (with_stale [] (without_walk w number)) number (leaves_removed w (with_stale [] (without_walk w number)) number [] refl) i sound.1 (has_mark_of w i number walk is ∙ had))
+  held_given_up_left i had = ap (marked (held_of w i)) (mark_gone w (with_stale [] (without_walk w number)) number (leaves_removed w (with_stale [] (without_walk w number)) number [] refl) i sound.apart (has_mark_of w i number walk is ∙ had))
 
   pub held_given_up_other : IsSound (with_stale [] (without_walk w number)) → (i : ℕ) → marks walk i ≡ false → held_of (with_stale [] (without_walk w number)) i ≡ held_of w i
   held_given_up_other later i free =
@@ -117,7 +117,7 @@ module _ (w : World) (number : ℕ) (walk : Walk) (sound : IsSound w) (is : get 
   pub held_committed_left : (i : ℕ) → marks walk i ≡ true → held_of committed_world i ≡ record { inode = i; node = record (content_of committed_state i) { mark = None } }
   held_committed_left i had =
       let content = ap (λ s. content_of s i) (shown_ended w number walk) in
-      let mark = mark_gone w committed_world number (ended_leaves w number walk (reply_to w number walk.call)) i sound.1 (has_mark_of w i number walk is ∙ had) in
+      let mark = mark_gone w committed_world number (ended_leaves w number walk (reply_to w number walk.call)) i sound.apart (has_mark_of w i number walk is ∙ had) in
       λ j. record { inode = i; node = record (content j) { mark = mark j } }
 
   pub held_committed : IsSound committed_world → (i : ℕ) → marks walk i ≡ false → held_of committed_world i ≡ record { inode = i; node = record (content_of committed_state i) { mark = mark_of w i } }

@@ -7,7 +7,7 @@ use Rattle.ll_rights.specs.Map.{Map, get}
 use Rattle.ll_laws.proofs.Chains.{same_Some}
 use Rattle.ll_journal.specs.Book.{Book, NotIn, Spares, inode_in, slot_of, held_of, vacant}
 use Rattle.ll_journal.specs.Kept.{ArePlaced}
-use Rattle.ll_journal.proofs.Tests.{or_false}
+use Rattle.ll_walks.proofs.Tests.{or_false}
 
 module _ (b : Book) (k : ℕ) where
   -- of a slot where an inode lies

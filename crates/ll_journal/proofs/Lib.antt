@@ -5,6 +5,5 @@ pub mod NameMaps
 pub mod MarkOf
 pub mod Shown
 pub mod SlotAccounts
-pub mod Sound
 pub mod HeldAfter
 pub mod LentSlots

@@ -8,10 +8,10 @@ use Rattle.ll_seq.specs.Step.{step, refusals, first_or, client_of}
 use Rattle.ll_seq.specs.History.{fresh_of}
 use Rattle.ll_seq.proofs.Histories.{after_push}
 use Rattle.ll_laws.proofs.Gain.{done_of}
-use Rattle.ll_journal.specs.Walk.{Walk}
-use Rattle.ll_journal.specs.World.{World, shown, next_number, reply_to, with_entry}
-use Rattle.ll_journal.proofs.Calls.{step_again}
-use Rattle.ll_journal.proofs.Turns.{ended}
+use Rattle.ll_walks.specs.Walk.{Walk}
+use Rattle.ll_walks.specs.World.{World, shown, next_number, reply_to, with_entry}
+use Rattle.ll_walks.proofs.Calls.{step_again}
+use Rattle.ll_walks.proofs.Turns.{ended}
 
 -- with any reply
 pub shown_entry : (w : World) (number : ℕ) (call : Call) (reply : Reply) → shown (with_entry w number call reply) ≡ (step (shown w) number call (fresh_of reply)).1

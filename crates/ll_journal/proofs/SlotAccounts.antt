@@ -24,10 +24,10 @@ use Rattle.ll_seq.specs.Step.{step, refusals, first_or, client_of}
 use Rattle.ll_seq.specs.Effects.{lives, let_go, with_name, with_node, without_name, with_moved, renamed, exchanged, with_bytes, with_size, written, resized, overwritten, inode_at, dentry_of, with_client, with_opened, emptied, after_opening}
 use Rattle.ll_laws.proofs.Trees.{IsTree}
 use Rattle.ll_laws.proofs.Gain.{done_of, named_below}
-use Rattle.ll_journal.specs.World.{World, shown}
+use Rattle.ll_walks.specs.World.{World, shown}
 use Rattle.ll_journal.specs.Book.{names_map, mark_of, held_of, NotIn}
 use Rattle.ll_journal.proofs.NameMaps.{names_map-empty, names_put, names_put_other, names_taken, names_taken_other, names_moved_within, names_moved_after, names_renamed, names_moved_from, names_moved_into, names_moved_other, names_exchanged_within, names_exchanged_old, names_exchanged_new, names_exchanged_other}
-use Rattle.ll_journal.proofs.Kept.{let_go_entries, with_bytes_entries}
+use Rattle.ll_walks.proofs.Kept.{let_go_entries, with_bytes_entries}
 
 -- what lies in a node's slot, but for the mark
 abbrev pub content_of : State → ℕ → Slot
