@@ -7,3 +7,4 @@ pub mod Shown
 pub mod SlotAccounts
 pub mod HeldAfter
 pub mod LentSlots
+pub mod AtEnds

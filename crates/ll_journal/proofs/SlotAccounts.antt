@@ -222,29 +222,23 @@ module _ (s : State) (old new : Dentry) (inode : ℕ) where
 
 -- ---- two names that change places
 
-module _ (s : State) (old new : Path) where
+module _ (s : State) (old new : Dentry) (first second : ℕ) where
   abbrev swapped : State
-  swapped = exchanged s old new
-
-  abbrev from : Dentry
-  from = dentry_of s old
-
-  abbrev into : Dentry
-  into = dentry_of s new
+  swapped = with_name (with_name s new first) old second
 
   -- within a directory
-  pub exchange_within : directory_of s old ≡ directory_of s new → content_of swapped (directory_of s old) ≡ record (content_of s (directory_of s old)) { names = insert (insert (names_map s (directory_of s old)) into.name (inode_of s old)) from.name (inode_of s new) }
-  exchange_within same = with_names s swapped (directory_of s old) _ refl (names_exchanged_within s swapped from into (inode_of s old) (inode_of s new) refl same)
+  pub exchange_within : old.directory ≡ new.directory → content_of swapped old.directory ≡ record (content_of s old.directory) { names = insert (insert (names_map s old.directory) new.name first) old.name second }
+  exchange_within same = with_names s swapped old.directory _ refl (names_exchanged_within s swapped old new first second refl same)
 
   -- between two
-  pub exchange_old : directory_of s old ≢ directory_of s new → content_of swapped (directory_of s old) ≡ record (content_of s (directory_of s old)) { names = insert (names_map s (directory_of s old)) from.name (inode_of s new) }
-  exchange_old two = with_names s swapped (directory_of s old) _ refl (names_exchanged_old s swapped from into (inode_of s old) (inode_of s new) refl two)
+  pub exchange_old : old.directory ≢ new.directory → content_of swapped old.directory ≡ record (content_of s old.directory) { names = insert (names_map s old.directory) old.name second }
+  exchange_old two = with_names s swapped old.directory _ refl (names_exchanged_old s swapped old new first second refl two)
 
-  pub exchange_new : directory_of s new ≢ directory_of s old → content_of swapped (directory_of s new) ≡ record (content_of s (directory_of s new)) { names = insert (names_map s (directory_of s new)) into.name (inode_of s old) }
-  exchange_new two = with_names s swapped (directory_of s new) _ refl (names_exchanged_new s swapped from into (inode_of s old) (inode_of s new) refl two)
+  pub exchange_new : new.directory ≢ old.directory → content_of swapped new.directory ≡ record (content_of s new.directory) { names = insert (names_map s new.directory) new.name first }
+  exchange_new two = with_names s swapped new.directory _ refl (names_exchanged_new s swapped old new first second refl two)
 
-  pub exchange_other : (i : ℕ) → i ≢ directory_of s old → i ≢ directory_of s new → content_of swapped i ≡ content_of s i
-  exchange_other i a b = same_content s swapped i refl (names_exchanged_other s swapped from into (inode_of s old) (inode_of s new) refl i a b)
+  pub exchange_other : (i : ℕ) → i ≢ old.directory → i ≢ new.directory → content_of swapped i ≡ content_of s i
+  exchange_other i a b = same_content s swapped i refl (names_exchanged_other s swapped old new first second refl i a b)
 
 -- ---- one name more
 
@@ -313,7 +307,7 @@ done_elsewhere s number c (Unlink t) fresh i away = unlink_other s (dentry_of s 
 done_elsewhere s number c (Rmdir t) fresh i away = unlink_other s (dentry_of s (path_of t)) (inode_of s (path_of t)) i away.0 away.1.0
 done_elsewhere s number c (Rename o n) fresh i away = rename_elsewhere s (dentry_of s (path_of o)) (dentry_of s (path_of n)) (inode_of s (path_of o)) (named s (path_of n)) i away.0 away.1.0 away.1.1
 done_elsewhere s number c (RenameNoreplace o n) fresh i away = move_other s (dentry_of s (path_of o)) (dentry_of s (path_of n)) (inode_of s (path_of o)) i away.0 away.1.0
-done_elsewhere s number c (Exchange o n) fresh i away = exchange_other s (path_of o) (path_of n) i away.0 away.1.0
+done_elsewhere s number c (Exchange o n) fresh i away = exchange_other s (dentry_of s (path_of o)) (dentry_of s (path_of n)) (inode_of s (path_of o)) (inode_of s (path_of n)) i away.0 away.1.0
 done_elsewhere s number c (Link o n) fresh i away = link_other s (dentry_of s (path_of n)) (inode_of s (path_of o)) i away.0
 done_elsewhere s number c (Ruleset rights) fresh i away = refl
 done_elsewhere s number c (Allow rs t rights) fresh i away = refl
