@@ -8,6 +8,7 @@ use Rattle.std.proofs.lemmas.List.{append-nil, length-append}
 use Rattle.std.proofs.lemmas.List.Folds.{list_any-append}
 use Rattle.ll_rights.specs.declared.kind.Kind.{Kind}
 use Rattle.ll_rights.specs.declared.kind.Kind.TheVariants.{Reg, Dir}
+use Rattle.ll_rights.specs.declared.errno.Errno.{Errno}
 use Rattle.ll_rights.specs.declared.limits.TheConstants.{DIRECTORY_ENTRIES, NODE_NAMES}
 use Rattle.ll_rights.specs.Map.{Map, get}
 use Rattle.ll_path.specs.Path.{Path, parent, last_name, is_root}
@@ -16,11 +17,12 @@ use Rattle.ll_rules.specs.Layer.{Layer}
 use Rattle.ll_decide.specs.Verdict.{when}
 use Rattle.ll_seq.specs.declared.call.Call.{Call}
 use Rattle.ll_seq.specs.declared.facts.Fact.{Fact}
+use Rattle.ll_seq.specs.declared.reply.Reply.TheVariants.{Refused}
 use Rattle.ll_seq.specs.Call.{path_of, targets, first_path, second_path}
 use Rattle.ll_seq.specs.State.{Name, State, child, root, dentry, kind_of, names_in, name_count}
 use Rattle.ll_seq.specs.Tree.{named, directory_of, chain_from, end_from, ancestors}
 use Rattle.ll_seq.specs.Asked.{grants}
-use Rattle.ll_seq.specs.Stages.{in_the_way, is_crowded}
+use Rattle.ll_seq.specs.Stages.{in_the_way, is_crowded, no_directory, kind_of_child}
 use Rattle.ll_seq.specs.Effects.{dentry_of}
 use Rattle.ll_seq.specs.Facts.{AreKept, fact_of, open_count}
 use Rattle.ll_seq.proofs.Chains.{named-child}
@@ -31,12 +33,12 @@ use Rattle.ll_laws.proofs.Trees.{IsTree, only_path}
 use Rattle.ll_laws.proofs.Gain.{named_below}
 use Rattle.ll_answer.specs.Found.{IsSpot, there_in}
 use Rattle.ll_answer.specs.declared.found.Spot.{Spot}
-use Rattle.ll_walks.specs.Walk.{Walk, Leg, Position, Above, Down, Split, rights_where, at_ends}
-use Rattle.ll_walks.specs.World.{World, shown, domain_of, last_node, last_nodes, is_marked_by_other}
+use Rattle.ll_walks.specs.Walk.{Walk, Leg, Position, Above, Down, Split, rights_where, turn, at_ends}
+use Rattle.ll_walks.specs.World.{World, shown, domain_of, reply_to, last_node, last_nodes, is_marked_by_other}
 use Rattle.ll_walks.specs.Walks.{IsRight, AreRight}
 use Rattle.ll_walks.specs.Sound.{IsSound}
 use Rattle.ll_walks.specs.Commits.{HasEnded, first_end, second_end}
-use Rattle.ll_walks.proofs.Commits.{ends_reached}
+use Rattle.ll_walks.proofs.Commits.{ends_reached, blocked_refused}
 use Rattle.ll_walks.proofs.Sound.{holds_of}
 use Rattle.ll_journal.specs.Book.{names_map, mark_of}
 use Rattle.ll_journal.proofs.NameMaps.{get-names_map}
@@ -87,6 +89,13 @@ module _ (w : World) (number : ℕ) (walk : Walk) (sound : IsSound w) (is : get 
       end_of (shown w) (domain_of w number) (second_path walk.call) leg
       (second_right (shown w) (domain_of w number) walk.at leg ((sound.valid number walk is).1 fresh) e)
       ((ends_reached w (holds_of w sound) number walk is fresh at leg).1 e)
+
+-- where the next name of the leg in turn names no directory, that is the answer
+pub blocked_reply : (w : World) (number : ℕ) (walk : Walk) → IsSound w → get w.walks number ≡ Some walk → walk.stale ≡ false → (leg : Leg) → turn walk.at ≡ Some leg → (name : Name) (rest : Path) → leg.ahead ≡ name ∷ rest
+    → (errno : Errno) → slice_get (no_directory (kind_of_child (shown w) (get (names_map (shown w) leg.here) name))) 0 ≡ Some errno → reply_to w number walk.call ≡ Refused errno
+blocked_reply w number walk sound is fresh leg in_turn name rest ahead errno first =
+    blocked_refused w (holds_of w sound) number walk is fresh leg in_turn name rest ahead errno
+    (ap (λ o. slice_get (no_directory (kind_of_child (shown w) o)) 0) (sym (get-names_map (shown w) leg.here name)) ∙ first)
 
 -- ---- the last name
 

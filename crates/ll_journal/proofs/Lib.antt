@@ -8,3 +8,4 @@ pub mod SlotAccounts
 pub mod HeldAfter
 pub mod LentSlots
 pub mod AtEnds
+pub mod ChangedSlots
