@@ -9,3 +9,4 @@ pub mod HeldAfter
 pub mod LentSlots
 pub mod AtEnds
 pub mod ChangedSlots
+pub mod Advancing
