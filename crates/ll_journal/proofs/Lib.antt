@@ -10,3 +10,4 @@ pub mod LentSlots
 pub mod AtEnds
 pub mod ChangedSlots
 pub mod Advancing
+pub mod Living
