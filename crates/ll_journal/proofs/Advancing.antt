@@ -1,5 +1,5 @@
 -- What each step comes to, by what is found where the walk stands.
-use Rattle.std.specs.Prelude.{◌≡◌, ℕ, Bool, true, false, cond, not, ◌&&◌, ◌||◌, ◌==◌, List, [], ◌∷◌, Option, Some, None, is_none, unwrap_or, option_map, option_and_then, refl}
+use Rattle.std.specs.Prelude.{◌≡◌, ℕ, Bool, true, false, cond, not, ◌&&◌, ◌||◌, ◌==◌, [], ◌∷◌, Option, Some, None, is_none, unwrap_or, option_map, option_and_then, refl}
 use Rattle.std.specs.Option.{option_map_or}
 use Rattle.std.specs.List.{list_any}
 use Rattle.std.proofs.Common.{sym, ap, ◌∙◌}
@@ -11,11 +11,10 @@ use Rattle.ll_seq.specs.declared.call.Call.{Call}
 use Rattle.ll_seq.specs.declared.call.Call.TheVariants.{Connect}
 use Rattle.ll_seq.specs.declared.reply.Reply.{Reply}
 use Rattle.ll_seq.specs.declared.reply.Reply.TheVariants.{Done, Refused}
-use Rattle.ll_seq.specs.State.{Name, State, child, root}
+use Rattle.ll_seq.specs.State.{Name, State, root}
 use Rattle.ll_seq.specs.Tree.{kind_or_file}
-use Rattle.ll_seq.specs.Step.{client_of}
 use Rattle.ll_walks.specs.Walk.{Walk, Leg, Position, turn, further, forked, leg_below, directory_under, if_directory, is_blocked, is_blocked_by, at_ends, is_above}
-use Rattle.ll_walks.specs.World.{World, Step, Join, Descend, Fork, Commit, Restart, FdCommit, ClientStep, Outcome, NotNow, Stands, Forked, Restarted, Replied, Joined, advance, walking, shown, domain_of, next_number, reply_to, with_entry, with_walk, without_walk, with_stale, is_full, is_idle, is_marked, is_marked_by_other, is_on_descriptor, is_alone, last_nodes, may_hold, may_commit, entered, enter, stood, stand, descend, fork, committed, commit, restarted, restart, joined, replied, direct, moved_by}
+use Rattle.ll_walks.specs.World.{World, Join, Descend, Fork, Commit, Restart, Outcome, NotNow, Stands, Forked, Restarted, Replied, Joined, advance, walking, shown, domain_of, next_number, reply_to, with_entry, with_walk, without_walk, with_stale, is_full, is_idle, is_marked, is_marked_by_other, last_nodes, may_hold, may_commit, entered, enter, stood, stand, descend, fork, committed, commit, restarted, restart, joined, replied, direct, moved_by}
 use Rattle.ll_walks.proofs.Turns.{ended}
 use Rattle.ll_journal.specs.Book.{names_map}
 use Rattle.ll_journal.proofs.NameMaps.{get-names_map}

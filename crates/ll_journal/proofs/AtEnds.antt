@@ -1,5 +1,5 @@
 -- What a commit finds: the directories where a walk stands at its ends, what they have under the last names, and the answer of a walk that can't go on.
-use Rattle.std.specs.Prelude.{◌≡◌, ◌≢◌, ℕ, ◌+◌, ◌<◌, Bool, true, false, not, ◌&&◌, ◌||◌, ◌==◌, List, [], ◌∷◌, ◌++◌, map, length, Option, Some, None, nat_lt, nat_le, is_some, unwrap_or, slice_get, option_map, option_to_list, option_and_then, refl}
+use Rattle.std.specs.Prelude.{◌≡◌, ◌≢◌, ℕ, ◌<◌, Bool, true, false, not, ◌&&◌, ◌||◌, ◌==◌, List, [], ◌∷◌, ◌++◌, map, length, Option, Some, None, nat_lt, nat_le, unwrap_or, slice_get, option_map, option_to_list, option_and_then, refl}
 use Rattle.std.specs.Option.{option_map_or}
 use Rattle.std.specs.List.{list_any, flat_map}
 use Rattle.std.specs.Ordering.{nat_cmp}
@@ -27,7 +27,7 @@ use Rattle.ll_seq.specs.Effects.{dentry_of}
 use Rattle.ll_seq.specs.Facts.{AreKept, fact_of, open_count}
 use Rattle.ll_seq.proofs.Chains.{named-child}
 use Rattle.ll_seq.proofs.Parted.{chain_push}
-use Rattle.ll_laws.proofs.Chains.{same_Some, NotFile}
+use Rattle.ll_laws.proofs.Chains.{same_Some}
 use Rattle.ll_laws.proofs.Stages.{parent_last}
 use Rattle.ll_laws.proofs.Trees.{IsTree, only_path}
 use Rattle.ll_laws.proofs.Gain.{named_below}

@@ -1,5 +1,5 @@
 -- What each change that a call makes does to what lies in the slots of the inodes that it names, and that all others stay.
-use Rattle.std.specs.Prelude.{◌≡◌, ◌≢◌, ℕ, ◌<◌, Bool, true, false, cond, ◌&&◌, ◌==◌, List, [], ◌∷◌, Option, Some, None, unwrap_or, if◌then◌else◌, refl}
+use Rattle.std.specs.Prelude.{◌≡◌, ◌≢◌, ℕ, true, false, cond, ◌&&◌, List, [], ◌∷◌, Option, Some, None, unwrap_or, refl}
 use Rattle.std.proofs.Common.{sym, ap, ◌∙◌, arith}
 use Rattle.ll_rights.specs.declared.kind.Kind.{Kind}
 use Rattle.ll_rights.specs.declared.kind.Kind.TheVariants.{Reg, Dir}
@@ -7,7 +7,7 @@ use Rattle.ll_rights.specs.Kind.{is_dir}
 use Rattle.ll_rights.specs.Map.{insert, remove}
 use Rattle.ll_node.specs.Slot.{new_slot}
 use Rattle.ll_seq.specs.declared.client.ClientRecord.{ClientRecord}
-use Rattle.ll_seq.specs.State.{Name, State, child, root, kind_of}
+use Rattle.ll_seq.specs.State.{State, child, root, kind_of}
 use Rattle.ll_seq.specs.Stages.{has_names}
 use Rattle.ll_seq.specs.Effects.{lives, let_go, with_node, without_name, with_moved, with_bytes, with_client}
 use Rattle.ll_laws.proofs.Chains.{same_Some}
@@ -16,7 +16,7 @@ use Rattle.ll_answer.specs.declared.changes.At.{At}
 use Rattle.ll_answer.specs.declared.changes.Change.{Change}
 use Rattle.ll_answer.specs.declared.changes.Change.TheVariants.{Nothing, Make, Take, Name as Link, Move, Replace, Exchange, Resize, Open, Allow}
 use Rattle.ll_answer.specs.declared.changes.Opening.{Opening}
-use Rattle.ll_answer.specs.Effect.{dentry_at, descriptor_of, with_descriptor, with_opening, after, Lacks, Holds, IsEmpty, HasRoom, FitsTake, FitsReplace}
+use Rattle.ll_answer.specs.Effect.{dentry_at, with_descriptor, with_opening, after, Holds, IsEmpty, HasRoom, FitsTake, FitsReplace}
 use Rattle.ll_walks.proofs.Kept.{not_empty}
 use Rattle.ll_journal.specs.Book.{names_map, NotIn}
 use Rattle.ll_journal.proofs.SlotAccounts.{content_of, unused_empty, make_new, make_named, make_other, bytes_other, let_go_other, let_go_living, unlink_named, unlink_living, unlink_other, move_within, move_after, move_from, move_into, move_other, exchange_other, link_other}

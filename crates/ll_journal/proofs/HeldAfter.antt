@@ -1,24 +1,23 @@
 -- What lies in the slot of an inode after each step of a walk, and after a call without one.
-use Rattle.std.specs.Prelude.{◌≡◌, ◌≢◌, ◌⊎◌, ℕ, Bool, true, false, cond, ◌||◌, ◌==◌, List, [], ◌∷◌, Option, Some, None, is_some, if◌then◌else◌, refl}
+use Rattle.std.specs.Prelude.{◌≡◌, ◌≢◌, ℕ, Bool, true, false, cond, ◌||◌, ◌==◌, [], Option, Some, None, if◌then◌else◌, refl}
 use Rattle.std.specs.List.{list_any}
-use Rattle.std.proofs.Common.{sym, ap, ◌∙◌, inl, inr}
+use Rattle.std.proofs.Common.{sym, ap, ◌∙◌}
 use Rattle.std.proofs.lemmas.Bool.{eqb-true, eq-eqb}
-use Rattle.ll_rights.specs.Map.{get, has}
+use Rattle.ll_rights.specs.Map.{get}
 use Rattle.ll_path.specs.Path.{is_root}
 use Rattle.ll_seq.specs.declared.call.Call.{Call}
-use Rattle.ll_seq.specs.declared.reply.Reply.{Reply}
 use Rattle.ll_seq.specs.State.{State, root}
 use Rattle.ll_seq.specs.Step.{step, client_of}
 use Rattle.ll_seq.proofs.Parted.{or_left, or_right}
 use Rattle.ll_journal.specs.declared.held.Held.{Held}
 use Rattle.ll_walks.specs.Walk.{Walk, Leg, Position, Above, Down, Split, turn, with_turn, forked, marks, legs, is_above}
 use Rattle.ll_walks.specs.World.{World, shown, next_number, reply_to, with_entry, with_walk, without_walk, with_stale, begun, entered, stood, restarted}
-use Rattle.ll_journal.specs.Book.{has_mark, mark_of, held_of, NotIn}
+use Rattle.ll_journal.specs.Book.{mark_of, held_of, NotIn}
 use Rattle.ll_walks.specs.Sound.{IsSound}
 use Rattle.ll_walks.proofs.Tests.{or_false}
 use Rattle.ll_walks.proofs.Turns.{ended}
 use Rattle.ll_journal.proofs.Shown.{shown_reply, shown_ended}
-use Rattle.ll_journal.proofs.MarkOf.{AreClients, Leaves, are_clients, has_mark_of, has_mark_none, mark_is, mark_same, mark_put, mark_put_gone, mark_put_same, mark_gone, mark_left, leaves_removed, ended_leaves, turn_leaves, fork_leaves}
+use Rattle.ll_journal.proofs.MarkOf.{AreClients, are_clients, has_mark_of, has_mark_none, mark_same, mark_put, mark_put_gone, mark_put_same, mark_gone, mark_left, leaves_removed, ended_leaves, turn_leaves, fork_leaves}
 use Rattle.ll_journal.proofs.SlotAccounts.{content_of, changed_by, step_elsewhere}
 
 -- with this mark

@@ -1,9 +1,9 @@
 -- The accounts of slots by the inodes that lie in them.
-use Rattle.std.specs.Prelude.{◌≡◌, ◌≢◌, ℕ, zero, suc, Bool, true, false, cond, ◌==◌, List, [], ◌∷◌, length, Option, Some, None, slice_get, slice_index_or, refl}
+use Rattle.std.specs.Prelude.{◌≡◌, ◌≢◌, ℕ, zero, suc, true, false, cond, ◌==◌, List, [], ◌∷◌, length, Some, slice_get, slice_index_or, refl}
 use Rattle.std.specs.Ordering.{nat_cmp}
 use Rattle.std.proofs.Common.{sym, ap, ◌∙◌}
 use Rattle.std.proofs.lemmas.Bool.{eqb-true, eq-eqb}
-use Rattle.ll_rights.specs.Map.{Map, get}
+use Rattle.ll_rights.specs.Map.{Map}
 use Rattle.ll_laws.proofs.Chains.{same_Some}
 use Rattle.ll_journal.specs.Book.{Book, NotIn, Spares, inode_in, slot_of, held_of, vacant}
 use Rattle.ll_journal.specs.Kept.{ArePlaced}

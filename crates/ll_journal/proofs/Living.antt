@@ -1,5 +1,5 @@
 -- Which nodes live after a change, what number the next one gets, and how many there are.
-use Rattle.std.specs.Prelude.{◌≡◌, ◌≢◌, ℕ, ◌+◌, Bool, true, false, cond, ◌&&◌, ◌==◌, List, [], ◌∷◌, map, length, Option, Some, None, option_map, if◌then◌else◌, refl}
+use Rattle.std.specs.Prelude.{◌≡◌, ◌≢◌, ℕ, ◌+◌, true, false, cond, ◌&&◌, List, [], ◌∷◌, map, length, Option, Some, None, option_map, refl}
 use Rattle.std.specs.declared.cmp.Ordering.{Ordering}
 use Rattle.std.specs.Option.{option_map_or}
 use Rattle.std.specs.Ordering.{nat_cmp, is_lt, eq_by_cmp}
@@ -18,12 +18,12 @@ use Rattle.ll_seq.specs.declared.dentries.Dentry.{Dentry}
 use Rattle.ll_seq.specs.declared.facts.Fact.{Fact}
 use Rattle.ll_seq.specs.declared.node.Node.{Node}
 use Rattle.ll_seq.specs.State.{State, kind_of, empty_node, names_in, name_count}
-use Rattle.ll_seq.specs.Effects.{lives, let_go, with_node, with_moved, with_bytes, with_client, resized}
+use Rattle.ll_seq.specs.Effects.{lives, let_go, with_node, with_moved, with_bytes, with_client}
 use Rattle.ll_seq.specs.Facts.{AreKept, open_count}
 use Rattle.ll_answer.specs.declared.changes.Change.{Change}
 use Rattle.ll_answer.specs.declared.changes.Change.TheVariants.{Nothing, Make, Take, Name as Link, Move, Replace, Exchange, Resize, Open, Allow}
 use Rattle.ll_answer.specs.declared.changes.Opening.{Opening}
-use Rattle.ll_answer.specs.Effect.{dentry_at, with_descriptor, with_opening, with_rule_of, after}
+use Rattle.ll_answer.specs.Effect.{dentry_at, with_descriptor, with_opening, after}
 use Rattle.ll_journal.specs.Book.{NotIn}
 
 -- ---- kinds

@@ -1,13 +1,13 @@
 -- What each call that isn't refused changes of what lies in the nodes' slots.
-use Rattle.std.specs.Prelude.{◌≡◌, ◌≢◌, ◌⊎◌, ℕ, ◌+◌, ◌<◌, ◌≤◌, Bool, true, false, cond, ◌==◌, List, [], ◌∷◌, length, take, Option, Some, None, is_none, unwrap_or, option_map, option_to_list, if◌then◌else◌, refl}
+use Rattle.std.specs.Prelude.{◌≡◌, ◌≢◌, ℕ, ◌<◌, ◌≤◌, true, false, cond, ◌==◌, List, [], ◌∷◌, length, Option, Some, None, is_none, unwrap_or, option_map, option_to_list, if◌then◌else◌, refl}
 use Rattle.std.specs.Option.{option_map_or}
 use Rattle.std.specs.Cmp.{nat_cmp_total}
 use Rattle.std.specs.FinMap.{nat_cmp-IsAntisymmetric}
-use Rattle.std.proofs.Common.{sym, ap, ◌∙◌, inl, inr, arith}
+use Rattle.std.proofs.Common.{sym, ap, ◌∙◌, arith}
 use Rattle.ll_rights.specs.declared.kind.Kind.{Kind}
 use Rattle.ll_rights.specs.declared.kind.Kind.TheVariants.{Reg}
 use Rattle.ll_rights.specs.Map.{empty, get, insert, remove}
-use Rattle.ll_rights.proofs.Maps.{get-insert_same, get-insert_other, get-remove, get-remove_other}
+use Rattle.ll_rights.proofs.Maps.{get-insert_same, get-insert_other, get-remove_other}
 use Rattle.ll_path.specs.Path.{Path, parent}
 use Rattle.ll_node.specs.Slot.{NameMap, Slot, new_slot, renamed as names_renamed_by, written as bytes_written}
 use Rattle.ll_seq.specs.declared.call.Mode.{Mode}
@@ -21,13 +21,12 @@ use Rattle.ll_seq.specs.Call.{path_of}
 use Rattle.ll_seq.specs.State.{Name, State, child, kind_of, bytes_of, empty_node}
 use Rattle.ll_seq.specs.Tree.{named, inode_of, directory_of, kind_or_file}
 use Rattle.ll_seq.specs.Step.{step, refusals, first_or, client_of}
-use Rattle.ll_seq.specs.Effects.{lives, let_go, with_name, with_node, without_name, with_moved, renamed, exchanged, with_bytes, with_size, written, resized, overwritten, inode_at, dentry_of, with_client, with_opened, emptied, after_opening}
+use Rattle.ll_seq.specs.Effects.{lives, let_go, with_name, with_node, without_name, with_moved, renamed, with_bytes, with_size, written, resized, overwritten, inode_at, dentry_of, with_client, with_opened, emptied, after_opening}
 use Rattle.ll_laws.proofs.Trees.{IsTree}
 use Rattle.ll_laws.proofs.Gain.{done_of, named_below}
 use Rattle.ll_walks.specs.World.{World, shown}
 use Rattle.ll_journal.specs.Book.{names_map, mark_of, held_of, NotIn}
 use Rattle.ll_journal.proofs.NameMaps.{names_map-empty, names_put, names_put_other, names_taken, names_taken_other, names_moved_within, names_moved_after, names_renamed, names_moved_from, names_moved_into, names_moved_other, names_exchanged_within, names_exchanged_old, names_exchanged_new, names_exchanged_other}
-use Rattle.ll_walks.proofs.Kept.{let_go_entries, with_bytes_entries}
 
 -- what lies in a node's slot, but for the mark
 abbrev pub content_of : State → ℕ → Slot
