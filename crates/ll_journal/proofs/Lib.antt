@@ -5,3 +5,9 @@ pub mod NameMaps
 pub mod MarkOf
 pub mod Shown
 pub mod SlotAccounts
+pub mod HeldAfter
+pub mod LentSlots
+pub mod AtEnds
+pub mod ChangedSlots
+pub mod Advancing
+pub mod Living

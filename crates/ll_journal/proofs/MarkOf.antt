@@ -1,14 +1,14 @@
 -- Whose mark a directory carries, and what a walk that comes, goes on or ends changes of it.
-use Rattle.std.specs.Prelude.{◌≡◌, ◌≢◌, ◌⊎◌, ℕ, zero, suc, ◌+◌, ◌<◌, ◌≤◌, Bool, true, false, cond, not, ◌&&◌, ◌||◌, ◌==◌, List, [], ◌∷◌, Option, Some, None, is_some, option_map, slice_get, refl}
+use Rattle.std.specs.Prelude.{◌≡◌, ◌≢◌, ℕ, zero, suc, ◌+◌, ◌<◌, ◌≤◌, Bool, true, false, cond, not, ◌&&◌, ◌||◌, ◌==◌, List, [], ◌∷◌, Option, Some, None, is_some, option_map, slice_get, refl}
 use Rattle.std.specs.Option.{option_map_or}
 use Rattle.std.specs.List.{list_any}
 use Rattle.std.specs.Ordering.{nat_cmp}
 use Rattle.std.specs.Cmp.{nat_cmp_total}
 use Rattle.std.specs.FinMap.{nat_cmp-IsAntisymmetric}
-use Rattle.std.proofs.Common.{sym, ap, ◌∙◌, inl, inr, arith, subst}
+use Rattle.std.proofs.Common.{sym, ap, ◌∙◌, inl, inr, arith}
 use Rattle.std.proofs.lemmas.Bool.{eqb-true, eq-eqb}
 use Rattle.ll_rights.specs.Map.{Map, get, insert, remove, entries}
-use Rattle.ll_rights.proofs.Maps.{get-insert_same, get-insert_other, get-remove_other, insert_cases, got_left}
+use Rattle.ll_rights.proofs.Maps.{get-insert_same, get-insert_other, get-remove_other, got_left}
 use Rattle.ll_path.specs.Path.{is_root}
 use Rattle.ll_seq.specs.declared.call.Call.{Call}
 use Rattle.ll_seq.specs.declared.reply.Reply.{Reply}
@@ -19,8 +19,9 @@ use Rattle.ll_laws.proofs.Chains.{same_Some}
 use Rattle.ll_walks.specs.Walk.{Walk, Leg, Position, Above, Down, Split, has_two_paths, toward, turn, with_turn, forked, marks, legs}
 use Rattle.ll_walks.specs.World.{World, next_number, map_values, overtaken, with_stale, is_marked, is_marked_by_other}
 use Rattle.ll_journal.specs.Book.{has_mark, marked_below, mark_of}
-use Rattle.ll_walks.proofs.Worlds.{Holds, found, get-map_values}
-use Rattle.ll_walks.proofs.Marks.{Apart}
+use Rattle.ll_walks.specs.Walks.{AreApart}
+use Rattle.ll_walks.specs.Sound.{IsSound}
+use Rattle.ll_walks.proofs.Worlds.{found, get-map_values}
 use Rattle.ll_walks.proofs.Tests.{both, or_false}
 use Rattle.ll_walks.proofs.Turns.{ended}
 
@@ -39,8 +40,8 @@ whose_mark w i n h =
       | Some walk ↦ λ f. (walk, refl, f)
     ] h
 
-one_has_it : (w : World) (i c d : ℕ) → Apart w → has_mark w i c ≡ true → has_mark w i d ≡ true → c ≡ d
-one_has_it w i c d apart a b = let v = whose_mark w i c a in let u = whose_mark w i d b in apart c d v.0 u.0 v.1 u.1 i v.2 u.2
+one_has_it : (w : World) (i c d : ℕ) → AreApart w → has_mark w i c ≡ true → has_mark w i d ≡ true → c ≡ d
+one_has_it w i c d apart a b = let v = whose_mark w i c a in let u = whose_mark w i d b in apart c v.0 v.1 d u.0 u.1 i v.2 u.2
 
 -- ---- numbers below a bound
 
@@ -97,8 +98,8 @@ below_same w v i (suc b) same = let rest = below_same w v i b same in let here =
 abbrev pub AreClients : World → Type 0
 AreClients w = (n : ℕ) (walk : Walk) → get w.walks n ≡ Some walk → n < next_number w
 
-pub are_clients : (w : World) → Holds w → AreClients w
-are_clients w h n walk is = let most = h.numbers n (h.under_way n walk is).there in omega arith
+pub are_clients : (w : World) → IsSound w → AreClients w
+are_clients w h n walk is = let most = h.numbers n (h.valid n walk is).0.there in omega arith
 
 past_clients : (w : World) (i : ℕ) → AreClients w → (n : ℕ) → next_number w ≤ n → has_mark w i n ≡ false
 past_clients w i known n past = by (has_mark w i n) refl
@@ -109,7 +110,7 @@ past_clients w i known n past = by (has_mark w i n) refl
 
 module _ (w : World) (i : ℕ) where
   -- it is of the client whose walk stands there
-  pub mark_is : AreClients w → Apart w → (n : ℕ) → has_mark w i n ≡ true → mark_of w i ≡ Some n
+  pub mark_is : AreClients w → AreApart w → (n : ℕ) → has_mark w i n ≡ true → mark_of w i ≡ Some n
   mark_is known apart n h =
       let walk = whose_mark w i n h in
       below_only w i (next_number w) n (known n walk.0 walk.1) h (λ m g. one_has_it w i m n apart g h)
@@ -165,7 +166,7 @@ is_marked_is w i known = by (mark_of w i) refl
     by (Some n) e = let walk = whose_mark w i n (mark_found w i n e) in found w.walks (λ (r : ℕ × Walk). marks r.1 i) n walk.0 walk.1 walk.2
 
 -- by another walk, where the mark is another client's
-pub is_marked_by_other_is : (w : World) (number i : ℕ) → AreClients w → Apart w → is_marked_by_other w number i ≡ option_map_or (λ n. not (n == number)) (mark_of w i) false
+pub is_marked_by_other_is : (w : World) (number i : ℕ) → AreClients w → AreApart w → is_marked_by_other w number i ≡ option_map_or (λ n. not (n == number)) (mark_of w i) false
 is_marked_by_other_is w number i known apart = by (mark_of w i) refl
   where
     test : ℕ × Walk → Bool
@@ -204,11 +205,11 @@ module _ (w v : World) (number : ℕ) (walk : Walk) (is : v.walks ≡ insert w.w
       ap (λ o. option_map_or (λ (u : Walk). marks u i) o false) (ap (λ m. get m n) is ∙ get-insert_other nat_cmp_total nat_cmp-IsAntisymmetric w.walks number walk n other)
 
   -- where it stands
-  pub mark_put : (i : ℕ) → AreClients v → Apart v → marks walk i ≡ true → mark_of v i ≡ Some number
+  pub mark_put : (i : ℕ) → AreClients v → AreApart v → marks walk i ≡ true → mark_of v i ≡ Some number
   mark_put i known apart h = mark_is v i known apart number (has_mark_put i ∙ h)
 
   -- where it stood, and doesn't any more
-  pub mark_put_gone : (i : ℕ) → Apart w → has_mark w i number ≡ true → marks walk i ≡ false → mark_of v i ≡ None
+  pub mark_put_gone : (i : ℕ) → AreApart w → has_mark w i number ≡ true → marks walk i ≡ false → mark_of v i ≡ None
   mark_put_gone i apart had h = mark_none v i (λ n. by n (n == number) refl)
     where
       by : (n : ℕ) (b : Bool) → (n == number) ≡ b → has_mark v i n ≡ false
@@ -233,7 +234,7 @@ Leaves w v number = (i n : ℕ) → has_mark v i n ≡ cond (n == number) false 
 
 module _ (w v : World) (number : ℕ) (leaves : Leaves w v number) where
   -- where it stood
-  pub mark_gone : (i : ℕ) → Apart w → has_mark w i number ≡ true → mark_of v i ≡ None
+  pub mark_gone : (i : ℕ) → AreApart w → has_mark w i number ≡ true → mark_of v i ≡ None
   mark_gone i apart had = mark_none v i (λ n. leaves i n ∙ by n (n == number) refl)
     where
       by : (n : ℕ) (b : Bool) → (n == number) ≡ b → cond b false (has_mark w i n) ≡ false

@@ -1,5 +1,5 @@
 -- The map of the names in a directory, state by state: what it answers, and how it changes with the entries.
-use Rattle.std.specs.Prelude.{◌≡◌, ◌≢◌, ℕ, Bool, true, false, cond, T, ◌&&◌, ◌==◌, List, [], ◌∷◌, length, map, filter, Option, Some, None, refl}
+use Rattle.std.specs.Prelude.{◌≡◌, ◌≢◌, ℕ, true, false, cond, T, ◌&&◌, ◌==◌, List, [], ◌∷◌, length, map, filter, Some, None, refl}
 use Rattle.std.specs.Option.{option_map_or}
 use Rattle.std.specs.Ordering.{nat_cmp, is_eq, is_lt, eq_by_cmp, ordering_then}
 use Rattle.std.specs.Cmp.{nat_cmp_total, tied_itself}

@@ -1,13 +1,13 @@
 -- What each call that isn't refused changes of what lies in the nodes' slots.
-use Rattle.std.specs.Prelude.{◌≡◌, ◌≢◌, ◌⊎◌, ℕ, ◌+◌, ◌<◌, ◌≤◌, Bool, true, false, cond, ◌==◌, List, [], ◌∷◌, length, take, Option, Some, None, is_none, unwrap_or, option_map, option_to_list, if◌then◌else◌, refl}
+use Rattle.std.specs.Prelude.{◌≡◌, ◌≢◌, ℕ, ◌<◌, ◌≤◌, true, false, cond, ◌==◌, List, [], ◌∷◌, length, Option, Some, None, is_none, unwrap_or, option_map, option_to_list, if◌then◌else◌, refl}
 use Rattle.std.specs.Option.{option_map_or}
 use Rattle.std.specs.Cmp.{nat_cmp_total}
 use Rattle.std.specs.FinMap.{nat_cmp-IsAntisymmetric}
-use Rattle.std.proofs.Common.{sym, ap, ◌∙◌, inl, inr, arith}
+use Rattle.std.proofs.Common.{sym, ap, ◌∙◌, arith}
 use Rattle.ll_rights.specs.declared.kind.Kind.{Kind}
 use Rattle.ll_rights.specs.declared.kind.Kind.TheVariants.{Reg}
 use Rattle.ll_rights.specs.Map.{empty, get, insert, remove}
-use Rattle.ll_rights.proofs.Maps.{get-insert_same, get-insert_other, get-remove, get-remove_other}
+use Rattle.ll_rights.proofs.Maps.{get-insert_same, get-insert_other, get-remove_other}
 use Rattle.ll_path.specs.Path.{Path, parent}
 use Rattle.ll_node.specs.Slot.{NameMap, Slot, new_slot, renamed as names_renamed_by, written as bytes_written}
 use Rattle.ll_seq.specs.declared.call.Mode.{Mode}
@@ -21,13 +21,12 @@ use Rattle.ll_seq.specs.Call.{path_of}
 use Rattle.ll_seq.specs.State.{Name, State, child, kind_of, bytes_of, empty_node}
 use Rattle.ll_seq.specs.Tree.{named, inode_of, directory_of, kind_or_file}
 use Rattle.ll_seq.specs.Step.{step, refusals, first_or, client_of}
-use Rattle.ll_seq.specs.Effects.{lives, let_go, with_name, with_node, without_name, with_moved, renamed, exchanged, with_bytes, with_size, written, resized, overwritten, inode_at, dentry_of, with_client, with_opened, emptied, after_opening}
+use Rattle.ll_seq.specs.Effects.{lives, let_go, with_name, with_node, without_name, with_moved, renamed, with_bytes, with_size, written, resized, overwritten, inode_at, dentry_of, with_client, with_opened, emptied, after_opening}
 use Rattle.ll_laws.proofs.Trees.{IsTree}
 use Rattle.ll_laws.proofs.Gain.{done_of, named_below}
 use Rattle.ll_walks.specs.World.{World, shown}
 use Rattle.ll_journal.specs.Book.{names_map, mark_of, held_of, NotIn}
 use Rattle.ll_journal.proofs.NameMaps.{names_map-empty, names_put, names_put_other, names_taken, names_taken_other, names_moved_within, names_moved_after, names_renamed, names_moved_from, names_moved_into, names_moved_other, names_exchanged_within, names_exchanged_old, names_exchanged_new, names_exchanged_other}
-use Rattle.ll_walks.proofs.Undisturbed.{let_go_entries, with_bytes_entries}
 
 -- what lies in a node's slot, but for the mark
 abbrev pub content_of : State → ℕ → Slot
@@ -222,29 +221,23 @@ module _ (s : State) (old new : Dentry) (inode : ℕ) where
 
 -- ---- two names that change places
 
-module _ (s : State) (old new : Path) where
+module _ (s : State) (old new : Dentry) (first second : ℕ) where
   abbrev swapped : State
-  swapped = exchanged s old new
-
-  abbrev from : Dentry
-  from = dentry_of s old
-
-  abbrev into : Dentry
-  into = dentry_of s new
+  swapped = with_name (with_name s new first) old second
 
   -- within a directory
-  pub exchange_within : directory_of s old ≡ directory_of s new → content_of swapped (directory_of s old) ≡ record (content_of s (directory_of s old)) { names = insert (insert (names_map s (directory_of s old)) into.name (inode_of s old)) from.name (inode_of s new) }
-  exchange_within same = with_names s swapped (directory_of s old) _ refl (names_exchanged_within s swapped from into (inode_of s old) (inode_of s new) refl same)
+  pub exchange_within : old.directory ≡ new.directory → content_of swapped old.directory ≡ record (content_of s old.directory) { names = insert (insert (names_map s old.directory) new.name first) old.name second }
+  exchange_within same = with_names s swapped old.directory _ refl (names_exchanged_within s swapped old new first second refl same)
 
   -- between two
-  pub exchange_old : directory_of s old ≢ directory_of s new → content_of swapped (directory_of s old) ≡ record (content_of s (directory_of s old)) { names = insert (names_map s (directory_of s old)) from.name (inode_of s new) }
-  exchange_old two = with_names s swapped (directory_of s old) _ refl (names_exchanged_old s swapped from into (inode_of s old) (inode_of s new) refl two)
+  pub exchange_old : old.directory ≢ new.directory → content_of swapped old.directory ≡ record (content_of s old.directory) { names = insert (names_map s old.directory) old.name second }
+  exchange_old two = with_names s swapped old.directory _ refl (names_exchanged_old s swapped old new first second refl two)
 
-  pub exchange_new : directory_of s new ≢ directory_of s old → content_of swapped (directory_of s new) ≡ record (content_of s (directory_of s new)) { names = insert (names_map s (directory_of s new)) into.name (inode_of s old) }
-  exchange_new two = with_names s swapped (directory_of s new) _ refl (names_exchanged_new s swapped from into (inode_of s old) (inode_of s new) refl two)
+  pub exchange_new : new.directory ≢ old.directory → content_of swapped new.directory ≡ record (content_of s new.directory) { names = insert (names_map s new.directory) new.name first }
+  exchange_new two = with_names s swapped new.directory _ refl (names_exchanged_new s swapped old new first second refl two)
 
-  pub exchange_other : (i : ℕ) → i ≢ directory_of s old → i ≢ directory_of s new → content_of swapped i ≡ content_of s i
-  exchange_other i a b = same_content s swapped i refl (names_exchanged_other s swapped from into (inode_of s old) (inode_of s new) refl i a b)
+  pub exchange_other : (i : ℕ) → i ≢ old.directory → i ≢ new.directory → content_of swapped i ≡ content_of s i
+  exchange_other i a b = same_content s swapped i refl (names_exchanged_other s swapped old new first second refl i a b)
 
 -- ---- one name more
 
@@ -313,7 +306,7 @@ done_elsewhere s number c (Unlink t) fresh i away = unlink_other s (dentry_of s 
 done_elsewhere s number c (Rmdir t) fresh i away = unlink_other s (dentry_of s (path_of t)) (inode_of s (path_of t)) i away.0 away.1.0
 done_elsewhere s number c (Rename o n) fresh i away = rename_elsewhere s (dentry_of s (path_of o)) (dentry_of s (path_of n)) (inode_of s (path_of o)) (named s (path_of n)) i away.0 away.1.0 away.1.1
 done_elsewhere s number c (RenameNoreplace o n) fresh i away = move_other s (dentry_of s (path_of o)) (dentry_of s (path_of n)) (inode_of s (path_of o)) i away.0 away.1.0
-done_elsewhere s number c (Exchange o n) fresh i away = exchange_other s (path_of o) (path_of n) i away.0 away.1.0
+done_elsewhere s number c (Exchange o n) fresh i away = exchange_other s (dentry_of s (path_of o)) (dentry_of s (path_of n)) (inode_of s (path_of o)) (inode_of s (path_of n)) i away.0 away.1.0
 done_elsewhere s number c (Link o n) fresh i away = link_other s (dentry_of s (path_of n)) (inode_of s (path_of o)) i away.0
 done_elsewhere s number c (Ruleset rights) fresh i away = refl
 done_elsewhere s number c (Allow rs t rights) fresh i away = refl

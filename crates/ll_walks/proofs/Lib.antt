@@ -8,7 +8,7 @@ pub mod Turns
 pub mod Worlds
 pub mod Marks
 pub mod Gates
-pub mod AtEnds
+pub mod EndsReached
 pub mod SoundSteps
 pub mod Growth
 pub mod Schedules

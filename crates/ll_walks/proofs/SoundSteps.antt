@@ -13,7 +13,7 @@ use Rattle.ll_walks.proofs.Worlds.{Holds, holds_on, starts}
 use Rattle.ll_walks.proofs.Marks.{Apart, apart}
 use Rattle.ll_walks.proofs.Gates.{Gated, gated}
 
-holds_of : (w : World) → IsSound w → Holds w
+pub holds_of : (w : World) → IsSound w → Holds w
 holds_of w h = record { legal = h.legal; numbers = h.numbers; under_way = λ number walk is. (h.valid number walk is).0; right = λ number walk is. (h.valid number walk is).1 }
 
 gated_of : (w : World) → IsSound w → Gated w

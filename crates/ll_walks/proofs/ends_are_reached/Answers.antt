@@ -1,4 +1,4 @@
-use Rattle.ll_walks.proofs.AtEnds.{ends_are_reached}
+use Rattle.ll_walks.proofs.EndsReached.{ends_are_reached}
 use Rattle.ll_walks.proofs.ends_are_reached.Goals as goal
 
 pub returns : goal.returns

@@ -10,6 +10,7 @@ use Rattle.std.proofs.lemmas.List.{append-nil}
 use Rattle.ll_rights.specs.declared.kind.Kind.{Kind}
 use Rattle.ll_rights.specs.declared.kind.Kind.TheVariants.{Dir}
 use Rattle.ll_rights.specs.declared.errno.Errno.{Errno}
+use Rattle.ll_rights.specs.Map.{get}
 use Rattle.ll_path.specs.Path.{Path, parent, common, is_root}
 use Rattle.ll_path.specs.declared.target.Target.{Target}
 use Rattle.ll_rules.specs.Layer.{Layer}
@@ -27,13 +28,13 @@ use Rattle.ll_laws.proofs.Chains.{same_Some}
 use Rattle.ll_laws.proofs.Unrefused.{nil_left, nil_right, inode_is}
 use Rattle.ll_laws.proofs.Trees.{IsTree}
 use Rattle.ll_laws.proofs.Gain.{done_of}
-use Rattle.ll_walks.specs.Walk.{Leg, Position, Above, Down, Split, has_two_paths, trunk_path, turn, at_ends}
-use Rattle.ll_walks.specs.World.{new_world, world_after, next_number, shown, has_any, early_refusals, domain_of}
+use Rattle.ll_walks.specs.Walk.{Walk, Leg, Position, Above, Down, Split, has_two_paths, trunk_path, turn, at_ends}
+use Rattle.ll_walks.specs.World.{World, new_world, world_after, next_number, shown, reply_to, has_any, early_refusals, domain_of}
 use Rattle.ll_walks.specs.Walks.{IsRight, AreRight, AreOnPaths}
 use Rattle.ll_walks.specs.Commits.{first_end, second_end, HasEnded, EndsAreReached, BlockedAreRefused}
 use Rattle.ll_walks.proofs.Tests.{both, not_true, is_nil}
 use Rattle.ll_walks.proofs.Ways.{common_left}
-use Rattle.ll_walks.proofs.Worlds.{tree_of, all_hold}
+use Rattle.ll_walks.proofs.Worlds.{Holds, tree_of, all_hold}
 
 -- ---- the way of a leg that is right
 
@@ -122,11 +123,13 @@ ends s t domain call (Split trunk old new) on r e leg =
       λ f. subst (HasEnded s (second_path call)) (same_Some new leg f) (ended s t domain new (second_path call) r.2 w.1 on.2),
     )
 
-pub ends_are_reached : EndsAreReached
-ends_are_reached rules room limit steps = λ number walk is fresh at leg.
-    let w = world_after (new_world rules room limit) steps in
-    let h = all_hold rules room limit steps in
+pub ends_reached : (w : World) → Holds w → (number : ℕ) (walk : Walk) → get w.walks number ≡ Some walk → walk.stale ≡ false → at_ends walk.call walk.at ≡ true → (leg : Leg)
+    → (first_end walk.at ≡ Some leg → HasEnded (shown w) (first_path walk.call) leg) × (second_end walk.at ≡ Some leg → HasEnded (shown w) (second_path walk.call) leg)
+ends_reached w h number walk is fresh at leg =
     ends (shown w) (tree_of w) (domain_of w number) walk.call walk.at (h.under_way number walk is).on_paths (h.right number walk is fresh) at leg
+
+pub ends_are_reached : EndsAreReached
+ends_are_reached rules room limit steps = ends_reached (world_after (new_world rules room limit) steps) (all_hold rules room limit steps)
 
 -- ---- where it can't go on
 
@@ -204,11 +207,13 @@ reply_is s number call fresh e early b =
     relation : relation_refusals call (first_path call) (second_path call) ≡ []
     relation = nil_right (text_refusals call ++ number_refusals c call) of_path early
 
-pub blocked_are_refused : BlockedAreRefused
-blocked_are_refused rules room limit steps = λ number walk is fresh leg in_turn name rest a errno first.
-    let w = world_after (new_world rules room limit) steps in
-    let h = all_hold rules room limit steps in
+pub blocked_refused : (w : World) → Holds w → (number : ℕ) (walk : Walk) → get w.walks number ≡ Some walk → walk.stale ≡ false → (leg : Leg) → turn walk.at ≡ Some leg → (name : Name) (rest : Path) → leg.ahead ≡ name ∷ rest
+    → (errno : Errno) → slice_get (no_directory (kind_of_child (shown w) (child (shown w) leg.here name))) 0 ≡ Some errno → reply_to w number walk.call ≡ Refused errno
+blocked_refused w h number walk is fresh leg in_turn name rest a errno first =
     let u = h.under_way number walk is in
     let may = both (has_any (targets walk.call)) (not (has_any (early_refusals (client_of (shown w) number) walk.call))) u.walked in
     reply_is (shown w) number walk.call (next_number w) errno (is_nil _ (not_true _ may.1))
     (way_refused (shown w) (tree_of w) (domain_of w number) walk.call walk.at may.0 u.on_paths (h.right number walk is fresh) leg in_turn name rest a errno (first_of_list _ errno first))
+
+pub blocked_are_refused : BlockedAreRefused
+blocked_are_refused rules room limit steps = blocked_refused (world_after (new_world rules room limit) steps) (all_hold rules room limit steps)
