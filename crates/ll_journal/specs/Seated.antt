@@ -6,6 +6,7 @@ use Rattle.ll_rules.specs.Layer.{Layer, grants_on}
 use Rattle.ll_seq.specs.declared.call.Call.{Call}
 use Rattle.ll_seq.specs.Call.{first_path, second_path}
 use Rattle.ll_journal.specs.declared.seat.Leg as kept
+use Rattle.ll_journal.specs.declared.seat.Legs.{Legs}
 use Rattle.ll_journal.specs.declared.seat.Stage.{Stage}
 use Rattle.ll_journal.specs.declared.seat.Stage.TheVariants as stage
 use Rattle.ll_journal.specs.declared.seat.Seat.TheInside.{Inside}
@@ -65,6 +66,11 @@ FitAt stage.Split seat call =
 -- there is room for the longest chain
 abbrev pub IsRoomy : kept.Leg → Type 0
 IsRoomy leg = 64 ≤ vec_capacity leg.chain
+
+pub record AreRoomy (legs : Legs) : Type 0 where
+  pub trunk : IsRoomy legs.trunk
+  pub first : IsRoomy legs.first
+  pub second : IsRoomy legs.second
 
 pub record IsSeat (seat : Inside) : Type 0 where
   pub trunk : IsRoomy seat.trunk

@@ -76,22 +76,56 @@ impl Leg {
     }
 }
 
+/// The branches of one walk.
+#[derive(Drop)]
+struct Legs {
+    trunk: Leg,
+    first: Leg,
+    second: Leg,
+}
+
+impl Legs {
+    ghost use Rattle.ll_journal.specs.Seated.{AreRoomy};
+
+    fn new(alloc: Global) -> Result<Legs, AllocError>
+        ensures { IfOk result AreRoomy }
+    {
+        Ok(Legs {
+            trunk: Leg::new(alloc)?,
+            first: Leg::new(alloc)?,
+            second: Leg::new(alloc)?,
+        })
+    }
+}
+
 impl Seat {
     /// A client without a walk.
     pub(crate) fn new(alloc: Global, client: ClientRecord, spare: u64) -> Result<Seat, AllocError>
         ensures { IfOk result (λ seat. seat ≡ record { client = client; spare = spare; walk = None }) }
     {
-        Ok(Seat {
-            client,
-            spare,
-            call: None,
-            starts: 0,
-            is_stale: false,
-            stage: Stage::Above,
-            trunk: Leg::new(alloc)?,
-            first: Leg::new(alloc)?,
-            second: Leg::new(alloc)?,
-        })
+        match Legs::new(alloc) {
+            Ok(
+                Legs {
+                    trunk,
+                    first,
+                    second,
+                },
+            ) => Ok(Seat {
+                client,
+                spare,
+                call: None,
+                starts: 0,
+                is_stale: false,
+                stage: Stage::Above,
+                trunk,
+                first,
+                second,
+            }),
+            Err(error) => {
+                drop(client);
+                Err(error)
+            }
+        }
     }
 
     /// Whether it is idle, and the call is one that walks.
@@ -107,7 +141,8 @@ impl Seat {
           walk = Some (record { call = call; starts = 1; stale = false; at = Above });
         } }
     {
-        self.call = Some(call);
+        let last = self.call.replace(call);
+        drop(last);
         self.starts = 1;
         self.is_stale = false;
         self.stage = Stage::Above;
