@@ -38,7 +38,7 @@ use Rattle.ll_walks.specs.World.{World, shown, domain_of, reply_to, last_node, l
 use Rattle.ll_walks.specs.Walks.{IsRight, AreRight}
 use Rattle.ll_walks.specs.Sound.{IsSound}
 use Rattle.ll_walks.specs.Commits.{HasEnded, first_end, second_end}
-use Rattle.ll_walks.proofs.Commits.{ends_reached, blocked_refused}
+use Rattle.ll_walks.proofs.EndsReached.{ends_reached, blocked_refused}
 use Rattle.ll_walks.proofs.SoundSteps.{holds_of}
 use Rattle.ll_journal.specs.Book.{names_map, mark_of}
 use Rattle.ll_journal.proofs.NameMaps.{get-names_map}

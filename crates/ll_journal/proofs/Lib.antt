@@ -1,6 +1,8 @@
 pub mod Opened
 pub mod Begun
 pub mod Starting
+pub mod Ahead
+pub mod Seats
 pub mod NameMaps
 pub mod MarkOf
 pub mod Shown

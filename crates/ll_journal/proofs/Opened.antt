@@ -1,11 +1,12 @@
 -- A journal that was just opened keeps what it has to.
-use Rattle.std.specs.Prelude.{◌≡◌, ◌≢◌, ◌⊎◌, ℕ, zero, suc, ◌+◌, ◌<◌, ◌≤◌, List, [], ◌∷◌, ◌++◌, length, replicate, Some, None, option_map, slice_get, refl}
+use Rattle.std.specs.Prelude.{◌≡◌, ◌≢◌, ◌⊎◌, ℕ, zero, suc, ◌+◌, ◌-◌, ◌<◌, ◌≤◌, List, [], ◌∷◌, ◌++◌, length, map, replicate, Some, None, option_map, slice_get, refl}
 use Rattle.std.specs.List.{AllByRecursion, range_with_len}
 use Rattle.std.specs.Ordering.{nat_cmp}
 use Rattle.std.specs.Cmp.{nat_cmp_total}
 use Rattle.std.specs.FinMap.{nat_cmp-IsAntisymmetric}
 use Rattle.std.proofs.Common.{sym, subst, ap, ◌∙◌, inl, inr, arith}
-use Rattle.std.proofs.lemmas.List.{replicate_more, length-replicate}
+use Rattle.std.proofs.lemmas.List.{replicate_more, length-replicate, append-nil}
+use Rattle.ll_rights.specs.declared.limits.TheConstants.{TREE_CLIENTS}
 use Rattle.ll_rights.specs.Map.{Map, empty, get, insert}
 use Rattle.ll_rights.proofs.Maps.{get-empty, get-insert_same, got_inserted}
 use Rattle.ll_laws.proofs.Chains.{same_Some}
@@ -16,8 +17,11 @@ use Rattle.ll_seq.specs.State.{start}
 use Rattle.ll_seq.specs.Facts.{AreKept}
 use Rattle.ll_seq.specs.History.{state_after}
 use Rattle.ll_journal.specs.declared.journal.Journal.TheInside.{Inside}
-use Rattle.ll_journal.specs.Book.{Seat}
-use Rattle.ll_journal.specs.Kept.{seat_at, AreSeated, ArePlaced, IsVacant, IsKept}
+use Rattle.ll_walks.specs.World.{new_world}
+use Rattle.ll_walks.specs.Sound.{IsSound}
+use Rattle.ll_walks.proofs.SoundSteps.{sound_start}
+use Rattle.ll_journal.specs.Book.{Seat, NotIn}
+use Rattle.ll_journal.specs.Kept.{seat_at, AreSeated, ArePlaced, AreDistinct, IsVacant, IsKept, walks_from, world_of}
 
 -- so many numbers, and one more
 pub one_more : (first count : ℕ) → range_with_len first (count + 1) ≡ range_with_len first count ++ (first + count) ∷ []
@@ -78,10 +82,32 @@ nobody_there (suc place) = refl
 seated : (rules : Rules) (room : ℕ) → AreSeated (start rules room) []
 seated rules room number = get-empty ClientRecord nat_cmp number ∙ sym (nobody_there number)
 
+range_above : (first count k : ℕ) → k < first → NotIn k (range_with_len first count)
+range_above first zero k lt = tt
+range_above first (suc count) k lt = (λ e. absurd (omega arith), range_above (first + 1) count k (omega arith))
+
+range_distinct : (first count : ℕ) → AreDistinct (range_with_len first count)
+range_distinct first zero = tt
+range_distinct first (suc count) = (range_above (first + 1) count first (omega arith), range_distinct (first + 1) count)
+
 -- in a tree of the root alone
-module _ (j : Inside) (others : ℕ) (all : others ≡ j.room + 63) (none : j.history.entries ≡ []) (nobody : j.seats.items ≡ []) where
+module _ (j : Inside) (others : ℕ) (all : others ≡ j.room + TREE_CLIENTS - 1) (none : j.history.entries ≡ []) (nobody : j.seats.items ≡ []) (gate : j.gate ≡ None) where
+  sound : IsSound (world_of j)
+  sound = subst IsSound (sym opened_world) (sound_start j.rules j.room j.history.limit)
+    where
+      opened_world : world_of j ≡ new_world j.rules j.room j.history.limit
+      opened_world = λ i. record {
+        rules = j.rules;
+        room = j.room;
+        limit = j.history.limit;
+        history = none i;
+        walks = walks_from 1 (nobody i);
+        gate = gate i;
+      }
+
   kept_by : ((rules : Rules) (room : ℕ) → AreKept (start rules room) j.facts) → j.inodes.items ≡ opened others → j.places ≡ places → j.free.items ≡ range_with_len 1 others → IsKept j
   kept_by facts inodes found free = record {
+    sound = sound;
     facts = subst (λ (es : List Entry). AreKept (state_after (start j.rules j.room) es) j.facts) (sym none) (facts j.rules j.room);
     seated =
         subst (AreSeated (state_after (start j.rules j.room) j.history.entries)) (sym nobody)
@@ -91,8 +117,10 @@ module _ (j : Inside) (others : ℕ) (all : others ≡ j.room + 63) (none : j.hi
     free = subst (AllByRecursion (IsVacant j.inodes.items)) (sym free)
         (subst (λ ns. AllByRecursion (IsVacant ns) (range_with_len 1 others)) (sym inodes) (vacant_slots others 0 others (omega arith)));
     spares = subst (AllByRecursion (λ (seat : Seat). IsVacant j.inodes.items seat.spare)) (sym nobody) tt;
+    distinct = subst (λ (v : List Seat). AreDistinct (j.free.items ++ map (λ (seat : Seat). seat.spare) v)) (sym nobody)
+        (subst (λ ns. AreDistinct (ns ++ [])) (sym free) (subst AreDistinct (sym (append-nil (range_with_len 1 others))) (range_distinct 1 others)));
   }
 
-pub kept : (j : Inside) (some others : ℕ) → some ≡ j.room + 63 → others ≡ j.room + 63 → j.history.entries ≡ [] → j.seats.items ≡ [] → ((rules : Rules) (room : ℕ) → AreKept (start rules room) j.facts)
+pub kept : (j : Inside) (some others : ℕ) → some ≡ j.room + TREE_CLIENTS - 1 → others ≡ j.room + TREE_CLIENTS - 1 → j.history.entries ≡ [] → j.seats.items ≡ [] → j.gate ≡ None → ((rules : Rules) (room : ℕ) → AreKept (start rules room) j.facts)
     → j.inodes.items ≡ opened some → j.places ≡ places → j.free.items ≡ range_with_len 1 others → IsKept j
-kept j some others all same none nobody facts inodes found free = kept_by j some all none nobody facts inodes found (free ∙ ap (range_with_len 1) (same ∙ sym all))
+kept j some others all same none nobody gate facts inodes found free = kept_by j some all none nobody gate facts inodes found (free ∙ ap (range_with_len 1) (same ∙ sym all))

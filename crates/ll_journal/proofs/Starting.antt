@@ -1,11 +1,12 @@
 -- A walk begins: what the journal keeps stays, and so does every slot's account.
-use Rattle.std.specs.Prelude.{◌≡◌, ◌≢◌, ◌⊎◌, ℕ, zero, suc, ◌+◌, Bool, true, false, not, ◌&&◌, ◌||◌, ◌==◌, cond, List, [], ◌∷◌, length, Option, Some, None, is_none, is_some, option_map, option_and_then, unwrap_or, slice_get, slice_set, slice_index_or, ◌<◌, refl}
+use Rattle.std.specs.Prelude.{◌≡◌, ◌≢◌, ◌⊎◌, ℕ, zero, suc, ◌+◌, Bool, true, false, not, ◌&&◌, ◌||◌, ◌==◌, cond, List, [], ◌∷◌, ◌++◌, map, length, Option, Some, None, is_none, is_some, option_map, option_and_then, unwrap_or, slice_get, slice_set, slice_index_or, ◌<◌, refl}
 use Rattle.std.specs.List.{AllByRecursion}
 use Rattle.std.specs.Option.{option_map_or}
 use Rattle.std.specs.Ordering.{nat_cmp}
 use Rattle.std.specs.Cmp.{nat_cmp_total}
 use Rattle.std.specs.FinMap.{nat_cmp-IsAntisymmetric}
 use Rattle.std.proofs.Common.{sym, subst, ap, ◌∙◌, inl, inr}
+use Rattle.ll_rights.specs.declared.limits.TheConstants.{TREE_CLIENTS}
 use Rattle.ll_rights.specs.Map.{Map, get, insert}
 use Rattle.ll_rights.proofs.Maps.{insert_cases}
 use Rattle.ll_seq.specs.declared.call.Call.{Call}
@@ -18,9 +19,11 @@ use Rattle.ll_seq.specs.History.{Log, state_after}
 use Rattle.ll_journal.specs.declared.journal.Journal.TheInside.{Inside}
 use Rattle.ll_seq.specs.Step.{client_of}
 use Rattle.ll_walks.specs.Walk.{Walk, Above, marks}
-use Rattle.ll_walks.specs.World.{World, Outcome, Begun, NotNow, Begin, advance, begun, is_idle, is_walked, takes_gate, shown, next_number}
+use Rattle.ll_walks.specs.World.{World, Step, Outcome, Begun, NotNow, Begin, advance, begun, is_idle, is_walked, takes_gate, shown, next_number}
+use Rattle.ll_walks.specs.Sound.{IsSound}
+use Rattle.ll_walks.proofs.SoundSteps.{sound_kept}
 use Rattle.ll_journal.specs.Book.{Seat, Book, Spares, inode_in, slot_of, vacant, names_map, has_mark, marked_below}
-use Rattle.ll_journal.specs.Kept.{AreSeated, ArePlaced, IsVacant, IsKept, seat_at, walks_from, world_of}
+use Rattle.ll_journal.specs.Kept.{AreSeated, ArePlaced, AreDistinct, IsVacant, IsKept, seat_at, walks_from, world_of, book_of}
 use Rattle.std.proofs.lemmas.Option.{slice_get-get_or}
 use Rattle.ll_journal.proofs.Begun.{walk_at, walks_put}
 
@@ -87,21 +90,40 @@ all_kept P [] i old seat at same all = tt
 all_kept P (z ∷ seats) zero old seat at same all = (subst P (ap (λ (x : Seat). x.spare) (same_Some z old at) ∙ sym same) all.0, all.1)
 all_kept P (z ∷ seats) (suc i) old seat at same all = (all.0, all_kept P seats i old seat at same all.1)
 
+-- the spares are the same
+pub spares_kept : (seats : List Seat) (i : ℕ) (old seat : Seat) → slice_get seats i ≡ Some old → seat.spare ≡ old.spare → map (λ (s : Seat). s.spare) (slice_set seats i seat) ≡ map (λ (s : Seat). s.spare) seats
+spares_kept [] i old seat at same = refl
+spares_kept (z ∷ seats) zero old seat at same = ap (λ k. k ∷ map (λ (s : Seat). s.spare) seats) (same ∙ ap (λ (x : Seat). x.spare) (sym (same_Some z old at)))
+spares_kept (z ∷ seats) (suc i) old seat at same = ap (λ ks. z.spare ∷ ks) (spares_kept seats i old seat at same)
+
 still_seated : (s : State) (seats : List Seat) (place : ℕ) (old seat : Seat) → slice_get seats place ≡ Some old → seat.client ≡ old.client → AreSeated s seats → AreSeated s (slice_set seats place seat)
 still_seated s seats place old seat at same seated zero = seated zero
 still_seated s seats place old seat at same seated (suc q) = seated (suc q) ∙ sym (got_kept (λ (seat : Seat). seat.client) seats place q old seat at same)
 
+-- the world with another walk in a seat, and perhaps another holder of the gate
+abbrev pub changed_world : Inside → ℕ → Seat → Option ℕ → World
+changed_world j place seat gate = record (world_of j) { walks = walks_from 1 (slice_set j.seats.items place seat); gate = gate }
+
 -- with another walk in a seat, and another holder of the gate
-pub kept_by : (j k : Inside) (place : ℕ) (old seat : Seat) → IsKept j → slice_get j.seats.items place ≡ Some old → seat.client ≡ old.client → seat.spare ≡ old.spare
-    → k.seats.items ≡ slice_set j.seats.items place seat → k.rules ≡ j.rules → k.room ≡ j.room → k.history ≡ j.history → k.facts ≡ j.facts → k.inodes ≡ j.inodes → k.places ≡ j.places → k.free ≡ j.free → IsKept k
-kept_by j k place old seat h at client spare seats rules room history facts inodes places free = record {
+pub kept_by : (j k : Inside) (place : ℕ) (old seat : Seat) (gate : Option ℕ) → IsKept j → slice_get j.seats.items place ≡ Some old → seat.client ≡ old.client → seat.spare ≡ old.spare
+    → IsSound (changed_world j place seat gate) → k.gate ≡ gate → k.seats.items ≡ slice_set j.seats.items place seat → k.rules ≡ j.rules → k.room ≡ j.room → k.history ≡ j.history → k.facts ≡ j.facts → k.inodes ≡ j.inodes → k.places ≡ j.places → k.free ≡ j.free → IsKept k
+kept_by j k place old seat gate h at client spare sound gated seats rules room history facts inodes places free = record {
+  sound = subst IsSound (λ i. record {
+    rules = sym rules i;
+    room = sym room i;
+    limit = (sym history i).limit;
+    history = (sym history i).entries;
+    walks = walks_from 1 (sym seats i);
+    gate = sym gated i;
+  }) sound;
   facts = subst (λ f. AreKept (shown (world_of k)) f) (sym facts) (subst (λ s. AreKept s j.facts) (sym tree) h.facts);
   seated = subst (λ s. AreSeated s k.seats.items) (sym tree) (subst (AreSeated (shown (world_of j))) (sym seats) (still_seated (shown (world_of j)) j.seats.items place old seat at client h.seated));
   placed = subst (λ v. ArePlaced v.items k.places) (sym inodes) (subst (ArePlaced j.inodes.items) (sym places) h.placed);
-  slots = ap (λ v. length v.items) inodes ∙ h.slots ∙ ap (λ n. n + 64) (sym room);
+  slots = ap (λ v. length v.items) inodes ∙ h.slots ∙ ap (λ n. n + TREE_CLIENTS) (sym room);
   free = subst (λ v. AllByRecursion (IsVacant v.items) k.free.items) (sym inodes) (subst (λ v. AllByRecursion (IsVacant j.inodes.items) v.items) (sym free) h.free);
   spares = subst (λ v. AllByRecursion (λ (seat : Seat). IsVacant v.items seat.spare) k.seats.items) (sym inodes)
       (subst (AllByRecursion (λ (seat : Seat). IsVacant j.inodes.items seat.spare)) (sym seats) (all_kept (IsVacant j.inodes.items) j.seats.items place old seat at spare h.spares));
+  distinct = subst AreDistinct (ap (λ v. v.items ++ map (λ (s : Seat). s.spare) j.seats.items) (sym free) ∙ ap (λ ns. k.free.items ++ ns) (sym (ap (map (λ (s : Seat). s.spare)) seats ∙ spares_kept j.seats.items place old seat at spare))) h.distinct;
 }
   where
     tree : shown (world_of k) ≡ shown (world_of j)
@@ -184,3 +206,14 @@ over_begun b b' v number call e h = subst (λ (b : Book). advance b.world (Begin
 
 pub over_spares : (b b' c : Book) → b ≡ b' → Spares b c [] → Spares b' c []
 over_spares b b' c e h = subst (λ (b : Book). Spares b c []) e h
+
+-- what a step leads to is sound
+pub sound_after : (j : Inside) (w : World) (step' : Step) (o : Outcome) → IsKept j → advance (world_of j) step' ≡ (o, w) → IsSound w
+sound_after j w step' o h e = subst (λ (p : Outcome × World). IsSound p.1) e (sound_kept (world_of j) step' h.sound)
+
+-- the rest of the book, where one seat's walk and the world changed
+pub rest_kept : (j : Inside) (place : ℕ) (old seat : Seat) → slice_get j.seats.items place ≡ Some old → seat.spare ≡ old.spare → (w : World) (b : Book) → book_of j ≡ b
+    → record { world = w; inodes = j.inodes.items; free = j.free.items; spares = map (λ (s : Seat). s.spare) (slice_set j.seats.items place seat) } ≡ record b { world = w }
+rest_kept j place old seat at spare w b is =
+    (λ i. record { world = w; inodes = j.inodes.items; free = j.free.items; spares = spares_kept j.seats.items place old seat at spare i })
+    ∙ ap (λ (b : Book). record b { world = w }) is

@@ -1,8 +1,9 @@
 -- What contracts see of the journal, and the account of a slot: what has to lie behind its lock. own
-use Rattle.std.specs.Prelude.{◌≡◌, ◌≢◌, ℕ, zero, suc, ◌+◌, Bool, false, ◌==◌, List, [], ◌∷◌, map, filter, replicate, slice_index_or, length, Option, Some, None, if◌then◌else◌, ⊤}
+use Rattle.std.specs.Prelude.{◌≡◌, ◌≢◌, ℕ, zero, suc, ◌+◌, ◌-◌, Bool, false, ◌==◌, List, [], ◌∷◌, map, filter, replicate, slice_index_or, length, Option, Some, None, if◌then◌else◌, ⊤}
 use Rattle.std.specs.List.{range_with_len}
 use Rattle.std.specs.Option.{option_map_or}
 use Rattle.ll_rights.specs.declared.kind.Kind.TheVariants.{Reg}
+use Rattle.ll_rights.specs.declared.limits.TheConstants.{TREE_CLIENTS}
 use Rattle.ll_rights.specs.Map.{empty, entries, get, insert}
 use Rattle.ll_node.specs.Slot.{NameMap, new_slot}
 use Rattle.ll_seq.specs.declared.client.ClientRecord.{ClientRecord}
@@ -28,12 +29,12 @@ pub record Book : Type 0 where
   pub free : List ℕ
   pub spares : List ℕ
 
--- As many slots as nodes may live, and 64 more, one for each client. The root lies in the first
+-- As many slots as nodes may live, and one more for each client. The root lies in the first
 abbrev pub new_book : Rules → ℕ → ℕ → Book
 new_book rules room limit = record {
   world = new_world rules room limit;
-  inodes = root ∷ replicate (room + 63) 0;
-  free = range_with_len 1 (room + 63);
+  inodes = root ∷ replicate (room + TREE_CLIENTS - 1) 0;
+  free = range_with_len 1 (room + TREE_CLIENTS - 1);
   spares = [];
 }
 

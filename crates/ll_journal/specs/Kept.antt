@@ -1,15 +1,17 @@
 -- What the journal keeps beside the history, and how it is tied to the shown state. No public contract cites it. own
-use Rattle.std.specs.Prelude.{◌≡◌, ◌≢◌, ℕ, zero, suc, ◌+◌, List, [], ◌∷◌, map, length, Option, Some, None, option_map, slice_get}
+use Rattle.std.specs.Prelude.{◌≡◌, ◌≢◌, ℕ, zero, suc, ◌+◌, List, [], ◌∷◌, ◌++◌, map, length, Option, Some, None, option_map, slice_get, ⊤}
 use Rattle.std.specs.List.{AllByRecursion}
 use Rattle.std.specs.Option.{option_map_or}
 use Rattle.std.specs.Ordering.{nat_cmp}
+use Rattle.ll_rights.specs.declared.limits.TheConstants.{TREE_CLIENTS}
 use Rattle.ll_rights.specs.Map.{Map, empty, get, insert}
 use Rattle.ll_seq.specs.State.{State}
 use Rattle.ll_seq.specs.Facts.{AreKept}
 use Rattle.ll_journal.specs.declared.journal.Journal.TheInside.{Inside}
 use Rattle.ll_walks.specs.Walk.{Walk}
 use Rattle.ll_walks.specs.World.{World, shown}
-use Rattle.ll_journal.specs.Book.{Seat, Book}
+use Rattle.ll_walks.specs.Sound.{IsSound}
+use Rattle.ll_journal.specs.Book.{Seat, Book, NotIn}
 
 -- the walks that are under way; the first seat is that of the client of this number
 abbrev pub walks_from : ℕ → List Seat → Map nat_cmp Walk
@@ -56,10 +58,17 @@ pub record ArePlaced (inodes : List ℕ) (places : Map nat_cmp ℕ) : Type 0 whe
 abbrev pub IsVacant : List ℕ → ℕ → Type 0
 IsVacant inodes slot = slice_get inodes slot ≡ Some 0
 
+-- no slot is there twice
+abbrev pub AreDistinct : List ℕ → Type 0
+AreDistinct [] = ⊤
+AreDistinct (k ∷ ks) = NotIn k ks × AreDistinct ks
+
 pub record IsKept (j : Inside) : Type 0 where
+  pub sound : IsSound (world_of j)
   pub facts : AreKept (shown (world_of j)) j.facts
   pub seated : AreSeated (shown (world_of j)) j.seats.items
   pub placed : ArePlaced j.inodes.items j.places
-  pub slots : length j.inodes.items ≡ j.room + 64
+  pub slots : length j.inodes.items ≡ j.room + TREE_CLIENTS
   pub free : AllByRecursion (IsVacant j.inodes.items) j.free.items
   pub spares : AllByRecursion (λ (seat : Seat). IsVacant j.inodes.items seat.spare) j.seats.items
+  pub distinct : AreDistinct (j.free.items ++ map (λ (seat : Seat). seat.spare) j.seats.items)

@@ -1,4 +1,5 @@
 pub mod Book
 pub mod SeatCodes
+pub mod Steps
 pub mod Seated
 pub mod Kept

@@ -1,41 +1,51 @@
 -- What a client's seat means. No public contract cites it. own
-use Rattle.std.specs.Prelude.{◌≡◌, ℕ, ◌+◌, ◌-◌, ◌≤◌, List, map, length, take, drop, slice_index_or, option_map, IfSome, vec_capacity, ⊤}
-use Rattle.ll_path.specs.Path.{Path, parent}
+use Rattle.std.specs.Prelude.{◌≡◌, ℕ, ◌+◌, ◌-◌, ◌<◌, ◌≤◌, List, [], ◌∷◌, map, length, take, drop, slice_get, slice_index_or, false, Option, Some, None, option_map, option_and_then, unwrap_or, if◌then◌else◌, IfSome, vec_capacity, ⊤}
+use Rattle.std.specs.Option.{option_map_or}
+use Rattle.ll_rights.specs.declared.limits.TheConstants.{PATH_NAMES}
+use Rattle.ll_path.specs.Name.{same_name}
+use Rattle.ll_path.specs.Path.{Path, parent, is_root}
 use Rattle.ll_decide.specs.Masks.{AreMasks}
 use Rattle.ll_rules.specs.Layer.{Layer, grants_on}
 use Rattle.ll_seq.specs.declared.call.Call.{Call}
 use Rattle.ll_seq.specs.Call.{first_path, second_path}
+use Rattle.ll_seq.specs.State.{Name}
+use Rattle.ll_walks.specs.Walk.{Leg, Position, Above, Down, Split, Mask, Walk, rights_where, trunk_path, leg_below, turn, with_turn, first_leg, forked}
 use Rattle.ll_journal.specs.declared.seat.Leg as kept
 use Rattle.ll_journal.specs.declared.seat.Legs.{Legs}
 use Rattle.ll_journal.specs.declared.seat.Stage.{Stage}
 use Rattle.ll_journal.specs.declared.seat.Stage.TheVariants as stage
+use Rattle.ll_journal.specs.declared.seat.Turn.{Turn}
+use Rattle.ll_journal.specs.declared.seat.Turn.TheVariants as turns
 use Rattle.ll_journal.specs.declared.seat.Seat.TheInside.{Inside}
-use Rattle.ll_walks.specs.Walk.{Leg, Position, Above, Down, Split, Mask, rights_where, trunk_path}
 use Rattle.ll_journal.specs.Book as book
 
 -- what each layer grants on the chain
 abbrev pub granted : List Layer → List ℕ → List Mask
 granted domain chain = map (λ layer. rights_where (grants_on layer chain)) domain
 
+-- how many names lead to the last of the chain
+abbrev pub depth_of : List ℕ → ℕ
+depth_of chain = length chain - 1
+
 abbrev pub last_of : List ℕ → ℕ
 last_of chain = slice_index_or chain (length chain - 1) 0
 
-abbrev pub leg_of : List Layer → Path → kept.Leg → Leg
-leg_of domain path leg = record {
-  walked = take leg.depth path;
-  ahead = drop leg.depth path;
-  chain = leg.chain.items;
-  here = last_of leg.chain.items;
-  masks = granted domain leg.chain.items;
+abbrev pub leg_of : List Layer → Path → List ℕ → Leg
+leg_of domain path chain = record {
+  walked = take (depth_of chain) path;
+  ahead = drop (depth_of chain) path;
+  chain = chain;
+  here = last_of chain;
+  masks = granted domain chain;
 }
 
 abbrev pub position_at : Stage → Inside → Call → Position
 position_at stage.Above seat call = Above
-position_at stage.Down seat call = Down (leg_of seat.client.domain (trunk_path call) seat.trunk)
+position_at stage.Down seat call = Down (leg_of seat.client.domain (trunk_path call) seat.trunk.chain.items)
 position_at stage.Split seat call =
-    Split (leg_of seat.client.domain (trunk_path call) seat.trunk)
-    (leg_of seat.client.domain (parent (first_path call)) seat.first)
-    (leg_of seat.client.domain (parent (second_path call)) seat.second)
+    Split (leg_of seat.client.domain (trunk_path call) seat.trunk.chain.items)
+    (leg_of seat.client.domain (parent (first_path call)) seat.first.chain.items)
+    (leg_of seat.client.domain (parent (second_path call)) seat.second.chain.items)
 
 abbrev pub seat_of : Inside → book.Seat
 seat_of seat = record {
@@ -49,23 +59,36 @@ seat_of seat = record {
   }) seat.call;
 }
 
--- a leg that stands on the path, so deep; its masks are those of its chain
+-- a leg that stands somewhere on the path; its masks are those of its chain
 pub record Fits (domain : List Layer) (path : Path) (leg : kept.Leg) : Type 0 where
-  pub depth : leg.depth ≤ length path
-  pub chain : length leg.chain.items ≡ leg.depth + 1
+  pub some : 0 < length leg.chain.items
+  pub most : length leg.chain.items ≤ length path + 1
   pub masks : AreMasks leg.masks domain leg.chain.items
+
+-- and so do the three past the fork
+pub record FitSplit (seat : Inside) (call : Call) : Type 0 where
+  pub trunk : Fits seat.client.domain (trunk_path call) seat.trunk
+  pub first : Fits seat.client.domain (parent (first_path call)) seat.first
+  pub second : Fits seat.client.domain (parent (second_path call)) seat.second
 
 abbrev pub FitAt : Stage → Inside → Call → Type 0
 FitAt stage.Above seat call = ⊤
 FitAt stage.Down seat call = Fits seat.client.domain (trunk_path call) seat.trunk
-FitAt stage.Split seat call =
-    Fits seat.client.domain (trunk_path call) seat.trunk
-    × Fits seat.client.domain (parent (first_path call)) seat.first
-    × Fits seat.client.domain (parent (second_path call)) seat.second
+FitAt stage.Split seat call = FitSplit seat call
+
+-- a chain is as long as a path at most
+abbrev pub AreShort : Call → Type 0
+AreShort call = (length (first_path call) ≤ PATH_NAMES) × (length (second_path call) ≤ PATH_NAMES)
 
 -- there is room for the longest chain
 abbrev pub IsRoomy : kept.Leg → Type 0
-IsRoomy leg = 64 ≤ vec_capacity leg.chain
+IsRoomy leg = PATH_NAMES ≤ vec_capacity leg.chain
+
+-- the leg has come so far
+pub record StandsAt (domain : List Layer) (inodes : List ℕ) (leg : kept.Leg) : Type 0 where
+  pub chain : leg.chain.items ≡ inodes
+  pub masks : AreMasks leg.masks domain inodes
+  pub roomy : IsRoomy leg
 
 pub record AreRoomy (legs : Legs) : Type 0 where
   pub trunk : IsRoomy legs.trunk
@@ -76,4 +99,50 @@ pub record IsSeat (seat : Inside) : Type 0 where
   pub trunk : IsRoomy seat.trunk
   pub first : IsRoomy seat.first
   pub second : IsRoomy seat.second
+  pub short : IfSome seat.call AreShort
   pub fit : IfSome seat.call (FitAt seat.stage seat)
+
+-- ---- What a walk does in its seat
+
+-- the name where both are the same
+abbrev pub shared_name : Option Name → Option Name → Option Name
+shared_name None other = None
+shared_name (Some one) None = None
+shared_name (Some one) (Some other) = if same_name one other then Some one else None
+
+-- which leg is in turn, by how far the first path's leg has come
+abbrev pub turn_at : Stage → Call → List ℕ → Turn
+turn_at stage.Above call first = turns.No
+turn_at stage.Down call first = turns.Trunk
+turn_at stage.Split call first =
+    if is_root (drop (depth_of first) (parent (first_path call))) then turns.Second else turns.First
+
+-- the next name of the leg in turn
+abbrev pub next_of : Position → Option Name
+next_of at = option_and_then (λ (leg : Leg). slice_get leg.ahead 0) (turn at)
+
+abbrev pub next_in : book.Seat → Option Name
+next_in seat = option_and_then (λ (walk : Walk). next_of walk.at) seat.walk
+
+-- where the leg in turn stands
+abbrev pub here_in : book.Seat → Option ℕ
+here_in seat = option_and_then (λ (walk : Walk). option_map (λ (leg : Leg). leg.here) (turn walk.at)) seat.walk
+
+abbrev pub entered : List Layer → Walk → Walk
+entered domain walk = record walk { at = Down (first_leg domain (trunk_path walk.call)) }
+
+-- with these names ahead
+abbrev pub lower : List Layer → ℕ → Leg → Path → Leg
+lower domain inode leg [] = leg
+lower domain inode leg (name ∷ rest) = leg_below domain leg name rest inode
+
+-- the leg in turn has taken its next name
+abbrev pub gone_down : List Layer → ℕ → Walk → Walk
+gone_down domain inode walk =
+    option_map_or (λ (leg : Leg). record walk { at = with_turn walk.at (lower domain inode leg leg.ahead) }) (turn walk.at) walk
+
+abbrev pub split : Walk → Walk
+split walk = record walk { at = unwrap_or (forked walk.call walk.at) walk.at }
+
+abbrev pub again : Walk → Walk
+again walk = record walk { starts = walk.starts + 1; stale = false; at = Above }

@@ -1,19 +1,17 @@
 //! The journal.
 
-ghost use Rattle.std.specs.Prelude.{◌≡◌, ◌<◌, ◌≤◌, suc, [], ◌∷◌, length, replicate, None, IfOk, IfErr, IfSome, IfNone, OnOk, OnErr};
+ghost use Rattle.std.specs.Prelude.{◌≡◌, ◌+◌, ◌<◌, ◌≤◌, suc, [], ◌∷◌, length, replicate, None, IfOk, IfErr, IfSome, IfNone, OnOk, OnErr};
 ghost use Rattle.std.specs.List.{range_with_len};
-ghost use Rattle.ll_rights.specs.declared.limits.TheConstants.{HISTORY_ENTRIES};
+ghost use Rattle.ll_rights.specs.declared.limits.TheConstants.{HISTORY_ENTRIES, TREE_CLIENTS, TREE_NODES};
 ghost use Rattle.ll_seq.specs.State.{root};
 ghost use Rattle.ll_journal.specs.Kept.{seat_at};
 
 use crate::seat::Seat;
 use crate::walked::{is_free, next_gate};
+use ll_rights::limits::TREE_CLIENTS;
 use ll_seq::{Call, Fact, History, NumberMap, Rules};
 use std::alloc::{AllocError, Global};
 use std::marker::Model;
-
-/// One spare slot a client.
-const SPARES: usize = 64;
 
 const ROOT: u64 = 1;
 
@@ -53,7 +51,7 @@ impl Model for Journal {
 #[tactic(auto, using(crate::proofs::Opened::vacant_more))]
 /// The root in the first slot, and nothing in so many others.
 fn inodes(alloc: Global, others: usize) -> Result<Vec<u64>, AllocError>
-    requires { others ≤ 4159 }
+    requires { others < TREE_NODES + TREE_CLIENTS }
     ensures { IfOk result (λ inodes. inodes.items ≡ root ∷ replicate others 0) }
 {
     let mut inodes = Vec::with_capacity(alloc, others + 1)?;
@@ -67,7 +65,7 @@ fn inodes(alloc: Global, others: usize) -> Result<Vec<u64>, AllocError>
 #[tactic(auto, using(crate::proofs::Opened::one_more))]
 /// So many slots, all but the first.
 fn free(alloc: Global, others: usize) -> Result<Vec<u64>, AllocError>
-    requires { others ≤ 4159 }
+    requires { others < TREE_NODES + TREE_CLIENTS }
     ensures { IfOk result (λ free. free.items ≡ range_with_len 1 others) }
 {
     let mut free = Vec::with_capacity(alloc, others)?;
@@ -106,7 +104,7 @@ impl Journal {
         history: usize,
     ) -> Result<Journal, AllocError>
         requires some { 1 ≤ nodes }
-        requires most { nodes ≤ 4096 }
+        requires most { nodes ≤ TREE_NODES }
         requires entry { 1 ≤ history }
         requires entries { history ≤ HISTORY_ENTRIES }
         ensures { IfOk result (λ journal. journal ≡ new_book rules nodes history) }
@@ -118,12 +116,12 @@ impl Journal {
             rules,
             room: nodes,
             history: History::new(alloc, history)?,
-            seats: Vec::with_capacity(alloc, SPARES)?,
+            seats: Vec::with_capacity(alloc, TREE_CLIENTS)?,
             gate: None,
             facts: NumberMap::of_root(alloc)?,
-            inodes: inodes(alloc, nodes + SPARES - 1)?,
+            inodes: inodes(alloc, nodes + TREE_CLIENTS - 1)?,
             places,
-            free: free(alloc, nodes + SPARES - 1)?,
+            free: free(alloc, nodes + TREE_CLIENTS - 1)?,
         })
     }
 
@@ -134,6 +132,7 @@ impl Journal {
         ensures back { IfErr result (λ back. back ≡ call) }
         ensures same { OnErr result (self.new ≡ self.old) }
         ensures spares { Spares self.old self.new [] }
+        ensures rest { self.new ≡ record self.old { world = self.new.world } }
     {
         let Some(place) = place_of(&self.seats, client) else {
             return Err(call);

@@ -3,8 +3,11 @@
 
 mod held;
 mod journal;
+mod outcome;
 mod seat;
 mod walked;
+mod way;
 
 pub use held::Held;
 pub use journal::Journal;
+pub use outcome::Outcome;

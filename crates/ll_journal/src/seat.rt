@@ -1,24 +1,31 @@
 //! Clients, each with its walk.
 
-ghost use Rattle.std.specs.Prelude.{◌≡◌, ◌&&◌, false, None, Some, is_none, IfOk};
-ghost use Rattle.ll_seq.specs.State.{new_client};
-ghost use Rattle.ll_walks.specs.Walk.{Above};
+ghost use Rattle.std.specs.Prelude.{◌≡◌, ◌&&◌, ◌||◌, ◌==◌, ◌<◌, ◌≤◌, not, false, true, length, [], ◌∷◌, ◌++◌, None, Some, is_none, is_some, IfOk, IfSome, IsSome, option_map};
+ghost use Rattle.std.specs.Option.{option_map_or};
+ghost use Rattle.ll_decide.specs.Masks.{AreMasks};
+ghost use Rattle.ll_rights.specs.declared.limits.TheConstants.{PATH_NAMES};
+ghost use Rattle.ll_seq.specs.State.{new_client, root};
+ghost use Rattle.ll_walks.specs.Walk as walks;
 ghost use Rattle.ll_walks.specs.World.{is_walked};
+ghost use Rattle.ll_journal.specs.Seated.{turn_at};
 
 use crate::walked::walks;
+use crate::way::{first_name, has_two_paths, know_ways, second_name, trunk_name};
 use ll_decide::Masks;
+use ll_rights::limits::PATH_NAMES;
+use ll_rules::Domain;
 use ll_seq::{Call, ClientRecord};
 use std::alloc::{AllocError, Global};
 use std::marker::Model;
 
-/// So many directories lead to where the last name of a path stands, at most.
-const CHAIN: usize = 64;
+const ROOT: u64 = 1;
 
-/// A branch of a walk: how many names of its path it took, the inodes from the root to where it stands, and what each
-/// layer grants there.
+/// On its fourth start a walk takes the gate.
+const LAST_START: u64 = 4;
+
+/// A branch of a walk: the inodes from the root to where it stands, and what each layer grants there.
 #[derive(Drop)]
 struct Leg {
-    depth: usize,
     chain: Vec<u64>,
     masks: Masks,
 }
@@ -29,6 +36,15 @@ enum Stage {
     Above,
     Down,
     Split,
+}
+
+/// The leg in turn.
+#[derive(Clone, Copy, Debug, PartialEq, Eq)]
+enum Turn {
+    No,
+    Trunk,
+    First,
+    Second,
 }
 
 /// A client, the slot that is kept for what it makes, and its walk, if one is under way. There is room for the longest
@@ -62,17 +78,82 @@ impl Model for Seat {
 }
 
 impl Leg {
-    ghost use Rattle.ll_journal.specs.Seated.{IsRoomy};
+    ghost use Rattle.ll_journal.specs.Seated.{IsRoomy, StandsAt, depth_of, last_of};
 
     fn new(alloc: Global) -> Result<Leg, AllocError>
         ensures { IfOk result IsRoomy }
     {
-        let chain = Vec::with_capacity(alloc, CHAIN)?;
+        let chain = Vec::with_capacity(alloc, PATH_NAMES)?;
         Ok(Leg {
-            depth: 0,
             chain,
             masks: Masks::empty(alloc),
         })
+    }
+
+    /// At the root.
+    fn start(&mut self, alloc: Global, domain: &Domain)
+        requires { IsRoomy self.old }
+        ensures { StandsAt domain.now (root ∷ []) self.new }
+    {
+        self.chain.clear();
+        self.chain.push_reserved(ROOT);
+        self.masks = Masks::root(alloc, domain);
+    }
+
+    /// One directory further.
+    fn go_down(&mut self, domain: &Domain, inode: u64)
+        requires roomy { IsRoomy self.old }
+        requires short { length self.old.chain.items < PATH_NAMES }
+        requires masks { AreMasks self.old.masks domain.now self.old.chain.items }
+        ensures { StandsAt domain.now (self.old.chain.items ++ inode ∷ []) self.new }
+    {
+        self.chain.push_reserved(inode);
+        self.masks.down(domain, inode);
+    }
+
+    /// Where the other one stands.
+    fn follow(&mut self, other: &Leg)
+        requires roomy { IsRoomy self.old }
+        requires short { length other.now.chain.items ≤ PATH_NAMES }
+        ensures chain { self.new.chain.items ≡ other.now.chain.items }
+        ensures masks { self.new.masks ≡ other.now.masks }
+        ensures roomy { IsRoomy self.new }
+    {
+        self.chain.clear();
+        for inode in &other.chain {
+            self.chain.push_reserved(*inode);
+        }
+        self.masks = other.masks.copy();
+    }
+
+    /// How many names it took.
+    fn depth(&self) -> usize
+        requires { 0 < length self.now.chain.items }
+        ensures { result ≡ depth_of self.now.chain.items }
+    {
+        self.chain.len() - 1
+    }
+
+    fn here(&self) -> u64
+        requires { 0 < length self.now.chain.items }
+        ensures { result ≡ last_of self.now.chain.items }
+    {
+        self.chain[self.depth()]
+    }
+}
+
+/// The leg in turn: of a forked walk the first path's, to its end.
+fn turn_of(stage: Stage, call: &Call, first: &Leg) -> Turn
+    requires { stage ≡ Stage.Split → 0 < length first.now.chain.items }
+    ensures { result ≡ turn_at stage call.now first.now.chain.items }
+{
+    match stage {
+        Stage::Above => Turn::No,
+        Stage::Down => Turn::Trunk,
+        Stage::Split => match first_name(call, first.depth()) {
+            Some(_) => Turn::First,
+            None => Turn::Second,
+        },
     }
 }
 
@@ -99,6 +180,8 @@ impl Legs {
 }
 
 impl Seat {
+    ghost use Rattle.ll_journal.specs.Seated.{again, entered, gone_down, here_in, next_in, split};
+
     /// A client without a walk.
     pub(crate) fn new(alloc: Global, client: ClientRecord, spare: u64) -> Result<Seat, AllocError>
         ensures { IfOk result (λ seat. seat ≡ record { client = client; spare = spare; walk = None }) }
@@ -138,12 +221,145 @@ impl Seat {
     /// The call sets out, above the root.
     pub(crate) fn begin(&mut self, call: Call)
         ensures { self.new ≡ record self.old {
-          walk = Some (record { call = call; starts = 1; stale = false; at = Above });
+          walk = Some (record { call = call; starts = 1; stale = false; at = walks.Above });
         } }
     {
+        know_ways(&call);
         let last = self.call.replace(call);
         drop(last);
         self.starts = 1;
+        self.is_stale = false;
+        self.stage = Stage::Above;
+    }
+
+    /// Whether a walk is under way that isn't stale.
+    pub(crate) fn goes_on(&self) -> bool
+        ensures { result ≡ option_map_or (λ (walk : walks.Walk). not walk.stale) self.now.walk false }
+    {
+        self.call.is_some() && !self.is_stale
+    }
+
+    /// Whether a walk is under way that is stale.
+    pub(crate) fn is_stale(&self) -> bool
+        ensures { result ≡ option_map_or (λ (walk : walks.Walk). walk.stale) self.now.walk false }
+    {
+        self.call.is_some() && self.is_stale
+    }
+
+    /// Whether a walk is under way, above the root.
+    pub(crate) fn is_above(&self) -> bool
+        ensures { result ≡ option_map_or (λ (walk : walks.Walk). walks.is_above walk.at) self.now.walk false }
+    {
+        self.call.is_some() && matches!(self.stage, Stage::Above)
+    }
+
+    /// Whether a walk is under way, on its fourth start.
+    pub(crate) fn starts_last(&self) -> bool
+        ensures { result ≡ option_map_or (λ (walk : walks.Walk). walk.starts == 4) self.now.walk false }
+    {
+        self.call.is_some() && self.starts == LAST_START
+    }
+
+    /// The walk is at the root.
+    pub(crate) fn enter(&mut self, alloc: Global)
+        ensures { self.new ≡ record self.old { walk = option_map (entered self.old.client.domain) self.old.walk } }
+    {
+        self.trunk.start(alloc, &self.client.domain);
+        self.stage = Stage::Down;
+    }
+
+    /// The next name of the leg in turn.
+    pub(crate) fn next_name(&self) -> Option<&str>
+        ensures { option_map (λ name. name.now) result ≡ next_in self.now }
+    {
+        let call = self.call.as_ref()?;
+        match turn_of(self.stage, call, &self.first) {
+            Turn::No => None,
+            Turn::Trunk => trunk_name(call, self.trunk.depth()),
+            Turn::First => first_name(call, self.first.depth()),
+            Turn::Second => second_name(call, self.second.depth()),
+        }
+    }
+
+    /// Where the leg in turn stands.
+    pub(crate) fn here(&self) -> Option<u64>
+        ensures { result ≡ here_in self.now }
+    {
+        let call = self.call.as_ref()?;
+        match turn_of(self.stage, call, &self.first) {
+            Turn::No => None,
+            Turn::Trunk => Some(self.trunk.here()),
+            Turn::First => Some(self.first.here()),
+            Turn::Second => Some(self.second.here()),
+        }
+    }
+
+    /// Whether the walk stands in the directory.
+    pub(crate) fn stands_in(&self, inode: u64) -> bool
+        ensures { result ≡ option_map_or (λ (walk : walks.Walk). walks.marks walk inode) self.now.walk false }
+    {
+        if self.call.is_none() {
+            return false;
+        }
+        match self.stage {
+            Stage::Above => false,
+            Stage::Down => self.trunk.here() == inode,
+            Stage::Split => {
+                self.trunk.here() == inode
+                    || self.first.here() == inode
+                    || self.second.here() == inode
+            }
+        }
+    }
+
+    /// The leg in turn takes its next name, which names this directory.
+    pub(crate) fn descend(&mut self, inode: u64)
+        requires { IsSome (next_in self.old) }
+        ensures { self.new ≡ record self.old { walk = option_map (gone_down self.old.client.domain inode) self.old.walk } }
+    {
+        let Some(call) = &self.call else {
+            return;
+        };
+        match turn_of(self.stage, call, &self.first) {
+            Turn::No => {}
+            Turn::Trunk => self.trunk.go_down(&self.client.domain, inode),
+            Turn::First => self.first.go_down(&self.client.domain, inode),
+            Turn::Second => self.second.go_down(&self.client.domain, inode),
+        }
+    }
+
+    /// Whether the walk stands at its fork.
+    pub(crate) fn may_fork(&self) -> bool
+        ensures { result ≡ option_map_or (λ (walk : walks.Walk). is_some (walks.forked walk.call walk.at)) self.now.walk false }
+    {
+        let Some(call) = &self.call else {
+            return false;
+        };
+        match self.stage {
+            Stage::Above => false,
+            Stage::Down => {
+                has_two_paths(call) && trunk_name(call, self.trunk.depth()).is_none()
+            }
+            Stage::Split => false,
+        }
+    }
+
+    /// The walk leaves what is common to both paths.
+    pub(crate) fn fork(&mut self)
+        requires { option_map_or (λ (walk : walks.Walk). is_some (walks.forked walk.call walk.at)) self.old.walk false ≡ true }
+        ensures { self.new ≡ record self.old { walk = option_map split self.old.walk } }
+    {
+        self.first.follow(&self.trunk);
+        self.second.follow(&self.trunk);
+        self.stage = Stage::Split;
+    }
+
+    /// The walk starts again, above the root.
+    pub(crate) fn restart(&mut self)
+        requires { (walk : walks.Walk) × (self.old.walk ≡ Some walk) × (walk.starts ≤ 4) }
+        ensures { self.new ≡ record self.old { walk = option_map again self.old.walk } }
+    {
+        self.starts += 1;
         self.is_stale = false;
         self.stage = Stage::Above;
     }

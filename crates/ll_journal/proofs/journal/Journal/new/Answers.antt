@@ -1,4 +1,4 @@
-use Rattle.std.proofs.Common.{ℕ, ap, ◌∙◌, arith}
+use Rattle.std.proofs.Common.{ℕ, ap, refl, ◌∙◌, arith}
 use Rattle.std.specs.Ordering.{nat_cmp}
 use Rattle.ll_rights.specs.Map.{get, insert}
 use Rattle.ll_rights.proofs.Maps.{get-empty}
@@ -11,5 +11,5 @@ insert-requires c = ap (λ m. get m 1) c.new-places.ensures ∙ get-empty ℕ na
 
 pub invariant_of-result-2 : goal.invariant_of-result-2
 invariant_of-result-2 c =
-    kept _ _ _ (omega arith) (omega arith) (ap (λ (log : Log). log.entries) c.in_ok-new.ensures) c.in_ok-with_capacity.ensures.items c.in_ok-of_root.ensures c.in_ok-inodes.ensures
+    kept _ _ _ (omega arith) (omega arith) (ap (λ (log : Log). log.entries) c.in_ok-new.ensures) c.in_ok-with_capacity.ensures.items refl c.in_ok-of_root.ensures c.in_ok-inodes.ensures
     (c.places.view_is ∙ c.in_ok-insert.ensures.ok ∙ ap (λ m. insert m 1 0) c.new-places.ensures) c.in_ok-free.ensures
