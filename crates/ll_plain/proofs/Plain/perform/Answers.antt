@@ -1,5 +1,5 @@
 use Rattle.std.specs.Prelude.{◌≡◌, Bool, true, false, ◌&&◌}
-use Rattle.std.proofs.Common.{ap, sym, ◌∙◌}
+use Rattle.std.proofs.Common.{ap, sym, refl, inl, inr, ◌∙◌}
 use Rattle.std.proofs.lemmas.Bool.{false≢true}
 use Rattle.ll_seq.specs.declared.reply.Reply.{Reply}
 use Rattle.ll_seq.specs.State.{State}
@@ -19,3 +19,9 @@ pub returns-in-Err-enact-clause-memory : goal.returns-in-Err-enact-clause-memory
 returns-in-Err-enact-clause-memory c none starved =
     let lean = c.in-Ok.ensures.lean (spared c.args.call.now c.requires.path none) in
     absurd (false≢true (c.in-Err-enact.ensures.lean (last _ _ lean)))
+
+pub returns-in-Err-clause-comes : goal.returns-in-Err-clause-comes
+returns-in-Err-clause-comes c = λ fresh. inl (c.in-Err.ensures fresh)
+
+pub returns-in-Err-enact-clause-comes : goal.returns-in-Err-enact-clause-comes
+returns-in-Err-enact-clause-comes c = λ fresh. inr (refl, c.in-Err-enact.ensures.err, c.in-Ok.ensures.free)
