@@ -10,6 +10,8 @@ use Rattle.ll_session.specs.declared.fault.RunFault.TheVariants as run
 use Rattle.ll_session.specs.declared.fault.SessionFault.TheVariants as session
 use Rattle.ll_saved.specs.declared.auditing.AuditFailure.{AuditFailure}
 use Rattle.ll_saved.specs.declared.auditing.AuditFailure.TheVariants as audit
+use Rattle.ll_saved.specs.declared.saving.SaveFault.{SaveFault}
+use Rattle.ll_saved.specs.declared.saving.SaveFault.TheVariants as saving
 use Rattle.ll_saved.specs.declared.verdict.Verdict.TheVariants.{Legal, Illegal, BadLine}
 use Rattle.landtree.specs.declared.failure.Failure.{Failure}
 use Rattle.landtree.specs.declared.failure.Failure.TheVariants.{CommandLine, Policy, Opening, File, Output, NoMemory}
@@ -42,6 +44,11 @@ failure_by DisplayHelp = None
 failure_by DisplayVersion = None
 failure_by kind.OutOfMemory = Some NoMemory
 failure_by _ = Some CommandLine
+
+-- the same of what keeps a history from being saved
+abbrev pub failure_by_saving : SaveFault → Failure
+failure_by_saving saving.Write = File
+failure_by_saving saving.NoMemory = NoMemory
 
 -- the same of what ends an audit
 abbrev pub failure_at : AuditFailure → Failure
@@ -76,6 +83,12 @@ EndsRun (Ok Done) = ⊤
 EndsRun (Ok (Judged verdict)) = ⊥
 EndsRun (Err CommandLine) = ⊥
 EndsRun (Err failure) = ⊤
+
+-- what saving may fail for: its file or memory
+abbrev pub IsOfSaving : Failure → Type 0
+IsOfSaving File = ⊤
+IsOfSaving NoMemory = ⊤
+IsOfSaving failure = ⊥
 
 -- what an audit may fail for: its file, its output or memory
 abbrev pub IsOfAudit : Failure → Type 0

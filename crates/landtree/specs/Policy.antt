@@ -1,5 +1,5 @@
 -- What the words and the policy's file set up. own
-use Rattle.std.specs.Prelude.{bytes_eq, ◌≡◌, ◌⊎◌, ⊤, ℕ, true, false, List, [], Option, Some, None, option_map, slice_get, unwrap_or}
+use Rattle.std.specs.Prelude.{bytes_eq, ◌≡◌, ◌⊎◌, ⊤, ℕ, true, false, List, [], Option, Some, None, option_map, slice_get, unwrap_or, is_some}
 use Rattle.std.specs.Map.{lookup}
 use Rattle.std.specs.Str.{IsUtf8}
 use Rattle.toml.specs.Parse.{parse_document}
@@ -11,7 +11,9 @@ use Rattle.landtree.specs.declared.failure.Failure.{Failure}
 use Rattle.landtree.specs.declared.failure.Failure.TheVariants.{CommandLine, Policy, Opening, File, Output, NoMemory}
 use Rattle.ll_session.specs.declared.fault.RunFault.{RunFault}
 use Rattle.ll_session.specs.declared.setup.Setup.{Setup}
-use Rattle.landtree.specs.Failure.{failure_of}
+use Rattle.landtree.specs.Failure.{failure_of, IsOfSaving}
+use Rattle.ll_wire.specs.declared.header.Header.{Header}
+use Rattle.ll_wire.specs.declared.header.Version.TheVariants.{Three}
 use Rattle.ll_session.specs.Run.{MayEnd}
 use Rattle.landtree.specs.Options.{RunOrder}
 
@@ -39,20 +41,31 @@ IsSetBy (Some file) order text setup = (plan : Plan) × IsPlanOf (parse_document
 
 -- The setup that is wanted, where the policy's file has this text
 abbrev pub IsSetup : RunOrder → List ℕ → Setup → Type 0
-IsSetup order text setup = (setup.nodes ≡ order.nodes) × IsSetBy order.policy order text setup
+IsSetup order text setup =
+    (setup.nodes ≡ order.nodes) × (setup.history ≡ order.history) × IsSetBy order.policy order text setup
 
--- Why there is none: the first of what is wrong with the policy's text, a profile that a right policy hasn't, a file that can't be read,
--- want of memory
+-- Why there is none: the first of what is wrong with the policy's text, a profile that a right policy hasn't, a file
+-- that can't be read, want of memory
 abbrev pub Lacks : RunOrder → List ℕ → Failure → Type 0
-Lacks order text (Policy fault) = ((IsUtf8 text → ⊥) × (fault ≡ NotToml)) ⊎ (IsUtf8 text × (slice_get (document_faults (parse_document text)) 0 ≡ Some fault))
-Lacks order text CommandLine = (plan : Plan) × IsPlanOf (parse_document text) plan × (profile_of order.profile plan ≡ None)
+Lacks order text (Policy fault) =
+    ((IsUtf8 text → ⊥) × (fault ≡ NotToml))
+    ⊎ (IsUtf8 text × (slice_get (document_faults (parse_document text)) 0 ≡ Some fault))
+Lacks order text CommandLine =
+    (plan : Plan) × IsPlanOf (parse_document text) plan × (profile_of order.profile plan ≡ None)
 Lacks order text File = ⊤
 Lacks order text NoMemory = ⊤
 Lacks order text Opening = ⊥
 Lacks order text Output = ⊥
 
--- Why nothing is run to its end: there is no setup, or a fault ends the run of the one there is
+-- the header of the history of a run that is set up so
+abbrev pub header_of : Setup → Header
+header_of setup = record { version = Three setup.rules.abi; nodes = setup.nodes }
+
+-- Why nothing is run to its end and saved: there is no setup, or a fault ends the run of the one there is, or a history
+-- that is to be saved can't be
 abbrev pub MayFail : RunOrder → List ℕ → Failure → Type 0
 MayFail order text failure =
     Lacks order text failure
-    ⊎ ((setup : Setup) × IsSetup order text setup × (fault : RunFault) × MayEnd setup fault × (failure ≡ failure_of fault))
+    ⊎ ((setup : Setup) × IsSetup order text setup × (fault : RunFault)
+    × MayEnd setup fault × (failure ≡ failure_of fault))
+    ⊎ ((is_some order.save ≡ true) × IsOfSaving failure)

@@ -2,11 +2,11 @@
 
 ghost use Rattle.std.specs.Prelude.{◌≡◌};
 ghost use Rattle.clap.specs.Words.{kind_of};
-ghost use Rattle.landtree.specs.Failure.{failure_at, failure_by, failure_in, failure_of, line_of, status_of};
+ghost use Rattle.landtree.specs.Failure.{failure_at, failure_by, failure_by_saving, failure_in, failure_of, line_of, status_of};
 
 use clap::error::ErrorKind;
 use ll_policy::PolicyFault;
-use ll_saved::AuditFailure;
+use ll_saved::{AuditFailure, SaveFault};
 use ll_session::{RunFault, SessionFault};
 use std::fmt;
 use std::fmt::Display;
@@ -59,6 +59,16 @@ impl Failure {
         match fault {
             PolicyFault::NoMemory => Failure::NoMemory,
             fault => Failure::Policy(fault),
+        }
+    }
+
+    /// What keeps a history from being saved, for the program.
+    pub fn of_saving(fault: SaveFault) -> Failure
+        ensures { result ≡ failure_by_saving fault }
+    {
+        match fault {
+            SaveFault::Write => Failure::File,
+            SaveFault::NoMemory => Failure::NoMemory,
         }
     }
 

@@ -10,12 +10,16 @@ mod policy;
 mod program;
 mod shown;
 
-ghost use Rattle.std.specs.Prelude.{◌≡◌, ◌⊎◌, ℕ, true, false, List, [], map, Some, None, Err, IfErr, IfNone, IfSome, OnOk};
+ghost use Rattle.std.specs.Prelude.{◌≡◌, ◌≤◌, ◌⊎◌, ℕ, true, false, List, [], map, Some, None, Err};
+ghost use Rattle.std.specs.Prelude.{is_some, IfErr, IfNone, IfOk, IfSome, OnErr, OnOk};
+ghost use Rattle.std.specs.List.{All};
 ghost use Rattle.std.specs.Process.{exit_status};
 ghost use Rattle.clap.specs.Words.{Text, fault_of, kind_of};
 ghost use Rattle.ll_session.specs.declared.fault.RunFault.{RunFault};
 ghost use Rattle.landtree.specs.declared.failure.Failure.{Failure};
-ghost use Rattle.landtree.specs.Failure.{failure_by, failure_of, status_at, EndsAudit, EndsRun, IsOfAudit};
+ghost use Rattle.ll_rights.specs.declared.limits.TheConstants.{TREE_NODES};
+ghost use Rattle.ll_wire.specs.Entries.{IsEntry};
+ghost use Rattle.landtree.specs.Failure.{failure_by, failure_of, status_at, EndsAudit, EndsRun, IsOfAudit, IsOfSaving};
 ghost use Rattle.landtree.specs.Options.{RunOrder, fits, landtree, order_in, ordered_by, ordered_in, to_audit, to_run};
 ghost use Rattle.landtree.specs.Options.{EndsWell};
 ghost use Rattle.landtree.specs.Policy.{MayFail};
@@ -24,12 +28,15 @@ ghost use Rattle.ll_session.specs.Run.{MayEnd};
 use failure::Failure;
 use input::InputFile;
 use ll_saved::Verdict;
+use ll_seq::History;
 use ll_session::Setup;
+use ll_wire::Header;
 use options::{Options, RunOptions};
 use outcome::Outcome;
 use policy::setup_of;
-use program::{audit, perform};
+use program::{audit, header_of, perform, save_history};
 use shown::Shown;
+use std::fs::File;
 use std::io::IsTerminal;
 use std::process::ExitCode;
 use std::{env, io};
@@ -57,9 +64,10 @@ fn told(rt: &HostRuntime, error: &clap::Error) -> Result<Outcome, Failure>
 }
 
 // Runs the script of this name.
-fn run_setup(rt: &HostRuntime, setup: &Setup, script: &str) -> Result<(), Failure>
-    ensures { IfErr result (λ failure. (fault : RunFault)
-        × MayEnd setup.now fault × (failure ≡ failure_of fault)) }
+fn run_setup(rt: &HostRuntime, setup: Setup, script: &str) -> Result<History, Failure>
+    ensures entries { IfOk result (λ history. All IsEntry history.entries) }
+    ensures failure { IfErr result (λ failure. (fault : RunFault)
+        × MayEnd setup fault × (failure ≡ failure_of fault)) }
 {
     let mut out = rt.stdout();
     if script == "-" {
@@ -69,13 +77,52 @@ fn run_setup(rt: &HostRuntime, setup: &Setup, script: &str) -> Result<(), Failur
     }
 }
 
-// Sets up the run that is wanted, and runs the script.
+// Saves a history in the file of this name.
+fn save_at(rt: &HostRuntime, header: Header, history: &History, path: &str) -> Result<(), Failure>
+    requires some { 1 ≤ header.nodes }
+    requires most { header.nodes ≤ TREE_NODES }
+    requires entries { All IsEntry history.now.entries }
+    ensures { IfErr result IsOfSaving }
+{
+    match File::create(rt, path) {
+        Ok(mut file) => save_history(rt.alloc(), header, history, &mut file),
+        Err(_) => Err(Failure::File),
+    }
+}
+
+// Saves a history, if a file is named.
+fn save_if_asked(
+    rt: &HostRuntime,
+    header: Header,
+    history: &History,
+    path: Option<&str>,
+) -> Result<(), Failure>
+    requires some { 1 ≤ header.nodes }
+    requires most { header.nodes ≤ TREE_NODES }
+    requires entries { All IsEntry history.now.entries }
+    ensures asked { OnErr result (is_some path.entry ≡ true) }
+    ensures failure { IfErr result IsOfSaving }
+{
+    match path {
+        Some(path) => save_at(rt, header, history, path),
+        None => Ok(()),
+    }
+}
+
+// Sets up the run that is wanted, runs the script, and saves the history.
 fn run_options(rt: &HostRuntime, options: &RunOptions) -> Result<(), Failure>
     ensures { IfErr result (λ failure. (text : List ℕ) × MayFail (order_in options.now) text failure) }
 {
     let mut file = InputFile::new(rt, options.policy.unwrap_or(""));
     let setup = setup_of(rt.alloc(), options, &mut file)?;
-    run_setup(rt, &setup, options.script)
+    let header = header_of(&setup);
+    let history = match run_setup(rt, setup, options.script) {
+        Ok(history) => history,
+        Err(failure) => return Err(failure),
+    };
+    let ended = save_if_asked(rt, header, &history, options.save);
+    drop(history);
+    ended
 }
 
 // Judges the history in the file of this name.

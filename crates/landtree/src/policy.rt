@@ -63,6 +63,7 @@ fn calls_of(alloc: Global, options: &RunOptions, policy: &Policy) -> Result<Vec<
 // The setup by a policy.
 fn by_policy(alloc: Global, options: &RunOptions, policy: &Policy) -> Result<Setup, Failure>
     ensures nodes { IfOk result (λ setup. setup.nodes ≡ options.now.nodes) }
+    ensures history { IfOk result (λ setup. setup.history ≡ options.now.history) }
     ensures setup { IfOk result (ByPlan (order_in options.now) policy.now) }
     ensures failure { IfErr result (λ failure. (failure ≡ Failure.NoMemory)
         ⊎ ((failure ≡ Failure.CommandLine) × (profile_of (order_in options.now).profile policy.now ≡ None))) }
@@ -77,6 +78,7 @@ fn by_policy(alloc: Global, options: &RunOptions, policy: &Policy) -> Result<Set
             copies: true,
         },
         nodes: options.nodes,
+        history: options.history,
         loader: Some(opening),
         profile,
     })
@@ -85,6 +87,7 @@ fn by_policy(alloc: Global, options: &RunOptions, policy: &Policy) -> Result<Set
 // The setup without a policy.
 fn by_level(alloc: Global, options: &RunOptions) -> Setup
     ensures nodes { result.nodes ≡ options.now.nodes }
+    ensures history { result.history ≡ options.now.history }
     ensures setup { ByLevel (order_in options.now) result }
 {
     Setup {
@@ -93,6 +96,7 @@ fn by_level(alloc: Global, options: &RunOptions) -> Setup
             copies: true,
         },
         nodes: options.nodes,
+        history: options.history,
         loader: None,
         profile: Vec::new(alloc),
     }

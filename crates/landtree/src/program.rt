@@ -1,37 +1,76 @@
 //! What the program does once its words are read.
 
-ghost use Rattle.std.specs.Prelude.{◌≡◌, ℕ, List, OnOk, OnErr, IfOk, IfErr, IfSome, Some};
+ghost use Rattle.std.specs.Prelude.{◌≡◌, ◌≤◌, ℕ, List, OnOk, OnErr, IfOk, IfErr, IfSome, Some};
 ghost use Rattle.std.specs.Io.KnownBytes.{Appends};
-ghost use Rattle.ll_saved.specs.Saved.{Judges, verdict_line};
+ghost use Rattle.std.specs.List.{All};
+ghost use Rattle.ll_rights.specs.declared.limits.TheConstants.{TREE_NODES};
+ghost use Rattle.ll_saved.specs.Saved.{Judges, saved_text, verdict_line};
 ghost use Rattle.ll_session.specs.declared.fault.RunFault.{RunFault};
 ghost use Rattle.ll_session.specs.Run.{Runs, Begins, MayEnd, Writes};
+ghost use Rattle.ll_wire.specs.Entries.{IsEntry};
 ghost use Rattle.ll_wire.specs.Pieces.{pieces};
-ghost use Rattle.landtree.specs.Failure.{failure_of, IsOfAudit};
+ghost use Rattle.landtree.specs.Failure.{failure_of, IsOfAudit, IsOfSaving};
+ghost use Rattle.landtree.specs.Policy.{header_of};
 
 use crate::failure::Failure;
-use ll_saved::{Progress, Verdict, run_audit};
+use ll_saved::{Progress, Verdict, run_audit, save};
+use ll_seq::History;
 use ll_session::{Setup, run_script};
+use ll_wire::{Header, Version};
 use std::alloc::Global;
 use std::io::{Read, Write};
 
-/// Runs a script over a tree that is set up so.
+/// Runs a script over a tree that is set up so. What is left is its history.
 pub fn perform<R: Read, W: Write>(
     alloc: Global,
-    setup: &Setup,
+    setup: Setup,
     script: &mut R,
     out: &mut W,
-) -> Result<(), Failure>
-    ensures transcript { OnOk result (IfSome (R.remaining script.old) (λ input. (left : List ℕ)
+) -> Result<History, Failure>
+    ensures transcript { IfOk result (λ history. IfSome (R.remaining script.old) (λ input. (left : List ℕ)
         × (R.remaining script.new ≡ Some left)
-        × Writes (W.contents out.old) (W.contents out.new) (Runs setup.now input left))) }
+        × Writes (W.contents out.old) (W.contents out.new) (λ text. Runs setup input left text history.entries))) }
+    ensures entries { IfOk result (λ history. All IsEntry history.entries) }
     ensures beginning { OnErr result (IfSome (R.remaining script.old) (λ input.
-        Writes (W.contents out.old) (W.contents out.new) (Begins setup.now input))) }
+        Writes (W.contents out.old) (W.contents out.new) (Begins setup input))) }
     ensures failure { IfErr result (λ failure. (fault : RunFault)
-        × MayEnd setup.now fault × (failure ≡ failure_of fault)) }
+        × MayEnd setup fault × (failure ≡ failure_of fault)) }
 {
     match run_script(alloc, setup, script, out) {
-        Ok(()) => Ok(()),
+        Ok(history) => Ok(history),
         Err(fault) => Err(Failure::of_run(fault)),
+    }
+}
+
+/// The header of the history of a run that is set up so.
+pub fn header_of(setup: &Setup) -> Header
+    ensures header { result ≡ header_of setup.now }
+    ensures some { 1 ≤ result.nodes }
+    ensures most { result.nodes ≤ TREE_NODES }
+{
+    Header {
+        version: Version::Three(setup.rules.abi),
+        nodes: setup.nodes,
+    }
+}
+
+/// Saves a history under this header.
+pub fn save_history<W: Write>(
+    alloc: Global,
+    header: Header,
+    history: &History,
+    file: &mut W,
+) -> Result<(), Failure>
+    requires some { 1 ≤ header.nodes }
+    requires most { header.nodes ≤ TREE_NODES }
+    requires entries { All IsEntry history.now.entries }
+    ensures saved { OnOk result (Appends (W.contents file.old) (W.contents file.new)
+        (saved_text header history.now.entries)) }
+    ensures failure { IfErr result IsOfSaving }
+{
+    match save(alloc, header, history.entries(), file) {
+        Ok(()) => Ok(()),
+        Err(fault) => Err(Failure::of_saving(fault)),
     }
 }
 

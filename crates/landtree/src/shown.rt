@@ -11,8 +11,8 @@ const MANY: usize = 100_000;
 pub struct Shown<W> {
     out: W,
     is_watched: bool,
-    // The count that is shown next.
-    next: usize,
+    // How many tenths are shown.
+    shown: usize,
 }
 
 impl<W: Write> Shown<W> {
@@ -20,17 +20,20 @@ impl<W: Write> Shown<W> {
         Shown {
             out,
             is_watched,
-            next: 0,
+            shown: 0,
         }
     }
 }
 
 impl<W: Write> Progress for Shown<W> {
     fn tell(&mut self, done: usize, entries: usize) {
-        if !self.is_watched || entries < MANY || done < self.next {
+        if !self.is_watched || entries < MANY {
             return;
         }
-        self.next = done.saturating_add(entries / 10);
-        let _ = writeln!(self.out, "{done} of {entries} entries");
+        let tenths = done / (entries / 10);
+        if tenths != self.shown {
+            self.shown = tenths;
+            let _ = writeln!(self.out, "{done} of {entries} entries");
+        }
     }
 }

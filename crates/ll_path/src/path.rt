@@ -3,7 +3,7 @@
 ghost use Rattle.std.specs.Prelude.{◌≡◌, ◌<◌, ◌≤◌, ◌+◌, ◌^◌, ℕ, nat_lt, List, [], ◌∷◌, ◌++◌, All, length, sum_by, Option, Some, slice_get, IfSome, IfNone, IfOk, IfErr};
 ghost use Rattle.std.specs.List.{join_with_byte, list_any};
 ghost use Rattle.ll_rights.specs.Errno.{refuse};
-ghost use Rattle.ll_path.specs.Word.{IsVisible};
+ghost use Rattle.ll_path.specs.Word.{IsVisible, IsWord};
 ghost use Rattle.ll_path.specs.Name.{IsName, same_name};
 ghost use Rattle.ll_path.specs.Path.{names_in, is_no_name, is_long_name, text_refusals, path_text, is_root, parent, last_name, is_beneath, common};
 
@@ -194,9 +194,11 @@ impl Path {
         Names::between_slashes(&joined[..len - 1])
     }
 
-    /// The one text of the path.
+    /// The one text of the path. It is a word, and spells the path.
     pub fn as_str(&self) -> &str
-        ensures { result.now ≡ path_text self.now }
+        ensures text { result.now ≡ path_text self.now }
+        ensures word { IsWord result.now }
+        ensures path { (text_refusals result.now ≡ []) × (self.now ≡ names_in result.now) }
     {
         self.word.as_str()
     }

@@ -2,6 +2,7 @@
 
 ghost use Rattle.std.specs.Prelude.{◌≡◌, Some, slice_get};
 ghost use Rattle.ll_path.specs.Path.{text_refusals};
+ghost use Rattle.ll_path.specs.Word.{IsWord};
 
 use crate::path::Path;
 use crate::word::Word;
@@ -36,9 +37,11 @@ impl Target {
         }
     }
 
-    /// The text of the word again.
+    /// The text of the word again, which gives the target.
     pub fn as_str(&self) -> &str
-        ensures { result.now ≡ target_text self.now }
+        ensures text { result.now ≡ target_text self.now }
+        ensures word { IsWord result.now }
+        ensures target { IsTarget result.now self.now }
     {
         match self {
             Target::Good(path) => path.as_str(),

@@ -1,9 +1,10 @@
 //! Histories, saved.
 
-ghost use Rattle.std.specs.Prelude.{◌≡◌, ◌++◌, ℕ, List, OnOk, OnErr, string_bytes};
+ghost use Rattle.std.specs.Prelude.{◌≡◌, ◌≤◌, ◌++◌, ℕ, List, OnOk, OnErr, string_bytes};
 ghost use Rattle.std.specs.List.{All};
 ghost use Rattle.std.specs.Io.KnownBytes.{Appends};
-ghost use Rattle.ll_wire.specs.Entries.{IsHeader, IsEntry, entry_line};
+ghost use Rattle.ll_rights.specs.declared.limits.TheConstants.{TREE_NODES};
+ghost use Rattle.ll_wire.specs.Entries.{IsEntry, entry_line};
 ghost use Rattle.ll_saved.specs.Saved.{saved_text};
 ghost use Rattle.ll_saved.specs.Writing.{AppendsFront};
 
@@ -62,7 +63,8 @@ pub fn save<W: Write>(
     entries: &[Entry],
     writer: &mut W,
 ) -> Result<(), SaveFault>
-    requires header { IsHeader header }
+    requires some { 1 ≤ header.nodes }
+    requires most { header.nodes ≤ TREE_NODES }
     requires entries { All IsEntry entries.now }
     ensures ok { OnOk result
         (Appends (W.contents writer.old) (W.contents writer.new) (saved_text header entries.now)) }

@@ -5,13 +5,14 @@ use Rattle.std.proofs.lemmas.List.{append-nil}
 use Rattle.std.specs.Cmp.{nat_cmp_total}
 use Rattle.std.specs.FinMap.{nat_cmp-IsAntisymmetric}
 use Rattle.ll_rights.specs.declared.errno.Errno.{Errno}
-use Rattle.ll_rights.specs.declared.errno.Errno.TheVariants.{NoMemory, EMFILE}
+use Rattle.ll_rights.specs.declared.errno.Errno.TheVariants.{HistoryFull, NoMemory, EMFILE}
 use Rattle.ll_rights.specs.declared.limits.TheConstants.{TREE_CLIENTS}
 use Rattle.ll_rights.specs.Errno.{refuse}
 use Rattle.ll_rights.specs.Map.{empty, checked, entries, get, insert, has, len}
 use Rattle.ll_rights.proofs.Maps.{get-insert_same}
 use Rattle.ll_seq.specs.declared.call.Call.TheVariants.{Connect}
 use Rattle.ll_seq.specs.declared.client.ClientRecord.{ClientRecord}
+use Rattle.ll_seq.specs.declared.reply.Entry.{Entry}
 use Rattle.ll_seq.specs.declared.reply.Reply.{Reply}
 use Rattle.ll_seq.specs.declared.reply.Reply.TheVariants.{Done, Refused}
 use Rattle.ll_seq.specs.declared.rules.Rules.{Rules}
@@ -20,12 +21,12 @@ use Rattle.ll_seq.specs.State.{State, start, new_client}
 use Rattle.ll_seq.specs.Stages.{numbers_from}
 use Rattle.ll_seq.specs.Step.{step, refusals, client_of, first_or}
 use Rattle.ll_session.specs.declared.tree.SessionTree.{SessionTree}
-use Rattle.ll_session.specs.Transcript.{Session, answered, brought, starved, next}
+use Rattle.ll_session.specs.Transcript.{Session, answered, full, starved, next}
 use Rattle.ll_session.specs.Opening.{Connects, following, joined}
 use Rattle.ll_session.specs.Progress.{StandsAt}
 use Rattle.ll_session.proofs.Starving.{is_starved}
 use Rattle.ll_session.proofs.SessionPlaces.{how_many, one_more}
-use Rattle.ll_session.proofs.Replies.{never_full}
+use Rattle.ll_session.proofs.Replies.{is_full, is_not_full}
 
 pub nobody : (rules : Rules) (nodes number : ℕ) → has (start rules nodes).clients number ≡ false
 unfolding empty get
@@ -76,65 +77,85 @@ comes_not s later n fresh reply free other stays steps = elim (is_starved reply)
   ]
 ]
 
+-- it is answered `ok`, or refused
+pub connects_or_not : (s later : State) (n fresh : ℕ) (reply : Reply) → has s.clients n ≡ false
+    → (reply ≢ Refused NoMemory → ◌≡◌ {A = Reply × State} (reply, later) (step s n Connect fresh)) → (reply ≡ Done) ⊎ ((errno : Errno) × (reply ≡ Refused errno))
+connects_or_not s later n fresh reply free steps = elim (is_starved reply) [
+  | inl e ↦ inr (NoMemory, e)
+  | inr ne ↦ elim (connects s n fresh free) [
+    | inl came ↦ inl (ap (λ (p : Reply × State). p.0) (steps ne ∙ came))
+    | inr kept ↦ inr (kept.0, ap (λ (p : Reply × State). p.0) (steps ne ∙ kept.1))
+  ]
+]
+
 -- the number of who comes next
 pub next_number : (s : Session) (tree : SessionTree) → StandsAt tree s → following s ≡ tree.clients + 1
 next_number s tree stands = ap (λ n. n + 1) (ap length stands.clients ∙ how_many (tree.before + 1) tree.clients)
 
--- what is known of a connect that the tree has answered
-pub record Met (before after : SessionTree) (reply : Reply) : Type 0 where
+-- what is known of a client that has connected
+pub record Met (before after : SessionTree) : Type 0 where
+  pub room : before.history.limit ≤ length before.history.entries → ⊥
   pub alone : before.before ≡ 0
   pub free : has before.plain.clients (before.clients + 1) ≡ false
-  pub step : reply ≢ Refused NoMemory → ◌≡◌ {A = Reply × State} (reply, after.plain) (step before.plain (before.clients + 1) Connect (before.clients + 1))
-  pub starved : reply ≡ Refused NoMemory → refusals before.plain (client_of before.plain (before.clients + 1)) Connect ≡ []
+  pub step : ◌≡◌ {A = Reply × State} (Done, after.plain) (step before.plain (before.clients + 1) Connect (before.clients + 1))
   pub alone_still : after.before ≡ 0
-  pub clients : reply ≡ Done → after.clients ≡ before.clients + 1
+  pub clients : after.clients ≡ before.clients + 1
+  pub entries : after.history.entries ≡ before.history.entries ++ record { client = before.clients + 1; call = Connect; reply = Done } ∷ []
+  pub limit : after.history.limit ≡ before.history.limit
 
--- what a call of the tree's connect tells
-abbrev pub ConnectedBy : Session → Reply → SessionTree → Type 0
-ConnectedBy s reply left = (t : Session) × Connects s reply t × (reply ≡ Done → StandsAt left (joined s t))
-
-module _ (s : Session) (before after : SessionTree) (reply : Reply) (stands : StandsAt before s) (met : Met before after reply) where
+module _ (s : Session) (before : SessionTree) (stands : StandsAt before s) where
   named : before.clients + 1 ≡ following s
   named = sym (next_number s before stands)
 
-  vacant : has s.tree.clients (following s) ≡ false
-  vacant = ap (λ (z : State). has z.clients (following s)) stands.tree ∙ ap (has before.plain.clients) (sym named) ∙ met.free
+  pub vacant : has before.plain.clients (before.clients + 1) ≡ false → has s.tree.clients (following s) ≡ false
+  vacant free = ap (λ (z : State). has z.clients (following s)) stands.tree ∙ ap (has before.plain.clients) (sym named) ∙ free
 
-  -- the clients with the one who has come
-  one_longer : reply ≡ Done → s.clients ++ following s ∷ [] ≡ numbers_from (after.before + 1) after.clients
-  one_longer done =
-      let first : before.before + 1 ≡ after.before + 1 = (let a = met.alone in let b = met.alone_still in omega arith) in
-      let number : following s ≡ before.before + 1 + before.clients = sym named ∙ (let a = met.alone in omega arith) in
-      let count : suc before.clients ≡ after.clients = (let more = met.clients done in omega arith) in
-      ap (λ (l : List ℕ). l ++ following s ∷ []) stands.clients ∙ ap (λ n. numbers_from (before.before + 1) before.clients ++ n ∷ []) number
-      ∙ one_more (before.before + 1) before.clients ∙ ap (numbers_from (before.before + 1)) count ∙ ap (λ k. numbers_from k after.clients) first
+  pub vacant_there : has before.plain.clients (before.clients + 1) ≡ false → has s.tree.clients (before.clients + 1) ≡ false
+  vacant_there free = ap (λ (z : State). has z.clients (before.clients + 1)) stands.tree ∙ free
 
-  ends_starved : reply ≡ Refused NoMemory → ConnectedBy s reply after
-  ends_starved e = subst (λ (r : Reply). ConnectedBy s r after) (sym e) (
+  -- the tree's step is the session's
+  pub same_step : (outcome : Reply × State) → ◌≡◌ {A = Reply × State} outcome (step before.plain (before.clients + 1) Connect (before.clients + 1))
+      → ◌≡◌ {A = Reply × State} outcome (step s.tree (following s) Connect (before.clients + 1))
+  same_step outcome is = is ∙ ap (λ (z : State). step z (before.clients + 1) Connect (before.clients + 1)) (sym stands.tree) ∙ ap (λ n. step s.tree n Connect (before.clients + 1)) named
+
+  pub no_connect_fits : before.history.limit ≤ length before.history.entries → has before.plain.clients (before.clients + 1) ≡ false → (t : Session) × Connects s (Refused HistoryFull) t
+  no_connect_fits over free = (s, (vacant free, full (is_full s before stands over)))
+
+  pub no_connect_for_memory : (before.history.limit ≤ length before.history.entries → ⊥) → has before.plain.clients (before.clients + 1) ≡ false
+      → refusals before.plain (client_of before.plain (before.clients + 1)) Connect ≡ [] → (t : Session) × Connects s (Refused NoMemory) t
+  no_connect_for_memory room free none = (
     s,
-    (vacant, starved (refl, ap (λ (z : State). refusals z (client_of z (following s)) Connect) stands.tree ∙ ap (λ n. refusals before.plain (client_of before.plain n) Connect) (sym named) ∙ met.starved e)),
-    λ done. absurd cc,
+    (
+      vacant free,
+      starved (is_not_full s before stands room) (refl, ap (λ (z : State). refusals z (client_of z (following s)) Connect) stands.tree ∙ ap (λ n. refusals before.plain (client_of before.plain n) Connect) (sym named) ∙ none),
+    ),
   )
 
-  ends_answered : reply ≢ Refused NoMemory → ConnectedBy s reply after
-  ends_answered other = (
-    next s (following s) Connect reply after.plain,
-    (
-      vacant,
-      answered reply after.plain (before.clients + 1) (never_full s stands.limit)
-          (ap (λ (z : State). has z.clients (before.clients + 1)) stands.tree ∙ met.free)
-          (met.step other ∙ ap (λ (z : State). step z (before.clients + 1) Connect (before.clients + 1)) (sym stands.tree)
-          ∙ ap (λ n. step s.tree n Connect (before.clients + 1)) named),
-    ),
-    λ done. record {
+  pub no_connect_by_tree : (errno : Errno) (tree : State) → (before.history.limit ≤ length before.history.entries → ⊥) → has before.plain.clients (before.clients + 1) ≡ false
+      → ◌≡◌ {A = Reply × State} (Refused errno, tree) (step before.plain (before.clients + 1) Connect (before.clients + 1)) → (t : Session) × Connects s (Refused errno) t
+  no_connect_by_tree errno tree room free is = (
+    next s (following s) Connect (Refused errno) tree,
+    (vacant free, answered (Refused errno) tree (before.clients + 1) (is_not_full s before stands room) (vacant_there free) (same_step (Refused errno, tree) is)),
+  )
+
+  pub connected : (after : SessionTree) → Met before after → (t : Session) × Connects s Done t × StandsAt after (joined s t)
+  connected after met = (
+    next s (following s) Connect Done after.plain,
+    (vacant met.free, answered Done after.plain (before.clients + 1) (is_not_full s before stands met.room) (vacant_there met.free) (same_step (Done, after.plain) met.step)),
+    record {
       tree = refl;
-      clients = ap (λ (r : Reply). (s.clients ++ brought r) ++ following s ∷ []) done ∙ ap (λ (l : List ℕ). l ++ following s ∷ []) (append-nil s.clients) ∙ one_longer done;
-      limit = stands.limit;
+      clients = ap (λ (l : List ℕ). l ++ following s ∷ []) (append-nil s.clients) ∙ one_longer;
+      entries = ap (λ (es : List Entry). es ++ record { client = following s; call = Connect; reply = Done } ∷ []) stands.entries
+          ∙ ap (λ n. before.history.entries ++ record { client = n; call = Connect; reply = Done } ∷ []) (sym named) ∙ sym met.entries;
+      limit = stands.limit ∙ sym met.limit;
     },
   )
-
-pub connected_by : (s : Session) (before after : SessionTree) (reply : Reply) → StandsAt before s → Met before after reply → ConnectedBy s reply after
-connected_by s before after reply stands met = elim (is_starved reply) [
-  | inl e ↦ ends_starved s before after reply stands met e
-  | inr ne ↦ ends_answered s before after reply stands met ne
-]
+    where
+      -- the clients with the one who has come
+      one_longer : s.clients ++ following s ∷ [] ≡ numbers_from (after.before + 1) after.clients
+      one_longer =
+          let first : before.before + 1 ≡ after.before + 1 = (let a = met.alone in let b = met.alone_still in omega arith) in
+          let number : following s ≡ before.before + 1 + before.clients = sym named ∙ (let a = met.alone in omega arith) in
+          let count : suc before.clients ≡ after.clients = (let more = met.clients in omega arith) in
+          ap (λ (l : List ℕ). l ++ following s ∷ []) stands.clients ∙ ap (λ n. numbers_from (before.before + 1) before.clients ++ n ∷ []) number
+          ∙ one_more (before.before + 1) before.clients ∙ ap (numbers_from (before.before + 1)) count ∙ ap (λ k. numbers_from k after.clients) first

@@ -3,9 +3,11 @@ use Rattle.std.proofs.Common.{◌≡◌, ℕ, false, List, [], ◌∷◌, ◌++�
 use Rattle.std.specs.Prelude.{IfSome, OnErr, Result, Ok, Err}
 use Rattle.std.specs.Io.KnownBytes.{Appends}
 use Rattle.std.proofs.lemmas.List.{append-nil}
+use Rattle.ll_session.specs.declared.answer.Answer.{Answer}
 use Rattle.ll_session.specs.declared.tree.SessionTree.{SessionTree}
 use Rattle.ll_wire.specs.Grammar.{reply_line}
 use Rattle.ll_rights.specs.declared.errno.Errno.TheVariants.{NoMemory}
+use Rattle.ll_seq.specs.declared.reply.Entry.{Entry}
 use Rattle.ll_seq.specs.declared.reply.Reply.{Reply}
 use Rattle.ll_seq.specs.declared.reply.Reply.TheVariants.{Refused}
 use Rattle.ll_session.specs.declared.setup.Setup.{Setup}
@@ -14,7 +16,7 @@ use Rattle.ll_session.specs.declared.session.Opened.{Opened}
 use Rattle.ll_session.specs.declared.session.Opened.TheVariants as opened
 use Rattle.ll_wire.specs.Pieces.{pieces}
 use Rattle.ll_session.specs.Transcript.{Session}
-use Rattle.ll_session.specs.Opening.{begun, refused, Opens}
+use Rattle.ll_session.specs.Opening.{begun, fresh, refused, Opens}
 use Rattle.ll_session.specs.Run.{Runs, Begins, Writes}
 use Rattle.ll_session.specs.Progress.{AppendsFront, Holds, IfBegun, IfRefused, StandsAt, IsWritten, HasBegun, Progress}
 use Rattle.ll_wire.proofs.CutStreams.{pieces-last}
@@ -25,20 +27,25 @@ use Rattle.ll_session.proofs.Advance.{Answering, Starting, lines-append, begins,
 
 -- the input ended with a line feed
 pub no_part : (first : Session) (input : List ℕ) (old new : Option (List ℕ)) (session : OpenSession) → session.line.bytes.items ≡ [] → session.line.is_long ≡ false
-    → Progress first input [] old new session → IsWritten first input old new
+    → Progress first input [] old new session → IsWritten first input old new session.tree.history.entries
 no_part first input old new session empty short p =
     let part : p.part ≡ [] = sym (kept session.line p.part short p.held) ∙ empty in
     let all : pieces input ≡ p.done = p.cut ∙ rw part (append-nil p.done) in
-    (p.text, p.last, rw all p.lines, p.wrote)
+    (p.text, p.last, rw all p.lines, p.wrote, sym p.stands.entries)
 
 -- it ended without one
 pub last_part : (first : Session) (input : List ℕ) (old mid new : Option (List ℕ)) (session : OpenSession) (tree : SessionTree)
     → (session.line.bytes.items ≡ [] → session.line.is_long ≡ false → ⊥) → Answering session.line session.tree tree mid new
-    → Progress first input [] old mid session → IsWritten first input old new
+    → Progress first input [] old mid session → IsWritten first input old new tree.history.entries
 last_part first input old mid new session tree not_empty answer p =
     let a = answer p.last p.part p.held p.stands in
-    let all : pieces input ≡ p.done ++ p.part ∷ [] = p.cut ∙ ap (λ (x : List (List ℕ)). p.done ++ x) (pieces-last p.part (has_bytes session.line p.part not_empty p.held) p.open_part) in
-    (p.text ++ reply_line a.1, a.0, rw all (lines-append p.done first p.last a.0 p.text p.part a.1 p.lines a.2), appends-more old mid new p.text (reply_line a.1) p.wrote a.4)
+    let all : pieces input ≡ p.done ++ p.part ∷ [] = p.cut ∙ ap (λ (x : List (List ℕ)). p.done ++ x) (pieces-last p.part (has_bytes session.line p.part not_empty p.held) p.open_part) in (
+      p.text ++ reply_line a.1,
+      a.0,
+      rw all (lines-append p.done first p.last a.0 p.text p.part a.1 p.lines a.2),
+      appends-more old mid new p.text (reply_line a.1) p.wrote a.4,
+      sym a.3.entries,
+    )
 
 pub last_stops : (first : Session) (input : List ℕ) (old mid new : Option (List ℕ)) (session : OpenSession)
     → (session.line.bytes.items ≡ [] → session.line.is_long ≡ false → ⊥) → Starting session.line session.tree mid new
@@ -55,13 +62,13 @@ on_err (Err fault) p = p
 pub of_begun : (P : OpenSession → Type 0) (o : Opened) (session : OpenSession) → o ≡ opened.Begun session → IfBegun o P → P session
 of_begun P o session is h = subst (λ (x : Opened). IfBegun x P) is h
 
-pub of_refused : (P : Reply → Type 0) (o : Opened) (reply : Reply) → o ≡ opened.Refused reply → IfRefused o P → P reply
-of_refused P o reply is h = subst (λ (x : Opened). IfRefused x P) is h
+pub of_refused : (P : SessionTree → Answer → Type 0) (o : Opened) (tree : SessionTree) (answer : Answer) → o ≡ opened.Refused tree answer → IfRefused o P → P tree answer
+of_refused P o tree answer is h = subst (λ (x : Opened). IfRefused x P) is h
 
 -- a session that is opened, and all of the input is read and answered
-abbrev pub Whole : OpenSession → (remaining remaining' old new : Option (List ℕ)) → Type 0
-Whole session remaining remaining' old new = (first : Session) (input : List ℕ) (old' : Option (List ℕ)) → remaining ≡ Some input
-    → Progress first input input old' old session → (remaining' ≡ Some []) × IsWritten first input old' new
+abbrev pub Whole : OpenSession → (remaining remaining' old new : Option (List ℕ)) → List Entry → Type 0
+Whole session remaining remaining' old new entries = (first : Session) (input : List ℕ) (old' : Option (List ℕ)) → remaining ≡ Some input
+    → Progress first input input old' old session → (remaining' ≡ Some []) × IsWritten first input old' new entries
 
 abbrev pub Part : OpenSession → (remaining old new : Option (List ℕ)) → Type 0
 Part session remaining old new = (first : Session) (input : List ℕ) (old' : Option (List ℕ)) → remaining ≡ Some input
@@ -71,13 +78,13 @@ Part session remaining old new = (first : Session) (input : List ℕ) (old' : Op
 abbrev pub Begun : Setup → OpenSession → Type 0
 Begun setup session = (first : Session) × Opens setup (begun first) × StandsAt session.tree first
 
-pub runs : (setup : Setup) (remaining remaining' old new : Option (List ℕ)) (session : OpenSession) → Holds session.line [] → Begun setup session
-    → Whole session remaining remaining' old new
-    → IfSome remaining (λ input. (left : List ℕ) × (remaining' ≡ Some left) × Writes old new (Runs setup input left))
-runs setup None remaining' old new session held b whole = tt
-runs setup (Some input) remaining' old new session held b whole =
+pub runs : (setup : Setup) (remaining remaining' old new : Option (List ℕ)) (session : OpenSession) (entries : List Entry) → Holds session.line [] → Begun setup session
+    → Whole session remaining remaining' old new entries
+    → IfSome remaining (λ input. (left : List ℕ) × (remaining' ≡ Some left) × Writes old new (λ text. Runs setup input left text entries))
+runs setup None remaining' old new session entries held b whole = tt
+runs setup (Some input) remaining' old new session entries held b whole =
     let w = whole b.0 input old refl (begins b.0 input old session held b.2) in
-    ([], w.0, (w.1.0, inl (b.0, w.1.1, b.1, refl, w.1.2), w.1.3))
+    ([], w.0, (w.1.0, inl (b.0, w.1.1, b.1, refl, w.1.2, w.1.4), w.1.3))
 
 has_begun : (setup : Setup) (first : Session) (input : List ℕ) (old new : Option (List ℕ)) → Opens setup (begun first) → HasBegun first input old new → Writes old new (Begins setup input)
 has_begun setup first input old new opens h = (h.6.0, inl (first, h.3, h.0, h.1, h.2, h.6.1, opens, h.4, h.5, h.6.2), h.6.3)
@@ -90,15 +97,19 @@ run_stops setup (Some input) old new session held b part =
 
 -- ---- runs whose opening is refused
 
-pub refusal : (setup : Setup) (remaining old new : Option (List ℕ)) (reply : Reply) → Opens setup (refused reply) → Appends old new (reply_line reply)
-    → IfSome remaining (λ input. (left : List ℕ) × (remaining ≡ Some left) × Writes old new (Runs setup input left))
-refusal setup None old new reply is wrote = tt
-refusal setup (Some input) old new reply is wrote = (input, refl, (reply_line reply, inr (reply, is, refl, refl), wrote))
+-- the tree of an opening that this reply refuses
+abbrev pub Refuses : Setup → Reply → SessionTree → Type 0
+Refuses setup reply tree = (last : Session) × Opens setup (refused reply last) × StandsAt tree last
 
-pub refusal_stops : (setup : Setup) (remaining old new : Option (List ℕ)) (reply : Reply) → Opens setup (refused reply) → AppendsFront old new (reply_line reply)
+pub refusal : (setup : Setup) (remaining old new : Option (List ℕ)) (reply : Reply) (tree : SessionTree) (entries : List Entry) → Refuses setup reply tree → entries ≡ tree.history.entries
+    → Appends old new (reply_line reply) → IfSome remaining (λ input. (left : List ℕ) × (remaining ≡ Some left) × Writes old new (λ text. Runs setup input left text entries))
+refusal setup None old new reply tree entries is same wrote = tt
+refusal setup (Some input) old new reply tree entries is same wrote = (input, refl, (reply_line reply, inr (reply, is.0, is.1, refl, refl, same ∙ sym is.2.entries), wrote))
+
+pub refusal_stops : (setup : Setup) (remaining old new : Option (List ℕ)) (reply : Reply) (last : Session) → Opens setup (refused reply last) → AppendsFront old new (reply_line reply)
     → IfSome remaining (λ input. Writes old new (Begins setup input))
-refusal_stops setup None old new reply is wrote = tt
-refusal_stops setup (Some input) old new reply is wrote = (wrote.0, inr (inl (reply, wrote.1, is, wrote.2)), wrote.3)
+refusal_stops setup None old new reply last is wrote = tt
+refusal_stops setup (Some input) old new reply last is wrote = (wrote.0, inr (inl (reply, last, wrote.1, is, wrote.2)), wrote.3)
 
 pub not_opened : (setup : Setup) (remaining old : Option (List ℕ)) → IfSome remaining (λ input. Writes old old (Begins setup input))
-not_opened setup remaining old = refusal_stops setup remaining old old (Refused NoMemory) (may_be_refused setup) (front-none old (reply_line (Refused NoMemory)))
+not_opened setup remaining old = refusal_stops setup remaining old old (Refused NoMemory) (fresh setup) (may_be_refused setup) (front-none old (reply_line (Refused NoMemory)))

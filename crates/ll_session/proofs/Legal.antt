@@ -1,5 +1,5 @@
 -- The entries of a run are a legal history.
-use Rattle.std.proofs.Common.{◌≡◌, ℕ, zero, suc, ◌+◌, ◌-◌, true, false, true≢false, List, [], ◌∷◌, ◌++◌, Some, refl, sym, ap, subst, ◌∙◌}
+use Rattle.std.proofs.Common.{◌≡◌, ℕ, zero, suc, ◌+◌, ◌-◌, true, false, true≢false, List, [], ◌∷◌, ◌++◌, ◌⊎◌, Some, refl, sym, ap, subst, ◌∙◌, inl, inr}
 use Rattle.std.specs.Prelude.{drop, length, slice_get, not, IfSome, Option, None}
 use Rattle.std.specs.List.{AllByRecursion}
 use Rattle.std.specs.declared.alloc.Global.{Global}
@@ -13,7 +13,7 @@ use Rattle.ll_seq.specs.declared.reply.Reply.{Reply}
 use Rattle.ll_seq.specs.declared.reply.Reply.TheVariants.{Done, Opened, Bytes, Wrote, Listed, Found, Created, Spawned, Refused, Denied}
 use Rattle.ll_seq.specs.Call.{first_path, second_path}
 use Rattle.ll_seq.specs.Effects.{done}
-use Rattle.ll_seq.specs.History.{is_connect, fresh_of, MayStand, IsLegal, state_after}
+use Rattle.ll_seq.specs.History.{is_connect, fresh_of, Log, MayStand, IsLegal, state_after}
 use Rattle.ll_seq.specs.State.{State, start}
 use Rattle.ll_seq.specs.Step.{step, first_or, refusals, client_of}
 use Rattle.ll_seq.proofs.Consequences.{step-clients_stay, step-spawned}
@@ -21,8 +21,11 @@ use Rattle.ll_seq.proofs.Histories.{after_push, legal_append}
 use Rattle.ll_wire.specs.Grammar.{IsCall}
 use Rattle.ll_session.proofs.Connecting.{paired, there_by}
 use Rattle.ll_session.specs.declared.setup.Setup.{Setup}
-use Rattle.ll_session.specs.Opening.{Comes, Loads, Makes, Opens, begun, following, fresh, joined, made}
-use Rattle.ll_session.specs.Run.{Lines, RunsLegally}
+use Rattle.ll_session.specs.declared.tree.SessionTree.{SessionTree}
+use Rattle.ll_session.specs.Opening.{Comes, Loads, Makes, Opens, Stops, begun, following, fresh, joined, made, refused, unconnected, unmade}
+use Rattle.ll_session.specs.Progress.{AreThere, IsSound, StandsAt, StaysSound}
+use Rattle.ll_session.specs.Run.{Lines, IsRefusedLegally, RunsLegally}
+use Rattle.ll_session.proofs.Replies.{CalledAt}
 use Rattle.ll_session.specs.Transcript.{Session, AreOthers, Called, Answers, answered, full, starved, calls, unread, bad, brought}
 
 -- a call that has a spelling is no connect
@@ -82,9 +85,6 @@ module _ (s : State) (n : ℕ) where
       of (reply ∷ replies) = refl
   by_reply Connect fresh = refl
 
-abbrev AreThere : State → List ℕ → Type 0
-AreThere tree = AllByRecursion (λ number. has tree.clients number ≡ true)
-
 there_at : (tree : State) (clients : List ℕ) (i number : ℕ) → AreThere tree clients → slice_get clients i ≡ Some number → has tree.clients number ≡ true
 there_at tree [] i number all e = absurd cc
 there_at tree (k ∷ clients) zero number all e = let same : k ≡ number = cc in subst (λ j. has tree.clients j ≡ true) same all.0
@@ -110,12 +110,6 @@ brought_there tree (Spawned number) there = (there number refl, tt)
 brought_there tree (Refused errno) there = tt
 brought_there tree (Denied denial) there = tt
 
--- what holds between two lines
-pub record IsSound (empty : State) (s : Session) : Type 0 where
-  pub legal : IsLegal empty s.entries
-  pub tree : s.tree ≡ state_after empty s.entries
-  pub there : AreThere s.tree s.clients
-
 module _ (empty : State) where
   by_call : (s t : Session) (client : ℕ) (call : Call) (reply : Reply) → is_connect call ≡ false → has s.tree.clients client ≡ true → Called s client call reply t
       → IsSound empty s → IsSound empty t
@@ -140,12 +134,12 @@ module _ (empty : State) where
             (brought_there tree reply (λ number e. (told number e).1));
       }
   by_call s t client call reply other there (full filled) sound = sound
-  by_call s t client call reply other there (starved may) sound = sound
+  by_call s t client call reply other there (starved room may) sound = sound
 
   stays : (s t : Session) (n k : ℕ) (call : Call) (reply : Reply) → Called s n call reply t → has s.tree.clients k ≡ true → has t.tree.clients k ≡ true
   stays s t n k call reply (answered answer tree fresh vacant free is) there = ap (λ (p : Reply × State). has p.1.clients k) is ∙ step-clients_stay s.tree n call fresh k there
   stays s t n k call reply (full filled) there = there
-  stays s t n k call reply (starved may) there = there
+  stays s t n k call reply (starved room may) there = there
 
   -- a client that has come, where it had not
   abbrev Came : Session → ℕ → Session → Type 0
@@ -154,7 +148,7 @@ module _ (empty : State) where
   by_connect : (s t : Session) (n : ℕ) (call : Call) (reply : Reply) → call ≡ Connect → reply ≡ Done → has s.tree.clients n ≡ false → Called s n call reply t
       → IsSound empty s → Came s n t
   by_connect s t n call reply connects done vacant (full filled) sound = absurd cc
-  by_connect s t n call reply connects done vacant (starved may) sound = absurd cc
+  by_connect s t n call reply connects done vacant (starved room may) sound = absurd cc
   by_connect s t n call given connects done vacant (answered reply tree fresh room free is) sound =
       let outcome : ◌≡◌ {A = Reply × State} (step s.tree n call (fresh_of reply)) (reply, tree) =
       ap (λ (p : Reply × State). step s.tree n call (fresh_of p.0)) is ∙ by_reply s.tree n call fresh ∙ sym is in
@@ -188,6 +182,21 @@ module _ (empty : State) where
       let came = by_connect s h.0 (following s) Connect Done refl refl h.1.0 h.1.1 sound in
       by_makes (following s) (joined s h.0) t list (recursion_from_All (λ call. is_connect call ≡ false) list others) came.1 h.2 came.0
 
+  by_stops : (client : ℕ) (s t : Session) (list : List Call) (reply : Reply) → AllByRecursion (λ call. is_connect call ≡ false) list → has s.tree.clients client ≡ true → Stops client s list reply t
+      → IsSound empty s → IsSound empty t
+  by_stops client s t [] reply others there h sound = absurd h
+  by_stops client s t (call ∷ rest) reply others there h sound =
+      let mid = by_call s h.1 client call h.0 others.0 there h.2 sound in elim h.3 [
+        | inl now ↦ subst (IsSound empty) (sym now.2) mid
+        | inr later ↦ by_stops client h.1 t rest reply others.1 (stays s h.1 client client call h.0 h.2 there) later.1 mid
+      ]
+
+  by_refusal : (s t : Session) (list : List Call) (reply : Reply) → AreOthers list → Comes s list (unconnected reply t) ⊎ Comes s list (unmade reply t) → IsSound empty s → IsSound empty t
+  by_refusal s t list reply others (inl h) sound = subst (IsSound empty) (sym h.3) sound
+  by_refusal s t list reply others (inr h) sound =
+      let came = by_connect s h.0 (following s) Connect Done refl refl h.1.0 h.1.1 sound in
+      by_stops (following s) (joined s h.0) t list reply (recursion_from_All (λ call. is_connect call ≡ false) list others) came.1 h.2 came.0
+
   by_answer : (s t : Session) (piece : List ℕ) (reply : Reply) → Answers (λ (z : Session). z.clients) Called s piece reply t → IsSound empty s → IsSound empty t
   by_answer s t piece reply (calls n client call told written u spells at was same) sound =
       by_call s u client call told (no_connect call spells.is_call) (there_at s.tree s.clients (n - 1) client sound.there at) was sound
@@ -207,7 +216,7 @@ by_loading : (empty : State) (s t : Session) (loader : Option (Vec Call Global))
 by_loading empty s t (Some list) others h sound = by_coming empty s t list.items others h sound
 by_loading empty s t None others h sound = subst (IsSound empty) (sym h) sound
 
-by_opening : (setup : Setup) (first : Session) → Opens setup (begun first) → IsSound (start setup.rules setup.nodes) first
+pub by_opening : (setup : Setup) (first : Session) → Opens setup (begun first) → IsSound (start setup.rules setup.nodes) first
 by_opening setup first h =
     let empty = start setup.rules setup.nodes in
     let loaded = by_loading empty (fresh setup) h.0 setup.loader setup.loads h.2 (record { legal = tt; tree = refl; there = tt }) in
@@ -218,3 +227,36 @@ pub legally : RunsLegally
 legally setup first last done text opens lines =
     let sound = by_lines (start setup.rules setup.nodes) first last done text lines (by_opening setup first opens) in
     (sound.legal, sound.tree)
+
+by_refused_loader : (empty : State) (s t : Session) (loader : Option (Vec Call Global)) (reply : Reply) → IfSome loader (λ list. AreOthers list.items) → Loads s loader (unconnected reply t)
+    → IsSound empty s → IsSound empty t
+by_refused_loader empty s t (Some list) reply others h sound = by_refusal empty s t list.items reply others (inl h) sound
+by_refused_loader empty s t None reply others h sound = absurd h
+
+pub refused_legally : IsRefusedLegally
+refused_legally setup reply last opens =
+    let empty = start setup.rules setup.nodes in
+    let begins : IsSound empty (fresh setup) = record { legal = tt; tree = refl; there = tt } in
+    elim opens [
+      | inl h ↦ (by_refused_loader empty (fresh setup) last setup.loader reply setup.loads h begins).legal
+      | inr h ↦ (by_refusal empty h.0 last setup.profile.items reply setup.makes h.2 (by_loading empty (fresh setup) h.0 setup.loader setup.loads h.1 begins)).legal
+    ]
+
+-- ---- sessions under way
+
+pub then_sound : (one two three : SessionTree) → StaysSound one two → StaysSound two three → StaysSound one three
+then_sound one two three first then empty s stands sound = let mid = first empty s stands sound in then empty mid.0 mid.1 mid.2
+
+pub call_stays_sound : (before after : SessionTree) (place : ℕ) (call : Call) (reply : Reply) → is_connect call ≡ false → ((s : Session) → StandsAt before s → CalledAt s place call reply after)
+    → StaysSound before after
+call_stays_sound before after place call reply other called empty s stands sound =
+    let c = called s stands in (c.2, c.6, by_call empty s c.2 c.0 call c.1 other (there_at s.tree s.clients (place - 1) c.0 sound.there c.3) c.4 sound)
+
+-- what such a session leaves is a legal history
+pub leaves_legally : (empty : State) (tree : SessionTree) (log : Log) (t : Session) → StandsAt tree t → IsSound empty t → log ≡ tree.history → IsLegal empty log.entries
+leaves_legally empty tree log t stands sound same = subst (IsLegal empty) (stands.entries ∙ sym (ap (λ (l : Log). l.entries) same)) sound.legal
+
+pub leaves_refused : (setup : Setup) (reply : Reply) (tree : SessionTree) (log : Log) → (last : Session) × Opens setup (refused reply last) × StandsAt tree last → log ≡ tree.history
+    → IsLegal (start setup.rules setup.nodes) log.entries
+leaves_refused setup reply tree log is same =
+    subst (IsLegal (start setup.rules setup.nodes)) (is.2.entries ∙ sym (ap (λ (l : Log). l.entries) same)) (refused_legally setup reply is.0 is.1)

@@ -1,29 +1,37 @@
 -- The reply to a piece.
-use Rattle.std.proofs.Common.{◌≡◌, ◌≢◌, ℕ, ◌+◌, ◌-◌, ◌<◌, ◌≤◌, Bool, true, false, List, [], ◌++◌, length, Option, None, Some, Err, refl, sym, ap, subst, ◌∙◌, arith, inl, inr, ◌⊎◌}
-use Rattle.std.specs.Prelude.{slice_get, IsSomeAnd}
+use Rattle.std.proofs.Common.{◌≡◌, ◌≢◌, ℕ, ◌+◌, ◌-◌, ◌^◌, ◌<◌, ◌≤◌, Bool, true, false, List, [], ◌∷◌, ◌++◌, length, Option, None, Some, Err, refl, sym, ap, subst, ◌∙◌, arith, inl, inr, ◌⊎◌}
+use Rattle.std.specs.Prelude.{slice_get}
+use Rattle.std.specs.List.{All}
+use Rattle.std.specs.Option.{option_map_or}
+use Rattle.std.proofs.lemmas.List.Elements.{All-push}
+use Rattle.std.proofs.lemmas.List.{length-append}
 use Rattle.std.proofs.lemmas.Bool.{cases_lt}
 use Rattle.ll_rights.specs.declared.errno.Errno.{Errno}
-use Rattle.ll_rights.specs.declared.errno.Errno.TheVariants.{NoMemory, BadLine}
+use Rattle.ll_rights.specs.declared.errno.Errno.TheVariants.{HistoryFull, NoMemory, BadLine}
 use Rattle.ll_rights.specs.Map.{has}
 use Rattle.ll_seq.specs.declared.call.Call.{Call}
 use Rattle.ll_seq.specs.declared.reply.Reply.{Reply}
-use Rattle.ll_seq.specs.declared.reply.Reply.TheVariants.{Refused, Spawned}
+use Rattle.ll_seq.specs.declared.reply.Entry.{Entry}
+use Rattle.ll_seq.specs.declared.reply.Reply.TheVariants.{Done, Opened, Bytes, Wrote, Listed, Found, Created, Spawned, Refused, Denied}
 use Rattle.ll_seq.specs.State.{State}
 use Rattle.ll_seq.specs.Stages.{numbers_from}
 use Rattle.ll_seq.specs.Step.{step, refusals, client_of}
 use Rattle.ll_plain.specs.Memory.{takes_memory}
-use Rattle.ll_wire.specs.Grammar.{SpellsCommand}
+use Rattle.ll_plain.specs.Refusal.{is_refusal}
+use Rattle.ll_wire.specs.Entries.{IsEntry}
+use Rattle.ll_wire.specs.Grammar.{IsReply, SpellsCommand}
 use Rattle.ll_wire.specs.Reads.{ReadsBy, holds_text}
 use Rattle.ll_session.specs.declared.line.Line.{Line}
+use Rattle.ll_session.specs.declared.answer.Answer.{Answer}
+use Rattle.ll_session.specs.declared.answer.Answer.TheVariants.{Apart, Entered}
 use Rattle.ll_session.specs.declared.tree.SessionTree.{SessionTree}
-use Rattle.ll_session.specs.Transcript.{Session, IsFull, MayStarve, Called, as_written, brought, next, answered, starved, calls, unread, bad}
-use Rattle.ll_session.specs.Progress.{Holds, StandsAt, AnswersLine}
-use Rattle.ll_session.proofs.Starving.{is_starved, not_false}
-use Rattle.ll_session.proofs.SessionPlaces.{in_place, no_place, with_brought}
+use Rattle.ll_session.specs.Transcript.{Session, IsFull, Called, as_written, brought, next, answered, full, starved, calls, unread, bad}
+use Rattle.ll_session.specs.Progress.{Holds, StandsAt, AnswersLine, last_reply, placed, told_by, written}
+use Rattle.ll_session.proofs.SessionPlaces.{how_many, in_place, no_place, with_brought}
 
--- the call gets this reply, and this tree is left
-abbrev pub CalledBy : Session → ℕ → Call → Reply → SessionTree → Type 0
-CalledBy s n call reply left = (t : Session) × Called s n call reply t × StandsAt left t
+-- the call is answered so, and this tree is left
+abbrev pub CalledBy : Session → ℕ → Call → Answer → SessionTree → Type 0
+CalledBy s n call answer left = (t : Session) × Called s n call (told_by left answer) t × StandsAt left t
 
 -- the piece is answered, and this tree is left
 abbrev pub Answered : Session → List ℕ → Reply → SessionTree → Type 0
@@ -33,62 +41,105 @@ Answered s piece reply left = (t : Session) × AnswersLine s piece reply t × St
 abbrev Spells : ℕ → List ℕ → ℕ × Call → Type 0
 Spells clients bytes v = SpellsCommand bytes v.0 v.1 × (v.0 ≤ clients)
 
-pub never_full : (s : Session) → s.limit ≡ None → IsFull s → ⊥
-never_full s e filled = subst (λ (l : Option ℕ). IsSomeAnd l (λ most. most ≤ length s.entries)) e filled
+at_end : (entries : List Entry) (entry : Entry) → slice_get (entries ++ entry ∷ []) (length entries) ≡ Some entry
+at_end [] entry = refl
+at_end (e ∷ entries) entry = at_end entries entry
 
--- what is known of a call that the tree has answered
+-- the last entry is the newest one
+pub newest : (entries : List Entry) (entry : Entry) → last_reply (entries ++ entry ∷ []) ≡ entry.reply
+newest entries entry =
+    let last : length (entries ++ entry ∷ []) - 1 ≡ length entries = (let more = length-append entries (entry ∷ []) in omega (arith, more)) in
+    ap (λ (i : ℕ). option_map_or (λ (e : Entry). e.reply) (slice_get (entries ++ entry ∷ []) i) Done) last ∙ ap (λ (o : Option Entry). option_map_or (λ (e : Entry). e.reply) o Done) (at_end entries entry)
+
+-- the session is full where its history is
+pub is_full : (s : Session) (tree : SessionTree) → StandsAt tree s → tree.history.limit ≤ length tree.history.entries → IsFull s
+is_full s tree stands over = subst (λ (es : List Entry). s.limit ≤ length es) (sym stands.entries) (subst (λ (most : ℕ). most ≤ length tree.history.entries) (sym stands.limit) over)
+
+pub is_not_full : (s : Session) (tree : SessionTree) → StandsAt tree s → (tree.history.limit ≤ length tree.history.entries → ⊥) → IsFull s → ⊥
+is_not_full s tree stands room over = room (subst (λ (es : List Entry). tree.history.limit ≤ length es) stands.entries (subst (λ (most : ℕ). most ≤ length s.entries) stands.limit over))
+
+pub call_fails_full : (s : Session) (tree : SessionTree) (n : ℕ) (call : Call) → StandsAt tree s → tree.history.limit ≤ length tree.history.entries → CalledBy s n call (Apart HistoryFull) tree
+call_fails_full s tree n call stands over = (s, full (is_full s tree stands over), stands)
+
+-- what is known of a call that has become an entry
 pub record Made (before after : SessionTree) (n : ℕ) (call : Call) (reply : Reply) : Type 0 where
+  pub room : before.history.limit ≤ length before.history.entries → ⊥
   pub free : has before.plain.clients (before.before + before.clients + 1) ≡ false
-  pub step : reply ≢ Refused NoMemory → ◌≡◌ {A = Reply × State} (reply, after.plain) (step before.plain n call (before.before + before.clients + 1))
-  pub no_memory : reply ≡ Refused NoMemory → after.plain ≡ before.plain
-  pub starved : reply ≡ Refused NoMemory → refusals before.plain (client_of before.plain n) call ≡ []
-  pub memory : takes_memory call ≡ false → reply ≢ Refused NoMemory
+  pub step : ◌≡◌ {A = Reply × State} (reply, after.plain) (step before.plain n call (before.before + before.clients + 1))
   pub before_stays : after.before ≡ before.before
   pub clients : after.clients ≡ before.clients + length (brought reply)
   pub spawned : (told : ℕ) → reply ≡ Spawned told → told ≡ before.before + before.clients + 1
+  pub entries : after.history.entries ≡ before.history.entries ++ record { client = n; call = call; reply = reply } ∷ []
+  pub limit : after.history.limit ≡ before.history.limit
 
-module _ (s : Session) (before after : SessionTree) (n : ℕ) (call : Call) (stands : StandsAt before s) where
-  -- the tree made a step
-  stepped : (reply : Reply) → Made before after n call reply → reply ≢ Refused NoMemory → CalledBy s n call reply after
-  stepped reply made other = (
-    next s n call reply after.plain,
-    answered reply after.plain (before.before + before.clients + 1) (never_full s stands.limit)
-        (ap (λ (z : State). has z.clients (before.before + before.clients + 1)) stands.tree ∙ made.free)
-        (subst (λ (z : State). ◌≡◌ {A = Reply × State} (reply, after.plain) (step z n call (before.before + before.clients + 1))) (sym stands.tree) (made.step other)),
-    record {
-      tree = refl;
-      clients = ap (λ (l : List ℕ). l ++ brought reply) stands.clients
-          ∙ with_brought (before.before + 1) before.clients reply (λ told e. let next = made.spawned told e in omega arith)
-          ∙ ap (numbers_from (before.before + 1)) (sym made.clients) ∙ ap (λ k. numbers_from (k + 1) after.clients) (sym made.before_stays);
-      limit = stands.limit;
-    },
-  )
+pub call_enters : (s : Session) (before after : SessionTree) (n : ℕ) (call : Call) (reply : Reply) → StandsAt before s → Made before after n call reply → CalledBy s n call Entered after
+call_enters s before after n call reply stands made =
+    let entry : Entry = record { client = n; call = call; reply = reply } in
+    let told : reply ≡ last_reply after.history.entries = sym (ap last_reply made.entries ∙ newest before.history.entries entry) in (
+      next s n call reply after.plain,
+      subst (λ (r : Reply). Called s n call r (next s n call reply after.plain)) told
+          (answered reply after.plain (before.before + before.clients + 1) (is_not_full s before stands made.room)
+          (ap (λ (z : State). has z.clients (before.before + before.clients + 1)) stands.tree ∙ made.free)
+          (subst (λ (z : State). ◌≡◌ {A = Reply × State} (reply, after.plain) (step z n call (before.before + before.clients + 1))) (sym stands.tree) made.step)),
+      record {
+        tree = refl;
+        clients = ap (λ (l : List ℕ). l ++ brought reply) stands.clients
+            ∙ with_brought (before.before + 1) before.clients reply (λ told e. let next = made.spawned told e in omega arith)
+            ∙ ap (numbers_from (before.before + 1)) (sym made.clients) ∙ ap (λ k. numbers_from (k + 1) after.clients) (sym made.before_stays);
+        entries = ap (λ (es : List Entry). es ++ entry ∷ []) stands.entries ∙ sym made.entries;
+        limit = stands.limit ∙ sym made.limit;
+      },
+    )
 
-  may_starve : takes_memory call ≡ true → refusals before.plain (client_of before.plain n) call ≡ [] → MayStarve s n call
-  may_starve takes none = (takes, ap (λ (z : State). refusals z (client_of z n) call) stands.tree ∙ none)
+-- nothing has changed
+pub record Stays (before after : SessionTree) : Type 0 where
+  pub plain : after.plain ≡ before.plain
+  pub before_stays : after.before ≡ before.before
+  pub clients : after.clients ≡ before.clients
+  pub entries : after.history.entries ≡ before.history.entries
+  pub limit : after.history.limit ≡ before.history.limit
 
-  -- the tree found no memory
-  stayed : after.plain ≡ before.plain → after.before ≡ before.before → after.clients ≡ before.clients → MayStarve s n call → CalledBy s n call (Refused NoMemory) after
-  stayed tree behind clients may = (
-    s,
-    starved may,
-    record {
-      tree = stands.tree ∙ sym tree;
-      clients = stands.clients ∙ ap (numbers_from (before.before + 1)) (sym clients) ∙ ap (λ k. numbers_from (k + 1) after.clients) (sym behind);
-      limit = stands.limit;
-    },
-  )
+pub stands_still : (s : Session) (before after : SessionTree) → StandsAt before s → Stays before after → StandsAt after s
+stands_still s before after stands still = record {
+  tree = stands.tree ∙ sym still.plain;
+  clients = stands.clients ∙ ap (numbers_from (before.before + 1)) (sym still.clients) ∙ ap (λ k. numbers_from (k + 1) after.clients) (sym still.before_stays);
+  entries = stands.entries ∙ sym still.entries;
+  limit = stands.limit ∙ sym still.limit;
+}
 
-pub called : (s : Session) (before after : SessionTree) (n : ℕ) (call : Call) (reply : Reply)
-    → StandsAt before s → Made before after n call reply → CalledBy s n call reply after
-called s before after n call reply stands made = elim (is_starved reply) [
-  | inl e ↦ (
-      let kept : after.clients ≡ before.clients = made.clients ∙ ap (λ (r : Reply). before.clients + length (brought r)) e ∙ (let same : before.clients + 0 ≡ before.clients = omega arith in same) in
-      let takes : takes_memory call ≡ true = not_false (takes_memory call) (λ spares. made.memory spares e) in
-      subst (λ (r : Reply). CalledBy s n call r after) (sym e)
-      (stayed s before after n call stands (made.no_memory e) made.before_stays kept (may_starve s before after n call stands takes (made.starved e))))
-  | inr ne ↦ stepped s before after n call stands reply made ne
+-- the tree found no memory
+pub call_starves : (s : Session) (before after : SessionTree) (n : ℕ) (call : Call) → StandsAt before s → Stays before after
+    → (before.history.limit ≤ length before.history.entries → ⊥) → takes_memory call ≡ true → refusals before.plain (client_of before.plain n) call ≡ []
+    → CalledBy s n call (Apart NoMemory) after
+call_starves s before after n call stands still room takes none =
+    (s, starved (is_not_full s before stands room) (takes, ap (λ (z : State). refusals z (client_of z n) call) stands.tree ∙ none), stands_still s before after stands still)
+
+-- what holds of all entries and of one more
+pub all_more : (entries more : List Entry) (entry : Entry) → more ≡ entries ++ entry ∷ [] → All IsEntry entries → IsEntry entry → All IsEntry more
+all_more entries more entry same all one = subst (All IsEntry) (sym same) (All-push IsEntry entries entry all one)
+
+-- ---- the clients after a call
+
+-- those who were there, and whom it brings, are
+pub there_after : (old new : State) (last : ℕ) (r : Reply) → ((n : ℕ) → 1 ≤ n → n ≤ last → has old.clients n ≡ true)
+    → ((n : ℕ) → has old.clients n ≡ true → has new.clients n ≡ true) → ((told : ℕ) → r ≡ Spawned told → (told ≡ last + 1) × (has new.clients told ≡ true))
+    → (n : ℕ) → 1 ≤ n → n ≤ last + length (brought r) → has new.clients n ≡ true
+there_after old new last (Spawned told) there stay comes n first most = elim (cases_lt last n) [
+  | inl more ↦ (let c = comes told refl in let same : n ≡ told = (let next = c.0 in omega arith) in ap (λ k. has new.clients k) same ∙ c.1)
+  | inr less ↦ stay n (there n first less)
 ]
+there_after old new last _ there stay comes n first most = stay n (there n first (omega arith))
+
+-- nobody else is
+pub nobody_after : (old new : State) (last client : ℕ) (r : Reply) → client ≤ last → ((n : ℕ) → last < n → has old.clients n ≡ false)
+    → ((n : ℕ) → n ≢ client → r ≢ Spawned n → has new.clients n ≡ has old.clients n) → ((told : ℕ) → r ≡ Spawned told → told ≡ last + 1)
+    → (n : ℕ) → last + length (brought r) < n → has new.clients n ≡ false
+nobody_after old new last client (Spawned told) known free others comes n more =
+    others n (λ same. omega arith) (λ e. let is : told ≡ n = cc in let next = comes told refl in omega arith) ∙ free n (omega arith)
+nobody_after old new last client r known free others comes n more =
+    others n (λ same. omega arith) (λ e. let some : length (brought r) ≡ 1 = ap (λ (x : Reply). length (brought x)) e in let next = comes n e in omega arith) ∙ free n (omega arith)
+
+-- ---- calls by places
 
 -- a call of the session's client at this place, with the reply as it is written
 abbrev pub CalledAt : Session → ℕ → Call → Reply → SessionTree → Type 0
@@ -98,11 +149,47 @@ CalledAt s place call reply left =
 caller : (s : Session) (left : SessionTree) (place : ℕ) → StandsAt left s → 1 ≤ place → place ≤ left.clients → slice_get s.clients (place - 1) ≡ Some (left.before + place)
 caller s left place stands first last = ap (λ l. slice_get l (place - 1)) stands.clients ∙ in_place left.before left.clients place first last
 
-pub called_at : (s : Session) (before after : SessionTree) (place : ℕ) (call : Call) (told reply : Reply) → StandsAt before s → 1 ≤ place → place ≤ before.clients
-    → Made before after (before.before + place) call told → reply ≡ as_written s.clients told → CalledAt s place call reply after
-called_at s before after place call told reply stands first last made same =
-    let c = called s before after (before.before + place) call told stands made in
-    (before.before + place, told, c.0, caller s before place stands first last, c.1, same, c.2)
+-- a reply is written with the newest client's place
+pub as_placed : (s t : Session) (n : ℕ) (call : Call) (reply : Reply) (left : SessionTree) → Called s n call reply t → StandsAt left t → placed left.clients reply ≡ as_written s.clients reply
+as_placed s t n call reply left (full over) stands = refl
+as_placed s t n call reply left (starved room may) stands = refl
+as_placed s t n call given left (answered reply tree fresh room free is) stands = go reply (sym (ap length stands.clients ∙ how_many (left.before + 1) left.clients))
+  where
+    go : (r : Reply) → left.clients ≡ length (s.clients ++ brought r) → placed left.clients r ≡ as_written s.clients r
+    go (Spawned number) many = ap Spawned (many ∙ length-append s.clients (number ∷ []))
+    go Done many = refl
+    go (Opened number) many = refl
+    go (Bytes bytes) many = refl
+    go (Wrote count) many = refl
+    go (Listed names) many = refl
+    go (Found status) many = refl
+    go (Created number) many = refl
+    go (Refused errno) many = refl
+    go (Denied denial) many = refl
+
+-- a place is a number
+pub placed_is_reply : (clients : ℕ) (reply : Reply) → clients < 2 ^ 64 → IsReply reply → IsReply (placed clients reply)
+placed_is_reply clients (Spawned number) less is = less
+placed_is_reply clients Done less is = is
+placed_is_reply clients (Opened number) less is = is
+placed_is_reply clients (Bytes bytes) less is = is
+placed_is_reply clients (Wrote count) less is = is
+placed_is_reply clients (Listed names) less is = is
+placed_is_reply clients (Found status) less is = is
+placed_is_reply clients (Created number) less is = is
+placed_is_reply clients (Refused errno) less is = is
+placed_is_reply clients (Denied denial) less is = is
+
+-- a refusal names no client
+pub placed_refusal : (clients : ℕ) (reply : Reply) → is_refusal reply ≡ true → placed clients reply ≡ reply
+placed_refusal clients (Refused errno) is = refl
+placed_refusal clients (Denied denial) is = refl
+placed_refusal clients _ is = absurd cc
+
+pub called_at : (s : Session) (before after : SessionTree) (place : ℕ) (call : Call) (answer : Answer) → StandsAt before s → 1 ≤ place → place ≤ before.clients
+    → CalledBy s (before.before + place) call answer after → CalledAt s place call (written after answer) after
+called_at s before after place call answer stands first last c =
+    (before.before + place, told_by after answer, c.0, caller s before place stands first last, c.1, as_placed s c.0 (before.before + place) call (told_by after answer) after c.1 c.2, c.2)
 
 -- a line that spells a call gets that reply
 pub answered_by : (s : Session) (piece : List ℕ) (place clients : ℕ) (call : Call) (reply : Reply) (left : SessionTree) → Spells clients piece (place, call)

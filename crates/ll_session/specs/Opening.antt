@@ -14,7 +14,7 @@ use Rattle.ll_session.specs.Transcript.{Session, Called}
 
 -- a fresh tree, to which nobody has connected
 abbrev pub fresh : Setup → Session
-fresh setup = record { tree = start setup.rules setup.nodes; clients = []; entries = []; limit = None }
+fresh setup = record { tree = start setup.rules setup.nodes; clients = []; entries = []; limit = setup.history }
 
 -- the next client by number
 abbrev pub following : Session → ℕ
@@ -33,35 +33,37 @@ abbrev pub Makes : ℕ → Session → List Call → Session → Type 0
 Makes client s [] t = t ≡ s
 Makes client s (call ∷ calls) t = (reply : Reply) × (mid : Session) × Called s client call reply mid × (is_refusal reply ≡ false) × Makes client mid calls t
 
--- the first of them that is refused gets this reply
-abbrev pub Stops : ℕ → Session → List Call → Reply → Type 0
-Stops client s [] reply = ⊥
-Stops client s (call ∷ calls) reply =
-    (told : Reply) × (mid : Session) × Called s client call told mid × (((is_refusal told ≡ true) × (reply ≡ told)) ⊎ ((is_refusal told ≡ false) × Stops client mid calls reply))
+-- the first of them that is refused gets this reply, and leaves t
+abbrev pub Stops : ℕ → Session → List Call → Reply → Session → Type 0
+Stops client s [] reply t = ⊥
+Stops client s (call ∷ calls) reply t =
+    (told : Reply) × (mid : Session) × Called s client call told mid
+    × (((is_refusal told ≡ true) × (reply ≡ told) × (t ≡ mid)) ⊎ ((is_refusal told ≡ false) × Stops client mid calls reply t))
 
--- How the coming of a client ends: it has made its calls, its connect is refused, or one of its calls is
+-- How the coming of a client ends, and with which session: it has made its calls, its connect gets this refusal, or one of its calls does
 pub data Coming : Type 0 where
   made : Session → Coming
-  unconnected : Reply → Coming
-  unmade : Reply → Coming
+  unconnected : Reply → Session → Coming
+  unmade : Reply → Session → Coming
 
--- the next client connects and makes these calls
+-- The next client connects and makes these calls. A refused connect has no client, and no entry
 abbrev pub Comes : Session → List Call → Coming → Type 0
 Comes s calls (made t) = (mid : Session) × Connects s Done mid × Makes (following s) (joined s mid) calls t
-Comes s calls (unconnected reply) = (mid : Session) × Connects s reply mid × (reply ≢ Done)
-Comes s calls (unmade reply) = (mid : Session) × Connects s Done mid × Stops (following s) (joined s mid) calls reply
+Comes s calls (unconnected reply t) = (mid : Session) × Connects s reply mid × (reply ≢ Done) × (t ≡ s)
+Comes s calls (unmade reply t) = (mid : Session) × Connects s Done mid × Stops (following s) (joined s mid) calls reply t
 
 -- the same of a loader, if there is one
 abbrev pub Loads : Session → Option (Vec Call Global) → Coming → Type 0
 Loads s (Some calls) end = Comes s calls.items end
 Loads s None (made t) = t ≡ s
-Loads s None (unconnected reply) = ⊥
-Loads s None (unmade reply) = ⊥
+Loads s None (unconnected reply t) = ⊥
+Loads s None (unmade reply t) = ⊥
 
--- How the opening of a run ends: with a session, with a connect or a profile's call that is refused, or with a loader's call that is
+-- How the opening of a run ends: with a session, with a connect or a profile's call that gets this refusal and leaves this session, or
+-- with a loader's call that is refused
 pub data Opening : Type 0 where
   begun : Session → Opening
-  refused : Reply → Opening
+  refused : Reply → Session → Opening
   stopped : Opening
 
 -- The loader comes, and then the first client of the session, to whom the loader doesn't belong
@@ -69,8 +71,8 @@ abbrev pub Opens : Setup → Opening → Type 0
 Opens setup (begun first) =
     (loaded t : Session) × Loads (fresh setup) setup.loader (made loaded) × Comes loaded setup.profile.items (made t)
     × (first ≡ record t { clients = drop (length loaded.clients) t.clients })
-Opens setup (refused reply) =
-    Loads (fresh setup) setup.loader (unconnected reply)
+Opens setup (refused reply left) =
+    Loads (fresh setup) setup.loader (unconnected reply left)
     ⊎ ((loaded : Session) × Loads (fresh setup) setup.loader (made loaded)
-    × (Comes loaded setup.profile.items (unconnected reply) ⊎ Comes loaded setup.profile.items (unmade reply)))
-Opens setup stopped = (reply : Reply) × Loads (fresh setup) setup.loader (unmade reply)
+    × (Comes loaded setup.profile.items (unconnected reply left) ⊎ Comes loaded setup.profile.items (unmade reply left)))
+Opens setup stopped = (reply : Reply) × (left : Session) × Loads (fresh setup) setup.loader (unmade reply left)

@@ -1,9 +1,15 @@
 -- How far a run has come. (Support of the functions below `run_script`: no public contract cites this file.)
-use Rattle.std.specs.Prelude.{⊤, ◌≡◌, ◌≢◌, ◌⊎◌, ℕ, ◌+◌, ◌≤◌, ◌<◌, List, ◌++◌, length, Option, None, MatchBool, if◌then◌else◌}
+use Rattle.std.specs.Prelude.{⊤, ◌≡◌, ◌≢◌, ◌⊎◌, ℕ, ◌+◌, ◌-◌, ◌≤◌, ◌<◌, true, List, ◌++◌, length, Option, MatchBool, slice_get}
 use Rattle.std.specs.List.{AllByRecursion}
+use Rattle.std.specs.Option.{option_map_or}
 use Rattle.std.specs.Io.KnownBytes.{Appends}
+use Rattle.ll_seq.specs.declared.reply.Entry.{Entry}
 use Rattle.ll_seq.specs.declared.reply.Reply.{Reply}
+use Rattle.ll_seq.specs.declared.reply.Reply.TheVariants as replies
+use Rattle.ll_rights.specs.Map.{has}
+use Rattle.ll_seq.specs.History.{IsLegal, state_after}
 use Rattle.ll_seq.specs.Stages.{numbers_from}
+use Rattle.ll_seq.specs.State.{State}
 use Rattle.ll_wire.specs.Grammar.{reply_line}
 use Rattle.ll_session.specs.declared.fault.SessionFault.{SessionFault}
 use Rattle.ll_session.specs.declared.fault.SessionFault.TheVariants as fault
@@ -11,8 +17,11 @@ use Rattle.ll_session.specs.declared.fault.RunFault.{RunFault}
 use Rattle.ll_session.specs.declared.fault.RunFault.TheVariants as run
 use Rattle.ll_session.specs.declared.line.Line.{Line}
 use Rattle.ll_session.specs.declared.setup.Setup.{Setup}
+use Rattle.ll_session.specs.declared.answer.Answer.{Answer}
+use Rattle.ll_session.specs.declared.answer.Answer.TheVariants.{Apart, Entered}
+use Rattle.ll_session.specs.declared.answer.Refusal.{Refusal}
+use Rattle.ll_session.specs.declared.answer.Refusal.TheVariants.{AtCall, AtConnect}
 use Rattle.ll_session.specs.declared.tree.SessionTree.{SessionTree}
-use Rattle.ll_session.specs.declared.tree.Refusal.{Refusal}
 use Rattle.ll_session.specs.declared.session.OpenSession.{OpenSession}
 use Rattle.ll_session.specs.declared.session.Opened.{Opened}
 use Rattle.ll_session.specs.declared.session.Opened.TheVariants.{Begun, Refused}
@@ -28,31 +37,71 @@ Holds line part = MatchBool line.is_long (16384 < length part) ((line.bytes.item
 -- this of the session that the opening began
 abbrev pub IfBegun : Opened → (OpenSession → Type 0) → Type 0
 IfBegun (Begun session) P = P session
-IfBegun (Refused reply) P = ⊤
+IfBegun (Refused tree answer) P = ⊤
 
--- this of the reply that refused it
-abbrev pub IfRefused : Opened → (Reply → Type 0) → Type 0
+-- this of the tree and the answer where it is refused
+abbrev pub IfRefused : Opened → (SessionTree → Answer → Type 0) → Type 0
 IfRefused (Begun session) P = ⊤
-IfRefused (Refused reply) P = P reply
+IfRefused (Refused tree answer) P = P tree answer
 
 -- a fault that ends an opening: a loader's call is refused, or memory ran out
 abbrev pub OpensBadly : Setup → RunFault → Type 0
 OpensBadly setup run.Opening = Opens setup stopped
 OpensBadly setup (run.Session of) = of ≡ fault.NoMemory
 
--- how the coming of a client ends that this reply kept from its calls
-abbrev pub coming_in : Refusal → Coming
-coming_in refusal = if refusal.at_connect then unconnected refusal.reply else unmade refusal.reply
+-- how what kept a client from its calls is answered
+abbrev pub answer_in : Refusal → Answer
+answer_in (AtConnect errno) = Apart errno
+answer_in (AtCall answer) = answer
+
+-- the reply of the last entry
+abbrev pub last_reply : List Entry → Reply
+last_reply entries = option_map_or (λ entry. entry.reply) (slice_get entries (length entries - 1)) replies.Done
+
+-- the reply to a call that is answered so
+abbrev pub told_by : SessionTree → Answer → Reply
+told_by tree Entered = last_reply tree.history.entries
+told_by tree (Apart errno) = replies.Refused errno
+
+-- of so many clients the newest is told by its place
+abbrev pub placed : ℕ → Reply → Reply
+placed clients (replies.Spawned number) = replies.Spawned clients
+placed clients reply = reply
+
+-- the same as it is written
+abbrev pub written : SessionTree → Answer → Reply
+written tree answer = placed tree.clients (told_by tree answer)
+
+-- how the coming of a client ends that this kept from its calls
+abbrev pub coming_in : SessionTree → Refusal → Session → Coming
+coming_in tree (AtConnect errno) = unconnected (replies.Refused errno)
+coming_in tree (AtCall answer) = unmade (written tree answer)
 
 -- the numbers that inodes and clients have had
 abbrev pub used : SessionTree → ℕ
 used tree = tree.plain.next + (tree.before + tree.clients)
 
--- the session with this tree, of so many clients after those that came before them, and without a limit
+-- the session with this tree and history, of so many clients after those that came before them
 pub record StandsAt (of : SessionTree) (s : Session) : Type 0 where
   pub tree : s.tree ≡ of.plain
   pub clients : s.clients ≡ numbers_from (of.before + 1) of.clients
-  pub limit : s.limit ≡ None
+  pub entries : s.entries ≡ of.history.entries
+  pub limit : s.limit ≡ of.history.limit
+
+-- these clients are there
+abbrev pub AreThere : State → List ℕ → Type 0
+AreThere tree = AllByRecursion (λ number. has tree.clients number ≡ true)
+
+-- the entries are a legal history that leads to the tree, and the clients are there
+pub record IsSound (empty : State) (s : Session) : Type 0 where
+  pub legal : IsLegal empty s.entries
+  pub tree : s.tree ≡ state_after empty s.entries
+  pub there : AreThere s.tree s.clients
+
+-- the one tree's sound sessions go on to sound ones of the other
+abbrev pub StaysSound : (before after : SessionTree) → Type 0
+StaysSound before after =
+    (empty : State) (s : Session) → StandsAt before s → IsSound empty s → (t : Session) × StandsAt after t × IsSound empty t
 
 abbrev pub AnswersLine : Session → List ℕ → Reply → Session → Type 0
 AnswersLine = Answers (λ s. s.clients) Called
@@ -73,9 +122,10 @@ IsAnswered s piece left old new = (t : Session) × (reply : Reply) × AnswersLin
 abbrev pub IsStarted : Session → List ℕ → (old new : Option (List ℕ)) → Type 0
 IsStarted s piece old new = (t : Session) × (reply : Reply) × AnswersLine s piece reply t × AppendsFront old new (reply_line reply)
 
--- the whole transcript is written
-abbrev pub IsWritten : Session → List ℕ → (old new : Option (List ℕ)) → Type 0
-IsWritten first input old new = (text : List ℕ) × (last : Session) × Lines first (pieces input) text last × Appends old new text
+-- the whole transcript is written, and the session has these entries then
+abbrev pub IsWritten : Session → List ℕ → (old new : Option (List ℕ)) → List Entry → Type 0
+IsWritten first input old new entries =
+    (text : List ℕ) × (last : Session) × Lines first (pieces input) text last × Appends old new text × (entries ≡ last.entries)
 
 -- a beginning of the transcript of some first pieces is written
 abbrev pub HasBegun : Session → List ℕ → (old new : Option (List ℕ)) → Type 0

@@ -1,6 +1,6 @@
 -- What is written for what is read, line by line. own
-use Rattle.std.specs.Prelude.{◌≡◌, ℕ, ◌+◌, ◌-◌, ◌≤◌, true, false, List, [], ◌∷◌, ◌++◌, length, Option, Some, None, slice_get, ◌==◌, if◌then◌else◌, IsSomeAnd}
-use Rattle.std.specs.List.{All, onto_first}
+use Rattle.std.specs.Prelude.{◌≡◌, ℕ, ◌+◌, ◌-◌, ◌≤◌, true, false, List, [], ◌∷◌, ◌++◌, length, Some, None, slice_get}
+use Rattle.std.specs.List.{All}
 use Rattle.ll_rights.specs.declared.errno.Errno.TheVariants.{HistoryFull, NoMemory, BadLine}
 use Rattle.ll_seq.specs.declared.call.Call.{Call}
 use Rattle.ll_seq.specs.declared.reply.Reply.{Reply}
@@ -14,15 +14,15 @@ use Rattle.ll_plain.specs.Memory.{takes_memory}
 use Rattle.ll_wire.specs.Grammar.{SpellsCommand, reply_line}
 use Rattle.ll_wire.specs.Reads.{holds_text}
 
--- Between two lines: the tree, the clients by number, the entries, and how many these may be
+-- Between two lines: the tree, the clients by number, the history's entries, and how many these may be
 pub record Session : Type 0 where
   pub tree : State
   pub clients : List ℕ
   pub entries : List Entry
-  pub limit : Option ℕ
+  pub limit : ℕ
 
 abbrev pub IsFull : Session → Type 0
-IsFull s = IsSomeAnd s.limit (λ most. most ≤ length s.entries)
+IsFull s = s.limit ≤ length s.entries
 
 abbrev pub brought : Reply → List ℕ
 brought (Spawned number) = number ∷ []
@@ -36,12 +36,13 @@ next s client call reply tree = record s { tree = tree; clients = s.clients ++ b
 abbrev pub MayStarve : Session → ℕ → Call → Type 0
 MayStarve s client call = (takes_memory call ≡ true) × (refusals s.tree (client_of s.tree client) call ≡ [])
 
--- The tree makes one step, unless the history is full or a growth was refused. A spawned client's number is unused
+-- The tree makes one step, and the history gets an entry. Where that is full, the call is answered so, whatever else holds of it;
+-- where a growth was refused, for want of memory. Neither changes anything. A spawned client's number is unused
 pub data Called (s : Session) (client : ℕ) (call : Call) : Reply → Session → Type 0 where
   answered : (reply : Reply) (tree : State) (fresh : ℕ) → (IsFull s → ⊥) → has s.tree.clients fresh ≡ false → ◌≡◌ {A = Reply × State} (reply, tree) (step s.tree client call fresh)
       → Called s client call reply (next s client call reply tree)
   full : IsFull s → Called s client call (Refused HistoryFull) s
-  starved : MayStarve s client call → Called s client call (Refused NoMemory) s
+  starved : (IsFull s → ⊥) → MayStarve s client call → Called s client call (Refused NoMemory) s
 
 -- calls that a client makes after its connect: none is another
 abbrev pub AreOthers : List Call → Type 0

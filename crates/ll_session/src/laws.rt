@@ -1,8 +1,9 @@
 //! What holds of every run.
 
-ghost use Rattle.ll_session.specs.Run.{RunsLegally};
+ghost use Rattle.ll_session.specs.Run.{IsRefusedLegally, RunsLegally};
 
 /// The entries of a run are a legal history of its tree, and lead to the tree that it has.
 pub fn runs_legally()
-    ensures { RunsLegally }
+    ensures runs { RunsLegally }
+    ensures refused { IsRefusedLegally }
 {}

@@ -1,6 +1,7 @@
 //! Sessions: scripts of command lines, run over a tree that clients share, from a reader to a writer.
 #![tactic(auto)]
 
+mod answer;
 mod fault;
 mod laws;
 mod line;

@@ -4,11 +4,11 @@ ghost use Rattle.std.specs.Prelude.{◌≡◌, IfErr, OnOk, OnErr};
 ghost use Rattle.std.specs.Io.KnownBytes.{Appends};
 ghost use Rattle.ll_wire.specs.Grammar.{IsReply, reply_line};
 ghost use Rattle.ll_session.specs.declared.fault.SessionFault.{SessionFault};
-ghost use Rattle.ll_session.specs.Progress.{AppendsFront, IsOfWriting};
+ghost use Rattle.ll_session.specs.Progress.{AppendsFront, IsOfWriting, written};
 
+use crate::answer::Answer;
 use crate::fault::SessionFault;
-use ll_seq::Reply;
-use ll_wire::reply_text;
+use crate::tree::SessionTree;
 use std::alloc::Global;
 use std::io::Write;
 
@@ -29,18 +29,19 @@ pub fn write_text<W: Write>(writer: &mut W, text: &str) -> Result<(), SessionFau
     Ok(())
 }
 
-/// Writes the reply's line.
-pub fn write_reply<W: Write>(
+/// Writes the reply's line of a call that is answered so.
+pub fn write_answer<W: Write>(
     alloc: Global,
-    reply: Reply,
+    tree: &SessionTree,
+    answer: Answer,
     writer: &mut W,
 ) -> Result<(), SessionFault>
-    requires { IsReply reply }
-    ensures ok { OnOk result (Appends (W.contents writer.old) (W.contents writer.new) (reply_line reply)) }
-    ensures err { OnErr result (AppendsFront (W.contents writer.old) (W.contents writer.new) (reply_line reply)) }
+    requires { IsReply (written tree.now answer) }
+    ensures ok { OnOk result (Appends (W.contents writer.old) (W.contents writer.new) (reply_line (written tree.now answer))) }
+    ensures err { OnErr result (AppendsFront (W.contents writer.old) (W.contents writer.new) (reply_line (written tree.now answer))) }
     ensures fault { IfErr result (λ fault. IsOfWriting fault) }
 {
-    let Ok(text) = reply_text(alloc, &reply) else {
+    let Ok(text) = tree.text_of(alloc, answer) else {
         return Err(SessionFault::NoMemory);
     };
     write_text(writer, text.as_str())

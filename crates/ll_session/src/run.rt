@@ -1,17 +1,21 @@
 //! Runs of scripts.
 
-ghost use Rattle.std.specs.Prelude.{◌≡◌, ◌<◌, ◌≤◌, ◌^◌, [], length, IfOk, IfErr, ℕ, List, OnOk, OnErr, IfSome, Option, Some, Err};
+ghost use Rattle.std.specs.Prelude.{◌≡◌, ◌<◌, ◌≤◌, ◌^◌, [], length, All, IfOk, IfErr, ℕ, List, OnOk, OnErr, IfSome, Option, Some, Err};
 ghost use Rattle.std.specs.Io.KnownBytes.{Consumes, IsAtEnd};
+ghost use Rattle.ll_seq.specs.History.{IsLegal};
+ghost use Rattle.ll_seq.specs.State.{State, start};
+ghost use Rattle.ll_wire.specs.Entries.{IsEntry};
 ghost use Rattle.ll_session.specs.declared.fault.RunFault.{RunFault};
 ghost use Rattle.ll_session.specs.declared.fault.SessionFault.{SessionFault};
 ghost use Rattle.ll_session.specs.Transcript.{Session};
 ghost use Rattle.ll_session.specs.Run.{Runs, Begins, MayEnd, Writes, most_reads};
-ghost use Rattle.ll_session.specs.Progress.{used, HasBegun, IsWritten, Progress};
+ghost use Rattle.ll_session.specs.Progress.{used, HasBegun, IsSound, IsWritten, Progress, StandsAt, StaysSound};
 
 use crate::fault::{RunFault, SessionFault};
-use crate::output::write_reply;
+use crate::output::write_answer;
 use crate::session::{OpenSession, Opened};
 use crate::setup::Setup;
+use ll_seq::History;
 use std::alloc::Global;
 use std::io::{Read, Write};
 
@@ -47,6 +51,7 @@ fn read_all<R: Read, W: Write>(
         → R.remaining reader.old ≡ Some input
         → Progress first input input old (W.contents writer.old) session.old
         → HasBegun first input old (W.contents writer.new)) }
+    ensures sound { StaysSound session.old.tree session.new.tree }
     ensures numbers { used session.new.tree < 2 ^ 63 }
     ensures long { result ≡ Err SessionFault.TooLong
         → (input : List ℕ) → R.remaining reader.old ≡ Some input → most_reads ≤ length input }
@@ -67,17 +72,20 @@ fn read_all<R: Read, W: Write>(
     Err(SessionFault::TooLong)
 }
 
-// Reads the input to its end, and answers each line.
+// Reads the input to its end, and answers each line. The session's history is left.
 fn run_session<R: Read, W: Write>(
     mut session: OpenSession,
     reader: &mut R,
     writer: &mut W,
-) -> Result<(), SessionFault>
+) -> Result<History, SessionFault>
     requires room { used session.tree ≤ 2 ^ 62 }
-    ensures ok { OnOk result ((first : Session) (input : List ℕ) (old : Option (List ℕ))
+    ensures ok { IfOk result (λ history. (first : Session) (input : List ℕ) (old : Option (List ℕ))
         → R.remaining reader.old ≡ Some input
         → Progress first input input old (W.contents writer.old) session
-        → (R.remaining reader.new ≡ Some []) × IsWritten first input old (W.contents writer.new)) }
+        → (R.remaining reader.new ≡ Some []) × IsWritten first input old (W.contents writer.new) history.entries) }
+    ensures entries { IfOk result (λ history. All IsEntry history.entries) }
+    ensures legal { IfOk result (λ history. (empty : State) (first : Session) → StandsAt session.tree first
+        → IsSound empty first → IsLegal empty history.entries) }
     ensures err { OnErr result ((first : Session) (input : List ℕ) (old : Option (List ℕ))
         → R.remaining reader.old ≡ Some input
         → Progress first input input old (W.contents writer.old) session
@@ -88,31 +96,40 @@ fn run_session<R: Read, W: Write>(
     if let Err(fault) = read_all(&mut session, reader, writer) {
         return Err(fault);
     }
-    session.finish(writer)
+    if let Err(fault) = session.finish(writer) {
+        return Err(fault);
+    }
+    Ok(session.tree.into_history())
 }
 
-/// Reads a script of command lines, and writes the reply lines. Where the opening is refused, that reply's line is all
-/// that it writes, and it reads nothing.
+/// Reads a script of command lines, and writes the reply lines. The history of the run is left, with an entry for each call
+/// that the tree has answered. Where the opening is refused, that reply's line is all that it writes, and it reads nothing.
 pub fn run_script<R: Read, W: Write>(
     alloc: Global,
-    setup: &Setup,
+    setup: Setup,
     reader: &mut R,
     writer: &mut W,
-) -> Result<(), RunFault>
-    // Where no fault is answered: what was read, what is left of the input, and what was written, are those of a run.
-    ensures transcript { OnOk result (IfSome (R.remaining reader.old) (λ input. (left : List ℕ)
+) -> Result<History, RunFault>
+    // Where no fault is answered: what was read, what is left of the input, what was written, and the entries, are those of a run.
+    ensures transcript { IfOk result (λ history. IfSome (R.remaining reader.old) (λ input. (left : List ℕ)
         × (R.remaining reader.new ≡ Some left)
-        × Writes (W.contents writer.old) (W.contents writer.new) (Runs setup.now input left))) }
+        × Writes (W.contents writer.old) (W.contents writer.new) (λ text. Runs setup input left text history.entries))) }
+    // Whatever the reader and the writer tell: the entries are a legal history of the setup's tree, and each has a spelling.
+    ensures legal { IfOk result (λ history. IsLegal (start setup.rules setup.nodes) history.entries) }
+    ensures entries { IfOk result (λ history. All IsEntry history.entries) }
     // With a fault, what was written is a beginning of such a text.
     ensures beginning { OnErr result (IfSome (R.remaining reader.old) (λ input.
-        Writes (W.contents writer.old) (W.contents writer.new) (Begins setup.now input))) }
-    ensures fault { IfErr result (λ fault. MayEnd setup.now fault) }
+        Writes (W.contents writer.old) (W.contents writer.new) (Begins setup input))) }
+    ensures fault { IfErr result (λ fault. MayEnd setup fault) }
     // Each read gives a byte at least.
     ensures long { result ≡ Err (RunFault.Session SessionFault.TooLong)
         → (input : List ℕ) → R.remaining reader.old ≡ Some input → most_reads ≤ length input }
 {
     match OpenSession::open(alloc, setup)? {
         Opened::Begun(session) => Ok(run_session(session, reader, writer)?),
-        Opened::Refused(reply) => Ok(write_reply(alloc, reply, writer)?),
+        Opened::Refused(tree, answer) => {
+            write_answer(alloc, &tree, answer, writer)?;
+            Ok(tree.into_history())
+        }
     }
 }

@@ -2,16 +2,17 @@
 
 ghost use Rattle.std.specs.Prelude.{◌≡◌, ◌<◌, ◌≤◌, ◌+◌, ◌-◌, ◌*◌, ◌^◌, ◌∷◌, [], ◌++◌, length, ℕ, List, Option, OnOk, OnErr, IfErr, IfOk};
 
+use crate::answer::{Answer, Refusal};
 use crate::fault::{RunFault, SessionFault};
 use crate::line::Line;
-use crate::output::write_reply;
+use crate::output::write_answer;
 use crate::setup::Setup;
 use crate::tree::SessionTree;
 use ll_plain::Plain;
 use ll_rights::Errno;
-use ll_seq::Reply;
+use ll_seq::History;
 use ll_wire::read_command;
-use std::alloc::Global;
+use std::alloc::{AllocError, Global};
 use std::io::Write;
 
 /// The session's tree, and the line that is being read.
@@ -27,68 +28,78 @@ pub struct OpenSession {
 #[derive(Drop)]
 pub enum Opened {
     Begun(OpenSession),
-    /// The reply to the connect or the profile's call that is refused.
-    Refused(Reply),
+    /// The tree, and how the connect or the profile's call is answered that is refused.
+    Refused(SessionTree, Answer),
 }
 
 impl OpenSession {
     ghost use Rattle.ll_wire.specs.Grammar.{IsReply};
     ghost use Rattle.ll_session.specs.declared.fault.SessionFault.{SessionFault};
     ghost use Rattle.ll_session.specs.Transcript.{Session};
-    ghost use Rattle.ll_session.specs.Opening.{Opens, begun, refused};
-    ghost use Rattle.ll_session.specs.Progress.{used, Holds, IfBegun, IfRefused, OpensBadly, StandsAt, AnswersLine, IsAnswered, IsStarted, HasBegun, IsWritten, IsOfWriting, Progress};
+    ghost use Rattle.ll_session.specs.Opening.{Opens, begun, fresh, refused};
+    ghost use Rattle.ll_session.specs.Progress.{used, written, Holds, IfBegun, IfRefused, OpensBadly, StandsAt, StaysSound, AnswersLine, IsAnswered, IsStarted, HasBegun, IsWritten, IsOfWriting, Progress};
+
+    // A fresh tree and an empty line.
+    fn fresh(alloc: Global, setup: &Setup) -> Result<(SessionTree, Line), AllocError>
+        ensures stands { IfOk result (λ x. StandsAt x.0 (fresh setup.now)) }
+        ensures before { IfOk result (λ x. x.0.before ≡ 0) }
+        ensures clients { IfOk result (λ x. x.0.clients ≡ 0) }
+        ensures line { IfOk result (λ x. Holds x.1 []) }
+        ensures numbers { IfOk result (λ x. used x.0 ≤ 2) }
+    {
+        let plain = Plain::new(alloc, setup.rules, setup.nodes)?;
+        let history = History::new(alloc, setup.history)?;
+        let line = Line::new(alloc)?;
+        Ok((SessionTree::new(plain, history), line))
+    }
 
     /// Opens a fresh tree, to which the loader comes, if there is one, and then the first client.
-    pub fn open(alloc: Global, setup: &Setup) -> Result<Opened, RunFault>
+    pub fn open(alloc: Global, setup: Setup) -> Result<Opened, RunFault>
         ensures session { IfOk result (λ opened. IfBegun opened (λ session.
-            (first : Session) × Opens setup.now (begun first) × StandsAt session.tree first)) }
+            (first : Session) × Opens setup (begun first) × StandsAt session.tree first)) }
         ensures line { IfOk result (λ opened. IfBegun opened (λ session. Holds session.line [])) }
         ensures numbers { IfOk result (λ opened. IfBegun opened (λ session. used session.tree ≤ 2 ^ 62)) }
-        ensures refused { IfOk result (λ opened. IfRefused opened (λ reply. Opens setup.now (refused reply))) }
-        ensures has_text { IfOk result (λ opened. IfRefused opened IsReply) }
-        ensures fault { IfErr result (λ fault. OpensBadly setup.now fault) }
+        ensures refused { IfOk result (λ opened. IfRefused opened (λ tree answer.
+            (last : Session) × Opens setup (refused (written tree answer) last) × StandsAt tree last)) }
+        ensures spelled { IfOk result (λ opened. IfRefused opened (λ tree answer. IsReply (written tree answer))) }
+        ensures fault { IfErr result (λ fault. OpensBadly setup fault) }
     {
-        let Ok(plain) = Plain::new(alloc, setup.rules, setup.nodes) else {
+        let Ok((mut tree, line)) = OpenSession::fresh(alloc, &setup) else {
             return Err(RunFault::Session(SessionFault::NoMemory));
         };
-        let Ok(line) = Line::new(alloc) else {
-            return Err(RunFault::Session(SessionFault::NoMemory));
-        };
-        let mut tree = SessionTree::new(plain);
-        match tree.load(&setup.loader) {
+        match tree.load(setup.loader) {
             Ok(()) => {}
-            Err(refusal) => {
-                if refusal.at_connect {
-                    return Ok(Opened::Refused(refusal.reply));
-                }
-                return Err(RunFault::Opening);
+            Err(Refusal::AtConnect(errno)) => {
+                return Ok(Opened::Refused(tree, Answer::Apart(errno)));
             }
+            Err(Refusal::AtCall(_)) => return Err(RunFault::Opening),
         }
         let before = tree.clients;
-        match tree.bring(setup.profile.as_slice()) {
+        match tree.bring(setup.profile) {
             Ok(()) => Ok(Opened::Begun(OpenSession {
                 alloc,
                 tree: tree.beginning_after(before),
                 line,
             })),
-            Err(refusal) => Ok(Opened::Refused(refusal.reply)),
+            Err(refusal) => Ok(Opened::Refused(tree, refusal.answer())),
         }
     }
 
-    // Makes the call that the line spells. The reply to the line, whether it spells one or not.
-    fn reply(&mut self) -> Reply
+    // Makes the call that the line spells. How the line is answered, whether it spells one or not.
+    fn reply(&mut self) -> Answer
         requires room { used self.old.tree < 2 ^ 64 - 1 }
         ensures answers { (s : Session) (piece : List ℕ) → Holds self.old.line piece → StandsAt self.old.tree s
-            → (t : Session) × AnswersLine s piece result t × StandsAt self.new.tree t }
-        ensures has_text { IsReply result }
+            → (t : Session) × AnswersLine s piece (written self.new.tree result) t × StandsAt self.new.tree t }
+        ensures spelled { IsReply (written self.new.tree result) }
+        ensures sound { StaysSound self.old.tree self.new.tree }
         ensures numbers { used self.new.tree ≤ used self.old.tree + 2 }
     {
         if self.line.is_long {
-            return Reply::Refused(Errno::BadLine);
+            return Answer::Apart(Errno::BadLine);
         }
         match read_command(self.alloc, &self.line.bytes, self.tree.clients) {
-            Ok((place, call)) => self.tree.call_at(place, &call),
-            Err(errno) => Reply::Refused(errno),
+            Ok((place, call)) => self.tree.call_at(place, call),
+            Err(errno) => Answer::Apart(errno),
         }
     }
 
@@ -99,11 +110,12 @@ impl OpenSession {
             → IsAnswered s piece self.new.tree (W.contents writer.old) (W.contents writer.new)) }
         ensures err { OnErr result ((s : Session) (piece : List ℕ) → Holds self.old.line piece → StandsAt self.old.tree s
             → IsStarted s piece (W.contents writer.old) (W.contents writer.new)) }
+        ensures sound { StaysSound self.old.tree self.new.tree }
         ensures numbers { used self.new.tree ≤ used self.old.tree + 2 }
         ensures fault { IfErr result (λ fault. IsOfWriting fault) }
     {
-        let reply = self.reply();
-        write_reply(self.alloc, reply, writer)
+        let answer = self.reply();
+        write_answer(self.alloc, &self.tree, answer, writer)
     }
 
     fn take_byte<W: Write>(&mut self, byte: u8, writer: &mut W) -> Result<(), SessionFault>
@@ -114,6 +126,7 @@ impl OpenSession {
         ensures err { OnErr result ((first : Session) (input rest : List ℕ) (old : Option (List ℕ))
             → Progress first input (byte ∷ rest) old (W.contents writer.old) self.old
             → HasBegun first input old (W.contents writer.new)) }
+        ensures sound { StaysSound self.old.tree self.new.tree }
         ensures numbers { used self.new.tree ≤ used self.old.tree + 2 }
         ensures fault { IfErr result (λ fault. IsOfWriting fault) }
     {
@@ -138,6 +151,7 @@ impl OpenSession {
         ensures err { OnErr result ((first : Session) (input rest : List ℕ) (old : Option (List ℕ))
             → Progress first input (bytes.now ++ rest) old (W.contents writer.old) self.old
             → HasBegun first input old (W.contents writer.new)) }
+        ensures sound { StaysSound self.old.tree self.new.tree }
         ensures numbers { used self.new.tree ≤ used self.old.tree + 2 * length bytes.now }
         ensures fault { IfErr result (λ fault. IsOfWriting fault) }
     {
@@ -154,10 +168,11 @@ impl OpenSession {
         requires room { used self.old.tree < 2 ^ 64 - 1 }
         ensures ok { OnOk result ((first : Session) (input : List ℕ) (old : Option (List ℕ))
             → Progress first input [] old (W.contents writer.old) self.old
-            → IsWritten first input old (W.contents writer.new)) }
+            → IsWritten first input old (W.contents writer.new) self.new.tree.history.entries) }
         ensures err { OnErr result ((first : Session) (input : List ℕ) (old : Option (List ℕ))
             → Progress first input [] old (W.contents writer.old) self.old
             → HasBegun first input old (W.contents writer.new)) }
+        ensures sound { StaysSound self.old.tree self.new.tree }
         ensures fault { IfErr result (λ fault. IsOfWriting fault) }
     {
         if self.line.is_empty() {

@@ -1,203 +1,256 @@
-//! The tree of a session and its clients.
+//! The tree of a session, its history and its clients.
 
-ghost use Rattle.std.specs.Prelude.{◌≡◌, ◌≢◌, ◌<◌, ◌≤◌, ◌+◌, ◌-◌, ◌*◌, ◌^◌, ◌∷◌, ℕ, Some, true, false, [], length, drop, slice_get, IfErr, IfSome, OnOk};
+ghost use Rattle.std.specs.Prelude.{◌≡◌, ◌<◌, ◌≤◌, ◌+◌, ◌-◌, ◌*◌, ◌^◌, ℕ, All, Some, true, false, [], length, drop, option_map, slice_get, string_bytes, IfErr, IfOk, IfSome, OnOk};
 ghost use Rattle.ll_rights.specs.Map.{has};
-ghost use Rattle.ll_rights.specs.declared.errno.Errno.{Errno};
-ghost use Rattle.ll_seq.specs.State.{State, start};
-ghost use Rattle.ll_seq.specs.Step.{step, refusals, client_of, IsAnswer};
+ghost use Rattle.ll_seq.specs.State.{start};
 ghost use Rattle.ll_seq.specs.History.{is_connect};
 ghost use Rattle.ll_seq.specs.declared.reply.Reply.{Reply};
-ghost use Rattle.ll_plain.specs.Memory.{takes_memory};
 ghost use Rattle.ll_plain.specs.Refusal.{is_refusal};
+ghost use Rattle.ll_wire.specs.Entries.{IsEntry};
+ghost use Rattle.ll_wire.proofs.Facts.{spelled_props};
+ghost use Rattle.ll_wire.specs.Grammar.{IsReply, reply_line};
 
+use crate::answer::{Answer, Refusal, count_brought, is_refused, wants_memory};
 use ll_plain::Plain;
-use ll_seq::{Call, Reply};
+use ll_rights::Errno;
+use ll_seq::{Call, Entry, History, Reply};
+use ll_wire::{is_entered, is_spelled, reply_text};
+use std::alloc::{AllocError, Global};
 
-/// A tree whose clients have all come by this session: so many before it, and then its own. Their numbers are those from 1 on.
+/// A tree whose clients have all come by this session: so many before it, and then its own. Their numbers are those from 1
+/// on. Each call that the tree answers is an entry of the history.
 #[derive(Drop)]
 pub struct SessionTree {
     pub plain: Plain,
+    pub history: History,
     pub before: u64,
     pub clients: u64,
     ghost connected: { (number : ℕ) → 1 ≤ number → number ≤ before + clients → has plain.clients number ≡ true },
     ghost free: { (number : ℕ) → before + clients < number → has plain.clients number ≡ false },
-}
-
-/// The reply that kept a client from making all its calls: to its connect, or to one of them.
-#[derive(Drop)]
-pub struct Refusal {
-    pub at_connect: bool,
-    pub reply: Reply,
-}
-
-// Whether the call is refused, or denied.
-fn is_refused(reply: &Reply) -> bool
-    ensures { result ≡ is_refusal reply.now }
-{
-    matches!(reply, Reply::Refused(_) | Reply::Denied(_))
+    ghost spelled: { All IsEntry history.entries } by { Prim.hlevel spelled_props },
 }
 
 impl SessionTree {
-    ghost use Rattle.ll_session.specs.Transcript.{Session, AreOthers, Called, as_written, brought};
+    ghost use Rattle.ll_session.specs.Transcript.{Session, AreOthers, Called, as_written};
     ghost use Rattle.ll_session.specs.Opening.{Connects, Comes, Loads, Makes, Stops, joined, made};
-    ghost use Rattle.ll_session.specs.Progress.{used, StandsAt, coming_in};
+    ghost use Rattle.ll_session.specs.Progress.{used, StandsAt, StaysSound, answer_in, coming_in, told_by, written};
 
-    /// A fresh tree, to which nobody has connected.
-    pub fn new(plain: Plain) -> SessionTree
+    /// A fresh tree, to which nobody has connected, with an empty history.
+    pub fn new(plain: Plain, history: History) -> SessionTree
         requires fresh { plain ≡ start plain.rules plain.room }
+        requires empty { history.entries ≡ [] }
         ensures plain { result.plain ≡ plain }
+        ensures history { result.history ≡ history }
         ensures before { result.before ≡ 0 }
         ensures clients { result.clients ≡ 0 }
         ensures numbers { used result ≤ 2 }
     {
         SessionTree {
             plain,
+            history,
             before: 0,
             clients: 0,
         }
     }
 
-    /// Makes the call of the client with this number.
-    pub fn call(&mut self, client: u64, call: &Call) -> Reply
-        requires first { 1 ≤ client }
-        requires last { client ≤ self.old.before + self.old.clients }
-        requires call { is_connect call.now ≡ false }
-        requires room { used self.old < 2 ^ 64 - 1 }
-        ensures step { result ≢ Reply.Refused Errno.NoMemory → ◌≡◌ {A = Reply × State} (result, self.new.plain)
-            (step self.old.plain client call.now (self.old.before + self.old.clients + 1)) }
-        ensures no_memory { result ≡ Reply.Refused Errno.NoMemory → self.new.plain ≡ self.old.plain }
-        ensures starved { result ≡ Reply.Refused Errno.NoMemory
-            → refusals self.old.plain (client_of self.old.plain client) call.now ≡ [] }
-        ensures memory { takes_memory call.now ≡ false → result ≢ Reply.Refused Errno.NoMemory }
-        ensures fresh { has self.old.plain.clients (self.old.before + self.old.clients + 1) ≡ false }
-        ensures before { self.new.before ≡ self.old.before }
-        ensures clients { self.new.clients ≡ self.old.clients + length (brought result) }
-        ensures spawned { (number : ℕ) → result ≡ Reply.Spawned number
-            → number ≡ self.old.before + self.old.clients + 1 }
-        ensures answers { IsAnswer result }
-        ensures numbers { used self.new ≤ used self.old + 2 }
+    // The reply of the history's last entry, if there is one.
+    fn last_reply(&self) -> Option<&Reply>
+        ensures { option_map (λ reply. reply.now) result
+            ≡ option_map (λ entry. entry.reply) (slice_get self.now.history.entries (length self.now.history.entries - 1)) }
     {
-        let fresh = self.before + self.clients + 1;
-        let reply = self.plain.apply(client, call, fresh);
-        if let Reply::Spawned(_) = &reply {
-            self.clients += 1;
+        match self.history.entries().last() {
+            Some(entry) => Some(&entry.reply),
+            None => None,
         }
-        reply
     }
 
-    /// Makes the call of the session's client at this place. The reply names clients by their places.
-    pub fn call_at(&mut self, place: u64, call: &Call) -> Reply
+    // Whether a call is refused, or denied, that is answered so.
+    fn is_refused(&self, answer: Answer) -> bool
+        ensures { result ≡ is_refusal (told_by self.now answer) }
+    {
+        match (answer, self.last_reply()) {
+            (Answer::Apart(_), _) => true,
+            (Answer::Entered, Some(reply)) => is_refused(reply),
+            (Answer::Entered, None) => false,
+        }
+    }
+
+    /// The reply's line of a call that is answered so. It names clients by their places.
+    pub fn text_of(&self, alloc: Global, answer: Answer) -> Result<String, AllocError>
+        requires { IsReply (written self.now answer) }
+        ensures { IfOk result (λ text. string_bytes text ≡ reply_line (written self.now answer)) }
+    {
+        match (answer, self.last_reply()) {
+            (Answer::Apart(errno), _) => reply_text(alloc, &Reply::Refused(errno)),
+            (Answer::Entered, Some(Reply::Spawned(_))) => {
+                reply_text(alloc, &Reply::Spawned(self.clients))
+            }
+            (Answer::Entered, Some(reply)) => reply_text(alloc, reply),
+            (Answer::Entered, None) => reply_text(alloc, &Reply::Done),
+        }
+    }
+
+    /// Makes the call of the client with this number. With its reply it becomes an entry.
+    pub fn call(&mut self, client: u64, call: Call) -> Answer
+        requires first { 1 ≤ client }
+        requires last { client ≤ self.old.before + self.old.clients }
+        requires call { is_connect call ≡ false }
+        requires room { used self.old < 2 ^ 64 - 1 }
+        ensures called { (s : Session) → StandsAt self.old s
+            → (t : Session) × Called s client call (told_by self.new result) t × StandsAt self.new t }
+        ensures spelled { IsReply (told_by self.new result) }
+        ensures before { self.new.before ≡ self.old.before }
+        ensures clients { self.old.clients ≤ self.new.clients }
+        ensures comes { self.new.clients ≤ self.old.clients + 1 }
+        ensures numbers { used self.new ≤ used self.old + 2 }
+    {
+        if self.history.is_full() {
+            drop(call);
+            return Answer::Apart(Errno::HistoryFull);
+        }
+        let fresh = self.before + self.clients + 1;
+        let reply = self.plain.apply(client, &call, fresh);
+        if wants_memory(&reply) {
+            drop(call);
+            return Answer::Apart(Errno::NoMemory);
+        }
+        is_spelled(&call);
+        is_entered(&reply);
+        self.clients += count_brought(&reply);
+        self.history.push(Entry {
+            client,
+            call,
+            reply,
+        });
+        Answer::Entered
+    }
+
+    /// Makes the call of the session's client at this place.
+    pub fn call_at(&mut self, place: u64, call: Call) -> Answer
         requires first { 1 ≤ place }
         requires last { place ≤ self.old.clients }
-        requires call { is_connect call.now ≡ false }
+        requires call { is_connect call ≡ false }
         requires room { used self.old < 2 ^ 64 - 1 }
         ensures called { (s : Session) → StandsAt self.old s
             → (client : ℕ) × (told : Reply) × (t : Session) × (slice_get s.clients (place - 1) ≡ Some client)
-            × Called s client call.now told t × (result ≡ as_written s.clients told) × StandsAt self.new t }
+            × Called s client call told t × (written self.new result ≡ as_written s.clients told) × StandsAt self.new t }
+        ensures sound { StaysSound self.old self.new }
         ensures clients { self.old.clients ≤ self.new.clients }
-        ensures answers { IsAnswer result }
+        ensures spelled { IsReply (written self.new result) }
         ensures numbers { used self.new ≤ used self.old + 2 }
     {
-        let next = self.clients + 1;
-        match self.call(self.before + place, call) {
-            Reply::Spawned(_) => Reply::Spawned(next),
-            reply => reply,
-        }
+        self.call(self.before + place, call)
     }
 
-    // Connects the next client.
-    fn connect(&mut self) -> Reply
+    // Connects the next client. A refused connect changes nothing.
+    fn connect(&mut self) -> Result<(), Errno>
         requires before { self.old.before ≡ 0 }
         requires room { used self.old < 2 ^ 64 - 1 }
-        ensures connects { (s : Session) → StandsAt self.old s → (t : Session) × Connects s result t
-            × (result ≡ Reply.Done → StandsAt self.new (joined s t)) }
+        ensures ok { OnOk result ((s : Session) → StandsAt self.old s
+            → (t : Session) × Connects s Reply.Done t × StandsAt self.new (joined s t)) }
+        ensures err { IfErr result (λ errno. (s : Session) → StandsAt self.old s
+            → ((t : Session) × Connects s (Reply.Refused errno) t) × StandsAt self.new s) }
+        ensures spelled { IfErr result (λ errno. IsReply (Reply.Refused errno)) }
         ensures before { self.new.before ≡ 0 }
-        ensures clients { result ≡ Reply.Done → self.new.clients ≡ self.old.clients + 1 }
-        ensures answers { IsAnswer result }
+        ensures clients { OnOk result (self.new.clients ≡ self.old.clients + 1) }
         ensures numbers { used self.new ≤ used self.old + 2 }
     {
-        let next = self.clients + 1;
-        let reply = self.plain.apply(next, &Call::Connect, next);
-        if let Reply::Done = &reply {
-            self.clients = next;
+        if self.history.is_full() {
+            return Err(Errno::HistoryFull);
         }
-        reply
+        let next = self.clients + 1;
+        match self.plain.apply(next, &Call::Connect, next) {
+            Reply::Done => {}
+            Reply::Refused(errno) => return Err(errno),
+            _ => unreachable!(),
+        }
+        self.clients = next;
+        self.history.push(Entry {
+            client: next,
+            call: Call::Connect,
+            reply: Reply::Done,
+        });
+        Ok(())
     }
 
-    // Makes the calls of a client in turn, or tells the reply to the first that is refused.
-    fn make(&mut self, client: u64, calls: &[Call]) -> Result<(), Reply>
+    // Makes the calls of a client in turn, up to the first that is refused.
+    fn make(&mut self, client: u64, calls: Vec<Call>) -> Result<(), Answer>
         requires before { self.old.before ≡ 0 }
         requires first { 1 ≤ client }
         requires last { client ≤ self.old.clients }
-        requires calls { AreOthers calls.now }
-        requires room { used self.old + 2 * length calls.now < 2 ^ 64 - 1 }
+        requires calls { AreOthers calls.items }
+        requires room { used self.old + 2 * length calls.items < 2 ^ 64 - 1 }
         ensures ok { OnOk result ((s : Session) → StandsAt self.old s
-            → (t : Session) × Makes client s calls.now t × StandsAt self.new t) }
-        ensures err { IfErr result (λ reply. (s : Session) → StandsAt self.old s → Stops client s calls.now reply) }
-        ensures answers { IfErr result IsAnswer }
+            → (t : Session) × Makes client s calls.items t × StandsAt self.new t) }
+        ensures err { IfErr result (λ answer. (s : Session) → StandsAt self.old s
+            → (t : Session) × Stops client s calls.items (written self.new answer) t × StandsAt self.new t) }
+        ensures spelled { IfErr result (λ answer. IsReply (written self.new answer)) }
         ensures before { self.new.before ≡ 0 }
         ensures clients { self.old.clients ≤ self.new.clients }
-        ensures numbers { used self.new ≤ used self.old + 2 * length calls.now }
+        ensures numbers { used self.new ≤ used self.old + 2 * length calls.items }
     {
         for call in calls {
-            let reply = self.call(client, call);
-            if is_refused(&reply) {
-                return Err(reply);
+            let answer = self.call(client, call);
+            if self.is_refused(answer) {
+                return Err(answer);
             }
         }
         Ok(())
     }
 
     /// Connects the next client, and makes its calls.
-    pub fn bring(&mut self, calls: &[Call]) -> Result<(), Refusal>
+    pub fn bring(&mut self, calls: Vec<Call>) -> Result<(), Refusal>
         requires before { self.old.before ≡ 0 }
-        requires calls { AreOthers calls.now }
+        requires calls { AreOthers calls.items }
         requires room { used self.old < 2 ^ 62 }
         ensures ok { OnOk result ((s : Session) → StandsAt self.old s
-            → (t : Session) × Comes s calls.now (made t) × StandsAt self.new t) }
+            → (t : Session) × Comes s calls.items (made t) × StandsAt self.new t) }
         ensures err { IfErr result (λ refusal. (s : Session) → StandsAt self.old s
-            → Comes s calls.now (coming_in refusal)) }
-        ensures answers { IfErr result (λ refusal. IsAnswer refusal.reply) }
+            → (t : Session) × Comes s calls.items (coming_in self.new refusal t) × StandsAt self.new t) }
+        ensures spelled { IfErr result (λ refusal. IsReply (written self.new (answer_in refusal))) }
         ensures before { self.new.before ≡ 0 }
         ensures clients { OnOk result (self.old.clients < self.new.clients) }
         ensures numbers { used self.new ≤ used self.old + 2 ^ 60 }
     {
         let client = self.clients + 1;
         match self.connect() {
-            Reply::Done => {}
-            reply => {
-                return Err(Refusal {
-                    at_connect: true,
-                    reply,
-                });
+            Ok(()) => {}
+            Err(errno) => {
+                drop(calls);
+                return Err(Refusal::AtConnect(errno));
             }
         }
         match self.make(client, calls) {
             Ok(()) => Ok(()),
-            Err(reply) => Err(Refusal {
-                at_connect: false,
-                reply,
-            }),
+            Err(answer) => Err(Refusal::AtCall(answer)),
         }
     }
 
     /// Connects a loader, if there is one, and makes its calls.
-    pub fn load(&mut self, loader: &Option<Vec<Call>>) -> Result<(), Refusal>
+    pub fn load(&mut self, loader: Option<Vec<Call>>) -> Result<(), Refusal>
         requires before { self.old.before ≡ 0 }
-        requires calls { IfSome loader.now (λ calls. AreOthers calls.items) }
+        requires calls { IfSome loader (λ calls. AreOthers calls.items) }
         requires room { used self.old < 2 ^ 62 }
         ensures ok { OnOk result ((s : Session) → StandsAt self.old s
-            → (t : Session) × Loads s loader.now (made t) × StandsAt self.new t) }
+            → (t : Session) × Loads s loader (made t) × StandsAt self.new t) }
         ensures err { IfErr result (λ refusal. (s : Session) → StandsAt self.old s
-            → Loads s loader.now (coming_in refusal)) }
-        ensures answers { IfErr result (λ refusal. IsAnswer refusal.reply) }
+            → (t : Session) × Loads s loader (coming_in self.new refusal t) × StandsAt self.new t) }
+        ensures spelled { IfErr result (λ refusal. IsReply (written self.new (answer_in refusal))) }
         ensures before { self.new.before ≡ 0 }
         ensures numbers { used self.new ≤ used self.old + 2 ^ 60 }
     {
         match loader {
-            Some(calls) => self.bring(calls.as_slice()),
+            Some(calls) => self.bring(calls),
             None => Ok(()),
         }
+    }
+
+    /// The history, of which each entry has a spelling.
+    pub fn into_history(self) -> History
+        ensures history { result ≡ self.history }
+        ensures entries { All IsEntry result.entries }
+    {
+        self.history
     }
 
     /// The tree of a session that begins after so many clients.
@@ -212,6 +265,7 @@ impl SessionTree {
         SessionTree {
             clients: self.clients - before,
             plain: self.plain,
+            history: self.history,
             before,
         }
     }

@@ -16,7 +16,7 @@
 //! | ll_plain | `Plain::new`, each call of `Plain::apply` | `Plain::reach`, which takes none: `plain` |
 //! | ll_wire | `read_command`, `reply_text` | `command_text`, `read_reply`: `wire`; entries and headers: `saved` |
 //! | ll_policy | | all of `Policy`: `policy` |
-//! | ll_audit, ll_saved | | `audit`, `judge`, `Verdict::text`: `saved` |
+//! | ll_audit, ll_saved | all but `audit` | `audit`; `save`, `run_audit` with devices that fail: `saved` |
 //! | ll_journal | | `Journal::new`: `saved` |
 //! | ll_session | `run_script` | with devices that fail: `session` |
 //!

@@ -2,12 +2,13 @@
 
 ghost use Rattle.std.specs.Prelude.{◌≡◌};
 
+use crate::fuse::{Sink, Source};
 use ll_audit::audit;
 use ll_journal::Journal;
 use ll_rights::Abi;
-use ll_saved::judge;
+use ll_saved::{AuditFailure, SaveFault, Untold, Verdict, run_audit, save};
 use ll_seq::{Call, Entry, History, Reply, Rules};
-use ll_wire::{Header, Version, entry_text, header_text};
+use ll_wire::{Header, Version};
 use std::alloc::Global;
 
 const RULES: Rules = Rules {
@@ -188,13 +189,10 @@ landtree-history 9 nodes 64\n",
 ];
 
 fn is_answered(alloc: Global, file: &str, want: &str) -> bool {
-    let Ok(verdict) = judge(alloc, file.as_bytes()) else {
-        return false;
-    };
-    match verdict.text(alloc) {
-        Ok(text) => text.as_str() == want,
-        Err(_) => false,
-    }
+    let mut rest = file.as_bytes();
+    let mut told = Vec::new(alloc);
+    let ended = run_audit(alloc, &mut rest, &mut told, &mut Untold);
+    ended.is_ok() && told.as_slice() == want.as_bytes()
 }
 
 #[test]
@@ -214,24 +212,99 @@ fn connect() -> Entry
     }
 }
 
-fn header_is_written(alloc: Global) -> bool {
-    let header = Header {
-        version: Version::Three(Abi::NEWEST),
-        nodes: 64,
-    };
-    match header_text(alloc, header) {
-        Ok(text) => text.as_str() == "landtree-history 3 nodes 64 abi 3\n",
-        Err(_) => false,
+const HEADER: Header = Header {
+    version: Version::Three(Abi::NEWEST),
+    nodes: 64,
+};
+
+const SAVED: &[u8] = b"\
+landtree-history 3 nodes 64 abi 3
+1 connect = ok
+";
+
+const ANSWER: &[u8] = b"legal 1\n";
+
+/// So many calls are never made.
+const ENOUGH: usize = 1_000_000;
+
+fn sink(alloc: Global, writes: usize) -> Sink {
+    Sink {
+        held: Vec::new(alloc),
+        calls: writes,
+        failures: 0,
     }
 }
 
-fn entry_is_written(alloc: Global) -> bool {
-    let entry = connect();
-    let text = entry_text(alloc, &entry);
-    drop(entry);
-    match text {
-        Ok(text) => text.as_str() == "1 connect = ok\n",
-        Err(_) => false,
+/// Saves a history of a connect by a writer that takes so many writes before it fails.
+fn saved(alloc: Global, writes: usize) -> (Result<(), SaveFault>, Sink) {
+    let mut writer = sink(alloc, writes);
+    let entries = [connect()];
+    let ended = save(alloc, HEADER, &entries, &mut writer);
+    drop(entries);
+    (ended, writer)
+}
+
+/// Whether the write after so many fails once and ends the saving, and what came before it is right.
+fn stops_saving(alloc: Global, writes: usize) -> bool {
+    let (ended, writer) = saved(alloc, writes);
+    if writes >= SAVED.len() {
+        return ended.is_ok() && writer.failures == 0 && writer.held.as_slice() == SAVED;
+    }
+    ended == Err(SaveFault::Write)
+        && writer.failures == 1
+        && writer.held.as_slice() == &SAVED[..writes]
+}
+
+#[test]
+fn saving_stops_at_a_failed_write(rt: HostRuntime) {
+    for writes in 0..SAVED.len() + 2 {
+        assert!(rt; stops_saving(rt.alloc(), writes), "after {writes} writes");
+    }
+}
+
+/// Audits the history by devices that take so many calls before they fail.
+fn audited(alloc: Global, reads: usize, writes: usize) -> (Result<Verdict, AuditFailure>, Sink) {
+    let mut reader = Source {
+        rest: SAVED,
+        calls: reads,
+    };
+    let mut writer = sink(alloc, writes);
+    let ended = run_audit(alloc, &mut reader, &mut writer, &mut Untold);
+    (ended, writer)
+}
+
+/// Whether the read after so many fails and ends the audit without an answer.
+fn stops_reading(alloc: Global, reads: usize) -> bool {
+    let (ended, writer) = audited(alloc, reads, ENOUGH);
+    if reads > SAVED.len() {
+        return ended == Ok(Verdict::Legal(1)) && writer.held.as_slice() == ANSWER;
+    }
+    ended == Err(AuditFailure::Read) && writer.held.is_empty()
+}
+
+/// Whether the write after so many fails and ends the audit, and what came before it is right.
+fn stops_answering(alloc: Global, writes: usize) -> bool {
+    let (ended, writer) = audited(alloc, ENOUGH, writes);
+    if writes >= ANSWER.len() {
+        return ended == Ok(Verdict::Legal(1)) && writer.held.as_slice() == ANSWER;
+    }
+    ended == Err(AuditFailure::Write) && writer.held.as_slice() == &ANSWER[..writes]
+}
+
+#[test]
+fn audits_stop_at_a_failed_read(rt: HostRuntime) {
+    for reads in 0..SAVED.len() + 2 {
+        assert!(rt; stops_reading(rt.alloc(), reads), "after {reads} reads");
+    }
+}
+
+#[test]
+fn audits_stop_at_a_failed_write(rt: HostRuntime) {
+    for writes in 0..ANSWER.len() + 2 {
+        assert!(rt;
+            stops_answering(rt.alloc(), writes),
+            "after {writes} writes"
+        );
     }
 }
 
@@ -257,8 +330,6 @@ fn opens(alloc: Global) -> bool {
 
 #[test]
 fn histories(rt: HostRuntime) {
-    assert!(rt; header_is_written(rt.alloc()));
-    assert!(rt; entry_is_written(rt.alloc()));
     assert!(rt; is_audited(rt.alloc()));
     assert!(rt; opens(rt.alloc()));
 }

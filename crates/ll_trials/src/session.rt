@@ -5,7 +5,7 @@
 
 use crate::fuse::{Sink, Source};
 use ll_rights::Abi;
-use ll_seq::Rules;
+use ll_seq::{History, Rules};
 use ll_session::{RunFault, SessionFault, Setup, run_script};
 use std::alloc::Global;
 
@@ -16,6 +16,7 @@ fn setup(alloc: Global) -> Setup {
             copies: true,
         },
         nodes: 1024,
+        history: 10,
         loader: None,
         profile: Vec::new(alloc),
     }
@@ -57,9 +58,9 @@ enum Ended {
     Otherwise,
 }
 
-fn how(ended: &Result<(), RunFault>) -> Ended {
+fn how(ended: &Result<History, RunFault>) -> Ended {
     match ended {
-        Ok(()) => Ended::Well,
+        Ok(_) => Ended::Well,
         Err(RunFault::Session(SessionFault::Read)) => Ended::ReadFailed,
         Err(RunFault::Session(SessionFault::Write)) => Ended::WriteFailed,
         Err(_) => Ended::Otherwise,
@@ -77,10 +78,10 @@ fn run(alloc: Global, reads: usize, writes: usize) -> (Ended, Sink) {
         calls: writes,
         failures: 0,
     };
-    let setup = setup(alloc);
-    let ended = run_script(alloc, &setup, &mut reader, &mut writer);
-    drop(setup);
-    (how(&ended), writer)
+    let ended = run_script(alloc, setup(alloc), &mut reader, &mut writer);
+    let how = how(&ended);
+    drop(ended);
+    (how, writer)
 }
 
 /// How many bytes are written before the read after so many fails, where it does and they are right.

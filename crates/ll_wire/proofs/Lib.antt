@@ -2,6 +2,7 @@ pub mod FirstTokens
 pub mod NamedClients
 pub mod Digits
 pub mod EntryTokens
+pub mod Facts
 pub mod Fronts
 pub mod Headers
 pub mod Joined
@@ -9,10 +10,10 @@ pub mod Lines
 pub mod NamesInOrder
 pub mod ParsedNumbers
 pub mod OneReply
+pub mod CutStreams
 pub mod ReadReplies
 pub mod Rights
 pub mod Sizes
 pub mod Targets
 pub mod Tokens
 pub mod Unique
-pub mod CutStreams

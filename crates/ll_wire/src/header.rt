@@ -1,7 +1,8 @@
 //! The first line of a history.
 
 ghost use Rattle.std.specs.Prelude.{◌≡◌, ◌≤◌, [], ◌∷◌, map, codes, decimal, IfOk, MatchOption, string_bytes};
-ghost use Rattle.ll_wire.specs.Entries.{IsHeader, SpellsHeader};
+ghost use Rattle.ll_rights.specs.declared.limits.TheConstants.{TREE_NODES};
+ghost use Rattle.ll_wire.specs.Entries.{SpellsHeader};
 ghost use Rattle.ll_wire.specs.EntryParts.{SpellsNodes, SpellsLevel, SpellsVersion, SpellsHeaderTokens};
 ghost use Rattle.ll_wire.specs.Reads.{Finds};
 
@@ -24,7 +25,7 @@ pub enum Version {
 }
 
 impl Version {
-    ghost use Rattle.ll_wire.specs.Entries.{version_rules, version_text, level_tokens};
+    ghost use Rattle.ll_wire.specs.Entries.{version_rules, version_text, level_tokens, IsVersion};
 
     /// What the history's tree was opened with.
     pub fn rules(self) -> Rules
@@ -50,8 +51,9 @@ impl Version {
 
     // The level's number, where the version tells it.
     fn level(self) -> Option<u64>
-        ensures { MatchOption result (level_tokens self ≡ [])
+        ensures tokens { MatchOption result (level_tokens self ≡ [])
             (λ abi. level_tokens self ≡ codes "abi" ∷ decimal abi ∷ []) }
+        ensures version { IsVersion self }
     {
         match self {
             Version::One => None,
@@ -121,7 +123,8 @@ pub fn read_header(line: &[u8]) -> Option<Header>
 
 /// The one spelling of a header.
 pub fn header_text(alloc: Global, header: Header) -> Result<String, AllocError>
-    requires { IsHeader header }
+    requires some { 1 ≤ header.nodes }
+    requires most { header.nodes ≤ TREE_NODES }
     ensures { IfOk result (λ text. SpellsHeader (string_bytes text) header) }
 {
     let version = header.version.text();

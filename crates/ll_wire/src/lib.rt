@@ -8,6 +8,7 @@ mod grammar;
 mod header;
 mod read;
 mod replies;
+mod spelled;
 mod token;
 mod write;
 
@@ -16,4 +17,5 @@ pub use grammar::{entries_fit, spells_one, spells_one_entry, spells_one_header, 
 pub use header::{Header, Version, header_text, read_header};
 pub use read::{LINE_LIMIT, read_command};
 pub use replies::read_reply;
+pub use spelled::{is_entered, is_spelled};
 pub use write::{command_text, reply_text};

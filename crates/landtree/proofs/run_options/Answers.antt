@@ -1,8 +1,8 @@
-use Rattle.std.proofs.Common.{inr}
-use Rattle.std.proofs.lemmas.Result.{IfErr-weaker}
+use Rattle.std.proofs.Common.{inl, inr}
 use Rattle.landtree.proofs.run_options.Goals as goal
 
-pub returns : goal.returns
-returns c =
+pub returns-in-Err : goal.returns-in-Err
+returns-in-Err c =
     let s = c.in_ok-setup.ensures.setup in
-    IfErr-weaker c.run_setup.result _ _ (λ failure h. (s.0, inr (c.in_ok-setup.setup, s.2, h.0, h.1, h.2))) c.run_setup.ensures
+    let h = c.in-Err.ensures.failure in
+    (s.0, inr (inl (c.in_ok-setup.setup, s.2, h.0, h.1, h.2)))

@@ -6,7 +6,7 @@ use Rattle.landtree.proofs.policy.setup_of.Goals as goal
 pub returns-then-is_none-clause-setup : goal.returns-then-is_none-clause-setup
 returns-then-is_none-clause-setup g c =
     let text = a_text (g.R.Read.remaining c.args.file.now) in
-    (text.0, text.1, (c.by_level.ensures.nodes, set_by_level c.args.options.now text.0 c.by_level.result c.if-is_none.ensures c.by_level.ensures.setup))
+    (text.0, text.1, (c.by_level.ensures.nodes, c.by_level.ensures.history, set_by_level c.args.options.now text.0 c.by_level.result c.if-is_none.ensures c.by_level.ensures.setup))
 
 pub returns-in-Err-clause-failure : goal.returns-in-Err-clause-failure
 returns-in-Err-clause-failure g c =

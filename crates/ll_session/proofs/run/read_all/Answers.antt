@@ -4,6 +4,7 @@ use Rattle.std.proofs.lemmas.Bool.{eqb-false, eqb-true}
 use Rattle.ll_session.specs.Progress.{Progress}
 use Rattle.ll_session.proofs.Writing.{gave, at_end, fewer_left, some}
 use Rattle.ll_session.proofs.Advance.{stops}
+use Rattle.ll_session.proofs.Legal.{then_sound}
 use Rattle.ll_session.proofs.run.read_all.Goals as goal
 
 pub returns-in-Err-clause-err : goal.returns-in-Err-clause-err
@@ -32,6 +33,7 @@ returns-clause-err g c first input old e p =
 pub loop-read-preserved : goal.loop-read-preserved
 loop-read-preserved g c = record {
   numbers = omega (arith, c.in_default.ensures.numbers, c.in-Ok.ensures.most, c.loop-read.invariant.numbers);
+  sound = then_sound _ c.loop-read.session.tree _ c.loop-read.invariant.sound c.in_default.ensures.sound;
   progress = λ first input old e p.
       let i = c.loop-read.invariant.progress first input old e p in
       let a = gave _ (g.R.Read.remaining c.read_some.new.reader) i.0 _ i.1 c.in-Ok.ensures.bytes in
@@ -39,4 +41,15 @@ loop-read-preserved g c = record {
   bytes = λ input e.
       let f = fewer_left _ (g.R.Read.remaining c.read_some.new.reader) input _ _ (c.loop-read.invariant.bytes input e) c.in-Ok.ensures.bytes (some _ (eqb-false _ _ (sym c.if-is_empty.ensures))) in
       (f.0, f.1, omega (arith, f.2));
+}
+
+pub returns-in-Err-take_bytes-clause-sound : goal.returns-in-Err-take_bytes-clause-sound
+returns-in-Err-take_bytes-clause-sound g c = then_sound _ c.loop-read.session.tree _ c.loop-read.invariant.sound c.in-Err-take_bytes.ensures.sound
+
+pub loop-read-init : goal.loop-read-init
+loop-read-init g c = record {
+  numbers = omega (arith, c.requires.room);
+  sound = λ empty s stands sound. (s, stands, sound);
+  progress = λ first input old e p. (input, e, p);
+  bytes = λ input e. (input, e, omega arith);
 }

@@ -3,5 +3,5 @@ use Rattle.ll_path.specs.Path.{path_text}
 use Rattle.ll_path.proofs.PathLemmas.{path_text-names_in}
 use Rattle.ll_path.proofs.path.Path.as_str.Goals as goal
 
-pub returns : goal.returns
-returns c = c.as_str.ensures.text ∙ sym (path_text-names_in _ c.self.invariant) ∙ ap path_text c.self.view_is
+pub returns-clause-text : goal.returns-clause-text
+returns-clause-text c = c.as_str.ensures.text ∙ sym (path_text-names_in _ c.self.invariant) ∙ ap path_text c.self.view_is

@@ -1,5 +1,6 @@
 use Rattle.std.proofs.Common.{List, ℕ, ◌∙◌, subst}
 use Rattle.ll_wire.specs.Grammar.{SpellsCommand}
+use Rattle.ll_session.specs.Progress.{written}
 use Rattle.ll_session.proofs.Cuts.{kept}
 use Rattle.ll_session.proofs.Replies.{answered_by, spells_none, too_long, not_read}
 use Rattle.ll_session.proofs.session.OpenSession.reply.Goals as goal
@@ -10,7 +11,7 @@ returns-then-self-clause-answers c s piece held stands = spells_none s piece _ (
 pub returns-in-Ok-clause-answers : goal.returns-in-Ok-clause-answers
 returns-in-Ok-clause-answers c s piece held stands =
     let same = c.deref.ensures.value ∙ kept c.args.self.now.line piece c.if-self.false held in
-    answered_by s piece c.in-Ok.place c.args.self.now.tree.clients c.in-Ok.call c.call_at.result c.call_at.new.self
+    answered_by s piece c.in-Ok.place c.args.self.now.tree.clients c.in-Ok.call (written c.call_at.new.self c.call_at.result) c.call_at.new.self
     (subst (λ (p : List ℕ). SpellsCommand p c.in-Ok.place c.in-Ok.call) same c.in-Ok.ensures.0, c.in-Ok.ensures.1) (c.call_at.ensures.called s stands)
 
 pub returns-in-Err-clause-answers : goal.returns-in-Err-clause-answers

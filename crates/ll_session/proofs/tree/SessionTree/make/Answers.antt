@@ -1,62 +1,55 @@
-use Rattle.std.proofs.Common.{◌≡◌, ◌∙◌, ◌+◌, ◌∷◌, ap, sym, subst, refl, arith, inl, inr, drop, drop-cons, true, false, suc, List, []}
+use Rattle.std.proofs.Common.{◌≡◌, ◌∙◌, ◌+◌, ◌∷◌, ◌++◌, ap, sym, subst, refl, arith, inl, inr, drop, length, true, false, List, []}
+use Rattle.std.proofs.lemmas.Iterator.Adapters.{YieldsList-from_vec}
+use Rattle.std.proofs.lemmas.Iterator.Consumers.{YieldsList-turn, YieldsList-end}
 use Rattle.std.proofs.lemmas.List.{drop_all}
 use Rattle.ll_seq.specs.declared.call.Call.{Call}
 use Rattle.ll_plain.specs.Refusal.{is_refusal}
 use Rattle.ll_session.specs.Opening.{Makes, Stops}
-use Rattle.ll_session.proofs.Replies.{called}
+use Rattle.ll_session.specs.Progress.{told_by, written}
+use Rattle.ll_session.proofs.Coming.{next_call}
+use Rattle.ll_session.proofs.Replies.{placed_refusal}
 use Rattle.ll_session.proofs.tree.SessionTree.make.Goals as goal
 
 pub loop-call-preserved : goal.loop-call-preserved
-loop-call-preserved c = record {
-  numbers = omega (arith, c.call-reply.ensures.numbers, c.loop-call.invariant.numbers);
-  alone = c.call-reply.ensures.before ∙ c.loop-call.invariant.alone;
-  clients = omega (arith, c.call-reply.ensures.clients, c.loop-call.invariant.clients);
-  goes = λ s stands.
-      let i = c.loop-call.invariant.goes s stands in
-      let call = c.call-item.result in
-      let made = called i.0 c.loop-call.self c.call-reply.new.self c.args.client call c.call-reply.result i.1 (record {
-        free = c.call-reply.ensures.fresh;
-        step = c.call-reply.ensures.step;
-        no_memory = c.call-reply.ensures.no_memory;
-        starved = c.call-reply.ensures.starved;
-        memory = c.call-reply.ensures.memory;
-        before_stays = c.call-reply.ensures.before;
-        clients = c.call-reply.ensures.clients;
-        spawned = c.call-reply.ensures.spawned;
-      }) in
-      let split : drop c.loop-call.call-index c.args.calls.now ≡ call ∷ drop (c.loop-call.call-index + 1) c.args.calls.now =
-      drop-cons c.args.calls.now c.loop-call.call-index call c.loop-call-test.true ∙ ap (λ x. x ∷ drop (suc c.loop-call.call-index) c.args.calls.now) (sym c.call-item.is)
-      ∙ ap (λ n. call ∷ drop n c.args.calls.now) (let more : suc c.loop-call.call-index ≡ c.loop-call.call-index + 1 = omega arith in more) in
-      let quiet : is_refusal c.call-reply.result ≡ false = (let e = c.if-is_refused.ensures in cc) in (
-        made.0,
-        made.2,
-        λ t rest. i.2 t (subst (λ (l : List Call). Makes c.args.client i.0 l t) (sym split) (c.call-reply.result, made.0, made.1, quiet, rest)),
-        λ reply rest. i.3 reply (subst (λ (l : List Call). Stops c.args.client i.0 l reply) (sym split) (c.call-reply.result, made.0, made.1, inr (quiet, rest))),
-      );
-}
+loop-call-preserved c =
+    let all = YieldsList-from_vec c.args.calls.items c.into_iter-call-iterator.ensures.into_iter_gives.0 (c.into_iter-call-iterator.ensures.into_iter_gives.1 ∙ c.args.calls.ok.0) in
+    let turn = YieldsList-turn all c.loop-call.yielded c.loop-call.call-iterator c.loop-call.yielded_by c.next.result c.next.new.self c.in-Some.call c.in-Some.is c.next.ensures.steps in
+    let split = next_call c.args.calls.items c.loop-call.yielded c.in-Some.call turn in
+    let quiet : is_refusal (told_by c.call-answer.new.self c.call-answer.result) ≡ false = sym c.is_refused.ensures ∙ c.if-is_refused.false in
+    record {
+      numbers = omega (arith, c.call-answer.ensures.numbers, c.loop-call.invariant.numbers, split.1);
+      alone = c.call-answer.ensures.before ∙ c.loop-call.invariant.alone;
+      clients = omega (arith, c.call-answer.ensures.clients, c.loop-call.invariant.clients);
+      goes = λ s stands.
+          let i = c.loop-call.invariant.goes s stands in
+          let made = c.call-answer.ensures.called i.0 i.1 in (
+            made.0,
+            made.2,
+            λ t rest. i.2 t (subst (λ (l : List Call). Makes c.args.client i.0 l t) (sym split.0) (told_by c.call-answer.new.self c.call-answer.result, made.0, made.1, quiet, rest)),
+            λ reply t rest. i.3 reply t (subst (λ (l : List Call). Stops c.args.client i.0 l reply t) (sym split.0) (told_by c.call-answer.new.self c.call-answer.result, made.0, made.1, inr (quiet, rest))),
+          );
+    }
 
 pub returns-then-is_refused-clause-err : goal.returns-then-is_refused-clause-err
 returns-then-is_refused-clause-err c s stands =
+    let all = YieldsList-from_vec c.args.calls.items c.into_iter-call-iterator.ensures.into_iter_gives.0 (c.into_iter-call-iterator.ensures.into_iter_gives.1 ∙ c.args.calls.ok.0) in
+    let turn = YieldsList-turn all c.loop-call.yielded c.loop-call.call-iterator c.loop-call.yielded_by c.next.result c.next.new.self c.in-Some.call c.in-Some.is c.next.ensures.steps in
+    let split = next_call c.args.calls.items c.loop-call.yielded c.in-Some.call turn in
+    let loud : is_refusal (told_by c.call-answer.new.self c.call-answer.result) ≡ true = sym c.is_refused.ensures ∙ c.if-is_refused.true in
     let i = c.loop-call.invariant.goes s stands in
-    let call = c.call-item.result in
-    let made = called i.0 c.loop-call.self c.call-reply.new.self c.args.client call c.call-reply.result i.1 (record {
-      free = c.call-reply.ensures.fresh;
-      step = c.call-reply.ensures.step;
-      no_memory = c.call-reply.ensures.no_memory;
-      starved = c.call-reply.ensures.starved;
-      memory = c.call-reply.ensures.memory;
-      before_stays = c.call-reply.ensures.before;
-      clients = c.call-reply.ensures.clients;
-      spawned = c.call-reply.ensures.spawned;
-    }) in
-    let split : drop c.loop-call.call-index c.args.calls.now ≡ call ∷ drop (c.loop-call.call-index + 1) c.args.calls.now =
-    drop-cons c.args.calls.now c.loop-call.call-index call c.loop-call-test.true ∙ ap (λ x. x ∷ drop (suc c.loop-call.call-index) c.args.calls.now) (sym c.call-item.is)
-    ∙ ap (λ n. call ∷ drop n c.args.calls.now) (let more : suc c.loop-call.call-index ≡ c.loop-call.call-index + 1 = omega arith in more) in
-    let loud : is_refusal c.call-reply.result ≡ true = (let e = c.if-is_refused.ensures in cc) in
-    i.3 c.call-reply.result (subst (λ (l : List Call). Stops c.args.client i.0 l c.call-reply.result) (sym split) (c.call-reply.result, made.0, made.1, inl (loud, refl)))
+    let made = c.call-answer.ensures.called i.0 i.1 in
+    let same : written c.call-answer.new.self c.call-answer.result ≡ told_by c.call-answer.new.self c.call-answer.result = placed_refusal c.call-answer.new.self.clients (told_by c.call-answer.new.self c.call-answer.result) loud in (
+      made.0,
+      i.3 (written c.call-answer.new.self c.call-answer.result) made.0
+          (subst (λ (l : List Call). Stops c.args.client i.0 l (written c.call-answer.new.self c.call-answer.result) made.0) (sym split.0)
+          (told_by c.call-answer.new.self c.call-answer.result, made.0, made.1, inl (loud, same, refl))),
+      made.2,
+    )
 
 pub returns-clause-ok : goal.returns-clause-ok
 returns-clause-ok c s stands =
+    let all = YieldsList-from_vec c.args.calls.items c.into_iter-call-iterator.ensures.into_iter_gives.0 (c.into_iter-call-iterator.ensures.into_iter_gives.1 ∙ c.args.calls.ok.0) in
+    let end = YieldsList-end all c.loop-call.yielded c.loop-call.call-iterator c.loop-call.yielded_by c.next.result c.next.new.self c.in-None.is c.next.ensures.steps in
     let i = c.loop-call.invariant.goes s stands in
-    let ended : drop c.loop-call.call-index c.args.calls.now ≡ [] = drop_all c.loop-call.call-index c.args.calls.now (omega (arith, c.loop-call-test.false)) in
+    let ended : drop (length c.loop-call.yielded) c.args.calls.items ≡ [] = drop_all (length c.loop-call.yielded) c.args.calls.items (omega (arith, end.1)) in
     (i.0, i.2 i.0 (subst (λ (l : List Call). Makes c.args.client i.0 l i.0) (sym ended) refl), i.1)

@@ -1,4 +1,4 @@
-use Rattle.std.proofs.Common.{◌≡◌, ◌+◌, ◌*◌, ◌≤◌, drop}
+use Rattle.std.proofs.Common.{◌≡◌, ◌+◌, ◌*◌, ◌≤◌, drop, length}
 use Rattle.ll_seq.specs.declared.reply.Reply.{Reply}
 use Rattle.ll_session.specs.Transcript.{Session}
 use Rattle.ll_session.specs.Opening.{Makes, Stops}
@@ -7,10 +7,10 @@ use Rattle.ll_session.proofs.tree.SessionTree.make.Given as goal
 
 abbrev pub invariant-loop-call : goal.invariant-loop-call
 invariant-loop-call l = record {
-  numbers : used l.self ≤ used l.fn.self + 2 * l.call-index;
+  numbers : used l.self ≤ used l.fn.self + 2 * length l.yielded;
   alone : l.self.before ≡ 0;
   clients : l.fn.self.clients ≤ l.self.clients;
   goes : (s : Session) → StandsAt l.fn.self s → (mid : Session) × StandsAt l.self mid
-      × ((t : Session) → Makes l.client mid (drop l.call-index l.calls) t → Makes l.client s l.calls t)
-      × ((reply : Reply) → Stops l.client mid (drop l.call-index l.calls) reply → Stops l.client s l.calls reply);
+      × ((t : Session) → Makes l.client mid (drop (length l.yielded) l.fn.calls.items) t → Makes l.client s l.fn.calls.items t)
+      × ((reply : Reply) (t : Session) → Stops l.client mid (drop (length l.yielded) l.fn.calls.items) reply t → Stops l.client s l.fn.calls.items reply t);
 }

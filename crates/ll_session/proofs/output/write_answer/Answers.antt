@@ -1,7 +1,7 @@
 use Rattle.std.proofs.Common.{subst, List, ℕ, ◌∙◌}
 use Rattle.std.proofs.lemmas.Result.{on_err_weaker}
 use Rattle.ll_session.specs.Progress.{AppendsFront}
-use Rattle.ll_session.proofs.output.write_reply.Goals as goal
+use Rattle.ll_session.proofs.output.write_answer.Goals as goal
 
 pub returns-clause-err : goal.returns-clause-err
 returns-clause-err g c = on_err_weaker c.write_text.result
