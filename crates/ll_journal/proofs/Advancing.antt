@@ -3,6 +3,7 @@ use Rattle.std.specs.Prelude.{◌≡◌, ℕ, Bool, true, false, cond, not, ◌&
 use Rattle.std.specs.Option.{option_map_or}
 use Rattle.std.specs.List.{list_any}
 use Rattle.std.proofs.Common.{sym, ap, ◌∙◌}
+use Rattle.ll_rights.specs.declared.errno.Errno.{Errno}
 use Rattle.ll_rights.specs.declared.errno.Errno.TheVariants.{HistoryFull}
 use Rattle.ll_rights.specs.Kind.{is_dir}
 use Rattle.ll_rights.specs.Map.{get}
@@ -227,4 +228,8 @@ join_full w full = ap (λ b. comes w (cond b (Refused HistoryFull, w) (reply_to 
 
 pub join_done : (w : World) → is_full w ≡ false → reply_to w (next_number w) Connect ≡ Done → advance w Join ≡ (Joined (next_number w), with_entry w (next_number w) Connect Done)
 join_done w room answer = ap (λ b. comes w (cond b (Refused HistoryFull, w) (reply_to w (next_number w) Connect, with_entry w (next_number w) Connect (reply_to w (next_number w) Connect)))) room
+    ∙ ap (λ r. joined w r (with_entry w (next_number w) Connect r)) answer
+
+pub join_refused : (w : World) (e : Errno) → is_full w ≡ false → reply_to w (next_number w) Connect ≡ Refused e → advance w Join ≡ (Replied (Refused e), w)
+join_refused w e room answer = ap (λ b. comes w (cond b (Refused HistoryFull, w) (reply_to w (next_number w) Connect, with_entry w (next_number w) Connect (reply_to w (next_number w) Connect)))) room
     ∙ ap (λ r. joined w r (with_entry w (next_number w) Connect r)) answer

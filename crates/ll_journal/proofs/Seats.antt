@@ -1,5 +1,5 @@
 -- What a walk's moves make of its seat.
-use Rattle.std.specs.Prelude.{◌≡◌, ℕ, zero, suc, ◌+◌, ◌-◌, ◌<◌, ◌≤◌, Bool, true, false, cond, List, [], ◌∷◌, ◌++◌, length, map, Option, Some, None, is_none, is_some, unwrap_or, ◌&&◌, option_map, option_and_then, slice_get, slice_index_or, take, drop, IsSome, IfSome, refl, ⊤}
+use Rattle.std.specs.Prelude.{◌≡◌, ℕ, zero, suc, ◌+◌, ◌-◌, ◌<◌, ◌≤◌, Bool, true, false, cond, List, [], ◌∷◌, ◌++◌, length, Option, Some, None, is_none, is_some, unwrap_or, ◌&&◌, option_map, option_and_then, slice_get, slice_index_or, take, drop, IsSome, IfSome, refl, ⊤}
 use Rattle.std.specs.Borrow.{Bor}
 use Rattle.std.specs.Option.{option_map_or}
 use Rattle.std.proofs.Common.{sym, subst, ap, ◌∙◌, arith, length-append}
@@ -9,7 +9,7 @@ use Rattle.ll_path.specs.Path.{Path, common, parent, is_root}
 use Rattle.ll_seq.specs.declared.call.Call.{Call}
 use Rattle.ll_seq.specs.Call.{first_path, second_path}
 use Rattle.ll_seq.specs.State.{Name, root}
-use Rattle.ll_walks.specs.Walk.{Leg, Position, Above, Down, Split, Walk, trunk_path, first_leg, leg_below, masks_below, turn, with_turn, has_two_paths, forked, toward}
+use Rattle.ll_walks.specs.Walk.{Leg, Position, Down, Split, Walk, trunk_path, first_leg, masks_below, turn, with_turn, has_two_paths, forked, toward}
 use Rattle.ll_walks.proofs.CarriedMasks.{masks_above, masks_down}
 use Rattle.ll_walks.proofs.Ways.{common_left, common_right}
 use Rattle.ll_journal.specs.declared.seat.Leg as kept
@@ -18,8 +18,10 @@ use Rattle.ll_journal.specs.declared.seat.Stage.TheVariants as stage
 use Rattle.ll_journal.specs.declared.seat.Turn.{Turn}
 use Rattle.ll_journal.specs.declared.seat.Turn.TheVariants as turns
 use Rattle.ll_journal.specs.declared.seat.Seat.TheInside.{Inside}
+use Rattle.ll_journal.specs.declared.place.Place.TheVariants as place
 use Rattle.ll_journal.specs.Book as book
-use Rattle.ll_journal.specs.Seated.{granted, depth_of, last_of, leg_of, position_at, seat_of, Fits, FitSplit, FitAt, AreShort, StandsAt, turn_at, next_of, next_in, here_in, entered, lower, gone_down, split}
+use Rattle.ll_journal.specs.Places.{place_at, place_of}
+use Rattle.ll_journal.specs.Seated.{granted, depth_of, last_of, leg_of, position_at, seat_of, Fits, FitSplit, FitAt, AreShort, StandsAt, turn_at, next_in, here_in, entered, lower, gone_down, split}
 
 -- ---- the root
 
@@ -311,10 +313,10 @@ module _ (seat : Inside) (call : Call) (is : seat.call ≡ Some call) (fit : IfS
   one_leg : (target : Path) → (more : Path) × (trunk_path call ++ more ≡ parent target) → leg_of seat.client.domain (parent target) chain ≡ toward trunk_leg target
   one_leg target rest =
       let walked : take (depth_of chain) (parent target) ≡ take (depth_of chain) (trunk_path call) =
-          ap (λ p. take (depth_of chain) p) (sym rest.1) ∙ ap (λ d. take d (trunk_path call ++ rest.0)) at_end ∙ take_whole (trunk_path call) rest.0
-          ∙ sym (ap (λ d. take d (trunk_path call)) at_end ∙ take_all (trunk_path call)) in
+      ap (λ p. take (depth_of chain) p) (sym rest.1) ∙ ap (λ d. take d (trunk_path call ++ rest.0)) at_end ∙ take_whole (trunk_path call) rest.0
+      ∙ sym (ap (λ d. take d (trunk_path call)) at_end ∙ take_all (trunk_path call)) in
       let deep : depth_of chain ≡ length (take (depth_of chain) (trunk_path call)) =
-          at_end ∙ sym (ap length (ap (λ d. take d (trunk_path call)) at_end ∙ take_all (trunk_path call))) in
+      at_end ∙ sym (ap length (ap (λ d. take d (trunk_path call)) at_end ∙ take_all (trunk_path call))) in
       λ i. record { walked = walked i; ahead = drop (deep i) (parent target); chain = chain; here = last_of chain; masks = granted seat.client.domain chain }
 
   pub first_fits : (leg : kept.Leg) → leg.chain.items ≡ chain → leg.masks ≡ seat.trunk.masks → Fits seat.client.domain (parent (first_path call)) leg
@@ -365,9 +367,9 @@ module _ (seat : Inside) (call : Call) (is : seat.call ≡ Some call) (fit : IfS
       position : position_at stage.Split (split_seat first second) call ≡ target
       position =
           ap (λ l. Split trunk_leg l (leg_of seat.client.domain (parent (second_path call)) second.chain.items))
-              (ap (leg_of seat.client.domain (parent (first_path call))) c ∙ one_leg (first_path call) (common_left (parent (first_path call)) (parent (second_path call))))
+          (ap (leg_of seat.client.domain (parent (first_path call))) c ∙ one_leg (first_path call) (common_left (parent (first_path call)) (parent (second_path call))))
           ∙ ap (λ l. Split trunk_leg (toward trunk_leg (first_path call)) l)
-              (ap (leg_of seat.client.domain (parent (second_path call))) d ∙ one_leg (second_path call) (common_right (parent (first_path call)) (parent (second_path call))))
+          (ap (leg_of seat.client.domain (parent (second_path call))) d ∙ one_leg (second_path call) (common_right (parent (first_path call)) (parent (second_path call))))
 
       after : unwrap_or (forked call (position_at seat.stage seat call)) (position_at seat.stage seat call) ≡ target
       after =
@@ -401,3 +403,17 @@ may_fork_is seat call is down two found depth e name =
     by : (b : Bool) → is_some (cond b (Some (Split trunk (toward trunk (first_path call)) (toward trunk (second_path call)))) None) ≡ b
     by true = refl
     by false = refl
+
+-- ---- where the walk is
+
+-- no name is ahead, as the code finds it
+pub none_ahead : (path : Path) (depth : ℕ) (found : Option (Bor Name)) (d : ℕ) → d ≡ depth → option_map (λ (n : Bor Name). n.now) found ≡ slice_get path d → is_none found ≡ is_root (drop depth path)
+none_ahead path depth found d e is = none_mapped found ∙ sym (some_left path depth _ (is ∙ ap (slice_get path) e))
+
+module _ (seat : Inside) (call : Call) (is : seat.call ≡ Some call) (fresh : seat.is_stale ≡ false) where
+  -- by the stage
+  pub place_is : (now : Stage) → seat.stage ≡ now → place_of (seat_of seat).walk ≡ place_at call (position_at now seat call)
+  place_is now e =
+      ap (λ (o : Option Call). place_of (option_map (λ k. record { call = k; starts = seat.starts; stale = seat.is_stale; at = position_at seat.stage seat k }) o)) is
+      ∙ ap (λ b. cond b place.Stale (place_at call (position_at seat.stage seat call))) fresh
+      ∙ ap (λ n. place_at call (position_at n seat call)) e

@@ -1,5 +1,5 @@
 -- A walk begins: what the journal keeps stays, and so does every slot's account.
-use Rattle.std.specs.Prelude.{◌≡◌, ◌≢◌, ◌⊎◌, ℕ, zero, suc, ◌+◌, Bool, true, false, not, ◌&&◌, ◌||◌, ◌==◌, cond, List, [], ◌∷◌, ◌++◌, map, length, Option, Some, None, is_none, is_some, option_map, option_and_then, unwrap_or, slice_get, slice_set, slice_index_or, ◌<◌, refl}
+use Rattle.std.specs.Prelude.{◌≡◌, ◌≢◌, ◌⊎◌, ℕ, zero, suc, ◌+◌, Bool, true, false, not, ◌&&◌, ◌||◌, ◌==◌, cond, List, [], ◌∷◌, ◌++◌, map, length, Option, Some, None, is_none, is_some, option_map, option_and_then, unwrap_or, slice_get, slice_set, slice_index_or, ◌<◌, refl, ◌≤◌}
 use Rattle.std.specs.List.{AllByRecursion}
 use Rattle.std.specs.Option.{option_map_or}
 use Rattle.std.specs.Ordering.{nat_cmp}
@@ -7,7 +7,7 @@ use Rattle.std.specs.Cmp.{nat_cmp_total}
 use Rattle.std.specs.FinMap.{nat_cmp-IsAntisymmetric}
 use Rattle.std.proofs.Common.{sym, subst, ap, ◌∙◌, inl, inr}
 use Rattle.ll_rights.specs.declared.limits.TheConstants.{TREE_CLIENTS}
-use Rattle.ll_rights.specs.Map.{Map, get, insert}
+use Rattle.ll_rights.specs.Map.{Map, get, has, insert, len}
 use Rattle.ll_rights.proofs.Maps.{insert_cases}
 use Rattle.ll_seq.specs.declared.call.Call.{Call}
 use Rattle.ll_seq.specs.declared.client.ClientRecord.{ClientRecord}
@@ -24,6 +24,7 @@ use Rattle.ll_walks.specs.Sound.{IsSound}
 use Rattle.ll_walks.proofs.SoundSteps.{sound_kept}
 use Rattle.ll_journal.specs.Book.{Seat, Book, Spares, inode_in, slot_of, vacant, names_map, has_mark, marked_below}
 use Rattle.ll_journal.specs.Kept.{AreSeated, ArePlaced, AreDistinct, IsVacant, IsKept, seat_at, walks_from, world_of, book_of}
+use Rattle.std.proofs.lemmas.List.{length-set}
 use Rattle.std.proofs.lemmas.Option.{slice_get-get_or}
 use Rattle.ll_journal.proofs.Begun.{walk_at, walks_put}
 
@@ -118,16 +119,25 @@ kept_by j k place old seat gate h at client spare sound gated seats rules room h
   }) sound;
   facts = subst (λ f. AreKept (shown (world_of k)) f) (sym facts) (subst (λ s. AreKept s j.facts) (sym tree) h.facts);
   seated = subst (λ s. AreSeated s k.seats.items) (sym tree) (subst (AreSeated (shown (world_of j))) (sym seats) (still_seated (shown (world_of j)) j.seats.items place old seat at client h.seated));
+  living = λ inode. ap (λ m. has m inode) places ∙ h.living inode ∙ sym (ap (λ (s : State). has s.nodes inode) tree);
   placed = subst (λ v. ArePlaced v.items k.places) (sym inodes) (subst (ArePlaced j.inodes.items) (sym places) h.placed);
   slots = ap (λ v. length v.items) inodes ∙ h.slots ∙ ap (λ n. n + TREE_CLIENTS) (sym room);
   free = subst (λ v. AllByRecursion (IsVacant v.items) k.free.items) (sym inodes) (subst (λ v. AllByRecursion (IsVacant j.inodes.items) v.items) (sym free) h.free);
   spares = subst (λ v. AllByRecursion (λ (seat : Seat). IsVacant v.items seat.spare) k.seats.items) (sym inodes)
       (subst (AllByRecursion (λ (seat : Seat). IsVacant j.inodes.items seat.spare)) (sym seats) (all_kept (IsVacant j.inodes.items) j.seats.items place old seat at spare h.spares));
   distinct = subst AreDistinct (ap (λ v. v.items ++ map (λ (s : Seat). s.spare) j.seats.items) (sym free) ∙ ap (λ ns. k.free.items ++ ns) (sym (ap (map (λ (s : Seat). s.spare)) seats ∙ spares_kept j.seats.items place old seat at spare))) h.distinct;
+  count = (λ i. length (free i).items + seated_many i + as_many i) ∙ h.count ∙ ap (λ n. n + TREE_CLIENTS) (sym room);
+  few = subst (λ n. n ≤ k.room) (sym as_many) (subst (λ n. len (shown (world_of j)).nodes ≤ n) (sym room) h.few);
 }
   where
     tree : shown (world_of k) ≡ shown (world_of j)
     tree = ap (λ r. state_after (start r k.room) k.history.entries) rules ∙ ap (λ n. state_after (start j.rules n) k.history.entries) room ∙ ap (λ (l : Log). state_after (start j.rules j.room) l.entries) history
+
+    seated_many : length k.seats.items ≡ length j.seats.items
+    seated_many = ap length seats ∙ length-set j.seats.items place seat
+
+    as_many : len (shown (world_of k)).nodes ≡ len (shown (world_of j)).nodes
+    as_many = ap (λ (s : State). len s.nodes) tree
 
 -- ---- accounts
 
@@ -204,8 +214,8 @@ module _ (j : Inside) (h : IsKept j) (number place : ℕ) (call : Call) (seat : 
 pub over_begun : (b b' : Book) (v : World) (number : ℕ) (call : Call) → b ≡ b' → advance b.world (Begin number call) ≡ (Begun, v) → advance b'.world (Begin number call) ≡ (Begun, v)
 over_begun b b' v number call e h = subst (λ (b : Book). advance b.world (Begin number call) ≡ (Begun, v)) e h
 
-pub over_spares : (b b' c : Book) → b ≡ b' → Spares b c [] → Spares b' c []
-over_spares b b' c e h = subst (λ (b : Book). Spares b c []) e h
+pub over_spares : (b b' c : Book) (ks : List ℕ) → b ≡ b' → Spares b c ks → Spares b' c ks
+over_spares b b' c ks e h = subst (λ (b : Book). Spares b c ks) e h
 
 -- what a step leads to is sound
 pub sound_after : (j : Inside) (w : World) (step' : Step) (o : Outcome) → IsKept j → advance (world_of j) step' ≡ (o, w) → IsSound w

@@ -1,10 +1,10 @@
 -- What the journal keeps beside the history, and how it is tied to the shown state. No public contract cites it. own
-use Rattle.std.specs.Prelude.{◌≡◌, ◌≢◌, ℕ, zero, suc, ◌+◌, List, [], ◌∷◌, ◌++◌, map, length, Option, Some, None, option_map, slice_get, ⊤}
+use Rattle.std.specs.Prelude.{◌≡◌, ◌≢◌, ℕ, zero, suc, ◌+◌, List, [], ◌∷◌, ◌++◌, map, length, Option, Some, None, option_map, slice_get, ⊤, ◌≤◌}
 use Rattle.std.specs.List.{AllByRecursion}
 use Rattle.std.specs.Option.{option_map_or}
 use Rattle.std.specs.Ordering.{nat_cmp}
 use Rattle.ll_rights.specs.declared.limits.TheConstants.{TREE_CLIENTS}
-use Rattle.ll_rights.specs.Map.{Map, empty, get, insert}
+use Rattle.ll_rights.specs.Map.{Map, empty, get, has, insert, len}
 use Rattle.ll_seq.specs.State.{State}
 use Rattle.ll_seq.specs.Facts.{AreKept}
 use Rattle.ll_journal.specs.declared.journal.Journal.TheInside.{Inside}
@@ -68,7 +68,11 @@ pub record IsKept (j : Inside) : Type 0 where
   pub facts : AreKept (shown (world_of j)) j.facts
   pub seated : AreSeated (shown (world_of j)) j.seats.items
   pub placed : ArePlaced j.inodes.items j.places
+  pub living : (inode : ℕ) → has j.places inode ≡ has (shown (world_of j)).nodes inode
   pub slots : length j.inodes.items ≡ j.room + TREE_CLIENTS
   pub free : AllByRecursion (IsVacant j.inodes.items) j.free.items
   pub spares : AllByRecursion (λ (seat : Seat). IsVacant j.inodes.items seat.spare) j.seats.items
   pub distinct : AreDistinct (j.free.items ++ map (λ (seat : Seat). seat.spare) j.seats.items)
+  -- each node that lives, each client and each free slot counts for one slot
+  pub count : length j.free.items + length j.seats.items + len (shown (world_of j)).nodes ≡ j.room + TREE_CLIENTS
+  pub few : len (shown (world_of j)).nodes ≤ j.room

@@ -1,5 +1,9 @@
 pub mod Book
-pub mod SeatCodes
 pub mod Steps
+pub mod Direct
+pub mod Own
+pub mod Places
+pub mod SeatCodes
 pub mod Seated
+pub mod Looks
 pub mod Kept

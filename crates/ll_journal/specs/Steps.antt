@@ -1,20 +1,66 @@
--- What a step of the journal does, and which slots it is lent. own
-use Rattle.std.specs.Prelude.{◌≡◌, ◌≢◌, ℕ, List, [], ◌∷◌, map, Option, if◌then◌else◌, option_map, option_and_then, option_to_list}
+-- What a step of the journal does, and where other slots were lent than it names. own
+use Rattle.std.specs.Prelude.{◌≡◌, ◌≢◌, ℕ, Bool, true, false, not, ◌==◌, List, map, Option, Some, None, option_and_then, if◌then◌else◌}
 use Rattle.std.specs.Option.{option_map_or}
 use Rattle.ll_rights.specs.Map.{get}
 use Rattle.ll_seq.specs.State.{root}
-use Rattle.ll_walks.specs.Walk.{Walk, Leg, further, turn, legs, is_above}
+use Rattle.ll_walks.specs.Walk.{Walk, Leg, is_in, further, turn, marks, is_above}
 use Rattle.ll_walks.specs.World as world
 use Rattle.ll_walks.specs.World.{World, Step, advance, shown, domain_of}
+use Rattle.ll_journal.specs.declared.held.Held.{Held}
 use Rattle.ll_journal.specs.declared.outcome.Outcome.{Outcome}
 use Rattle.ll_journal.specs.declared.outcome.Outcome.TheVariants as outcome
 use Rattle.ll_journal.specs.Book.{Book, inode_in}
 
--- The outcome is that of the step, and so is the world after; the book says the same of slots. Where other slots were
--- lent than the step names nothing changes
+-- The outcome is the step's, and so is the world after. Astray is none of its outcomes: then nothing changes
 abbrev pub Does : Book → Step → Outcome → Book → Type 0
 Does b step' outcome.NotNow b' = advance b.world step' ≡ (world.NotNow, b'.world)
 Does b step' outcome.Astray b' = b' ≡ b
 Does b step' (outcome.Stands inode) b' = advance b.world step' ≡ (world.Stands inode, b'.world)
 Does b step' outcome.Forked b' = advance b.world step' ≡ (world.Forked, b'.world)
 Does b step' outcome.Restarted b' = advance b.world step' ≡ (world.Restarted, b'.world)
+
+-- the client's walk is above the root
+abbrev pub is_at_top : World → ℕ → Bool
+is_at_top w number = option_map_or (λ (walk : Walk). is_above walk.at) (get w.walks number) false
+
+abbrev pub leg_in_turn : World → ℕ → Option Leg
+leg_in_turn w number = option_and_then (λ (walk : Walk). turn walk.at) (get w.walks number)
+
+-- a first descent, to the root, isn't that of this client, or isn't lent the root's slot
+abbrev pub IsAstrayAtTop : Book → ℕ → ℕ → Type 0
+IsAstrayAtTop b number slot = is_at_top b.world number ≡ true → inode_in b slot ≢ root
+
+-- one of the slots isn't that of the directory where the leg in turn stands, or of the one to which it would go
+abbrev pub IsAstrayBelow : Book → ℕ → ℕ → ℕ → Type 0
+IsAstrayBelow b number from to =
+    (leg next : Leg) → leg_in_turn b.world number ≡ Some leg →
+    further (shown b.world) (domain_of b.world number) leg ≡ Some next →
+    inode_in b from ≡ leg.here → inode_in b to ≢ next.here
+
+-- the walk stands in some directory that lies in none of the slots
+abbrev pub IsAstrayAt : Book → ℕ → List ℕ → Type 0
+IsAstrayAt b number slots =
+    (walk : Walk) → get b.world.walks number ≡ Some walk →
+    ¬ ((inode : ℕ) → marks walk inode ≡ true → is_in (map (inode_in b) slots) inode ≡ true)
+
+-- without the client's mark
+abbrev pub unmarked : ℕ → Held → Held
+unmarked number held = record held {
+  node = record held.node {
+    mark = option_and_then (λ holder. if holder == number then None else Some holder) held.node.mark;
+  };
+}
+
+-- its walk is under way, and isn't stale
+abbrev pub is_going : World → ℕ → Bool
+is_going w number = option_map_or (λ (walk : Walk). not walk.stale) (get w.walks number) false
+
+-- the client's leg in turn stands in the one slot's directory, and would go to that of the other slot
+pub record IsNext (b : Book) (number from to : ℕ) : Type 0 where
+  pub going : is_going b.world number ≡ true
+  pub leg : Leg
+  pub next : Leg
+  pub in_turn : leg_in_turn b.world number ≡ Some leg
+  pub further_is : further (shown b.world) (domain_of b.world number) leg ≡ Some next
+  pub from_here : inode_in b from ≡ leg.here
+  pub to_there : inode_in b to ≡ next.here

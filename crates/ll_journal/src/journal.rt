@@ -1,11 +1,19 @@
 //! The journal.
 
-ghost use Rattle.std.specs.Prelude.{◌≡◌, ◌+◌, ◌<◌, ◌≤◌, suc, [], ◌∷◌, length, replicate, None, IfOk, IfErr, IfSome, IfNone, OnOk, OnErr};
+ghost use Rattle.std.specs.Prelude.{◌≡◌, ◌≢◌, ℕ, List, map, ◌==◌, ◌&&◌, is_some, ◌+◌, ◌<◌, ◌≤◌, false, if◌then◌else◌, Some, suc, [], ◌∷◌, length, replicate, None, IfOk, IfErr, IfSome, IfNone, OnOk, OnErr};
 ghost use Rattle.std.specs.List.{range_with_len};
 ghost use Rattle.ll_rights.specs.declared.limits.TheConstants.{HISTORY_ENTRIES, TREE_CLIENTS, TREE_NODES};
+ghost use Rattle.std.specs.Option.{option_map_or};
 ghost use Rattle.ll_seq.specs.State.{root};
+ghost use Rattle.ll_walks.specs.Walk.{Walk, forked, marks};
+ghost use Rattle.ll_journal.specs.Looks.{goes_on};
+ghost use Rattle.ll_journal.specs.Steps.{unmarked};
 ghost use Rattle.ll_journal.specs.Kept.{seat_at};
 
+use crate::held::Held;
+use crate::look::{Look, directory_below, look_again, look_at_root, look_down};
+use crate::outcome::Outcome;
+use crate::place::Place;
 use crate::seat::Seat;
 use crate::walked::{is_free, next_gate};
 use ll_rights::limits::TREE_CLIENTS;
@@ -19,18 +27,18 @@ const ROOT: u64 = 1;
 /// slot, and the vacant slots.
 #[derive(Drop)]
 pub struct Journal {
-    alloc: Global,
-    rules: Rules,
-    room: usize,
-    history: History,
-    seats: Vec<Seat>,
-    gate: Option<u64>,
+    pub(crate) alloc: Global,
+    pub(crate) rules: Rules,
+    pub(crate) room: usize,
+    pub(crate) history: History,
+    pub(crate) seats: Vec<Seat>,
+    pub(crate) gate: Option<u64>,
     // the counts of each node
-    facts: NumberMap<Fact>,
-    inodes: Vec<u64>,
+    pub(crate) facts: NumberMap<Fact>,
+    pub(crate) inodes: Vec<u64>,
     // the slot of each inode
-    places: NumberMap<u64>,
-    free: Vec<u64>,
+    pub(crate) places: NumberMap<u64>,
+    pub(crate) free: Vec<u64>,
 }
 
 impl Model for Journal {
@@ -76,7 +84,7 @@ fn free(alloc: Global, others: usize) -> Result<Vec<u64>, AllocError>
 }
 
 /// The place of the seat of the client of this number.
-fn place_of(seats: &[Seat], client: u64) -> Option<usize>
+pub(crate) fn place_of(seats: &[Seat], client: u64) -> Option<usize>
     ensures some { IfSome result (λ place. (client ≡ suc place) × (place < length seats.now)) }
     ensures none { IfNone result (seat_at seats.now client ≡ None) }
 {
@@ -91,9 +99,49 @@ fn place_of(seats: &[Seat], client: u64) -> Option<usize>
     }
 }
 
+/// Who holds the gate when the client's walk has come to the root.
+fn gate_at_root(seat: &Seat, gate: Option<u64>, client: u64) -> Option<u64>
+    ensures { result ≡ (if option_map_or (λ (walk : Walk). walk.starts == 4) seat.now.walk false then Some client else gate) }
+{
+    if seat.starts_last() {
+        Some(client)
+    } else {
+        gate
+    }
+}
+
+/// The client's mark in the directory, if its walk stands there.
+fn mark_in(seat: &Seat, client: u64, inode: u64) -> Option<u64>
+    ensures { result ≡ (if option_map_or (λ (walk : Walk). marks walk inode) seat.now.walk false then Some client else None) }
+{
+    if seat.stands_in(inode) {
+        Some(client)
+    } else {
+        None
+    }
+}
+
+/// Whether its walk stands at its fork, and isn't stale.
+fn may_fork(seat: &Seat) -> bool
+    ensures { result ≡ (goes_on seat.now && option_map_or (λ (walk : Walk). is_some (forked walk.call walk.at)) seat.now.walk false) }
+{
+    seat.goes_on() && seat.may_fork()
+}
+
+/// The client's mark goes from the slot, if it is there.
+fn unmark(held: &mut Held, client: u64)
+    ensures { held.new ≡ unmarked client held.old }
+{
+    if held.node.mark() == Some(client) {
+        held.node.set_mark(None);
+    }
+}
+
 impl Journal {
-    ghost use Rattle.ll_journal.specs.Book.{Spares, new_book};
-    ghost use Rattle.ll_walks.specs.World.{Begin, Begun, NotNow, advance};
+    ghost use Rattle.ll_journal.specs.Book.{Spares, inode_in, new_book, slot_of};
+    ghost use Rattle.ll_journal.specs.Places.{place_in};
+    ghost use Rattle.ll_journal.specs.Steps.{Does, IsAstrayAt, IsAstrayAtTop, IsAstrayBelow, IsNext};
+    ghost use Rattle.ll_walks.specs.World.{Begin, Begun, Descend, Fork, NotNow, Restart, advance};
 
     /// A tree of the root alone, in which so many nodes may live, without a client. Room is reserved for so many
     /// entries of the history.
@@ -147,5 +195,208 @@ impl Journal {
         let seat = &mut self.seats[place];
         seat.begin(call);
         Ok(())
+    }
+
+    /// The first descent of the client's walk, to the root, for which the root's slot is lent. Takes no memory.
+    pub fn enter(&mut self, client: u64, slot: u64, root: &mut Held) -> Outcome
+        requires { root.old ≡ slot_of self.old slot }
+        ensures does { Does self.old (Descend client) result self.new }
+        ensures lent { root.new ≡ slot_of self.new slot }
+        ensures spares { Spares self.old self.new (slot ∷ []) }
+        ensures rest { self.new ≡ record self.old { world = self.new.world } }
+        ensures astray { result ≡ Outcome.Astray → IsAstrayAtTop self.old client slot }
+    {
+        let Some(place) = place_of(&self.seats, client) else {
+            return Outcome::NotNow;
+        };
+        match look_at_root(&self.seats[place], self.gate, client, root) {
+            Look::NotNow => return Outcome::NotNow,
+            Look::Astray => return Outcome::Astray,
+            Look::Go => {}
+        }
+        self.gate = gate_at_root(&self.seats[place], self.gate, client);
+        let alloc = self.alloc;
+        let seat = &mut self.seats[place];
+        seat.enter(alloc);
+        root.node.set_mark(Some(client));
+        Outcome::Stands(ROOT)
+    }
+
+    /// A descent of the client's walk: the slots are those of the directory where its leg in turn stands, and of the
+    /// one that the next name names. Takes no memory.
+    pub fn descend(
+        &mut self,
+        client: u64,
+        from_slot: u64,
+        from: &mut Held,
+        to_slot: u64,
+        to: &mut Held,
+    ) -> Outcome
+        requires from { from.old ≡ slot_of self.old from_slot }
+        requires to { to.old ≡ slot_of self.old to_slot }
+        ensures does { Does self.old (Descend client) result self.new }
+        ensures from { from.new ≡ slot_of self.new from_slot }
+        ensures to { to.new ≡ slot_of self.new to_slot }
+        ensures spares { Spares self.old self.new (from_slot ∷ to_slot ∷ []) }
+        ensures rest { self.new ≡ record self.old { world = self.new.world } }
+        ensures astray { result ≡ Outcome.Astray → IsAstrayBelow self.old client from_slot to_slot }
+    {
+        let Some(place) = place_of(&self.seats, client) else {
+            return Outcome::NotNow;
+        };
+        match look_down(&self.facts, &self.seats[place], from, to) {
+            Look::NotNow => return Outcome::NotNow,
+            Look::Astray => return Outcome::Astray,
+            Look::Go => {}
+        }
+        let inode = to.inode;
+        let seat = &mut self.seats[place];
+        seat.descend(inode);
+        from.node.set_mark(mark_in(seat, client, from.inode));
+        to.node.set_mark(Some(client));
+        Outcome::Stands(inode)
+    }
+
+    /// Where the client's walk is.
+    pub fn place(&self, client: u64) -> Place
+        ensures { result ≡ place_in self.now.world client }
+    {
+        match place_of(&self.seats, client) {
+            None => Place::Idle,
+            Some(place) => self.seats[place].place(),
+        }
+    }
+
+    /// The slot of the directory to which the client's walk would go down from this one: none where it wouldn't, or
+    /// doesn't stand here.
+    pub fn next_slot(&self, client: u64, slot: u64, here: &Held) -> Option<u64>
+        requires { here.now ≡ slot_of self.now slot }
+        ensures some { IfSome result (λ next. IsNext self.now client slot next) }
+        ensures none { IfNone result ((next : ℕ) → ¬ IsNext self.now client slot next) }
+    {
+        let Some(place) = place_of(&self.seats, client) else {
+            return None;
+        };
+        let Some(inode) = directory_below(&self.facts, &self.seats[place], here) else {
+            return None;
+        };
+        self.places.get(inode).copied()
+    }
+
+    /// The client's walk leaves what is common to both paths. Takes no memory and no slot.
+    pub fn fork(&mut self, client: u64) -> Outcome
+        ensures does { Does self.old (Fork client) result self.new }
+        ensures spares { Spares self.old self.new [] }
+        ensures rest { self.new ≡ record self.old { world = self.new.world } }
+        ensures not_astray { result ≢ Outcome.Astray }
+    {
+        let Some(place) = place_of(&self.seats, client) else {
+            return Outcome::NotNow;
+        };
+        if !may_fork(&self.seats[place]) {
+            return Outcome::NotNow;
+        }
+        let seat = &mut self.seats[place];
+        seat.fork();
+        Outcome::Forked
+    }
+
+    /// The client's stale walk starts again, if it stands in none but these directories.
+    fn start_again(&mut self, client: u64, inodes: &[u64]) -> Outcome
+        ensures does { Does self.old (Restart client) result self.new }
+        ensures lent { result ≡ Outcome.Restarted → (k : ℕ) → slot_of self.new k ≡ unmarked client (slot_of self.old k) }
+        ensures same { result ≢ Outcome.Restarted → self.new ≡ self.old }
+        ensures spares { (ks : List ℕ) → map (inode_in self.old) ks ≡ inodes.now → Spares self.old self.new ks }
+        ensures rest { self.new ≡ record self.old { world = self.new.world } }
+        ensures astray { result ≡ Outcome.Astray → (ks : List ℕ) → map (inode_in self.old) ks ≡ inodes.now → IsAstrayAt self.old client ks }
+    {
+        let Some(place) = place_of(&self.seats, client) else {
+            return Outcome::NotNow;
+        };
+        match look_again(&self.seats[place], inodes) {
+            Look::NotNow => return Outcome::NotNow,
+            Look::Astray => return Outcome::Astray,
+            Look::Go => {}
+        }
+        let seat = &mut self.seats[place];
+        seat.restart();
+        Outcome::Restarted
+    }
+
+    /// The client's stale walk starts again, above the root. The slot is that of the one directory where it stands.
+    /// Takes no memory.
+    pub fn restart(&mut self, client: u64, slot: u64, here: &mut Held) -> Outcome
+        requires { here.old ≡ slot_of self.old slot }
+        ensures does { Does self.old (Restart client) result self.new }
+        ensures lent { here.new ≡ slot_of self.new slot }
+        ensures spares { Spares self.old self.new (slot ∷ []) }
+        ensures rest { self.new ≡ record self.old { world = self.new.world } }
+        ensures astray { result ≡ Outcome.Astray → IsAstrayAt self.old client (slot ∷ []) }
+    {
+        let outcome = self.start_again(client, &[here.inode]);
+        if outcome != Outcome::Restarted {
+            return outcome;
+        }
+        unmark(here, client);
+        outcome
+    }
+
+    /// The same, where the walk stands in two directories.
+    pub fn restart_two(
+        &mut self,
+        client: u64,
+        slot: u64,
+        here: &mut Held,
+        other_slot: u64,
+        other: &mut Held,
+    ) -> Outcome
+        requires here { here.old ≡ slot_of self.old slot }
+        requires other { other.old ≡ slot_of self.old other_slot }
+        ensures does { Does self.old (Restart client) result self.new }
+        ensures here { here.new ≡ slot_of self.new slot }
+        ensures other { other.new ≡ slot_of self.new other_slot }
+        ensures spares { Spares self.old self.new (slot ∷ other_slot ∷ []) }
+        ensures rest { self.new ≡ record self.old { world = self.new.world } }
+        ensures astray { result ≡ Outcome.Astray → IsAstrayAt self.old client (slot ∷ other_slot ∷ []) }
+    {
+        let outcome = self.start_again(client, &[here.inode, other.inode]);
+        if outcome != Outcome::Restarted {
+            return outcome;
+        }
+        unmark(here, client);
+        unmark(other, client);
+        outcome
+    }
+
+    /// The same, where it stands in three: the common directory, and the ends of both branches.
+    pub fn restart_three(
+        &mut self,
+        client: u64,
+        common_slot: u64,
+        common: &mut Held,
+        first_slot: u64,
+        first: &mut Held,
+        second_slot: u64,
+        second: &mut Held,
+    ) -> Outcome
+        requires common { common.old ≡ slot_of self.old common_slot }
+        requires first { first.old ≡ slot_of self.old first_slot }
+        requires second { second.old ≡ slot_of self.old second_slot }
+        ensures does { Does self.old (Restart client) result self.new }
+        ensures common { common.new ≡ slot_of self.new common_slot }
+        ensures first { first.new ≡ slot_of self.new first_slot }
+        ensures second { second.new ≡ slot_of self.new second_slot }
+        ensures spares { Spares self.old self.new (common_slot ∷ first_slot ∷ second_slot ∷ []) }
+        ensures rest { self.new ≡ record self.old { world = self.new.world } }
+        ensures astray { result ≡ Outcome.Astray → IsAstrayAt self.old client (common_slot ∷ first_slot ∷ second_slot ∷ []) }
+    {
+        let outcome = self.start_again(client, &[common.inode, first.inode, second.inode]);
+        if outcome != Outcome::Restarted {
+            return outcome;
+        }
+        unmark(common, client);
+        unmark(first, client);
+        unmark(second, client);
+        outcome
     }
 }

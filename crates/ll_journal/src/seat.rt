@@ -1,14 +1,17 @@
 //! Clients, each with its walk.
 
-ghost use Rattle.std.specs.Prelude.{◌≡◌, ◌&&◌, ◌||◌, ◌==◌, ◌<◌, ◌≤◌, not, false, true, length, [], ◌∷◌, ◌++◌, None, Some, is_none, is_some, IfOk, IfSome, IsSome, option_map};
+ghost use Rattle.std.specs.Prelude.{◌≡◌, ◌&&◌, ◌||◌, ◌==◌, ◌<◌, ◌≤◌, not, false, true, length, [], ◌∷◌, ◌++◌, None, Some, is_none, is_some, if◌then◌else◌, IfOk, IfSome, IsSome, option_map};
 ghost use Rattle.std.specs.Option.{option_map_or};
 ghost use Rattle.ll_decide.specs.Masks.{AreMasks};
 ghost use Rattle.ll_rights.specs.declared.limits.TheConstants.{PATH_NAMES};
 ghost use Rattle.ll_seq.specs.State.{new_client, root};
 ghost use Rattle.ll_walks.specs.Walk as walks;
 ghost use Rattle.ll_walks.specs.World.{is_walked};
+ghost use Rattle.ll_journal.specs.Looks.{stands_among};
+ghost use Rattle.ll_journal.specs.Places.{place_of};
 ghost use Rattle.ll_journal.specs.Seated.{turn_at};
 
+use crate::place::Place;
 use crate::walked::walks;
 use crate::way::{first_name, has_two_paths, know_ways, second_name, trunk_name};
 use ll_decide::Masks;
@@ -155,6 +158,38 @@ fn turn_of(stage: Stage, call: &Call, first: &Leg) -> Turn
             None => Turn::Second,
         },
     }
+}
+
+/// On what is common to its paths, and perhaps at the end of that.
+fn trunk_place(call: &Call, is_ended: bool) -> Place
+    ensures { result ≡ (if is_ended then if walks.has_two_paths call.now then Place.Fork else Place.End else Place.Trunk) }
+{
+    if !is_ended {
+        Place::Trunk
+    } else if has_two_paths(call) {
+        Place::Fork
+    } else {
+        Place::End
+    }
+}
+
+/// Past the fork, with branches that are perhaps at their ends.
+fn split_place(is_first_ended: bool, is_second_ended: bool) -> Place
+    ensures { result ≡ (if is_first_ended then if is_second_ended then Place.End else Place.Second else Place.First) }
+{
+    if !is_first_ended {
+        Place::First
+    } else if is_second_ended {
+        Place::End
+    } else {
+        Place::Second
+    }
+}
+
+fn is_in(inodes: &[u64], inode: u64) -> bool
+    ensures { result ≡ walks.is_in inodes.now inode }
+{
+    inodes.iter().any(|other| *other == inode)
 }
 
 /// The branches of one walk.
@@ -312,6 +347,24 @@ impl Seat {
         }
     }
 
+    /// Whether the walk stands in none but these directories.
+    pub(crate) fn stands_among(&self, inodes: &[u64]) -> bool
+        ensures { result ≡ stands_among inodes.now self.now }
+    {
+        if self.call.is_none() {
+            return true;
+        }
+        match self.stage {
+            Stage::Above => true,
+            Stage::Down => is_in(inodes, self.trunk.here()),
+            Stage::Split => {
+                is_in(inodes, self.trunk.here())
+                    && is_in(inodes, self.first.here())
+                    && is_in(inodes, self.second.here())
+            }
+        }
+    }
+
     /// The leg in turn takes its next name, which names this directory.
     pub(crate) fn descend(&mut self, inode: u64)
         requires { IsSome (next_in self.old) }
@@ -328,6 +381,26 @@ impl Seat {
         }
     }
 
+    /// Where the walk is.
+    pub(crate) fn place(&self) -> Place
+        ensures { result ≡ place_of self.now.walk }
+    {
+        let Some(call) = &self.call else {
+            return Place::Idle;
+        };
+        if self.is_stale {
+            return Place::Stale;
+        }
+        match self.stage {
+            Stage::Above => Place::Above,
+            Stage::Down => trunk_place(call, trunk_name(call, self.trunk.depth()).is_none()),
+            Stage::Split => split_place(
+                first_name(call, self.first.depth()).is_none(),
+                second_name(call, self.second.depth()).is_none(),
+            ),
+        }
+    }
+
     /// Whether the walk stands at its fork.
     pub(crate) fn may_fork(&self) -> bool
         ensures { result ≡ option_map_or (λ (walk : walks.Walk). is_some (walks.forked walk.call walk.at)) self.now.walk false }
@@ -337,9 +410,7 @@ impl Seat {
         };
         match self.stage {
             Stage::Above => false,
-            Stage::Down => {
-                has_two_paths(call) && trunk_name(call, self.trunk.depth()).is_none()
-            }
+            Stage::Down => { has_two_paths(call) && trunk_name(call, self.trunk.depth()).is_none() }
             Stage::Split => false,
         }
     }

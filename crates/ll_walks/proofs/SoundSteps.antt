@@ -16,6 +16,9 @@ use Rattle.ll_walks.proofs.Gates.{Gated, gated}
 pub holds_of : (w : World) → IsSound w → Holds w
 holds_of w h = record { legal = h.legal; numbers = h.numbers; under_way = λ number walk is. (h.valid number walk is).0; right = λ number walk is. (h.valid number walk is).1 }
 
+pub apart_of : (w : World) → IsSound w → Apart w
+apart_of w h c d v u e f = h.apart c v e d u f
+
 gated_of : (w : World) → IsSound w → Gated w
 gated_of w h number walk is = record { few = h.few number walk is; held = λ n. (h.gate number walk is n).0; fresh = λ n. (h.gate number walk is n).1; above = h.above number walk is }
 
@@ -38,12 +41,12 @@ sound_start rules room limit = sound_of (new_world rules room limit) (starts rul
 pub sound_kept : (w : World) (step' : Step) → IsSound w → IsSound (advance w step').1
 sound_kept w step' h = sound_of (advance w step').1
     (advance_kept Holds holds_on w step' (holds_of w h))
-    (advance_kept Apart apart w step' (λ c d v u e f. h.apart c v e d u f))
+    (advance_kept Apart apart w step' (apart_of w h))
     (advance_kept Gated gated w step' (gated_of w h))
 
 -- want of memory ends a walk, too
 pub sound_ended : (w : World) (number : ℕ) (walk : Walk) → IsSound w → get w.walks number ≡ Some walk → IsSound (with_stale [] (without_walk w number))
 sound_ended w number walk h is = sound_of (with_stale [] (without_walk w number))
     (holds_on.gives_up w number walk (holds_of w h) is)
-    (apart.gives_up w number walk (λ c d v u e f. h.apart c v e d u f) is)
+    (apart.gives_up w number walk (apart_of w h) is)
     (gated.gives_up w number walk (gated_of w h) is)

@@ -1,6 +1,5 @@
 use Rattle.std.specs.Prelude.{ℕ, List, refl}
 use Rattle.std.specs.Borrow.{Bor}
-use Rattle.std.specs.Iterator.{YieldsFirstRef}
 use Rattle.std.proofs.Common.{ap, ◌∙◌, sym, slice_get}
 use Rattle.std.proofs.lemmas.Iterator.Consumers.{nth_from_yields_List, YieldsList-from_first}
 use Rattle.ll_path.specs.Path.{parent, Path}

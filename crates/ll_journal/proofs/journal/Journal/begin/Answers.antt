@@ -1,4 +1,4 @@
-use Rattle.std.proofs.Common.{◌≡◌, refl, ap, sym, subst, ◌∙◌}
+use Rattle.std.proofs.Common.{◌≡◌, [], refl, ap, sym, subst, ◌∙◌}
 use Rattle.ll_journal.specs.Book.{Book, Seat}
 use Rattle.ll_walks.specs.World.{Begin, Begun, NotNow, advance}
 use Rattle.ll_journal.proofs.Starting.{at_place, turned_down, idle_before, world_begun, sets_out, slots_kept, kept_by, over_begun, over_spares, sound_after, rest_kept, changed_world}
@@ -17,9 +17,9 @@ invariant_of-self c =
     kept_by c.self.inside _ c.in-Some.place c.index_mut-seat.result.now c.begin.new.self c.next_gate-self-inside.result c.self.invariant at
     (ap (λ (s : Seat). s.client) c.begin.ensures) (ap (λ (s : Seat). s.spare) c.begin.ensures)
     (sound_after c.self.inside (changed_world c.self.inside c.in-Some.place c.begin.new.self c.next_gate-self-inside.result) (Begin c.args.client c.args.call) Begun c.self.invariant
-        (sets_out c.self.inside c.self.invariant c.args.client c.in-Some.place c.args.call c.index.result.now first c.in-Some.ensures.some.0
-        c.may_begin.result c.is_free.result c.may_begin.ensures c.if-not-may_begin.false c.is_free.ensures c.if-not-is_free.false
-        ∙ ap (λ w. (Begun, w)) (sym (world_begun c.self.inside c.self.invariant c.args.client c.in-Some.place c.args.call c.index_mut-seat.result.now at c.in-Some.ensures.some.0 c.begin.new.self c.next_gate-self-inside.result c.begin.ensures c.next_gate-self-inside.ensures))))
+    (sets_out c.self.inside c.self.invariant c.args.client c.in-Some.place c.args.call c.index.result.now first c.in-Some.ensures.some.0
+    c.may_begin.result c.is_free.result c.may_begin.ensures c.if-not-may_begin.false c.is_free.ensures c.if-not-is_free.false
+    ∙ ap (λ w. (Begun, w)) (sym (world_begun c.self.inside c.self.invariant c.args.client c.in-Some.place c.args.call c.index_mut-seat.result.now at c.in-Some.ensures.some.0 c.begin.new.self c.next_gate-self-inside.result c.begin.ensures c.next_gate-self-inside.ensures))))
     refl refl refl refl refl refl refl refl refl
 
 pub returns-clause-begun : goal.returns-clause-begun
@@ -35,7 +35,7 @@ pub returns-clause-spares : goal.returns-clause-spares
 returns-clause-spares c =
     let at = at_place c.self.inside.seats.items c.deref.result.now c.args.client c.in-Some.place c.index_mut-seat.result.now c.deref.ensures.value c.in-Some.ensures.some c.index_mut-seat.ensures.value in
     let first = at_place c.self.inside.seats.items c.deref.result.now c.args.client c.in-Some.place c.index.result.now c.deref.ensures.value c.in-Some.ensures.some c.index.ensures in
-    over_spares _ _ _ c.self.view_is
+    over_spares _ _ _ [] c.self.view_is
     (slots_kept _ _ c.args.client c.args.call
     (world_begun c.self.inside c.self.invariant c.args.client c.in-Some.place c.args.call c.index_mut-seat.result.now at c.in-Some.ensures.some.0 c.begin.new.self c.next_gate-self-inside.result c.begin.ensures c.next_gate-self-inside.ensures)
     refl (idle_before c.self.inside c.self.invariant c.args.client c.in-Some.place c.args.call c.index.result.now first c.in-Some.ensures.some.0 c.may_begin.result c.may_begin.ensures c.if-not-may_begin.false))

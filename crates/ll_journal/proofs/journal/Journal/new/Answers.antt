@@ -11,5 +11,5 @@ insert-requires c = ap (λ m. get m 1) c.new-places.ensures ∙ get-empty ℕ na
 
 pub invariant_of-result-2 : goal.invariant_of-result-2
 invariant_of-result-2 c =
-    kept _ _ _ (omega arith) (omega arith) (ap (λ (log : Log). log.entries) c.in_ok-new.ensures) c.in_ok-with_capacity.ensures.items refl c.in_ok-of_root.ensures c.in_ok-inodes.ensures
+    kept _ _ _ c.requires.some (omega arith) (omega arith) (ap (λ (log : Log). log.entries) c.in_ok-new.ensures) c.in_ok-with_capacity.ensures.items refl c.in_ok-of_root.ensures c.in_ok-inodes.ensures
     (c.places.view_is ∙ c.in_ok-insert.ensures.ok ∙ ap (λ m. insert m 1 0) c.new-places.ensures) c.in_ok-free.ensures

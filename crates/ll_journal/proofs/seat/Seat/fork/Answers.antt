@@ -2,7 +2,7 @@ use Rattle.std.proofs.Common.{◌≡◌, ap, sym, subst, ◌∙◌, true, false,
 use Rattle.std.specs.Option.{option_map_or}
 use Rattle.ll_walks.specs.Walk.{Walk, forked}
 use Rattle.ll_journal.specs.Book as book
-use Rattle.ll_journal.specs.Seated.{seat_of, split}
+use Rattle.ll_journal.specs.Seated.{split}
 use Rattle.ll_journal.proofs.Seats.{has_call, trunk_short, fits_split, split_is}
 use Rattle.ll_journal.proofs.seat.Seat.fork.Goals as goal
 

@@ -1,4 +1,4 @@
-use Rattle.std.proofs.Common.{◌≡◌, ap, sym, ◌∙◌, false, is_some}
+use Rattle.std.proofs.Common.{ap, sym, ◌∙◌, false, is_some}
 use Rattle.std.specs.Option.{option_map_or}
 use Rattle.ll_walks.specs.Walk.{Walk, forked}
 use Rattle.ll_journal.specs.Book as book

@@ -1,0 +1,188 @@
+-- What the journal keeps, and each slot's account, where a call without a walk was answered.
+use Rattle.std.specs.Prelude.{◌≡◌, ℕ, suc, ◌+◌, ◌<◌, ◌≤◌, Bool, true, false, List, [], ◌∷◌, ◌++◌, map, length, Option, Some, None, nat_le, refl}
+use Rattle.std.specs.List.{AllByRecursion}
+use Rattle.std.proofs.Common.{sym, subst, ap, ◌∙◌, arith, length-append}
+use Rattle.std.proofs.lemmas.Bool.Decides.{nat_tests}
+use Rattle.ll_rights.specs.declared.errno.Errno.{Errno}
+use Rattle.ll_rights.specs.declared.errno.Errno.TheVariants.{EMFILE}
+use Rattle.ll_rights.specs.declared.limits.TheConstants.{TREE_CLIENTS}
+use Rattle.ll_rights.specs.Map.{len, has}
+use Rattle.ll_seq.specs.declared.call.Call.{Call}
+use Rattle.ll_seq.specs.declared.call.Call.TheVariants.{Connect}
+use Rattle.ll_seq.specs.declared.client.ClientRecord.{ClientRecord}
+use Rattle.ll_seq.specs.declared.reply.Reply.{Reply}
+use Rattle.ll_seq.specs.declared.reply.Reply.TheVariants.{Done, Refused}
+use Rattle.ll_seq.specs.State.{State, new_client}
+use Rattle.ll_seq.specs.Step.{step, client_of}
+use Rattle.ll_seq.specs.Effects.{with_client}
+use Rattle.ll_seq.specs.Facts.{AreKept}
+use Rattle.ll_seq.specs.History.{Log}
+use Rattle.ll_seq.proofs.FactsKept.{kept_connect}
+use Rattle.ll_walks.specs.World.{World, Join, Joined, Replied, advance, shown, is_full, next_number, reply_to, with_entry}
+use Rattle.ll_walks.specs.Sound.{IsSound}
+use Rattle.ll_walks.proofs.OneCall.{unused}
+use Rattle.ll_journal.specs.declared.journal.Journal.TheInside.{Inside}
+use Rattle.ll_journal.specs.declared.held.Held.{Held}
+use Rattle.ll_journal.specs.Book.{Seat, Book, Spares, inode_in, held_of, mark_of}
+use Rattle.ll_journal.specs.Direct.{TakesSpare}
+use Rattle.ll_journal.specs.Kept.{AreSeated, ArePlaced, AreDistinct, IsVacant, IsKept, walks_from, world_of, book_of}
+use Rattle.ll_journal.proofs.Advancing.{join_full, join_done, join_refused}
+use Rattle.ll_journal.proofs.NewClients.{clients_len, seated_more, walks_more, spares_more, all_more, all_less, distinct_moved}
+use Rattle.ll_journal.proofs.HeldAfter.{held_answered}
+use Rattle.ll_journal.proofs.LentSlots.{slot_kept}
+use Rattle.ll_journal.proofs.OwnAnswers.{connect_refused, connect_done}
+use Rattle.ll_journal.proofs.Shown.{shown_answered}
+use Rattle.ll_journal.proofs.SlotAccounts.{content_of}
+use Rattle.ll_journal.proofs.Starting.{sound_after}
+
+-- ---- accounts
+
+-- where names and bytes stay, each slot's does
+pub spares_answered : (b b' : Book) (number : ℕ) (call : Call) (reply : Reply) → IsSound b.world → IsSound b'.world → b'.world ≡ with_entry b.world number call reply → reply ≡ reply_to b.world number call → b'.inodes ≡ b.inodes
+    → ((i : ℕ) → content_of (step (shown b.world) number call (next_number b.world)).1 i ≡ content_of (shown b.world) i) → Spares b b' []
+spares_answered b b' number call reply sound later world told inodes content = record {
+  limit = ap (λ (w : World). w.limit) world;
+  size = ap length inodes;
+  slots = λ j out. slot_kept b b' j (ap (λ ns. inode_in (record b' { inodes = ns }) j) inodes) (λ some.
+      ap (λ w. held (inode_in b j) w) is ∙ held_answered b.world number call sound (subst IsSound is later) (inode_in b j)
+      ∙ ap (λ s. record { inode = inode_in b j; node = record s { mark = mark_of b.world (inode_in b j) } }) (content (inode_in b j)));
+}
+  where
+    is : b'.world ≡ with_entry b.world number call (reply_to b.world number call)
+    is = world ∙ ap (with_entry b.world number call) told
+
+    held : ℕ → World → Held
+    held i w = held_of w i
+
+-- ---- what is kept
+
+-- one entry more, and no other walk
+module _ (j k : Inside) (h : IsKept j) (number : ℕ) (call : Call) (reply : Reply) (told : reply ≡ reply_to (world_of j) number call)
+    (rules : k.rules ≡ j.rules) (room : k.room ≡ j.room) (gate : k.gate ≡ j.gate)
+    (history : k.history ≡ record j.history { entries = j.history.entries ++ record { client = number; call = call; reply = reply } ∷ [] })
+    (walks : walks_from 1 k.seats.items ≡ walks_from 1 j.seats.items) where
+  pub world_is : world_of k ≡ with_entry (world_of j) number call reply
+  world_is = λ i. record { rules = rules i; room = room i; limit = (history i).limit; history = (history i).entries; walks = walks i; gate = gate i }
+
+  tree_is : shown (world_of k) ≡ (step (shown (world_of j)) number call (next_number (world_of j))).1
+  tree_is = shown_answered (world_of j) (world_of k) number call reply told rules room (ap (λ (log : Log). log.entries) history)
+
+  -- the tree after, its clients in their seats, and as many slots free, spare or taken as before
+  pub kept_answered : (t : State) → (step (shown (world_of j)) number call (next_number (world_of j))).1 ≡ t → t.nodes ≡ (shown (world_of j)).nodes → IsSound (world_of k) → AreKept t k.facts → AreSeated t k.seats.items
+      → k.inodes ≡ j.inodes → k.places ≡ j.places → AllByRecursion (IsVacant j.inodes.items) k.free.items → AllByRecursion (λ (seat : Seat). IsVacant j.inodes.items seat.spare) k.seats.items
+      → AreDistinct (k.free.items ++ map (λ (seat : Seat). seat.spare) k.seats.items) → length k.free.items + length k.seats.items ≡ length j.free.items + length j.seats.items → IsKept k
+  kept_answered t after nodes sound facts seated inodes places free spares distinct many = record {
+    sound = sound;
+    facts = subst (λ s. AreKept s k.facts) (sym is) facts;
+    seated = subst (λ s. AreSeated s k.seats.items) (sym is) seated;
+    placed = subst (λ v. ArePlaced v.items k.places) (sym inodes) (subst (ArePlaced j.inodes.items) (sym places) h.placed);
+    living = λ inode.
+        ap (λ m. has m inode) places ∙ h.living inode
+        ∙ sym (ap (λ (s : State). has s.nodes inode) is ∙ ap (λ m. has m inode) nodes);
+    slots = ap (λ v. length v.items) inodes ∙ h.slots ∙ ap (λ n. n + TREE_CLIENTS) (sym room);
+    free = subst (λ v. AllByRecursion (IsVacant v.items) k.free.items) (sym inodes) free;
+    spares = subst (λ v. AllByRecursion (λ (seat : Seat). IsVacant v.items seat.spare) k.seats.items) (sym inodes) spares;
+    distinct = distinct;
+    count = (λ i. many i + as_many i) ∙ h.count ∙ ap (λ n. n + TREE_CLIENTS) (sym room);
+    few = subst (λ n. n ≤ k.room) (sym as_many) (subst (λ n. len (shown (world_of j)).nodes ≤ n) (sym room) h.few);
+  }
+    where
+      is : shown (world_of k) ≡ t
+      is = tree_is ∙ after
+
+      as_many : len (shown (world_of k)).nodes ≡ len (shown (world_of j)).nodes
+      as_many = ap (λ (s : State). len s.nodes) is ∙ ap len nodes
+
+-- and one client more
+module _ (j k : Inside) (h : IsKept j) (number : ℕ) (call : Call) (reply : Reply) (told : reply ≡ reply_to (world_of j) number call)
+    (rules : k.rules ≡ j.rules) (room : k.room ≡ j.room) (gate : k.gate ≡ j.gate)
+    (history : k.history ≡ record j.history { entries = j.history.entries ++ record { client = number; call = call; reply = reply } ∷ [] })
+    (seat : Seat) (idle : seat.walk ≡ None) (seats : k.seats.items ≡ j.seats.items ++ seat ∷ []) (free : j.free.items ≡ k.free.items ++ seat.spare ∷ [])
+    (after : (step (shown (world_of j)) number call (next_number (world_of j))).1 ≡ with_client (shown (world_of j)) (next_number (world_of j)) seat.client) where
+  walks_are : walks_from 1 k.seats.items ≡ walks_from 1 j.seats.items
+  walks_are = ap (walks_from 1) seats ∙ walks_more j.seats.items seat 1 idle
+
+  pub world_more : world_of k ≡ with_entry (world_of j) number call reply
+  world_more = world_is j k h number call reply told rules room gate history walks_are
+
+  pub kept_more : IsSound (world_of k) → AreKept (with_client (shown (world_of j)) (next_number (world_of j)) seat.client) k.facts → k.inodes ≡ j.inodes → k.places ≡ j.places → IsKept k
+  kept_more sound facts inodes places =
+      let vacant = all_less (IsVacant j.inodes.items) k.free.items seat.spare (subst (AllByRecursion (IsVacant j.inodes.items)) free h.free) in
+      let numbered : next_number (world_of j) ≡ length j.seats.items + 1 = ap (λ n. n + 1) (clients_len (shown (world_of j)) j.seats.items h.seated) in
+      let one_seat : length k.seats.items ≡ length j.seats.items + 1 = ap length seats ∙ length-append j.seats.items (seat ∷ []) in
+      let one_slot : length j.free.items ≡ length k.free.items + 1 = ap length free ∙ length-append k.free.items (seat.spare ∷ []) in
+      kept_answered j k h number call reply told rules room gate history walks_are (with_client (shown (world_of j)) (next_number (world_of j)) seat.client) after refl sound facts
+      (subst (AreSeated (with_client (shown (world_of j)) (next_number (world_of j)) seat.client)) (sym seats) (seated_more (shown (world_of j)) j.seats.items seat (next_number (world_of j)) numbered h.seated))
+      inodes places vacant.0
+      (subst (AllByRecursion (λ (s : Seat). IsVacant j.inodes.items s.spare)) (sym seats) (all_more (λ (s : Seat). IsVacant j.inodes.items s.spare) j.seats.items seat h.spares vacant.1))
+      (subst (λ ss. AreDistinct (k.free.items ++ ss)) (sym (ap (map (λ (s : Seat). s.spare)) seats ∙ spares_more j.seats.items seat))
+      (distinct_moved k.free.items (map (λ (s : Seat). s.spare) j.seats.items) seat.spare (subst (λ ks. AreDistinct (ks ++ map (λ (s : Seat). s.spare) j.seats.items)) free h.distinct)))
+      (omega (arith, one_seat, one_slot))
+
+  pub takes_spare : k.inodes ≡ j.inodes → TakesSpare (book_of j) (book_of k)
+  takes_spare inodes = record { slot = seat.spare; free = free; spares = ap (map (λ (s : Seat). s.spare)) seats ∙ spares_more j.seats.items seat; inodes = ap (λ v. v.items) inodes }
+
+-- a slot is free for one client more
+pub one_free : (j : Inside) → IsKept j → length j.seats.items < TREE_CLIENTS → 0 < length j.free.items
+one_free j h few = let sum = h.count in let most = h.few in omega (arith, sum, most, few)
+
+-- ---- a connect
+
+few_clients : (n m : ℕ) → n ≡ m → m < TREE_CLIENTS → nat_le TREE_CLIENTS n ≡ false
+few_clients n m e lt = grind (arith, nat_tests)
+
+many_clients : (n m : ℕ) → n ≡ m → TREE_CLIENTS ≤ m → nat_le TREE_CLIENTS n ≡ true
+many_clients n m e le = grind (arith, nat_tests)
+
+module _ (j k : Inside) (h : IsKept j) (number spare : ℕ) (client : ClientRecord) (room_left : is_full (world_of j) ≡ false) (few : length j.seats.items < TREE_CLIENTS)
+    (numbered : number ≡ length j.seats.items + 1) (new : client ≡ new_client)
+    (free : j.free.items ≡ k.free.items ++ spare ∷ []) (seats : k.seats.items ≡ j.seats.items ++ record { client = client; spare = spare; walk = None } ∷ [])
+    (history : k.history ≡ record j.history { entries = j.history.entries ++ record { client = number; call = Connect; reply = Done } ∷ [] })
+    (rules : k.rules ≡ j.rules) (room : k.room ≡ j.room) (gate : k.gate ≡ j.gate) (facts : k.facts ≡ j.facts) (inodes : k.inodes ≡ j.inodes) (places : k.places ≡ j.places) where
+  abbrev w : World
+  w = world_of j
+
+  next : number ≡ next_number w
+  next = numbered ∙ ap (λ n. n + 1) (sym (clients_len (shown w) j.seats.items h.seated))
+
+  abbrev seat : Seat
+  seat = record { client = client; spare = spare; walk = None }
+
+  comes : step (shown w) number Connect (next_number w) ≡ (Done, with_client (shown w) number new_client)
+  comes = connect_done (shown w) number (next_number w) (few_clients (len (shown w).clients) (length j.seats.items) (clients_len (shown w) j.seats.items h.seated) few)
+
+  told : Done ≡ reply_to w number Connect
+  told = sym (ap (λ (p : Reply × State). p.0) comes)
+
+  after : (step (shown w) number Connect (next_number w)).1 ≡ with_client (shown w) (next_number w) client
+  after = ap (λ (p : Reply × State). p.1) comes ∙ (λ i. with_client (shown w) (next i) (sym new i))
+
+  after_world : world_of k ≡ with_entry w number Connect Done
+  after_world = world_more j k h number Connect Done told rules room gate history seat refl seats free after
+
+  pub connect_joined : advance w Join ≡ (Joined number, world_of k)
+  connect_joined =
+      join_done w room_left (ap (λ n. reply_to w n Connect) (sym next) ∙ sym told)
+      ∙ (λ i. (Joined (sym next i), with_entry w (sym next i) Connect Done))
+      ∙ ap (λ (v : World). (Joined number, v)) (sym after_world)
+
+  pub connect_kept : IsKept k
+  connect_kept =
+      kept_more j k h number Connect Done told rules room gate history seat refl seats free after (sound_after j (world_of k) Join (Joined number) h connect_joined)
+      (subst (λ f. AreKept (with_client (shown w) (next_number w) client) f) (sym facts)
+      (kept_connect (shown w) j.facts (next_number w) client h.facts (unused (shown w) h.sound.numbers) (ap (λ (c : ClientRecord). c.descriptors) new)))
+      inodes places
+
+  pub connect_spares : Spares (book_of j) (book_of k) []
+  connect_spares =
+      spares_answered (book_of j) (book_of k) number Connect Done h.sound (connect_kept).sound after_world told (ap (λ v. v.items) inodes)
+      (λ i. ap (λ s. content_of s i) after)
+
+pub connect_crowded : (j : Inside) → IsKept j → is_full (world_of j) ≡ false → TREE_CLIENTS ≤ length j.seats.items → advance (world_of j) Join ≡ (Replied (Refused EMFILE), world_of j)
+connect_crowded j h room many =
+    join_refused (world_of j) EMFILE room
+    (ap (λ (p : Reply × State). p.0) (connect_refused (shown (world_of j)) (next_number (world_of j)) (next_number (world_of j))
+    (many_clients (len (shown (world_of j)).clients) (length j.seats.items) (clients_len (shown (world_of j)) j.seats.items h.seated) many)))
+
+pub over_joined : (b b' : Book) (v : World) (number : ℕ) → b ≡ b' → advance b.world Join ≡ (Joined number, v) → advance b'.world Join ≡ (Joined number, v)
+over_joined b b' v number e h = subst (λ (b : Book). advance b.world Join ≡ (Joined number, v)) e h

@@ -1,0 +1,21 @@
+use Rattle.std.specs.Prelude.{refl}
+use Rattle.std.proofs.Common.{sym, ap, ◌∙◌}
+use Rattle.std.specs.Option.{option_copied}
+use Rattle.ll_journal.proofs.OwnAnswers.{comes_without, comes_confined, comes_not_confined, none_found, copied_none, within}
+use Rattle.ll_journal.proofs.alone.confine.Goals as goal
+
+pub returns-then-is_none-clause-ok : goal.returns-then-is_none-clause-ok
+returns-then-is_none-clause-ok c abi =
+    comes_without abi c.args.client.now _ c.args.number (none_found c.get.result _ option_copied c.is_none.result c.get.ensures copied_none c.is_none.ensures ∙ c.if-is_none.true) refl
+
+pub confine-requires : goal.confine-requires
+confine-requires c = within c.args.client.now.rulesets c.args.number (none_found c.get.result _ option_copied c.is_none.result c.get.ensures copied_none c.is_none.ensures ∙ c.if-is_none.false)
+
+pub returns-in-Ok-clause-ok : goal.returns-in-Ok-clause-ok
+returns-in-Ok-clause-ok c abi =
+    comes_confined abi c.args.client.now c.confine.new.self c.args.number (none_found c.get.result _ option_copied c.is_none.result c.get.ensures copied_none c.is_none.ensures ∙ c.if-is_none.false) c.in-Ok.ensures.ok
+
+pub returns-in-Err-clause-ok : goal.returns-in-Err-clause-ok
+returns-in-Err-clause-ok c =
+    comes_not_confined c.args.client.now c.confine.new.self c.args.number c.in-Err.errno c.refusal.result (none_found c.get.result _ option_copied c.is_none.result c.get.ensures copied_none c.is_none.ensures ∙ c.if-is_none.false)
+    c.in-Err.ensures.refused c.in-Err.ensures.err c.refusal.ensures

@@ -1,0 +1,80 @@
+use Rattle.std.proofs.Common.{◌≡◌, ℕ, List, map, ap, sym, subst, ◌∙◌, refl}
+use Rattle.std.specs.Prelude.{option_and_then, unwrap_or}
+use Rattle.ll_walks.specs.World.{Restart, Restarted, NotNow, advance}
+use Rattle.ll_walks.specs.World as world
+use Rattle.ll_journal.specs.Book.{Book, Seat, inode_in, slot_of}
+use Rattle.ll_journal.specs.Kept.{seat_at, world_of}
+use Rattle.ll_journal.specs.Looks.{look_again}
+use Rattle.ll_journal.specs.Steps.{IsAstrayAt, unmarked}
+use Rattle.ll_journal.proofs.Starting.{at_place, changed_world, kept_by, over_spares, rest_kept}
+use Rattle.ll_journal.proofs.Entering.{no_walk, one_seat}
+use Rattle.ll_journal.proofs.Restarting.{again_not_now, again_astray, again_goes, few_starts, again_does, again_sound, again_lent, again_spares}
+use Rattle.ll_journal.proofs.journal.Journal.start_again.Goals as goal
+
+pub returns-in_default-clause-does : goal.returns-in_default-clause-does
+returns-in_default-clause-does c =
+    subst (λ (b : Book). advance b.world (Restart c.args.client) ≡ (NotNow, b.world)) c.self.view_is
+    (ap (λ o. unwrap_or (option_and_then (world.restart (world_of c.self.inside) c.args.client) o) (NotNow, world_of c.self.inside))
+    (no_walk c.self.inside c.args.client (ap (λ xs. seat_at xs c.args.client) (sym c.deref.ensures.value) ∙ c.in_default.ensures.none)))
+
+pub returns-in-NotNow-clause-does : goal.returns-in-NotNow-clause-does
+returns-in-NotNow-clause-does c =
+    let first = at_place c.self.inside.seats.items c.deref.result.now c.args.client c.in-Some.place c.index.result.now c.deref.ensures.value c.in-Some.ensures.some c.index.ensures in
+    subst (λ (b : Book). advance b.world (Restart c.args.client) ≡ (NotNow, b.world)) c.self.view_is
+    (again_not_now c.self.inside c.self.invariant c.args.client c.in-Some.place c.index.result.now first c.in-Some.ensures.some.0 c.args.inodes.now (sym c.look_again.ensures ∙ c.in-NotNow.is))
+
+pub returns-in-Astray-clause-astray : goal.returns-in-Astray-clause-astray
+returns-in-Astray-clause-astray c e =
+    let first = at_place c.self.inside.seats.items c.deref.result.now c.args.client c.in-Some.place c.index.result.now c.deref.ensures.value c.in-Some.ensures.some c.index.ensures in
+    subst (λ (b : Book). (ks : List ℕ) → map (inode_in b) ks ≡ c.args.inodes.now → IsAstrayAt b c.args.client ks) c.self.view_is
+    (again_astray c.self.inside c.self.invariant c.args.client c.in-Some.place c.index.result.now first c.in-Some.ensures.some.0 c.args.inodes.now (sym c.look_again.ensures ∙ c.in-Astray.is))
+
+pub restart-requires : goal.restart-requires
+restart-requires c =
+    let first = at_place c.self.inside.seats.items c.deref.result.now c.args.client c.in-Some.place c.index.result.now c.deref.ensures.value c.in-Some.ensures.some c.index.ensures in
+    let at = at_place c.self.inside.seats.items c.deref.result.now c.args.client c.in-Some.place c.index_mut-seat.result.now c.deref.ensures.value c.in-Some.ensures.some c.index_mut-seat.ensures.value in
+    let go = again_goes c.self.inside c.self.invariant c.args.client c.in-Some.place c.index_mut-seat.result.now at c.in-Some.ensures.some.0 c.args.inodes.now
+    (ap (λ (s : Seat). look_again c.args.inodes.now s) (sym (one_seat c.self.inside c.in-Some.place _ _ first at)) ∙ sym c.look_again.ensures ∙ c.in-Go.is) in
+    few_starts c.self.inside c.self.invariant c.args.client c.in-Some.place c.index_mut-seat.result.now at c.in-Some.ensures.some.0 c.args.inodes.now go
+
+pub invariant_of-self : goal.invariant_of-self
+invariant_of-self c =
+    let first = at_place c.self.inside.seats.items c.deref.result.now c.args.client c.in-Some.place c.index.result.now c.deref.ensures.value c.in-Some.ensures.some c.index.ensures in
+    let at = at_place c.self.inside.seats.items c.deref.result.now c.args.client c.in-Some.place c.index_mut-seat.result.now c.deref.ensures.value c.in-Some.ensures.some c.index_mut-seat.ensures.value in
+    let go = again_goes c.self.inside c.self.invariant c.args.client c.in-Some.place c.index_mut-seat.result.now at c.in-Some.ensures.some.0 c.args.inodes.now
+    (ap (λ (s : Seat). look_again c.args.inodes.now s) (sym (one_seat c.self.inside c.in-Some.place _ _ first at)) ∙ sym c.look_again.ensures ∙ c.in-Go.is) in
+    kept_by c.self.inside _ c.in-Some.place c.index_mut-seat.result.now c.restart.new.self c.self.inside.gate c.self.invariant at
+    (ap (λ (s : Seat). s.client) c.restart.ensures) (ap (λ (s : Seat). s.spare) c.restart.ensures)
+    (again_sound c.self.inside c.self.invariant c.args.client c.in-Some.place c.index_mut-seat.result.now at c.in-Some.ensures.some.0 c.args.inodes.now go c.restart.new.self c.restart.ensures)
+    refl refl refl refl refl refl refl refl refl
+
+pub returns-clause-does : goal.returns-clause-does
+returns-clause-does c =
+    let first = at_place c.self.inside.seats.items c.deref.result.now c.args.client c.in-Some.place c.index.result.now c.deref.ensures.value c.in-Some.ensures.some c.index.ensures in
+    let at = at_place c.self.inside.seats.items c.deref.result.now c.args.client c.in-Some.place c.index_mut-seat.result.now c.deref.ensures.value c.in-Some.ensures.some c.index_mut-seat.ensures.value in
+    let go = again_goes c.self.inside c.self.invariant c.args.client c.in-Some.place c.index_mut-seat.result.now at c.in-Some.ensures.some.0 c.args.inodes.now
+    (ap (λ (s : Seat). look_again c.args.inodes.now s) (sym (one_seat c.self.inside c.in-Some.place _ _ first at)) ∙ sym c.look_again.ensures ∙ c.in-Go.is) in
+    subst (λ (b : Book). advance b.world (Restart c.args.client) ≡ (Restarted, changed_world c.self.inside c.in-Some.place c.restart.new.self c.self.inside.gate)) c.self.view_is
+    (again_does c.self.inside c.self.invariant c.args.client c.in-Some.place c.index_mut-seat.result.now at c.in-Some.ensures.some.0 c.args.inodes.now go c.restart.new.self c.restart.ensures)
+
+pub returns-clause-lent : goal.returns-clause-lent
+returns-clause-lent c e k =
+    let first = at_place c.self.inside.seats.items c.deref.result.now c.args.client c.in-Some.place c.index.result.now c.deref.ensures.value c.in-Some.ensures.some c.index.ensures in
+    let at = at_place c.self.inside.seats.items c.deref.result.now c.args.client c.in-Some.place c.index_mut-seat.result.now c.deref.ensures.value c.in-Some.ensures.some c.index_mut-seat.ensures.value in
+    let go = again_goes c.self.inside c.self.invariant c.args.client c.in-Some.place c.index_mut-seat.result.now at c.in-Some.ensures.some.0 c.args.inodes.now
+    (ap (λ (s : Seat). look_again c.args.inodes.now s) (sym (one_seat c.self.inside c.in-Some.place _ _ first at)) ∙ sym c.look_again.ensures ∙ c.in-Go.is) in
+    again_lent c.self.inside c.self.invariant c.args.client c.in-Some.place c.index_mut-seat.result.now at c.in-Some.ensures.some.0 c.args.inodes.now go c.restart.new.self c.restart.ensures k ∙ ap (λ (b : Book). unmarked c.args.client (slot_of b k)) c.self.view_is
+
+pub returns-clause-spares : goal.returns-clause-spares
+returns-clause-spares c ks lent =
+    let first = at_place c.self.inside.seats.items c.deref.result.now c.args.client c.in-Some.place c.index.result.now c.deref.ensures.value c.in-Some.ensures.some c.index.ensures in
+    let at = at_place c.self.inside.seats.items c.deref.result.now c.args.client c.in-Some.place c.index_mut-seat.result.now c.deref.ensures.value c.in-Some.ensures.some c.index_mut-seat.ensures.value in
+    let go = again_goes c.self.inside c.self.invariant c.args.client c.in-Some.place c.index_mut-seat.result.now at c.in-Some.ensures.some.0 c.args.inodes.now
+    (ap (λ (s : Seat). look_again c.args.inodes.now s) (sym (one_seat c.self.inside c.in-Some.place _ _ first at)) ∙ sym c.look_again.ensures ∙ c.in-Go.is) in
+    over_spares _ _ _ ks c.self.view_is
+    (again_spares c.self.inside c.self.invariant c.args.client c.in-Some.place c.index_mut-seat.result.now at c.in-Some.ensures.some.0 c.args.inodes.now go c.restart.new.self c.restart.ensures _ refl refl ks (subst (λ (b : Book). map (inode_in b) ks ≡ c.args.inodes.now) (sym c.self.view_is) lent))
+
+pub returns-clause-rest : goal.returns-clause-rest
+returns-clause-rest c =
+    let at = at_place c.self.inside.seats.items c.deref.result.now c.args.client c.in-Some.place c.index_mut-seat.result.now c.deref.ensures.value c.in-Some.ensures.some c.index_mut-seat.ensures.value in
+    rest_kept c.self.inside c.in-Some.place c.index_mut-seat.result.now c.restart.new.self at (ap (λ (s : Seat). s.spare) c.restart.ensures) _ c.args.self.now c.self.view_is

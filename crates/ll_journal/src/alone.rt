@@ -1,0 +1,146 @@
+//! A client's calls for itself alone: those that need no node, as they concern its record, or are refused early.
+
+ghost use Rattle.std.specs.Prelude.{◌≡◌, ◌≢◌, ◌<◌, None, Some, true, false, slice_get, length, is_some, IfOk, OnErr, option_map, if◌then◌else◌};
+ghost use Rattle.ll_rights.specs.Map.{has};
+ghost use Rattle.ll_walks.specs.World as world;
+ghost use Rattle.ll_seq.specs.declared.reply.Reply.TheVariants as replies;
+ghost use Rattle.ll_journal.specs.Own.{Asks, IsOwn, Comes};
+
+use ll_answer::refused_early;
+use ll_rights::limits::DATA_BYTES;
+use ll_rights::{Abi, Access, Errno};
+use ll_seq::{Call, ClientRecord, Reply};
+use std::alloc::{AllocError, Global};
+
+const MOST_READ: u64 = DATA_BYTES as u64;
+
+/// A call on the client's record.
+#[derive(Clone, Copy, Debug, PartialEq, Eq)]
+pub(crate) enum RecordCall {
+    /// A new ruleset that handles these rights.
+    Ruleset(Access),
+    /// The ruleset of this number becomes the newest layer.
+    Confine(u64),
+    /// Nothing, as an early stage refuses the call.
+    Refused(Errno),
+}
+
+/// A call for the client alone.
+#[derive(Clone, Copy, Debug, PartialEq, Eq)]
+pub(crate) enum Own {
+    Spawn,
+    OnRecord(RecordCall),
+}
+
+/// The refusal, where there is one.
+fn refused(refusal: Option<Errno>) -> Option<Own>
+    ensures { result ≡ option_map (λ errno. Own.OnRecord (RecordCall.Refused errno)) refusal }
+{
+    match refusal {
+        None => None,
+        Some(errno) => Some(Own::OnRecord(RecordCall::Refused(errno))),
+    }
+}
+
+/// On a descriptor: refused so where the client hasn't it.
+fn unheld(caller: &ClientRecord, number: u64, errno: Errno) -> Option<Errno>
+    ensures { result ≡ (if has caller.now.descriptors number then None else Some errno) }
+{
+    if caller.descriptors.has(number) {
+        None
+    } else {
+        Some(errno)
+    }
+}
+
+/// What the call asks, if it is one for the client alone.
+pub(crate) fn asked_of(caller: &ClientRecord, call: &Call) -> Option<Own>
+    ensures { IsOwn caller.now call.now result }
+{
+    match call {
+        Call::Ruleset(rights) => Some(Own::OnRecord(RecordCall::Ruleset(*rights))),
+        Call::Confine(number) => Some(Own::OnRecord(RecordCall::Confine(*number))),
+        Call::Spawn => Some(Own::Spawn),
+        Call::Connect => None,
+        Call::Read(number, _, count) if MOST_READ < *count => {
+            refused(unheld(caller, *number, Errno::EINVAL))
+        }
+        Call::Read(number, _, _) => refused(unheld(caller, *number, Errno::EBADF)),
+        Call::Write(number, _, _) => refused(unheld(caller, *number, Errno::EBADF)),
+        Call::Ftruncate(number, _) => refused(unheld(caller, *number, Errno::EBADF)),
+        Call::Close(number) => refused(unheld(caller, *number, Errno::EBADF)),
+        Call::Make(..) => refused(refused_early(caller, call)),
+        Call::Open(..) => refused(refused_early(caller, call)),
+        Call::Truncate(..) => refused(refused_early(caller, call)),
+        Call::ReadDir(_) => refused(refused_early(caller, call)),
+        Call::Stat(_) => refused(refused_early(caller, call)),
+        Call::Exec(_) => refused(refused_early(caller, call)),
+        Call::Unlink(_) => refused(refused_early(caller, call)),
+        Call::Rmdir(_) => refused(refused_early(caller, call)),
+        Call::Rename(..) => refused(refused_early(caller, call)),
+        Call::RenameNoreplace(..) => refused(refused_early(caller, call)),
+        Call::Exchange(..) => refused(refused_early(caller, call)),
+        Call::Link(..) => refused(refused_early(caller, call)),
+        Call::Allow(..) => refused(refused_early(caller, call)),
+    }
+}
+
+/// The reply, unless memory ran out.
+fn refusal(errno: Errno) -> Result<Reply, AllocError>
+    ensures { IfOk result (λ reply. (errno ≢ Errno.NoMemory) × (reply ≡ replies.Refused errno)) }
+{
+    if errno == Errno::NoMemory {
+        return Err(AllocError);
+    }
+    Ok(Reply::Refused(errno))
+}
+
+/// A new ruleset, or its refusal.
+fn create_ruleset(
+    client: &mut ClientRecord,
+    alloc: Global,
+    abi: Abi,
+    rights: Access,
+) -> Result<Reply, AllocError>
+    ensures ok { IfOk result (λ reply. Comes abi client.old (RecordCall.Ruleset rights) reply client.new) }
+    ensures descriptors { client.new.descriptors ≡ client.old.descriptors }
+    ensures err { OnErr result (client.new ≡ client.old) }
+{
+    match client.create_ruleset(alloc, abi, rights) {
+        Ok(number) => Ok(Reply::Created(number)),
+        Err(errno) => refusal(errno),
+    }
+}
+
+/// The client is under one layer more, or the refusal.
+fn confine(client: &mut ClientRecord, number: u64) -> Result<Reply, AllocError>
+    ensures ok { IfOk result (λ reply. (abi : Abi) → Comes abi client.old (RecordCall.Confine number) reply client.new) }
+    ensures descriptors { client.new.descriptors ≡ client.old.descriptors }
+    ensures err { OnErr result (client.new ≡ client.old) }
+{
+    if client.rulesets.get(number).is_none() {
+        return Ok(Reply::Refused(Errno::EBADF));
+    }
+    match client.confine(number) {
+        Ok(()) => Ok(Reply::Done),
+        Err(errno) => refusal(errno),
+    }
+}
+
+/// The reply, after the call has been made.
+pub(crate) fn answer(
+    client: &mut ClientRecord,
+    alloc: Global,
+    abi: Abi,
+    asked: RecordCall,
+) -> Result<Reply, AllocError>
+    ensures ok { IfOk result (λ reply. Comes abi client.old asked reply client.new) }
+    ensures descriptors { client.new.descriptors ≡ client.old.descriptors }
+    ensures err { OnErr result (client.new ≡ client.old) }
+{
+    match asked {
+        RecordCall::Ruleset(rights) => create_ruleset(client, alloc, abi, rights),
+        RecordCall::Confine(number) => confine(client, number),
+        RecordCall::Refused(errno) => Ok(Reply::Refused(errno)),
+    }
+}
