@@ -10,8 +10,8 @@ use ll_rights::limits::{HISTORY_ENTRIES, TREE_NODES};
 use std::alloc::Global;
 
 /// The run that is wanted: of the script in this file, or in standard input where it is `-`, over a tree in which so
-/// many nodes may live, at this level or by the policy in this file, whose profile the first client has. Its history has
-/// at most so many entries, and is saved in a file, if one is named.
+/// many nodes may live, at this level or by the policy in this file, whose profile the first client has. Its history
+/// has at most so many entries, and is saved in a file, if one is named.
 #[derive(Drop)]
 pub struct RunOptions<'a> {
     pub script: &'a str,

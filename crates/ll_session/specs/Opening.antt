@@ -31,16 +31,20 @@ joined s t = record t { clients = t.clients ++ following s ∷ [] }
 -- A client makes these calls in turn, and none is refused
 abbrev pub Makes : ℕ → Session → List Call → Session → Type 0
 Makes client s [] t = t ≡ s
-Makes client s (call ∷ calls) t = (reply : Reply) × (mid : Session) × Called s client call reply mid × (is_refusal reply ≡ false) × Makes client mid calls t
+Makes client s (call ∷ calls) t =
+    (reply : Reply) × (mid : Session) × Called s client call reply mid × (is_refusal reply ≡ false)
+    × Makes client mid calls t
 
 -- the first of them that is refused gets this reply, and leaves t
 abbrev pub Stops : ℕ → Session → List Call → Reply → Session → Type 0
 Stops client s [] reply t = ⊥
 Stops client s (call ∷ calls) reply t =
     (told : Reply) × (mid : Session) × Called s client call told mid
-    × (((is_refusal told ≡ true) × (reply ≡ told) × (t ≡ mid)) ⊎ ((is_refusal told ≡ false) × Stops client mid calls reply t))
+    × (((is_refusal told ≡ true) × (reply ≡ told) × (t ≡ mid))
+    ⊎ ((is_refusal told ≡ false) × Stops client mid calls reply t))
 
--- How the coming of a client ends, and with which session: it has made its calls, its connect gets this refusal, or one of its calls does
+-- How the coming of a client ends, and with which session: it has made its calls, its connect gets this refusal, or one
+-- of its calls does
 pub data Coming : Type 0 where
   made : Session → Coming
   unconnected : Reply → Session → Coming
@@ -50,7 +54,8 @@ pub data Coming : Type 0 where
 abbrev pub Comes : Session → List Call → Coming → Type 0
 Comes s calls (made t) = (mid : Session) × Connects s Done mid × Makes (following s) (joined s mid) calls t
 Comes s calls (unconnected reply t) = (mid : Session) × Connects s reply mid × (reply ≢ Done) × (t ≡ s)
-Comes s calls (unmade reply t) = (mid : Session) × Connects s Done mid × Stops (following s) (joined s mid) calls reply t
+Comes s calls (unmade reply t) =
+    (mid : Session) × Connects s Done mid × Stops (following s) (joined s mid) calls reply t
 
 -- the same of a loader, if there is one
 abbrev pub Loads : Session → Option (Vec Call Global) → Coming → Type 0
@@ -59,8 +64,8 @@ Loads s None (made t) = t ≡ s
 Loads s None (unconnected reply t) = ⊥
 Loads s None (unmade reply t) = ⊥
 
--- How the opening of a run ends: with a session, with a connect or a profile's call that gets this refusal and leaves this session, or
--- with a loader's call that is refused
+-- How the opening of a run ends: with a session; with a connect or a profile's call that gets this refusal and leaves
+-- this session; or with a loader's call that is refused
 pub data Opening : Type 0 where
   begun : Session → Opening
   refused : Reply → Session → Opening
@@ -74,5 +79,6 @@ Opens setup (begun first) =
 Opens setup (refused reply left) =
     Loads (fresh setup) setup.loader (unconnected reply left)
     ⊎ ((loaded : Session) × Loads (fresh setup) setup.loader (made loaded)
-    × (Comes loaded setup.profile.items (unconnected reply left) ⊎ Comes loaded setup.profile.items (unmade reply left)))
+    × (Comes loaded setup.profile.items (unconnected reply left)
+    ⊎ Comes loaded setup.profile.items (unmade reply left)))
 Opens setup stopped = (reply : Reply) × (left : Session) × Loads (fresh setup) setup.loader (unmade reply left)

@@ -101,7 +101,8 @@ pub record IsSound (empty : State) (s : Session) : Type 0 where
 -- the one tree's sound sessions go on to sound ones of the other
 abbrev pub StaysSound : (before after : SessionTree) → Type 0
 StaysSound before after =
-    (empty : State) (s : Session) → StandsAt before s → IsSound empty s → (t : Session) × StandsAt after t × IsSound empty t
+    (empty : State) (s : Session) → StandsAt before s → IsSound empty s
+    → (t : Session) × StandsAt after t × IsSound empty t
 
 abbrev pub AnswersLine : Session → List ℕ → Reply → Session → Type 0
 AnswersLine = Answers (λ s. s.clients) Called
@@ -116,23 +117,28 @@ AppendsFront old new text = (front back : List ℕ) × (text ≡ front ++ back) 
 
 -- the piece is answered, the answer is written, and this tree is left
 abbrev pub IsAnswered : Session → List ℕ → SessionTree → (old new : Option (List ℕ)) → Type 0
-IsAnswered s piece left old new = (t : Session) × (reply : Reply) × AnswersLine s piece reply t × StandsAt left t × Appends old new (reply_line reply)
+IsAnswered s piece left old new =
+    (t : Session) × (reply : Reply) × AnswersLine s piece reply t × StandsAt left t × Appends old new (reply_line reply)
 
 -- the piece is answered, and a front of the answer is written
 abbrev pub IsStarted : Session → List ℕ → (old new : Option (List ℕ)) → Type 0
-IsStarted s piece old new = (t : Session) × (reply : Reply) × AnswersLine s piece reply t × AppendsFront old new (reply_line reply)
+IsStarted s piece old new =
+    (t : Session) × (reply : Reply) × AnswersLine s piece reply t × AppendsFront old new (reply_line reply)
 
 -- the whole transcript is written, and the session has these entries then
 abbrev pub IsWritten : Session → List ℕ → (old new : Option (List ℕ)) → List Entry → Type 0
 IsWritten first input old new entries =
-    (text : List ℕ) × (last : Session) × Lines first (pieces input) text last × Appends old new text × (entries ≡ last.entries)
+    (text : List ℕ) × (last : Session) × Lines first (pieces input) text last × Appends old new text
+    × (entries ≡ last.entries)
 
 -- a beginning of the transcript of some first pieces is written
 abbrev pub HasBegun : Session → List ℕ → (old new : Option (List ℕ)) → Type 0
 HasBegun first input old new =
-    (done more : List (List ℕ)) × (text : List ℕ) × (last : Session) × (pieces input ≡ done ++ more) × Lines first done text last × AppendsFront old new text
+    (done more : List (List ℕ)) × (text : List ℕ) × (last : Session) × (pieces input ≡ done ++ more)
+    × Lines first done text last × AppendsFront old new text
 
--- Of the input this is left to read. The pieces before the line that is being read are answered, and their transcript is written
+-- Of the input this is left to read. The pieces before the line that is being read are answered, and their transcript
+-- is written
 pub record Progress (first : Session) (input left : List ℕ) (old new : Option (List ℕ)) (open_session : OpenSession) : Type 0 where
   pub done : List (List ℕ)
   pub part : List ℕ

@@ -28,27 +28,34 @@ MayEnd setup (run.Session fault) = ⊤
 -- A run reads all and writes the transcript, or reads nothing and writes the refusal. It leaves these entries
 abbrev pub Runs : Setup → (input left text : List ℕ) → List Entry → Type 0
 Runs setup input left text entries =
-    ((first last : Session) × Opens setup (begun first) × (left ≡ []) × Lines first (pieces input) text last × (entries ≡ last.entries))
-    ⊎ ((reply : Reply) × (last : Session) × Opens setup (refused reply last) × (left ≡ input) × (text ≡ reply_line reply) × (entries ≡ last.entries))
+    ((first last : Session) × Opens setup (begun first) × (left ≡ []) × Lines first (pieces input) text last
+    × (entries ≡ last.entries))
+    ⊎ ((reply : Reply) × (last : Session) × Opens setup (refused reply last) × (left ≡ input)
+    × (text ≡ reply_line reply) × (entries ≡ last.entries))
 
--- What a run that a fault ends has written: a beginning of the transcript of some first pieces, or of the refusal, or nothing
+-- What a run that a fault ends has written: a beginning of the transcript of some first pieces, or of the refusal, or
+-- nothing
 abbrev pub Begins : Setup → (input text : List ℕ) → Type 0
 Begins setup input text =
-    ((first last : Session) × (done more : List (List ℕ)) × (whole back : List ℕ) × Opens setup (begun first) × (pieces input ≡ done ++ more)
-    × Lines first done whole last × (whole ≡ text ++ back))
-    ⊎ ((reply : Reply) × (last : Session) × (back : List ℕ) × Opens setup (refused reply last) × (reply_line reply ≡ text ++ back))
+    ((first last : Session) × (done more : List (List ℕ)) × (whole back : List ℕ) × Opens setup (begun first)
+    × (pieces input ≡ done ++ more) × Lines first done whole last × (whole ≡ text ++ back))
+    ⊎ ((reply : Reply) × (last : Session) × (back : List ℕ) × Opens setup (refused reply last)
+    × (reply_line reply ≡ text ++ back))
     ⊎ (Opens setup stopped × (text ≡ []))
 
 -- The entries of a run, line after line, are a legal history of its tree, and lead to the tree that it has then
 abbrev pub RunsLegally : Type 0
 RunsLegally =
-    (setup : Setup) (first last : Session) (done : List (List ℕ)) (text : List ℕ) → Opens setup (begun first) → Lines first done text last →
+    (setup : Setup) (first last : Session) (done : List (List ℕ)) (text : List ℕ) → Opens setup (begun first)
+    → Lines first done text last →
     let empty = start setup.rules setup.nodes in
     IsLegal empty last.entries × (last.tree ≡ state_after empty last.entries)
 
 -- So are those of a run whose opening is refused
 abbrev pub IsRefusedLegally : Type 0
-IsRefusedLegally = (setup : Setup) (reply : Reply) (last : Session) → Opens setup (refused reply last) → IsLegal (start setup.rules setup.nodes) last.entries
+IsRefusedLegally =
+    (setup : Setup) (reply : Reply) (last : Session) → Opens setup (refused reply last)
+    → IsLegal (start setup.rules setup.nodes) last.entries
 
 -- What a writer that tells its bytes has gained is such a text
 abbrev pub Writes : (contents contents' : Option (List ℕ)) → (List ℕ → Type 0) → Type 0

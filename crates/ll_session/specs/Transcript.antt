@@ -30,16 +30,20 @@ brought _ = []
 
 -- after an entered call
 abbrev pub next : Session → ℕ → Call → Reply → State → Session
-next s client call reply tree = record s { tree = tree; clients = s.clients ++ brought reply; entries = s.entries ++ record { client = client; call = call; reply = reply } ∷ [] }
+next s client call reply tree =
+    let entry : Entry = record { client = client; call = call; reply = reply } in
+    record s { tree = tree; clients = s.clients ++ brought reply; entries = s.entries ++ entry ∷ [] }
 
 -- The call takes memory, and nothing refuses it
 abbrev pub MayStarve : Session → ℕ → Call → Type 0
 MayStarve s client call = (takes_memory call ≡ true) × (refusals s.tree (client_of s.tree client) call ≡ [])
 
--- The tree makes one step, and the history gets an entry. Where that is full, the call is answered so, whatever else holds of it;
--- where a growth was refused, for want of memory. Neither changes anything. A spawned client's number is unused
+-- The tree makes one step, and the history gets an entry. Where that is full, the call is answered so, whatever else
+-- holds of it; where a growth was refused, for want of memory. Neither changes anything. A spawned client's number is
+-- unused
 pub data Called (s : Session) (client : ℕ) (call : Call) : Reply → Session → Type 0 where
-  answered : (reply : Reply) (tree : State) (fresh : ℕ) → (IsFull s → ⊥) → has s.tree.clients fresh ≡ false → ◌≡◌ {A = Reply × State} (reply, tree) (step s.tree client call fresh)
+  answered : (reply : Reply) (tree : State) (fresh : ℕ) → (IsFull s → ⊥) → has s.tree.clients fresh ≡ false
+      → ◌≡◌ {A = Reply × State} (reply, tree) (step s.tree client call fresh)
       → Called s client call reply (next s client call reply tree)
   full : IsFull s → Called s client call (Refused HistoryFull) s
   starved : (IsFull s → ⊥) → MayStarve s client call → Called s client call (Refused NoMemory) s
@@ -55,17 +59,20 @@ as_written clients reply = reply
 
 -- S: what is known between two lines. `Called s client call reply t`: the call gets this reply and leaves t
 module _ {S : Type 0} (clients : S → List ℕ) (Called : S → ℕ → Call → Reply → S → Type 0) where
-  -- A piece that spells a call of a client of the session is answered by the reply to that call, or, where the call holds a
-  -- word or bytes, for want of memory to read them; every other piece is answered by `refused 23 BadLine`
+  -- A piece that spells a call of a client of the session is answered by the reply to that call, or, where the call
+  -- holds a word or bytes, for want of memory to read them; every other piece is answered by `refused 23 BadLine`
   pub data Answers (s : S) (piece : List ℕ) : Reply → S → Type 0 where
-    calls : (n client : ℕ) (call : Call) (reply written : Reply) (t : S) → SpellsCommand piece n call → slice_get (clients s) (n - 1) ≡ Some client
-        → Called s client call reply t → written ≡ as_written (clients s) reply → Answers s piece written t
-    unread : (n client : ℕ) (call : Call) → SpellsCommand piece n call → slice_get (clients s) (n - 1) ≡ Some client → holds_text call ≡ true
-        → Answers s piece (Refused NoMemory) s
-    bad : ((n : ℕ) (call : Call) → SpellsCommand piece n call → slice_get (clients s) (n - 1) ≡ None) → Answers s piece (Refused BadLine) s
+    calls : (n client : ℕ) (call : Call) (reply written : Reply) (t : S) → SpellsCommand piece n call
+        → slice_get (clients s) (n - 1) ≡ Some client → Called s client call reply t
+        → written ≡ as_written (clients s) reply → Answers s piece written t
+    unread : (n client : ℕ) (call : Call) → SpellsCommand piece n call → slice_get (clients s) (n - 1) ≡ Some client
+        → holds_text call ≡ true → Answers s piece (Refused NoMemory) s
+    bad : ((n : ℕ) (call : Call) → SpellsCommand piece n call → slice_get (clients s) (n - 1) ≡ None)
+        → Answers s piece (Refused BadLine) s
 
   -- Each piece gives one line, in order
   abbrev pub Transcript : S → List (List ℕ) → List ℕ → S → Type 0
   Transcript s [] text t = (text ≡ []) × (t ≡ s)
   Transcript s (piece ∷ pieces) text t =
-      (reply : Reply) × (mid : S) × (rest : List ℕ) × Answers s piece reply mid × Transcript mid pieces rest t × (text ≡ reply_line reply ++ rest)
+      (reply : Reply) × (mid : S) × (rest : List ℕ) × Answers s piece reply mid × Transcript mid pieces rest t
+      × (text ≡ reply_line reply ++ rest)

@@ -37,8 +37,10 @@ pub fn write_answer<W: Write>(
     writer: &mut W,
 ) -> Result<(), SessionFault>
     requires { IsReply (written tree.now answer) }
-    ensures ok { OnOk result (Appends (W.contents writer.old) (W.contents writer.new) (reply_line (written tree.now answer))) }
-    ensures err { OnErr result (AppendsFront (W.contents writer.old) (W.contents writer.new) (reply_line (written tree.now answer))) }
+    ensures ok { OnOk result (Appends (W.contents writer.old) (W.contents writer.new)
+        (reply_line (written tree.now answer))) }
+    ensures err { OnErr result (AppendsFront (W.contents writer.old) (W.contents writer.new)
+        (reply_line (written tree.now answer))) }
     ensures fault { IfErr result (λ fault. IsOfWriting fault) }
 {
     let Ok(text) = tree.text_of(alloc, answer) else {

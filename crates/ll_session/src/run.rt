@@ -102,19 +102,23 @@ fn run_session<R: Read, W: Write>(
     Ok(session.tree.into_history())
 }
 
-/// Reads a script of command lines, and writes the reply lines. The history of the run is left, with an entry for each call
-/// that the tree has answered. Where the opening is refused, that reply's line is all that it writes, and it reads nothing.
+/// Reads a script of command lines, and writes the reply lines. The history of the run is left, with an entry for each
+/// call that the tree has answered. Where the opening is refused, that reply's line is all that it writes, and it reads
+/// nothing.
 pub fn run_script<R: Read, W: Write>(
     alloc: Global,
     setup: Setup,
     reader: &mut R,
     writer: &mut W,
 ) -> Result<History, RunFault>
-    // Where no fault is answered: what was read, what is left of the input, what was written, and the entries, are those of a run.
+    // Where no fault is answered: what was read, what is left of the input, what was written, and the entries, are
+    // those of a run.
     ensures transcript { IfOk result (λ history. IfSome (R.remaining reader.old) (λ input. (left : List ℕ)
         × (R.remaining reader.new ≡ Some left)
-        × Writes (W.contents writer.old) (W.contents writer.new) (λ text. Runs setup input left text history.entries))) }
-    // Whatever the reader and the writer tell: the entries are a legal history of the setup's tree, and each has a spelling.
+        × Writes (W.contents writer.old) (W.contents writer.new)
+        (λ text. Runs setup input left text history.entries))) }
+    // Whatever the reader and the writer tell: the entries are a legal history of the setup's tree, and each has a
+    // spelling.
     ensures legal { IfOk result (λ history. IsLegal (start setup.rules setup.nodes) history.entries) }
     ensures entries { IfOk result (λ history. All IsEntry history.entries) }
     // With a fault, what was written is a beginning of such a text.

@@ -7,8 +7,9 @@ ghost use Rattle.ll_session.specs.Transcript.{AreOthers};
 
 use ll_seq::{Call, Rules};
 
-/// The rules of the tree; how many nodes may live in it, the root among them; how many entries its history may have; the
-/// calls of a loader that comes first, if there is one; and those that the session's first client makes before its lines.
+/// The rules of the tree; how many nodes may live in it, the root among them; how many entries its history may have,
+/// the connects among them; the calls of a loader that comes first, if there is one; and those that the session's first
+/// client makes before its lines.
 #[derive(Drop)]
 pub struct Setup {
     pub rules: Rules,

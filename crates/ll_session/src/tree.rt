@@ -17,8 +17,8 @@ use ll_seq::{Call, Entry, History, Reply};
 use ll_wire::{is_entered, is_spelled, reply_text};
 use std::alloc::{AllocError, Global};
 
-/// A tree whose clients have all come by this session: so many before it, and then its own. Their numbers are those from 1
-/// on. Each call that the tree answers is an entry of the history.
+/// A tree whose clients have all come by this session: so many before it, and then its own. Their numbers are those
+/// from 1 on. Each call that the tree answers is an entry of the history.
 #[derive(Drop)]
 pub struct SessionTree {
     pub plain: Plain,
@@ -56,7 +56,8 @@ impl SessionTree {
     // The reply of the history's last entry, if there is one.
     fn last_reply(&self) -> Option<&Reply>
         ensures { option_map (λ reply. reply.now) result
-            ≡ option_map (λ entry. entry.reply) (slice_get self.now.history.entries (length self.now.history.entries - 1)) }
+            ≡ option_map (λ entry. entry.reply)
+            (slice_get self.now.history.entries (length self.now.history.entries - 1)) }
     {
         match self.history.entries().last() {
             Some(entry) => Some(&entry.reply),
@@ -133,7 +134,8 @@ impl SessionTree {
         requires room { used self.old < 2 ^ 64 - 1 }
         ensures called { (s : Session) → StandsAt self.old s
             → (client : ℕ) × (told : Reply) × (t : Session) × (slice_get s.clients (place - 1) ≡ Some client)
-            × Called s client call told t × (written self.new result ≡ as_written s.clients told) × StandsAt self.new t }
+            × Called s client call told t × (written self.new result ≡ as_written s.clients told)
+            × StandsAt self.new t }
         ensures sound { StaysSound self.old self.new }
         ensures clients { self.old.clients ≤ self.new.clients }
         ensures spelled { IsReply (written self.new result) }
