@@ -1,5 +1,5 @@
 -- A client that comes, with its calls.
-use Rattle.std.proofs.Common.{◌≡◌, ◌≢◌, ◌⊎◌, ◌<◌, ◌≤◌, ◌+◌, ◌-◌, ℕ, Bool, cond, true, false, suc, List, [], ◌∷◌, ◌++◌, length, drop, drop-cons, get_or, Option, None, Some, refl, sym, ap, subst, ◌∙◌, inl, inr, arith}
+use Rattle.std.proofs.Common.{◌≡◌, ◌⊎◌, ◌<◌, ◌≤◌, ◌+◌, ◌-◌, ℕ, suc, List, [], ◌∷◌, ◌++◌, length, drop, drop-cons, get_or, Option, None, Some, refl, sym, ap, subst, ◌∙◌, inl, inr, arith}
 use Rattle.std.specs.declared.alloc.Global.{Global}
 use Rattle.std.proofs.lemmas.List.{length-append}
 use Rattle.std.specs.declared.vec.Vec.{Vec}
@@ -7,20 +7,17 @@ use Rattle.ll_rights.specs.Map.{empty, checked, entries, get, insert}
 use Rattle.ll_rights.specs.declared.errno.Errno.TheVariants.{NoMemory}
 use Rattle.ll_seq.specs.declared.call.Call.{Call}
 use Rattle.ll_seq.specs.History.{Log}
-use Rattle.ll_seq.specs.declared.reply.Reply.{Reply}
-use Rattle.ll_seq.specs.declared.reply.Reply.TheVariants.{Done, Refused}
+use Rattle.ll_seq.specs.declared.reply.Reply.TheVariants.{Refused}
 use Rattle.ll_seq.specs.State.{start}
 use Rattle.ll_seq.specs.Stages.{numbers_from}
-use Rattle.ll_plain.specs.Refusal.{is_refusal}
 use Rattle.ll_session.specs.declared.setup.Setup.{Setup}
 use Rattle.ll_session.specs.declared.tree.SessionTree.{SessionTree}
-use Rattle.ll_session.specs.Transcript.{Session, Called, starved}
-use Rattle.ll_session.specs.Opening.{Coming, Connects, Comes, Loads, Opens, made, unconnected, unmade, begun, refused, fresh, following, joined}
+use Rattle.ll_session.specs.Transcript.{Session, starved}
+use Rattle.ll_session.specs.Opening.{Coming, Connects, Comes, Loads, Opens, made, unconnected, unmade, begun, refused, fresh}
 use Rattle.ll_session.specs.declared.answer.Answer.{Answer}
 use Rattle.ll_session.specs.declared.answer.Refusal.{Refusal}
 use Rattle.ll_session.specs.declared.answer.Refusal.TheVariants.{AtCall, AtConnect}
 use Rattle.ll_session.specs.Progress.{StandsAt, answer_in, coming_in, written}
-use Rattle.ll_session.proofs.Connecting.{nobody}
 use Rattle.ll_session.proofs.SessionPlaces.{after_first, how_many}
 
 pub loads_some : (s : Session) (loader : Option (Vec Call Global)) (calls : Vec Call Global) (list : List Call) (end : Coming) → loader ≡ Some calls → list ≡ calls.items

@@ -1,6 +1,5 @@
-use Rattle.std.proofs.Common.{[], ap, sym, Option, List, ℕ}
-use Rattle.ll_session.specs.Opening.{Opens, refused}
-use Rattle.ll_session.specs.Progress.{Holds, StandsAt, written}
+use Rattle.std.proofs.Common.{[], ap}
+use Rattle.ll_session.specs.Progress.{Holds, written}
 use Rattle.ll_session.proofs.Endings.{Begun, Refuses, of_begun, of_refused, on_err, refusal, refusal_stops, runs, run_stops, not_opened}
 use Rattle.ll_session.proofs.Legal.{by_opening, leaves_refused}
 use Rattle.ll_session.proofs.run.run_script.Goals as goal

@@ -1,4 +1,4 @@
-use Rattle.std.proofs.Common.{◌≡◌, ap, sym, subst, List}
+use Rattle.std.proofs.Common.{ap, sym, subst, List}
 use Rattle.ll_seq.specs.declared.reply.Entry.{Entry}
 use Rattle.ll_session.specs.Progress.{IsWritten}
 use Rattle.ll_session.proofs.Legal.{leaves_legally}

@@ -1,4 +1,4 @@
-use Rattle.std.proofs.Common.{◌≡◌, sym, subst, refl, ℕ}
+use Rattle.std.proofs.Common.{sym, subst, refl, ℕ}
 use Rattle.ll_session.specs.Opening.{Makes, Stops, joined}
 use Rattle.ll_session.specs.Progress.{written}
 use Rattle.ll_session.proofs.Connecting.{next_number}

@@ -1,15 +1,13 @@
-use Rattle.std.proofs.Common.{◌≡◌, ◌≢◌, ◌≤◌, ◌∙◌, ◌+◌, ◌++◌, ◌∷◌, [], length, ap, sym, subst, refl, arith, inl, inr}
+use Rattle.std.proofs.Common.{◌≡◌, ◌≤◌, ◌∙◌, ◌+◌, length, ap, sym, subst, refl, arith, inl, inr}
 use Rattle.std.proofs.lemmas.Bool.{cases_lt, leb-true, leb-false}
 use Rattle.ll_rights.specs.Map.{has}
 use Rattle.ll_rights.specs.declared.errno.Errno.TheVariants.{NoMemory}
-use Rattle.ll_seq.specs.declared.call.Call.TheVariants.{Connect}
 use Rattle.ll_seq.specs.declared.reply.Reply.{Reply}
 use Rattle.ll_seq.specs.declared.reply.Reply.TheVariants.{Done, Spawned, Refused}
-use Rattle.ll_seq.specs.State.{State}
 use Rattle.ll_session.specs.Opening.{Connects}
 use Rattle.ll_session.specs.Transcript.{Session}
 use Rattle.ll_session.proofs.Starving.{is_starved}
-use Rattle.ll_session.proofs.Connecting.{comes_to, connected, no_connect_by_tree, no_connect_fits, no_connect_for_memory, paired}
+use Rattle.ll_session.proofs.Connecting.{comes_to, connected, no_connect_by_tree, no_connect_fits, no_connect_for_memory}
 use Rattle.ll_session.proofs.Replies.{all_more, stands_still}
 use Rattle.ll_session.proofs.tree.SessionTree.connect.Goals as goal
 

@@ -1,4 +1,4 @@
-use Rattle.std.proofs.Common.{◌≡◌, ◌∙◌, ap, sym, subst, arith}
+use Rattle.std.proofs.Common.{◌∙◌, ap, sym, subst, arith}
 use Rattle.std.specs.List.{All}
 use Rattle.std.proofs.lemmas.List.Elements.{All-nil}
 use Rattle.ll_wire.specs.Entries.{IsEntry}
