@@ -1,9 +1,8 @@
 -- What the journal keeps, and each slot's account, where a call without a walk was answered.
-use Rattle.std.specs.Prelude.{◌≡◌, ℕ, suc, ◌+◌, ◌<◌, ◌≤◌, Bool, true, false, List, [], ◌∷◌, ◌++◌, map, length, Option, Some, None, nat_le, refl}
+use Rattle.std.specs.Prelude.{◌≡◌, ℕ, ◌+◌, ◌<◌, ◌≤◌, true, false, [], ◌∷◌, ◌++◌, map, length, None, nat_le, refl}
 use Rattle.std.specs.List.{AllByRecursion}
 use Rattle.std.proofs.Common.{sym, subst, ap, ◌∙◌, arith, length-append}
 use Rattle.std.proofs.lemmas.Bool.Decides.{nat_tests}
-use Rattle.ll_rights.specs.declared.errno.Errno.{Errno}
 use Rattle.ll_rights.specs.declared.errno.Errno.TheVariants.{EMFILE}
 use Rattle.ll_rights.specs.declared.limits.TheConstants.{TREE_CLIENTS}
 use Rattle.ll_rights.specs.Map.{len, has}
@@ -13,7 +12,7 @@ use Rattle.ll_seq.specs.declared.client.ClientRecord.{ClientRecord}
 use Rattle.ll_seq.specs.declared.reply.Reply.{Reply}
 use Rattle.ll_seq.specs.declared.reply.Reply.TheVariants.{Done, Refused}
 use Rattle.ll_seq.specs.State.{State, new_client}
-use Rattle.ll_seq.specs.Step.{step, client_of}
+use Rattle.ll_seq.specs.Step.{step}
 use Rattle.ll_seq.specs.Effects.{with_client}
 use Rattle.ll_seq.specs.Facts.{AreKept}
 use Rattle.ll_seq.specs.History.{Log}
@@ -26,7 +25,7 @@ use Rattle.ll_journal.specs.declared.held.Held.{Held}
 use Rattle.ll_journal.specs.Book.{Seat, Book, Spares, inode_in, held_of, mark_of}
 use Rattle.ll_journal.specs.Direct.{TakesSpare}
 use Rattle.ll_journal.specs.Kept.{AreSeated, ArePlaced, AreDistinct, IsVacant, IsKept, walks_from, world_of, book_of}
-use Rattle.ll_journal.proofs.Advancing.{join_full, join_done, join_refused}
+use Rattle.ll_journal.proofs.Advancing.{join_done, join_refused}
 use Rattle.ll_journal.proofs.NewClients.{clients_len, seated_more, walks_more, spares_more, all_more, all_less, distinct_moved}
 use Rattle.ll_journal.proofs.HeldAfter.{held_answered}
 use Rattle.ll_journal.proofs.LentSlots.{slot_kept}
@@ -76,22 +75,20 @@ module _ (j k : Inside) (h : IsKept j) (number : ℕ) (call : Call) (reply : Rep
     facts = subst (λ s. AreKept s k.facts) (sym is) facts;
     seated = subst (λ s. AreSeated s k.seats.items) (sym is) seated;
     placed = subst (λ v. ArePlaced v.items k.places) (sym inodes) (subst (ArePlaced j.inodes.items) (sym places) h.placed);
-    living = λ inode.
-        ap (λ m. has m inode) places ∙ h.living inode
-        ∙ sym (ap (λ (s : State). has s.nodes inode) is ∙ ap (λ m. has m inode) nodes);
+    living = λ inode. ap (λ m. has m inode) places ∙ h.living inode ∙ sym (ap (λ (s : State). has s.nodes inode) is ∙ ap (λ m. has m inode) nodes);
     slots = ap (λ v. length v.items) inodes ∙ h.slots ∙ ap (λ n. n + TREE_CLIENTS) (sym room);
     free = subst (λ v. AllByRecursion (IsVacant v.items) k.free.items) (sym inodes) free;
     spares = subst (λ v. AllByRecursion (λ (seat : Seat). IsVacant v.items seat.spare) k.seats.items) (sym inodes) spares;
     distinct = distinct;
-    count = (λ i. many i + as_many i) ∙ h.count ∙ ap (λ n. n + TREE_CLIENTS) (sym room);
-    few = subst (λ n. n ≤ k.room) (sym as_many) (subst (λ n. len (shown (world_of j)).nodes ≤ n) (sym room) h.few);
+    count = (λ i. many i + living i) ∙ h.count ∙ ap (λ n. n + TREE_CLIENTS) (sym room);
+    few = subst (λ n. n ≤ k.room) (sym living) (subst (λ n. len (shown (world_of j)).nodes ≤ n) (sym room) h.few);
   }
     where
       is : shown (world_of k) ≡ t
       is = tree_is ∙ after
 
-      as_many : len (shown (world_of k)).nodes ≡ len (shown (world_of j)).nodes
-      as_many = ap (λ (s : State). len s.nodes) is ∙ ap len nodes
+      living : len (shown (world_of k)).nodes ≡ len (shown (world_of j)).nodes
+      living = ap (λ (s : State). len s.nodes) is ∙ ap len nodes
 
 -- and one client more
 module _ (j k : Inside) (h : IsKept j) (number : ℕ) (call : Call) (reply : Reply) (told : reply ≡ reply_to (world_of j) number call)
@@ -128,10 +125,10 @@ one_free j h few = let sum = h.count in let most = h.few in omega (arith, sum, m
 
 -- ---- a connect
 
-few_clients : (n m : ℕ) → n ≡ m → m < TREE_CLIENTS → nat_le TREE_CLIENTS n ≡ false
+pub few_clients : (n m : ℕ) → n ≡ m → m < TREE_CLIENTS → nat_le TREE_CLIENTS n ≡ false
 few_clients n m e lt = grind (arith, nat_tests)
 
-many_clients : (n m : ℕ) → n ≡ m → TREE_CLIENTS ≤ m → nat_le TREE_CLIENTS n ≡ true
+pub many_clients : (n m : ℕ) → n ≡ m → TREE_CLIENTS ≤ m → nat_le TREE_CLIENTS n ≡ true
 many_clients n m e le = grind (arith, nat_tests)
 
 module _ (j k : Inside) (h : IsKept j) (number spare : ℕ) (client : ClientRecord) (room_left : is_full (world_of j) ≡ false) (few : length j.seats.items < TREE_CLIENTS)

@@ -90,12 +90,12 @@ pub walk_at : (seats : List Seat) (q : ℕ) → get (walks_from 1 seats) q ≡ w
 walk_at seats zero = not_yet seats 1 zero (omega arith)
 walk_at seats (suc place) = found_at seats 1 place (suc place) (omega arith)
 
-set_same : {A : Type 0} (xs : List A) (i : ℕ) (x y : A) → slice_get xs i ≡ Some x → slice_get (slice_set xs i y) i ≡ Some y
+pub set_same : {A : Type 0} (xs : List A) (i : ℕ) (x y : A) → slice_get xs i ≡ Some x → slice_get (slice_set xs i y) i ≡ Some y
 set_same [] i x y e = absurd (cc e)
 set_same (z ∷ xs) zero x y e = refl
 set_same (z ∷ xs) (suc i) x y e = set_same xs i x y e
 
-set_other : {A : Type 0} (xs : List A) (i j : ℕ) (y : A) → i ≢ j → slice_get (slice_set xs i y) j ≡ slice_get xs j
+pub set_other : {A : Type 0} (xs : List A) (i j : ℕ) (y : A) → i ≢ j → slice_get (slice_set xs i y) j ≡ slice_get xs j
 set_other [] i j y n = refl
 set_other (z ∷ xs) zero zero y n = absurd (n refl)
 set_other (z ∷ xs) zero (suc j) y n = refl

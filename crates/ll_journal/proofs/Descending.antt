@@ -29,7 +29,7 @@ use Rattle.ll_journal.specs.Book.{Seat, Book, Spares, inode_in, slot_of, names_m
 use Rattle.ll_journal.specs.Kept.{IsKept, world_of, book_of}
 use Rattle.ll_journal.specs.Looks.{look_down, look_from, look_for, look_into, is_directory}
 use Rattle.ll_journal.specs.Seated.{gone_down, lower, next_in}
-use Rattle.ll_journal.specs.Steps.{IsAstrayBelow, leg_in_turn}
+use Rattle.ll_journal.specs.Steps.{IsAstrayBelow, is_going, leg_in_turn}
 use Rattle.ll_journal.proofs.NameMaps.{get-names_map}
 use Rattle.ll_journal.proofs.MarkOf.{AreClients, are_clients, has_mark_of, mark_put, mark_put_gone, turn_leaves}
 use Rattle.ll_journal.proofs.Lent.{inode_is, held_is, unmarked_is, lent_after, spares_moved, one_slot}
@@ -155,8 +155,11 @@ module _ (j : Inside) (h : IsKept j) (number place : ℕ) (seat : Seat) (at : sl
     stale_now e = found (Some walk) is ∙ ap (λ b. answer (cond b None (cond (is_above walk.at) (enter w number walk) (below (option_and_then (further s domain) (turn walk.at)))))) e
 
     module _ (fresh : walk.stale ≡ false) where
+      going : is_going w number ≡ true
+      going = ap (λ (o : Option Walk). option_map_or (λ (v : Walk). not v.stale) o false) (walk_here j h number place seat at numbered ∙ is) ∙ ap not fresh
+
       astray_above : turn walk.at ≡ None → Seen Astray
-      astray_above e leg next turned more here there = cc (sym turned ∙ ap (option_and_then (λ (v : Walk). turn v.at)) (walk_here j h number place seat at numbered ∙ is) ∙ e)
+      astray_above e = (going, λ leg turned here. absurd (cc (sym turned ∙ ap (option_and_then (λ (v : Walk). turn v.at)) (walk_here j h number place seat at numbered ∙ is) ∙ e)))
 
       module _ (leg : Leg) (turned : turn walk.at ≡ Some leg) where
         stepped : (o : Option Leg) → further s domain leg ≡ o → advance w (Descend number) ≡ answer (below o)
@@ -171,8 +174,11 @@ module _ (j : Inside) (h : IsKept j) (number place : ℕ) (seat : Seat) (at : sl
         same_leg other e = same_Some leg other (sym (ap (option_and_then (λ (v : Walk). turn v.at)) (walk_here j h number place seat at numbered ∙ is) ∙ turned) ∙ e)
 
         astray_here : (from.inode == leg.here) ≡ false → Seen Astray
-        astray_here e other next turned' more here there =
-            cc (sym e ∙ eq-eqb from.inode leg.here (inode_is (book_of j) k from lent_from ∙ here ∙ ap (λ (v : Leg). v.here) (sym (same_leg other turned'))))
+        astray_here e = (
+          going,
+          λ other turned' here.
+              absurd (cc (sym e ∙ eq-eqb from.inode leg.here (inode_is (book_of j) k from lent_from ∙ here ∙ ap (λ (v : Leg). v.here) (sym (same_leg other turned'))))),
+        )
 
         right : IsRight s domain leg
         right = turn_right s domain walk.at leg ((h.sound.valid number walk (walk_here j h number place seat at numbered ∙ is)).1 fresh) turned
@@ -203,10 +209,14 @@ module _ (j : Inside) (h : IsKept j) (number place : ℕ) (seat : Seat) (at : sl
 
               module _ (dir : is_directory j.facts i ≡ true) where
                 astray_there : (to.inode == i) ≡ false → Seen Astray
-                astray_there e other next' turned' more here' there =
-                    let one = same_leg other turned' in
-                    let same : next ≡ next' = same_Some next next' (sym (if_dir true dir) ∙ ap (further s domain) one ∙ more) in
-                    cc (sym e ∙ eq-eqb to.inode i (inode_is (book_of j) l to lent_to ∙ there ∙ ap (λ (v : Leg). v.here) (sym same)))
+                astray_there e = (
+                  going,
+                  λ other turned' here'. (
+                    next,
+                    ap (further s domain) (sym (same_leg other turned')) ∙ if_dir true dir,
+                    λ there. cc (sym e ∙ eq-eqb to.inode i (inode_is (book_of j) l to lent_to ∙ there)),
+                  ),
+                )
 
                 module _ (there : (to.inode == i) ≡ true) where
                   to_there : to.inode ≡ i

@@ -136,25 +136,32 @@ module _ (j : Inside) (h : IsKept j) (number place : ℕ) (seat : Seat) (at : sl
   pub root_goes : look_at_root seat j.gate number slot ≡ Go → GoesToRoot j number seat slot
   root_goes l = goes_by seat.walk refl l
 
-  astray_by : (o : Option Walk) → look_at_root (record seat { walk = o }) j.gate number slot ≡ Astray → option_map_or (λ (walk : Walk). is_above walk.at) o false ≡ true → slot.inode ≢ root
-  astray_by None l top = absurd (cc l)
-  astray_by (Some walk) l top = λ here. by walk.stale (is_above walk.at) (slot.inode == root) top (eq-eqb slot.inode root here) l
+  astray_by : (o : Option Walk) → look_at_root (record seat { walk = o }) j.gate number slot ≡ Astray
+      → (option_map_or (λ (walk : Walk). not walk.stale) o false ≡ true) × (option_map_or (λ (walk : Walk). is_above walk.at) o false ≡ true → slot.inode ≢ root)
+  astray_by None l = absurd (cc l)
+  astray_by (Some walk) l = (going walk.stale l, λ top here. by walk.stale (is_above walk.at) (slot.inode == root) top (eq-eqb slot.inode root here) l)
     where
+      going : (s : Bool) → cond (not (not s)) NotNow (cond (not (is_above walk.at && (slot.inode == root))) Astray (cond (is_none slot.node.mark && gated walk) Go NotNow)) ≡ Astray → not s ≡ true
+      going true m = absurd (cc m)
+      going false m = refl
+
+      by_last : (b : Bool) → cond b Go NotNow ≡ Astray → ⊥
+      by_last true m = cc m
+      by_last false m = cc m
+
       by : (s a t : Bool) → a ≡ true → t ≡ true → cond (not (not s)) NotNow (cond (not (a && t)) Astray (cond (is_none slot.node.mark && gated walk) Go NotNow)) ≡ Astray → ⊥
-      by true a t e f l = cc l
-      by false true true e f l = by_last (is_none slot.node.mark && gated walk) l
-        where
-          by_last : (b : Bool) → cond b Go NotNow ≡ Astray → ⊥
-          by_last true m = cc m
-          by_last false m = cc m
-      by false false t e f l = cc e
-      by false true false e f l = cc f
+      by true a t e f m = cc m
+      by false true true e f m = by_last (is_none slot.node.mark && gated walk) m
+      by false false t e f m = cc e
+      by false true false e f m = cc f
 
   pub root_astray : look_at_root seat j.gate number slot ≡ Astray → IsAstrayAtTop (book_of j) number k
-  root_astray l top here =
-      astray_by seat.walk l
-      (ap (λ (o : Option Walk). option_map_or (λ (walk : Walk). is_above walk.at) o false) (sym (walk_here j h number place seat at numbered)) ∙ top)
-      (inode_is (book_of j) k slot lent ∙ here)
+  root_astray l =
+      let astray = astray_by seat.walk l in
+      let walk = walk_here j h number place seat at numbered in (
+        ap (λ (o : Option Walk). option_map_or (λ (walk : Walk). not walk.stale) o false) walk ∙ astray.0,
+        λ top here. astray.1 (ap (λ (o : Option Walk). option_map_or (λ (walk : Walk). is_above walk.at) o false) (sym walk) ∙ top) (inode_is (book_of j) k slot lent ∙ here),
+      )
 
   -- ---- when it goes
 

@@ -18,8 +18,11 @@ pub mod AtEnds
 pub mod ChangedSlots
 pub mod Advancing
 pub mod Living
-pub mod Looking
 pub mod NewClients
+pub mod Ruled
 pub mod OwnCalls
+pub mod Spawning
 pub mod OwnAnswers
 pub mod Answered
+pub mod Stepping
+pub mod Looking

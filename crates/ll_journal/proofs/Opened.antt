@@ -1,5 +1,5 @@
 -- A journal that was just opened keeps what it has to.
-use Rattle.std.specs.Prelude.{◌≡◌, ◌≢◌, ◌⊎◌, ℕ, zero, suc, ◌+◌, ◌-◌, ◌<◌, ◌≤◌, List, [], ◌∷◌, ◌++◌, length, map, replicate, Some, None, is_some, option_map, slice_get, refl}
+use Rattle.std.specs.Prelude.{◌≡◌, ◌≢◌, ◌⊎◌, ℕ, zero, suc, ◌+◌, ◌-◌, ◌<◌, ◌≤◌, List, [], ◌∷◌, ◌++◌, length, map, replicate, Some, None, option_map, slice_get, refl, is_some}
 use Rattle.std.specs.List.{AllByRecursion, range_with_len}
 use Rattle.std.specs.Ordering.{nat_cmp}
 use Rattle.std.specs.Cmp.{nat_cmp_total}
@@ -7,7 +7,7 @@ use Rattle.std.specs.FinMap.{nat_cmp-IsAntisymmetric}
 use Rattle.std.proofs.Common.{sym, subst, ap, ◌∙◌, inl, inr, arith}
 use Rattle.std.proofs.lemmas.List.{replicate_more, length-replicate, append-nil}
 use Rattle.ll_rights.specs.declared.limits.TheConstants.{TREE_CLIENTS}
-use Rattle.ll_rights.specs.Map.{Map, empty, get, has, insert, checked, entries, len}
+use Rattle.ll_rights.specs.Map.{Map, checked, empty, entries, get, insert, len, has}
 use Rattle.ll_rights.proofs.Maps.{get-empty, get-insert_same, got_inserted, insert_cases}
 use Rattle.ll_laws.proofs.Chains.{same_Some}
 use Rattle.ll_seq.specs.declared.client.ClientRecord.{ClientRecord}
@@ -149,13 +149,13 @@ module _ (j : Inside) (others : ℕ) (all : others ≡ j.room + TREE_CLIENTS - 1
     count =
         let slots = ap length free ∙ length-range 1 others in
         let seats : length j.seats.items ≡ 0 = ap length nobody in
-        let nodes = alone in
+        let nodes = many_living in
         omega (arith, all, slots, seats, nodes);
-    few = subst (λ n. n ≤ j.room) (sym alone) some;
+    few = subst (λ n. n ≤ j.room) (sym many_living) some;
   }
     where
-      alone : len (shown (world_of j)).nodes ≡ 1
-      alone = ap (λ (es : List Entry). len (state_after (start j.rules j.room) es).nodes) none ∙ one_node j.rules j.room
+      many_living : len (shown (world_of j)).nodes ≡ 1
+      many_living = ap (λ (es : List Entry). len (state_after (start j.rules j.room) es).nodes) none ∙ one_node j.rules j.room
 
 pub kept : (j : Inside) (some others : ℕ) → 1 ≤ j.room → some ≡ j.room + TREE_CLIENTS - 1 → others ≡ j.room + TREE_CLIENTS - 1 → j.history.entries ≡ [] → j.seats.items ≡ [] → j.gate ≡ None → ((rules : Rules) (room : ℕ) → AreKept (start rules room) j.facts)
     → j.inodes.items ≡ opened some → j.places ≡ places → j.free.items ≡ range_with_len 1 others → IsKept j

@@ -1,9 +1,8 @@
 -- What the sequential step answers where a client calls for itself.
-use Rattle.std.specs.Prelude.{◌≡◌, ◌≢◌, ℕ, ◌+◌, Bool, true, false, cond, List, [], ◌∷◌, ◌++◌, map, length, zero, suc, ◌<◌, not, Option, Some, None, Result, Ok, Err, IfOk, nat_le, is_none, is_some, unwrap_or, slice_get, refl}
+use Rattle.std.specs.Prelude.{◌≡◌, ◌≢◌, ℕ, ◌+◌, Bool, true, false, List, [], ◌∷◌, ◌++◌, map, length, zero, suc, ◌<◌, not, Option, Some, None, Result, Ok, Err, IfOk, nat_le, is_none, is_some, unwrap_or, slice_get, refl}
 use Rattle.std.specs.declared.alloc.AllocError.{AllocError}
 use Rattle.std.specs.Borrow.{Bor}
 use Rattle.std.specs.Option.{option_copied}
-use Rattle.std.specs.Ordering.{nat_cmp}
 use Rattle.std.specs.Cmp.{nat_cmp_total}
 use Rattle.std.specs.FinMap.{nat_cmp-IsAntisymmetric}
 use Rattle.std.specs.List.{flat_map, enumerate_from}
@@ -28,7 +27,7 @@ use Rattle.ll_seq.specs.declared.reply.Reply.TheVariants.{Done, Created, Spawned
 use Rattle.ll_seq.specs.Asked.{grants}
 use Rattle.ll_seq.specs.Effects.{with_client, child_of}
 use Rattle.ll_seq.specs.Fails.{Fails}
-use Rattle.ll_seq.specs.Stages.{no_ruleset, ruleset_at, text_refusals, number_refusals, relation_refusals, walk_refusals, existence_refusals, kind_refusals, limit_refusals}
+use Rattle.ll_seq.specs.Stages.{ruleset_at, text_refusals, number_refusals, relation_refusals, walk_refusals, existence_refusals, kind_refusals, limit_refusals}
 use Rattle.ll_seq.specs.Call.{first_path, second_path}
 use Rattle.ll_seq.specs.Asked.{call_denials}
 use Rattle.ll_walks.specs.World.{early_refusals}

@@ -1,6 +1,6 @@
 -- Which calls are for the client alone.
 use Rattle.std.specs.Prelude.{◌≡◌, Bool, true, false, not, ◌&&◌, List, [], ◌∷◌, Option, Some, None, option_map, slice_get, refl}
-use Rattle.std.proofs.Common.{sym, subst, ap, ◌∙◌}
+use Rattle.std.proofs.Common.{sym, subst, ◌∙◌}
 use Rattle.ll_rights.specs.declared.errno.Errno.{Errno}
 use Rattle.ll_answer.specs.Passed.{has_path}
 use Rattle.ll_seq.specs.declared.call.Call.{Call}

@@ -4,7 +4,6 @@ use Rattle.std.specs.List.{list_any, list_all}
 use Rattle.std.proofs.Common.{sym, subst, ap, ◌∙◌}
 use Rattle.std.proofs.lemmas.Bool.{eqb-true, eq-eqb}
 use Rattle.ll_rights.specs.Map.{insert}
-use Rattle.ll_laws.proofs.Chains.{same_Some}
 use Rattle.ll_walks.specs.Walk.{Walk, Leg, Above, is_in, legs, marks}
 use Rattle.ll_walks.specs.World as world
 use Rattle.ll_walks.specs.World.{World, Outcome, Restart, Restarted, advance, restart, restarted}
@@ -73,16 +72,19 @@ module _ (j : Inside) (h : IsKept j) (number place : ℕ) (seat : Seat) (at : sl
     stepped : (b : Bool) → walk.stale ≡ b → advance w (Restart number) ≡ answer (cond b (Some (Restarted, restarted w number walk)) None)
     stepped b e = found (Some walk) is ∙ ap (λ b. answer (cond b (Some (Restarted, restarted w number walk)) None)) e
 
-    astray : all_in inodes (legs walk.at) ≡ false → Seen Astray
-    astray e ks same other there within =
-        let one : walk ≡ other = same_Some walk other (sym (walk_here j h number place seat at numbered ∙ is) ∙ there) in
-        cc (sym e ∙ all_in_by inodes (legs walk.at) (λ i f. ap (λ ns. is_in ns i) (sym same) ∙ within i (ap (λ (v : Walk). marks v i) (sym one) ∙ f)))
+    astray : walk.stale ≡ true → all_in inodes (legs walk.at) ≡ false → Seen Astray
+    astray stale e ks same = (
+      walk,
+      walk_here j h number place seat at numbered ∙ is,
+      stale,
+      λ within. cc (sym e ∙ all_in_by inodes (legs walk.at) (λ i f. ap (λ ns. is_in ns i) (sym same) ∙ within i f)),
+    )
 
     seen_walk : Seen (look_again inodes (record seat { walk = Some walk }))
     seen_walk = elim walk.stale as (λ b. walk.stale ≡ b → Seen (cond (not b) NotNow (cond (all_in inodes (legs walk.at)) Go Astray))) [
       | true ↦ λ e. elim (all_in inodes (legs walk.at)) as (λ b. all_in inodes (legs walk.at) ≡ b → Seen (cond b Go Astray)) [
         | true ↦ λ f. record { walk = walk; is = is; among = λ i m. in_all inodes (legs walk.at) i f m; step = stepped true e }
-        | false ↦ astray
+        | false ↦ astray e
       ] refl
       | false ↦ stepped false
     ] refl

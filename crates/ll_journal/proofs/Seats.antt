@@ -20,7 +20,7 @@ use Rattle.ll_journal.specs.declared.seat.Turn.TheVariants as turns
 use Rattle.ll_journal.specs.declared.seat.Seat.TheInside.{Inside}
 use Rattle.ll_journal.specs.declared.place.Place.TheVariants as place
 use Rattle.ll_journal.specs.Book as book
-use Rattle.ll_journal.specs.Places.{place_at, place_of}
+use Rattle.ll_journal.specs.WalkPlaces.{place_at, place_of}
 use Rattle.ll_journal.specs.Seated.{granted, depth_of, last_of, leg_of, position_at, seat_of, Fits, FitSplit, FitAt, AreShort, StandsAt, turn_at, next_in, here_in, entered, lower, gone_down, split}
 
 -- ---- the root

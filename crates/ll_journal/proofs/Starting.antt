@@ -1,5 +1,5 @@
 -- A walk begins: what the journal keeps stays, and so does every slot's account.
-use Rattle.std.specs.Prelude.{◌≡◌, ◌≢◌, ◌⊎◌, ℕ, zero, suc, ◌+◌, Bool, true, false, not, ◌&&◌, ◌||◌, ◌==◌, cond, List, [], ◌∷◌, ◌++◌, map, length, Option, Some, None, is_none, is_some, option_map, option_and_then, unwrap_or, slice_get, slice_set, slice_index_or, ◌<◌, refl, ◌≤◌}
+use Rattle.std.specs.Prelude.{◌≡◌, ◌≢◌, ◌⊎◌, ℕ, zero, suc, ◌+◌, Bool, true, false, not, ◌&&◌, ◌||◌, ◌==◌, cond, List, [], ◌∷◌, ◌++◌, map, length, Option, Some, None, is_none, is_some, option_map, option_and_then, unwrap_or, slice_get, slice_set, slice_index_or, ◌<◌, ◌≤◌, refl}
 use Rattle.std.specs.List.{AllByRecursion}
 use Rattle.std.specs.Option.{option_map_or}
 use Rattle.std.specs.Ordering.{nat_cmp}
@@ -7,7 +7,7 @@ use Rattle.std.specs.Cmp.{nat_cmp_total}
 use Rattle.std.specs.FinMap.{nat_cmp-IsAntisymmetric}
 use Rattle.std.proofs.Common.{sym, subst, ap, ◌∙◌, inl, inr}
 use Rattle.ll_rights.specs.declared.limits.TheConstants.{TREE_CLIENTS}
-use Rattle.ll_rights.specs.Map.{Map, get, has, insert, len}
+use Rattle.ll_rights.specs.Map.{Map, get, insert, len, has}
 use Rattle.ll_rights.proofs.Maps.{insert_cases}
 use Rattle.ll_seq.specs.declared.call.Call.{Call}
 use Rattle.ll_seq.specs.declared.client.ClientRecord.{ClientRecord}
@@ -85,7 +85,7 @@ got_kept f (z ∷ seats) zero (suc j) old seat at same = refl
 got_kept f (z ∷ seats) (suc i) zero old seat at same = refl
 got_kept f (z ∷ seats) (suc i) (suc j) old seat at same = got_kept f seats i j old seat at same
 
-all_kept : (P : ℕ → Type 0) (seats : List Seat) (i : ℕ) (old seat : Seat) → slice_get seats i ≡ Some old → seat.spare ≡ old.spare
+pub all_kept : (P : ℕ → Type 0) (seats : List Seat) (i : ℕ) (old seat : Seat) → slice_get seats i ≡ Some old → seat.spare ≡ old.spare
     → AllByRecursion (λ (seat : Seat). P seat.spare) seats → AllByRecursion (λ (seat : Seat). P seat.spare) (slice_set seats i seat)
 all_kept P [] i old seat at same all = tt
 all_kept P (z ∷ seats) zero old seat at same all = (subst P (ap (λ (x : Seat). x.spare) (same_Some z old at) ∙ sym same) all.0, all.1)
@@ -126,8 +126,8 @@ kept_by j k place old seat gate h at client spare sound gated seats rules room h
   spares = subst (λ v. AllByRecursion (λ (seat : Seat). IsVacant v.items seat.spare) k.seats.items) (sym inodes)
       (subst (AllByRecursion (λ (seat : Seat). IsVacant j.inodes.items seat.spare)) (sym seats) (all_kept (IsVacant j.inodes.items) j.seats.items place old seat at spare h.spares));
   distinct = subst AreDistinct (ap (λ v. v.items ++ map (λ (s : Seat). s.spare) j.seats.items) (sym free) ∙ ap (λ ns. k.free.items ++ ns) (sym (ap (map (λ (s : Seat). s.spare)) seats ∙ spares_kept j.seats.items place old seat at spare))) h.distinct;
-  count = (λ i. length (free i).items + seated_many i + as_many i) ∙ h.count ∙ ap (λ n. n + TREE_CLIENTS) (sym room);
-  few = subst (λ n. n ≤ k.room) (sym as_many) (subst (λ n. len (shown (world_of j)).nodes ≤ n) (sym room) h.few);
+  count = (λ i. length (free i).items + seated_many i + many_living i) ∙ h.count ∙ ap (λ n. n + TREE_CLIENTS) (sym room);
+  few = subst (λ n. n ≤ k.room) (sym many_living) (subst (λ n. len (shown (world_of j)).nodes ≤ n) (sym room) h.few);
 }
   where
     tree : shown (world_of k) ≡ shown (world_of j)
@@ -136,8 +136,8 @@ kept_by j k place old seat gate h at client spare sound gated seats rules room h
     seated_many : length k.seats.items ≡ length j.seats.items
     seated_many = ap length seats ∙ length-set j.seats.items place seat
 
-    as_many : len (shown (world_of k)).nodes ≡ len (shown (world_of j)).nodes
-    as_many = ap (λ (s : State). len s.nodes) tree
+    many_living : len (shown (world_of k)).nodes ≡ len (shown (world_of j)).nodes
+    many_living = ap (λ (s : State). len s.nodes) tree
 
 -- ---- accounts
 

@@ -1,10 +1,10 @@
 -- What the journal keeps beside the history, and how it is tied to the shown state. No public contract cites it. own
-use Rattle.std.specs.Prelude.{◌≡◌, ◌≢◌, ℕ, zero, suc, ◌+◌, List, [], ◌∷◌, ◌++◌, map, length, Option, Some, None, option_map, slice_get, ⊤, ◌≤◌}
+use Rattle.std.specs.Prelude.{◌≡◌, ◌≢◌, ℕ, zero, suc, ◌+◌, ◌≤◌, List, [], ◌∷◌, ◌++◌, map, length, Option, Some, None, option_map, slice_get, ⊤}
 use Rattle.std.specs.List.{AllByRecursion}
 use Rattle.std.specs.Option.{option_map_or}
 use Rattle.std.specs.Ordering.{nat_cmp}
 use Rattle.ll_rights.specs.declared.limits.TheConstants.{TREE_CLIENTS}
-use Rattle.ll_rights.specs.Map.{Map, empty, get, has, insert, len}
+use Rattle.ll_rights.specs.Map.{Map, empty, get, insert, len, has}
 use Rattle.ll_seq.specs.State.{State}
 use Rattle.ll_seq.specs.Facts.{AreKept}
 use Rattle.ll_journal.specs.declared.journal.Journal.TheInside.{Inside}

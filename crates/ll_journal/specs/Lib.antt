@@ -1,8 +1,8 @@
 pub mod Book
 pub mod Steps
+pub mod WalkPlaces
 pub mod Direct
 pub mod Own
-pub mod Places
 pub mod SeatCodes
 pub mod Seated
 pub mod Looks

@@ -26,22 +26,28 @@ is_at_top w number = option_map_or (λ (walk : Walk). is_above walk.at) (get w.w
 abbrev pub leg_in_turn : World → ℕ → Option Leg
 leg_in_turn w number = option_and_then (λ (walk : Walk). turn walk.at) (get w.walks number)
 
--- a first descent, to the root, isn't that of this client, or isn't lent the root's slot
-abbrev pub IsAstrayAtTop : Book → ℕ → ℕ → Type 0
-IsAstrayAtTop b number slot = is_at_top b.world number ≡ true → inode_in b slot ≢ root
+-- its walk is under way, and isn't stale
+abbrev pub is_going : World → ℕ → Bool
+is_going w number = option_map_or (λ (walk : Walk). not walk.stale) (get w.walks number) false
 
--- one of the slots isn't that of the directory where the leg in turn stands, or of the one to which it would go
+-- the walk goes on, but not to the root, or the slot isn't the root's
+abbrev pub IsAstrayAtTop : Book → ℕ → ℕ → Type 0
+IsAstrayAtTop b number slot =
+    (is_going b.world number ≡ true) × (is_at_top b.world number ≡ true → inode_in b slot ≢ root)
+
+-- The walk goes on. If its leg in turn stands in the directory of the first slot, there is a directory to go to, and the
+-- second slot isn't that one's
 abbrev pub IsAstrayBelow : Book → ℕ → ℕ → ℕ → Type 0
 IsAstrayBelow b number from to =
-    (leg next : Leg) → leg_in_turn b.world number ≡ Some leg →
-    further (shown b.world) (domain_of b.world number) leg ≡ Some next →
-    inode_in b from ≡ leg.here → inode_in b to ≢ next.here
+    (is_going b.world number ≡ true)
+    × ((leg : Leg) → leg_in_turn b.world number ≡ Some leg → inode_in b from ≡ leg.here →
+    (next : Leg) × (further (shown b.world) (domain_of b.world number) leg ≡ Some next) × (inode_in b to ≢ next.here))
 
--- the walk stands in some directory that lies in none of the slots
+-- the walk is stale, and stands in some directory that lies in none of the slots
 abbrev pub IsAstrayAt : Book → ℕ → List ℕ → Type 0
 IsAstrayAt b number slots =
-    (walk : Walk) → get b.world.walks number ≡ Some walk →
-    ¬ ((inode : ℕ) → marks walk inode ≡ true → is_in (map (inode_in b) slots) inode ≡ true)
+    (walk : Walk) × (get b.world.walks number ≡ Some walk) × (walk.stale ≡ true)
+    × ¬ ((inode : ℕ) → marks walk inode ≡ true → is_in (map (inode_in b) slots) inode ≡ true)
 
 -- without the client's mark
 abbrev pub unmarked : ℕ → Held → Held
@@ -50,10 +56,6 @@ unmarked number held = record held {
     mark = option_and_then (λ holder. if holder == number then None else Some holder) held.node.mark;
   };
 }
-
--- its walk is under way, and isn't stale
-abbrev pub is_going : World → ℕ → Bool
-is_going w number = option_map_or (λ (walk : Walk). not walk.stale) (get w.walks number) false
 
 -- the client's leg in turn stands in the one slot's directory, and would go to that of the other slot
 pub record IsNext (b : Book) (number from to : ℕ) : Type 0 where

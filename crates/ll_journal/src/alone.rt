@@ -114,7 +114,8 @@ fn create_ruleset(
 
 /// The client is under one layer more, or the refusal.
 fn confine(client: &mut ClientRecord, number: u64) -> Result<Reply, AllocError>
-    ensures ok { IfOk result (λ reply. (abi : Abi) → Comes abi client.old (RecordCall.Confine number) reply client.new) }
+    ensures ok { IfOk result (λ reply. (abi : Abi)
+        → Comes abi client.old (RecordCall.Confine number) reply client.new) }
     ensures descriptors { client.new.descriptors ≡ client.old.descriptors }
     ensures err { OnErr result (client.new ≡ client.old) }
 {

@@ -3,13 +3,27 @@
 ghost use Rattle.std.specs.Prelude.{◌≡◌, ◌≢◌, ℕ, ◌+◌, ◌<◌, [], ◌∷◌, ◌++◌, None, length, IfOk, IfErr, OnOk, OnErr};
 ghost use Rattle.ll_walks.specs.World as world;
 ghost use Rattle.ll_seq.specs.declared.reply.Reply.TheVariants as replies;
+ghost use Rattle.ll_journal.specs.Own.{Spawns, SpawnTells};
+ghost use Rattle.ll_rights.specs.declared.limits.TheConstants.{TREE_CLIENTS};
 
-use crate::journal::Journal;
+use crate::alone::Own;
+use crate::journal::{Journal, place_of};
 use crate::seat::Seat;
 use ll_rights::Errno;
 use ll_rights::limits::TREE_CLIENTS;
-use ll_seq::{Call, ClientRecord, Entry, Reply};
+use ll_seq::{Call, ClientRecord, Entry, Fact, History, NumberMap, Reply, Rules};
 use std::alloc::{AllocError, Global};
+
+/// What comes of a call that doesn't walk.
+#[derive(Clone, Copy, Debug, PartialEq, Eq)]
+pub enum Answer {
+    /// The history's last entry has the reply.
+    Replied,
+    /// The history takes no more entry. Nothing has changed.
+    HistoryFull,
+    /// Memory ran out. Nothing has changed.
+    NoMemory,
+}
 
 /// The client gets the next number, and a seat; the last of the free slots is its spare.
 fn seat_client(
@@ -31,14 +45,95 @@ fn seat_client(
     Ok(seats.len() as u64)
 }
 
+/// The client at the place spawns one; its number. Errors: memory ran out, and nothing has changed.
+fn spawn(
+    seats: &mut Vec<Seat>,
+    free: &mut Vec<u64>,
+    facts: &mut NumberMap<Fact>,
+    alloc: Global,
+    rules: Rules,
+    place: usize,
+) -> Result<u64, AllocError>
+    requires place { place < length seats.old.items }
+    requires free { 0 < length free.old.items }
+    ensures ok { IfOk result (λ number. Spawns rules place
+        seats.old.items free.old.items facts.old number seats.new.items free.new.items facts.new) }
+    ensures err { OnErr result
+        ((seats.new.items ≡ seats.old.items) × (free.new.items ≡ free.old.items) × (facts.new ≡ facts.old)) }
+{
+    let child = seats[place].child(alloc, rules)?;
+    if !facts.have_room(&child.descriptors) {
+        return Err(AllocError);
+    }
+    let number = seat_client(seats, free, alloc, child)?;
+    facts.open_all(seats[seats.len() - 1].descriptors());
+    Ok(number)
+}
+
+/// What spawning is answered. Errors: memory ran out, and nothing has changed.
+fn answer_spawn(
+    seats: &mut Vec<Seat>,
+    free: &mut Vec<u64>,
+    facts: &mut NumberMap<Fact>,
+    alloc: Global,
+    rules: Rules,
+    place: usize,
+) -> Result<Reply, AllocError>
+    requires place { place < length seats.old.items }
+    requires free { length seats.old.items < TREE_CLIENTS → 0 < length free.old.items }
+    ensures ok { IfOk result (SpawnTells rules place
+        seats.old.items free.old.items facts.old seats.new.items free.new.items facts.new) }
+    ensures err { OnErr result
+        ((seats.new.items ≡ seats.old.items) × (free.new.items ≡ free.old.items) × (facts.new ≡ facts.old)) }
+{
+    if TREE_CLIENTS <= seats.len() {
+        return Ok(Reply::Refused(Errno::EMFILE));
+    }
+    let number = spawn(seats, free, facts, alloc, rules, place)?;
+    Ok(Reply::Spawned(number))
+}
+
+/// The call and its reply become the last entry, unless memory ran out.
+fn enter(history: &mut History, client: u64, call: Call, told: Result<Reply, AllocError>) -> Answer
+    requires { length history.old.entries < history.old.limit }
+    ensures ok { IfOk told (λ reply. (result ≡ Answer.Replied)
+        × (history.new ≡ record history.old {
+          entries = history.old.entries ++ record { client = client; call = call; reply = reply } ∷ [];
+        })) }
+    ensures err { OnErr told ((result ≡ Answer.NoMemory) × (history.new ≡ history.old)) }
+{
+    match told {
+        Ok(reply) => {
+            history.push(Entry {
+                client,
+                call,
+                reply,
+            });
+            Answer::Replied
+        }
+        Err(_) => {
+            drop(call);
+            Answer::NoMemory
+        }
+    }
+}
+
 impl Journal {
     ghost use Rattle.ll_journal.specs.Book.{Spares};
-    ghost use Rattle.ll_journal.specs.Direct.{TakesSpare};
+    ghost use Rattle.ll_journal.specs.Direct.{Answers, LeavesSlots, TakesSpare};
+
+    /// The entries of the history, in their order.
+    pub fn entries(&self) -> &[Entry]
+        ensures { result.now ≡ self.now.world.history }
+    {
+        self.history.entries()
+    }
 
     /// A new client, which gets the next number. Errors: HistoryFull, EMFILE where as many clients were made as a tree
     /// may have, NoMemory.
     pub fn connect(&mut self) -> Result<u64, Errno>
-        ensures joined { IfOk result (λ number. world.advance self.old.world world.Join ≡ (world.Joined number, self.new.world)) }
+        ensures joined { IfOk result (λ number.
+            world.advance self.old.world world.Join ≡ (world.Joined number, self.new.world)) }
         ensures refused { IfErr result (λ errno. errno ≢ Errno.NoMemory
             → world.advance self.old.world world.Join ≡ (world.Replied (replies.Refused errno), self.old.world)) }
         ensures same { OnErr result (self.new ≡ self.old) }
@@ -61,5 +156,41 @@ impl Journal {
             reply: Reply::Done,
         });
         Ok(number)
+    }
+
+    /// The client's call for itself alone is made and answered, or comes back where it is none, or the client isn't
+    /// there or has a walk under way.
+    pub fn client_step(&mut self, client: u64, call: Call) -> Result<Answer, Call>
+        ensures does { IfOk result (λ answer. Answers self.old (world.ClientStep client call) answer self.new) }
+        ensures not_now { OnErr result
+            (world.advance self.old.world (world.ClientStep client call) ≡ (world.NotNow, self.old.world)) }
+        ensures back { IfErr result (λ back. back ≡ call) }
+        ensures same { OnErr result (self.new ≡ self.old) }
+        ensures spares { Spares self.old self.new [] }
+        ensures rest { LeavesSlots call self.old self.new }
+    {
+        let Some(place) = place_of(&self.seats, client) else {
+            return Err(call);
+        };
+        let Some(own) = self.seats[place].asked_of(&call) else {
+            return Err(call);
+        };
+        if self.history.is_full() {
+            drop(call);
+            return Ok(Answer::HistoryFull);
+        }
+        let (alloc, rules) = (self.alloc, self.rules);
+        match own {
+            Own::Spawn => {
+                let (seats, free) = (&mut self.seats, &mut self.free);
+                let told = answer_spawn(seats, free, &mut self.facts, alloc, rules, place);
+                Ok(enter(&mut self.history, client, call, told))
+            }
+            Own::OnRecord(asked) => {
+                let seat = &mut self.seats[place];
+                let told = seat.answer(alloc, rules.abi, asked);
+                Ok(enter(&mut self.history, client, call, told))
+            }
+        }
     }
 }

@@ -1,6 +1,6 @@
 //! The journal.
 
-ghost use Rattle.std.specs.Prelude.{◌≡◌, ◌≢◌, ℕ, List, map, ◌==◌, ◌&&◌, is_some, ◌+◌, ◌<◌, ◌≤◌, false, if◌then◌else◌, Some, suc, [], ◌∷◌, length, replicate, None, IfOk, IfErr, IfSome, IfNone, OnOk, OnErr};
+ghost use Rattle.std.specs.Prelude.{◌≡◌, ◌+◌, ◌<◌, ◌≤◌, suc, [], ◌∷◌, length, replicate, None, IfOk, IfErr, IfSome, IfNone, OnOk, OnErr, ◌≢◌, ℕ, List, map, ◌==◌, ◌&&◌, is_some, false, if◌then◌else◌, Some};
 ghost use Rattle.std.specs.List.{range_with_len};
 ghost use Rattle.ll_rights.specs.declared.limits.TheConstants.{HISTORY_ENTRIES, TREE_CLIENTS, TREE_NODES};
 ghost use Rattle.std.specs.Option.{option_map_or};
@@ -139,7 +139,7 @@ fn unmark(held: &mut Held, client: u64)
 
 impl Journal {
     ghost use Rattle.ll_journal.specs.Book.{Spares, inode_in, new_book, slot_of};
-    ghost use Rattle.ll_journal.specs.Places.{place_in};
+    ghost use Rattle.ll_journal.specs.WalkPlaces.{place_in};
     ghost use Rattle.ll_journal.specs.Steps.{Does, IsAstrayAt, IsAstrayAtTop, IsAstrayBelow, IsNext};
     ghost use Rattle.ll_walks.specs.World.{Begin, Begun, Descend, Fork, NotNow, Restart, advance};
 

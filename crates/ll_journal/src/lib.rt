@@ -12,6 +12,7 @@ mod seat;
 mod walked;
 mod way;
 
+pub use direct::Answer;
 pub use held::Held;
 pub use journal::Journal;
 pub use outcome::Outcome;

@@ -1,23 +1,26 @@
 //! Clients, each with its walk.
 
-ghost use Rattle.std.specs.Prelude.{◌≡◌, ◌&&◌, ◌||◌, ◌==◌, ◌<◌, ◌≤◌, not, false, true, length, [], ◌∷◌, ◌++◌, None, Some, is_none, is_some, if◌then◌else◌, IfOk, IfSome, IsSome, option_map};
+ghost use Rattle.std.specs.Prelude.{◌≡◌, ◌&&◌, ◌||◌, ◌==◌, ◌<◌, ◌≤◌, not, false, true, length, [], ◌∷◌, ◌++◌, None, Some, is_none, is_some, if◌then◌else◌, IfOk, OnErr, IfSome, IfNone, IsSome, option_map};
 ghost use Rattle.std.specs.Option.{option_map_or};
 ghost use Rattle.ll_decide.specs.Masks.{AreMasks};
 ghost use Rattle.ll_rights.specs.declared.limits.TheConstants.{PATH_NAMES};
+ghost use Rattle.ll_seq.specs.Effects.{child_of};
 ghost use Rattle.ll_seq.specs.State.{new_client, root};
 ghost use Rattle.ll_walks.specs.Walk as walks;
-ghost use Rattle.ll_walks.specs.World.{is_walked};
+ghost use Rattle.ll_walks.specs.World.{is_alone, is_walked};
 ghost use Rattle.ll_journal.specs.Looks.{stands_among};
-ghost use Rattle.ll_journal.specs.Places.{place_of};
+ghost use Rattle.ll_journal.specs.WalkPlaces.{place_of};
 ghost use Rattle.ll_journal.specs.Seated.{turn_at};
 
+use crate::alone::{Own, RecordCall, answer, asked_of};
 use crate::place::Place;
 use crate::walked::walks;
 use crate::way::{first_name, has_two_paths, know_ways, second_name, trunk_name};
 use ll_decide::Masks;
+use ll_rights::Abi;
 use ll_rights::limits::PATH_NAMES;
 use ll_rules::Domain;
-use ll_seq::{Call, ClientRecord};
+use ll_seq::{Call, ClientRecord, Descriptor, NumberMap, Reply, Rules};
 use std::alloc::{AllocError, Global};
 use std::marker::Model;
 
@@ -215,6 +218,7 @@ impl Legs {
 }
 
 impl Seat {
+    ghost use Rattle.ll_journal.specs.Own.{Comes, IsOwn};
     ghost use Rattle.ll_journal.specs.Seated.{again, entered, gone_down, here_in, next_in, split};
 
     /// A client without a walk.
@@ -265,6 +269,46 @@ impl Seat {
         self.starts = 1;
         self.is_stale = false;
         self.stage = Stage::Above;
+    }
+
+    /// What the call asks for its client alone, if it is such a call, and no walk is under way.
+    pub(crate) fn asked_of(&self, call: &Call) -> Option<Own>
+        ensures some { IfSome result (λ own. (self.now.walk ≡ None) × IsOwn self.now.client call.now (Some own)) }
+        ensures none { IfNone result ((is_none self.now.walk && is_alone self.now.client call.now) ≡ false) }
+    {
+        if self.call.is_some() {
+            return None;
+        }
+        asked_of(&self.client, call)
+    }
+
+    /// The reply to a call on the client's record, after it has been made.
+    pub(crate) fn answer(
+        &mut self,
+        alloc: Global,
+        abi: Abi,
+        asked: RecordCall,
+    ) -> Result<Reply, AllocError>
+        requires { self.old.walk ≡ None }
+        ensures ok { IfOk result (λ reply. Comes abi self.old.client asked reply self.new.client) }
+        ensures descriptors { self.new.client.descriptors ≡ self.old.client.descriptors }
+        ensures rest { self.new ≡ record self.old { client = self.new.client } }
+        ensures err { OnErr result (self.new ≡ self.old) }
+    {
+        answer(&mut self.client, alloc, abi, asked)
+    }
+
+    /// A client that this one spawns.
+    pub(crate) fn child(&self, alloc: Global, rules: Rules) -> Result<ClientRecord, AllocError>
+        ensures { IfOk result (λ child. child ≡ child_of rules self.now.client) }
+    {
+        self.client.child(alloc, rules)
+    }
+
+    pub(crate) fn descriptors(&self) -> &NumberMap<Descriptor>
+        ensures { result.now ≡ self.now.client.descriptors }
+    {
+        &self.client.descriptors
     }
 
     /// Whether a walk is under way that isn't stale.

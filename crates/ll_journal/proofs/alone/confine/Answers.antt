@@ -1,5 +1,5 @@
 use Rattle.std.specs.Prelude.{refl}
-use Rattle.std.proofs.Common.{sym, ap, ◌∙◌}
+use Rattle.std.proofs.Common.{◌∙◌}
 use Rattle.std.specs.Option.{option_copied}
 use Rattle.ll_journal.proofs.OwnAnswers.{comes_without, comes_confined, comes_not_confined, none_found, copied_none, within}
 use Rattle.ll_journal.proofs.alone.confine.Goals as goal

@@ -1,4 +1,4 @@
-use Rattle.std.proofs.Common.{rules, refl, sym, [], ◌∙◌}
+use Rattle.std.proofs.Common.{rules, refl, sym, ◌∙◌}
 use Rattle.ll_journal.proofs.Answered.{connect_kept, connect_joined, connect_spares, over_joined}
 use Rattle.ll_journal.proofs.Starting.{over_spares}
 use Rattle.ll_journal.proofs.journal.Journal.connect.Goals as goal
@@ -19,6 +19,6 @@ returns-clause-joined c =
 pub returns-clause-spares : goal.returns-clause-spares
 returns-clause-spares c =
     let spare = c.in-Ok.ensures.ok in
-    over_spares _ _ _ [] c.self.view_is
+    over_spares _ _ _ _ c.self.view_is
     (connect_spares c.self.inside (record c.self.inside { history = c.push.new.self; seats = c.seat_client.new.seats; free = c.seat_client.new.free }) c.self.invariant c.in-Ok.number spare.0 _ (sym c.is_full.ensures ∙ c.if-is_full.false) (search rules)
     c.in-Ok.ensures.number c.new-client.ensures spare.1 spare.2 c.push.ensures refl refl refl refl refl refl)

@@ -1,7 +1,7 @@
 use Rattle.std.proofs.Common.{ap, sym, ◌∙◌}
 use Rattle.ll_journal.specs.Book.{Book}
 use Rattle.ll_journal.specs.Kept.{seat_at}
-use Rattle.ll_journal.specs.Places.{place_in, place_of}
+use Rattle.ll_journal.specs.WalkPlaces.{place_in, place_of}
 use Rattle.ll_journal.proofs.Starting.{at_place}
 use Rattle.ll_journal.proofs.Entering.{no_walk, walk_here}
 use Rattle.ll_journal.proofs.journal.Journal.place.Goals as goal

@@ -5,7 +5,7 @@ use Rattle.ll_walks.specs.Walk.{has_two_paths, trunk_path}
 use Rattle.ll_journal.specs.declared.place.Place.TheVariants as place
 use Rattle.ll_journal.specs.declared.seat.Stage.TheVariants as stage
 use Rattle.ll_journal.specs.Book as book
-use Rattle.ll_journal.specs.Places.{place_of}
+use Rattle.ll_journal.specs.WalkPlaces.{place_of}
 use Rattle.ll_journal.specs.Seated.{depth_of}
 use Rattle.ll_journal.proofs.Begun.{turned}
 use Rattle.ll_journal.proofs.Seats.{none_ahead, place_is}

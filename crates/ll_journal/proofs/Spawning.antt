@@ -1,0 +1,50 @@
+-- A client that is spawned, as the code makes it.
+use Rattle.std.specs.Prelude.{◌≡◌, ℕ, zero, suc, ◌+◌, ◌-◌, ◌<◌, false, List, [], ◌∷◌, ◌++◌, length, Some, None, slice_index_or}
+use Rattle.std.specs.Ordering.{nat_cmp}
+use Rattle.std.proofs.Common.{sym, subst, ap, ◌∙◌, arith, length-append}
+use Rattle.std.proofs.lemmas.Option.{slice_get-get_or}
+use Rattle.ll_rights.specs.Map.{Map, get, has}
+use Rattle.ll_seq.specs.declared.client.ClientRecord.{ClientRecord}
+use Rattle.ll_seq.specs.declared.client.Descriptor.{Descriptor}
+use Rattle.ll_seq.specs.declared.facts.Fact.{Fact}
+use Rattle.ll_seq.specs.declared.rules.Rules.{Rules}
+use Rattle.ll_seq.specs.State.{State}
+use Rattle.ll_seq.specs.Effects.{with_client, child_of}
+use Rattle.ll_seq.specs.Facts.{AreKept}
+use Rattle.ll_journal.specs.Book.{Seat}
+use Rattle.ll_journal.specs.Own.{Spawns}
+
+last_index : (seats : List Seat) (x d : Seat) (n : ℕ) → n ≡ length seats → slice_index_or (seats ++ x ∷ []) n d ≡ x
+last_index [] x d n e = ap (λ k. slice_index_or (x ∷ []) k d) e
+last_index (z ∷ seats) x d zero e = absurd (cc e)
+last_index (z ∷ seats) x d (suc n) e = last_index seats x d n (omega (arith, e))
+
+module _ (rules : Rules) (place : ℕ) (seats : List Seat) (free : List ℕ) (facts : Map nat_cmp Fact) (number : ℕ) (seats' : List Seat) (free' : List ℕ) (facts' : Map nat_cmp Fact)
+    (parent : Seat) (child : ClientRecord) (within : place < length seats) (is : parent ≡ slice_index_or seats place parent) (born : child ≡ child_of rules parent.client) (numbered : number ≡ length seats + 1)
+    (seated : (spare : ℕ) × (free ≡ free' ++ spare ∷ []) × (seats' ≡ seats ++ record { client = child; spare = spare; walk = None } ∷ [])) where
+  pub spawns : (len : ℕ) (last : Seat) (descriptors : Map nat_cmp Descriptor) → len ≡ length seats' → last ≡ slice_index_or seats' (len - 1) last → descriptors ≡ last.client.descriptors
+      → ((s : State) (client : ℕ) (c : ClientRecord) (fresh : ℕ) → AreKept s facts → get s.clients client ≡ Some c → has s.clients fresh ≡ false → (child_of s.rules c).descriptors ≡ descriptors → AreKept (with_client s fresh (child_of s.rules c)) facts')
+      → Spawns rules place seats free facts number seats' free' facts'
+  spawns len last descriptors many at told counted = record {
+    parent = parent;
+    there = slice_get-get_or seats place parent within ∙ ap Some (sym is);
+    numbered = numbered;
+    spare = seated.0;
+    free-is = seated.1;
+    seats-are = seated.2 ∙ ap (λ c. seats ++ record { client = c; spare = seated.0; walk = None } ∷ []) born;
+    facts-are = λ s client kept same there unknown.
+        subst (λ r. AreKept (with_client s number (child_of r parent.client)) facts') same
+        (counted s client parent.client number kept there unknown (ap (λ r. (child_of r parent.client).descriptors) same ∙ sym own));
+  }
+    where
+      new : Seat
+      new = record { client = child; spare = seated.0; walk = None }
+
+      place_is : len - 1 ≡ length seats
+      place_is = let n = many ∙ ap length seated.2 ∙ length-append seats (new ∷ []) in omega (arith, n)
+
+      newest : last ≡ new
+      newest = at ∙ ap (λ xs. slice_index_or xs (len - 1) last) seated.2 ∙ last_index seats new last (len - 1) place_is
+
+      own : descriptors ≡ (child_of rules parent.client).descriptors
+      own = told ∙ ap (λ (x : Seat). x.client.descriptors) newest ∙ ap (λ (c : ClientRecord). c.descriptors) born

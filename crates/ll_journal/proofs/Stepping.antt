@@ -1,0 +1,355 @@
+-- A client's call for itself alone: what the step comes to, and what the journal keeps.
+use Rattle.std.specs.Prelude.{◌≡◌, ◌≢◌, ◌⊎◌, ℕ, zero, suc, ◌+◌, ◌<◌, ◌≤◌, Bool, true, false, not, ◌&&◌, List, [], ◌∷◌, ◌++◌, map, length, Option, Some, None, Result, Ok, Err, IfOk, IfNone, OnErr, is_none, is_some, option_map, option_and_then, unwrap_or, slice_get, slice_set, refl}
+use Rattle.std.specs.declared.alloc.AllocError.{AllocError}
+use Rattle.std.specs.List.{AllByRecursion}
+use Rattle.std.specs.Option.{option_map_or}
+use Rattle.std.specs.Cmp.{nat_cmp_total}
+use Rattle.std.specs.FinMap.{nat_cmp-IsAntisymmetric}
+use Rattle.std.proofs.Common.{sym, subst, ap, ◌∙◌, inl, inr}
+use Rattle.std.proofs.lemmas.List.{length-set}
+use Rattle.ll_rights.specs.declared.errno.Errno.TheVariants.{EMFILE, HistoryFull}
+use Rattle.ll_rights.specs.declared.limits.TheConstants.{TREE_CLIENTS}
+use Rattle.ll_rights.specs.Map.{get, has, insert, len}
+use Rattle.ll_rights.proofs.Maps.{insert_cases}
+use Rattle.ll_laws.proofs.Chains.{same_Some}
+use Rattle.ll_seq.specs.declared.call.Call.{Call}
+use Rattle.ll_seq.specs.declared.call.Call.TheVariants as calls
+use Rattle.ll_seq.specs.declared.client.ClientRecord.{ClientRecord}
+use Rattle.ll_seq.specs.declared.reply.Reply.{Reply}
+use Rattle.ll_seq.specs.declared.reply.Reply.TheVariants as replies
+use Rattle.ll_seq.specs.declared.rules.Rules.{Rules}
+use Rattle.ll_seq.specs.State.{State, new_client, start}
+use Rattle.ll_seq.specs.Step.{step, client_of}
+use Rattle.ll_seq.specs.Effects.{with_client, child_of}
+use Rattle.ll_seq.specs.Facts.{AreKept}
+use Rattle.ll_seq.specs.History.{Log}
+use Rattle.ll_seq.proofs.FactsKept.{kept_client}
+use Rattle.ll_walks.specs.Walk.{Walk}
+use Rattle.ll_walks.specs.World.{World, NotNow, Replied, ClientStep, advance, shown, is_idle, is_alone, is_full, next_number, reply_to, with_entry}
+use Rattle.ll_walks.specs.Sound.{IsSound}
+use Rattle.ll_walks.proofs.OneCall.{unused}
+use Rattle.ll_journal.specs.declared.alone.Own.{Own}
+use Rattle.ll_journal.specs.declared.alone.Own.TheVariants as owns
+use Rattle.ll_journal.specs.declared.alone.RecordCall.{RecordCall}
+use Rattle.ll_journal.specs.declared.alone.RecordCall.TheVariants as asked
+use Rattle.ll_journal.specs.declared.direct.Answer.{Answer}
+use Rattle.ll_journal.specs.declared.direct.Answer.TheVariants as answers
+use Rattle.ll_journal.specs.declared.journal.Journal.TheInside.{Inside}
+use Rattle.ll_journal.specs.Book.{Seat, Book, Spares}
+use Rattle.ll_journal.specs.Direct.{Answers, LeavesSlots}
+use Rattle.ll_journal.specs.Kept.{AreSeated, ArePlaced, AreDistinct, IsVacant, IsKept, seat_at, walks_from, world_of, book_of}
+use Rattle.ll_journal.specs.Own.{Asks, IsOwn, Comes, Spawns, SpawnTells}
+use Rattle.ll_journal.proofs.Advancing.{direct_not_now, direct_full, direct_replies}
+use Rattle.ll_journal.proofs.Answered.{spares_answered, world_is, kept_answered, world_more, kept_more, takes_spare, few_clients, many_clients}
+use Rattle.ll_journal.proofs.Begun.{walk_at, set_same, set_other}
+use Rattle.ll_journal.proofs.NewClients.{clients_len}
+use Rattle.ll_journal.proofs.OwnAnswers.{spawn_refused, spawned}
+use Rattle.ll_journal.proofs.Ruled.{rules_stay}
+use Rattle.ll_journal.proofs.SlotAccounts.{content_of}
+use Rattle.ll_journal.proofs.Starting.{all_kept, sound_after, spares_kept}
+
+-- ---- whether the call is one for this step
+
+abbrev pub may_ask : Seat → Call → Bool
+may_ask seat call = is_none seat.walk && is_alone seat.client call
+
+not_some : {A : Type 0} (o : Option A) → not (is_some o) ≡ is_none o
+not_some None = refl
+not_some (Some x) = refl
+
+module _ (j : Inside) (h : IsKept j) (number : ℕ) (call : Call) where
+  abbrev w : World
+  w = world_of j
+
+  abbrev told : Option ClientRecord → Option Walk → Bool
+  told client walk = (is_some client && not (is_some walk)) && is_alone (unwrap_or client new_client) call
+
+  may_is : (is_idle w number && is_alone (client_of (shown w) number) call) ≡ option_map_or (λ (seat : Seat). may_ask seat call) (seat_at j.seats.items number) false
+  may_is =
+      ap (λ c. told c (get w.walks number)) (h.seated number)
+      ∙ ap (told (option_map (λ (seat : Seat). seat.client) (seat_at j.seats.items number))) (walk_at j.seats.items number)
+      ∙ by (seat_at j.seats.items number)
+    where
+      by : (o : Option Seat) → told (option_map (λ (seat : Seat). seat.client) o) (option_and_then (λ (seat : Seat). seat.walk) o) ≡ option_map_or (λ (seat : Seat). may_ask seat call) o false
+      by None = refl
+      by (Some seat) = ap (λ b. b && is_alone seat.client call) (not_some seat.walk)
+
+  may_not : option_map_or (λ (seat : Seat). may_ask seat call) (seat_at j.seats.items number) false ≡ false → advance w (ClientStep number call) ≡ (NotNow, w)
+  may_not e = direct_not_now w number (is_alone (client_of (shown w) number) call) call (may_is ∙ e)
+
+  pub not_there : seat_at j.seats.items number ≡ None → advance w (ClientStep number call) ≡ (NotNow, w)
+  not_there none = may_not (ap (λ o. option_map_or (λ (seat : Seat). may_ask seat call) o false) none)
+
+  module _ (place : ℕ) (seat : Seat) (at : slice_get j.seats.items place ≡ Some seat) (numbered : number ≡ suc place) where
+    stands : seat_at j.seats.items number ≡ Some seat
+    stands = ap (seat_at j.seats.items) numbered ∙ at
+
+    pub not_own : may_ask seat call ≡ false → advance w (ClientStep number call) ≡ (NotNow, w)
+    not_own e = may_not (ap (λ o. option_map_or (λ (seat : Seat). may_ask seat call) o false) stands ∙ e)
+
+    pub there : get (shown w).clients number ≡ Some seat.client
+    there = h.seated number ∙ ap (option_map (λ (s : Seat). s.client)) stands
+
+    module _ (idle : seat.walk ≡ None) (alone : is_alone seat.client call ≡ true) where
+      may : (is_idle w number && is_alone (client_of (shown w) number) call) ≡ true
+      may = may_is ∙ ap (λ o. option_map_or (λ (seat : Seat). may_ask seat call) o false) stands ∙ (λ i. is_none (idle i) && alone i)
+
+      pub step_full : is_full w ≡ true → advance w (ClientStep number call) ≡ (Replied (replies.Refused HistoryFull), w)
+      step_full full = direct_full w number (is_alone (client_of (shown w) number) call) call may full
+
+      pub step_replies : (reply : Reply) → is_full w ≡ false → reply ≡ reply_to w number call → advance w (ClientStep number call) ≡ (Replied reply, with_entry w number call reply)
+      step_replies reply room is = direct_replies w number (is_alone (client_of (shown w) number) call) call may room ∙ (λ i. (Replied (sym is i), with_entry w number call (sym is i)))
+
+pub asks_alone : (c : ClientRecord) (call : Call) (what : RecordCall) → Asks c call what → is_alone c call ≡ true
+asks_alone c call (asked.Ruleset rights) is = ap (is_alone c) is
+asks_alone c call (asked.Confine number) is = ap (is_alone c) is
+asks_alone c call (asked.Refused errno) is = is.0
+
+pub spawn_alone : (c : ClientRecord) (call : Call) → call ≡ calls.Spawn → is_alone c call ≡ true
+spawn_alone c call is = ap (is_alone c) is
+
+-- ---- the seats
+
+-- another record in the seat, and the same walk
+walks_same : (seats : List Seat) (place : ℕ) (old new : Seat) (first : ℕ) → slice_get seats place ≡ Some old → new.walk ≡ old.walk → walks_from first (slice_set seats place new) ≡ walks_from first seats
+walks_same [] place old new first at same = refl
+walks_same (z ∷ seats) zero old new first at same =
+    ap (λ o. option_map_or (λ (walk : Walk). insert (walks_from (first + 1) seats) first walk) o (walks_from (first + 1) seats)) (same ∙ ap (λ (x : Seat). x.walk) (sym (same_Some z old at)))
+walks_same (z ∷ seats) (suc place) old new first at same =
+    ap (λ m. option_map_or (λ (walk : Walk). insert m first walk) z.walk m) (walks_same seats place old new (first + 1) at same)
+
+seated_put : (s : State) (seats : List Seat) (place number : ℕ) (old new : Seat) → slice_get seats place ≡ Some old → number ≡ suc place → AreSeated s seats → AreSeated (with_client s number new.client) (slice_set seats place new)
+seated_put s seats place number old new at numbered seated q = by (insert_cases nat_cmp_total nat_cmp-IsAntisymmetric s.clients number new.client q)
+  where
+    client_in : Option Seat → Option ClientRecord
+    client_in = option_map (λ (seat : Seat). seat.client)
+
+    other : (q : ℕ) → q ≢ number → seat_at (slice_set seats place new) q ≡ seat_at seats q
+    other zero n = refl
+    other (suc i) n = set_other seats place i new (λ e. n (ap suc (sym e) ∙ sym numbered))
+
+    by : ((q ≡ number) × (get (insert s.clients number new.client) q ≡ Some new.client)) ⊎ ((q ≢ number) × (get (insert s.clients number new.client) q ≡ get s.clients q))
+        → get (insert s.clients number new.client) q ≡ option_map (λ (seat : Seat). seat.client) (seat_at (slice_set seats place new) q)
+    by (inl a) = a.1 ∙ sym (ap (option_map (λ (seat : Seat). seat.client)) (ap (seat_at (slice_set seats place new)) (a.0 ∙ numbered) ∙ set_same seats place old new at))
+    by (inr a) = a.1 ∙ seated q ∙ sym (ap (option_map (λ (seat : Seat). seat.client)) (other q a.0))
+
+same_spares : (b b' : Book) → b' ≡ b → Spares b b' []
+same_spares b b' e = subst (λ x. Spares b x []) (sym e) (record { limit = refl; size = refl; slots = λ j out. refl })
+
+replied_so : (b b' : Book) (number : ℕ) (call : Call) (answer : Answer) (reply : Reply) → answer ≡ answers.Replied → advance b.world (ClientStep number call) ≡ (Replied reply, b'.world) → Answers b (ClientStep number call) answer b'
+replied_so b b' number call answer reply is e = subst (λ a. Answers b (ClientStep number call) a b') (sym is) (reply, e)
+
+starved_so : (b b' : Book) (number : ℕ) (call : Call) (answer : Answer) → answer ≡ answers.NoMemory → b' ≡ b → Answers b (ClientStep number call) answer b'
+starved_so b b' number call answer is e = subst (λ a. Answers b (ClientStep number call) a b') (sym is) e
+
+-- with the same items nothing has changed
+module _ (j k : Inside) (rules : k.rules ≡ j.rules) (room : k.room ≡ j.room) (gate : k.gate ≡ j.gate) (inodes : k.inodes ≡ j.inodes) (places : k.places ≡ j.places)
+    (history : k.history ≡ j.history) (seats : k.seats.items ≡ j.seats.items) (free : k.free.items ≡ j.free.items) (facts : k.facts ≡ j.facts) where
+  world_unchanged : world_of k ≡ world_of j
+  world_unchanged = λ i. record { rules = rules i; room = room i; limit = (history i).limit; history = (history i).entries; walks = walks_from 1 (seats i); gate = gate i }
+
+  book_unchanged : book_of k ≡ book_of j
+  book_unchanged = λ i. record { world = world_unchanged i; inodes = (inodes i).items; free = free i; spares = map (λ (s : Seat). s.spare) (seats i) }
+
+  kept_unchanged : IsKept j → IsKept k
+  kept_unchanged h = record {
+    sound = subst IsSound (sym world_unchanged) h.sound;
+    facts = subst (λ f. AreKept (shown (world_of k)) f) (sym facts) (subst (λ s. AreKept s j.facts) (sym tree) h.facts);
+    seated = subst (λ s. AreSeated s k.seats.items) (sym tree) (subst (AreSeated (shown (world_of j))) (sym seats) h.seated);
+    placed = subst (λ v. ArePlaced v.items k.places) (sym inodes) (subst (ArePlaced j.inodes.items) (sym places) h.placed);
+    living = λ inode. ap (λ m. has m inode) places ∙ h.living inode ∙ ap (λ (s : State). has s.nodes inode) (sym tree);
+    slots = ap (λ v. length v.items) inodes ∙ h.slots ∙ ap (λ n. n + TREE_CLIENTS) (sym room);
+    free = subst (λ v. AllByRecursion (IsVacant v.items) k.free.items) (sym inodes) (subst (AllByRecursion (IsVacant j.inodes.items)) (sym free) h.free);
+    spares = subst (λ v. AllByRecursion (λ (seat : Seat). IsVacant v.items seat.spare) k.seats.items) (sym inodes)
+        (subst (AllByRecursion (λ (seat : Seat). IsVacant j.inodes.items seat.spare)) (sym seats) h.spares);
+    distinct = subst AreDistinct (λ i. sym free i ++ map (λ (s : Seat). s.spare) (sym seats i)) h.distinct;
+    count = (λ i. length (free i) + length (seats i) + len (tree i).nodes) ∙ h.count ∙ ap (λ n. n + TREE_CLIENTS) (sym room);
+    few = subst (λ n. n ≤ k.room) (ap (λ (s : State). len s.nodes) (sym tree)) (subst (λ n. len (shown (world_of j)).nodes ≤ n) (sym room) h.few);
+  }
+    where
+      tree : shown (world_of k) ≡ shown (world_of j)
+      tree = ap shown world_unchanged
+
+set_again : (seats : List Seat) (place : ℕ) (seat : Seat) → slice_get seats place ≡ Some seat → slice_set seats place seat ≡ seats
+set_again [] place seat at = refl
+set_again (z ∷ seats) zero seat at = ap (λ x. x ∷ seats) (sym (same_Some z seat at))
+set_again (z ∷ seats) (suc place) seat at = ap (λ xs. z ∷ xs) (set_again seats place seat at)
+
+-- ---- a call on the client's record
+
+-- what the whole step is to show
+pub record Stepped (b : Book) (number : ℕ) (call : Call) (answer : Answer) (k : Inside) : Type 0 where
+  pub kept : IsKept k
+  pub does : Answers b (ClientStep number call) answer (book_of k)
+  pub spares : Spares b (book_of k) []
+  pub rest : LeavesSlots call b (book_of k)
+
+abbrev entered : Inside → ℕ → Call → Reply → Log
+entered j number call reply = record j.history { entries = j.history.entries ++ record { client = number; call = call; reply = reply } ∷ [] }
+
+module _ (j k : Inside) (h : IsKept j) (number : ℕ) (call : Call) (place : ℕ) (old : Seat) (at : slice_get j.seats.items place ≡ Some old) (numbered : number ≡ suc place)
+    (idle : old.walk ≡ None) (room_left : is_full (world_of j) ≡ false) (answer : Answer)
+    (rules : k.rules ≡ j.rules) (room : k.room ≡ j.room) (gate : k.gate ≡ j.gate) (inodes : k.inodes ≡ j.inodes) (places : k.places ≡ j.places) where
+  abbrev before : State
+  before = shown (world_of j)
+
+  rules_are : before.rules ≡ j.rules
+  rules_are = rules_stay (start j.rules j.room) j.history.entries
+
+  -- the record is another
+  module _ (new : Seat) (seats : k.seats.items ≡ slice_set j.seats.items place new) (free : k.free.items ≡ j.free.items) (facts : k.facts ≡ j.facts) (rest : new ≡ record old { client = new.client }) where
+    walk_is : new.walk ≡ old.walk
+    walk_is = ap (λ (s : Seat). s.walk) rest
+
+    spare_is : new.spare ≡ old.spare
+    spare_is = ap (λ (s : Seat). s.spare) rest
+
+    walks_are : walks_from 1 k.seats.items ≡ walks_from 1 j.seats.items
+    walks_are = ap (walks_from 1) seats ∙ walks_same j.seats.items place old new 1 at walk_is
+
+    spares_are : map (λ (s : Seat). s.spare) k.seats.items ≡ map (λ (s : Seat). s.spare) j.seats.items
+    spares_are = ap (map (λ (s : Seat). s.spare)) seats ∙ spares_kept j.seats.items place old new at spare_is
+
+    slots_stay : book_of k ≡ record (book_of j) { world = world_of k }
+    slots_stay = λ i. record { world = world_of k; inodes = (inodes i).items; free = free i; spares = spares_are i }
+
+    module _ (alone : is_alone old.client call ≡ true) (reply : Reply) (comes_so : step before number call (next_number (world_of j)) ≡ (reply, with_client before number new.client)) (same : new.client.descriptors ≡ old.client.descriptors)
+        (history : k.history ≡ entered j number call reply) (is : answer ≡ answers.Replied) where
+      told_so : reply ≡ reply_to (world_of j) number call
+      told_so = sym (ap (λ (p : Reply × State). p.0) comes_so)
+
+      after : (step before number call (next_number (world_of j))).1 ≡ with_client before number new.client
+      after = ap (λ (p : Reply × State). p.1) comes_so
+
+      world_so : world_of k ≡ with_entry (world_of j) number call reply
+      world_so = world_is j k h number call reply told_so rules room gate history walks_are
+
+      advances : advance (world_of j) (ClientStep number call) ≡ (Replied reply, world_of k)
+      advances = step_replies j h number call place old at numbered idle alone reply room_left told_so ∙ ap (λ (v : World). (Replied reply, v)) (sym world_so)
+
+      kept_so : IsKept k
+      kept_so =
+          kept_answered j k h number call reply told_so rules room gate history walks_are (with_client before number new.client) after refl
+          (sound_after j (world_of k) (ClientStep number call) (Replied reply) h advances)
+          (subst (AreKept (with_client before number new.client)) (sym facts) (kept_client before j.facts j.facts number old.client h.facts (there j h number call place old at numbered) new.client same))
+          (subst (AreSeated (with_client before number new.client)) (sym seats) (seated_put before j.seats.items place number old new at numbered h.seated))
+          inodes places (subst (AllByRecursion (IsVacant j.inodes.items)) (sym free) h.free)
+          (subst (AllByRecursion (λ (seat : Seat). IsVacant j.inodes.items seat.spare)) (sym seats) (all_kept (IsVacant j.inodes.items) j.seats.items place old new at spare_is h.spares))
+          (subst AreDistinct (λ i. sym free i ++ sym spares_are i) h.distinct)
+          (let one = ap length free in let other = ap length seats ∙ length-set j.seats.items place new in (λ i. one i + other i))
+
+      answered_so : Stepped (book_of j) number call answer k
+      answered_so = record {
+        kept = kept_so;
+        does = replied_so (book_of j) (book_of k) number call answer reply is advances;
+        spares = spares_answered (book_of j) (book_of k) number call reply h.sound kept_so.sound world_so told_so (ap (λ v. v.items) inodes) (λ i. ap (λ s. content_of s i) after);
+        rest = inl slots_stay;
+      }
+
+  -- memory ran out
+  starved : k.seats.items ≡ j.seats.items → k.free.items ≡ j.free.items → k.facts ≡ j.facts → k.history ≡ j.history → answer ≡ answers.NoMemory → Stepped (book_of j) number call answer k
+  starved seats free facts history is =
+      let same = book_unchanged j k rules room gate inodes places history seats free facts in
+      record {
+        kept = kept_unchanged j k rules room gate inodes places history seats free facts h;
+        does = starved_so (book_of j) (book_of k) number call answer is same;
+        spares = same_spares (book_of j) (book_of k) same;
+        rest = inl (same ∙ ap (λ v. record (book_of j) { world = v }) (sym (world_unchanged j k rules room gate inodes places history seats free facts)));
+      }
+
+  pub on_record : (new : Seat) → k.seats.items ≡ slice_set j.seats.items place new → k.free.items ≡ j.free.items → k.facts ≡ j.facts → new ≡ record old { client = new.client } → (what : RecordCall) → Asks old.client call what
+      → (told : Result Reply AllocError) → IfOk told (λ reply. Comes j.rules.abi old.client what reply new.client) → new.client.descriptors ≡ old.client.descriptors → OnErr told (new ≡ old)
+      → IfOk told (λ reply. (answer ≡ answers.Replied) × (k.history ≡ entered j number call reply)) → OnErr told ((answer ≡ answers.NoMemory) × (k.history ≡ j.history)) → Stepped (book_of j) number call answer k
+  on_record new seats free facts rest what asks (Ok reply) comes same err ok bad =
+      answered_so new seats free facts rest (asks_alone old.client call what asks) reply
+      (comes call asks before number (next_number (world_of j)) (ap (λ (r : Rules). r.abi) rules_are) (there j h number call place old at numbered)) same ok.1 ok.0
+  on_record new seats free facts rest what asks (Err e) comes same err ok bad =
+      starved (seats ∙ ap (slice_set j.seats.items place) err ∙ set_again j.seats.items place old at) free facts bad.1 bad.0
+
+  -- ---- a client is spawned
+
+  module _ (spawn : call ≡ calls.Spawn) where
+    alone_so : is_alone old.client call ≡ true
+    alone_so = ap (is_alone old.client) spawn
+
+    here : get before.clients number ≡ Some old.client
+    here = there j h number call place old at numbered
+
+    crowded : TREE_CLIENTS ≤ length j.seats.items → (reply : Reply) → reply ≡ replies.Refused EMFILE → k.seats.items ≡ j.seats.items → k.free.items ≡ j.free.items → k.facts ≡ j.facts → k.history ≡ entered j number call reply → answer ≡ answers.Replied → Stepped (book_of j) number call answer k
+    crowded many reply told seats free facts history is =
+        answered_so old (seats ∙ sym (set_again j.seats.items place old at)) free facts refl alone_so reply
+        (ap (λ c. step before number c (next_number (world_of j))) spawn
+        ∙ spawn_refused before number (next_number (world_of j)) old.client here (many_clients (len before.clients) (length j.seats.items) (clients_len before j.seats.items h.seated) many)
+        ∙ ap (λ r. (r, with_client before number old.client)) (sym told))
+        refl history is
+
+    module _ (few : length j.seats.items < TREE_CLIENTS) (born : ℕ) (reply : Reply) (told : reply ≡ replies.Spawned born) (spawns : Spawns j.rules place j.seats.items j.free.items j.facts born k.seats.items k.free.items k.facts)
+        (history : k.history ≡ entered j number call reply) (is : answer ≡ answers.Replied) where
+      parent_is : spawns.parent ≡ old
+      parent_is = same_Some spawns.parent old (sym spawns.there ∙ at)
+
+      abbrev seat : Seat
+      seat = record { client = child_of j.rules spawns.parent.client; spare = spawns.spare; walk = None }
+
+      next_is : born ≡ next_number (world_of j)
+      next_is = spawns.numbered ∙ ap (λ n. n + 1) (sym (clients_len before j.seats.items h.seated))
+
+      steps : step before number call (next_number (world_of j)) ≡ (replies.Spawned (next_number (world_of j)), with_client before (next_number (world_of j)) (child_of before.rules old.client))
+      steps =
+          ap (λ c. step before number c (next_number (world_of j))) spawn
+          ∙ spawned before number (next_number (world_of j)) old.client here (few_clients (len before.clients) (length j.seats.items) (clients_len before j.seats.items h.seated) few)
+
+      told_is : reply ≡ reply_to (world_of j) number call
+      told_is = told ∙ ap replies.Spawned next_is ∙ sym (ap (λ (p : Reply × State). p.0) steps)
+
+      after_spawn : (step before number call (next_number (world_of j))).1 ≡ with_client before (next_number (world_of j)) (child_of j.rules spawns.parent.client)
+      after_spawn = ap (λ (p : Reply × State). p.1) steps ∙ (λ i. with_client before (next_number (world_of j)) (child_of (rules_are i) (sym parent_is i).client))
+
+      world_spawned : world_of k ≡ with_entry (world_of j) number call reply
+      world_spawned = world_more j k h number call reply told_is rules room gate history seat refl spawns.seats-are spawns.free-is after_spawn
+
+      advances_so : advance (world_of j) (ClientStep number call) ≡ (Replied reply, world_of k)
+      advances_so = step_replies j h number call place old at numbered idle alone_so reply room_left told_is ∙ ap (λ (v : World). (Replied reply, v)) (sym world_spawned)
+
+      kept_spawned : IsKept k
+      kept_spawned =
+          kept_more j k h number call reply told_is rules room gate history seat refl spawns.seats-are spawns.free-is after_spawn
+          (sound_after j (world_of k) (ClientStep number call) (Replied reply) h advances_so)
+          (subst (λ n. AreKept (with_client before n (child_of j.rules spawns.parent.client)) k.facts) next_is
+          (spawns.facts-are before number h.facts rules_are (here ∙ ap (λ (s : Seat). Some s.client) (sym parent_is)) (ap (has before.clients) next_is ∙ unused before h.sound.numbers)))
+          inodes places
+
+      one_more : Stepped (book_of j) number call answer k
+      one_more = record {
+        kept = kept_spawned;
+        does = replied_so (book_of j) (book_of k) number call answer reply is advances_so;
+        spares = spares_answered (book_of j) (book_of k) number call reply h.sound kept_spawned.sound world_spawned told_is (ap (λ v. v.items) inodes) (λ i. ap (λ s. content_of s i) after_spawn);
+        rest = inr (spawn, takes_spare j k h number call reply told_is rules room gate history seat refl spawns.seats-are spawns.free-is after_spawn inodes);
+      }
+
+    pub on_spawn : (told : Result Reply AllocError) → IfOk told (SpawnTells j.rules place j.seats.items j.free.items j.facts k.seats.items k.free.items k.facts)
+        → OnErr told ((k.seats.items ≡ j.seats.items) × (k.free.items ≡ j.free.items) × (k.facts ≡ j.facts))
+        → IfOk told (λ reply. (answer ≡ answers.Replied) × (k.history ≡ entered j number call reply)) → OnErr told ((answer ≡ answers.NoMemory) × (k.history ≡ j.history)) → Stepped (book_of j) number call answer k
+    on_spawn (Ok reply) (inl a) err ok bad = crowded a.0 reply a.1 a.2 a.3 a.4 ok.1 ok.0
+    on_spawn (Ok reply) (inr a) err ok bad = one_more a.0 a.1 reply a.2 a.3 ok.1 ok.0
+    on_spawn (Err e) tells err ok bad = starved err.0 err.1 err.2 bad.1 bad.0
+
+-- ---- as the code finds it
+
+pub over_stepped : (b b' : Book) (number : ℕ) (call : Call) (answer : Answer) (k : Inside) → b ≡ b' → Stepped b number call answer k → Stepped b' number call answer k
+over_stepped b b' number call answer k e h = subst (λ (b : Book). Stepped b number call answer k) e h
+
+pub over_not_now : (b b' : Book) (number : ℕ) (call : Call) → b ≡ b' → advance b.world (ClientStep number call) ≡ (NotNow, b.world) → advance b'.world (ClientStep number call) ≡ (NotNow, b'.world)
+over_not_now b b' number call e h = subst (λ (b : Book). advance b.world (ClientStep number call) ≡ (NotNow, b.world)) e h
+
+pub over_full : (b b' : Book) (number : ℕ) (call : Call) → b ≡ b' → advance b.world (ClientStep number call) ≡ (Replied (replies.Refused HistoryFull), b.world) → advance b'.world (ClientStep number call) ≡ (Replied (replies.Refused HistoryFull), b'.world)
+over_full b b' number call e h = subst (λ (b : Book). advance b.world (ClientStep number call) ≡ (Replied (replies.Refused HistoryFull), b.world)) e h
+
+-- what the call asks is one for the client alone
+pub own_alone : (c : ClientRecord) (call : Call) (own : Own) → IsOwn c call (Some own) → is_alone c call ≡ true
+own_alone c call owns.Spawn is = ap (is_alone c) is
+own_alone c call (owns.OnRecord what) is = asks_alone c call what is
+
+pub none_own : (o : Option Own) (t : Bool) → o ≡ None → IfNone o (t ≡ false) → t ≡ false
+none_own None t e h = h
+none_own (Some x) t e h = absurd (cc e)
