@@ -1,4 +1,4 @@
 pub mod FirstLine
 pub mod FollowedParts
 pub mod Telling
-pub mod Written
+pub mod SavedText

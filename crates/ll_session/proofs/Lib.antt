@@ -7,4 +7,4 @@ pub mod Starving
 pub mod Connecting
 pub mod SessionPlaces
 pub mod Replies
-pub mod Writing
+pub mod ReplyWritten

@@ -7,7 +7,7 @@ ghost use Rattle.ll_seq.specs.History.{is_connect};
 ghost use Rattle.ll_seq.specs.declared.reply.Reply.{Reply};
 ghost use Rattle.ll_plain.specs.Refusal.{is_refusal};
 ghost use Rattle.ll_wire.specs.Entries.{IsEntry};
-ghost use Rattle.ll_wire.proofs.Facts.{spelled_props};
+ghost use Rattle.ll_wire.proofs.OneProof.{spelled_props};
 ghost use Rattle.ll_wire.specs.Grammar.{IsReply, reply_line};
 
 use crate::answer::{Answer, Refusal, count_brought, is_refused, wants_memory};

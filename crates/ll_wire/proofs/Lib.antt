@@ -2,7 +2,7 @@ pub mod FirstTokens
 pub mod NamedClients
 pub mod Digits
 pub mod EntryTokens
-pub mod Facts
+pub mod OneProof
 pub mod Fronts
 pub mod Headers
 pub mod Joined

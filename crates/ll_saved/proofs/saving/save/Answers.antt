@@ -4,7 +4,7 @@ use Rattle.std.specs.Io.KnownBytes.{Appends}
 use Rattle.ll_wire.specs.Grammar.{line_of}
 use Rattle.ll_wire.specs.Entries.{header_tokens, entry_line}
 use Rattle.ll_saved.specs.Writing.{AppendsFront}
-use Rattle.ll_saved.proofs.Written.{appends-none, ends, front-none, stops, waits_more}
+use Rattle.ll_saved.proofs.SavedText.{appends-none, ends, front-none, stops, waits_more}
 use Rattle.ll_saved.proofs.saving.save.Goals as goal
 
 pub returns-in_default-push_entry-clause-err : goal.returns-in_default-push_entry-clause-err

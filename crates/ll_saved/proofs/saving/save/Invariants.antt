@@ -1,7 +1,7 @@
 use Rattle.std.specs.Prelude.{string_bytes}
 use Rattle.ll_wire.specs.Grammar.{line_of}
 use Rattle.ll_wire.specs.Entries.{header_tokens, entry_line}
-use Rattle.ll_saved.proofs.Written.{IsWaiting}
+use Rattle.ll_saved.proofs.SavedText.{IsWaiting}
 use Rattle.ll_saved.proofs.saving.save.Given as goal
 
 abbrev pub invariant-loop-entry : goal.invariant-loop-entry

@@ -1,4 +1,4 @@
-use Rattle.ll_saved.proofs.Written.{took}
+use Rattle.ll_saved.proofs.SavedText.{took}
 use Rattle.ll_saved.proofs.writing.write_text.Goals as goal
 
 pub loop-rest-preserved : goal.loop-rest-preserved
