@@ -4,7 +4,6 @@ ghost use Rattle.std.specs.Prelude.{◌≡◌};
 
 use crate::fuse::{Sink, Source};
 use ll_audit::audit;
-use ll_journal::Journal;
 use ll_rights::Abi;
 use ll_saved::{AuditFailure, SaveFault, Untold, Verdict, run_audit, save};
 use ll_seq::{Call, Entry, History, Reply, Rules};
@@ -318,18 +317,7 @@ fn is_audited(alloc: Global) -> bool {
     judged.is_ok()
 }
 
-fn opens(alloc: Global) -> bool {
-    match Journal::new(alloc, RULES, 64, 10) {
-        Ok(journal) => {
-            drop(journal);
-            true
-        }
-        Err(_) => false,
-    }
-}
-
 #[test]
 fn histories(rt: HostRuntime) {
     assert!(rt; is_audited(rt.alloc()));
-    assert!(rt; opens(rt.alloc()));
 }
