@@ -1,5 +1,5 @@
 -- The number that a word gives, and what the matches of `run` ask for.
-use Rattle.std.proofs.Common.{◌≡◌, ◌∙◌, ◌<◌, ◌≤◌, ◌^◌, ◌&&◌, ℕ, Bool, true, false, Option, Some, None, refl, sym, ap, ap₂, cond, codes, option_map, is_some, nat_le}
+use Rattle.std.proofs.Common.{◌≡◌, ◌∙◌, ◌<◌, ◌≤◌, ◌^◌, ◌&&◌, ℕ, Bool, true, false, Option, Some, None, refl, sym, ap, cond, codes, option_map, is_some, nat_le}
 use Rattle.std.specs.Option.{SomeIff}
 use Rattle.std.specs.Prelude.{option_and_then}
 use Rattle.std.specs.Str.Parse.{IsNumeral, digits_value, without_leading_plus}

@@ -12,7 +12,7 @@ use Rattle.clap.specs.Simple.{Shape, argument_words, built, filled, help_rule, w
 use Rattle.clap.specs.Takes.{is_given}
 use Rattle.clap.specs.Kinds.{range_kinds, value_kinds, values_kinds}
 use Rattle.clap.specs.ValueTests.{accepts}
-use Rattle.clap.specs.Faults.{check_fault, fault_of, level_fault, repeat_fault, set_fault}
+use Rattle.clap.specs.Faults.{fault_of, level_fault, repeat_fault, set_fault}
 use Rattle.clap.specs.declared.error.kind.ErrorKind.{ErrorKind}
 use Rattle.clap.specs.declared.builder.value_parser.ValueParser.{ValueParser}
 use Rattle.clap.specs.declared.error.kind.ErrorKind.TheVariants.{MissingRequiredArgument}

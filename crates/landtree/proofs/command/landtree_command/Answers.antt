@@ -2,7 +2,6 @@ use Rattle.std.proofs.Common.{◌≡◌, ◌∙◌, ap, ap₂, codes, true}
 use Rattle.std.proofs.lemmas.Result.{IfOk-weaker}
 use Rattle.clap.specs.Words.{App, app_of, new_app, with_subcommand}
 use Rattle.clap.specs.Simple.{Shape, app_of_fields, on_top}
-use Rattle.landtree.specs.Options.{audit, run}
 use Rattle.landtree.proofs.command.landtree_command.Goals as goal
 
 abbrev versioned : App → App

@@ -1,4 +1,3 @@
-use Rattle.std.proofs.Common.{◌≡◌, rules}
 use Rattle.landtree.specs.Options.{order_in}
 use Rattle.landtree.proofs.Known.{a_text, same_text, set_by_level, unread}
 use Rattle.landtree.proofs.policy.setup_of.Goals as goal

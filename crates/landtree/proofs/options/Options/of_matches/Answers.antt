@@ -2,7 +2,7 @@ use Rattle.std.proofs.Common.{◌≡◌, ◌∙◌, sym, ap, codes, Bool, false,
 use Rattle.std.specs.Prelude.{bytes_eq}
 use Rattle.clap.specs.Words.{Row, Text, first_of, found_of, rows_of}
 use Rattle.clap.proofs.WalkLemmas.{first_value-rows}
-use Rattle.landtree.specs.Options.{Order, ordered, run_order, to_audit, to_run}
+use Rattle.landtree.specs.Options.{run_order, to_audit, to_run}
 use Rattle.landtree.proofs.options.Options.of_matches.Goals as goal
 
 -- what another name than `run` wants

@@ -1,5 +1,5 @@
-use Rattle.std.proofs.Common.{◌≡◌, ◌∙◌, sym, ap, rules, map, option_map, ℕ, Option, []}
-use Rattle.clap.specs.Words.{Text, fault_of}
+use Rattle.std.proofs.Common.{◌≡◌, ◌∙◌, sym, ap, rules, map, option_map, Option, []}
+use Rattle.clap.specs.Words.{fault_of}
 use Rattle.landtree.specs.Options.{Order, landtree, ordered_by, ordered_in}
 use Rattle.landtree.specs.declared.options.Options.{Options}
 use Rattle.landtree.proofs.Ordered.{never_none}
