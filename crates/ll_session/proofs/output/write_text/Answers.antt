@@ -1,4 +1,4 @@
-use Rattle.ll_session.proofs.Writing.{took}
+use Rattle.ll_session.proofs.ReplyWritten.{took}
 use Rattle.ll_session.proofs.output.write_text.Goals as goal
 
 pub loop-rest-preserved : goal.loop-rest-preserved
