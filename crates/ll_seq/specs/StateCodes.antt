@@ -31,5 +31,10 @@ coded_state =
     (coded× coded_entries (coded× coded_nodes (coded× coded_ℕ (coded× coded_ℕ (coded× coded_rules coded_clients)))))
     (λ s. (s.entries, (s.nodes, (s.next, (s.room, (s.rules, s.clients))))))
     (λ p. record {
-      entries = p.0; nodes = p.1.0; next = p.1.1.0; room = p.1.1.1.0; rules = p.1.1.1.1.0; clients = p.1.1.1.1.1;
+      entries = p.0;
+      nodes = p.1.0;
+      next = p.1.1.0;
+      room = p.1.1.1.0;
+      rules = p.1.1.1.1.0;
+      clients = p.1.1.1.1.1;
     }) (λ _. refl)
