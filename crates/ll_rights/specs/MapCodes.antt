@@ -11,7 +11,7 @@ module _ {K X : Type 0} {R : K → K → Ordering} where
   pub same_list_map : (m n : Map R X) → m.list ≡ n.list → m ≡ n
   same_list_map m n e =
       let pairs : ◌≡◌ {A = (es : List (K × X)) × T (is_sorted R es)} (m.list, m.sorted) (n.list, n.sorted) =
-          Σ_prop_path (λ es. T_prop _) e in
+      Σ_prop_path (λ es. T_prop _) e in
       λ i. record { list = (pairs i).0; sorted = (pairs i).1 }
 
   abbrev pub code : Coded K → Coded X → Coded (Map R X)
