@@ -1,9 +1,8 @@
-//! A journal's steps, by hand: two clients would rename, and the first of them holds the gate.
+//! A journal, by hand, as far as a step is lent no slot: two clients would rename, and the first of them holds the gate.
 
 use crate::calls::target;
-use ll_journal::{Answer, Held, Journal, Outcome};
-use ll_node::Slot;
-use ll_rights::{Abi, Kind};
+use ll_journal::{Answer, Journal, Outcome, Place};
+use ll_rights::Abi;
 use ll_seq::{Call, Reply, Rules};
 use std::alloc::Global;
 
@@ -37,32 +36,20 @@ fn renames(journal: &mut Journal, alloc: Global, client: u64) -> bool {
     is_begun
 }
 
-/// Whether the walk enters the root, which lies in the first slot, and forks there.
-fn forks(journal: &mut Journal, alloc: Global, client: u64) -> bool {
-    let mut root = Held {
-        inode: 1,
-        node: Slot::new(alloc, Kind::Dir),
-    };
-    let entered = journal.enter(client, 0, &mut root) == Outcome::Stands(1);
-    let is_marked = root.node.mark() == Some(client);
-    drop(root);
-    entered && is_marked && journal.fork(client) == Outcome::Forked
-}
-
-fn walks(journal: &mut Journal, alloc: Global) -> bool {
+fn begins(journal: &mut Journal, alloc: Global) -> bool {
     matches!(journal.connect(), Ok(1))
         && spawns(journal, 1)
         && renames(journal, alloc, 1)
         && !renames(journal, alloc, 2)
-        && forks(journal, alloc, 1)
-        && journal.fork(2) == Outcome::NotNow
+        && journal.place(1) == Place::Above
+        && journal.fork(1) == Outcome::NotNow
 }
 
 #[test]
 fn journal(rt: HostRuntime) {
     let is_right = match Journal::new(rt.alloc(), RULES, 64, 10) {
         Ok(mut journal) => {
-            let is_right = walks(&mut journal, rt.alloc());
+            let is_right = begins(&mut journal, rt.alloc());
             drop(journal);
             is_right
         }
