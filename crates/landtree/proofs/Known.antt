@@ -1,11 +1,17 @@
 -- What a reader has told, and what follows from it.
 use Rattle.std.proofs.Common.{◌≡◌, ◌∙◌, ℕ, List, [], Option, None, Some, refl, sym, subst, option_map, is_some, false, inl, inr, ◌⊎◌}
-use Rattle.std.specs.Prelude.{IfSome}
+use Rattle.std.specs.Prelude.{IfSome, slice_get}
+use Rattle.std.specs.Str.{IsUtf8}
 use Rattle.std.specs.Borrow.{Bor}
 use Rattle.landtree.specs.declared.failure.Failure.{Failure}
 use Rattle.landtree.specs.declared.failure.Failure.TheVariants.{File, NoMemory}
 use Rattle.landtree.specs.declared.options.RunOptions.{RunOptions}
 use Rattle.ll_session.specs.declared.setup.Setup.{Setup}
+use Rattle.toml.specs.Parse.{parse_document}
+use Rattle.ll_policy.specs.Faults.{document_faults}
+use Rattle.ll_policy.specs.declared.fault.PolicyFault.{PolicyFault}
+use Rattle.ll_policy.specs.declared.fault.PolicyFault.TheVariants as faults
+use Rattle.landtree.specs.Failure.{failure_in}
 use Rattle.landtree.specs.Options.{RunOrder, order_in}
 use Rattle.landtree.specs.Policy.{ByLevel, IsSetBy, Lacks}
 
@@ -31,3 +37,10 @@ set_by_level options text setup none by = go options.policy none
     go : (file : Option (Bor (List ℕ))) → is_some file ≡ false → IsSetBy (option_map (λ (t : Bor (List ℕ)). t.now) file) (order_in options) text setup
     go None e = by
     go (Some file) e = absurd cc
+
+-- the text gives no policy
+pub not_given : (order : RunOrder) (text : List ℕ) (fault : PolicyFault) → IsUtf8 text
+    → (fault ≡ faults.NoMemory) ⊎ (slice_get (document_faults (parse_document text)) 0 ≡ Some fault) → Lacks order text (failure_in fault)
+not_given order text faults.NoMemory utf8 h = tt
+not_given order text fault utf8 (inl e) = subst (λ (f : PolicyFault). Lacks order text (failure_in f)) (sym e) tt
+not_given order text fault utf8 (inr e) = inr (utf8, e)

@@ -1,5 +1,6 @@
 pub mod Asking
 pub mod Fitting
 pub mod AnswerParts
+pub mod Nearby
 pub mod Standing
 pub mod Walked

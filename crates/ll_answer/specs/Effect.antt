@@ -134,6 +134,7 @@ pub record FitsExchange (s : State) (from into : At) (first second : ℕ) : Type
 
 pub record FitsResize (s : State) (inode size : ℕ) : Type 0 where
   pub named : HasName s inode
+  pub file : is_dir (kind_or_file s inode) ≡ false
   pub short : is_too_long size ≡ false
 
 -- the file can be made, or is there

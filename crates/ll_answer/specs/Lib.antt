@@ -3,4 +3,5 @@ pub mod Demanded
 pub mod Effect
 pub mod Found
 pub mod Lean
+pub mod Near
 pub mod Passed

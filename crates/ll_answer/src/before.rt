@@ -14,7 +14,10 @@ use crate::refusals::{first, refuse};
 use crate::targets::{Targets, targets_of};
 use ll_path::{Path, Target};
 use ll_rights::Errno;
+use ll_rights::limits::DATA_BYTES;
 use ll_seq::{Call, ClientRecord};
+
+const MOST_READ: u64 = DATA_BYTES as u64;
 
 fn bad_text(target: &Target) -> Option<Errno>
     ensures { result ≡ slice_get (stages.bad_text target.now) 0 }
@@ -35,16 +38,48 @@ fn text_refusal(call: &Call) -> Option<Errno>
     }
 }
 
+fn no_ruleset(caller: &ClientRecord, number: u64) -> Option<Errno>
+    ensures { result ≡ slice_get (stages.no_ruleset caller.now number) 0 }
+{
+    refuse(caller.rulesets.get(number).is_none(), Errno::EBADF)
+}
+
+fn unreadable(caller: &ClientRecord, number: u64) -> Option<Errno>
+    ensures { result ≡ slice_get (stages.without caller.now number (λ d. d.reads) Errno.EBADF) 0 }
+{
+    match caller.descriptors.get(number) {
+        None => Some(Errno::EBADF),
+        Some(held) => refuse(!held.reads, Errno::EBADF),
+    }
+}
+
+/// Refused with `otherwise` where the descriptor is there and not for writing.
+fn unwritable(caller: &ClientRecord, number: u64, otherwise: Errno) -> Option<Errno>
+    ensures { result ≡ slice_get (stages.without caller.now number (λ d. d.writes) otherwise) 0 }
+{
+    match caller.descriptors.get(number) {
+        None => Some(Errno::EBADF),
+        Some(held) => refuse(!held.writes, otherwise),
+    }
+}
+
 fn number_refusal(caller: &ClientRecord, call: &Call) -> Option<Errno>
-    ensures { has_path call.now ≡ true → result ≡ slice_get (stages.number_refusals caller.now call.now) 0 }
+    ensures { result ≡ slice_get (stages.number_refusals caller.now call.now) 0 }
 {
     match call {
-        Call::Allow(number, _, _) => refuse(caller.rulesets.get(*number).is_none(), Errno::EBADF),
+        Call::Read(number, _, count) => {
+            let too_much = refuse(MOST_READ < *count, Errno::EINVAL);
+            first(too_much, unreadable(caller, *number))
+        }
+        Call::Write(number, _, _) => unwritable(caller, *number, Errno::EBADF),
+        Call::Ftruncate(number, _) => unwritable(caller, *number, Errno::EINVAL),
+        Call::Close(number) => refuse(caller.descriptors.get(*number).is_none(), Errno::EBADF),
+        Call::Allow(number, _, _) => no_ruleset(caller, *number),
+        Call::Confine(number) => no_ruleset(caller, *number),
         Call::Make(..) | Call::Open(..) | Call::Truncate(..) | Call::ReadDir(_) => None,
         Call::Stat(_) | Call::Exec(_) | Call::Unlink(_) | Call::Rmdir(_) => None,
         Call::Rename(..) | Call::RenameNoreplace(..) | Call::Exchange(..) | Call::Link(..) => None,
-        Call::Read(..) | Call::Write(..) | Call::Ftruncate(..) | Call::Close(_) => None,
-        Call::Ruleset(_) | Call::Confine(_) | Call::Spawn | Call::Connect => None,
+        Call::Ruleset(_) | Call::Spawn | Call::Connect => None,
     }
 }
 
@@ -135,8 +170,7 @@ fn existence_refusal(call: &Call, old: &Spot, new: &Spot) -> Option<Errno>
 
 /// What refuses the call whatever the tree is: by its words, its numbers and how its paths lie.
 pub fn refused_early(caller: &ClientRecord, call: &Call) -> Option<Errno>
-    ensures { has_path call.now ≡ true
-        → result ≡ slice_get (stages.text_refusals call.now ++ stages.number_refusals caller.now call.now
+    ensures { result ≡ slice_get (stages.text_refusals call.now ++ stages.number_refusals caller.now call.now
         ++ stages.relation_refusals call.now (first_path call.now) (second_path call.now)) 0 }
 {
     let number = first(number_refusal(caller, call), relation_refusal(call));

@@ -85,8 +85,9 @@ pub struct Effect<'a> {
 impl<'a> At<'a> {
     /// The last name of the path whose spot this is.
     pub(crate) fn of(spot: &Spot, target: &'a Target) -> At<'a>
-        ensures { (s : State) → Stands s (path_of target.now) spot.now → way_to s target.now ≡ []
+        ensures place { (s : State) → Stands s (path_of target.now) spot.now → way_to s target.now ≡ []
             → is_root (path_of target.now) ≡ false → IsPlace s (path_of target.now) result }
+        ensures directory { result.directory ≡ spot.now.directory }
     {
         At {
             directory: spot.directory,

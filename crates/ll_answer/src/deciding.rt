@@ -1,12 +1,13 @@
 //! A call, from what is found to what it does.
 
-ghost use Rattle.std.specs.Prelude.{◌≡◌, ℕ, true, length, MatchResult};
+ghost use Rattle.std.specs.Prelude.{◌≡◌, ℕ, true, length, IfOk, MatchResult};
 ghost use Rattle.ll_decide.specs.Judge.{AreGranted};
 ghost use Rattle.ll_seq.specs.State.{State};
 ghost use Rattle.ll_seq.specs.Step.{client_of};
 ghost use Rattle.ll_answer.specs.Decided.{IsRefused, IsDone};
 ghost use Rattle.ll_answer.specs.Demanded.{chains};
 ghost use Rattle.ll_answer.specs.Found.{AreFacts};
+ghost use Rattle.ll_answer.specs.Near.{IsNear};
 ghost use Rattle.ll_answer.specs.Passed.{has_path};
 
 use crate::before::refused_before;
@@ -28,9 +29,10 @@ pub fn decide<'a>(
     requires other { length granted.now.other.now ≡ length granted.now.itself.now }
     requires parent { length granted.now.parent.now ≡ length granted.now.itself.now }
     requires entered { length granted.now.entered.now ≡ length granted.now.itself.now }
-    ensures { (s : State) (n : ℕ) → client_of s n ≡ caller.now → has_path call.now ≡ true
+    ensures decided { (s : State) (n : ℕ) → client_of s n ≡ caller.now → has_path call.now ≡ true
         → AreFacts s call.now found.now → AreGranted caller.now.domain (chains s call.now) granted.now
         → MatchResult result (IsDone s n call.now) (IsRefused s n call.now) }
+    ensures near { IfOk result (IsNear call.now found.now) }
 {
     if let Some(errno) = refused_before(caller, call, found) {
         return Err(Reply::Refused(errno));

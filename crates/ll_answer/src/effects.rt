@@ -1,11 +1,12 @@
 //! What an allowed call answers and changes.
 
-ghost use Rattle.std.specs.Prelude.{◌≡◌, ◌≢◌, ℕ, Option, Some, None, true, length, unwrap_or};
+ghost use Rattle.std.specs.Prelude.{◌≡◌, ◌≢◌, ℕ, [], ◌∷◌, Option, Some, None, true, false, length, option_map, option_to_list, unwrap_or};
 ghost use Rattle.ll_decide.specs.Judge.{AreGranted};
 ghost use Rattle.ll_path.specs.Path.{Path};
 ghost use Rattle.ll_path.specs.declared.target.Target as word;
 ghost use Rattle.ll_seq.specs.Asked.{kept_at};
 ghost use Rattle.ll_seq.specs.Call.{first_path, second_path, path_of};
+ghost use Rattle.ll_seq.specs.declared.call.Call as call_of;
 ghost use Rattle.ll_seq.specs.declared.call.Call.TheVariants as calls;
 ghost use Rattle.ll_seq.specs.declared.client.ClientRecord as record_of;
 ghost use Rattle.ll_seq.specs.declared.reply.Reply.{Reply};
@@ -13,9 +14,11 @@ ghost use Rattle.ll_seq.specs.Effects.{done, after_opening, renamed, with_name};
 ghost use Rattle.ll_seq.specs.Stages.{lowest_free};
 ghost use Rattle.ll_seq.specs.State.{State};
 ghost use Rattle.ll_seq.specs.Tree.{ancestors, named};
+ghost use Rattle.ll_answer.specs.declared.found.Found as found_of;
 ghost use Rattle.ll_answer.specs.Demanded.{chains, path_on};
 ghost use Rattle.ll_answer.specs.Effect.{Fits, FitsRename, Holds, after, told, dentry_at};
 ghost use Rattle.ll_answer.specs.Lean.{adds_nothing, is_lean, is_short, spares_memory};
+ghost use Rattle.ll_answer.specs.Near.{AreNear, IsNear, changed_inodes, makes, may_make, told_inodes};
 ghost use Rattle.ll_answer.specs.Passed.{IsFree, Passed, has_path};
 
 use crate::changes::{Answer, At, Change, Effect, Opening, Rule};
@@ -66,6 +69,8 @@ fn opening_of<'a>(
         → after_opening s n caller.now mode (path_of target.now) ≡ after s n caller.now (Change.Open result) }
     ensures fits { (s : State) → IsFree s caller.now (calls.Open mode target.now) found.now
         → Fits s caller.now (Change.Open result) }
+    ensures directory { result.at.directory ≡ found.now.first.directory }
+    ensures there { result.there ≡ option_map (λ there. there.inode) found.now.first.there }
 {
     Opening {
         number: free_descriptor(caller),
@@ -84,6 +89,10 @@ fn renaming<'a>(old: At<'a>, new: At<'a>, inode: u64, replaced: Option<u64>) -> 
         → renamed s (dentry_at old.entry) (dentry_at new.entry) inode replaced ≡ after s n c result }
     ensures fits { (s : State) (c : record_of.ClientRecord) → FitsRename s old.entry new.entry inode replaced
         → Fits s c result }
+    ensures near { (call : call_of.Call) (found : found_of.Found)
+        → AreNear call found (old.entry.directory ∷ new.entry.directory ∷ option_to_list replaced)
+        → AreNear call found (changed_inodes result) }
+    ensures made { makes result ≡ false }
 {
     match replaced {
         None => Change::Move(old, new, inode),
@@ -99,6 +108,10 @@ fn exchanging<'a>(old: At<'a>, new: At<'a>, first: u64, second: u64) -> Change<'
     ensures fits { (s : State) (c : record_of.ClientRecord) → Holds s old.entry first → Holds s new.entry second
         → Fits s c result }
     ensures lean { adds_nothing result ≡ true }
+    ensures near { (call : call_of.Call) (found : found_of.Found)
+        → AreNear call found (old.entry.directory ∷ new.entry.directory ∷ [])
+        → AreNear call found (changed_inodes result) }
+    ensures made { makes result ≡ false }
 {
     if first == second {
         Change::Nothing
@@ -123,6 +136,8 @@ fn change_of<'a>(
     ensures fits { (s : State) → has_path call.now ≡ true → IsFree s caller.now call.now found.now
         → Fits s caller.now result }
     ensures lean { spares_memory call.now ≡ true → adds_nothing result ≡ true }
+    ensures near { AreNear call.now found.now (changed_inodes result) }
+    ensures made { makes result ≡ true → may_make call.now found.now ≡ true }
 {
     let (old, new) = (&found.first, &found.second);
     match call {
@@ -165,6 +180,7 @@ fn answer_of(caller: &ClientRecord, call: &Call, found: &Found) -> Answer
     ensures told { (s : State) (n fresh : ℕ) → has_path call.now ≡ true → IsFree s caller.now call.now found.now
         → (done s n caller.now call.now (first_path call.now) (second_path call.now) fresh).0 ≡ told s result }
     ensures short { spares_memory call.now ≡ true → is_short result ≡ true }
+    ensures near { AreNear call.now found.now (told_inodes result) }
 {
     let old = &found.first;
     match call {
@@ -196,6 +212,7 @@ pub fn effect_of<'a>(
     ensures fits { (s : State) → has_path call.now ≡ true → IsFree s caller.now call.now found.now
         → Fits s caller.now result.change }
     ensures lean { spares_memory call.now ≡ true → is_lean result ≡ true }
+    ensures near { IsNear call.now found.now result }
 {
     Effect {
         answer: answer_of(caller, call, found),

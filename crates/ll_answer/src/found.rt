@@ -7,6 +7,7 @@ ghost use Rattle.ll_seq.specs.Stages as stages;
 ghost use Rattle.ll_seq.specs.State.{State};
 ghost use Rattle.ll_seq.specs.Tree.{named, inode_of, kind_at, kind_or_file};
 ghost use Rattle.ll_answer.specs.Found.{Stands};
+ghost use Rattle.ll_answer.specs.Near.{inode_at};
 
 use ll_rights::{Errno, Kind};
 
@@ -48,7 +49,8 @@ impl Spot {
 
     /// The node that the path names.
     pub(crate) fn named(&self) -> Option<u64>
-        ensures { (s : State) (path : Path) → Stands s path self.now → result ≡ named s path }
+        ensures stands { (s : State) (path : Path) → Stands s path self.now → result ≡ named s path }
+        ensures data { result ≡ option_map (λ there. there.inode) self.now.there }
     {
         match self.there {
             None => None,
@@ -58,7 +60,8 @@ impl Spot {
 
     /// The node that the path names, or 0.
     pub(crate) fn inode(&self) -> u64
-        ensures { (s : State) (path : Path) → Stands s path self.now → result ≡ inode_of s path }
+        ensures stands { (s : State) (path : Path) → Stands s path self.now → result ≡ inode_of s path }
+        ensures data { result ≡ inode_at self.now }
     {
         match self.there {
             None => 0,

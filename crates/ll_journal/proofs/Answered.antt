@@ -1,11 +1,10 @@
 -- What the journal keeps, and each slot's account, where a call without a walk was answered.
-use Rattle.std.specs.Prelude.{◌≡◌, ℕ, ◌+◌, ◌<◌, ◌≤◌, true, false, [], ◌∷◌, ◌++◌, map, length, None, nat_le, refl}
-use Rattle.std.specs.List.{AllByRecursion}
+use Rattle.std.specs.Prelude.{◌≡◌, ℕ, ◌+◌, ◌<◌, ◌≤◌, true, false, [], ◌∷◌, ◌++◌, length, None, nat_le, refl}
 use Rattle.std.proofs.Common.{sym, subst, ap, ◌∙◌, arith, length-append}
 use Rattle.std.proofs.lemmas.Bool.Decides.{nat_tests}
 use Rattle.ll_rights.specs.declared.errno.Errno.TheVariants.{EMFILE}
-use Rattle.ll_rights.specs.declared.limits.TheConstants.{TREE_CLIENTS}
-use Rattle.ll_rights.specs.Map.{len, has}
+use Rattle.ll_rights.specs.declared.limits.TheConstants.{HISTORY_ENTRIES, TREE_CLIENTS}
+use Rattle.ll_rights.specs.Map.{len}
 use Rattle.ll_seq.specs.declared.call.Call.{Call}
 use Rattle.ll_seq.specs.declared.call.Call.TheVariants.{Connect}
 use Rattle.ll_seq.specs.declared.client.ClientRecord.{ClientRecord}
@@ -21,17 +20,19 @@ use Rattle.ll_walks.specs.World.{World, Join, Joined, Replied, advance, shown, i
 use Rattle.ll_walks.specs.Sound.{IsSound}
 use Rattle.ll_walks.proofs.OneCall.{unused}
 use Rattle.ll_journal.specs.declared.journal.Journal.TheInside.{Inside}
-use Rattle.ll_journal.specs.declared.held.Held.{Held}
+use Rattle.ll_held.specs.declared.held.Held.{Held}
 use Rattle.ll_journal.specs.Book.{Seat, Book, Spares, inode_in, held_of, mark_of}
 use Rattle.ll_journal.specs.Direct.{TakesSpare}
-use Rattle.ll_journal.specs.Kept.{AreSeated, ArePlaced, AreDistinct, IsVacant, IsKept, walks_from, world_of, book_of}
+use Rattle.ll_journal.specs.Kept.{AreSeated, IsKept, walks_from, world_of, book_of, spares_of}
+use Rattle.ll_inodes.specs.InodeTable.{Table, IsTable}
 use Rattle.ll_journal.proofs.Advancing.{join_done, join_refused}
-use Rattle.ll_journal.proofs.NewClients.{clients_len, seated_more, walks_more, spares_more, all_more, all_less, distinct_moved}
+use Rattle.ll_journal.proofs.NewClients.{clients_len, seated_more, walks_more, spares_more}
+use Rattle.ll_journal.proofs.ClientTables.{table_more, many_spares, one_free as free_slot}
 use Rattle.ll_journal.proofs.HeldAfter.{held_answered}
 use Rattle.ll_journal.proofs.LentSlots.{slot_kept}
 use Rattle.ll_journal.proofs.OwnAnswers.{connect_refused, connect_done}
 use Rattle.ll_journal.proofs.Shown.{shown_answered}
-use Rattle.ll_journal.proofs.SlotAccounts.{content_of}
+use Rattle.ll_changes.proofs.SlotAccounts.{content_of}
 use Rattle.ll_journal.proofs.Starting.{sound_after}
 
 -- ---- accounts
@@ -66,35 +67,29 @@ module _ (j k : Inside) (h : IsKept j) (number : ℕ) (call : Call) (reply : Rep
   tree_is : shown (world_of k) ≡ (step (shown (world_of j)) number call (next_number (world_of j))).1
   tree_is = shown_answered (world_of j) (world_of k) number call reply told rules room (ap (λ (log : Log). log.entries) history)
 
-  -- the tree after, its clients in their seats, and as many slots free, spare or taken as before
-  pub kept_answered : (t : State) → (step (shown (world_of j)) number call (next_number (world_of j))).1 ≡ t → t.nodes ≡ (shown (world_of j)).nodes → IsSound (world_of k) → AreKept t k.facts → AreSeated t k.seats.items
-      → k.inodes ≡ j.inodes → k.places ≡ j.places → AllByRecursion (IsVacant j.inodes.items) k.free.items → AllByRecursion (λ (seat : Seat). IsVacant j.inodes.items seat.spare) k.seats.items
-      → AreDistinct (k.free.items ++ map (λ (seat : Seat). seat.spare) k.seats.items) → length k.free.items + length k.seats.items ≡ length j.free.items + length j.seats.items → IsKept k
-  kept_answered t after nodes sound facts seated inodes places free spares distinct many = record {
+  -- the tree after, its clients in their seats, and its table
+  pub kept_answered : (t : State) → (step (shown (world_of j)) number call (next_number (world_of j))).1 ≡ t → IsSound (world_of k) → AreSeated t k.seats.items → IsTable t (spares_of k.seats.items) k.table
+      → length k.seats.items ≤ TREE_CLIENTS → k.table.next ≤ j.table.next + 1 → IsKept k
+  kept_answered t after sound seated table crowd next = record {
     sound = sound;
-    facts = subst (λ s. AreKept s k.facts) (sym is) facts;
     seated = subst (λ s. AreSeated s k.seats.items) (sym is) seated;
-    placed = subst (λ v. ArePlaced v.items k.places) (sym inodes) (subst (ArePlaced j.inodes.items) (sym places) h.placed);
-    living = λ inode. ap (λ m. has m inode) places ∙ h.living inode ∙ sym (ap (λ (s : State). has s.nodes inode) is ∙ ap (λ m. has m inode) nodes);
-    slots = ap (λ v. length v.items) inodes ∙ h.slots ∙ ap (λ n. n + TREE_CLIENTS) (sym room);
-    free = subst (λ v. AllByRecursion (IsVacant v.items) k.free.items) (sym inodes) free;
-    spares = subst (λ v. AllByRecursion (λ (seat : Seat). IsVacant v.items seat.spare) k.seats.items) (sym inodes) spares;
-    distinct = distinct;
-    count = (λ i. many i + living i) ∙ h.count ∙ ap (λ n. n + TREE_CLIENTS) (sym room);
-    few = subst (λ n. n ≤ k.room) (sym living) (subst (λ n. len (shown (world_of j)).nodes ≤ n) (sym room) h.few);
+    table = subst (λ s. IsTable s (spares_of k.seats.items) k.table) (sym is) table;
+    crowd = crowd;
+    numbers =
+        let longer = ap (λ (log : Log). length log.entries) history ∙ length-append j.history.entries (record { client = number; call = call; reply = reply } ∷ []) in
+        let before = h.numbers in
+        omega (arith, longer, before, next);
+    small = subst (λ (log : Log). log.limit ≤ HISTORY_ENTRIES) (sym history) h.small;
   }
     where
       is : shown (world_of k) ≡ t
       is = tree_is ∙ after
 
-      living : len (shown (world_of k)).nodes ≡ len (shown (world_of j)).nodes
-      living = ap (λ (s : State). len s.nodes) is ∙ ap len nodes
-
 -- and one client more
 module _ (j k : Inside) (h : IsKept j) (number : ℕ) (call : Call) (reply : Reply) (told : reply ≡ reply_to (world_of j) number call)
     (rules : k.rules ≡ j.rules) (room : k.room ≡ j.room) (gate : k.gate ≡ j.gate)
     (history : k.history ≡ record j.history { entries = j.history.entries ++ record { client = number; call = call; reply = reply } ∷ [] })
-    (seat : Seat) (idle : seat.walk ≡ None) (seats : k.seats.items ≡ j.seats.items ++ seat ∷ []) (free : j.free.items ≡ k.free.items ++ seat.spare ∷ [])
+    (seat : Seat) (idle : seat.walk ≡ None) (seats : k.seats.items ≡ j.seats.items ++ seat ∷ []) (free : j.table.free ≡ k.table.free ++ seat.spare ∷ [])
     (after : (step (shown (world_of j)) number call (next_number (world_of j))).1 ≡ with_client (shown (world_of j)) (next_number (world_of j)) seat.client) where
   walks_are : walks_from 1 k.seats.items ≡ walks_from 1 j.seats.items
   walks_are = ap (walks_from 1) seats ∙ walks_more j.seats.items seat 1 idle
@@ -102,26 +97,24 @@ module _ (j k : Inside) (h : IsKept j) (number : ℕ) (call : Call) (reply : Rep
   pub world_more : world_of k ≡ with_entry (world_of j) number call reply
   world_more = world_is j k h number call reply told rules room gate history walks_are
 
-  pub kept_more : IsSound (world_of k) → AreKept (with_client (shown (world_of j)) (next_number (world_of j)) seat.client) k.facts → k.inodes ≡ j.inodes → k.places ≡ j.places → IsKept k
-  kept_more sound facts inodes places =
-      let vacant = all_less (IsVacant j.inodes.items) k.free.items seat.spare (subst (AllByRecursion (IsVacant j.inodes.items)) free h.free) in
+  pub kept_more : IsSound (world_of k) → AreKept (with_client (shown (world_of j)) (next_number (world_of j)) seat.client) k.table.facts → k.table ≡ record j.table { facts = k.table.facts; free = k.table.free } → length j.seats.items < TREE_CLIENTS
+      → IsKept k
+  kept_more sound facts table few =
       let numbered : next_number (world_of j) ≡ length j.seats.items + 1 = ap (λ n. n + 1) (clients_len (shown (world_of j)) j.seats.items h.seated) in
       let one_seat : length k.seats.items ≡ length j.seats.items + 1 = ap length seats ∙ length-append j.seats.items (seat ∷ []) in
-      let one_slot : length j.free.items ≡ length k.free.items + 1 = ap length free ∙ length-append k.free.items (seat.spare ∷ []) in
-      kept_answered j k h number call reply told rules room gate history walks_are (with_client (shown (world_of j)) (next_number (world_of j)) seat.client) after refl sound facts
+      let same_next : k.table.next ≡ j.table.next = ap (λ (t : Table). t.next) table in
+      kept_answered j k h number call reply told rules room gate history walks_are (with_client (shown (world_of j)) (next_number (world_of j)) seat.client) after sound
       (subst (AreSeated (with_client (shown (world_of j)) (next_number (world_of j)) seat.client)) (sym seats) (seated_more (shown (world_of j)) j.seats.items seat (next_number (world_of j)) numbered h.seated))
-      inodes places vacant.0
-      (subst (AllByRecursion (λ (s : Seat). IsVacant j.inodes.items s.spare)) (sym seats) (all_more (λ (s : Seat). IsVacant j.inodes.items s.spare) j.seats.items seat h.spares vacant.1))
-      (subst (λ ss. AreDistinct (k.free.items ++ ss)) (sym (ap (map (λ (s : Seat). s.spare)) seats ∙ spares_more j.seats.items seat))
-      (distinct_moved k.free.items (map (λ (s : Seat). s.spare) j.seats.items) seat.spare (subst (λ ks. AreDistinct (ks ++ map (λ (s : Seat). s.spare) j.seats.items)) free h.distinct)))
-      (omega (arith, one_seat, one_slot))
+      (subst (λ ks. IsTable (with_client (shown (world_of j)) (next_number (world_of j)) seat.client) ks k.table) (sym (ap spares_of seats ∙ spares_more j.seats.items seat))
+      (table_more (shown (world_of j)) (next_number (world_of j)) seat.client (spares_of j.seats.items) j.table h.table seat.spare k.table free table facts))
+      (omega (arith, one_seat, few)) (omega (arith, same_next))
 
-  pub takes_spare : k.inodes ≡ j.inodes → TakesSpare (book_of j) (book_of k)
-  takes_spare inodes = record { slot = seat.spare; free = free; spares = ap (map (λ (s : Seat). s.spare)) seats ∙ spares_more j.seats.items seat; inodes = ap (λ v. v.items) inodes }
+  pub takes_spare : k.table.inodes ≡ j.table.inodes → TakesSpare (book_of j) (book_of k)
+  takes_spare inodes = record { slot = seat.spare; free = free; spares = ap spares_of seats ∙ spares_more j.seats.items seat; inodes = inodes }
 
 -- a slot is free for one client more
-pub one_free : (j : Inside) → IsKept j → length j.seats.items < TREE_CLIENTS → 0 < length j.free.items
-one_free j h few = let sum = h.count in let most = h.few in omega (arith, sum, most, few)
+pub one_free : (j : Inside) → IsKept j → length j.seats.items < TREE_CLIENTS → 0 < length j.table.free
+one_free j h few = let many = many_spares j.seats.items in free_slot (shown (world_of j)) (spares_of j.seats.items) j.table h.table (omega (arith, many, few))
 
 -- ---- a connect
 
@@ -133,9 +126,9 @@ many_clients n m e le = grind (arith, nat_tests)
 
 module _ (j k : Inside) (h : IsKept j) (number spare : ℕ) (client : ClientRecord) (room_left : is_full (world_of j) ≡ false) (few : length j.seats.items < TREE_CLIENTS)
     (numbered : number ≡ length j.seats.items + 1) (new : client ≡ new_client)
-    (free : j.free.items ≡ k.free.items ++ spare ∷ []) (seats : k.seats.items ≡ j.seats.items ++ record { client = client; spare = spare; walk = None } ∷ [])
+    (free : j.table.free ≡ k.table.free ++ spare ∷ []) (seats : k.seats.items ≡ j.seats.items ++ record { client = client; spare = spare; walk = None } ∷ [])
     (history : k.history ≡ record j.history { entries = j.history.entries ++ record { client = number; call = Connect; reply = Done } ∷ [] })
-    (rules : k.rules ≡ j.rules) (room : k.room ≡ j.room) (gate : k.gate ≡ j.gate) (facts : k.facts ≡ j.facts) (inodes : k.inodes ≡ j.inodes) (places : k.places ≡ j.places) where
+    (rules : k.rules ≡ j.rules) (room : k.room ≡ j.room) (gate : k.gate ≡ j.gate) (table : k.table ≡ record j.table { free = k.table.free }) where
   abbrev w : World
   w = world_of j
 
@@ -163,16 +156,19 @@ module _ (j k : Inside) (h : IsKept j) (number spare : ℕ) (client : ClientReco
       ∙ (λ i. (Joined (sym next i), with_entry w (sym next i) Connect Done))
       ∙ ap (λ (v : World). (Joined number, v)) (sym after_world)
 
+  facts_same : k.table.facts ≡ j.table.facts
+  facts_same = ap (λ (t : Table). t.facts) table
+
   pub connect_kept : IsKept k
   connect_kept =
       kept_more j k h number Connect Done told rules room gate history seat refl seats free after (sound_after j (world_of k) Join (Joined number) h connect_joined)
-      (subst (λ f. AreKept (with_client (shown w) (next_number w) client) f) (sym facts)
-      (kept_connect (shown w) j.facts (next_number w) client h.facts (unused (shown w) h.sound.numbers) (ap (λ (c : ClientRecord). c.descriptors) new)))
-      inodes places
+      (subst (λ f. AreKept (with_client (shown w) (next_number w) client) f) (sym facts_same)
+      (kept_connect (shown w) j.table.facts (next_number w) client h.table.facts (unused (shown w) h.sound.numbers) (ap (λ (c : ClientRecord). c.descriptors) new)))
+      (table ∙ ap (λ f. record j.table { facts = f; free = k.table.free }) (sym facts_same)) few
 
   pub connect_spares : Spares (book_of j) (book_of k) []
   connect_spares =
-      spares_answered (book_of j) (book_of k) number Connect Done h.sound (connect_kept).sound after_world told (ap (λ v. v.items) inodes)
+      spares_answered (book_of j) (book_of k) number Connect Done h.sound (connect_kept).sound after_world told (ap (λ (t : Table). t.inodes) table)
       (λ i. ap (λ s. content_of s i) after)
 
 pub connect_crowded : (j : Inside) → IsKept j → is_full (world_of j) ≡ false → TREE_CLIENTS ≤ length j.seats.items → advance (world_of j) Join ≡ (Replied (Refused EMFILE), world_of j)

@@ -40,8 +40,9 @@ use Rattle.ll_walks.specs.Sound.{IsSound}
 use Rattle.ll_walks.specs.Commits.{HasEnded, first_end, second_end}
 use Rattle.ll_walks.proofs.EndsReached.{ends_reached, blocked_refused}
 use Rattle.ll_walks.proofs.SoundSteps.{holds_of}
-use Rattle.ll_journal.specs.Book.{names_map, mark_of}
-use Rattle.ll_journal.proofs.NameMaps.{get-names_map}
+use Rattle.ll_journal.specs.Book.{mark_of}
+use Rattle.ll_changes.specs.Accounts.{names_map}
+use Rattle.ll_changes.proofs.NameMaps.{get-names_map}
 use Rattle.ll_journal.proofs.MarkOf.{are_clients, is_marked_by_other_is}
 
 -- the leg is in the directory where the path's last name stands, or would
@@ -108,6 +109,20 @@ chain_missing s (m ∷ p) n i x e none =
       | Some j ↦ λ f. ap (λ is. i ∷ is) (chain_missing s p n j x f none)
     ] e
 
+-- a path's chain is that of its directory, and what it names
+pub chain_last : (s : State) (path : Path) (d : ℕ) → named s (parent path) ≡ Some d → is_root path ≡ false → ancestors s path ≡ ancestors s (parent path) ++ option_map_or (λ (j : ℕ). j ∷ []) (named s path) []
+chain_last s path d stands below = whole ∙ by (child s d (last_name path)) refl ∙ ap (λ o. ancestors s (parent path) ++ option_map_or (λ (j : ℕ). j ∷ []) o []) (sym names)
+  where
+    whole : ancestors s path ≡ chain_from s (parent path ++ last_name path ∷ []) root
+    whole = ap (ancestors s) (parent_last path below)
+
+    names : named s path ≡ child s d (last_name path)
+    names = named-child s path (parent path) (last_name path) d (parent_last path below) stands
+
+    by : (o : Option ℕ) → child s d (last_name path) ≡ o → chain_from s (parent path ++ last_name path ∷ []) root ≡ ancestors s (parent path) ++ option_map_or (λ (j : ℕ). j ∷ []) (child s d (last_name path)) []
+    by None e = chain_missing s (parent path) (last_name path) root d stands e ∙ sym (append-nil (ancestors s (parent path))) ∙ ap (λ o. ancestors s (parent path) ++ option_map_or (λ (j : ℕ). j ∷ []) o []) (sym e)
+    by (Some x) e = chain_push s (parent path) (last_name path) root d x stands e ∙ ap (λ o. ancestors s (parent path) ++ option_map_or (λ (j : ℕ). j ∷ []) o []) (sym e)
+
 longer : (p : Path) (n : Name) → p ++ n ∷ [] ≢ p
 longer p n e = let more = length-append p (n ∷ []) in let same = ap length e in absurd (omega arith)
 
@@ -124,17 +139,7 @@ module _ (s : State) (tree : IsTree s) (domain : List Layer) (path : Path) (leg 
 
   -- the chain of the path is the leg's, and what it names
   pub end_chain : is_root path ≡ false → ancestors s path ≡ leg.chain ++ option_map_or (λ (j : ℕ). j ∷ []) (named s path) []
-  end_chain below = whole ∙ by (child s leg.here (last_name path)) refl ∙ (λ i. sym end.chain i ++ option_map_or (λ (j : ℕ). j ∷ []) (sym names i) [])
-    where
-      whole : ancestors s path ≡ chain_from s (parent path ++ last_name path ∷ []) root
-      whole = ap (ancestors s) (parent_last path below)
-
-      names : named s path ≡ child s leg.here (last_name path)
-      names = named-child s path (parent path) (last_name path) leg.here (parent_last path below) end.names
-
-      by : (o : Option ℕ) → child s leg.here (last_name path) ≡ o → chain_from s (parent path ++ last_name path ∷ []) root ≡ ancestors s (parent path) ++ option_map_or (λ (j : ℕ). j ∷ []) (child s leg.here (last_name path)) []
-      by None e = chain_missing s (parent path) (last_name path) root leg.here end.names e ∙ sym (append-nil (ancestors s (parent path))) ∙ ap (λ o. ancestors s (parent path) ++ option_map_or (λ (j : ℕ). j ∷ []) o []) (sym e)
-      by (Some x) e = chain_push s (parent path) (last_name path) root leg.here x end.names e ∙ ap (λ o. ancestors s (parent path) ++ option_map_or (λ (j : ℕ). j ∷ []) o []) (sym e)
+  end_chain below = chain_last s path leg.here end.names below ∙ ap (λ is. is ++ option_map_or (λ (j : ℕ). j ∷ []) (named s path) []) (sym end.chain)
 
   -- what it names isn't the directory
   pub end_away : is_root path ≡ false → (x : ℕ) → named s path ≡ Some x → x ≢ leg.here

@@ -21,18 +21,19 @@ use Rattle.ll_walks.specs.Walks.{IsRight, AreRight}
 use Rattle.ll_walks.specs.World as world
 use Rattle.ll_walks.specs.World.{World, Outcome, Descend, Stands, advance, shown, domain_of, descend, stand, stood, enter, is_marked}
 use Rattle.ll_walks.specs.Sound.{IsSound}
-use Rattle.ll_journal.specs.declared.held.Held.{Held}
+use Rattle.ll_held.specs.declared.held.Held.{Held}
 use Rattle.ll_journal.specs.declared.journal.Journal.TheInside.{Inside}
 use Rattle.ll_journal.specs.declared.look.Look.{Look}
 use Rattle.ll_journal.specs.declared.look.Look.TheVariants.{NotNow, Astray, Go}
-use Rattle.ll_journal.specs.Book.{Seat, Book, Spares, inode_in, slot_of, names_map, has_mark, mark_of}
+use Rattle.ll_journal.specs.Book.{Seat, Book, Spares, inode_in, slot_of, has_mark, mark_of}
+use Rattle.ll_changes.specs.Accounts.{names_map}
 use Rattle.ll_journal.specs.Kept.{IsKept, world_of, book_of}
 use Rattle.ll_journal.specs.Looks.{look_down, look_from, look_for, look_into, is_directory}
 use Rattle.ll_journal.specs.Seated.{gone_down, lower, next_in}
 use Rattle.ll_journal.specs.Steps.{IsAstrayBelow, is_going, leg_in_turn}
-use Rattle.ll_journal.proofs.NameMaps.{get-names_map}
+use Rattle.ll_changes.proofs.NameMaps.{get-names_map}
 use Rattle.ll_journal.proofs.MarkOf.{AreClients, are_clients, has_mark_of, mark_put, mark_put_gone, turn_leaves}
-use Rattle.ll_journal.proofs.Lent.{inode_is, held_is, unmarked_is, lent_after, spares_moved, one_slot}
+use Rattle.ll_journal.proofs.LentAfter.{inode_is, held_is, unmarked_is, lent_after, spares_moved, one_slot}
 use Rattle.ll_journal.proofs.Starting.{changed_world, sound_after}
 use Rattle.ll_journal.proofs.Entering.{walk_here, domain_here, known_here, world_put}
 
@@ -64,7 +65,7 @@ here_then true b e = refl
 here_then false b e = e
 
 -- the walk stands where its leg in turn does
-turn_stands : (at : Position) (leg : Leg) → turn at ≡ Some leg → stands_in at leg.here ≡ true
+pub turn_stands : (at : Position) (leg : Leg) → turn at ≡ Some leg → stands_in at leg.here ≡ true
 turn_stands Above leg e = absurd (cc e)
 turn_stands (Down trunk) leg e = here_first _ false (eq-eqb trunk.here leg.here (ap (λ (l : Leg). l.here) (same_Some trunk leg e)))
 turn_stands (Split trunk old new) leg e =
@@ -84,8 +85,8 @@ next_stands (Split trunk old new) leg next e =
 
 -- ---- a node that lives is in a slot
 
-pub living_placed : (j : Inside) → IsKept j → (i : ℕ) (kind : Kind) → kind_of (shown (world_of j)) i ≡ Some kind → (slot : ℕ) × (get j.places i ≡ Some slot)
-living_placed j h i kind e = by (get j.places i) (h.living i ∙ node)
+pub living_placed : (j : Inside) → IsKept j → (i : ℕ) (kind : Kind) → kind_of (shown (world_of j)) i ≡ Some kind → (slot : ℕ) × (get j.table.places i ≡ Some slot)
+living_placed j h i kind e = by (get j.table.places i) (h.table.living i ∙ node)
   where
     node : has (shown (world_of j)).nodes i ≡ true
     node = elim (get (shown (world_of j)).nodes i) as (λ o. option_map (λ n. n.kind) o ≡ Some kind → is_some o ≡ true) [ None ↦ λ f. absurd (cc f) | Some n ↦ λ f. refl ] e
@@ -95,11 +96,11 @@ living_placed j h i kind e = by (get j.places i) (h.living i ∙ node)
     by (Some slot) f = (slot, refl)
 
 pub living_one : (j : Inside) → IsKept j → (i : ℕ) (kind : Kind) → kind_of (shown (world_of j)) i ≡ Some kind → i ≢ 0
-living_one j h i kind e = let slot = living_placed j h i kind e in (h.placed.there i slot.0 slot.1).1
+living_one j h i kind e = let slot = living_placed j h i kind e in (h.table.placed.there i slot.0 slot.1).1
 
-pub directory_fact : (j : Inside) → IsKept j → (i : ℕ) → is_directory j.facts i ≡ is_dir (kind_or_file (shown (world_of j)) i)
+pub directory_fact : (j : Inside) → IsKept j → (i : ℕ) → is_directory j.table.facts i ≡ is_dir (kind_or_file (shown (world_of j)) i)
 directory_fact j h i =
-    ap (λ (o : Option Fact). option_map_or (λ (fact : Fact). is_dir fact.kind) o false) (h.facts.told i)
+    ap (λ (o : Option Fact). option_map_or (λ (fact : Fact). is_dir fact.kind) o false) (h.table.facts.told i)
     ∙ elim (kind_of (shown (world_of j)) i) as (λ o. option_map_or (λ (fact : Fact). is_dir fact.kind) (option_map (λ (kind : Kind). record { kind = kind; names = length (names_in (shown (world_of j)) i); links = name_count (shown (world_of j)) i; opens = open_count (shown (world_of j)) i }) o) false ≡ is_dir (unwrap_or o Reg)) [
       | None ↦ refl
       | Some kind ↦ refl
@@ -204,10 +205,10 @@ module _ (j : Inside) (h : IsKept j) (number place : ℕ) (seat : Seat) (at : sl
               abbrev next : Leg
               next = leg_below domain leg name rest i
 
-              pub if_dir : (b : Bool) → is_directory j.facts i ≡ b → further s domain leg ≡ option_map (leg_below domain leg name rest) (cond b (Some i) None)
+              pub if_dir : (b : Bool) → is_directory j.table.facts i ≡ b → further s domain leg ≡ option_map (leg_below domain leg name rest) (cond b (Some i) None)
               if_dir b e = one_more (Some i) named ∙ ap (λ b. option_map (leg_below domain leg name rest) (cond b (Some i) None)) (sym (directory_fact j h i) ∙ e)
 
-              module _ (dir : is_directory j.facts i ≡ true) where
+              module _ (dir : is_directory j.table.facts i ≡ true) where
                 astray_there : (to.inode == i) ≡ false → Seen Astray
                 astray_there e = (
                   going,
@@ -252,52 +253,52 @@ module _ (j : Inside) (h : IsKept j) (number place : ℕ) (seat : Seat) (at : sl
                 seen_there : Seen (cond (not (to.inode == i)) Astray (cond (is_none to.node.mark) Go NotNow))
                 seen_there = elim (to.inode == i) as (λ b. (to.inode == i) ≡ b → Seen (cond (not b) Astray (cond (is_none to.node.mark) Go NotNow))) [ true ↦ seen_mark | false ↦ astray_there ] refl
 
-              seen_inode : Seen (look_into j.facts (Some i) to)
-              seen_inode = elim (is_directory j.facts i) as (λ b. is_directory j.facts i ≡ b → Seen (cond (not b) NotNow (cond (not (to.inode == i)) Astray (cond (is_none to.node.mark) Go NotNow)))) [
+              seen_inode : Seen (look_into j.table.facts (Some i) to)
+              seen_inode = elim (is_directory j.table.facts i) as (λ b. is_directory j.table.facts i ≡ b → Seen (cond (not b) NotNow (cond (not (to.inode == i)) Astray (cond (is_none to.node.mark) Go NotNow)))) [
                 | true ↦ seen_there
                 | false ↦ λ e. stepped None (if_dir false e)
               ] refl
 
-            seen_child : Seen (look_into j.facts (child s leg.here name) to)
-            seen_child = elim (child s leg.here name) as (λ o. child s leg.here name ≡ o → Seen (look_into j.facts o to)) [
+            seen_child : Seen (look_into j.table.facts (child s leg.here name) to)
+            seen_child = elim (child s leg.here name) as (λ o. child s leg.here name ≡ o → Seen (look_into j.table.facts o to)) [
               | None ↦ λ e. stepped None (one_more None e)
               | Some i ↦ λ e. seen_inode i e
             ] refl
 
-          seen_name : Seen (look_for j.facts (slice_get leg.ahead 0) from to)
-          seen_name = elim leg.ahead as (λ p. leg.ahead ≡ p → Seen (look_for j.facts (slice_get p 0) from to)) [
+          seen_name : Seen (look_for j.table.facts (slice_get leg.ahead 0) from to)
+          seen_name = elim leg.ahead as (λ p. leg.ahead ≡ p → Seen (look_for j.table.facts (slice_get p 0) from to)) [
             | [] ↦ λ e. stepped None (ap (further_by s domain leg) e)
-            | name ∷ rest ↦ λ e. subst (λ o. Seen (look_into j.facts o to)) (sym (looked_up name)) (seen_child name rest e)
+            | name ∷ rest ↦ λ e. subst (λ o. Seen (look_into j.table.facts o to)) (sym (looked_up name)) (seen_child name rest e)
           ] refl
 
-        seen_here : Seen (look_from j.facts (Some leg.here) (slice_get leg.ahead 0) from to)
-        seen_here = elim (from.inode == leg.here) as (λ b. (from.inode == leg.here) ≡ b → Seen (cond b (look_for j.facts (slice_get leg.ahead 0) from to) Astray)) [ true ↦ seen_name | false ↦ astray_here ] refl
+        seen_here : Seen (look_from j.table.facts (Some leg.here) (slice_get leg.ahead 0) from to)
+        seen_here = elim (from.inode == leg.here) as (λ b. (from.inode == leg.here) ≡ b → Seen (cond b (look_for j.table.facts (slice_get leg.ahead 0) from to) Astray)) [ true ↦ seen_name | false ↦ astray_here ] refl
 
-      seen_turn : Seen (look_from j.facts (option_map (λ (v : Leg). v.here) (turn walk.at)) (option_and_then (λ (v : Leg). slice_get v.ahead 0) (turn walk.at)) from to)
-      seen_turn = elim (turn walk.at) as (λ t. turn walk.at ≡ t → Seen (look_from j.facts (option_map (λ (v : Leg). v.here) t) (option_and_then (λ (v : Leg). slice_get v.ahead 0) t) from to)) [
+      seen_turn : Seen (look_from j.table.facts (option_map (λ (v : Leg). v.here) (turn walk.at)) (option_and_then (λ (v : Leg). slice_get v.ahead 0) (turn walk.at)) from to)
+      seen_turn = elim (turn walk.at) as (λ t. turn walk.at ≡ t → Seen (look_from j.table.facts (option_map (λ (v : Leg). v.here) t) (option_and_then (λ (v : Leg). slice_get v.ahead 0) t) from to)) [
         | None ↦ astray_above
         | Some leg ↦ λ e. seen_here leg e
       ] refl
 
-    seen_walk : Seen (look_down j.facts (record seat { walk = Some walk }) from to)
-    seen_walk = elim walk.stale as (λ b. walk.stale ≡ b → Seen (cond (not (not b)) NotNow (look_from j.facts (option_map (λ (v : Leg). v.here) (turn walk.at)) (option_and_then (λ (v : Leg). slice_get v.ahead 0) (turn walk.at)) from to))) [
+    seen_walk : Seen (look_down j.table.facts (record seat { walk = Some walk }) from to)
+    seen_walk = elim walk.stale as (λ b. walk.stale ≡ b → Seen (cond (not (not b)) NotNow (look_from j.table.facts (option_map (λ (v : Leg). v.here) (turn walk.at)) (option_and_then (λ (v : Leg). slice_get v.ahead 0) (turn walk.at)) from to))) [
       | true ↦ stale_now
       | false ↦ seen_turn
     ] refl
 
-  seen : Seen (look_down j.facts seat from to)
-  seen = elim seat.walk as (λ o. seat.walk ≡ o → Seen (look_down j.facts (record seat { walk = o }) from to)) [
+  seen : Seen (look_down j.table.facts seat from to)
+  seen = elim seat.walk as (λ o. seat.walk ≡ o → Seen (look_down j.table.facts (record seat { walk = o }) from to)) [
     | None ↦ λ e. found None e
     | Some walk ↦ seen_walk walk
   ] refl
 
-  pub down_not_now : look_down j.facts seat from to ≡ NotNow → advance w (Descend number) ≡ (world.NotNow, w)
+  pub down_not_now : look_down j.table.facts seat from to ≡ NotNow → advance w (Descend number) ≡ (world.NotNow, w)
   down_not_now e = subst Seen e seen
 
-  pub down_astray : look_down j.facts seat from to ≡ Astray → IsAstrayBelow (book_of j) number k l
+  pub down_astray : look_down j.table.facts seat from to ≡ Astray → IsAstrayBelow (book_of j) number k l
   down_astray e = subst Seen e seen
 
-  pub down_goes : look_down j.facts seat from to ≡ Go → GoesDown j number seat from to
+  pub down_goes : look_down j.table.facts seat from to ≡ Go → GoesDown j number seat from to
   down_goes e = subst Seen e seen
 
   -- ---- when it goes
@@ -360,11 +361,11 @@ module _ (j : Inside) (h : IsKept j) (number place : ℕ) (seat : Seat) (at : sl
 
       other_slot : (q k i : ℕ) → q ≢ k → inode_in (book_of j) q ≢ 0 → inode_in (book_of j) k ≡ i → (i == inode_in (book_of j) q) ≡ false
       other_slot q k i two some is = elim (i == inode_in (book_of j) q) as (λ b. (i == inode_in (book_of j) q) ≡ b → b ≡ false) [
-        | true ↦ λ e. absurd (two (one_slot (book_of j) j.places h.placed q k (sym (eqb-true i (inode_in (book_of j) q) e) ∙ sym is) some))
+        | true ↦ λ e. absurd (two (one_slot (book_of j) j.table.places h.table.placed q k (sym (eqb-true i (inode_in (book_of j) q) e) ∙ sym is) some))
         | false ↦ λ e. refl
       ] refl
 
-      pub down_spares : (b : Book) → b.world ≡ after → b.inodes ≡ j.inodes.items → Spares (book_of j) b (k ∷ l ∷ [])
+      pub down_spares : (b : Book) → b.world ≡ after → b.inodes ≡ j.table.inodes → Spares (book_of j) b (k ∷ l ∷ [])
       down_spares b is inodes =
           spares_moved (book_of j) b number low j.gate (k ∷ l ∷ []) (is ∙ put) inodes
           (known_here j h number place seat at numbered) (subst AreClients (sym is) known_then)

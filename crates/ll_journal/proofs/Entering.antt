@@ -13,7 +13,7 @@ use Rattle.ll_walks.specs.Walk.{Walk, Position, Above, Down, Split, marks, is_ab
 use Rattle.ll_walks.specs.World as world
 use Rattle.ll_walks.specs.World.{World, Outcome, Descend, Stands, advance, shown, domain_of, descend, is_marked, may_hold}
 use Rattle.ll_walks.specs.Sound.{IsSound}
-use Rattle.ll_journal.specs.declared.held.Held.{Held}
+use Rattle.ll_held.specs.declared.held.Held.{Held}
 use Rattle.ll_journal.specs.declared.journal.Journal.TheInside.{Inside}
 use Rattle.ll_journal.specs.declared.look.Look.TheVariants.{NotNow, Astray, Go}
 use Rattle.ll_journal.specs.Book.{Seat, Book, Spares, inode_in, slot_of, mark_of}
@@ -23,7 +23,7 @@ use Rattle.ll_journal.specs.Seated.{entered}
 use Rattle.ll_journal.specs.Steps.{IsAstrayAtTop}
 use Rattle.ll_journal.proofs.Begun.{walk_at, walks_put}
 use Rattle.ll_journal.proofs.MarkOf.{AreClients, are_clients, has_mark_of, mark_put}
-use Rattle.ll_journal.proofs.Lent.{inode_is, unmarked_is, lent_after, spares_moved, one_slot}
+use Rattle.ll_journal.proofs.LentAfter.{inode_is, unmarked_is, lent_after, spares_moved, one_slot}
 use Rattle.ll_journal.proofs.Starting.{changed_world, sound_after}
 
 -- ---- a client's walk
@@ -214,7 +214,7 @@ module _ (j : Inside) (h : IsKept j) (number place : ℕ) (seat : Seat) (at : sl
         by true e = absurd (other (sym (eqb-true root i e)))
         by false e = refl
 
-    pub root_spares : (b : Book) → b.world ≡ changed_world j place new gate → b.inodes ≡ j.inodes.items → Spares (book_of j) b (k ∷ [])
+    pub root_spares : (b : Book) → b.world ≡ changed_world j place new gate → b.inodes ≡ j.table.inodes → Spares (book_of j) b (k ∷ [])
     root_spares b is inodes =
         spares_moved (book_of j) b number low gate (k ∷ []) (is ∙ world_put j h number place seat at numbered new low gate new_walk) inodes
         (known_here j h number place seat at numbered) (subst AreClients (sym is) known_then)
@@ -222,4 +222,4 @@ module _ (j : Inside) (h : IsKept j) (number place : ℕ) (seat : Seat) (at : sl
         has_mark_of w (inode_in (book_of j) q) number go.walk (walk_here j h number place seat at numbered ∙ go.is)
         ∙ none_marked go.walk.at go.top (inode_in (book_of j) q)
         ∙ sym (one_mark (inode_in (book_of j) q) (λ e.
-        out.0 (one_slot (book_of j) j.places h.placed q k (e ∙ sym go.here ∙ inode_is (book_of j) k slot lent) some))))
+        out.0 (one_slot (book_of j) j.table.places h.table.placed q k (e ∙ sym go.here ∙ inode_is (book_of j) k slot lent) some))))

@@ -12,7 +12,7 @@ use Rattle.ll_journal.specs.Kept.{IsKept, world_of, book_of}
 use Rattle.ll_journal.specs.Looks.{goes_on}
 use Rattle.ll_journal.specs.Seated.{split}
 use Rattle.ll_journal.proofs.MarkOf.{AreClients, are_clients, has_mark_of, fork_leaves}
-use Rattle.ll_journal.proofs.Lent.{spares_moved}
+use Rattle.ll_journal.proofs.LentAfter.{spares_moved}
 use Rattle.ll_journal.proofs.Starting.{changed_world, sound_after}
 use Rattle.ll_journal.proofs.Entering.{walk_here, known_here, world_put}
 
@@ -88,7 +88,7 @@ module _ (j : Inside) (h : IsKept j) (number place : ℕ) (seat : Seat) (at : sl
     pub fork_sound : IsSound (changed_world j place new j.gate)
     fork_sound = sound_after j (changed_world j place new j.gate) (Fork number) Forked h fork_does
 
-    pub fork_spares : (b : Book) → b.world ≡ changed_world j place new j.gate → b.inodes ≡ j.inodes.items → Spares (book_of j) b []
+    pub fork_spares : (b : Book) → b.world ≡ changed_world j place new j.gate → b.inodes ≡ j.table.inodes → Spares (book_of j) b []
     fork_spares b is inodes =
         spares_moved (book_of j) b number apart j.gate [] (is ∙ world_put j h number place seat at numbered new apart j.gate new_walk) inodes
         (known_here j h number place seat at numbered) (subst AreClients (sym is) (are_clients (changed_world j place new j.gate) fork_sound))

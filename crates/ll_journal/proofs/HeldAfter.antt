@@ -9,16 +9,17 @@ use Rattle.ll_seq.specs.declared.call.Call.{Call}
 use Rattle.ll_seq.specs.State.{State, root}
 use Rattle.ll_seq.specs.Step.{step, client_of}
 use Rattle.ll_seq.proofs.Parted.{or_left, or_right}
-use Rattle.ll_journal.specs.declared.held.Held.{Held}
+use Rattle.ll_held.specs.declared.held.Held.{Held}
 use Rattle.ll_walks.specs.Walk.{Walk, Leg, Position, Above, Down, Split, turn, with_turn, forked, marks, legs, is_above}
 use Rattle.ll_walks.specs.World.{World, shown, next_number, reply_to, with_entry, with_walk, without_walk, with_stale, begun, entered, stood, restarted}
-use Rattle.ll_journal.specs.Book.{mark_of, held_of, NotIn}
+use Rattle.ll_journal.specs.Book.{mark_of, held_of}
+use Rattle.ll_inodes.specs.InodeTable.{NotIn}
 use Rattle.ll_walks.specs.Sound.{IsSound}
 use Rattle.ll_walks.proofs.Tests.{or_false}
 use Rattle.ll_walks.proofs.Turns.{ended}
 use Rattle.ll_journal.proofs.Shown.{shown_reply, shown_ended}
 use Rattle.ll_journal.proofs.MarkOf.{AreClients, are_clients, has_mark_of, has_mark_none, mark_same, mark_put, mark_put_gone, mark_put_same, mark_gone, mark_left, leaves_removed, ended_leaves, turn_leaves, fork_leaves}
-use Rattle.ll_journal.proofs.SlotAccounts.{content_of, changed_by, step_elsewhere}
+use Rattle.ll_changes.proofs.SlotAccounts.{content_of, changed_by, step_elsewhere}
 
 -- with this mark
 abbrev pub marked : Held → Option ℕ → Held

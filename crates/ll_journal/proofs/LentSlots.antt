@@ -5,8 +5,10 @@ use Rattle.std.proofs.Common.{sym, ap, ◌∙◌}
 use Rattle.std.proofs.lemmas.Bool.{eqb-true, eq-eqb}
 use Rattle.ll_rights.specs.Map.{Map}
 use Rattle.ll_laws.proofs.Chains.{same_Some}
-use Rattle.ll_journal.specs.Book.{Book, NotIn, Spares, inode_in, slot_of, held_of, vacant}
-use Rattle.ll_journal.specs.Kept.{ArePlaced}
+use Rattle.ll_journal.specs.Book.{Book, Spares, inode_in, slot_of, held_of}
+use Rattle.ll_inodes.specs.InodeTable.{NotIn}
+use Rattle.ll_held.specs.Lent.{vacant}
+use Rattle.ll_inodes.specs.InodeTable.{ArePlaced}
 use Rattle.ll_walks.proofs.Tests.{or_false}
 
 module _ (b : Book) (k : ℕ) where
@@ -38,7 +40,7 @@ slot_kept b b' j same held =
 
 -- ---- one slot an inode
 
-got_of_index : (xs : List ℕ) (k i : ℕ) → slice_index_or xs k 0 ≡ i → i ≢ 0 → slice_get xs k ≡ Some i
+pub got_of_index : (xs : List ℕ) (k i : ℕ) → slice_index_or xs k 0 ≡ i → i ≢ 0 → slice_get xs k ≡ Some i
 got_of_index [] k i at some = absurd (some (sym at))
 got_of_index (x ∷ xs) zero i at some = ap Some at
 got_of_index (x ∷ xs) (suc k) i at some = got_of_index xs k i at some

@@ -13,9 +13,11 @@ use Rattle.ll_seq.specs.declared.client.ClientRecord.{ClientRecord}
 use Rattle.ll_seq.specs.State.{State}
 use Rattle.ll_seq.specs.Effects.{with_client}
 use Rattle.ll_walks.specs.Walk.{Walk}
-use Rattle.ll_journal.specs.Book.{Seat, NotIn}
-use Rattle.ll_journal.specs.Kept.{AreSeated, AreDistinct, seat_at, walks_from}
-use Rattle.ll_journal.proofs.Living.{same_len}
+use Rattle.ll_journal.specs.Book.{Seat}
+use Rattle.ll_inodes.specs.InodeTable.{NotIn}
+use Rattle.ll_journal.specs.Kept.{AreSeated, seat_at, walks_from}
+use Rattle.ll_inodes.specs.InodeTable.{AreDistinct}
+use Rattle.ll_changes.proofs.Living.{same_len}
 
 -- ---- as many clients as seats
 

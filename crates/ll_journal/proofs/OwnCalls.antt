@@ -2,7 +2,6 @@
 use Rattle.std.specs.Prelude.{◌≡◌, Bool, true, false, not, ◌&&◌, List, [], ◌∷◌, Option, Some, None, option_map, slice_get, refl}
 use Rattle.std.proofs.Common.{sym, subst, ◌∙◌}
 use Rattle.ll_rights.specs.declared.errno.Errno.{Errno}
-use Rattle.ll_answer.specs.Passed.{has_path}
 use Rattle.ll_seq.specs.declared.call.Call.{Call}
 use Rattle.ll_seq.specs.declared.client.ClientRecord.{ClientRecord}
 use Rattle.ll_seq.specs.Call.{targets}
@@ -22,9 +21,9 @@ some_first [] x e = absurd (cc e)
 some_first (y ∷ es) x e = refl
 
 -- a call that names a path is, where an early stage refuses it
-pub by_path : (c : ClientRecord) (call : Call) (early : Option Errno) (result : Option Own) → has_path call ≡ true → has_any (targets call) ≡ true → is_connect call ≡ false → is_on_descriptor c call ≡ false
-    → (has_path call ≡ true → early ≡ slice_get (early_refusals c call) 0) → result ≡ option_map (λ errno. OnRecord (Refused errno)) early → IsOwn c call result
-by_path c call early result path named connect fd found is = subst (IsOwn c call) (sym is) (by early (found path))
+pub by_path : (c : ClientRecord) (call : Call) (early : Option Errno) (result : Option Own) → has_any (targets call) ≡ true → is_connect call ≡ false → is_on_descriptor c call ≡ false
+    → early ≡ slice_get (early_refusals c call) 0 → result ≡ option_map (λ errno. OnRecord (Refused errno)) early → IsOwn c call result
+by_path c call early result named connect fd found is = subst (IsOwn c call) (sym is) (by early found)
   where
     alone : is_alone c call ≡ has_any (early_refusals c call)
     alone = (λ i. not (connect i) && not (named i && not (has_any (early_refusals c call))) && not (fd i)) ∙ plain (has_any (early_refusals c call))

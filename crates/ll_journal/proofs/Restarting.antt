@@ -12,13 +12,16 @@ use Rattle.ll_walks.proofs.Tests.{both}
 use Rattle.ll_journal.specs.declared.journal.Journal.TheInside.{Inside}
 use Rattle.ll_journal.specs.declared.look.Look.{Look}
 use Rattle.ll_journal.specs.declared.look.Look.TheVariants.{NotNow, Astray, Go}
-use Rattle.ll_journal.specs.Book.{Seat, Book, Spares, NotIn, inode_in, slot_of, held_of, vacant, has_mark, mark_of}
+use Rattle.ll_journal.specs.Book.{Seat, Book, Spares, inode_in, slot_of, held_of, has_mark, mark_of}
+use Rattle.ll_inodes.specs.InodeTable.{NotIn}
+use Rattle.ll_held.specs.Lent.{vacant}
 use Rattle.ll_journal.specs.Kept.{IsKept, world_of, book_of}
 use Rattle.ll_journal.specs.Looks.{look_again}
 use Rattle.ll_journal.specs.Seated.{again}
-use Rattle.ll_journal.specs.Steps.{IsAstrayAt, unmarked}
+use Rattle.ll_journal.specs.Steps.{IsAstrayAt}
+use Rattle.ll_held.specs.Lent.{unmarked}
 use Rattle.ll_journal.proofs.MarkOf.{AreClients, are_clients, has_mark_of, mark_is, mark_found, mark_put_gone, mark_put_same}
-use Rattle.ll_journal.proofs.Lent.{spares_moved, one_slot}
+use Rattle.ll_journal.proofs.LentAfter.{spares_moved, one_slot}
 use Rattle.ll_journal.proofs.Starting.{changed_world, sound_after}
 use Rattle.ll_journal.proofs.Entering.{walk_here, known_here, world_put}
 
@@ -173,14 +176,14 @@ module _ (j : Inside) (h : IsKept j) (number place : ℕ) (seat : Seat) (at : sl
       not_among [] q out some e = cc e
       not_among (k ∷ ks) q out some e =
           elim (inode_in (book_of j) k == inode_in (book_of j) q) as (λ b. (inode_in (book_of j) k == inode_in (book_of j) q) ≡ b → (b || is_in (map (inode_in (book_of j)) ks) (inode_in (book_of j) q)) ≡ true → ⊥) [
-            | true ↦ λ t f. out.0 (one_slot (book_of j) j.places h.placed q k (sym (eqb-true (inode_in (book_of j) k) (inode_in (book_of j) q) t)) some)
+            | true ↦ λ t f. out.0 (one_slot (book_of j) j.table.places h.table.placed q k (sym (eqb-true (inode_in (book_of j) k) (inode_in (book_of j) q) t)) some)
             | false ↦ λ t f. not_among ks q out.1 some f
           ] refl e
 
       none_marked : (i : ℕ) → (marks go.walk i ≡ true → ⊥) → marks go.walk i ≡ false
       none_marked i n = elim (marks go.walk i) as (λ b. marks go.walk i ≡ b → b ≡ false) [ true ↦ λ e. absurd (n e) | false ↦ λ e. refl ] refl
 
-      pub again_spares : (b : Book) → b.world ≡ after → b.inodes ≡ j.inodes.items → (ks : List ℕ) → map (inode_in (book_of j)) ks ≡ inodes → Spares (book_of j) b ks
+      pub again_spares : (b : Book) → b.world ≡ after → b.inodes ≡ j.table.inodes → (ks : List ℕ) → map (inode_in (book_of j)) ks ≡ inodes → Spares (book_of j) b ks
       again_spares b is same ks lent =
           spares_moved (book_of j) b number top j.gate ks (is ∙ put) same known (subst AreClients (sym is) known_then)
           (λ q out some. had (inode_in (book_of j) q) ∙ none_marked (inode_in (book_of j) q) (λ m.

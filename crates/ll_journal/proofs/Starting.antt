@@ -1,20 +1,18 @@
 -- A walk begins: what the journal keeps stays, and so does every slot's account.
-use Rattle.std.specs.Prelude.{◌≡◌, ◌≢◌, ◌⊎◌, ℕ, zero, suc, ◌+◌, Bool, true, false, not, ◌&&◌, ◌||◌, ◌==◌, cond, List, [], ◌∷◌, ◌++◌, map, length, Option, Some, None, is_none, is_some, option_map, option_and_then, unwrap_or, slice_get, slice_set, slice_index_or, ◌<◌, ◌≤◌, refl}
-use Rattle.std.specs.List.{AllByRecursion}
+use Rattle.std.specs.Prelude.{◌≡◌, ◌≢◌, ◌⊎◌, ℕ, zero, suc, ◌+◌, Bool, true, false, not, ◌&&◌, ◌||◌, ◌==◌, cond, List, [], ◌∷◌, map, length, Option, Some, None, is_none, is_some, option_map, option_and_then, unwrap_or, slice_get, slice_set, slice_index_or, ◌<◌, ◌≤◌, refl}
 use Rattle.std.specs.Option.{option_map_or}
 use Rattle.std.specs.Ordering.{nat_cmp}
 use Rattle.std.specs.Cmp.{nat_cmp_total}
 use Rattle.std.specs.FinMap.{nat_cmp-IsAntisymmetric}
 use Rattle.std.proofs.Common.{sym, subst, ap, ◌∙◌, inl, inr}
-use Rattle.ll_rights.specs.declared.limits.TheConstants.{TREE_CLIENTS}
-use Rattle.ll_rights.specs.Map.{Map, get, insert, len, has}
+use Rattle.ll_rights.specs.declared.limits.TheConstants.{HISTORY_ENTRIES, TREE_CLIENTS}
+use Rattle.ll_rights.specs.Map.{Map, get, insert}
 use Rattle.ll_rights.proofs.Maps.{insert_cases}
 use Rattle.ll_seq.specs.declared.call.Call.{Call}
 use Rattle.ll_seq.specs.declared.client.ClientRecord.{ClientRecord}
 use Rattle.ll_laws.proofs.Chains.{same_Some}
 use Rattle.ll_seq.specs.State.{State, new_client, start, bytes_of}
 use Rattle.ll_seq.specs.Tree.{kind_or_file}
-use Rattle.ll_seq.specs.Facts.{AreKept}
 use Rattle.ll_seq.specs.History.{Log, state_after}
 use Rattle.ll_journal.specs.declared.journal.Journal.TheInside.{Inside}
 use Rattle.ll_seq.specs.Step.{client_of}
@@ -22,8 +20,11 @@ use Rattle.ll_walks.specs.Walk.{Walk, Above, marks}
 use Rattle.ll_walks.specs.World.{World, Step, Outcome, Begun, NotNow, Begin, advance, begun, is_idle, is_walked, takes_gate, shown, next_number}
 use Rattle.ll_walks.specs.Sound.{IsSound}
 use Rattle.ll_walks.proofs.SoundSteps.{sound_kept}
-use Rattle.ll_journal.specs.Book.{Seat, Book, Spares, inode_in, slot_of, vacant, names_map, has_mark, marked_below}
-use Rattle.ll_journal.specs.Kept.{AreSeated, ArePlaced, AreDistinct, IsVacant, IsKept, seat_at, walks_from, world_of, book_of}
+use Rattle.ll_journal.specs.Book.{Seat, Book, Spares, inode_in, slot_of, has_mark, marked_below}
+use Rattle.ll_changes.specs.Accounts.{names_map}
+use Rattle.ll_held.specs.Lent.{vacant}
+use Rattle.ll_journal.specs.Kept.{AreSeated, IsKept, seat_at, walks_from, world_of, book_of, spares_of}
+use Rattle.ll_inodes.specs.InodeTable.{Table, IsTable}
 use Rattle.std.proofs.lemmas.List.{length-set}
 use Rattle.std.proofs.lemmas.Option.{slice_get-get_or}
 use Rattle.ll_journal.proofs.Begun.{walk_at, walks_put}
@@ -85,12 +86,6 @@ got_kept f (z ∷ seats) zero (suc j) old seat at same = refl
 got_kept f (z ∷ seats) (suc i) zero old seat at same = refl
 got_kept f (z ∷ seats) (suc i) (suc j) old seat at same = got_kept f seats i j old seat at same
 
-pub all_kept : (P : ℕ → Type 0) (seats : List Seat) (i : ℕ) (old seat : Seat) → slice_get seats i ≡ Some old → seat.spare ≡ old.spare
-    → AllByRecursion (λ (seat : Seat). P seat.spare) seats → AllByRecursion (λ (seat : Seat). P seat.spare) (slice_set seats i seat)
-all_kept P [] i old seat at same all = tt
-all_kept P (z ∷ seats) zero old seat at same all = (subst P (ap (λ (x : Seat). x.spare) (same_Some z old at) ∙ sym same) all.0, all.1)
-all_kept P (z ∷ seats) (suc i) old seat at same all = (all.0, all_kept P seats i old seat at same all.1)
-
 -- the spares are the same
 pub spares_kept : (seats : List Seat) (i : ℕ) (old seat : Seat) → slice_get seats i ≡ Some old → seat.spare ≡ old.spare → map (λ (s : Seat). s.spare) (slice_set seats i seat) ≡ map (λ (s : Seat). s.spare) seats
 spares_kept [] i old seat at same = refl
@@ -107,8 +102,8 @@ changed_world j place seat gate = record (world_of j) { walks = walks_from 1 (sl
 
 -- with another walk in a seat, and another holder of the gate
 pub kept_by : (j k : Inside) (place : ℕ) (old seat : Seat) (gate : Option ℕ) → IsKept j → slice_get j.seats.items place ≡ Some old → seat.client ≡ old.client → seat.spare ≡ old.spare
-    → IsSound (changed_world j place seat gate) → k.gate ≡ gate → k.seats.items ≡ slice_set j.seats.items place seat → k.rules ≡ j.rules → k.room ≡ j.room → k.history ≡ j.history → k.facts ≡ j.facts → k.inodes ≡ j.inodes → k.places ≡ j.places → k.free ≡ j.free → IsKept k
-kept_by j k place old seat gate h at client spare sound gated seats rules room history facts inodes places free = record {
+    → IsSound (changed_world j place seat gate) → k.gate ≡ gate → k.seats.items ≡ slice_set j.seats.items place seat → k.rules ≡ j.rules → k.room ≡ j.room → k.history ≡ j.history → k.table ≡ j.table → IsKept k
+kept_by j k place old seat gate h at client spare sound gated seats rules room history table = record {
   sound = subst IsSound (λ i. record {
     rules = sym rules i;
     room = sym room i;
@@ -117,17 +112,11 @@ kept_by j k place old seat gate h at client spare sound gated seats rules room h
     walks = walks_from 1 (sym seats i);
     gate = sym gated i;
   }) sound;
-  facts = subst (λ f. AreKept (shown (world_of k)) f) (sym facts) (subst (λ s. AreKept s j.facts) (sym tree) h.facts);
   seated = subst (λ s. AreSeated s k.seats.items) (sym tree) (subst (AreSeated (shown (world_of j))) (sym seats) (still_seated (shown (world_of j)) j.seats.items place old seat at client h.seated));
-  living = λ inode. ap (λ m. has m inode) places ∙ h.living inode ∙ sym (ap (λ (s : State). has s.nodes inode) tree);
-  placed = subst (λ v. ArePlaced v.items k.places) (sym inodes) (subst (ArePlaced j.inodes.items) (sym places) h.placed);
-  slots = ap (λ v. length v.items) inodes ∙ h.slots ∙ ap (λ n. n + TREE_CLIENTS) (sym room);
-  free = subst (λ v. AllByRecursion (IsVacant v.items) k.free.items) (sym inodes) (subst (λ v. AllByRecursion (IsVacant j.inodes.items) v.items) (sym free) h.free);
-  spares = subst (λ v. AllByRecursion (λ (seat : Seat). IsVacant v.items seat.spare) k.seats.items) (sym inodes)
-      (subst (AllByRecursion (λ (seat : Seat). IsVacant j.inodes.items seat.spare)) (sym seats) (all_kept (IsVacant j.inodes.items) j.seats.items place old seat at spare h.spares));
-  distinct = subst AreDistinct (ap (λ v. v.items ++ map (λ (s : Seat). s.spare) j.seats.items) (sym free) ∙ ap (λ ns. k.free.items ++ ns) (sym (ap (map (λ (s : Seat). s.spare)) seats ∙ spares_kept j.seats.items place old seat at spare))) h.distinct;
-  count = (λ i. length (free i).items + seated_many i + many_living i) ∙ h.count ∙ ap (λ n. n + TREE_CLIENTS) (sym room);
-  few = subst (λ n. n ≤ k.room) (sym many_living) (subst (λ n. len (shown (world_of j)).nodes ≤ n) (sym room) h.few);
+  table = subst (λ (p : State × (List ℕ × Table)). IsTable p.0 p.1.0 p.1.1) (λ i. (sym tree i, (sym spares i, sym table i))) h.table;
+  crowd = subst (λ n. n ≤ TREE_CLIENTS) (sym seated_many) h.crowd;
+  numbers = subst (λ (p : Table × Log). p.0.next ≤ length p.1.entries + 2) (λ i. (sym table i, sym history i)) h.numbers;
+  small = subst (λ (log : Log). log.limit ≤ HISTORY_ENTRIES) (sym history) h.small;
 }
   where
     tree : shown (world_of k) ≡ shown (world_of j)
@@ -136,8 +125,8 @@ kept_by j k place old seat gate h at client spare sound gated seats rules room h
     seated_many : length k.seats.items ≡ length j.seats.items
     seated_many = ap length seats ∙ length-set j.seats.items place seat
 
-    many_living : len (shown (world_of k)).nodes ≡ len (shown (world_of j)).nodes
-    many_living = ap (λ (s : State). len s.nodes) tree
+    spares : spares_of k.seats.items ≡ spares_of j.seats.items
+    spares = ap spares_of seats ∙ spares_kept j.seats.items place old seat at spare
 
 -- ---- accounts
 
@@ -223,7 +212,7 @@ sound_after j w step' o h e = subst (λ (p : Outcome × World). IsSound p.1) e (
 
 -- the rest of the book, where one seat's walk and the world changed
 pub rest_kept : (j : Inside) (place : ℕ) (old seat : Seat) → slice_get j.seats.items place ≡ Some old → seat.spare ≡ old.spare → (w : World) (b : Book) → book_of j ≡ b
-    → record { world = w; inodes = j.inodes.items; free = j.free.items; spares = map (λ (s : Seat). s.spare) (slice_set j.seats.items place seat) } ≡ record b { world = w }
+    → record { world = w; inodes = j.table.inodes; free = j.table.free; spares = map (λ (s : Seat). s.spare) (slice_set j.seats.items place seat) } ≡ record b { world = w }
 rest_kept j place old seat at spare w b is =
-    (λ i. record { world = w; inodes = j.inodes.items; free = j.free.items; spares = spares_kept j.seats.items place old seat at spare i })
+    (λ i. record { world = w; inodes = j.table.inodes; free = j.table.free; spares = spares_kept j.seats.items place old seat at spare i })
     ∙ ap (λ (b : Book). record b { world = w }) is

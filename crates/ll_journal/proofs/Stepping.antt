@@ -1,14 +1,13 @@
 -- A client's call for itself alone: what the step comes to, and what the journal keeps.
-use Rattle.std.specs.Prelude.{◌≡◌, ◌≢◌, ◌⊎◌, ℕ, zero, suc, ◌+◌, ◌<◌, ◌≤◌, Bool, true, false, not, ◌&&◌, List, [], ◌∷◌, ◌++◌, map, length, Option, Some, None, Result, Ok, Err, IfOk, IfNone, OnErr, is_none, is_some, option_map, option_and_then, unwrap_or, slice_get, slice_set, refl}
+use Rattle.std.specs.Prelude.{◌≡◌, ◌≢◌, ◌⊎◌, ℕ, zero, suc, ◌+◌, ◌<◌, ◌≤◌, Bool, true, false, not, ◌&&◌, List, [], ◌∷◌, ◌++◌, length, Option, Some, None, Result, Ok, Err, IfOk, IfNone, OnErr, is_none, is_some, option_map, option_and_then, unwrap_or, slice_get, slice_set, refl}
 use Rattle.std.specs.declared.alloc.AllocError.{AllocError}
-use Rattle.std.specs.List.{AllByRecursion}
 use Rattle.std.specs.Option.{option_map_or}
 use Rattle.std.specs.Cmp.{nat_cmp_total}
 use Rattle.std.specs.FinMap.{nat_cmp-IsAntisymmetric}
-use Rattle.std.proofs.Common.{sym, subst, ap, ◌∙◌, inl, inr}
+use Rattle.std.proofs.Common.{sym, subst, ap, ◌∙◌, inl, inr, arith}
 use Rattle.std.proofs.lemmas.List.{length-set}
 use Rattle.ll_rights.specs.declared.errno.Errno.TheVariants.{EMFILE, HistoryFull}
-use Rattle.ll_rights.specs.declared.limits.TheConstants.{TREE_CLIENTS}
+use Rattle.ll_rights.specs.declared.limits.TheConstants.{HISTORY_ENTRIES, TREE_CLIENTS}
 use Rattle.ll_rights.specs.Map.{get, has, insert, len}
 use Rattle.ll_rights.proofs.Maps.{insert_cases}
 use Rattle.ll_laws.proofs.Chains.{same_Some}
@@ -37,7 +36,8 @@ use Rattle.ll_journal.specs.declared.direct.Answer.TheVariants as answers
 use Rattle.ll_journal.specs.declared.journal.Journal.TheInside.{Inside}
 use Rattle.ll_journal.specs.Book.{Seat, Book, Spares}
 use Rattle.ll_journal.specs.Direct.{Answers, LeavesSlots}
-use Rattle.ll_journal.specs.Kept.{AreSeated, ArePlaced, AreDistinct, IsVacant, IsKept, seat_at, walks_from, world_of, book_of}
+use Rattle.ll_journal.specs.Kept.{AreSeated, IsKept, seat_at, walks_from, world_of, book_of, spares_of}
+use Rattle.ll_inodes.specs.InodeTable.{Table, IsTable}
 use Rattle.ll_journal.specs.Own.{Asks, IsOwn, Comes, Spawns, SpawnTells}
 use Rattle.ll_journal.proofs.Advancing.{direct_not_now, direct_full, direct_replies}
 use Rattle.ll_journal.proofs.Answered.{spares_answered, world_is, kept_answered, world_more, kept_more, takes_spare, few_clients, many_clients}
@@ -45,8 +45,9 @@ use Rattle.ll_journal.proofs.Begun.{walk_at, set_same, set_other}
 use Rattle.ll_journal.proofs.NewClients.{clients_len}
 use Rattle.ll_journal.proofs.OwnAnswers.{spawn_refused, spawned}
 use Rattle.ll_journal.proofs.Ruled.{rules_stay}
-use Rattle.ll_journal.proofs.SlotAccounts.{content_of}
-use Rattle.ll_journal.proofs.Starting.{all_kept, sound_after, spares_kept}
+use Rattle.ll_changes.proofs.SlotAccounts.{content_of}
+use Rattle.ll_journal.proofs.Starting.{sound_after, spares_kept}
+use Rattle.ll_journal.proofs.ClientTables.{table_client}
 
 -- ---- whether the call is one for this step
 
@@ -111,14 +112,14 @@ spawn_alone c call is = ap (is_alone c) is
 -- ---- the seats
 
 -- another record in the seat, and the same walk
-walks_same : (seats : List Seat) (place : ℕ) (old new : Seat) (first : ℕ) → slice_get seats place ≡ Some old → new.walk ≡ old.walk → walks_from first (slice_set seats place new) ≡ walks_from first seats
+pub walks_same : (seats : List Seat) (place : ℕ) (old new : Seat) (first : ℕ) → slice_get seats place ≡ Some old → new.walk ≡ old.walk → walks_from first (slice_set seats place new) ≡ walks_from first seats
 walks_same [] place old new first at same = refl
 walks_same (z ∷ seats) zero old new first at same =
     ap (λ o. option_map_or (λ (walk : Walk). insert (walks_from (first + 1) seats) first walk) o (walks_from (first + 1) seats)) (same ∙ ap (λ (x : Seat). x.walk) (sym (same_Some z old at)))
 walks_same (z ∷ seats) (suc place) old new first at same =
     ap (λ m. option_map_or (λ (walk : Walk). insert m first walk) z.walk m) (walks_same seats place old new (first + 1) at same)
 
-seated_put : (s : State) (seats : List Seat) (place number : ℕ) (old new : Seat) → slice_get seats place ≡ Some old → number ≡ suc place → AreSeated s seats → AreSeated (with_client s number new.client) (slice_set seats place new)
+pub seated_put : (s : State) (seats : List Seat) (place number : ℕ) (old new : Seat) → slice_get seats place ≡ Some old → number ≡ suc place → AreSeated s seats → AreSeated (with_client s number new.client) (slice_set seats place new)
 seated_put s seats place number old new at numbered seated q = by (insert_cases nat_cmp_total nat_cmp-IsAntisymmetric s.clients number new.client q)
   where
     client_in : Option Seat → Option ClientRecord
@@ -143,34 +144,27 @@ starved_so : (b b' : Book) (number : ℕ) (call : Call) (answer : Answer) → an
 starved_so b b' number call answer is e = subst (λ a. Answers b (ClientStep number call) a b') (sym is) e
 
 -- with the same items nothing has changed
-module _ (j k : Inside) (rules : k.rules ≡ j.rules) (room : k.room ≡ j.room) (gate : k.gate ≡ j.gate) (inodes : k.inodes ≡ j.inodes) (places : k.places ≡ j.places)
-    (history : k.history ≡ j.history) (seats : k.seats.items ≡ j.seats.items) (free : k.free.items ≡ j.free.items) (facts : k.facts ≡ j.facts) where
-  world_unchanged : world_of k ≡ world_of j
+module _ (j k : Inside) (rules : k.rules ≡ j.rules) (room : k.room ≡ j.room) (gate : k.gate ≡ j.gate) (history : k.history ≡ j.history) (seats : k.seats.items ≡ j.seats.items) (table : k.table ≡ j.table) where
+  pub world_unchanged : world_of k ≡ world_of j
   world_unchanged = λ i. record { rules = rules i; room = room i; limit = (history i).limit; history = (history i).entries; walks = walks_from 1 (seats i); gate = gate i }
 
-  book_unchanged : book_of k ≡ book_of j
-  book_unchanged = λ i. record { world = world_unchanged i; inodes = (inodes i).items; free = free i; spares = map (λ (s : Seat). s.spare) (seats i) }
+  pub book_unchanged : book_of k ≡ book_of j
+  book_unchanged = λ i. record { world = world_unchanged i; inodes = (table i).inodes; free = (table i).free; spares = spares_of (seats i) }
 
-  kept_unchanged : IsKept j → IsKept k
+  pub kept_unchanged : IsKept j → IsKept k
   kept_unchanged h = record {
     sound = subst IsSound (sym world_unchanged) h.sound;
-    facts = subst (λ f. AreKept (shown (world_of k)) f) (sym facts) (subst (λ s. AreKept s j.facts) (sym tree) h.facts);
     seated = subst (λ s. AreSeated s k.seats.items) (sym tree) (subst (AreSeated (shown (world_of j))) (sym seats) h.seated);
-    placed = subst (λ v. ArePlaced v.items k.places) (sym inodes) (subst (ArePlaced j.inodes.items) (sym places) h.placed);
-    living = λ inode. ap (λ m. has m inode) places ∙ h.living inode ∙ ap (λ (s : State). has s.nodes inode) (sym tree);
-    slots = ap (λ v. length v.items) inodes ∙ h.slots ∙ ap (λ n. n + TREE_CLIENTS) (sym room);
-    free = subst (λ v. AllByRecursion (IsVacant v.items) k.free.items) (sym inodes) (subst (AllByRecursion (IsVacant j.inodes.items)) (sym free) h.free);
-    spares = subst (λ v. AllByRecursion (λ (seat : Seat). IsVacant v.items seat.spare) k.seats.items) (sym inodes)
-        (subst (AllByRecursion (λ (seat : Seat). IsVacant j.inodes.items seat.spare)) (sym seats) h.spares);
-    distinct = subst AreDistinct (λ i. sym free i ++ map (λ (s : Seat). s.spare) (sym seats i)) h.distinct;
-    count = (λ i. length (free i) + length (seats i) + len (tree i).nodes) ∙ h.count ∙ ap (λ n. n + TREE_CLIENTS) (sym room);
-    few = subst (λ n. n ≤ k.room) (ap (λ (s : State). len s.nodes) (sym tree)) (subst (λ n. len (shown (world_of j)).nodes ≤ n) (sym room) h.few);
+    table = subst (λ (p : State × (List ℕ × Table)). IsTable p.0 p.1.0 p.1.1) (λ i. (sym tree i, (spares_of (sym seats i), sym table i))) h.table;
+    crowd = subst (λ (xs : List Seat). length xs ≤ TREE_CLIENTS) (sym seats) h.crowd;
+    numbers = subst (λ (p : Table × Log). p.0.next ≤ length p.1.entries + 2) (λ i. (sym table i, sym history i)) h.numbers;
+    small = subst (λ (log : Log). log.limit ≤ HISTORY_ENTRIES) (sym history) h.small;
   }
     where
       tree : shown (world_of k) ≡ shown (world_of j)
       tree = ap shown world_unchanged
 
-set_again : (seats : List Seat) (place : ℕ) (seat : Seat) → slice_get seats place ≡ Some seat → slice_set seats place seat ≡ seats
+pub set_again : (seats : List Seat) (place : ℕ) (seat : Seat) → slice_get seats place ≡ Some seat → slice_set seats place seat ≡ seats
 set_again [] place seat at = refl
 set_again (z ∷ seats) zero seat at = ap (λ x. x ∷ seats) (sym (same_Some z seat at))
 set_again (z ∷ seats) (suc place) seat at = ap (λ xs. z ∷ xs) (set_again seats place seat at)
@@ -184,12 +178,12 @@ pub record Stepped (b : Book) (number : ℕ) (call : Call) (answer : Answer) (k 
   pub spares : Spares b (book_of k) []
   pub rest : LeavesSlots call b (book_of k)
 
-abbrev entered : Inside → ℕ → Call → Reply → Log
+abbrev pub entered : Inside → ℕ → Call → Reply → Log
 entered j number call reply = record j.history { entries = j.history.entries ++ record { client = number; call = call; reply = reply } ∷ [] }
 
 module _ (j k : Inside) (h : IsKept j) (number : ℕ) (call : Call) (place : ℕ) (old : Seat) (at : slice_get j.seats.items place ≡ Some old) (numbered : number ≡ suc place)
     (idle : old.walk ≡ None) (room_left : is_full (world_of j) ≡ false) (answer : Answer)
-    (rules : k.rules ≡ j.rules) (room : k.room ≡ j.room) (gate : k.gate ≡ j.gate) (inodes : k.inodes ≡ j.inodes) (places : k.places ≡ j.places) where
+    (rules : k.rules ≡ j.rules) (room : k.room ≡ j.room) (gate : k.gate ≡ j.gate) where
   abbrev before : State
   before = shown (world_of j)
 
@@ -197,7 +191,7 @@ module _ (j k : Inside) (h : IsKept j) (number : ℕ) (call : Call) (place : ℕ
   rules_are = rules_stay (start j.rules j.room) j.history.entries
 
   -- the record is another
-  module _ (new : Seat) (seats : k.seats.items ≡ slice_set j.seats.items place new) (free : k.free.items ≡ j.free.items) (facts : k.facts ≡ j.facts) (rest : new ≡ record old { client = new.client }) where
+  module _ (new : Seat) (seats : k.seats.items ≡ slice_set j.seats.items place new) (table : k.table ≡ j.table) (rest : new ≡ record old { client = new.client }) where
     walk_is : new.walk ≡ old.walk
     walk_is = ap (λ (s : Seat). s.walk) rest
 
@@ -207,11 +201,11 @@ module _ (j k : Inside) (h : IsKept j) (number : ℕ) (call : Call) (place : ℕ
     walks_are : walks_from 1 k.seats.items ≡ walks_from 1 j.seats.items
     walks_are = ap (walks_from 1) seats ∙ walks_same j.seats.items place old new 1 at walk_is
 
-    spares_are : map (λ (s : Seat). s.spare) k.seats.items ≡ map (λ (s : Seat). s.spare) j.seats.items
-    spares_are = ap (map (λ (s : Seat). s.spare)) seats ∙ spares_kept j.seats.items place old new at spare_is
+    spares_are : spares_of k.seats.items ≡ spares_of j.seats.items
+    spares_are = ap spares_of seats ∙ spares_kept j.seats.items place old new at spare_is
 
     slots_stay : book_of k ≡ record (book_of j) { world = world_of k }
-    slots_stay = λ i. record { world = world_of k; inodes = (inodes i).items; free = free i; spares = spares_are i }
+    slots_stay = λ i. record { world = world_of k; inodes = (table i).inodes; free = (table i).free; spares = spares_are i }
 
     module _ (alone : is_alone old.client call ≡ true) (reply : Reply) (comes_so : step before number call (next_number (world_of j)) ≡ (reply, with_client before number new.client)) (same : new.client.descriptors ≡ old.client.descriptors)
         (history : k.history ≡ entered j number call reply) (is : answer ≡ answers.Replied) where
@@ -227,44 +221,46 @@ module _ (j k : Inside) (h : IsKept j) (number : ℕ) (call : Call) (place : ℕ
       advances : advance (world_of j) (ClientStep number call) ≡ (Replied reply, world_of k)
       advances = step_replies j h number call place old at numbered idle alone reply room_left told_so ∙ ap (λ (v : World). (Replied reply, v)) (sym world_so)
 
+      counted : AreKept (with_client before number new.client) j.table.facts
+      counted = kept_client before j.table.facts j.table.facts number old.client h.table.facts (there j h number call place old at numbered) new.client same
+
       kept_so : IsKept k
       kept_so =
-          kept_answered j k h number call reply told_so rules room gate history walks_are (with_client before number new.client) after refl
+          kept_answered j k h number call reply told_so rules room gate history walks_are (with_client before number new.client) after
           (sound_after j (world_of k) (ClientStep number call) (Replied reply) h advances)
-          (subst (AreKept (with_client before number new.client)) (sym facts) (kept_client before j.facts j.facts number old.client h.facts (there j h number call place old at numbered) new.client same))
           (subst (AreSeated (with_client before number new.client)) (sym seats) (seated_put before j.seats.items place number old new at numbered h.seated))
-          inodes places (subst (AllByRecursion (IsVacant j.inodes.items)) (sym free) h.free)
-          (subst (AllByRecursion (λ (seat : Seat). IsVacant j.inodes.items seat.spare)) (sym seats) (all_kept (IsVacant j.inodes.items) j.seats.items place old new at spare_is h.spares))
-          (subst AreDistinct (λ i. sym free i ++ sym spares_are i) h.distinct)
-          (let one = ap length free in let other = ap length seats ∙ length-set j.seats.items place new in (λ i. one i + other i))
+          (subst (λ (p : List ℕ × Table). IsTable (with_client before number new.client) p.0 p.1) (λ i. (sym spares_are i, sym table i))
+          (table_client before number new.client (spares_of j.seats.items) j.table h.table counted))
+          (subst (λ n. n ≤ TREE_CLIENTS) (sym (ap length seats ∙ length-set j.seats.items place new)) h.crowd)
+          (let next = ap (λ (t : Table). t.next) table in omega (arith, next))
 
       answered_so : Stepped (book_of j) number call answer k
       answered_so = record {
         kept = kept_so;
         does = replied_so (book_of j) (book_of k) number call answer reply is advances;
-        spares = spares_answered (book_of j) (book_of k) number call reply h.sound kept_so.sound world_so told_so (ap (λ v. v.items) inodes) (λ i. ap (λ s. content_of s i) after);
+        spares = spares_answered (book_of j) (book_of k) number call reply h.sound kept_so.sound world_so told_so (ap (λ (t : Table). t.inodes) table) (λ i. ap (λ s. content_of s i) after);
         rest = inl slots_stay;
       }
 
   -- memory ran out
-  starved : k.seats.items ≡ j.seats.items → k.free.items ≡ j.free.items → k.facts ≡ j.facts → k.history ≡ j.history → answer ≡ answers.NoMemory → Stepped (book_of j) number call answer k
-  starved seats free facts history is =
-      let same = book_unchanged j k rules room gate inodes places history seats free facts in
+  starved : k.seats.items ≡ j.seats.items → k.table ≡ j.table → k.history ≡ j.history → answer ≡ answers.NoMemory → Stepped (book_of j) number call answer k
+  starved seats table history is =
+      let same = book_unchanged j k rules room gate history seats table in
       record {
-        kept = kept_unchanged j k rules room gate inodes places history seats free facts h;
+        kept = kept_unchanged j k rules room gate history seats table h;
         does = starved_so (book_of j) (book_of k) number call answer is same;
         spares = same_spares (book_of j) (book_of k) same;
-        rest = inl (same ∙ ap (λ v. record (book_of j) { world = v }) (sym (world_unchanged j k rules room gate inodes places history seats free facts)));
+        rest = inl (same ∙ ap (λ v. record (book_of j) { world = v }) (sym (world_unchanged j k rules room gate history seats table)));
       }
 
-  pub on_record : (new : Seat) → k.seats.items ≡ slice_set j.seats.items place new → k.free.items ≡ j.free.items → k.facts ≡ j.facts → new ≡ record old { client = new.client } → (what : RecordCall) → Asks old.client call what
+  pub on_record : (new : Seat) → k.seats.items ≡ slice_set j.seats.items place new → k.table ≡ j.table → new ≡ record old { client = new.client } → (what : RecordCall) → Asks old.client call what
       → (told : Result Reply AllocError) → IfOk told (λ reply. Comes j.rules.abi old.client what reply new.client) → new.client.descriptors ≡ old.client.descriptors → OnErr told (new ≡ old)
       → IfOk told (λ reply. (answer ≡ answers.Replied) × (k.history ≡ entered j number call reply)) → OnErr told ((answer ≡ answers.NoMemory) × (k.history ≡ j.history)) → Stepped (book_of j) number call answer k
-  on_record new seats free facts rest what asks (Ok reply) comes same err ok bad =
-      answered_so new seats free facts rest (asks_alone old.client call what asks) reply
+  on_record new seats table rest what asks (Ok reply) comes same err ok bad =
+      answered_so new seats table rest (asks_alone old.client call what asks) reply
       (comes call asks before number (next_number (world_of j)) (ap (λ (r : Rules). r.abi) rules_are) (there j h number call place old at numbered)) same ok.1 ok.0
-  on_record new seats free facts rest what asks (Err e) comes same err ok bad =
-      starved (seats ∙ ap (slice_set j.seats.items place) err ∙ set_again j.seats.items place old at) free facts bad.1 bad.0
+  on_record new seats table rest what asks (Err e) comes same err ok bad =
+      starved (seats ∙ ap (slice_set j.seats.items place) err ∙ set_again j.seats.items place old at) table bad.1 bad.0
 
   -- ---- a client is spawned
 
@@ -275,15 +271,15 @@ module _ (j k : Inside) (h : IsKept j) (number : ℕ) (call : Call) (place : ℕ
     here : get before.clients number ≡ Some old.client
     here = there j h number call place old at numbered
 
-    crowded : TREE_CLIENTS ≤ length j.seats.items → (reply : Reply) → reply ≡ replies.Refused EMFILE → k.seats.items ≡ j.seats.items → k.free.items ≡ j.free.items → k.facts ≡ j.facts → k.history ≡ entered j number call reply → answer ≡ answers.Replied → Stepped (book_of j) number call answer k
-    crowded many reply told seats free facts history is =
-        answered_so old (seats ∙ sym (set_again j.seats.items place old at)) free facts refl alone_so reply
+    crowded : TREE_CLIENTS ≤ length j.seats.items → (reply : Reply) → reply ≡ replies.Refused EMFILE → k.seats.items ≡ j.seats.items → k.table ≡ j.table → k.history ≡ entered j number call reply → answer ≡ answers.Replied → Stepped (book_of j) number call answer k
+    crowded many reply told seats table history is =
+        answered_so old (seats ∙ sym (set_again j.seats.items place old at)) table refl alone_so reply
         (ap (λ c. step before number c (next_number (world_of j))) spawn
         ∙ spawn_refused before number (next_number (world_of j)) old.client here (many_clients (len before.clients) (length j.seats.items) (clients_len before j.seats.items h.seated) many)
         ∙ ap (λ r. (r, with_client before number old.client)) (sym told))
         refl history is
 
-    module _ (few : length j.seats.items < TREE_CLIENTS) (born : ℕ) (reply : Reply) (told : reply ≡ replies.Spawned born) (spawns : Spawns j.rules place j.seats.items j.free.items j.facts born k.seats.items k.free.items k.facts)
+    module _ (few : length j.seats.items < TREE_CLIENTS) (born : ℕ) (reply : Reply) (told : reply ≡ replies.Spawned born) (spawns : Spawns j.rules place j.seats.items j.table born k.seats.items k.table)
         (history : k.history ≡ entered j number call reply) (is : answer ≡ answers.Replied) where
       parent_is : spawns.parent ≡ old
       parent_is = same_Some spawns.parent old (sym spawns.there ∙ at)
@@ -315,24 +311,24 @@ module _ (j k : Inside) (h : IsKept j) (number : ℕ) (call : Call) (place : ℕ
       kept_spawned =
           kept_more j k h number call reply told_is rules room gate history seat refl spawns.seats-are spawns.free-is after_spawn
           (sound_after j (world_of k) (ClientStep number call) (Replied reply) h advances_so)
-          (subst (λ n. AreKept (with_client before n (child_of j.rules spawns.parent.client)) k.facts) next_is
-          (spawns.facts-are before number h.facts rules_are (here ∙ ap (λ (s : Seat). Some s.client) (sym parent_is)) (ap (has before.clients) next_is ∙ unused before h.sound.numbers)))
-          inodes places
+          (subst (λ n. AreKept (with_client before n (child_of j.rules spawns.parent.client)) k.table.facts) next_is
+          (spawns.facts-are before number h.table.facts rules_are (here ∙ ap (λ (s : Seat). Some s.client) (sym parent_is)) (ap (has before.clients) next_is ∙ unused before h.sound.numbers)))
+          spawns.rest-is few
 
       one_more : Stepped (book_of j) number call answer k
       one_more = record {
         kept = kept_spawned;
         does = replied_so (book_of j) (book_of k) number call answer reply is advances_so;
-        spares = spares_answered (book_of j) (book_of k) number call reply h.sound kept_spawned.sound world_spawned told_is (ap (λ v. v.items) inodes) (λ i. ap (λ s. content_of s i) after_spawn);
-        rest = inr (spawn, takes_spare j k h number call reply told_is rules room gate history seat refl spawns.seats-are spawns.free-is after_spawn inodes);
+        spares = spares_answered (book_of j) (book_of k) number call reply h.sound kept_spawned.sound world_spawned told_is (ap (λ (t : Table). t.inodes) spawns.rest-is) (λ i. ap (λ s. content_of s i) after_spawn);
+        rest = inr (spawn, takes_spare j k h number call reply told_is rules room gate history seat refl spawns.seats-are spawns.free-is after_spawn (ap (λ (t : Table). t.inodes) spawns.rest-is));
       }
 
-    pub on_spawn : (told : Result Reply AllocError) → IfOk told (SpawnTells j.rules place j.seats.items j.free.items j.facts k.seats.items k.free.items k.facts)
-        → OnErr told ((k.seats.items ≡ j.seats.items) × (k.free.items ≡ j.free.items) × (k.facts ≡ j.facts))
+    pub on_spawn : (told : Result Reply AllocError) → IfOk told (SpawnTells j.rules place j.seats.items j.table k.seats.items k.table)
+        → OnErr told ((k.seats.items ≡ j.seats.items) × (k.table ≡ j.table))
         → IfOk told (λ reply. (answer ≡ answers.Replied) × (k.history ≡ entered j number call reply)) → OnErr told ((answer ≡ answers.NoMemory) × (k.history ≡ j.history)) → Stepped (book_of j) number call answer k
-    on_spawn (Ok reply) (inl a) err ok bad = crowded a.0 reply a.1 a.2 a.3 a.4 ok.1 ok.0
+    on_spawn (Ok reply) (inl a) err ok bad = crowded a.0 reply a.1 a.2 a.3 ok.1 ok.0
     on_spawn (Ok reply) (inr a) err ok bad = one_more a.0 a.1 reply a.2 a.3 ok.1 ok.0
-    on_spawn (Err e) tells err ok bad = starved err.0 err.1 err.2 bad.1 bad.0
+    on_spawn (Err e) tells err ok bad = starved err.0 err.1 bad.1 bad.0
 
 -- ---- as the code finds it
 

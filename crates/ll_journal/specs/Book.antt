@@ -1,17 +1,17 @@
 -- What contracts see of the journal, and the account of a slot: what has to lie behind its lock. own
-use Rattle.std.specs.Prelude.{◌≡◌, ◌≢◌, ℕ, zero, suc, ◌+◌, ◌-◌, Bool, false, ◌==◌, List, [], ◌∷◌, map, filter, replicate, slice_index_or, length, Option, Some, None, if◌then◌else◌, ⊤}
+use Rattle.std.specs.Prelude.{◌≡◌, ℕ, zero, suc, ◌+◌, ◌-◌, Bool, false, ◌==◌, List, [], ◌∷◌, replicate, slice_index_or, length, Option, Some, None, if◌then◌else◌}
 use Rattle.std.specs.List.{range_with_len}
 use Rattle.std.specs.Option.{option_map_or}
-use Rattle.ll_rights.specs.declared.kind.Kind.TheVariants.{Reg}
 use Rattle.ll_rights.specs.declared.limits.TheConstants.{TREE_CLIENTS}
-use Rattle.ll_rights.specs.Map.{empty, entries, get, insert}
-use Rattle.ll_node.specs.Slot.{NameMap, new_slot}
+use Rattle.ll_rights.specs.Map.{get}
 use Rattle.ll_seq.specs.declared.client.ClientRecord.{ClientRecord}
-use Rattle.ll_seq.specs.declared.dentries.Dentry.{Dentry}
 use Rattle.ll_seq.specs.declared.rules.Rules.{Rules}
-use Rattle.ll_seq.specs.State.{Name, State, bytes_of, root}
+use Rattle.ll_seq.specs.State.{bytes_of, root}
 use Rattle.ll_seq.specs.Tree.{kind_or_file}
-use Rattle.ll_journal.specs.declared.held.Held.{Held}
+use Rattle.ll_changes.specs.Accounts.{names_map}
+use Rattle.ll_held.specs.declared.held.Held.{Held}
+use Rattle.ll_held.specs.Lent.{vacant}
+use Rattle.ll_inodes.specs.InodeTable.{NotIn}
 use Rattle.ll_walks.specs.Walk.{Walk, marks}
 use Rattle.ll_walks.specs.World.{World, new_world, next_number, shown}
 
@@ -40,17 +40,6 @@ new_book rules room limit = record {
 
 -- ---- Accounts
 
--- the map of these names and inodes
-abbrev pub map_of : List (Name × ℕ) → NameMap
-map_of [] = empty
-map_of (e ∷ es) = insert (map_of es) e.0 e.1
-
--- the names in the directory, each with what has it
-abbrev pub names_map : State → ℕ → NameMap
-names_map s directory =
-    map_of (map (λ (e : Dentry × ℕ). (e.0.name, e.1))
-    (filter (λ (e : Dentry × ℕ). e.0.directory == directory) (entries s.entries)))
-
 -- the client's walk stands in the directory
 abbrev pub has_mark : World → ℕ → ℕ → Bool
 has_mark w inode number = option_map_or (λ (walk : Walk). marks walk inode) (get w.walks number) false
@@ -76,21 +65,12 @@ held_of w inode = record {
   };
 }
 
--- all vacant slots are alike
-abbrev pub vacant : Held
-vacant = record { inode = 0; node = new_slot Reg }
-
 abbrev pub inode_in : Book → ℕ → ℕ
 inode_in b k = slice_index_or b.inodes k 0
 
 -- the account of a slot
 abbrev pub slot_of : Book → ℕ → Held
 slot_of b k = if inode_in b k == 0 then vacant else held_of b.world (inode_in b k)
-
--- no slot of this list is it
-abbrev pub NotIn : ℕ → List ℕ → Type 0
-NotIn j [] = ⊤
-NotIn j (k ∷ ks) = (j ≢ k) × NotIn j ks
 
 -- what a step that is lent these slots leaves as it is
 pub record Spares (b b' : Book) (ks : List ℕ) : Type 0 where

@@ -1,15 +1,22 @@
 -- What the calls do that don't walk. own
-use Rattle.std.specs.Prelude.{◌≡◌, ◌⊎◌, ℕ, [], ◌∷◌, ◌++◌}
+use Rattle.std.specs.Prelude.{◌≡◌, ◌≢◌, ◌⊎◌, ℕ, [], ◌∷◌, ◌++◌, Some, None}
+use Rattle.ll_rights.specs.Map.{get}
 use Rattle.ll_rights.specs.declared.errno.Errno.TheVariants.{HistoryFull}
 use Rattle.ll_seq.specs.declared.call.Call.{Call}
-use Rattle.ll_seq.specs.declared.call.Call.TheVariants.{Spawn}
+use Rattle.ll_seq.specs.declared.call.Call.TheVariants.{Spawn, Close}
+use Rattle.ll_seq.specs.declared.client.ClientRecord.{ClientRecord}
+use Rattle.ll_seq.specs.declared.client.Descriptor.{Descriptor}
 use Rattle.ll_seq.specs.declared.reply.Reply.{Reply}
 use Rattle.ll_seq.specs.declared.reply.Reply.TheVariants.{Refused}
+use Rattle.ll_seq.specs.State.{kind_of}
 use Rattle.ll_walks.specs.World as world
-use Rattle.ll_walks.specs.World.{Step, advance}
+use Rattle.ll_walks.specs.World.{World, Step, advance, shown, descriptor_of}
+use Rattle.ll_inodes.specs.InodeTable.{without_inode}
 use Rattle.ll_journal.specs.declared.direct.Answer.{Answer}
 use Rattle.ll_journal.specs.declared.direct.Answer.TheVariants as answer
-use Rattle.ll_journal.specs.Book.{Book}
+use Rattle.ll_journal.specs.declared.open_file.Unmade.{Unmade}
+use Rattle.ll_journal.specs.declared.open_file.Unmade.TheVariants as unmade
+use Rattle.ll_journal.specs.Book.{Book, inode_in}
 
 -- The outcome is that of the step, and so is the world after. A full history takes no entry, and where memory runs out
 -- the step isn't made
@@ -29,3 +36,37 @@ pub record TakesSpare (b b' : Book) : Type 0 where
 -- Beside the world nothing changes, unless a client was spawned
 abbrev pub LeavesSlots : Call → Book → Book → Type 0
 LeavesSlots call b b' = (b' ≡ record b { world = b'.world }) ⊎ ((call ≡ Spawn) × TakesSpare b b')
+
+-- ---- Calls on descriptors
+
+-- the client is there, and this is its descriptor of the number
+pub record IsOpen (w : World) (client number : ℕ) (file : Descriptor) : Type 0 where
+  pub caller : ClientRecord
+  pub there : get (shown w).clients client ≡ Some caller
+  pub holds : get caller.descriptors number ≡ Some file
+
+-- the call is on a descriptor that the client has, of a file that doesn't lie in the slot
+pub record IsAstrayOn (b : Book) (client : ℕ) (call : Call) (slot : ℕ) : Type 0 where
+  pub number : ℕ
+  pub file : Descriptor
+  pub on : descriptor_of call ≡ Some number
+  pub is_open : IsOpen b.world client number file
+  pub elsewhere : inode_in b slot ≢ file.inode
+
+-- The call comes back: its step isn't enabled, or another slot was lent than the file's
+abbrev pub ComesBack : Book → ℕ → Call → ℕ → Unmade → Type 0
+ComesBack b client call slot (unmade.NotNow back) =
+    (back ≡ call) × (advance b.world (world.FdCommit client call) ≡ (world.NotNow, b.world))
+ComesBack b client call slot (unmade.Astray back) = (back ≡ call) × IsAstrayOn b client call slot
+
+-- The node that lay in the slot is gone, and the slot is the last of the free ones
+pub record FreesSlot (b b' : Book) (slot : ℕ) : Type 0 where
+  pub gone : kind_of (shown b'.world) (inode_in b slot) ≡ None
+  pub inodes : b'.inodes ≡ without_inode b.inodes (inode_in b slot)
+  pub free : b'.free ≡ b.free ++ slot ∷ []
+  pub spares : b'.spares ≡ b.spares
+
+-- Beside the world nothing changes, unless a close lets the node go that lies in the slot
+abbrev pub LeavesSlot : Call → ℕ → Book → Book → Type 0
+LeavesSlot call slot b b' =
+    (b' ≡ record b { world = b'.world }) ⊎ ((number : ℕ) × (call ≡ Close number) × FreesSlot b b' slot)

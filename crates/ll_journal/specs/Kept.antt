@@ -1,17 +1,16 @@
 -- What the journal keeps beside the history, and how it is tied to the shown state. No public contract cites it. own
-use Rattle.std.specs.Prelude.{◌≡◌, ◌≢◌, ℕ, zero, suc, ◌+◌, ◌≤◌, List, [], ◌∷◌, ◌++◌, map, length, Option, Some, None, option_map, slice_get, ⊤}
-use Rattle.std.specs.List.{AllByRecursion}
+use Rattle.std.specs.Prelude.{◌≡◌, ℕ, zero, suc, ◌+◌, ◌≤◌, List, [], ◌∷◌, map, length, Option, None, option_map, slice_get}
 use Rattle.std.specs.Option.{option_map_or}
 use Rattle.std.specs.Ordering.{nat_cmp}
-use Rattle.ll_rights.specs.declared.limits.TheConstants.{TREE_CLIENTS}
-use Rattle.ll_rights.specs.Map.{Map, empty, get, insert, len, has}
+use Rattle.ll_rights.specs.declared.limits.TheConstants.{HISTORY_ENTRIES, TREE_CLIENTS}
+use Rattle.ll_rights.specs.Map.{Map, empty, get, insert}
+use Rattle.ll_inodes.specs.InodeTable.{IsTable}
 use Rattle.ll_seq.specs.State.{State}
-use Rattle.ll_seq.specs.Facts.{AreKept}
 use Rattle.ll_journal.specs.declared.journal.Journal.TheInside.{Inside}
 use Rattle.ll_walks.specs.Walk.{Walk}
 use Rattle.ll_walks.specs.World.{World, shown}
 use Rattle.ll_walks.specs.Sound.{IsSound}
-use Rattle.ll_journal.specs.Book.{Seat, Book, NotIn}
+use Rattle.ll_journal.specs.Book.{Seat, Book}
 
 -- the walks that are under way; the first seat is that of the client of this number
 abbrev pub walks_from : ℕ → List Seat → Map nat_cmp Walk
@@ -35,44 +34,27 @@ world_of j = record {
   gate = j.gate;
 }
 
+-- the slots that are kept for what clients make
+abbrev pub spares_of : List Seat → List ℕ
+spares_of seats = map (λ (seat : Seat). seat.spare) seats
+
 abbrev pub book_of : Inside → Book
 book_of j = record {
   world = world_of j;
-  inodes = j.inodes.items;
-  free = j.free.items;
-  spares = map (λ (seat : Seat). seat.spare) j.seats.items;
+  inodes = j.table.inodes;
+  free = j.table.free;
+  spares = spares_of j.seats.items;
 }
 
 -- each client of the tree has its seat, and no other number has one
 abbrev pub AreSeated : State → List Seat → Type 0
 AreSeated s seats = (number : ℕ) → get s.clients number ≡ option_map (λ (seat : Seat). seat.client) (seat_at seats number)
 
--- the places tell of each inode that lies in a slot which one that is, and of no other number any
-pub record ArePlaced (inodes : List ℕ) (places : Map nat_cmp ℕ) : Type 0 where
-  pub lies :
-      (slot inode : ℕ) → slice_get inodes slot ≡ Some inode → inode ≢ 0 → get places inode ≡ Some slot
-  pub there :
-      (inode slot : ℕ) → get places inode ≡ Some slot → (slice_get inodes slot ≡ Some inode) × (inode ≢ 0)
-
--- nothing lies in the slot
-abbrev pub IsVacant : List ℕ → ℕ → Type 0
-IsVacant inodes slot = slice_get inodes slot ≡ Some 0
-
--- no slot is there twice
-abbrev pub AreDistinct : List ℕ → Type 0
-AreDistinct [] = ⊤
-AreDistinct (k ∷ ks) = NotIn k ks × AreDistinct ks
-
+-- The table of inodes is that of the shown state. Each entry makes one node at most
 pub record IsKept (j : Inside) : Type 0 where
   pub sound : IsSound (world_of j)
-  pub facts : AreKept (shown (world_of j)) j.facts
   pub seated : AreSeated (shown (world_of j)) j.seats.items
-  pub placed : ArePlaced j.inodes.items j.places
-  pub living : (inode : ℕ) → has j.places inode ≡ has (shown (world_of j)).nodes inode
-  pub slots : length j.inodes.items ≡ j.room + TREE_CLIENTS
-  pub free : AllByRecursion (IsVacant j.inodes.items) j.free.items
-  pub spares : AllByRecursion (λ (seat : Seat). IsVacant j.inodes.items seat.spare) j.seats.items
-  pub distinct : AreDistinct (j.free.items ++ map (λ (seat : Seat). seat.spare) j.seats.items)
-  -- each node that lives, each client and each free slot counts for one slot
-  pub count : length j.free.items + length j.seats.items + len (shown (world_of j)).nodes ≡ j.room + TREE_CLIENTS
-  pub few : len (shown (world_of j)).nodes ≤ j.room
+  pub table : IsTable (shown (world_of j)) (spares_of j.seats.items) j.table
+  pub crowd : length j.seats.items ≤ TREE_CLIENTS
+  pub numbers : j.table.next ≤ length j.history.entries + 2
+  pub small : j.history.limit ≤ HISTORY_ENTRIES

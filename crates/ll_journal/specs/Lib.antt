@@ -6,4 +6,9 @@ pub mod Own
 pub mod SeatCodes
 pub mod Seated
 pub mod Looks
+pub mod WalkEnds
+pub mod Stopped
+pub mod Performed
 pub mod Kept
+pub mod Files
+pub mod Decidings

@@ -1,7 +1,6 @@
 -- A client's calls for itself alone. No public contract cites it. own
 use Rattle.std.specs.Prelude.{◌≡◌, ◌⊎◌, ℕ, ◌+◌, ◌<◌, ◌≤◌, true, false, List, [], ◌∷◌, ◌++◌, length, Option, Some, None, slice_get}
-use Rattle.std.specs.Ordering.{nat_cmp}
-use Rattle.ll_rights.specs.Map.{Map, get, has}
+use Rattle.ll_rights.specs.Map.{get, has}
 use Rattle.ll_seq.specs.declared.call.Call.{Call}
 use Rattle.ll_seq.specs.declared.call.Call.TheVariants as call
 use Rattle.ll_seq.specs.declared.client.ClientRecord.{ClientRecord}
@@ -12,7 +11,7 @@ use Rattle.ll_seq.specs.declared.reply.Reply.TheVariants as replies
 use Rattle.ll_seq.specs.State.{State}
 use Rattle.ll_seq.specs.Effects.{with_client, child_of}
 use Rattle.ll_seq.specs.Facts.{AreKept}
-use Rattle.ll_seq.specs.declared.facts.Fact.{Fact}
+use Rattle.ll_inodes.specs.InodeTable.{Table}
 use Rattle.ll_seq.specs.declared.rules.Rules.{Rules}
 use Rattle.ll_seq.specs.Step.{step}
 use Rattle.ll_walks.specs.World.{is_alone, early_refusals}
@@ -42,23 +41,21 @@ Comes abi c asked reply after =
 
 -- the child of the client at the place has the last seat, and the last of the free slots; its descriptors are counted
 pub record Spawns
-    (rules : Rules) (place : ℕ) (seats : List Seat) (free : List ℕ) (facts : Map nat_cmp Fact) (number : ℕ)
-    (seats' : List Seat) (free' : List ℕ) (facts' : Map nat_cmp Fact) : Type 0 where
+    (rules : Rules) (place : ℕ) (seats : List Seat) (table : Table) (number : ℕ) (seats' : List Seat) (table' : Table) : Type 0 where
   pub parent : Seat
   pub there : slice_get seats place ≡ Some parent
   pub numbered : number ≡ length seats + 1
   pub spare : ℕ
-  pub free-is : free ≡ free' ++ spare ∷ []
+  pub free-is : table.free ≡ table'.free ++ spare ∷ []
   pub seats-are : seats' ≡ seats ++ record { client = child_of rules parent.client; spare = spare; walk = None } ∷ []
   pub facts-are :
-      (s : State) (client : ℕ) → AreKept s facts → s.rules ≡ rules → get s.clients client ≡ Some parent.client
-      → has s.clients number ≡ false → AreKept (with_client s number (child_of rules parent.client)) facts'
+      (s : State) (client : ℕ) → AreKept s table.facts → s.rules ≡ rules → get s.clients client ≡ Some parent.client
+      → has s.clients number ≡ false → AreKept (with_client s number (child_of rules parent.client)) table'.facts
+  pub rest-is : table' ≡ record table { facts = table'.facts; free = table'.free }
 
 -- as many clients as may be, or one more
-abbrev pub SpawnTells :
-    Rules → ℕ → List Seat → List ℕ → Map nat_cmp Fact → List Seat → List ℕ → Map nat_cmp Fact → Reply → Type 0
-SpawnTells rules place seats free facts seats' free' facts' reply =
-    ((TREE_CLIENTS ≤ length seats)
-    × (reply ≡ replies.Refused EMFILE) × (seats' ≡ seats) × (free' ≡ free) × (facts' ≡ facts))
+abbrev pub SpawnTells : Rules → ℕ → List Seat → Table → List Seat → Table → Reply → Type 0
+SpawnTells rules place seats table seats' table' reply =
+    ((TREE_CLIENTS ≤ length seats) × (reply ≡ replies.Refused EMFILE) × (seats' ≡ seats) × (table' ≡ table))
     ⊎ ((length seats < TREE_CLIENTS)
-    × (number : ℕ) × (reply ≡ replies.Spawned number) × Spawns rules place seats free facts number seats' free' facts')
+    × (number : ℕ) × (reply ≡ replies.Spawned number) × Spawns rules place seats table number seats' table')

@@ -1,5 +1,5 @@
 -- What a client's seat means. No public contract cites it. own
-use Rattle.std.specs.Prelude.{◌≡◌, ℕ, ◌+◌, ◌-◌, ◌<◌, ◌≤◌, List, [], ◌∷◌, map, length, take, drop, slice_get, slice_index_or, false, Option, Some, None, option_map, option_and_then, unwrap_or, if◌then◌else◌, IfSome, vec_capacity, ⊤}
+use Rattle.std.specs.Prelude.{◌≡◌, ℕ, Bool, ◌+◌, ◌-◌, ◌<◌, ◌≤◌, List, [], ◌∷◌, map, length, take, drop, slice_get, slice_index_or, false, Option, Some, None, option_map, option_and_then, unwrap_or, if◌then◌else◌, IfSome, vec_capacity, ⊤}
 use Rattle.std.specs.Option.{option_map_or}
 use Rattle.ll_rights.specs.declared.limits.TheConstants.{PATH_NAMES}
 use Rattle.ll_path.specs.Name.{same_name}
@@ -9,7 +9,8 @@ use Rattle.ll_rules.specs.Layer.{Layer, grants_on}
 use Rattle.ll_seq.specs.declared.call.Call.{Call}
 use Rattle.ll_seq.specs.Call.{first_path, second_path}
 use Rattle.ll_seq.specs.State.{Name}
-use Rattle.ll_walks.specs.Walk.{Leg, Position, Above, Down, Split, Mask, Walk, rights_where, trunk_path, leg_below, turn, with_turn, first_leg, forked}
+use Rattle.ll_walks.specs.Walk.{Leg, Position, Above, Down, Split, Mask, Walk, rights_where, trunk_path, leg_below, turn, with_turn, at_ends, first_leg, forked}
+use Rattle.ll_walks.specs.Commits.{first_end, second_end}
 use Rattle.ll_journal.specs.declared.seat.Leg as kept
 use Rattle.ll_journal.specs.declared.seat.Legs.{Legs}
 use Rattle.ll_journal.specs.declared.seat.Stage.{Stage}
@@ -146,3 +147,22 @@ split walk = record walk { at = unwrap_or (forked walk.call walk.at) walk.at }
 
 abbrev pub again : Walk → Walk
 again walk = record walk { starts = walk.starts + 1; stale = false; at = Above }
+
+-- ---- What a commit asks of a seat
+
+-- the call whose walk is under way
+abbrev pub call_in : book.Seat → Option Call
+call_in seat = option_map (λ (walk : Walk). walk.call) seat.walk
+
+-- each branch of the walk is at its end
+abbrev pub is_at_ends : book.Seat → Bool
+is_at_ends seat = option_map_or (λ (walk : Walk). at_ends walk.call walk.at) seat.walk false
+
+-- where the legs of the call's first and second path stand
+abbrev pub first_here_in : book.Seat → Option ℕ
+first_here_in seat =
+    option_and_then (λ (walk : Walk). option_map (λ (leg : Leg). leg.here) (first_end walk.at)) seat.walk
+
+abbrev pub second_here_in : book.Seat → Option ℕ
+second_here_in seat =
+    option_and_then (λ (walk : Walk). option_map (λ (leg : Leg). leg.here) (second_end walk.at)) seat.walk

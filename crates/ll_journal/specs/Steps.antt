@@ -1,12 +1,11 @@
 -- What a step of the journal does, and where other slots were lent than it names. own
-use Rattle.std.specs.Prelude.{◌≡◌, ◌≢◌, ℕ, Bool, true, false, not, ◌==◌, List, map, Option, Some, None, option_and_then, if◌then◌else◌}
+use Rattle.std.specs.Prelude.{◌≡◌, ◌≢◌, ℕ, Bool, true, false, not, List, map, Option, Some, option_and_then}
 use Rattle.std.specs.Option.{option_map_or}
 use Rattle.ll_rights.specs.Map.{get}
 use Rattle.ll_seq.specs.State.{root}
 use Rattle.ll_walks.specs.Walk.{Walk, Leg, is_in, further, turn, marks, is_above}
 use Rattle.ll_walks.specs.World as world
 use Rattle.ll_walks.specs.World.{World, Step, advance, shown, domain_of}
-use Rattle.ll_journal.specs.declared.held.Held.{Held}
 use Rattle.ll_journal.specs.declared.outcome.Outcome.{Outcome}
 use Rattle.ll_journal.specs.declared.outcome.Outcome.TheVariants as outcome
 use Rattle.ll_journal.specs.Book.{Book, inode_in}
@@ -48,14 +47,6 @@ abbrev pub IsAstrayAt : Book → ℕ → List ℕ → Type 0
 IsAstrayAt b number slots =
     (walk : Walk) × (get b.world.walks number ≡ Some walk) × (walk.stale ≡ true)
     × ¬ ((inode : ℕ) → marks walk inode ≡ true → is_in (map (inode_in b) slots) inode ≡ true)
-
--- without the client's mark
-abbrev pub unmarked : ℕ → Held → Held
-unmarked number held = record held {
-  node = record held.node {
-    mark = option_and_then (λ holder. if holder == number then None else Some holder) held.node.mark;
-  };
-}
 
 -- the client's leg in turn stands in the one slot's directory, and would go to that of the other slot
 pub record IsNext (b : Book) (number from to : ℕ) : Type 0 where

@@ -7,12 +7,9 @@ ghost use Rattle.ll_seq.specs.declared.reply.Reply.TheVariants as replies;
 ghost use Rattle.ll_journal.specs.Own.{Asks, IsOwn, Comes};
 
 use ll_answer::refused_early;
-use ll_rights::limits::DATA_BYTES;
 use ll_rights::{Abi, Access, Errno};
 use ll_seq::{Call, ClientRecord, Reply};
 use std::alloc::{AllocError, Global};
-
-const MOST_READ: u64 = DATA_BYTES as u64;
 
 /// A call on the client's record.
 #[derive(Clone, Copy, Debug, PartialEq, Eq)]
@@ -42,15 +39,16 @@ fn refused(refusal: Option<Errno>) -> Option<Own>
     }
 }
 
-/// On a descriptor: refused so where the client hasn't it.
-fn unheld(caller: &ClientRecord, number: u64, errno: Errno) -> Option<Errno>
-    ensures { result ≡ (if has caller.now.descriptors number then None else Some errno) }
+/// Of a call on a descriptor: refused early where the client hasn't it, and else not for the client alone.
+fn unheld(caller: &ClientRecord, call: &Call, number: u64) -> Option<Own>
+    ensures { result ≡ (if has caller.now.descriptors number then None
+        else option_map (λ errno. Own.OnRecord (RecordCall.Refused errno))
+        (slice_get (world.early_refusals caller.now call.now) 0)) }
 {
     if caller.descriptors.has(number) {
-        None
-    } else {
-        Some(errno)
+        return None;
     }
+    refused(refused_early(caller, call))
 }
 
 /// What the call asks, if it is one for the client alone.
@@ -62,13 +60,10 @@ pub(crate) fn asked_of(caller: &ClientRecord, call: &Call) -> Option<Own>
         Call::Confine(number) => Some(Own::OnRecord(RecordCall::Confine(*number))),
         Call::Spawn => Some(Own::Spawn),
         Call::Connect => None,
-        Call::Read(number, _, count) if MOST_READ < *count => {
-            refused(unheld(caller, *number, Errno::EINVAL))
-        }
-        Call::Read(number, _, _) => refused(unheld(caller, *number, Errno::EBADF)),
-        Call::Write(number, _, _) => refused(unheld(caller, *number, Errno::EBADF)),
-        Call::Ftruncate(number, _) => refused(unheld(caller, *number, Errno::EBADF)),
-        Call::Close(number) => refused(unheld(caller, *number, Errno::EBADF)),
+        Call::Read(number, _, _) => unheld(caller, call, *number),
+        Call::Write(number, _, _) => unheld(caller, call, *number),
+        Call::Ftruncate(number, _) => unheld(caller, call, *number),
+        Call::Close(number) => unheld(caller, call, *number),
         Call::Make(..) => refused(refused_early(caller, call)),
         Call::Open(..) => refused(refused_early(caller, call)),
         Call::Truncate(..) => refused(refused_early(caller, call)),
@@ -86,7 +81,7 @@ pub(crate) fn asked_of(caller: &ClientRecord, call: &Call) -> Option<Own>
 }
 
 /// The reply, unless memory ran out.
-fn refusal(errno: Errno) -> Result<Reply, AllocError>
+pub(crate) fn refusal(errno: Errno) -> Result<Reply, AllocError>
     ensures { IfOk result (λ reply. (errno ≢ Errno.NoMemory) × (reply ≡ replies.Refused errno)) }
 {
     if errno == Errno::NoMemory {

@@ -9,9 +9,10 @@ ghost use Rattle.ll_rights.specs.declared.limits.TheConstants.{TREE_CLIENTS};
 use crate::alone::Own;
 use crate::journal::{Journal, place_of};
 use crate::seat::Seat;
+use ll_inodes::Inodes;
 use ll_rights::Errno;
 use ll_rights::limits::TREE_CLIENTS;
-use ll_seq::{Call, ClientRecord, Entry, Fact, History, NumberMap, Reply, Rules};
+use ll_seq::{Call, ClientRecord, Entry, History, Reply, Rules};
 use std::alloc::{AllocError, Global};
 
 /// What comes of a call that doesn't walk.
@@ -28,73 +29,77 @@ pub enum Answer {
 /// The client gets the next number, and a seat; the last of the free slots is its spare.
 fn seat_client(
     seats: &mut Vec<Seat>,
-    free: &mut Vec<u64>,
+    table: &mut Inodes,
     alloc: Global,
     client: ClientRecord,
 ) -> Result<u64, AllocError>
-    requires { 0 < length free.old.items }
+    requires { 0 < length table.old.free }
     ensures number { IfOk result (λ number. number ≡ length seats.old.items + 1) }
-    ensures ok { OnOk result ((spare : ℕ) × (free.old.items ≡ free.new.items ++ spare ∷ [])
+    ensures ok { OnOk result ((spare : ℕ) × (table.old.free ≡ table.new.free ++ spare ∷ [])
         × (seats.new.items ≡ seats.old.items ++ record { client = client; spare = spare; walk = None } ∷ [])) }
-    ensures err { OnErr result ((seats.new.items ≡ seats.old.items) × (free.new.items ≡ free.old.items)) }
+    ensures rest { table.new ≡ record table.old { free = table.new.free } }
+    ensures err { OnErr result ((seats.new.items ≡ seats.old.items) × (table.new ≡ table.old)) }
 {
-    let spare = free[free.len() - 1];
+    let spare = table.last_free();
     let seat = Seat::new(alloc, client, spare)?;
     seats.push(seat)?;
-    free.pop();
+    table.take_free();
     Ok(seats.len() as u64)
 }
 
 /// The client at the place spawns one; its number. Errors: memory ran out, and nothing has changed.
 fn spawn(
     seats: &mut Vec<Seat>,
-    free: &mut Vec<u64>,
-    facts: &mut NumberMap<Fact>,
+    table: &mut Inodes,
     alloc: Global,
     rules: Rules,
     place: usize,
 ) -> Result<u64, AllocError>
     requires place { place < length seats.old.items }
-    requires free { 0 < length free.old.items }
+    requires free { 0 < length table.old.free }
     ensures ok { IfOk result (λ number. Spawns rules place
-        seats.old.items free.old.items facts.old number seats.new.items free.new.items facts.new) }
+        seats.old.items table.old number seats.new.items table.new) }
     ensures err { OnErr result
-        ((seats.new.items ≡ seats.old.items) × (free.new.items ≡ free.old.items) × (facts.new ≡ facts.old)) }
+        ((seats.new.items ≡ seats.old.items) × (table.new ≡ table.old)) }
 {
     let child = seats[place].child(alloc, rules)?;
-    if !facts.have_room(&child.descriptors) {
+    if !table.have_room(&child.descriptors) {
         return Err(AllocError);
     }
-    let number = seat_client(seats, free, alloc, child)?;
-    facts.open_all(seats[seats.len() - 1].descriptors());
+    let number = seat_client(seats, table, alloc, child)?;
+    table.open_all(seats[seats.len() - 1].descriptors());
     Ok(number)
 }
 
 /// What spawning is answered. Errors: memory ran out, and nothing has changed.
 fn answer_spawn(
     seats: &mut Vec<Seat>,
-    free: &mut Vec<u64>,
-    facts: &mut NumberMap<Fact>,
+    table: &mut Inodes,
     alloc: Global,
     rules: Rules,
     place: usize,
 ) -> Result<Reply, AllocError>
     requires place { place < length seats.old.items }
-    requires free { length seats.old.items < TREE_CLIENTS → 0 < length free.old.items }
+    requires free { length seats.old.items < TREE_CLIENTS → 0 < length table.old.free }
     ensures ok { IfOk result (SpawnTells rules place
-        seats.old.items free.old.items facts.old seats.new.items free.new.items facts.new) }
+        seats.old.items table.old seats.new.items table.new) }
     ensures err { OnErr result
-        ((seats.new.items ≡ seats.old.items) × (free.new.items ≡ free.old.items) × (facts.new ≡ facts.old)) }
+        ((seats.new.items ≡ seats.old.items) × (table.new ≡ table.old)) }
 {
     if TREE_CLIENTS <= seats.len() {
         return Ok(Reply::Refused(Errno::EMFILE));
     }
-    let number = spawn(seats, free, facts, alloc, rules, place)?;
+    let number = spawn(seats, table, alloc, rules, place)?;
     Ok(Reply::Spawned(number))
 }
 
 /// The call and its reply become the last entry, unless memory ran out.
-fn enter(history: &mut History, client: u64, call: Call, told: Result<Reply, AllocError>) -> Answer
+pub(crate) fn enter(
+    history: &mut History,
+    client: u64,
+    call: Call,
+    told: Result<Reply, AllocError>,
+) -> Answer
     requires { length history.old.entries < history.old.limit }
     ensures ok { IfOk told (λ reply. (result ≡ Answer.Replied)
         × (history.new ≡ record history.old {
@@ -147,7 +152,7 @@ impl Journal {
             return Err(Errno::EMFILE);
         }
         let client = ClientRecord::new(self.alloc);
-        let Ok(number) = seat_client(&mut self.seats, &mut self.free, self.alloc, client) else {
+        let Ok(number) = seat_client(&mut self.seats, &mut self.table, self.alloc, client) else {
             return Err(Errno::NoMemory);
         };
         self.history.push(Entry {
@@ -182,8 +187,8 @@ impl Journal {
         let (alloc, rules) = (self.alloc, self.rules);
         match own {
             Own::Spawn => {
-                let (seats, free) = (&mut self.seats, &mut self.free);
-                let told = answer_spawn(seats, free, &mut self.facts, alloc, rules, place);
+                let (seats, table) = (&mut self.seats, &mut self.table);
+                let told = answer_spawn(seats, table, alloc, rules, place);
                 Ok(enter(&mut self.history, client, call, told))
             }
             Own::OnRecord(asked) => {

@@ -7,17 +7,18 @@ ghost use Rattle.std.specs.Option.{option_map_or};
 ghost use Rattle.ll_seq.specs.State.{root};
 ghost use Rattle.ll_walks.specs.Walk.{Walk, forked, marks};
 ghost use Rattle.ll_journal.specs.Looks.{goes_on};
-ghost use Rattle.ll_journal.specs.Steps.{unmarked};
+ghost use Rattle.ll_held.specs.Lent.{unmarked};
 ghost use Rattle.ll_journal.specs.Kept.{seat_at};
 
-use crate::held::Held;
 use crate::look::{Look, directory_below, look_again, look_at_root, look_down};
 use crate::outcome::Outcome;
 use crate::place::Place;
 use crate::seat::Seat;
 use crate::walked::{is_free, next_gate};
+use ll_held::Held;
+use ll_inodes::Inodes;
 use ll_rights::limits::TREE_CLIENTS;
-use ll_seq::{Call, Fact, History, NumberMap, Rules};
+use ll_seq::{Call, History, Rules};
 use std::alloc::{AllocError, Global};
 use std::marker::Model;
 
@@ -33,12 +34,7 @@ pub struct Journal {
     pub(crate) history: History,
     pub(crate) seats: Vec<Seat>,
     pub(crate) gate: Option<u64>,
-    // the counts of each node
-    pub(crate) facts: NumberMap<Fact>,
-    pub(crate) inodes: Vec<u64>,
-    // the slot of each inode
-    pub(crate) places: NumberMap<u64>,
-    pub(crate) free: Vec<u64>,
+    pub(crate) table: Inodes,
 }
 
 impl Model for Journal {
@@ -54,33 +50,6 @@ impl Model for Journal {
     ghost view = { book_of };
 
     ghost invariant = { IsKept };
-}
-
-#[tactic(auto, using(crate::proofs::Opened::vacant_more))]
-/// The root in the first slot, and nothing in so many others.
-fn inodes(alloc: Global, others: usize) -> Result<Vec<u64>, AllocError>
-    requires { others < TREE_NODES + TREE_CLIENTS }
-    ensures { IfOk result (λ inodes. inodes.items ≡ root ∷ replicate others 0) }
-{
-    let mut inodes = Vec::with_capacity(alloc, others + 1)?;
-    inodes.push(ROOT)?;
-    for _ in 0..others {
-        inodes.push(0)?;
-    }
-    Ok(inodes)
-}
-
-#[tactic(auto, using(crate::proofs::Opened::one_more))]
-/// So many slots, all but the first.
-fn free(alloc: Global, others: usize) -> Result<Vec<u64>, AllocError>
-    requires { others < TREE_NODES + TREE_CLIENTS }
-    ensures { IfOk result (λ free. free.items ≡ range_with_len 1 others) }
-{
-    let mut free = Vec::with_capacity(alloc, others)?;
-    for slot in 0..others {
-        free.push(slot as u64 + 1)?;
-    }
-    Ok(free)
 }
 
 /// The place of the seat of the client of this number.
@@ -157,8 +126,6 @@ impl Journal {
         requires entries { history ≤ HISTORY_ENTRIES }
         ensures { IfOk result (λ journal. journal ≡ new_book rules nodes history) }
     {
-        let mut places = NumberMap::new(alloc);
-        places.insert(ROOT, 0)?;
         Ok(Journal {
             alloc,
             rules,
@@ -166,10 +133,7 @@ impl Journal {
             history: History::new(alloc, history)?,
             seats: Vec::with_capacity(alloc, TREE_CLIENTS)?,
             gate: None,
-            facts: NumberMap::of_root(alloc)?,
-            inodes: inodes(alloc, nodes + TREE_CLIENTS - 1)?,
-            places,
-            free: free(alloc, nodes + TREE_CLIENTS - 1)?,
+            table: Inodes::new(alloc, nodes)?,
         })
     }
 
@@ -244,7 +208,7 @@ impl Journal {
         let Some(place) = place_of(&self.seats, client) else {
             return Outcome::NotNow;
         };
-        match look_down(&self.facts, &self.seats[place], from, to) {
+        match look_down(&self.table, &self.seats[place], from, to) {
             Look::NotNow => return Outcome::NotNow,
             Look::Astray => return Outcome::Astray,
             Look::Go => {}
@@ -277,10 +241,10 @@ impl Journal {
         let Some(place) = place_of(&self.seats, client) else {
             return None;
         };
-        let Some(inode) = directory_below(&self.facts, &self.seats[place], here) else {
+        let Some(inode) = directory_below(&self.table, &self.seats[place], here) else {
             return None;
         };
-        self.places.get(inode).copied()
+        self.table.slot(inode)
     }
 
     /// The client's walk leaves what is common to both paths. Takes no memory and no slot.

@@ -2,18 +2,25 @@
 #![tactic(auto)]
 
 mod alone;
+mod commit;
+mod decided;
 mod direct;
-mod held;
+mod ending;
+mod files;
+mod found;
 mod journal;
 mod look;
+mod open_file;
 mod outcome;
+mod perform;
 mod place;
 mod seat;
+mod stop;
 mod walked;
 mod way;
 
 pub use direct::Answer;
-pub use held::Held;
 pub use journal::Journal;
-pub use outcome::Outcome;
+pub use open_file::Unmade;
+pub use outcome::{Ending, Outcome};
 pub use place::Place;

@@ -5,9 +5,9 @@ ghost use Rattle.std.specs.Option.{option_map_or};
 ghost use Rattle.ll_journal.specs.Looks as looks;
 ghost use Rattle.ll_journal.specs.Seated.{next_in};
 
-use crate::held::Held;
 use crate::seat::Seat;
-use ll_seq::{Fact, NumberMap};
+use ll_held::Held;
+use ll_inodes::Inodes;
 
 const ROOT: u64 = 1;
 
@@ -46,23 +46,23 @@ pub(crate) fn look_at_root(seat: &Seat, gate: Option<u64>, client: u64, root: &H
     }
 }
 
-fn is_directory(facts: &NumberMap<Fact>, inode: u64) -> bool
-    ensures { result ≡ looks.is_directory facts.now inode }
+fn is_directory(table: &Inodes, inode: u64) -> bool
+    ensures { result ≡ looks.is_directory table.now.facts inode }
 {
-    match facts.get(inode) {
+    match table.fact(inode) {
         None => false,
         Some(fact) => fact.kind.is_dir(),
     }
 }
 
 /// Of a descent to what the name names.
-fn look_into(facts: &NumberMap<Fact>, found: Option<u64>, to: &Held) -> Look
-    ensures { result ≡ looks.look_into facts.now found to.now }
+fn look_into(table: &Inodes, found: Option<u64>, to: &Held) -> Look
+    ensures { result ≡ looks.look_into table.now.facts found to.now }
 {
     let Some(inode) = found else {
         return Look::NotNow;
     };
-    if !is_directory(facts, inode) {
+    if !is_directory(table, inode) {
         return Look::NotNow;
     }
     if to.inode != inode {
@@ -75,24 +75,24 @@ fn look_into(facts: &NumberMap<Fact>, found: Option<u64>, to: &Held) -> Look
     }
 }
 
-fn look_for(facts: &NumberMap<Fact>, seat: &Seat, from: &Held, to: &Held) -> Look
-    ensures { result ≡ looks.look_for facts.now (next_in seat.now) from.now to.now }
+fn look_for(table: &Inodes, seat: &Seat, from: &Held, to: &Held) -> Look
+    ensures { result ≡ looks.look_for table.now.facts (next_in seat.now) from.now to.now }
 {
     match seat.next_name() {
         None => Look::NotNow,
-        Some(name) => look_into(facts, from.node.look_up(name), to),
+        Some(name) => look_into(table, from.node.look_up(name), to),
     }
 }
 
 /// Of a descent from one directory to the next.
-pub(crate) fn look_down(facts: &NumberMap<Fact>, seat: &Seat, from: &Held, to: &Held) -> Look
-    ensures { result ≡ looks.look_down facts.now seat.now from.now to.now }
+pub(crate) fn look_down(table: &Inodes, seat: &Seat, from: &Held, to: &Held) -> Look
+    ensures { result ≡ looks.look_down table.now.facts seat.now from.now to.now }
 {
     if !seat.goes_on() {
         return Look::NotNow;
     }
     match seat.here() {
-        Some(here) if here == from.inode => look_for(facts, seat, from, to),
+        Some(here) if here == from.inode => look_for(table, seat, from, to),
         _ => Look::Astray,
     }
 }
@@ -111,33 +111,33 @@ pub(crate) fn look_again(seat: &Seat, inodes: &[u64]) -> Look
     }
 }
 
-fn directory_at(facts: &NumberMap<Fact>, found: Option<u64>) -> Option<u64>
-    ensures { result ≡ looks.directory_at facts.now found }
+fn directory_at(table: &Inodes, found: Option<u64>) -> Option<u64>
+    ensures { result ≡ looks.directory_at table.now.facts found }
 {
     match found {
-        Some(inode) if is_directory(facts, inode) => Some(inode),
+        Some(inode) if is_directory(table, inode) => Some(inode),
         _ => None,
     }
 }
 
-fn directory_for(facts: &NumberMap<Fact>, seat: &Seat, from: &Held) -> Option<u64>
-    ensures { result ≡ looks.directory_for facts.now (next_in seat.now) from.now }
+fn directory_for(table: &Inodes, seat: &Seat, from: &Held) -> Option<u64>
+    ensures { result ≡ looks.directory_for table.now.facts (next_in seat.now) from.now }
 {
     match seat.next_name() {
         None => None,
-        Some(name) => directory_at(facts, from.node.look_up(name)),
+        Some(name) => directory_at(table, from.node.look_up(name)),
     }
 }
 
 /// The directory to which the walk would go down from here, if it stands here.
-pub(crate) fn directory_below(facts: &NumberMap<Fact>, seat: &Seat, from: &Held) -> Option<u64>
-    ensures { result ≡ looks.directory_below facts.now seat.now from.now }
+pub(crate) fn directory_below(table: &Inodes, seat: &Seat, from: &Held) -> Option<u64>
+    ensures { result ≡ looks.directory_below table.now.facts seat.now from.now }
 {
     if !seat.goes_on() {
         return None;
     }
     match seat.here() {
-        Some(here) if here == from.inode => directory_for(facts, seat, from),
+        Some(here) if here == from.inode => directory_for(table, seat, from),
         _ => None,
     }
 }

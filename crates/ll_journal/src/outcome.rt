@@ -12,3 +12,18 @@ pub enum Outcome {
     Forked,
     Restarted,
 }
+
+/// What comes of a commit.
+#[derive(Clone, Copy, Debug, PartialEq, Eq)]
+pub enum Ending {
+    /// The step isn't enabled.
+    NotNow,
+    /// Other slots were lent than the commit may need.
+    Astray,
+    /// The walk has ended, and the history's last entry has the reply.
+    Replied,
+    /// The walk has ended. The history takes no more entry, and nothing else has changed.
+    HistoryFull,
+    /// The walk has ended. Memory ran out, and nothing else has changed.
+    NoMemory,
+}

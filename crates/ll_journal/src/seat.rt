@@ -1,22 +1,35 @@
 //! Clients, each with its walk.
 
-ghost use Rattle.std.specs.Prelude.{◌≡◌, ◌&&◌, ◌||◌, ◌==◌, ◌<◌, ◌≤◌, not, false, true, length, [], ◌∷◌, ◌++◌, None, Some, is_none, is_some, if◌then◌else◌, IfOk, OnErr, IfSome, IfNone, IsSome, option_map};
+ghost use Rattle.std.specs.Prelude.{◌≡◌, ℕ, List, Option, is_ok, ◌&&◌, ◌||◌, ◌==◌, ◌<◌, ◌≤◌, not, false, true, length, [], ◌∷◌, ◌++◌, None, Some, is_none, is_some, if◌then◌else◌, IfOk, OnOk, OnErr, IfSome, IfNone, IsSome, option_map};
+ghost use Rattle.std.specs.List.{list_any};
 ghost use Rattle.std.specs.Option.{option_map_or};
+ghost use Rattle.ll_answer.specs.Effect.{with_rule_of};
+ghost use Rattle.ll_answer.specs.Lean.{spares_memory};
 ghost use Rattle.ll_decide.specs.Masks.{AreMasks};
+ghost use Rattle.ll_rights.specs.Map.{get, insert, remove};
 ghost use Rattle.ll_rights.specs.declared.limits.TheConstants.{PATH_NAMES};
+ghost use Rattle.ll_rules.specs.Rules.{rule_limit, rule_refusals};
 ghost use Rattle.ll_seq.specs.Effects.{child_of};
-ghost use Rattle.ll_seq.specs.State.{new_client, root};
+ghost use Rattle.ll_seq.specs.Stages.{ruleset_at};
+ghost use Rattle.ll_seq.specs.State.{State, new_client, root};
+ghost use Rattle.ll_walks.specs.Commits.{first_end, second_end};
 ghost use Rattle.ll_walks.specs.Walk as walks;
-ghost use Rattle.ll_walks.specs.World.{is_alone, is_walked};
+ghost use Rattle.ll_walks.specs.World.{is_alone, is_walked, overtaken};
+ghost use Rattle.ll_journal.specs.Looks as looks;
 ghost use Rattle.ll_journal.specs.Looks.{stands_among};
 ghost use Rattle.ll_journal.specs.WalkPlaces.{place_of};
+ghost use Rattle.ll_journal.specs.Performed.{IsAtEnd, Performs};
 ghost use Rattle.ll_journal.specs.Seated.{turn_at};
 
 use crate::alone::{Own, RecordCall, answer, asked_of};
+use crate::perform::perform;
 use crate::place::Place;
 use crate::walked::walks;
 use crate::way::{first_name, has_two_paths, know_ways, second_name, trunk_name};
+use ll_answer::{Found, Rule};
 use ll_decide::Masks;
+use ll_held::Held;
+use ll_inodes::Inodes;
 use ll_rights::Abi;
 use ll_rights::limits::PATH_NAMES;
 use ll_rules::Domain;
@@ -189,10 +202,17 @@ fn split_place(is_first_ended: bool, is_second_ended: bool) -> Place
     }
 }
 
-fn is_in(inodes: &[u64], inode: u64) -> bool
+pub(crate) fn is_in(inodes: &[u64], inode: u64) -> bool
     ensures { result ≡ walks.is_in inodes.now inode }
 {
     inodes.iter().any(|other| *other == inode)
+}
+
+/// Whether the inode lies in what is lent.
+pub(crate) fn is_lent(lent: &[Held], inode: u64) -> bool
+    ensures { result ≡ looks.lends lent.now inode }
+{
+    lent.iter().any(|held| held.inode == inode)
 }
 
 /// The branches of one walk.
@@ -217,9 +237,17 @@ impl Legs {
     }
 }
 
+/// A walk that has ended: its call, and what each layer grants where its branches stood. With one path both are the same.
+#[derive(Drop)]
+pub(crate) struct Ended {
+    pub call: Call,
+    pub first: Masks,
+    pub second: Masks,
+}
+
 impl Seat {
     ghost use Rattle.ll_journal.specs.Own.{Comes, IsOwn};
-    ghost use Rattle.ll_journal.specs.Seated.{again, entered, gone_down, here_in, next_in, split};
+    ghost use Rattle.ll_journal.specs.Seated.{again, call_in, entered, first_here_in, gone_down, here_in, is_at_ends, next_in, second_here_in, split};
 
     /// A client without a walk.
     pub(crate) fn new(alloc: Global, client: ClientRecord, spare: u64) -> Result<Seat, AllocError>
@@ -409,6 +437,24 @@ impl Seat {
         }
     }
 
+    /// Whether each directory where the walk stands is lent.
+    pub(crate) fn is_all_lent(&self, lent: &[Held]) -> bool
+        ensures { result ≡ looks.is_all_lent lent.now self.now }
+    {
+        if self.call.is_none() {
+            return true;
+        }
+        match self.stage {
+            Stage::Above => true,
+            Stage::Down => is_lent(lent, self.trunk.here()),
+            Stage::Split => {
+                is_lent(lent, self.trunk.here())
+                    && is_lent(lent, self.first.here())
+                    && is_lent(lent, self.second.here())
+            }
+        }
+    }
+
     /// The leg in turn takes its next name, which names this directory.
     pub(crate) fn descend(&mut self, inode: u64)
         requires { IsSome (next_in self.old) }
@@ -477,5 +523,199 @@ impl Seat {
         self.starts += 1;
         self.is_stale = false;
         self.stage = Stage::Above;
+    }
+
+    /// Whether each branch is at its end.
+    pub(crate) fn is_at_ends(&self) -> bool
+        ensures { result ≡ is_at_ends self.now }
+    {
+        let Some(call) = &self.call else {
+            return false;
+        };
+        match self.stage {
+            Stage::Above => false,
+            Stage::Down => !has_two_paths(call) && trunk_name(call, self.trunk.depth()).is_none(),
+            Stage::Split => {
+                first_name(call, self.first.depth()).is_none()
+                    && second_name(call, self.second.depth()).is_none()
+            }
+        }
+    }
+
+    /// The call whose walk is under way.
+    pub(crate) fn call(&self) -> Option<&Call>
+        ensures { option_map (λ call. call.now) result ≡ call_in self.now }
+    {
+        self.call.as_ref()
+    }
+
+    /// Where the leg of the call's first path stands.
+    pub(crate) fn first_here(&self) -> Option<u64>
+        ensures { result ≡ first_here_in self.now }
+    {
+        if self.call.is_none() {
+            return None;
+        }
+        match self.stage {
+            Stage::Above => None,
+            Stage::Down => Some(self.trunk.here()),
+            Stage::Split => Some(self.first.here()),
+        }
+    }
+
+    /// Where the leg of the call's second path stands.
+    pub(crate) fn second_here(&self) -> Option<u64>
+        ensures { result ≡ second_here_in self.now }
+    {
+        if self.call.is_none() {
+            return None;
+        }
+        match self.stage {
+            Stage::Above => None,
+            Stage::Down => Some(self.trunk.here()),
+            Stage::Split => Some(self.second.here()),
+        }
+    }
+
+    /// Whether the directory is on the walk's way from the root.
+    fn passes(&self, inode: u64) -> bool
+        ensures { result ≡ option_map_or (λ (walk : walks.Walk). walks.passes walk inode) self.now.walk false }
+    {
+        if self.call.is_none() {
+            return false;
+        }
+        match self.stage {
+            Stage::Above => false,
+            Stage::Down => is_in(&self.trunk.chain, inode),
+            Stage::Split => {
+                is_in(&self.trunk.chain, inode)
+                    || is_in(&self.first.chain, inode)
+                    || is_in(&self.second.chain, inode)
+            }
+        }
+    }
+
+    /// Whether one of these directories is on the walk's way.
+    fn passes_any(&self, inodes: &[u64]) -> bool
+        ensures { result ≡ list_any (λ inode. option_map_or (λ (walk : walks.Walk). walks.passes walk inode) self.now.walk false) inodes.now }
+    {
+        inodes.iter().any(|inode| self.passes(*inode))
+    }
+
+    /// A walk that passes one of these directories is stale.
+    pub(crate) fn overtake(&mut self, moved: &[u64])
+        ensures { self.new ≡ record self.old { walk = option_map (overtaken moved.now) self.old.walk } }
+    {
+        if self.passes_any(moved) {
+            self.is_stale = true;
+        }
+    }
+
+    /// The walk ends.
+    pub(crate) fn end(&mut self) -> Ended
+        requires { (walk : walks.Walk) × (self.old.walk ≡ Some walk) }
+        ensures call { (walk : walks.Walk) → self.old.walk ≡ Some walk → result.call ≡ walk.call }
+        ensures first { (walk : walks.Walk) (leg : walks.Leg) → self.old.walk ≡ Some walk → first_end walk.at ≡ Some leg
+            → AreMasks result.first self.old.client.domain leg.chain }
+        ensures second { (walk : walks.Walk) (leg : walks.Leg) → self.old.walk ≡ Some walk → second_end walk.at ≡ Some leg
+            → AreMasks result.second self.old.client.domain leg.chain }
+        ensures rest { self.new ≡ record self.old { walk = None } }
+    {
+        let (first, second) = match self.stage {
+            Stage::Split => (self.first.masks.copy(), self.second.masks.copy()),
+            _ => (self.trunk.masks.copy(), self.trunk.masks.copy()),
+        };
+        let Some(call) = self.call.take() else {
+            unreachable!()
+        };
+        Ended {
+            call,
+            first,
+            second,
+        }
+    }
+
+    /// The client's record.
+    pub(crate) fn client(&self) -> &ClientRecord
+        ensures { result.now ≡ self.now.client }
+    {
+        &self.client
+    }
+
+    /// The slot that is kept for what it makes.
+    pub(crate) fn spare(&self) -> u64
+        ensures { result ≡ self.now.spare }
+    {
+        self.spare
+    }
+
+    /// The slot that is kept for what it makes is another now.
+    pub(crate) fn set_spare(&mut self, spare: u64)
+        ensures { self.new ≡ record self.old { spare = spare } }
+    {
+        self.spare = spare;
+    }
+
+    /// The client has this file open under a number that was free. Errors: memory ran out, and nothing has changed.
+    pub(crate) fn open(&mut self, number: u64, file: Descriptor) -> Result<(), AllocError>
+        requires { get self.old.client.descriptors number ≡ None }
+        ensures ok { OnOk result (self.new ≡ record self.old {
+          client = record self.old.client { descriptors = insert self.old.client.descriptors number file };
+        }) }
+        ensures err { OnErr result (self.new ≡ self.old) }
+    {
+        self.client.descriptors.insert(number, file)
+    }
+
+    /// The client's descriptor of this number is free.
+    pub(crate) fn close(&mut self, number: u64)
+        ensures { self.new ≡ record self.old {
+          client = record self.old.client { descriptors = remove self.old.client.descriptors number };
+        } }
+    {
+        self.client.descriptors.remove(number);
+    }
+
+    /// The client's ruleset has this rule too, which nothing else refuses. Errors: memory ran out, and nothing has changed.
+    pub(crate) fn allow(&mut self, rule: &Rule) -> Result<(), AllocError>
+        requires number { rule.now.number < length self.old.client.rulesets }
+        requires free { rule_refusals (ruleset_at self.old.client rule.now.number) rule.now.kind rule.now.rights.0
+            ++ rule_limit (ruleset_at self.old.client rule.now.number) rule.now.inode ≡ [] }
+        ensures ok { OnOk result (self.new ≡ record self.old { client = with_rule_of self.old.client rule.now }) }
+        ensures err { OnErr result (self.new ≡ self.old) }
+    {
+        let rulesets = &mut self.client.rulesets;
+        if rulesets
+            .allow(rule.number, rule.inode, rule.kind, rule.rights)
+            .is_err()
+        {
+            return Err(AllocError);
+        }
+        Ok(())
+    }
+
+    /// The call of the client's walk, which has ended, is decided and made; the reply. Errors: memory ran out, and
+    /// nothing has changed.
+    pub(crate) fn perform(
+        &mut self,
+        alloc: Global,
+        table: &mut Inodes,
+        slots: &[u64],
+        lent: &mut [Held],
+        walk: &Ended,
+        found: &Found,
+    ) -> Result<Reply, AllocError>
+        requires idle { self.old.walk ≡ None }
+        requires end { (s : State) × (number : ℕ) × (marks : ℕ → Option ℕ) × (spares : List ℕ) × (place : ℕ)
+            × IsAtEnd s number marks spares place self.old.client self.old.spare table.old slots.now lent.old walk.now.call walk.now.first walk.now.second found.now }
+        ensures ok { IfOk result (λ reply. (s : State) (number : ℕ) (marks : ℕ → Option ℕ) (spares : List ℕ) (place : ℕ)
+            → IsAtEnd s number marks spares place self.old.client self.old.spare table.old slots.now lent.old walk.now.call walk.now.first walk.now.second found.now
+            → Performs s number marks spares place table.old slots.now walk.now.call reply self.new.client self.new.spare table.new lent.new) }
+        ensures rest { self.new.walk ≡ None }
+        ensures err { OnErr result ((self.new ≡ self.old) × (table.new ≡ table.old) × (lent.new ≡ lent.old)) }
+        ensures calm { spares_memory walk.now.call ≡ true → is_ok result ≡ true }
+    {
+        let (client, spare) = (&mut self.client, &mut self.spare);
+        perform(alloc, client, spare, table, slots, lent, walk, found)
     }
 }

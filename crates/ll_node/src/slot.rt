@@ -273,4 +273,13 @@ impl Slot {
         };
         Ok(())
     }
+
+    /// The node has no bytes. Takes no memory.
+    pub fn clear(&mut self)
+        ensures { self.new ≡ record self.old { bytes = [] } }
+    {
+        if let Held::Bytes(bytes) = &mut self.held {
+            bytes.clear();
+        }
+    }
 }

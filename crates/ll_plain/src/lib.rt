@@ -23,11 +23,9 @@ ghost use Rattle.ll_plain.specs.Outcomes.{ComesBy};
 ghost use Rattle.ll_plain.specs.Refusal.{is_refusal};
 
 use ll_rights::{Errno, Kind};
-use ll_seq::{Call, ClientRecord, Content, Dentries, Fact, Node, NumberMap, Reply, Rules};
+use ll_seq::{Call, ClientRecord, Content, Dentries, Fact, Node, NumberMap, ROOT, Reply, Rules};
 use std::alloc::{AllocError, Global};
 use std::marker::Model;
-
-const ROOT: u64 = 1;
 
 /// The tree as its definition reads: tables in plain order, every path walked from the root, and beside them what is
 /// counted of each node. Contracts see the state.

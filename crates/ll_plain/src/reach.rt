@@ -6,10 +6,11 @@ ghost use Rattle.ll_rules.specs.Layer as layers;
 ghost use Rattle.ll_seq.specs.Reach.{HasName, InReach};
 ghost use Rattle.ll_plain.specs.Reaching.{Found, Leads};
 
-use crate::{Plain, ROOT};
+use crate::Plain;
 use ll_decide::unrestricted;
 use ll_rights::Access;
 use ll_rules::{Domain, Layer};
+use ll_seq::ROOT;
 
 impl Plain {
     /// What the domain's layer of this number, the oldest being 1, grants on the inode by some name, of the rights

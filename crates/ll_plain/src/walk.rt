@@ -10,12 +10,13 @@ ghost use Rattle.ll_seq.specs.State.{child};
 ghost use Rattle.ll_seq.specs.Stages as stages;
 ghost use Rattle.ll_plain.specs.Walking.{IsWalk, IsPathWalk};
 
-use crate::{Plain, ROOT};
+use crate::Plain;
 use ll_answer::{Spot, There};
 use ll_decide::Masks;
 use ll_path::{Names, Path};
 use ll_rights::{Errno, Kind};
 use ll_rules::Domain;
+use ll_seq::ROOT;
 
 /// Where a walk along some names stands.
 #[derive(Drop)]

@@ -1,34 +1,15 @@
 -- What is written, part after part.
-use Rattle.std.proofs.Common.{◌≡◌, ℕ, ◌+◌, ◌-◌, ◌<◌, ◌≤◌, List, [], ◌++◌, length, take, drop, Option, None, Some, refl, sym, ap, ◌∙◌, append_assoc, subst, get_or, arith}
+use Rattle.std.proofs.Common.{◌≡◌, ℕ, ◌+◌, ◌<◌, ◌≤◌, List, [], ◌++◌, length, take, drop, Option, None, Some, refl, sym, ap, ◌∙◌, append_assoc, subst, get_or}
 use Rattle.std.specs.Io.KnownBytes.{Appends, Keeps}
 use Rattle.std.specs.List.{flat_map}
-use Rattle.std.proofs.lemmas.List.{append-nil, take_all, take_more, length-drop, take-append-drop, flat_map_more}
+use Rattle.std.proofs.lemmas.List.{append-nil, take_all, take_more, take-append-drop, flat_map_more}
 use Rattle.std.proofs.lemmas.Grind.{flat_map-append}
-use Rattle.ll_saved.specs.Writing.{AppendsFront}
-
-pub appends-more : (old mid new : Option (List ℕ)) (a b : List ℕ) → Appends old mid a → Appends mid new b → Appends old new (a ++ b)
-appends-more None mid new a b p q = tt
-appends-more (Some x) None new a b p q = absurd p
-appends-more (Some x) (Some y) None a b p q = absurd q
-appends-more (Some x) (Some y) (Some z) a b p q = q ∙ ap (λ (w : List ℕ). w ++ b) p ∙ append_assoc x a b
-
-pub appends-none : (old : Option (List ℕ)) → Appends old old []
-appends-none None = tt
-appends-none (Some x) = sym (append-nil x)
+use Rattle.ll_wire.specs.Writing.{AppendsFront}
+use Rattle.ll_wire.proofs.WrittenText.{appends-more, appends-none}
 
 pub keeps-same : (old : Option (List ℕ)) → Keeps old old
 keeps-same None = tt
 keeps-same (Some x) = refl
-
--- a write took n bytes of what was left to write
-pub took : (old mid new : Option (List ℕ)) (text front rest : List ℕ) (n : ℕ) → n ≤ length rest → text ≡ front ++ rest → Appends old mid front → Appends mid new (take n rest)
-    → (x : List ℕ) × (text ≡ x ++ take (length rest - n) (drop n rest)) × Appends old new x
-took old mid new text front rest n le e p q =
-    let whole : take (length rest - n) (drop n rest) ≡ drop n rest = take_all _ _ (omega (arith, length-drop n rest)) in
-    (front ++ take n rest, e ∙ rw whole (ap (λ (x : List ℕ). front ++ x) (sym (take-append-drop n rest)) ∙ sym (append_assoc front (take n rest) (drop n rest))), appends-more old mid new front (take n rest) p q)
-
-pub front-none : (old : Option (List ℕ)) (text : List ℕ) → AppendsFront old old text
-front-none old text = ([], text, refl, appends-none old)
 
 -- Of these items' lines, after the head, so many are told: what was written, and the text that waits
 pub record IsWaiting {A : Type 0} (head : List ℕ) (line : A → List ℕ) (items : List A) (done : ℕ) (old new : Option (List ℕ)) (text : List ℕ) : Type 0 where

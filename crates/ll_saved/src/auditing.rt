@@ -4,13 +4,13 @@ ghost use Rattle.std.specs.Prelude.{◌≡◌, ◌≢◌, IfSome, IfOk, IfErr, O
 ghost use Rattle.std.specs.Io.KnownBytes.{Appends, IsAtEnd, Keeps};
 ghost use Rattle.ll_wire.specs.Pieces.{pieces};
 ghost use Rattle.ll_saved.specs.Saved.{Judges, verdict_line};
-ghost use Rattle.ll_saved.specs.Writing.{AppendsFront};
+ghost use Rattle.ll_wire.specs.Writing.{AppendsFront};
 ghost use Rattle.ll_saved.specs.declared.verdict.Verdict as verdicts;
 
 use crate::judging::judge;
 use crate::progress::Progress;
 use crate::verdict::Verdict;
-use crate::writing::write_text;
+use ll_wire::write_whole;
 use std::alloc::Global;
 use std::io::{ErrorKind, Read, Write};
 use thiserror::Error;
@@ -55,7 +55,7 @@ fn write_verdict<W: Write>(
     let Ok(line) = verdict.text(alloc) else {
         return Err(AuditFailure::NoMemory);
     };
-    match write_text(writer, line.as_str()) {
+    match write_whole(writer, line.as_str()) {
         Ok(()) => Ok(()),
         Err(_) => Err(AuditFailure::Write),
     }

@@ -9,7 +9,6 @@ mod progress;
 mod reading;
 mod saving;
 mod verdict;
-mod writing;
 
 pub use auditing::{AuditFailure, run_audit};
 pub use judging::judge;

@@ -7,6 +7,7 @@ ghost use Rattle.ll_wire.specs.Entries.{SpellsEntry};
 ghost use Rattle.ll_wire.specs.Pieces.{pieces};
 ghost use Rattle.ll_wire.specs.declared.header.Header as headers;
 ghost use Rattle.ll_saved.specs.Saved.{IsFirstBad, Tell};
+ghost use Rattle.ll_saved.specs.declared.reading.ReadFault.{ReadFault};
 
 use crate::lines::cut;
 use ll_rights::Errno;
@@ -34,30 +35,36 @@ pub enum ReadFault {
     NoMemory,
 }
 
-impl Saved {
-    ghost use Rattle.ll_saved.specs.declared.reading.ReadFault.{ReadFault};
-
-    // Reads the entry of a line, which comes after the others.
-    fn take(&mut self, alloc: Global, line: &[u8]) -> Result<(), ReadFault>
-        ensures ok { OnOk result ((e : entries.Entry) × SpellsEntry line.now e
-            × (self.new.entries.items ≡ self.old.entries.items ++ e ∷ [])) }
-        ensures header { self.new.header ≡ self.old.header }
-        ensures bad { IfErr result (λ fault. (k : ℕ) → fault ≡ ReadFault.BadLine k
-            → (k ≡ length self.old.entries.items + 2) × ((e : entries.Entry) → SpellsEntry line.now e → ⊥)) }
-        ensures starved { IfErr result (λ fault. fault ≡ ReadFault.NoMemory
-            → (e : entries.Entry) × SpellsEntry line.now e) }
-    {
-        let entry = match read_entry(alloc, line) {
-            Ok(entry) => entry,
-            Err(Errno::BadLine) => return Err(ReadFault::BadLine(self.entries.len() + 2)),
-            Err(_) => return Err(ReadFault::NoMemory),
-        };
-        match self.entries.push(entry) {
-            Ok(()) => Ok(()),
-            Err(_) => Err(ReadFault::NoMemory),
-        }
+// The entry of a file's line of this number.
+fn entry_of(alloc: Global, line: &[u8], number: usize) -> Result<Entry, ReadFault>
+    ensures ok { IfOk result (λ e. SpellsEntry line.now e) }
+    ensures bad { IfErr result (λ fault. (k : ℕ) → fault ≡ ReadFault.BadLine k
+        → (k ≡ number) × ((e : entries.Entry) → SpellsEntry line.now e → ⊥)) }
+    ensures starved { IfErr result (λ fault. fault ≡ ReadFault.NoMemory → (e : entries.Entry) × SpellsEntry line.now e) }
+{
+    match read_entry(alloc, line) {
+        Ok(entry) => Ok(entry),
+        Err(Errno::BadLine) => Err(ReadFault::BadLine(number)),
+        Err(_) => Err(ReadFault::NoMemory),
     }
+}
 
+// Reads the entry of a line, which comes after the others.
+fn take(told: &mut Vec<Entry>, alloc: Global, line: &[u8]) -> Result<(), ReadFault>
+    ensures ok { OnOk result ((e : entries.Entry) × SpellsEntry line.now e
+        × (told.new.items ≡ told.old.items ++ e ∷ [])) }
+    ensures bad { IfErr result (λ fault. (k : ℕ) → fault ≡ ReadFault.BadLine k
+        → (k ≡ length told.old.items + 2) × ((e : entries.Entry) → SpellsEntry line.now e → ⊥)) }
+    ensures starved { IfErr result (λ fault. fault ≡ ReadFault.NoMemory → (e : entries.Entry) × SpellsEntry line.now e) }
+{
+    let entry = entry_of(alloc, line, told.len() + 2)?;
+    if told.push(entry).is_err() {
+        return Err(ReadFault::NoMemory);
+    }
+    Ok(())
+}
+
+impl Saved {
     /// The history that a file's bytes tell.
     pub fn read(alloc: Global, bytes: &[u8]) -> Result<Saved, ReadFault>
         ensures told { IfOk result (λ saved. Tell (pieces bytes.now) saved.header saved.entries.items) }
@@ -74,17 +81,14 @@ impl Saved {
         let Some(header) = read_header(first) else {
             return Err(ReadFault::BadLine(1));
         };
-        let mut saved = Saved {
-            header,
-            entries: Vec::new(alloc),
-        };
+        let mut entries = Vec::new(alloc);
         while !rest.is_empty() {
             let (line, more) = cut(rest);
-            if let Err(fault) = saved.take(alloc, line) {
+            if let Err(fault) = take(&mut entries, alloc, line) {
                 return Err(fault);
             }
             rest = more;
         }
-        Ok(saved)
+        Ok(Saved { header, entries })
     }
 }

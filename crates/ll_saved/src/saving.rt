@@ -6,11 +6,10 @@ ghost use Rattle.std.specs.Io.KnownBytes.{Appends};
 ghost use Rattle.ll_rights.specs.declared.limits.TheConstants.{TREE_NODES};
 ghost use Rattle.ll_wire.specs.Entries.{IsEntry, entry_line};
 ghost use Rattle.ll_saved.specs.Saved.{saved_text};
-ghost use Rattle.ll_saved.specs.Writing.{AppendsFront};
+ghost use Rattle.ll_wire.specs.Writing.{AppendsFront};
 
-use crate::writing::write_text;
 use ll_seq::Entry;
-use ll_wire::{Header, entry_text, header_text};
+use ll_wire::{Header, entry_text, header_text, write_whole};
 use std::alloc::{AllocError, Global};
 use std::io;
 use std::io::Write;
@@ -47,7 +46,7 @@ fn write_block<W: Write>(text: &mut String, writer: &mut W) -> io::Result<()>
     if text.len() < BLOCK {
         return Ok(());
     }
-    match write_text(writer, text.as_str()) {
+    match write_whole(writer, text.as_str()) {
         Ok(()) => {
             text.clear();
             Ok(())
@@ -83,7 +82,7 @@ pub fn save<W: Write>(
             return Err(SaveFault::Write);
         };
     }
-    match write_text(writer, text.as_str()) {
+    match write_whole(writer, text.as_str()) {
         Ok(()) => Ok(()),
         Err(_) => Err(SaveFault::Write),
     }

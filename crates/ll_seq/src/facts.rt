@@ -18,8 +18,8 @@ use crate::number_map::{NumberMap, index_of};
 use ll_rights::Kind;
 use std::alloc::{AllocError, Global};
 
-/// The number of the root.
-const ROOT: u64 = 1;
+/// The root's inode.
+pub const ROOT: u64 = 1;
 
 /// So many descriptors of one node no machine has room for.
 pub const MOST_OPENS: usize = 9223372036854775808;

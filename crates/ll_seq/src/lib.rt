@@ -18,7 +18,7 @@ mod rules;
 pub use call::{AccessMode, Call, Creation, Mode};
 pub use client::{ClientRecord, Descriptor, Rulesets};
 pub use dentries::{Dentries, Dentry};
-pub use facts::{Fact, MOST_OPENS};
+pub use facts::{Fact, MOST_OPENS, ROOT};
 pub use history::History;
 pub use listing::Listing;
 pub use node::{Content, Node};

@@ -11,7 +11,7 @@ use Rattle.ll_session.specs.Transcript.{Session}
 use Rattle.ll_session.specs.Run.{Lines}
 use Rattle.ll_session.specs.Progress.{Holds, StandsAt, AnswersLine, IsAnswered, IsStarted, HasBegun, Progress}
 use Rattle.ll_wire.proofs.CutStreams.{IsOpen, open-append, pieces-line}
-use Rattle.ll_session.proofs.ReplyWritten.{appends-more, appends-none, front-more}
+use Rattle.ll_wire.proofs.WrittenText.{appends-more, appends-none, front-more}
 
 -- the line took a byte
 abbrev pub Takes : Line → ℕ → Line → Type 0

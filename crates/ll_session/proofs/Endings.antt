@@ -18,10 +18,11 @@ use Rattle.ll_wire.specs.Pieces.{pieces}
 use Rattle.ll_session.specs.Transcript.{Session}
 use Rattle.ll_session.specs.Opening.{begun, fresh, refused, Opens}
 use Rattle.ll_session.specs.Run.{Runs, Begins, Writes}
-use Rattle.ll_session.specs.Progress.{AppendsFront, Holds, IfBegun, IfRefused, StandsAt, IsWritten, HasBegun, Progress}
+use Rattle.ll_wire.specs.Writing.{AppendsFront}
+use Rattle.ll_session.specs.Progress.{Holds, IfBegun, IfRefused, StandsAt, IsWritten, HasBegun, Progress}
 use Rattle.ll_wire.proofs.CutStreams.{pieces-last}
 use Rattle.ll_session.proofs.Cuts.{kept, has_bytes}
-use Rattle.ll_session.proofs.ReplyWritten.{appends-more, front-none}
+use Rattle.ll_wire.proofs.WrittenText.{appends-more, front-none}
 use Rattle.ll_session.proofs.Coming.{may_be_refused}
 use Rattle.ll_session.proofs.Advance.{Answering, Starting, lines-append, begins, piece_stops}
 

@@ -7,4 +7,4 @@ pub mod Starving
 pub mod Connecting
 pub mod SessionPlaces
 pub mod Replies
-pub mod ReplyWritten
+pub mod LeftToRead

@@ -28,6 +28,7 @@ use Rattle.ll_session.specs.declared.session.Opened.TheVariants.{Begun, Refused}
 use Rattle.ll_session.specs.Opening.{Coming, unconnected, unmade, Opens, stopped}
 use Rattle.ll_session.specs.Run.{Lines}
 use Rattle.ll_wire.specs.Pieces.{pieces}
+use Rattle.ll_wire.specs.Writing.{AppendsFront}
 use Rattle.ll_session.specs.Transcript.{Session, Called, Answers}
 
 -- the bytes since the last line feed: kept, or over 16,384 of them
@@ -110,10 +111,6 @@ AnswersLine = Answers (λ s. s.clients) Called
 -- what ends the answering of lines: a failed write, or want of memory
 abbrev pub IsOfWriting : SessionFault → Type 0
 IsOfWriting of = (of ≡ fault.NoMemory) ⊎ (of ≡ fault.Write)
-
--- a front of the text is written
-abbrev pub AppendsFront : (old new : Option (List ℕ)) → List ℕ → Type 0
-AppendsFront old new text = (front back : List ℕ) × (text ≡ front ++ back) × Appends old new front
 
 -- the piece is answered, the answer is written, and this tree is left
 abbrev pub IsAnswered : Session → List ℕ → SessionTree → (old new : Option (List ℕ)) → Type 0

@@ -43,10 +43,10 @@ put_apart w number walk gate h few c d v u e f i m n = by (got_inserted nat_cmp_
     by (inr a) (inl b) = sym (of c v a (ap (λ x. marks x i) (sym b.1) ∙ n) m) ∙ sym b.0
     by (inr a) (inr b) = h c d v u a b i m n
 
-abbrev any_mark : Position → ℕ → Bool
+abbrev pub any_mark : Position → ℕ → Bool
 any_mark at i = list_any (λ (leg : Leg). leg.here == i) (legs at)
 
-turn_marks : (at : Position) (leg : Leg) (i : ℕ) → any_mark (with_turn at leg) i ≡ true → (leg.here ≡ i) ⊎ (any_mark at i ≡ true)
+pub turn_marks : (at : Position) (leg : Leg) (i : ℕ) → any_mark (with_turn at leg) i ≡ true → (leg.here ≡ i) ⊎ (any_mark at i ≡ true)
 turn_marks Above leg i e = absurd (cc e)
 turn_marks (Down trunk) leg i e = elim (or_split (leg.here == i) false e) [ inl a ↦ inl (eqb-true leg.here i a) | inr a ↦ absurd (cc a) ]
 turn_marks (Split trunk old new) leg i e =
@@ -68,7 +68,7 @@ turn_marks (Split trunk old new) leg i e =
     middle false false true false is f = inr refl
     middle false false false d is f = absurd (cc f)
 
-fork_marks : (call : Call) (at next : Position) (i : ℕ) → forked call at ≡ Some next → any_mark next i ≡ true → any_mark at i ≡ true
+pub fork_marks : (call : Call) (at next : Position) (i : ℕ) → forked call at ≡ Some next → any_mark next i ≡ true → any_mark at i ≡ true
 fork_marks call Above next i e m = absurd (cc e)
 fork_marks call (Split a b c) next i e m = absurd (cc e)
 fork_marks call (Down trunk) next i e m =

@@ -1,10 +1,11 @@
 -- What a call is whose first token is known.
-use Rattle.std.proofs.Common.{◌≡◌, ℕ, ◌^◌, ◌<◌, Bool, true, false, List, [], ◌∷◌, codes, Result, Ok, Err, inl, inr, refl, ap, sym, ◌∙◌, subst}
+use Rattle.std.proofs.Common.{◌≡◌, ℕ, ◌^◌, ◌-◌, ◌<◌, ◌≤◌, Bool, true, false, List, [], ◌∷◌, length, map, take, drop, get_or, codes, Result, Ok, Err, Bor, inl, inr, refl, ap, sym, ◌∙◌, subst, arith}
 use Rattle.std.specs.Prelude.{⊤}
-use Rattle.std.specs.Result.{MatchResult}
+use Rattle.std.specs.Result.{MatchResult, IsOkAnd}
 use Rattle.std.specs.Str.{bytes_eq}
 use Rattle.std.specs.Fmt.{decimal}
 use Rattle.std.proofs.lemmas.Bool.{false≢true}
+use Rattle.std.proofs.lemmas.List.{take_all}
 use Rattle.ll_rights.specs.declared.errno.Errno.{Errno}
 use Rattle.ll_rights.specs.declared.kind.Kind.{Kind}
 use Rattle.ll_rights.specs.declared.access.Access.{Access}
@@ -125,6 +126,20 @@ confine_is args call h = absurd (false≢true (sym (ap (first_is (codes "confine
 pub spawn_is : (args : List (List ℕ)) (call : Call) → SpellsCall (codes "spawn" ∷ args) call → (args ≡ []) × (call ≡ Spawn)
 spawn_is args Spawn h = (cc, refl)
 spawn_is args call h = absurd (false≢true (sym (ap (first_is (codes "spawn")) h.1)))
+
+-- where the first token is the name, the tokens are it and the others
+pub parted : (name : List ℕ) (tokens : List (Bor (List ℕ))) (d : Bor (List ℕ)) → 1 ≤ length tokens → (get_or tokens 0 d).now ≡ name
+    → map (λ t. t.now) tokens ≡ name ∷ map (λ t. t.now) (take (length tokens - 1) (drop 1 tokens))
+parted name [] d some e = absurd (omega arith)
+parted name (token ∷ tokens) d some e =
+    let all : length tokens ≤ length (token ∷ tokens) - 1 = omega arith in λ i. e i ∷ map (λ t. t.now) (sym (take_all (length (token ∷ tokens) - 1) tokens all) i)
+
+-- a result is mapped by a constructor
+pub mapped : {V W : Type 0} (make : V → W) (r : Result V Errno) (s : Result W Errno) → MatchResult r (λ v. IsOkAnd s (λ w. w ≡ make v)) (λ e. s ≡ Err e)
+    → MatchResult r (λ v. s ≡ Ok (make v)) (λ e. s ≡ Err e)
+mapped make (Ok v) (Ok w) h = ap Ok h
+mapped make (Ok v) (Err e) h = absurd h
+mapped make (Err e) s h = h
 
 -- where a part can't be read, the whole can't, for the same reason
 fails : {V W : Type 0} (P : V → Type 0) (Q U : W → Type 0) (e : Errno) → ((w : W) → Q w → (v : V) × P v) → ((v : V) → P v → (w : W) × Q w × U w) → Reads P (Err e) → ReadsBy Q U (Err e)

@@ -17,3 +17,4 @@ pub mod Sizes
 pub mod Targets
 pub mod Tokens
 pub mod Unique
+pub mod WrittenText

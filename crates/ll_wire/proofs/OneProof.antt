@@ -1,5 +1,5 @@
 -- That an entry has a spelling has one proof at most.
-use Rattle.std.proofs.Common.{◌≡◌, ◌⊎◌, inl, inr, refl, ap, subst, List, ℕ}
+use Rattle.std.proofs.Common.{◌⊎◌, inl, inr, ap, subst, List, ℕ}
 use Rattle.std.proofs.Props.{props}
 use Rattle.ll_path.specs.Target.{target_text}
 use Rattle.ll_path.specs.declared.target.Target.{Target}

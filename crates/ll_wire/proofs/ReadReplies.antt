@@ -1,7 +1,7 @@
 -- What reading a reply's parts tells of the reply.
 use Rattle.std.proofs.Common.{◌≡◌, ◌≢◌, ℕ, ◌^◌, ◌<◌, ◌≤◌, Bool, true, false, ◌&&◌, List, [], ◌∷◌, ◌++◌, length, map, get_or, codes, Option, Some, None, Result, Ok, Err, Bor, ◌⊎◌, inl, inr, refl, ap, sym, subst, ◌∙◌, arith}
 use Rattle.std.specs.Prelude.{◌==◌, ⊤}
-use Rattle.std.specs.Option.{MatchOption}
+use Rattle.std.specs.Option.{MatchOption, IsSomeAnd}
 use Rattle.std.specs.Result.{MatchResult}
 use Rattle.std.specs.List.{slice_split, join_with_byte}
 use Rattle.std.specs.Fmt.{decimal}
@@ -13,11 +13,13 @@ use Rattle.std.proofs.lemmas.List.{append_cancel_left}
 use Rattle.std.proofs.lemmas.List.Splits.{join_with_byte-slice_split}
 use Rattle.ll_rights.specs.declared.errno.Errno.{Errno}
 use Rattle.ll_rights.specs.Errno.{errno_number, errno_text}
+use Rattle.ll_rights.specs.Kind.{kind_text}
 use Rattle.ll_rights.specs.Right.{right_text}
 use Rattle.ll_decide.specs.Denial.{cause_errno, place_text}
 use Rattle.ll_decide.specs.declared.denial.Denial.{Denial}
 use Rattle.ll_decide.specs.declared.denial.Place.{Place}
 use Rattle.ll_seq.specs.declared.reply.Reply.{Reply}
+use Rattle.ll_seq.specs.declared.reply.Status.{Status}
 use Rattle.ll_seq.specs.declared.reply.Reply.TheVariants.{Done, Opened, Bytes, Wrote, Listed, Found, Created, Spawned, Refused, Denied}
 use Rattle.ll_wire.specs.Grammar.{reply_tokens, SpellsReply}
 use Rattle.ll_wire.specs.Parts.{Reads, SpellsNumber, SpellsData, SpellsNames, SpellsOneNumber, SpellsReplyTokens, SpellsReplyBody}
@@ -33,6 +35,13 @@ pub whole_finds : {V W : Type 0} (P : V → Type 0) (Q : W → Type 0) (make : V
     → (r : Option V) (s : Option W) → MatchOption r (s ≡ None) (λ v. s ≡ Some (make v)) → Finds P r → Finds Q s
 whole_finds P Q make part whole None s e h = rw e (λ w is. let v = part w is in h v.0 v.1)
 whole_finds P Q make part whole (Some v) s e h = rw e (whole v h)
+
+-- an option is mapped by a constructor
+pub mapped_some : {V W : Type 0} (make : V → W) (r : Option V) (s : Option W) → MatchOption r (s ≡ None) (λ v. IsSomeAnd s (λ w. w ≡ make v))
+    → MatchOption r (s ≡ None) (λ v. s ≡ Some (make v))
+mapped_some make None s h = h
+mapped_some make (Some v) (Some w) h = ap Some h
+mapped_some make (Some v) None h = absurd h
 
 -- a reply that takes no memory to be read
 abbrev pub SpellsShort : List (List ℕ) → Reply → Type 0
@@ -163,6 +172,16 @@ no_right args word at none d h = none d.right h.0.1 (at ∙ ap (λ (tokens : Lis
 pub no_place : (args : List (List ℕ)) (word : List ℕ) → word ≡ get_or args 4 [] → ((place : Place) → word ≢ place_text place)
     → (d : Denial) → SpellsReplyTokens (codes "denied" ∷ args) (Denied d) → ⊥
 no_place args word at none d h = none d.place (at ∙ ap (λ (tokens : List (List ℕ)). get_or tokens 5 []) h.1)
+
+pub four : (args : List (Bor (List ℕ))) (d : Bor (List ℕ)) → length args ≡ 4
+    → map (λ t. t.now) args ≡ (get_or args 0 d).now ∷ (get_or args 1 d).now ∷ (get_or args 2 d).now ∷ (get_or args 3 d).now ∷ []
+four (a ∷ b ∷ c ∷ e ∷ []) d h = refl
+four args d h = absurd (omega arith)
+
+pub found : (args : List (List ℕ)) (inode kind size links : List ℕ) (s : Status) → args ≡ inode ∷ kind ∷ size ∷ links ∷ []
+    → SpellsNumber inode s.inode → kind ≡ kind_text s.kind → SpellsNumber size s.size → SpellsNumber links s.links → SpellsReplyTokens (codes "stat" ∷ args) (Found s)
+found args inode kind size links s parts i k n l =
+    ((i.0, n.0, l.0), ap (λ (tokens : List (List ℕ)). codes "stat" ∷ tokens) (parts ∙ (λ j. i.1 j ∷ k j ∷ n.1 j ∷ l.1 j ∷ [])))
 
 pub five : (args : List (Bor (List ℕ))) (d : Bor (List ℕ)) → length args ≡ 5
     → map (λ t. t.now) args ≡ (get_or args 0 d).now ∷ (get_or args 1 d).now ∷ (get_or args 2 d).now ∷ (get_or args 3 d).now ∷ (get_or args 4 d).now ∷ []

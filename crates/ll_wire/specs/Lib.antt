@@ -4,3 +4,4 @@ pub mod Grammar
 pub mod Parts
 pub mod Reads
 pub mod Pieces
+pub mod Writing

@@ -17,7 +17,7 @@ returns-clause-refused c s ours facts =
     let late = walk_refusals s call ++ existence in
     let walk = c.first-walk.ensures (walk_refusals s call) existence (c.walk_refusal.ensures s facts)
     (λ free. c.existence_refusal-existence.ensures s (first_stands s call found facts free) (second_stands s call found facts free)) in
-    c.first.ensures (text ++ number ++ lying) late (c.refused_early.ensures ours) (λ free. walk)
+    c.first.ensures (text ++ number ++ lying) late c.refused_early.ensures (λ free. walk)
     ∙ ap (λ errnos. slice_get errnos 0) (append_assoc (text ++ number) lying late ∙ append_assoc text number (lying ++ late))
 
 pub returns-clause-passed : goal.returns-clause-passed

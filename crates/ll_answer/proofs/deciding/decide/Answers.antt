@@ -7,13 +7,13 @@ use Rattle.ll_answer.proofs.Walked.{none_first}
 use Rattle.ll_answer.specs.Demanded.{chains}
 use Rattle.ll_answer.specs.Passed.{before_policy, after_policy}
 
-pub returns-in-Some : goal.returns-in-Some
-returns-in-Some c s n who ours facts granted =
+pub returns-in-Some-clause-decided : goal.returns-in-Some-clause-decided
+returns-in-Some-clause-decided c s n who ours facts granted =
     let call = c.args.call.now in
     refused_early s n call c.in-Some.errno (ap (λ z. slice_get (before_policy s z call) 0) who ∙ sym (c.refused_before.ensures.refused s ours facts) ∙ c.in-Some.is)
 
-pub returns-in-Some-least_denial : goal.returns-in-Some-least_denial
-returns-in-Some-least_denial c s n who ours facts granted =
+pub returns-in-Some-least_denial-clause-decided : goal.returns-in-Some-least_denial-clause-decided
+returns-in-Some-least_denial-clause-decided c s n who ours facts granted =
     let call = c.args.call.now in
     let free = ap (λ z. before_policy s z call) who ∙ none_first _ (sym (c.refused_before.ensures.refused s ours facts) ∙ c.in_default.is) in
     let passed = c.refused_before.ensures.passed c.in_default.is s ours facts in
@@ -23,8 +23,8 @@ returns-in-Some-least_denial c s n who ours facts granted =
     (ap (λ z. slice_get (call_denials s z call) 0) who ∙ judged
     ∙ sym (c.least_denial.ensures.along_chains c.args.caller.now.domain (chains s call) demands.asks demands.moves demands.are_asks demands.are_moves granted) ∙ c.in-Some-least_denial.is)
 
-pub returns-in-Some-refused_after : goal.returns-in-Some-refused_after
-returns-in-Some-refused_after c s n who ours facts granted =
+pub returns-in-Some-refused_after-clause-decided : goal.returns-in-Some-refused_after-clause-decided
+returns-in-Some-refused_after-clause-decided c s n who ours facts granted =
     let call = c.args.call.now in
     let free = ap (λ z. before_policy s z call) who ∙ none_first _ (sym (c.refused_before.ensures.refused s ours facts) ∙ c.in_default.is) in
     let passed = c.refused_before.ensures.passed c.in_default.is s ours facts in
@@ -35,8 +35,8 @@ returns-in-Some-refused_after c s n who ours facts granted =
     refused_late s n call free allowed c.in-Some-refused_after.errno
     (ap (λ z. slice_get (after_policy s z call) 0) who ∙ sym (c.refused_after.ensures s ours passed) ∙ c.in-Some-refused_after.is)
 
-pub returns : goal.returns
-returns c s n who ours facts granted =
+pub returns-clause-decided : goal.returns-clause-decided
+returns-clause-decided c s n who ours facts granted =
     let call = c.args.call.now in
     let free = ap (λ z. before_policy s z call) who ∙ none_first _ (sym (c.refused_before.ensures.refused s ours facts) ∙ c.in_default.is) in
     let passed = c.refused_before.ensures.passed c.in_default.is s ours facts in

@@ -7,5 +7,5 @@ pub returns-clause-fits : goal.returns-clause-fits
 returns-clause-fits c s free =
     let t = c.args.target.now in
     opening_fits s c.args.caller.now (path_of t) _ c.free_descriptor.ensures
-    (λ none. c.of.ensures s free.passed.first (one_way s t free.passed.way) (not_named s (path_of t) none))
-    (c.named.ensures s (path_of t) free.passed.first) free.limits
+    (λ none. c.of.ensures.place s free.passed.first (one_way s t free.passed.way) (not_named s (path_of t) none))
+    (c.named.ensures.stands s (path_of t) free.passed.first) free.limits

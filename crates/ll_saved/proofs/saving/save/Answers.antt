@@ -3,8 +3,9 @@ use Rattle.std.specs.Prelude.{string_bytes}
 use Rattle.std.specs.Io.KnownBytes.{Appends}
 use Rattle.ll_wire.specs.Grammar.{line_of}
 use Rattle.ll_wire.specs.Entries.{header_tokens, entry_line}
-use Rattle.ll_saved.specs.Writing.{AppendsFront}
-use Rattle.ll_saved.proofs.SavedText.{appends-none, ends, front-none, stops, waits_more}
+use Rattle.ll_wire.specs.Writing.{AppendsFront}
+use Rattle.ll_wire.proofs.WrittenText.{appends-none, front-none}
+use Rattle.ll_saved.proofs.SavedText.{ends, stops, waits_more}
 use Rattle.ll_saved.proofs.saving.save.Goals as goal
 
 pub returns-in_default-push_entry-clause-err : goal.returns-in_default-push_entry-clause-err
@@ -28,16 +29,16 @@ loop-entry-preserved g c =
     (string_bytes c.loop-entry.text) c.loop-entry.invariant (g.W.Write.contents c.write_block.new.writer) c.entry-item.result (string_bytes c.push_entry.new.text) (string_bytes c.write_block.new.text) wrote.0
     c.loop-entry-test.true c.entry-item.is c.in-Ok-push_entry.ensures wrote.1 wrote.2
 
-pub returns-in-Ok-write_text-clause-ok : goal.returns-in-Ok-write_text-clause-ok
-returns-in-Ok-write_text-clause-ok g c =
+pub returns-in-Ok-write_whole-clause-ok : goal.returns-in-Ok-write_whole-clause-ok
+returns-in-Ok-write_whole-clause-ok g c =
     let now = g.W.Write.contents c.loop-entry.writer in
-    let new = g.W.Write.contents c.write_text.new.writer in
+    let new = g.W.Write.contents c.write_whole.new.writer in
     ends (line_of (header_tokens c.args.header)) entry_line c.args.entries.now c.loop-entry.entry-index _ now _ c.loop-entry.invariant new (omega arith)
-    (subst (λ (text : List ℕ). Appends now new text) c.as_str.ensures.value c.in-Ok-write_text.ensures.ok)
+    (subst (λ (text : List ℕ). Appends now new text) c.as_str.ensures.value c.in-Ok-write_whole.ensures.ok)
 
 pub returns-clause-err : goal.returns-clause-err
 returns-clause-err g c =
     let now = g.W.Write.contents c.loop-entry.writer in
-    let new = g.W.Write.contents c.write_text.new.writer in
+    let new = g.W.Write.contents c.write_whole.new.writer in
     stops (line_of (header_tokens c.args.header)) entry_line c.args.entries.now c.loop-entry.entry-index _ now _ c.loop-entry.invariant new
     (subst (λ (text : List ℕ). AppendsFront now new text) c.as_str.ensures.value c.in-Err.ensures.err)

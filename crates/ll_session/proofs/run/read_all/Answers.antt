@@ -2,7 +2,7 @@ use Rattle.std.proofs.Common.{◌≡◌, ◌∙◌, sym, ap, subst, List, ℕ, [
 use Rattle.std.proofs.lemmas.List.{nil_from_length}
 use Rattle.std.proofs.lemmas.Bool.{eqb-false, eqb-true}
 use Rattle.ll_session.specs.Progress.{Progress}
-use Rattle.ll_session.proofs.ReplyWritten.{gave, at_end, fewer_left, some}
+use Rattle.ll_session.proofs.LeftToRead.{gave, at_end, fewer_left, some}
 use Rattle.ll_session.proofs.Advance.{stops}
 use Rattle.ll_session.proofs.Legal.{then_sound}
 use Rattle.ll_session.proofs.run.read_all.Goals as goal

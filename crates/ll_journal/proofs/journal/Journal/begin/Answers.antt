@@ -20,7 +20,7 @@ invariant_of-self c =
     (sets_out c.self.inside c.self.invariant c.args.client c.in-Some.place c.args.call c.index.result.now first c.in-Some.ensures.some.0
     c.may_begin.result c.is_free.result c.may_begin.ensures c.if-not-may_begin.false c.is_free.ensures c.if-not-is_free.false
     ∙ ap (λ w. (Begun, w)) (sym (world_begun c.self.inside c.self.invariant c.args.client c.in-Some.place c.args.call c.index_mut-seat.result.now at c.in-Some.ensures.some.0 c.begin.new.self c.next_gate-self-inside.result c.begin.ensures c.next_gate-self-inside.ensures))))
-    refl refl refl refl refl refl refl refl refl
+    refl refl refl refl refl refl
 
 pub returns-clause-begun : goal.returns-clause-begun
 returns-clause-begun c =

@@ -30,8 +30,7 @@ abbrev spawned_inside : goal.After-enter → Inside
 spawned_inside c = record c.self.inside {
   history = c.enter.new.history;
   seats = c.answer_spawn-told.new.seats;
-  facts = c.answer_spawn-told.new.facts;
-  free = c.answer_spawn-told.new.free;
+  table = c.answer_spawn-told.new.table;
 }
 
 spawn_stepped : (c : goal.After-enter) → Stepped c.args.self.now c.args.client c.args.call c.enter.result (spawned_inside c)
@@ -40,7 +39,7 @@ spawn_stepped c =
     let asks = c.in-Some-asked_of.ensures.some in
     over_stepped _ _ c.args.client c.args.call c.enter.result (spawned_inside c) c.self.view_is
     (on_spawn c.self.inside (spawned_inside c) c.self.invariant c.args.client c.args.call c.in-Some.place c.index.result.now at c.in-Some.ensures.some.0 asks.0 (sym c.is_full.ensures ∙ c.if-is_full.false) c.enter.result
-    refl refl refl refl refl (subst (λ own. IsOwn c.index.result.now.client c.args.call (Some own)) c.in-Spawn.is asks.1) c.answer_spawn-told.result c.answer_spawn-told.ensures.ok c.answer_spawn-told.ensures.err
+    refl refl refl (subst (λ own. IsOwn c.index.result.now.client c.args.call (Some own)) c.in-Spawn.is asks.1) c.answer_spawn-told.result c.answer_spawn-told.ensures.ok c.answer_spawn-told.ensures.err
     c.enter.ensures.ok c.enter.ensures.err)
 
 -- the journal after a call on the client's record
@@ -56,7 +55,7 @@ record_stepped c =
     (same_Some c.index.result.now c.index_mut-seat.result.now (sym first ∙ at)) c.in-Some-asked_of.ensures.some in
     over_stepped _ _ c.args.client c.args.call c.enter-in-OnRecord.result (answered_inside c) c.self.view_is
     (on_record c.self.inside (answered_inside c) c.self.invariant c.args.client c.args.call c.in-Some.place c.index_mut-seat.result.now at c.in-Some.ensures.some.0 asks.0 (sym c.is_full.ensures ∙ c.if-is_full.false) c.enter-in-OnRecord.result
-    refl refl refl refl refl c.answer-told.new.self refl refl refl c.answer-told.ensures.rest c.in-OnRecord.asked
+    refl refl refl c.answer-told.new.self refl refl c.answer-told.ensures.rest c.in-OnRecord.asked
     (subst (λ own. IsOwn c.index_mut-seat.result.now.client c.args.call (Some own)) c.in-OnRecord.is asks.1) c.answer-told.result c.answer-told.ensures.ok c.answer-told.ensures.descriptors c.answer-told.ensures.err
     c.enter-in-OnRecord.ensures.ok c.enter-in-OnRecord.ensures.err)
 

@@ -42,7 +42,7 @@ descend-requires c =
     let lent_to = subst (λ (b : Book). c.args.to.now ≡ slot_of b c.args.to_slot) (sym c.self.view_is) c.requires.to in
     let at = at_place c.self.inside.seats.items c.deref.result.now c.args.client c.in-Some.place c.index_mut-seat.result.now c.deref.ensures.value c.in-Some.ensures.some c.index_mut-seat.ensures.value in
     let go = down_goes c.self.inside c.self.invariant c.args.client c.in-Some.place c.index_mut-seat.result.now at c.in-Some.ensures.some.0 c.args.from_slot c.args.to_slot c.args.from.now c.args.to.now lent_from lent_to
-    (ap (λ (s : Seat). look_down c.self.inside.facts s c.args.from.now c.args.to.now) (sym (one_seat c.self.inside c.in-Some.place _ _ first at)) ∙ sym c.look_down.ensures ∙ c.in-Go.is) in
+    (ap (λ (s : Seat). look_down c.self.inside.table.facts s c.args.from.now c.args.to.now) (sym (one_seat c.self.inside c.in-Some.place _ _ first at)) ∙ sym c.look_down.ensures ∙ c.in-Go.is) in
     has_next c.self.inside c.self.invariant c.args.client c.in-Some.place c.index_mut-seat.result.now at c.in-Some.ensures.some.0 c.args.from_slot c.args.to_slot c.args.from.now c.args.to.now lent_from lent_to go
 
 pub invariant_of-self : goal.invariant_of-self
@@ -52,11 +52,11 @@ invariant_of-self c =
     let lent_to = subst (λ (b : Book). c.args.to.now ≡ slot_of b c.args.to_slot) (sym c.self.view_is) c.requires.to in
     let at = at_place c.self.inside.seats.items c.deref.result.now c.args.client c.in-Some.place c.index_mut-seat.result.now c.deref.ensures.value c.in-Some.ensures.some c.index_mut-seat.ensures.value in
     let go = down_goes c.self.inside c.self.invariant c.args.client c.in-Some.place c.index_mut-seat.result.now at c.in-Some.ensures.some.0 c.args.from_slot c.args.to_slot c.args.from.now c.args.to.now lent_from lent_to
-    (ap (λ (s : Seat). look_down c.self.inside.facts s c.args.from.now c.args.to.now) (sym (one_seat c.self.inside c.in-Some.place _ _ first at)) ∙ sym c.look_down.ensures ∙ c.in-Go.is) in
+    (ap (λ (s : Seat). look_down c.self.inside.table.facts s c.args.from.now c.args.to.now) (sym (one_seat c.self.inside c.in-Some.place _ _ first at)) ∙ sym c.look_down.ensures ∙ c.in-Go.is) in
     kept_by c.self.inside _ c.in-Some.place c.index_mut-seat.result.now c.descend.new.self c.self.inside.gate c.self.invariant at
     (ap (λ (s : Seat). s.client) c.descend.ensures) (ap (λ (s : Seat). s.spare) c.descend.ensures)
     (down_sound c.self.inside c.self.invariant c.args.client c.in-Some.place c.index_mut-seat.result.now at c.in-Some.ensures.some.0 c.args.from_slot c.args.to_slot c.args.from.now c.args.to.now lent_from lent_to go c.descend.new.self c.descend.ensures)
-    refl refl refl refl refl refl refl refl refl
+    refl refl refl refl refl refl
 
 pub returns-clause-does : goal.returns-clause-does
 returns-clause-does c =
@@ -65,7 +65,7 @@ returns-clause-does c =
     let lent_to = subst (λ (b : Book). c.args.to.now ≡ slot_of b c.args.to_slot) (sym c.self.view_is) c.requires.to in
     let at = at_place c.self.inside.seats.items c.deref.result.now c.args.client c.in-Some.place c.index_mut-seat.result.now c.deref.ensures.value c.in-Some.ensures.some c.index_mut-seat.ensures.value in
     let go = down_goes c.self.inside c.self.invariant c.args.client c.in-Some.place c.index_mut-seat.result.now at c.in-Some.ensures.some.0 c.args.from_slot c.args.to_slot c.args.from.now c.args.to.now lent_from lent_to
-    (ap (λ (s : Seat). look_down c.self.inside.facts s c.args.from.now c.args.to.now) (sym (one_seat c.self.inside c.in-Some.place _ _ first at)) ∙ sym c.look_down.ensures ∙ c.in-Go.is) in
+    (ap (λ (s : Seat). look_down c.self.inside.table.facts s c.args.from.now c.args.to.now) (sym (one_seat c.self.inside c.in-Some.place _ _ first at)) ∙ sym c.look_down.ensures ∙ c.in-Go.is) in
     subst (λ (b : Book). advance b.world (Descend c.args.client) ≡ (Stands c.args.to.now.inode, changed_world c.self.inside c.in-Some.place c.descend.new.self c.self.inside.gate)) c.self.view_is
     (down_does c.self.inside c.self.invariant c.args.client c.in-Some.place c.index_mut-seat.result.now at c.in-Some.ensures.some.0 c.args.from_slot c.args.to_slot c.args.from.now c.args.to.now lent_from lent_to go c.descend.new.self c.descend.ensures)
 
@@ -76,7 +76,7 @@ returns-clause-from c =
     let lent_to = subst (λ (b : Book). c.args.to.now ≡ slot_of b c.args.to_slot) (sym c.self.view_is) c.requires.to in
     let at = at_place c.self.inside.seats.items c.deref.result.now c.args.client c.in-Some.place c.index_mut-seat.result.now c.deref.ensures.value c.in-Some.ensures.some c.index_mut-seat.ensures.value in
     let go = down_goes c.self.inside c.self.invariant c.args.client c.in-Some.place c.index_mut-seat.result.now at c.in-Some.ensures.some.0 c.args.from_slot c.args.to_slot c.args.from.now c.args.to.now lent_from lent_to
-    (ap (λ (s : Seat). look_down c.self.inside.facts s c.args.from.now c.args.to.now) (sym (one_seat c.self.inside c.in-Some.place _ _ first at)) ∙ sym c.look_down.ensures ∙ c.in-Go.is) in
+    (ap (λ (s : Seat). look_down c.self.inside.table.facts s c.args.from.now c.args.to.now) (sym (one_seat c.self.inside c.in-Some.place _ _ first at)) ∙ sym c.look_down.ensures ∙ c.in-Go.is) in
     down_from c.self.inside c.self.invariant c.args.client c.in-Some.place c.index_mut-seat.result.now at c.in-Some.ensures.some.0 c.args.from_slot c.args.to_slot c.args.from.now c.args.to.now lent_from lent_to go c.descend.new.self c.descend.ensures c.mark_in.result c.set_mark.new.self c.mark_in.ensures c.set_mark.ensures
 
 pub returns-clause-to : goal.returns-clause-to
@@ -86,7 +86,7 @@ returns-clause-to c =
     let lent_to = subst (λ (b : Book). c.args.to.now ≡ slot_of b c.args.to_slot) (sym c.self.view_is) c.requires.to in
     let at = at_place c.self.inside.seats.items c.deref.result.now c.args.client c.in-Some.place c.index_mut-seat.result.now c.deref.ensures.value c.in-Some.ensures.some c.index_mut-seat.ensures.value in
     let go = down_goes c.self.inside c.self.invariant c.args.client c.in-Some.place c.index_mut-seat.result.now at c.in-Some.ensures.some.0 c.args.from_slot c.args.to_slot c.args.from.now c.args.to.now lent_from lent_to
-    (ap (λ (s : Seat). look_down c.self.inside.facts s c.args.from.now c.args.to.now) (sym (one_seat c.self.inside c.in-Some.place _ _ first at)) ∙ sym c.look_down.ensures ∙ c.in-Go.is) in
+    (ap (λ (s : Seat). look_down c.self.inside.table.facts s c.args.from.now c.args.to.now) (sym (one_seat c.self.inside c.in-Some.place _ _ first at)) ∙ sym c.look_down.ensures ∙ c.in-Go.is) in
     down_to c.self.inside c.self.invariant c.args.client c.in-Some.place c.index_mut-seat.result.now at c.in-Some.ensures.some.0 c.args.from_slot c.args.to_slot c.args.from.now c.args.to.now lent_from lent_to go c.descend.new.self c.descend.ensures c.set_mark-2.new.self c.set_mark-2.ensures
 
 pub returns-clause-spares : goal.returns-clause-spares
@@ -96,7 +96,7 @@ returns-clause-spares c =
     let lent_to = subst (λ (b : Book). c.args.to.now ≡ slot_of b c.args.to_slot) (sym c.self.view_is) c.requires.to in
     let at = at_place c.self.inside.seats.items c.deref.result.now c.args.client c.in-Some.place c.index_mut-seat.result.now c.deref.ensures.value c.in-Some.ensures.some c.index_mut-seat.ensures.value in
     let go = down_goes c.self.inside c.self.invariant c.args.client c.in-Some.place c.index_mut-seat.result.now at c.in-Some.ensures.some.0 c.args.from_slot c.args.to_slot c.args.from.now c.args.to.now lent_from lent_to
-    (ap (λ (s : Seat). look_down c.self.inside.facts s c.args.from.now c.args.to.now) (sym (one_seat c.self.inside c.in-Some.place _ _ first at)) ∙ sym c.look_down.ensures ∙ c.in-Go.is) in
+    (ap (λ (s : Seat). look_down c.self.inside.table.facts s c.args.from.now c.args.to.now) (sym (one_seat c.self.inside c.in-Some.place _ _ first at)) ∙ sym c.look_down.ensures ∙ c.in-Go.is) in
     over_spares _ _ _ (c.args.from_slot ∷ c.args.to_slot ∷ []) c.self.view_is (down_spares c.self.inside c.self.invariant c.args.client c.in-Some.place c.index_mut-seat.result.now at c.in-Some.ensures.some.0 c.args.from_slot c.args.to_slot c.args.from.now c.args.to.now lent_from lent_to go c.descend.new.self c.descend.ensures _ refl refl)
 
 pub returns-clause-rest : goal.returns-clause-rest

@@ -43,7 +43,7 @@ invariant_of-self c =
     kept_by c.self.inside _ c.in-Some.place c.index_mut-seat.result.now c.enter.new.self c.gate_at_root-self-inside.result c.self.invariant at
     (ap (λ (s : Seat). s.client) c.enter.ensures) (ap (λ (s : Seat). s.spare) c.enter.ensures)
     (root_sound c.self.inside c.self.invariant c.args.client c.in-Some.place c.index_mut-seat.result.now at c.in-Some.ensures.some.0 c.args.slot c.args.root.now lent go c.enter.new.self c.gate_at_root-self-inside.result c.enter.ensures gate)
-    refl refl refl refl refl refl refl refl refl
+    refl refl refl refl refl refl
 
 pub returns-clause-does : goal.returns-clause-does
 returns-clause-does c =

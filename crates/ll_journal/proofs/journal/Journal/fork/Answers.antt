@@ -31,7 +31,7 @@ invariant_of-self c =
     kept_by c.self.inside _ c.in-Some.place c.index_mut-seat.result.now c.fork.new.self c.self.inside.gate c.self.invariant at
     (ap (λ (s : Seat). s.client) c.fork.ensures) (ap (λ (s : Seat). s.spare) c.fork.ensures)
     (fork_sound c.self.inside c.self.invariant c.args.client c.in-Some.place c.index_mut-seat.result.now at c.in-Some.ensures.some.0 go c.fork.new.self c.fork.ensures)
-    refl refl refl refl refl refl refl refl refl
+    refl refl refl refl refl refl
 
 pub returns-clause-does : goal.returns-clause-does
 returns-clause-does c =

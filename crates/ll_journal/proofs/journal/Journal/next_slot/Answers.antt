@@ -23,14 +23,14 @@ pub returns-clause-some : goal.returns-clause-some
 returns-clause-some c =
     let at = at_place c.self.inside.seats.items c.deref.result.now c.args.client c.in-Some.place c.index.result.now c.deref.ensures.value c.in-Some.ensures.some c.index.ensures in
     let lent = subst (λ (b : Book). c.args.here.now ≡ slot_of b c.args.slot) (sym c.self.view_is) c.requires in
-    subst (λ (b : Book). IfSome c.copied.result (λ next. IsNext b c.args.client c.args.slot next)) c.self.view_is
+    subst (λ (b : Book). IfSome c.slot.result (λ next. IsNext b c.args.client c.args.slot next)) c.self.view_is
     (next_found c.self.inside c.self.invariant c.args.client c.in-Some.place c.index.result.now at c.in-Some.ensures.some.0 c.args.slot c.args.here.now lent
-    c.in-Some-directory_below.inode (sym c.directory_below.ensures ∙ c.in-Some-directory_below.is) c.copied.result (c.copied.ensures ∙ c.get.ensures)).0
+    c.in-Some-directory_below.inode (sym c.directory_below.ensures ∙ c.in-Some-directory_below.is) c.slot.result c.slot.ensures).0
 
 pub returns-clause-none : goal.returns-clause-none
 returns-clause-none c =
     let at = at_place c.self.inside.seats.items c.deref.result.now c.args.client c.in-Some.place c.index.result.now c.deref.ensures.value c.in-Some.ensures.some c.index.ensures in
     let lent = subst (λ (b : Book). c.args.here.now ≡ slot_of b c.args.slot) (sym c.self.view_is) c.requires in
-    subst (λ (b : Book). IfNone c.copied.result ((next : ℕ) → IsNext b c.args.client c.args.slot next → ⊥)) c.self.view_is
+    subst (λ (b : Book). IfNone c.slot.result ((next : ℕ) → IsNext b c.args.client c.args.slot next → ⊥)) c.self.view_is
     (next_found c.self.inside c.self.invariant c.args.client c.in-Some.place c.index.result.now at c.in-Some.ensures.some.0 c.args.slot c.args.here.now lent
-    c.in-Some-directory_below.inode (sym c.directory_below.ensures ∙ c.in-Some-directory_below.is) c.copied.result (c.copied.ensures ∙ c.get.ensures)).1
+    c.in-Some-directory_below.inode (sym c.directory_below.ensures ∙ c.in-Some-directory_below.is) c.slot.result c.slot.ensures).1

@@ -1,5 +1,5 @@
 use Rattle.std.proofs.Common.{[], ◌∷◌, sym}
-use Rattle.ll_journal.proofs.Lent.{inode_is}
+use Rattle.ll_journal.proofs.LentAfter.{inode_is}
 use Rattle.ll_journal.proofs.journal.Journal.restart_three.Goals as goal
 
 pub returns-then-ne-clause-astray : goal.returns-then-ne-clause-astray

@@ -5,7 +5,8 @@ use Rattle.ll_walks.specs.World as world
 use Rattle.ll_journal.specs.Book.{Book, Seat, inode_in, slot_of}
 use Rattle.ll_journal.specs.Kept.{seat_at, world_of}
 use Rattle.ll_journal.specs.Looks.{look_again}
-use Rattle.ll_journal.specs.Steps.{IsAstrayAt, unmarked}
+use Rattle.ll_journal.specs.Steps.{IsAstrayAt}
+use Rattle.ll_held.specs.Lent.{unmarked}
 use Rattle.ll_journal.proofs.Starting.{at_place, changed_world, kept_by, over_spares, rest_kept}
 use Rattle.ll_journal.proofs.Entering.{no_walk, one_seat}
 use Rattle.ll_journal.proofs.Restarting.{again_not_now, again_astray, again_goes, few_starts, again_does, again_sound, again_lent, again_spares}
@@ -46,7 +47,7 @@ invariant_of-self c =
     kept_by c.self.inside _ c.in-Some.place c.index_mut-seat.result.now c.restart.new.self c.self.inside.gate c.self.invariant at
     (ap (λ (s : Seat). s.client) c.restart.ensures) (ap (λ (s : Seat). s.spare) c.restart.ensures)
     (again_sound c.self.inside c.self.invariant c.args.client c.in-Some.place c.index_mut-seat.result.now at c.in-Some.ensures.some.0 c.args.inodes.now go c.restart.new.self c.restart.ensures)
-    refl refl refl refl refl refl refl refl refl
+    refl refl refl refl refl refl
 
 pub returns-clause-does : goal.returns-clause-does
 returns-clause-does c =

@@ -1,0 +1,15 @@
+pub mod NameMaps
+pub mod Accounted
+pub mod SlotAccounts
+pub mod ChangedSlots
+pub mod Living
+pub mod GivenSlots
+pub mod StayingSlots
+pub mod NamedSlots
+pub mod TakenSlots
+pub mod MovedSlots
+pub mod ReplacedSlots
+pub mod MadeSlots
+pub mod OpenedSlots
+pub mod ResizedSlots
+pub mod RuledClients

@@ -1,0 +1,180 @@
+-- Which nodes live after a change, what number the next one gets, and how many there are.
+use Rattle.std.specs.Prelude.{◌≡◌, ◌≢◌, ℕ, ◌+◌, true, false, cond, ◌&&◌, List, [], ◌∷◌, map, length, Option, Some, None, option_map, refl}
+use Rattle.std.specs.declared.cmp.Ordering.{Ordering}
+use Rattle.std.specs.Option.{option_map_or}
+use Rattle.std.specs.Ordering.{nat_cmp, is_lt, eq_by_cmp}
+use Rattle.std.specs.Cmp.{nat_cmp_total, unsigned_tied}
+use Rattle.std.specs.FinMap.{nat_cmp-IsAntisymmetric}
+use Rattle.std.specs.FinMap.Entries.{find, is_sorted, below_all, same_entries}
+use Rattle.std.proofs.Common.{T, sym, subst, ap, ◌∙◌, inl, inr}
+use Rattle.std.proofs.lemmas.Bool.{eq-eqb}
+use Rattle.std.proofs.lemmas.List.{length-map}
+use Rattle.ll_rights.specs.declared.kind.Kind.{Kind}
+use Rattle.ll_rights.specs.declared.kind.Kind.TheVariants.{Reg}
+use Rattle.ll_rights.specs.Map.{Map, get, insert, remove, entries, len}
+use Rattle.ll_rights.proofs.Maps.{get-insert_same, get-insert_other, get-remove, get-remove_other, insert_cases}
+use Rattle.ll_seq.specs.declared.client.ClientRecord.{ClientRecord}
+use Rattle.ll_seq.specs.declared.dentries.Dentry.{Dentry}
+use Rattle.ll_seq.specs.declared.facts.Fact.{Fact}
+use Rattle.ll_seq.specs.declared.node.Node.{Node}
+use Rattle.ll_seq.specs.State.{State, kind_of, empty_node, names_in, name_count}
+use Rattle.ll_seq.specs.Effects.{lives, let_go, with_node, with_moved, with_bytes, with_client}
+use Rattle.ll_seq.specs.Facts.{AreKept, open_count}
+use Rattle.ll_answer.specs.declared.changes.Change.{Change}
+use Rattle.ll_answer.specs.declared.changes.Change.TheVariants.{Nothing, Make, Take, Name as Link, Move, Replace, Exchange, Resize, Open, Allow}
+use Rattle.ll_answer.specs.declared.changes.Opening.{Opening}
+use Rattle.ll_answer.specs.Effect.{dentry_at, with_descriptor, with_opening, after}
+use Rattle.ll_inodes.specs.InodeTable.{NotIn}
+
+-- ---- kinds
+
+kind_from : (s t : State) (i : ℕ) → get t.nodes i ≡ get s.nodes i → kind_of t i ≡ kind_of s i
+kind_from s t i e = ap (option_map (λ (n : Node). n.kind)) e
+
+module _ (s : State) (inode : ℕ) where
+  -- bytes change no kind
+  pub bytes_kind : (bytes : List ℕ) (i : ℕ) → kind_of (with_bytes s inode bytes) i ≡ kind_of s i
+  bytes_kind bytes i =
+      elim (get s.nodes inode) as (λ o. get s.nodes inode ≡ o → kind_of (option_map_or (λ (n : Node). record s { nodes = insert s.nodes inode (record n { bytes = bytes }) }) o s) i ≡ kind_of s i) [
+        | None ↦ λ e. refl
+        | Some n ↦ λ e. elim (insert_cases nat_cmp_total nat_cmp-IsAntisymmetric s.nodes inode (record n { bytes = bytes }) i) [
+          | inl a ↦ ap (option_map (λ (m : Node). m.kind)) a.1 ∙ sym (ap (option_map (λ (m : Node). m.kind)) (ap (get s.nodes) a.0 ∙ e))
+          | inr a ↦ ap (option_map (λ (m : Node). m.kind)) a.1
+        ]
+      ] refl
+
+  pub bytes_next : (bytes : List ℕ) → (with_bytes s inode bytes).next ≡ s.next
+  bytes_next bytes = elim (get s.nodes inode) as (λ o. (option_map_or (λ (n : Node). record s { nodes = insert s.nodes inode (record n { bytes = bytes }) }) o s).next ≡ s.next) [ None ↦ refl | Some n ↦ refl ]
+
+  pub let_go_kind : (i : ℕ) → i ≢ inode → kind_of (let_go s inode) i ≡ kind_of s i
+  let_go_kind i other =
+      elim (lives s inode) as (λ b. kind_of (cond b s (record s { nodes = remove s.nodes inode })) i ≡ kind_of s i) [
+        | true ↦ refl
+        | false ↦ kind_from s (record s { nodes = remove s.nodes inode }) i (get-remove_other nat_cmp_total nat_cmp-IsAntisymmetric s.nodes inode i other)
+      ]
+
+  pub let_go_next : (let_go s inode).next ≡ s.next
+  let_go_next = elim (lives s inode) as (λ b. (cond b s (record s { nodes = remove s.nodes inode })).next ≡ s.next) [ true ↦ refl | false ↦ refl ]
+
+  -- what doesn't live goes
+  pub let_go_gone : lives s inode ≡ false → kind_of (let_go s inode) inode ≡ None
+  let_go_gone e =
+      ap (λ b. kind_of (cond b s (record s { nodes = remove s.nodes inode })) inode) e
+      ∙ ap (option_map (λ (n : Node). n.kind)) (get-remove nat_cmp_total nat_cmp-IsAntisymmetric s.nodes inode inode ∙ ap (λ b. cond b None (get s.nodes inode)) itself)
+    where
+      itself : eq_by_cmp nat_cmp inode inode ≡ true
+      itself = unsigned_tied inode inode ∙ eq-eqb inode inode refl
+
+-- ---- after a change
+
+-- the numbers of the nodes that may come or go
+abbrev pub opened_new : State → Option ℕ → List ℕ
+opened_new s None = s.next ∷ []
+opened_new s (Some inode) = []
+
+abbrev pub come_or_gone : State → Change → List ℕ
+come_or_gone s Nothing = []
+come_or_gone s (Make at kind) = s.next ∷ []
+come_or_gone s (Take at inode) = inode ∷ []
+come_or_gone s (Link at inode) = []
+come_or_gone s (Move old new inode) = []
+come_or_gone s (Replace old new inode replaced) = replaced ∷ []
+come_or_gone s (Exchange old new first second) = []
+come_or_gone s (Resize inode size) = []
+come_or_gone s (Open opening) = opened_new s opening.there
+come_or_gone s (Allow rule) = []
+
+module _ (s : State) (kind : Kind) (i : ℕ) where
+  pub make_kind_other : (at : Dentry) → i ≢ s.next → kind_of (with_node s kind at) i ≡ kind_of s i
+  make_kind_other at other = kind_from s (with_node s kind at) i (get-insert_other nat_cmp_total nat_cmp-IsAntisymmetric s.nodes s.next (empty_node kind) i other)
+
+pub make_kind : (s : State) (kind : Kind) (at : Dentry) → kind_of (with_node s kind at) s.next ≡ Some kind
+make_kind s kind at = ap (option_map (λ (n : Node). n.kind)) (get-insert_same nat_cmp_total nat_cmp-IsAntisymmetric s.nodes s.next (empty_node kind))
+
+open_kind : (s : State) (n : ℕ) (c : ClientRecord) (o : Opening) (there : Option ℕ) (i : ℕ) → NotIn i (opened_new s there) → kind_of (with_opening s n c o there) i ≡ kind_of s i
+open_kind s n c o None i away = make_kind_other s Reg i (dentry_at o.at) away.0
+open_kind s n c o (Some inode) i away = elim o.is_emptied as (λ b. kind_of (with_client (cond b (with_bytes s inode []) s) n (with_descriptor c o inode)) i ≡ kind_of s i) [ true ↦ bytes_kind s inode [] i | false ↦ refl ]
+
+-- any other lives as it did
+pub after_kind : (s : State) (n : ℕ) (c : ClientRecord) (change : Change) (i : ℕ) → NotIn i (come_or_gone s change) → kind_of (after s n c change) i ≡ kind_of s i
+after_kind s n c Nothing i away = refl
+after_kind s n c (Make at kind) i away = make_kind_other s kind i (dentry_at at) away.0
+after_kind s n c (Take at inode) i away = let_go_kind (record s { entries = remove s.entries (dentry_at at) }) inode i away.0
+after_kind s n c (Link at inode) i away = refl
+after_kind s n c (Move old new inode) i away = refl
+after_kind s n c (Replace old new inode replaced) i away = let_go_kind (with_moved s (dentry_at old) (dentry_at new) inode) replaced i away.0
+after_kind s n c (Exchange old new first second) i away = refl
+after_kind s n c (Resize inode size) i away = bytes_kind s inode _ i
+after_kind s n c (Open opening) i away = open_kind s n c opening opening.there i away
+after_kind s n c (Allow rule) i away = refl
+
+abbrev pub next_opened : State → Option ℕ → ℕ
+next_opened s None = s.next + 1
+next_opened s (Some inode) = s.next
+
+abbrev pub next_after : State → Change → ℕ
+next_after s Nothing = s.next
+next_after s (Make at kind) = s.next + 1
+next_after s (Take at inode) = s.next
+next_after s (Link at inode) = s.next
+next_after s (Move old new inode) = s.next
+next_after s (Replace old new inode replaced) = s.next
+next_after s (Exchange old new first second) = s.next
+next_after s (Resize inode size) = s.next
+next_after s (Open opening) = next_opened s opening.there
+next_after s (Allow rule) = s.next
+
+open_next : (s : State) (n : ℕ) (c : ClientRecord) (o : Opening) (there : Option ℕ) → (with_opening s n c o there).next ≡ next_opened s there
+open_next s n c o None = refl
+open_next s n c o (Some inode) = elim o.is_emptied as (λ b. (with_client (cond b (with_bytes s inode []) s) n (with_descriptor c o inode)).next ≡ s.next) [ true ↦ bytes_next s inode [] | false ↦ refl ]
+
+-- only a new node takes a number
+pub after_next : (s : State) (n : ℕ) (c : ClientRecord) (change : Change) → (after s n c change).next ≡ next_after s change
+after_next s n c Nothing = refl
+after_next s n c (Make at kind) = refl
+after_next s n c (Take at inode) = let_go_next (record s { entries = remove s.entries (dentry_at at) }) inode
+after_next s n c (Link at inode) = refl
+after_next s n c (Move old new inode) = refl
+after_next s n c (Replace old new inode replaced) = let_go_next (with_moved s (dentry_at old) (dentry_at new) inode) replaced
+after_next s n c (Exchange old new first second) = refl
+after_next s n c (Resize inode size) = bytes_next s inode _
+after_next s n c (Open opening) = open_next s n c opening opening.there
+after_next s n c (Allow rule) = refl
+
+-- ---- as many facts as nodes
+
+module _ {K X Y : Type 0} (R : K → K → Ordering) (f : X → Y) where
+  abbrev mapped : List (K × X) → List (K × Y)
+  mapped es = map (λ (e : K × X). (e.0, f e.1)) es
+
+  below_mapped : (k : K) (es : List (K × X)) → below_all R k (mapped es) ≡ below_all R k es
+  below_mapped k [] = refl
+  below_mapped k (e ∷ es) = ap (λ b. is_lt (R k e.0) && b) (below_mapped k es)
+
+  sorted_mapped : (es : List (K × X)) → is_sorted R (mapped es) ≡ is_sorted R es
+  sorted_mapped [] = refl
+  sorted_mapped (e ∷ es) = (λ i. below_mapped e.0 es i && is_sorted R (mapped es)) ∙ ap (λ b. below_all R e.0 es && b) (sorted_mapped es)
+
+  find_mapped : (q : K) (es : List (K × X)) → find R q (mapped es) ≡ option_map f (find R q es)
+  find_mapped q [] = refl
+  find_mapped q (e ∷ es) = elim (eq_by_cmp R q e.0) as (λ b. cond b (Some (f e.1)) (find R q (mapped es)) ≡ option_map f (cond b (Some e.1) (find R q es))) [ true ↦ refl | false ↦ find_mapped q es ]
+
+  length_mapped : (es : List (K × X)) → length (mapped es) ≡ length es
+  length_mapped es = length-map es (λ (e : K × X). (e.0, f e.1))
+
+-- maps that answer alike, by what is told of their values, have as many entries
+pub same_len : {X Y Z : Type 0} (m : Map nat_cmp X) (n : Map nat_cmp Y) (f : X → Z) (g : Y → Z) → ((q : ℕ) → option_map f (get m q) ≡ option_map g (get n q)) → len m ≡ len n
+unfolding get entries
+same_len m n f g same =
+    sym (length_mapped nat_cmp f m.list)
+    ∙ ap length (same_entries nat_cmp nat_cmp_total nat_cmp-IsAntisymmetric (mapped nat_cmp f m.list) (mapped nat_cmp g n.list)
+    (subst T (sym (sorted_mapped nat_cmp f m.list)) m.sorted) (subst T (sym (sorted_mapped nat_cmp g n.list)) n.sorted)
+    (λ q. find_mapped nat_cmp f q m.list ∙ same q ∙ sym (find_mapped nat_cmp g q n.list)))
+    ∙ length_mapped nat_cmp g n.list
+
+pub facts_len : (s : State) (facts : Map nat_cmp Fact) → AreKept s facts → len facts ≡ len s.nodes
+facts_len s facts kept = same_len facts s.nodes (λ (f : Fact). f.kind) (λ (n : Node). n.kind) (λ q. ap (option_map (λ (f : Fact). f.kind)) (kept.told q) ∙ by q (kind_of s q))
+  where
+    by : (q : ℕ) (o : Option Kind) → option_map (λ (f : Fact). f.kind) (option_map (λ (kind : Kind). record { kind = kind; names = length (names_in s q); links = name_count s q; opens = open_count s q }) o) ≡ o
+    by q None = refl
+    by q (Some kind) = refl

@@ -1,0 +1,97 @@
+//! Changes that leave the nodes that there are: of names, of a length, and of a client's rulesets.
+
+ghost use Rattle.std.specs.Prelude.{◌≡◌, ℕ, List, OnOk, OnErr};
+ghost use Rattle.ll_answer.specs.declared.changes.Change.TheVariants as change;
+ghost use Rattle.ll_changes.specs.Enacting.{Enacts, MayEnact};
+ghost use Rattle.ll_held.specs.declared.held.Held as record_of;
+ghost use Rattle.ll_inodes.specs.InodeTable.{Table};
+ghost use Rattle.ll_seq.specs.declared.client.ClientRecord as client_of;
+
+use ll_answer::{At, Rule};
+use ll_held::Held;
+use ll_inodes::Inodes;
+use ll_seq::ClientRecord;
+use std::alloc::AllocError;
+
+/// The inode has a further name. Errors: memory ran out, and nothing has changed.
+pub(crate) fn name(
+    table: &mut Inodes,
+    lent: &mut [Held],
+    at: &At<'_>,
+    inode: u64,
+) -> Result<(), AllocError>
+    requires { (slots : List ℕ) × (c : client_of.ClientRecord) × (spare : ℕ) × MayEnact (change.Name at.now inode) slots c spare table.old lent.old }
+    ensures ok { OnOk result ((slots : List ℕ) (c : client_of.ClientRecord) (spare : ℕ)
+        → Enacts (change.Name at.now inode) slots c spare table.old lent.old c spare table.new lent.new) }
+    ensures err { OnErr result ((table.new ≡ table.old) × (lent.new ≡ lent.old)) }
+{
+    ll_held::name(lent, at.directory, at.name, inode)?;
+    table.name(at.directory, inode);
+    Ok(())
+}
+
+/// The inode has the second name in the place of the first. Errors: memory ran out, and nothing has changed.
+pub(crate) fn move_name(
+    table: &mut Inodes,
+    lent: &mut [Held],
+    old: &At<'_>,
+    new: &At<'_>,
+    inode: u64,
+) -> Result<(), AllocError>
+    requires { (slots : List ℕ) × (c : client_of.ClientRecord) × (spare : ℕ)
+        × MayEnact (change.Move old.now new.now inode) slots c spare table.old lent.old }
+    ensures ok { OnOk result ((slots : List ℕ) (c : client_of.ClientRecord) (spare : ℕ)
+        → Enacts (change.Move old.now new.now inode) slots c spare table.old lent.old c spare table.new lent.new) }
+    ensures err { OnErr result ((table.new ≡ table.old) × (lent.new ≡ lent.old)) }
+{
+    ll_held::move_name(
+        lent,
+        old.directory,
+        old.name,
+        new.directory,
+        new.name,
+        inode,
+    )?;
+    table.rename(old.directory, new.directory, inode, None);
+    Ok(())
+}
+
+/// The inodes under the two names change places.
+pub(crate) fn exchange(lent: &mut [Held], old: &At<'_>, new: &At<'_>, first: u64, second: u64)
+    requires { (slots : List ℕ) × (c : client_of.ClientRecord) × (spare : ℕ) × (table : Table)
+        × MayEnact (change.Exchange old.now new.now first second) slots c spare table lent.old }
+    ensures { (slots : List ℕ) (c : client_of.ClientRecord) (spare : ℕ) (table : Table)
+        → Enacts (change.Exchange old.now new.now first second) slots c spare table lent.old c spare table lent.new }
+{
+    ll_held::replace_name(lent, new.directory, new.name, first);
+    ll_held::replace_name(lent, old.directory, old.name, second);
+}
+
+/// The file's bytes are cut or filled to this length. Errors: memory ran out, and nothing has changed.
+pub(crate) fn resize(lent: &mut [Held], inode: u64, size: u64) -> Result<(), AllocError>
+    requires { (slots : List ℕ) × (c : client_of.ClientRecord) × (spare : ℕ) × (table : Table)
+        × MayEnact (change.Resize inode size) slots c spare table lent.old }
+    ensures ok { OnOk result ((slots : List ℕ) (c : client_of.ClientRecord) (spare : ℕ) (table : Table)
+        → Enacts (change.Resize inode size) slots c spare table lent.old c spare table lent.new) }
+    ensures err { OnErr result (lent.new ≡ lent.old) }
+{
+    ll_held::set_len(lent, inode, size)
+}
+
+/// The client's ruleset has this rule too. Errors: memory ran out, and nothing has changed.
+pub(crate) fn allow(client: &mut ClientRecord, rule: &Rule) -> Result<(), AllocError>
+    requires { (slots : List ℕ) × (spare : ℕ) × (table : Table) × (lent : List record_of.Held)
+        × MayEnact (change.Allow rule.now) slots client.old spare table lent }
+    ensures ok { OnOk result ((slots : List ℕ) (spare : ℕ) (table : Table) (lent : List record_of.Held)
+        → Enacts (change.Allow rule.now) slots client.old spare table lent client.new spare table lent) }
+    ensures err { OnErr result (client.new ≡ client.old) }
+{
+    let rulesets = &mut client.rulesets;
+    if rulesets
+        .allow(rule.number, rule.inode, rule.kind, rule.rights)
+        .is_err()
+    {
+        return Err(AllocError);
+    }
+    Ok(())
+}

@@ -1,0 +1,42 @@
+//! A name that goes, and one that takes another node's place.
+
+ghost use Rattle.std.specs.Prelude.{ℕ, List};
+ghost use Rattle.ll_seq.specs.declared.client.ClientRecord.{ClientRecord};
+ghost use Rattle.ll_answer.specs.declared.changes.Change.TheVariants.{Replace, Take};
+ghost use Rattle.ll_changes.specs.Enacting.{Enacts, MayEnact};
+
+use ll_answer::At;
+use ll_held::{Held, replace_name, take_name, vacate};
+use ll_inodes::Inodes;
+use std::alloc::Global;
+
+/// The inode loses the name, and its slot where nothing keeps its node. Takes no memory.
+pub(crate) fn take(alloc: Global, table: &mut Inodes, lent: &mut [Held], at: &At<'_>, inode: u64)
+    ensures { (slots : List ℕ) (c : ClientRecord) (spare : ℕ) → Enacts (Take at.now inode) slots c spare table.old lent.old c spare table.new lent.new }
+{
+    take_name(lent, at.directory, at.name);
+    if table.unname(at.directory, inode) {
+        vacate(alloc, lent, inode);
+    }
+}
+
+/// The first inode has the second name in the place of the first. The other one, which had it, loses it, and its slot
+/// where nothing keeps its node. Takes no memory.
+pub(crate) fn replace(
+    alloc: Global,
+    table: &mut Inodes,
+    lent: &mut [Held],
+    old: &At<'_>,
+    new: &At<'_>,
+    inode: u64,
+    replaced: u64,
+)
+    requires { (slots : List ℕ) × (c : ClientRecord) × (spare : ℕ) × MayEnact (Replace old.now new.now inode replaced) slots c spare table.old lent.old }
+    ensures { (slots : List ℕ) (c : ClientRecord) (spare : ℕ) → Enacts (Replace old.now new.now inode replaced) slots c spare table.old lent.old c spare table.new lent.new }
+{
+    replace_name(lent, new.directory, new.name, inode);
+    take_name(lent, old.directory, old.name);
+    if table.rename(old.directory, new.directory, inode, Some(replaced)) {
+        vacate(alloc, lent, replaced);
+    }
+}

@@ -1,0 +1,5 @@
+pub mod EachSlot
+pub mod FirstPlace
+pub mod InSlots
+pub mod NameTaken
+pub mod OneSlot

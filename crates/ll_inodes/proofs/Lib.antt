@@ -1,0 +1,4 @@
+pub mod SlotLists
+pub mod LivingNodes
+pub mod NewTables
+pub mod TableSteps

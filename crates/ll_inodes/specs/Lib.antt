@@ -1,0 +1,2 @@
+pub mod InodeTable
+pub mod TableCodes

@@ -1,0 +1,210 @@
+-- What is found under the last names: which of it is marked, and which nodes the commit needs.
+use Rattle.std.specs.Prelude.{◌≡◌, ℕ, Bool, true, false, cond, not, ◌&&◌, ◌||◌, ◌==◌, List, [], ◌∷◌, drop, Option, Some, None, is_none, option_map, option_and_then, option_to_list, nat_le, refl}
+use Rattle.std.specs.Option.{option_map_or}
+use Rattle.std.specs.List.{list_any, list_all}
+use Rattle.std.specs.Ordering.{nat_cmp}
+use Rattle.std.proofs.Common.{sym, ap, ◌∙◌}
+use Rattle.ll_rights.specs.declared.kind.Kind.TheVariants.{Dir}
+use Rattle.ll_rights.specs.declared.limits.TheConstants.{DIRECTORY_ENTRIES}
+use Rattle.ll_rights.specs.Map.{Map, get}
+use Rattle.ll_path.specs.Path.{Path, is_root, last_name}
+use Rattle.ll_path.specs.declared.target.Target.{Target}
+use Rattle.ll_rules.specs.Layer.{Layer}
+use Rattle.ll_decide.specs.Verdict.{when}
+use Rattle.ll_seq.specs.declared.call.Call.{Call}
+use Rattle.ll_seq.specs.declared.call.Call.TheVariants.{Make, Open, Read, Write, Ftruncate, Close, Truncate, ReadDir, Stat, Exec, Unlink, Rmdir, Rename, RenameNoreplace, Exchange, Link, Ruleset, Allow, Confine, Spawn, Connect}
+use Rattle.ll_seq.specs.declared.facts.Fact.{Fact}
+use Rattle.ll_seq.specs.Call.{path_of, targets, first_of, second_of, first_path, second_path}
+use Rattle.ll_seq.specs.Facts.{AreKept}
+use Rattle.ll_seq.specs.Stages.{is_crowded}
+use Rattle.ll_seq.specs.State.{State, root}
+use Rattle.ll_seq.specs.Tree.{named}
+use Rattle.ll_seq.proofs.Parted.{or_right}
+use Rattle.ll_laws.proofs.Granted.{kind_known}
+use Rattle.ll_laws.proofs.Trees.{IsTree}
+use Rattle.ll_answer.specs.Found.{IsSpot, there_in}
+use Rattle.ll_answer.specs.Near.{inode_at, nodes_of, may_make}
+use Rattle.ll_answer.specs.declared.found.Found.{Found}
+use Rattle.ll_answer.specs.declared.found.Spot.{Spot}
+use Rattle.ll_answer.specs.declared.found.There.{There}
+use Rattle.ll_walks.specs.Walk.{Leg, is_in}
+use Rattle.ll_walks.specs.World.{last_node, last_nodes}
+use Rattle.ll_walks.proofs.Tests.{itself_in}
+use Rattle.ll_held.specs.declared.held.Held.{Held}
+use Rattle.ll_changes.specs.Accounts.{names_map}
+use Rattle.ll_journal.specs.WalkEnds.{nodes_at_end, would_make}
+use Rattle.ll_journal.specs.Looks.{crowded_at, is_marked_at, is_marked_there, last_in, spot_at, there_at, there_by}
+use Rattle.ll_journal.proofs.AtEnds.{IsEnd, any_last, crowded_is, end_look_up, end_spot, has_fact, there_is}
+
+-- under the path's last name stands what the spot tells
+abbrev pub IsThere : State → Path → Spot → Type 0
+IsThere s path spot = spot.there ≡ option_map (there_in s) (named s path)
+
+-- ---- one path
+
+module _ (s : State) (path : Path) (spot : Spot) (there : IsThere s path spot) where
+  pub marked_last : (marked : ℕ → Bool) → is_marked_at marked path spot ≡ list_any marked (last_node s path)
+  marked_last marked = ap (λ (o : Option There). not (is_root path) && option_map_or (λ (t : There). marked t.inode) o false) there ∙ by (is_root path) (named s path)
+    where
+      only : (b : Bool) → b ≡ (b || false)
+      only true = refl
+      only false = refl
+
+      by : (b : Bool) (o : Option ℕ) → (not b && option_map_or (λ (t : There). marked t.inode) (option_map (there_in s) o) false) ≡ list_any marked (when (not b) (option_to_list o))
+      by true o = refl
+      by false None = refl
+      by false (Some node) = only (marked node)
+
+  abbrev inode_of : Option There → ℕ
+  inode_of o = option_map_or (λ (t : There). t.inode) o 0
+
+  -- what holds of the last node, and of the root, holds of what is found
+  pub each_last : (f : ℕ → Bool) → (is_root path ≡ true → f root ≡ true) → ((inode : ℕ) → is_in (last_node s path) inode ≡ true → f inode ≡ true) → ((inode_at spot == 0) || f (inode_at spot)) ≡ true
+  each_last f top last = ap (λ o. (inode_of o == 0) || f (inode_of o)) there ∙ by path top last
+    where
+      by : (p : Path) → (is_root p ≡ true → f root ≡ true) → ((inode : ℕ) → is_in (last_node s p) inode ≡ true → f inode ≡ true)
+          → ((inode_of (option_map (there_in s) (named s p)) == 0) || f (inode_of (option_map (there_in s) (named s p)))) ≡ true
+      by [] top last = top refl
+      by (name ∷ rest) top last =
+          elim (named s (name ∷ rest)) as (λ o. ((inode : ℕ) → is_in (option_to_list o) inode ≡ true → f inode ≡ true) → ((inode_of (option_map (there_in s) o) == 0) || f (inode_of (option_map (there_in s) o))) ≡ true) [
+            | None ↦ λ l. refl
+            | Some i ↦ λ l. or_right (i == 0) (f i) (l i (itself_in i []))
+          ] last
+
+  pub none_there : is_none spot.there ≡ is_none (named s path)
+  none_there = ap is_none there ∙ elim (named s path) as (λ o. is_none (option_map (there_in s) o) ≡ is_none o) [ None ↦ refl | Some i ↦ refl ]
+
+-- ---- the paths of a call
+
+few_targets : (call : Call) → drop 2 (targets call) ≡ []
+few_targets (Make kind t) = refl
+few_targets (Open mode t) = refl
+few_targets (Read fd offset count) = refl
+few_targets (Write fd offset bytes) = refl
+few_targets (Ftruncate fd size) = refl
+few_targets (Close fd) = refl
+few_targets (Truncate t size) = refl
+few_targets (ReadDir t) = refl
+few_targets (Stat t) = refl
+few_targets (Exec t) = refl
+few_targets (Unlink t) = refl
+few_targets (Rmdir t) = refl
+few_targets (Rename o n) = refl
+few_targets (RenameNoreplace o n) = refl
+few_targets (Exchange o n) = refl
+few_targets (Link o n) = refl
+few_targets (Ruleset rights) = refl
+few_targets (Allow number t rights) = refl
+few_targets (Confine number) = refl
+few_targets Spawn = refl
+few_targets Connect = refl
+
+pub marked_there : (s : State) (call : Call) (found : Found) (marked : ℕ → Bool) → IsThere s (first_path call) found.first → IsThere s (second_path call) found.second
+    → is_marked_there marked call found ≡ list_any marked (last_nodes s call)
+marked_there s call found marked one other =
+    (λ i. marked_last s (first_path call) found.first one marked i || marked_last s (second_path call) found.second other marked i)
+    ∙ over (targets call) (few_targets call) ∙ sym (any_last s call marked)
+  where
+    at : Target → Bool
+    at t = list_any marked (last_node s (path_of t))
+
+    once : (b : Bool) → (b || b) ≡ (b || false)
+    once true = refl
+    once false = refl
+
+    twice : (a b : Bool) → (a || b) ≡ (a || (b || false))
+    twice true b = refl
+    twice false true = refl
+    twice false false = refl
+
+    over : (ts : List Target) → drop 2 ts ≡ [] → (list_any marked (last_node s (first_of ts)) || list_any marked (last_node s (second_of ts))) ≡ list_any at ts
+    over [] e = refl
+    over (t ∷ []) e = once (at t)
+    over (t ∷ (u ∷ [])) e = twice (at t) (at u)
+    over (t ∷ (u ∷ (v ∷ ts))) e = absurd (cc e)
+
+alone : (b : Bool) → b ≡ true → (b && true) ≡ true
+alone true e = refl
+alone false e = e
+
+-- what holds of the nodes at the end, and of the root where a path is the root's, holds of what is found
+pub each_node : (s : State) (call : Call) (found : Found) (f : ℕ → Bool) → IsThere s (first_path call) found.first → IsThere s (second_path call) found.second
+    → (is_root (first_path call) ≡ true → f root ≡ true) → (is_root (second_path call) ≡ true → f root ≡ true) → ((inode : ℕ) → is_in (nodes_at_end s call) inode ≡ true → f inode ≡ true)
+    → list_all (λ inode. (inode == 0) || f inode) (nodes_of call found) ≡ true
+each_node s (Make kind t) found f one other top below all = refl
+each_node s (Open mode t) found f one other top below all = alone _ (each_last s (path_of t) found.first one f top all)
+each_node s (Read fd offset count) found f one other top below all = refl
+each_node s (Write fd offset bytes) found f one other top below all = refl
+each_node s (Ftruncate fd size) found f one other top below all = refl
+each_node s (Close fd) found f one other top below all = refl
+each_node s (Truncate t size) found f one other top below all = alone _ (each_last s (path_of t) found.first one f top all)
+each_node s (ReadDir t) found f one other top below all = alone _ (each_last s (path_of t) found.first one f top all)
+each_node s (Stat t) found f one other top below all = alone _ (each_last s (path_of t) found.first one f top all)
+each_node s (Exec t) found f one other top below all = refl
+each_node s (Unlink t) found f one other top below all = alone _ (each_last s (path_of t) found.first one f top all)
+each_node s (Rmdir t) found f one other top below all = alone _ (each_last s (path_of t) found.first one f top all)
+each_node s (Rename o n) found f one other top below all = alone _ (each_last s (path_of n) found.second other f below all)
+each_node s (RenameNoreplace o n) found f one other top below all = alone _ (each_last s (path_of n) found.second other f below all)
+each_node s (Exchange o n) found f one other top below all = refl
+each_node s (Link o n) found f one other top below all = refl
+each_node s (Ruleset rights) found f one other top below all = refl
+each_node s (Allow number t rights) found f one other top below all = refl
+each_node s (Confine number) found f one other top below all = refl
+each_node s Spawn found f one other top below all = refl
+each_node s Connect found f one other top below all = refl
+
+-- the call may make a node where it would
+pub makes_there : (s : State) (call : Call) (found : Found) → IsThere s (first_path call) found.first → may_make call found ≡ would_make s call
+makes_there s (Make kind t) found there = refl
+makes_there s (Open mode t) found there = none_there s (path_of t) found.first there
+makes_there s (Read fd offset count) found there = refl
+makes_there s (Write fd offset bytes) found there = refl
+makes_there s (Ftruncate fd size) found there = refl
+makes_there s (Close fd) found there = refl
+makes_there s (Truncate t size) found there = refl
+makes_there s (ReadDir t) found there = refl
+makes_there s (Stat t) found there = refl
+makes_there s (Exec t) found there = refl
+makes_there s (Unlink t) found there = refl
+makes_there s (Rmdir t) found there = refl
+makes_there s (Rename o n) found there = refl
+makes_there s (RenameNoreplace o n) found there = refl
+makes_there s (Exchange o n) found there = refl
+makes_there s (Link o n) found there = refl
+makes_there s (Ruleset rights) found there = refl
+makes_there s (Allow number t rights) found there = refl
+makes_there s (Confine number) found there = refl
+makes_there s Spawn found there = refl
+makes_there s Connect found there = refl
+
+-- ---- what a lent directory and the facts tell of the last name
+
+root_named : (s : State) (path : Path) → is_root path ≡ true → named s path ≡ Some root
+root_named s [] e = refl
+root_named s (name ∷ path) e = absurd (cc e)
+
+module _ (s : State) (tree : IsTree s) (facts : Map nat_cmp Fact) (kept : AreKept s facts) (domain : List Layer) (path : Path) (leg : Leg) (end : IsEnd s domain path leg)
+    (held : Held) (here : held.inode ≡ leg.here) (names : held.node.names ≡ names_map s leg.here) where
+  last_is : last_in held path ≡ named s path
+  last_is = elim (is_root path) as (λ b. is_root path ≡ b → cond b (Some root) (get held.node.names (last_name path)) ≡ named s path) [
+    | true ↦ λ e. sym (root_named s path e)
+    | false ↦ λ e. ap (λ m. get m (last_name path)) names ∙ end_look_up s tree domain path leg end e
+  ] refl
+
+  pub there_last : IsThere s path (spot_at facts held path)
+  there_last = ap (option_and_then (there_at facts)) last_is ∙ by (named s path) refl
+    where
+      by : (o : Option ℕ) → named s path ≡ o → option_and_then (there_at facts) o ≡ option_map (there_in s) o
+      by None e = refl
+      by (Some i) e =
+          let kind = kind_known s tree path i e in
+          let fact = has_fact s facts kept i kind.0 kind.1 in
+          ap (option_map (there_by i)) fact.1 ∙ ap Some (there_is s facts kept i fact.0 fact.1)
+
+  pub crowded_last : crowded_at facts held.inode ≡ is_crowded s leg.here
+  crowded_last =
+      let fact = has_fact s facts kept leg.here Dir end.directory in
+      ap (crowded_at facts) here ∙ ap (λ (o : Option Fact). option_map_or (λ (f : Fact). nat_le DIRECTORY_ENTRIES f.names) o false) fact.1 ∙ crowded_is s facts kept leg.here fact.0 fact.1
+
+  pub spot_last : IsSpot s path (spot_at facts held path)
+  spot_last = end_spot s tree domain path leg end (spot_at facts held path) refl here crowded_last there_last

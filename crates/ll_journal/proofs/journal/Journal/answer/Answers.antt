@@ -1,0 +1,144 @@
+use Rattle.std.specs.Prelude.{◌≡◌, ℕ, List, Option, Some, None, length, map, slice_set, refl}
+use Rattle.std.specs.Vec.{with_item}
+use Rattle.std.proofs.Common.{rules, ap, sym, subst, ◌∙◌}
+use Rattle.ll_answer.specs.Found.{AreFacts}
+use Rattle.ll_seq.specs.declared.call.Call.{Call}
+use Rattle.ll_seq.specs.declared.reply.Reply.{Reply}
+use Rattle.ll_seq.specs.declared.reply.Reply.TheVariants.{Refused}
+use Rattle.ll_rights.specs.declared.errno.Errno.TheVariants.{HistoryFull}
+use Rattle.ll_seq.specs.State.{State}
+use Rattle.ll_walks.specs.Walk.{Walk}
+use Rattle.ll_walks.specs.World.{Commit, Replied, advance, is_full, moved_by, shown}
+use Rattle.ll_journal.specs.declared.journal.Journal.TheInside.{Inside}
+use Rattle.ll_journal.specs.Book.{Book, Spares, mark_of}
+use Rattle.ll_journal.specs.Decidings.{moved_list}
+use Rattle.ll_journal.specs.Kept.{book_of, spares_of, world_of}
+use Rattle.ll_journal.specs.Performed.{Performs}
+use Rattle.ll_journal.proofs.AtAnswers.{EndedSo, at_end, ended_so, seat_idle}
+use Rattle.ll_journal.proofs.Committed.{committed_kept, committed_lent, committed_spares, committed_step, spares_both}
+use Rattle.ll_journal.proofs.DecidedCalls.{no_zero}
+use Rattle.ll_journal.proofs.Ended.{commit_gives_up}
+use Rattle.ll_journal.proofs.Stepping.{book_unchanged, entered, set_again}
+use Rattle.ll_journal.proofs.journal.Journal.answer.Goals as goal
+
+-- the history is full
+pub returns-then-is_full-clause-does : goal.returns-then-is_full-clause-does
+returns-then-is_full-clause-does c =
+    let r = c.requires.reached in
+    commit_gives_up c.args.self.now.world c.args.client r.walk r.ends.is r.ends.may (ap (λ (b : Book). is_full b.world) (sym c.self.view_is) ∙ sym c.is_full-is_full.ensures ∙ c.if-is_full.true)
+    ∙ ap (λ w. (Replied (Refused HistoryFull), w)) (sym c.end_walk-walk.ensures.world)
+
+-- ---- the call is made
+
+ended : (c : goal.After-walk-1) → EndedSo c.self.inside c.self-2.inside c.args.client c.args.place c.args.slots.now c.args.found.now c.end_walk-walk.result.call c.end_walk-walk.result.first c.end_walk-walk.result.second c.end_walk-walk.new.lent c.index_mut-seat.result.now
+ended c =
+    ended_so c.self.inside c.self-2.inside c.args.self.now c.end_walk-walk.new.self c.self.view_is c.self-2.view_is c.args.client c.args.place c.args.slots.now c.args.found.now c.requires.reached
+    c.end_walk-walk.ensures.world c.end_walk-walk.ensures.rest c.end_walk-walk.result.call c.end_walk-walk.result.first c.end_walk-walk.result.second c.end_walk-walk.ensures.call c.end_walk-walk.ensures.first c.end_walk-walk.ensures.second
+    c.args.lent.now c.end_walk-walk.new.lent c.requires.lent c.end_walk-walk.ensures.lent c.index_mut-seat.result.now c.requires.place c.requires.numbered c.index_mut-seat.ensures.value
+
+pub perform-requires-clause-idle : goal.perform-requires-clause-idle
+perform-requires-clause-idle c =
+    seat_idle c.self.inside c.self-2.inside c.self.invariant c.self-2.invariant c.args.client c.args.place c.args.slots.now c.requires.distinct c.args.found.now (ended c).reached (ended c).world (ended c).inodes (ended c).spares
+    c.end_walk-walk.result.call (ended c).call_is c.end_walk-walk.result.first c.end_walk-walk.result.second (ended c).first_masks (ended c).second_masks c.end_walk-walk.new.lent (ended c).told (ap is_full (ended c).world ∙ sym c.is_full-is_full.ensures ∙ c.if-is_full.false) c.index_mut-seat.result.now (ended c).at c.requires.numbered
+
+pub perform-requires-clause-end : goal.perform-requires-clause-end
+perform-requires-clause-end c = (
+  shown (world_of c.self-2.inside),
+  c.args.client,
+  mark_of (world_of c.self-2.inside),
+  spares_of c.self-2.inside.seats.items,
+  c.args.place,
+  at_end c.self.inside c.self-2.inside c.self.invariant c.self-2.invariant c.args.client c.args.place c.args.slots.now c.requires.distinct c.args.found.now (ended c).reached (ended c).world (ended c).inodes (ended c).spares
+      c.end_walk-walk.result.call (ended c).call_is c.end_walk-walk.result.first c.end_walk-walk.result.second (ended c).first_masks (ended c).second_masks c.end_walk-walk.new.lent (ended c).told (ap is_full (ended c).world ∙ sym c.is_full-is_full.ensures ∙ c.if-is_full.false) c.index_mut-seat.result.now (ended c).at c.requires.numbered,
+)
+
+-- ---- memory ran out
+
+ended_starved : (c : goal.After-drop-in_default) → EndedSo c.self.inside c.self-2.inside c.args.client c.args.place c.args.slots.now c.args.found.now c.end_walk-walk.result.call c.end_walk-walk.result.first c.end_walk-walk.result.second c.end_walk-walk.new.lent c.index_mut-seat.result.now
+ended_starved c =
+    ended_so c.self.inside c.self-2.inside c.args.self.now c.end_walk-walk.new.self c.self.view_is c.self-2.view_is c.args.client c.args.place c.args.slots.now c.args.found.now c.requires.reached
+    c.end_walk-walk.ensures.world c.end_walk-walk.ensures.rest c.end_walk-walk.result.call c.end_walk-walk.result.first c.end_walk-walk.result.second c.end_walk-walk.ensures.call c.end_walk-walk.ensures.first c.end_walk-walk.ensures.second
+    c.args.lent.now c.end_walk-walk.new.lent c.requires.lent c.end_walk-walk.ensures.lent c.index_mut-seat.result.now c.requires.place c.requires.numbered c.index_mut-seat.ensures.value
+
+abbrev starved : goal.After-drop-in_default → Inside
+starved c = record c.self-2.inside { seats = with_item c.self-2.inside.seats c.args.place c.perform.new.self; table = c.perform.new.table }
+
+pub returns-in_default-clause-spares : goal.returns-in_default-clause-spares
+returns-in_default-clause-spares c =
+    let r = c.requires.reached in
+    let err = c.in_default.ensures.err in
+    subst (λ (b : Book). Spares c.args.self.now b c.args.slots.now)
+    (sym c.self-2.view_is ∙ sym (book_unchanged c.self-2.inside (starved c) refl refl refl refl
+    (ap (slice_set c.self-2.inside.seats.items c.args.place) err.0 ∙ set_again c.self-2.inside.seats.items c.args.place c.index_mut-seat.result.now (ended_starved c).at) err.1))
+    (c.end_walk-walk.ensures.spares c.args.slots.now r.walk r.ends.is r.ends.marked)
+
+-- ---- the call is answered
+
+ended_then : (c : goal.Joined-walk-2) → EndedSo c.self.inside c.self-2.inside c.args.client c.args.place c.args.slots.now c.args.found.now c.end_walk-walk.result.call c.end_walk-walk.result.first c.end_walk-walk.result.second c.end_walk-walk.new.lent c.index_mut-seat.result.now
+ended_then c =
+    ended_so c.self.inside c.self-2.inside c.args.self.now c.end_walk-walk.new.self c.self.view_is c.self-2.view_is c.args.client c.args.place c.args.slots.now c.args.found.now c.requires.reached
+    c.end_walk-walk.ensures.world c.end_walk-walk.ensures.rest c.end_walk-walk.result.call c.end_walk-walk.result.first c.end_walk-walk.result.second c.end_walk-walk.ensures.call c.end_walk-walk.ensures.first c.end_walk-walk.ensures.second
+    c.args.lent.now c.end_walk-walk.new.lent c.requires.lent c.end_walk-walk.ensures.lent c.index_mut-seat.result.now c.requires.place c.requires.numbered c.index_mut-seat.ensures.value
+
+abbrev after : goal.Joined-walk-2 → Inside
+after c = record c.self-2.inside { history = c.push.new.self; seats = c.overtake_moved.new.seats; table = c.perform.new.table }
+
+abbrev walk_then : goal.Joined-walk-2 → Walk
+walk_then c = (ended_then c).reached.walk
+
+performs : (c : goal.Joined-walk-2) → Performs (shown (world_of c.self-2.inside)) c.args.client (mark_of (world_of c.self-2.inside)) (spares_of c.self-2.inside.seats.items) c.args.place c.self-2.inside.table c.args.slots.now (walk_then c).call
+    c.in-Ok.reply c.perform.new.self.client c.perform.new.self.spare c.perform.new.table c.perform.new.lent
+performs c =
+    subst (λ (call : Call). Performs (shown (world_of c.self-2.inside)) c.args.client (mark_of (world_of c.self-2.inside)) (spares_of c.self-2.inside.seats.items) c.args.place c.self-2.inside.table c.args.slots.now call
+    c.in-Ok.reply c.perform.new.self.client c.perform.new.self.spare c.perform.new.table c.perform.new.lent) (ended_then c).call_is
+    (c.in-Ok.ensures.ok (shown (world_of c.self-2.inside)) c.args.client (mark_of (world_of c.self-2.inside)) (spares_of c.self-2.inside.seats.items) c.args.place
+    (at_end c.self.inside c.self-2.inside c.self.invariant c.self-2.invariant c.args.client c.args.place c.args.slots.now c.requires.distinct c.args.found.now (ended_then c).reached (ended_then c).world (ended_then c).inodes (ended_then c).spares
+    c.end_walk-walk.result.call (ended_then c).call_is c.end_walk-walk.result.first c.end_walk-walk.result.second (ended_then c).first_masks (ended_then c).second_masks c.end_walk-walk.new.lent (ended_then c).told (ap is_full (ended_then c).world ∙ sym c.is_full-is_full.ensures ∙ c.if-is_full.false) c.index_mut-seat.result.now (ended_then c).at c.requires.numbered))
+
+moves : (c : goal.Joined-walk-2) → moved_list c.moved_by.result ≡ moved_by (shown (world_of c.self-2.inside)) (walk_then c).call c.in-Ok.reply
+moves c =
+    let r = (ended_then c).reached in
+    let tree : shown (world_of c.self-2.inside) ≡ shown (world_of c.self.inside) = ap shown (ended_then c).world in
+    c.moved_by.ensures (shown (world_of c.self-2.inside))
+    (subst (λ (p : State × Call). AreFacts p.0 p.1 c.args.found.now) (λ i. (sym tree i, sym (ended_then c).call_is i)) r.facts) r.old.way r.new.way
+    (no_zero (shown (world_of c.self-2.inside)) (spares_of c.self-2.inside.seats.items) c.self-2.inside.table c.self-2.invariant.table)
+    ∙ ap (λ (call : Call). moved_by (shown (world_of c.self-2.inside)) call c.in-Ok.reply) (ended_then c).call_is
+
+entry_is : (c : goal.Joined-walk-2) → c.push.new.self ≡ entered c.self-2.inside c.args.client (walk_then c).call c.in-Ok.reply
+entry_is c = c.push.ensures ∙ ap (λ (call : Call). entered c.self-2.inside c.args.client call c.in-Ok.reply) (ended_then c).call_is
+
+idle_then : (c : goal.Joined-walk-2) → c.index_mut-seat.result.now.walk ≡ None
+idle_then c =
+    seat_idle c.self.inside c.self-2.inside c.self.invariant c.self-2.invariant c.args.client c.args.place c.args.slots.now c.requires.distinct c.args.found.now (ended_then c).reached (ended_then c).world (ended_then c).inodes (ended_then c).spares
+    c.end_walk-walk.result.call (ended_then c).call_is c.end_walk-walk.result.first c.end_walk-walk.result.second (ended_then c).first_masks (ended_then c).second_masks c.end_walk-walk.new.lent (ended_then c).told (ap is_full (ended_then c).world ∙ sym c.is_full-is_full.ensures ∙ c.if-is_full.false) c.index_mut-seat.result.now (ended_then c).at c.requires.numbered
+
+pub invariant_of-self-2 : goal.invariant_of-self-2
+invariant_of-self-2 c =
+    committed_kept c.self.inside c.self-2.inside (after c) c.self.invariant c.self-2.invariant c.args.client c.args.place (walk_then c) (ended_then c).reached.ends.is (ended_then c).reached.ends.may
+    (ended_then c).world (ap is_full (ended_then c).world ∙ sym c.is_full-is_full.ensures ∙ c.if-is_full.false) c.index_mut-seat.result.now (ended_then c).at c.requires.numbered c.in-Ok.reply c.perform.new.self.client c.perform.new.self.spare c.perform.new.lent c.args.slots.now (performs c)
+    c.perform.new.self refl refl (c.in-Ok.ensures.rest ∙ sym (idle_then c)) (moved_list c.moved_by.result) (moves c) c.overtake_moved.ensures (entry_is c) refl refl refl
+
+pub returns-clause-does : goal.returns-clause-does
+returns-clause-does c = (
+  ap (λ (b : Book). is_full b.world) (sym c.self.view_is) ∙ sym c.is_full-is_full.ensures ∙ c.if-is_full.false,
+  c.in-Ok.reply,
+  subst (λ (b : Book). advance b.world (Commit c.args.client) ≡ (Replied c.in-Ok.reply, world_of (after c))) c.self.view_is
+      (committed_step c.self.inside c.self-2.inside (after c) c.self.invariant c.self-2.invariant c.args.client c.args.place (walk_then c) (ended_then c).reached.ends.is (ended_then c).reached.ends.may
+      (ended_then c).world (ap is_full (ended_then c).world ∙ sym c.is_full-is_full.ensures ∙ c.if-is_full.false) c.index_mut-seat.result.now (ended_then c).at c.requires.numbered c.in-Ok.reply c.perform.new.self.client c.perform.new.self.spare c.perform.new.lent c.args.slots.now (performs c)
+      c.perform.new.self refl refl (c.in-Ok.ensures.rest ∙ sym (idle_then c)) (moved_list c.moved_by.result) (moves c) c.overtake_moved.ensures (entry_is c) refl refl refl),
+)
+
+pub returns-clause-lent : goal.returns-clause-lent
+returns-clause-lent c =
+    committed_lent c.self.inside c.self-2.inside (after c) c.self.invariant c.self-2.invariant c.args.client c.args.place (walk_then c) (ended_then c).reached.ends.is (ended_then c).reached.ends.may
+    (ended_then c).world (ap is_full (ended_then c).world ∙ sym c.is_full-is_full.ensures ∙ c.if-is_full.false) c.index_mut-seat.result.now (ended_then c).at c.requires.numbered c.in-Ok.reply c.perform.new.self.client c.perform.new.self.spare c.perform.new.lent c.args.slots.now (performs c)
+    c.perform.new.self refl refl (c.in-Ok.ensures.rest ∙ sym (idle_then c)) (moved_list c.moved_by.result) (moves c) c.overtake_moved.ensures (entry_is c) refl refl refl
+
+pub returns-clause-spares : goal.returns-clause-spares
+returns-clause-spares c =
+    let r = c.requires.reached in
+    spares_both c.args.self.now c.end_walk-walk.new.self (book_of (after c)) c.args.slots.now (c.end_walk-walk.ensures.spares c.args.slots.now r.walk r.ends.is r.ends.marked)
+    (subst (λ (b : Book). Spares b (book_of (after c)) c.args.slots.now) c.self-2.view_is
+    (committed_spares c.self.inside c.self-2.inside (after c) c.self.invariant c.self-2.invariant c.args.client c.args.place (walk_then c) (ended_then c).reached.ends.is (ended_then c).reached.ends.may
+    (ended_then c).world (ap is_full (ended_then c).world ∙ sym c.is_full-is_full.ensures ∙ c.if-is_full.false) c.index_mut-seat.result.now (ended_then c).at c.requires.numbered c.in-Ok.reply c.perform.new.self.client c.perform.new.self.spare c.perform.new.lent c.args.slots.now (performs c)
+    c.perform.new.self refl refl (c.in-Ok.ensures.rest ∙ sym (idle_then c)) (moved_list c.moved_by.result) (moves c) c.overtake_moved.ensures (entry_is c) refl refl refl))

@@ -1,0 +1,162 @@
+//! The commit of a walk: its call is answered.
+
+ghost use Rattle.std.specs.Prelude.{◌≡◌, ◌≢◌, ◌⊎◌, ◌<◌, ℕ, List, suc, true, length, map, Some};
+ghost use Rattle.ll_rights.specs.Map.{get};
+ghost use Rattle.ll_walks.specs.Walk as walks;
+
+use crate::decided::{moved_by, overtake_moved};
+use crate::ending::released;
+use crate::journal::{Journal, place_of};
+use crate::outcome::Ending;
+use crate::seat::Ended;
+use crate::stop::{Sight, Stop, stop_of};
+use ll_answer::Found;
+use ll_held::{Held, unmark};
+use ll_rights::Errno;
+use ll_seq::{Entry, Reply};
+
+impl Journal {
+    ghost use Rattle.ll_decide.specs.Masks.{AreMasks};
+    ghost use Rattle.ll_walks.specs.Commits.{first_end, second_end};
+    ghost use Rattle.ll_walks.specs.World.{domain_of, without_walk};
+    ghost use Rattle.ll_journal.specs.Book.{Spares, slot_of};
+    ghost use Rattle.ll_inodes.specs.InodeTable.{AreDistinct};
+    ghost use Rattle.ll_journal.specs.WalkEnds.{Ends, IsAstrayAtEnd, MayTakeMemory, is_lent};
+    ghost use Rattle.ll_journal.specs.Stopped.{IsBlockedEnd, IsReachedEnd, IsStop};
+
+    /// The walk of the client at the place ends, and with it its marks.
+    pub(crate) fn end_walk(&mut self, place: usize, client: u64, lent: &mut [Held]) -> Ended
+        requires numbered { client ≡ suc place }
+        requires place { place < length self.old.spares }
+        requires walk { (walk : walks.Walk) × (get self.old.world.walks client ≡ Some walk) }
+        ensures world { self.new.world ≡ without_walk self.old.world client }
+        ensures rest { self.new ≡ record self.old { world = self.new.world } }
+        ensures call { (walk : walks.Walk) → get self.old.world.walks client ≡ Some walk → result.call ≡ walk.call }
+        ensures first { (walk : walks.Walk) (leg : walks.Leg) → get self.old.world.walks client ≡ Some walk → first_end walk.at ≡ Some leg
+            → AreMasks result.first (domain_of self.old.world client) leg.chain }
+        ensures second { (walk : walks.Walk) (leg : walks.Leg) → get self.old.world.walks client ≡ Some walk → second_end walk.at ≡ Some leg
+            → AreMasks result.second (domain_of self.old.world client) leg.chain }
+        ensures lent { (slots : List ℕ) → lent.old ≡ map (slot_of self.old) slots → lent.new ≡ map (slot_of self.new) slots }
+        ensures spares { (slots : List ℕ) (walk : walks.Walk) → get self.old.world.walks client ≡ Some walk
+            → ((inode : ℕ) → walks.marks walk inode ≡ true → is_lent self.old slots inode ≡ true) → Spares self.old self.new slots }
+    {
+        let seat = &mut self.seats[place];
+        let walk = seat.end();
+        self.gate = released(self.gate, client);
+        unmark(lent, client);
+        walk
+    }
+
+    /// Whether the walk of the client at the place may be answered, and for what.
+    fn stop(&self, place: usize, client: u64, slots: &[u64], lent: &[Held]) -> Stop
+        requires numbered { client ≡ suc place }
+        requires place { place < length self.now.spares }
+        requires lent { lent.now ≡ map (slot_of self.now) slots.now }
+        ensures { IsStop self.now client slots.now result }
+    {
+        let sight = Sight {
+            seats: &self.seats,
+            table: &self.table,
+            room: self.room,
+            slots,
+            lent,
+        };
+        stop_of(&sight, client, &self.seats[place])
+    }
+
+    /// The walk can't go on: its call is refused so.
+    fn refuse(
+        &mut self,
+        place: usize,
+        client: u64,
+        slots: &[u64],
+        lent: &mut [Held],
+        errno: Errno,
+    ) -> Ending
+        requires numbered { client ≡ suc place }
+        requires place { place < length self.old.spares }
+        requires lent { lent.old ≡ map (slot_of self.old) slots.now }
+        requires blocked { IsBlockedEnd self.old client slots.now errno }
+        ensures does { Ends self.old client result self.new }
+        ensures lent { lent.new ≡ map (slot_of self.new) slots.now }
+        ensures spares { Spares self.old self.new slots.now }
+        ensures told { (result ≡ Ending.Replied) ⊎ (result ≡ Ending.HistoryFull) }
+    {
+        let is_full = self.history.is_full();
+        let walk = self.end_walk(place, client, lent);
+        if is_full {
+            drop(walk);
+            return Ending::HistoryFull;
+        }
+        self.history.push(Entry {
+            client,
+            call: walk.call,
+            reply: Reply::Refused(errno),
+        });
+        Ending::Replied
+    }
+
+    /// Each branch is at its end: the walk's call is decided and made.
+    fn answer(
+        &mut self,
+        place: usize,
+        client: u64,
+        slots: &[u64],
+        lent: &mut [Held],
+        found: &Found,
+    ) -> Ending
+        requires numbered { client ≡ suc place }
+        requires place { place < length self.old.spares }
+        requires distinct { AreDistinct slots.now }
+        requires lent { lent.old ≡ map (slot_of self.old) slots.now }
+        requires reached { IsReachedEnd self.old client slots.now found.now }
+        ensures does { Ends self.old client result self.new }
+        ensures lent { lent.new ≡ map (slot_of self.new) slots.now }
+        ensures spares { Spares self.old self.new slots.now }
+        ensures calm { result ≡ Ending.NoMemory → MayTakeMemory self.old.world client }
+        ensures not_astray { result ≢ Ending.Astray }
+    {
+        let is_full = self.history.is_full();
+        let walk = self.end_walk(place, client, lent);
+        if is_full {
+            drop(walk);
+            return Ending::HistoryFull;
+        }
+        let alloc = self.alloc;
+        let seat = &mut self.seats[place];
+        let Ok(reply) = seat.perform(alloc, &mut self.table, slots, lent, &walk, found) else {
+            drop(walk);
+            return Ending::NoMemory;
+        };
+        overtake_moved(&mut self.seats, moved_by(&walk.call, found, &reply));
+        self.history.push(Entry {
+            client,
+            call: walk.call,
+            reply,
+        });
+        Ending::Replied
+    }
+
+    /// The client's walk is answered. What is lent lies in these slots: those of the directories where the walk stands,
+    /// of the node that the call may change or tell of, and the client's spare slot if the call would make a node. The
+    /// walk ends in any case but the first two; only calls that add something take memory.
+    pub fn commit(&mut self, client: u64, slots: &[u64], lent: &mut [Held]) -> Ending
+        requires distinct { AreDistinct slots.now }
+        requires lent { lent.old ≡ map (slot_of self.old) slots.now }
+        ensures does { Ends self.old client result self.new }
+        ensures lent { lent.new ≡ map (slot_of self.new) slots.now }
+        ensures spares { Spares self.old self.new slots.now }
+        ensures astray { result ≡ Ending.Astray → IsAstrayAtEnd self.old client slots.now }
+        ensures calm { result ≡ Ending.NoMemory → MayTakeMemory self.old.world client }
+    {
+        let Some(place) = place_of(&self.seats, client) else {
+            return Ending::NotNow;
+        };
+        match self.stop(place, client, slots, lent) {
+            Stop::NotNow => Ending::NotNow,
+            Stop::Astray => Ending::Astray,
+            Stop::Blocked(errno) => self.refuse(place, client, slots, lent, errno),
+            Stop::Reached(found) => self.answer(place, client, slots, lent, &found),
+        }
+    }
+}

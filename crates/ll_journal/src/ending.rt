@@ -1,0 +1,36 @@
+//! What a commit does to the walks of all clients.
+
+ghost use Rattle.std.specs.Prelude.{◌≡◌, List, map, option_map};
+ghost use Rattle.ll_walks.specs.World as world;
+ghost use Rattle.ll_journal.specs.Book as book;
+ghost use Rattle.ll_journal.specs.Kept.{walks_from};
+
+use crate::seat::Seat;
+
+/// Every walk that passes one of these directories is stale.
+pub(crate) fn overtake(seats: &mut Vec<Seat>, moved: &[u64])
+    ensures { seats.new.items ≡ map (λ (seat : book.Seat). record seat { walk = option_map (world.overtaken moved.now) seat.walk }) seats.old.items }
+{
+    for seat in seats.iter_mut() {
+        seat.overtake(moved);
+    }
+}
+
+/// Whether the walk of another client stands in the directory.
+pub(crate) fn is_marked_by_other(seats: &[Seat], client: u64, inode: u64) -> bool
+    ensures { (w : world.World) → w.walks ≡ walks_from 1 seats.now → result ≡ world.is_marked_by_other w client inode }
+{
+    for (place, seat) in seats.iter().enumerate() {
+        if place as u64 + 1 != client && seat.stands_in(inode) {
+            return true;
+        }
+    }
+    false
+}
+
+/// Who holds the gate when the client's walk has ended.
+pub(crate) fn released(gate: Option<u64>, client: u64) -> Option<u64>
+    ensures { result ≡ world.released gate client }
+{
+    if gate == Some(client) { None } else { gate }
+}

@@ -1,0 +1,141 @@
+//! Calls on descriptors: what they ask of a file, and the answers that need its bytes.
+
+ghost use Rattle.std.specs.Prelude.{◌≡◌, false, IfOk, OnErr};
+ghost use Rattle.ll_rights.specs.Kind.{is_dir};
+ghost use Rattle.ll_seq.specs.declared.call.Call.TheVariants as calls;
+ghost use Rattle.ll_journal.specs.Files.{ComesOn, IsOn, on_bytes};
+
+use crate::alone::refusal;
+use ll_decide::{Cause, Denial, Place};
+use ll_held::Held;
+use ll_node::Slot;
+use ll_path::Data;
+use ll_rights::limits::DATA_BYTES;
+use ll_rights::{Errno, Right};
+use ll_seq::{Call, Descriptor, Reply};
+use std::alloc::AllocError;
+
+const MOST_READ: u64 = DATA_BYTES as u64;
+
+/// A call on the bytes of an open file.
+#[derive(Drop)]
+pub(crate) enum BytesCall<'a> {
+    /// From an offset on, at most so many are read.
+    Read(u64, u64),
+    /// From an offset on they become these.
+    Write(u64, &'a Data),
+    /// They are cut to this many, or filled with zeros to them.
+    Resize(u64),
+}
+
+/// A call on a descriptor.
+#[derive(Drop)]
+pub(crate) enum FileCall<'a> {
+    Close,
+    OnBytes(BytesCall<'a>),
+}
+
+/// The number of the descriptor that the call is made on, and what it asks.
+pub(crate) fn file_call(call: &Call) -> Option<(u64, FileCall<'_>)>
+    ensures { IsOn call.now result }
+{
+    match call {
+        Call::Close(fd) => Some((*fd, FileCall::Close)),
+        Call::Read(fd, offset, count) => {
+            Some((*fd, FileCall::OnBytes(BytesCall::Read(*offset, *count))))
+        }
+        Call::Write(fd, offset, bytes) => {
+            Some((*fd, FileCall::OnBytes(BytesCall::Write(*offset, bytes))))
+        }
+        Call::Ftruncate(fd, size) => Some((*fd, FileCall::OnBytes(BytesCall::Resize(*size)))),
+        Call::Make(..) => None,
+        Call::Open(..) => None,
+        Call::Truncate(..) => None,
+        Call::ReadDir(_) => None,
+        Call::Stat(_) => None,
+        Call::Exec(_) => None,
+        Call::Unlink(_) => None,
+        Call::Rmdir(_) => None,
+        Call::Rename(..) => None,
+        Call::RenameNoreplace(..) => None,
+        Call::Exchange(..) => None,
+        Call::Link(..) => None,
+        Call::Ruleset(_) => None,
+        Call::Allow(..) => None,
+        Call::Confine(_) => None,
+        Call::Spawn => None,
+        Call::Connect => None,
+    }
+}
+
+/// What a reading is answered.
+fn read(file: &Descriptor, offset: u64, count: u64, node: &Slot) -> Result<Reply, AllocError>
+    ensures { IfOk result (λ reply. ComesOn file.now (λ fd. calls.Read fd offset count) node.now.bytes reply node.now.bytes) }
+{
+    if MOST_READ < count {
+        return Ok(Reply::Refused(Errno::EINVAL));
+    }
+    if !file.reads {
+        return Ok(Reply::Refused(Errno::EBADF));
+    }
+    let bytes = node.read_at(offset, count)?;
+    Ok(Reply::Bytes(bytes))
+}
+
+/// The reply, after the bytes have come into the node's. Errors: memory ran out, and nothing has changed.
+fn write(file: &Descriptor, offset: u64, bytes: &Data, node: &mut Slot) -> Result<Reply, AllocError>
+    requires { is_dir node.old.kind ≡ false }
+    ensures ok { IfOk result (λ reply. ComesOn file.now (λ fd. calls.Write fd offset bytes.now) node.old.bytes reply node.new.bytes) }
+    ensures rest { node.new ≡ record node.old { bytes = node.new.bytes } }
+    ensures err { OnErr result (node.new ≡ node.old) }
+{
+    if !file.writes {
+        return Ok(Reply::Refused(Errno::EBADF));
+    }
+    match node.write_at(offset, bytes.as_slice()) {
+        Ok(()) => Ok(Reply::Wrote(bytes.len() as u64)),
+        Err(errno) => refusal(errno),
+    }
+}
+
+/// The reply, after the node's bytes have this length. Errors: memory ran out, and nothing has changed.
+fn resize(file: &Descriptor, size: u64, node: &mut Slot) -> Result<Reply, AllocError>
+    requires { is_dir node.old.kind ≡ false }
+    ensures ok { IfOk result (λ reply. ComesOn file.now (λ fd. calls.Ftruncate fd size) node.old.bytes reply node.new.bytes) }
+    ensures rest { node.new ≡ record node.old { bytes = node.new.bytes } }
+    ensures err { OnErr result (node.new ≡ node.old) }
+{
+    if !file.writes {
+        return Ok(Reply::Refused(Errno::EINVAL));
+    }
+    if let Some(layer) = file.kept {
+        return Ok(Reply::Denied(Denial {
+            cause: Cause::EACCES,
+            layer,
+            right: Right::TRUNCATE,
+            place: Place::At,
+        }));
+    }
+    match node.set_len(size) {
+        Ok(()) => Ok(Reply::Done),
+        Err(errno) => refusal(errno),
+    }
+}
+
+/// The reply, after the call has been made. Errors: memory ran out, and nothing has changed.
+pub(crate) fn answer(
+    file: &Descriptor,
+    asked: BytesCall<'_>,
+    held: &mut Held,
+) -> Result<Reply, AllocError>
+    requires { is_dir held.old.node.kind ≡ false }
+    ensures ok { IfOk result (λ reply. ComesOn file.now (on_bytes asked.entry) held.old.node.bytes reply held.new.node.bytes) }
+    ensures rest { held.new ≡ record held.old { node = record held.old.node { bytes = held.new.node.bytes } } }
+    ensures err { OnErr result (held.new ≡ held.old) }
+{
+    match asked {
+        BytesCall::Read(offset, count) => read(file, offset, count, &held.node),
+        BytesCall::Write(offset, bytes) => write(file, offset, bytes, &mut held.node),
+        BytesCall::Resize(size) => resize(file, size, &mut held.node),
+    }
+}

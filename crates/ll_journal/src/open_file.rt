@@ -1,0 +1,139 @@
+//! A client's calls on the files that it has open.
+
+ghost use Rattle.std.specs.Prelude.{◌≡◌, ◌≢◌, ◌<◌, ℕ, [], ◌∷◌, false, is_none, length, Some, None, Ok, IfOk, IfErr, IfSome, IfNone, OnErr, if◌then◌else◌};
+ghost use Rattle.ll_rights.specs.Kind.{is_dir};
+ghost use Rattle.ll_rights.specs.Map.{get};
+ghost use Rattle.ll_seq.specs.declared.client.Descriptor as record_of;
+ghost use Rattle.ll_journal.specs.Files.{LetsGo, Serves};
+
+use crate::direct::{Answer, enter};
+use crate::files::{FileCall, answer, file_call};
+use crate::journal::{Journal, place_of};
+use crate::seat::Seat;
+use ll_held::Held;
+use ll_inodes::Inodes;
+use ll_seq::{Call, Descriptor, Reply};
+use std::alloc::{AllocError, Global};
+
+/// A call that isn't made comes back.
+#[derive(Drop)]
+pub enum Unmade {
+    /// The step isn't enabled.
+    NotNow(Call),
+    /// Another slot was lent than the file's.
+    Astray(Call),
+}
+
+/// What the client has open under the number.
+fn opened(seat: &Seat, number: u64) -> Option<Descriptor>
+    ensures { result ≡ get seat.now.client.descriptors number }
+{
+    seat.descriptors().get(number).copied()
+}
+
+/// The same, unless it has a walk under way.
+fn opened_idle(seat: &Seat, number: u64) -> Option<Descriptor>
+    ensures { result ≡ (if is_none seat.now.walk then get seat.now.client.descriptors number else None) }
+{
+    if seat.call().is_some() {
+        return None;
+    }
+    opened(seat, number)
+}
+
+/// The file in this slot has a descriptor less, and goes where nothing keeps it.
+fn let_go(table: &mut Inodes, alloc: Global, file: &mut Held)
+    ensures { LetsGo file.old.inode table.old table.new file.old file.new }
+{
+    let inode = file.inode;
+    if table.close(inode) {
+        file.vacate(alloc, inode);
+    }
+}
+
+/// The reply, after the call has been made. Errors: memory ran out, and nothing has changed.
+fn serve(
+    seat: &mut Seat,
+    table: &mut Inodes,
+    alloc: Global,
+    number: u64,
+    held: Descriptor,
+    asked: FileCall<'_>,
+    file: &mut Held,
+) -> Result<Reply, AllocError>
+    requires { is_dir file.old.node.kind ≡ false }
+    ensures ok { IfOk result (λ reply. Serves number held asked.entry seat.old table.old file.old reply seat.new table.new file.new) }
+    ensures err { OnErr result ((seat.new ≡ seat.old) × (table.new ≡ table.old) × (file.new ≡ file.old)) }
+    ensures calm { OnErr result (asked.entry ≢ FileCall.Close) }
+{
+    match asked {
+        FileCall::Close => {
+            seat.close(number);
+            let_go(table, alloc, file);
+            Ok(Reply::Done)
+        }
+        FileCall::OnBytes(asked) => answer(&held, asked, file),
+    }
+}
+
+impl Journal {
+    ghost use Rattle.ll_walks.specs.World as world;
+    ghost use Rattle.ll_journal.specs.Book.{Spares, inode_in, slot_of};
+    ghost use Rattle.ll_journal.specs.Direct.{Answers, ComesBack, IsOpen, LeavesSlot};
+
+    /// The client's call on a descriptor is made and answered; the slot is that of the file. It comes back where it is
+    /// no such call, or the client isn't there, hasn't the descriptor or has a walk under way. Reading and growing a
+    /// file takes memory; closing takes none.
+    pub fn fd_commit(
+        &mut self,
+        client: u64,
+        call: Call,
+        slot: u64,
+        file: &mut Held,
+    ) -> Result<Answer, Unmade>
+        requires { file.old ≡ slot_of self.old slot }
+        ensures does { IfOk result (λ answer. Answers self.old (world.FdCommit client call) answer self.new) }
+        ensures back { IfErr result (ComesBack self.old client call slot) }
+        ensures same { OnErr result ((self.new ≡ self.old) × (file.new ≡ file.old)) }
+        ensures lent { file.new ≡ slot_of self.new slot }
+        ensures spares { Spares self.old self.new (slot ∷ []) }
+        ensures calm { result ≡ Ok Answer.NoMemory → (number : ℕ) → call ≢ Call.Close number }
+        ensures rest { LeavesSlot call slot self.old self.new }
+    {
+        let Some(place) = place_of(&self.seats, client) else {
+            return Err(Unmade::NotNow(call));
+        };
+        let Some((number, asked)) = file_call(&call) else {
+            return Err(Unmade::NotNow(call));
+        };
+        let Some(held) = opened_idle(&self.seats[place], number) else {
+            return Err(Unmade::NotNow(call));
+        };
+        if held.inode != file.inode {
+            return Err(Unmade::Astray(call));
+        }
+        if self.history.is_full() {
+            drop(call);
+            return Ok(Answer::HistoryFull);
+        }
+        let (alloc, table) = (self.alloc, &mut self.table);
+        let seat = &mut self.seats[place];
+        let told = serve(seat, table, alloc, number, held, asked, file);
+        Ok(enter(&mut self.history, client, call, told))
+    }
+
+    /// The slot of the file that the client has open under this number.
+    pub fn file_slot(&self, client: u64, number: u64) -> Option<u64>
+        ensures some { IfSome result (λ slot. (file : record_of.Descriptor)
+            × IsOpen self.now.world client number file × (inode_in self.now slot ≡ file.inode)) }
+        ensures none { IfNone result ((file : record_of.Descriptor) → ¬ IsOpen self.now.world client number file) }
+    {
+        let Some(place) = place_of(&self.seats, client) else {
+            return None;
+        };
+        let Some(file) = opened(&self.seats[place], number) else {
+            return None;
+        };
+        self.table.slot(file.inode)
+    }
+}

@@ -1,0 +1,246 @@
+//! Whether a walk may be answered, and for what: seen from what is lent.
+
+ghost use Rattle.std.specs.Prelude.{◌≡◌, ◌==◌, ◌||◌, ◌&&◌, ℕ, Bool, List, true, not, map, nat_le};
+ghost use Rattle.std.specs.List.{list_all};
+ghost use Rattle.ll_answer.specs.Near as near;
+ghost use Rattle.ll_answer.specs.declared.found.Spot as spot_of;
+ghost use Rattle.ll_answer.specs.declared.found.There as there_of;
+ghost use Rattle.ll_inodes.specs.InodeTable.{IsTable};
+ghost use Rattle.ll_path.specs.Path as paths;
+ghost use Rattle.ll_path.specs.Path.{Path};
+ghost use Rattle.ll_rights.specs.Map.{len};
+ghost use Rattle.ll_seq.specs.Call.{first_path, path_of, second_path};
+ghost use Rattle.ll_seq.specs.State.{State};
+ghost use Rattle.ll_walks.specs.Walk.{is_in};
+ghost use Rattle.ll_walks.specs.World as world;
+ghost use Rattle.ll_journal.specs.Kept.{walks_from};
+ghost use Rattle.ll_journal.specs.Looks as looks;
+
+use crate::ending::is_marked_by_other;
+use crate::found::{blocked, found};
+use crate::seat::{Seat, is_in, is_lent};
+use ll_answer::{Found, Spot, Targets, targets_of};
+use ll_held::{Held, find};
+use ll_inodes::Inodes;
+use ll_path::Target;
+use ll_rights::Errno;
+use ll_seq::Call;
+
+/// Why a commit isn't made, or what it finds.
+#[derive(Clone, Copy)]
+pub(crate) enum Stop {
+    NotNow,
+    /// Other slots are lent than the commit may need.
+    Astray,
+    /// The leg in turn can't go on, which is refused so.
+    Blocked(Errno),
+    /// Each branch is at its end.
+    Reached(Found),
+}
+
+/// With this name ahead of the leg in turn, which stands here.
+fn stop_before(table: &Inodes, lent: &[Held], here: u64, name: &str) -> Stop
+    ensures { looks.StopsBefore table.now.facts lent.now here name.now result }
+{
+    let Some(place) = find(lent, here) else {
+        return Stop::Astray;
+    };
+    match blocked(table, lent[place].node.look_up(name)) {
+        None => Stop::NotNow,
+        Some(errno) => Stop::Blocked(errno),
+    }
+}
+
+/// The node besides the directories of its paths that the call may change or tell of, or 0.
+fn other_node(call: &Call, found: &Found) -> u64
+    ensures { (p : ℕ → Bool) → p 0 ≡ true → list_all p (near.nodes_of call.now found.now) ≡ p result }
+{
+    let spot = match call {
+        Call::Open(..) | Call::Truncate(..) | Call::ReadDir(_) => &found.first,
+        Call::Stat(_) | Call::Unlink(_) | Call::Rmdir(_) => &found.first,
+        Call::Rename(..) | Call::RenameNoreplace(..) => &found.second,
+        Call::Make(..) | Call::Exec(_) | Call::Exchange(..) | Call::Link(..) | Call::Allow(..) => {
+            return 0;
+        }
+        Call::Read(..) | Call::Write(..) | Call::Ftruncate(..) | Call::Close(_) => return 0,
+        Call::Ruleset(_) | Call::Confine(_) | Call::Spawn | Call::Connect => return 0,
+    };
+    match spot.there {
+        None => 0,
+        Some(there) => there.inode,
+    }
+}
+
+fn may_make(call: &Call, found: &Found) -> bool
+    ensures { result ≡ near.may_make call.now found.now }
+{
+    match call {
+        Call::Make(..) => true,
+        Call::Open(..) => found.first.there.is_none(),
+        Call::Truncate(..) | Call::ReadDir(_) | Call::Stat(_) | Call::Exec(_) => false,
+        Call::Unlink(_) | Call::Rmdir(_) | Call::Rename(..) | Call::RenameNoreplace(..) => false,
+        Call::Exchange(..) | Call::Link(..) | Call::Allow(..) => false,
+        Call::Read(..) | Call::Write(..) | Call::Ftruncate(..) | Call::Close(_) => false,
+        Call::Ruleset(_) | Call::Confine(_) | Call::Spawn | Call::Connect => false,
+    }
+}
+
+fn is_other_lent(lent: &[Held], call: &Call, found: &Found) -> bool
+    ensures { result ≡ list_all (λ inode. (inode == 0) || looks.lends lent.now inode) (near.nodes_of call.now found.now) }
+{
+    let other = other_node(call, found);
+    other == 0 || is_lent(lent, other)
+}
+
+fn is_spare_lent(slots: &[u64], spare: u64, call: &Call, found: &Found) -> bool
+    ensures { result ≡ (not (near.may_make call.now found.now) || is_in slots.now spare) }
+{
+    !may_make(call, found) || is_in(slots, spare)
+}
+
+/// Whether the slots besides those of directories are there which the call may need.
+fn is_enough(slots: &[u64], lent: &[Held], spare: u64, call: &Call, found: &Found) -> bool
+    ensures { result ≡ looks.is_enough slots.now lent.now spare call.now found.now }
+{
+    is_other_lent(lent, call, found) && is_spare_lent(slots, spare, call, found)
+}
+
+/// What is seen of a journal where a walk has ended: all seats, the table of inodes, how many nodes may live, and the
+/// slots that are lent.
+#[derive(Clone, Copy)]
+pub(crate) struct Sight<'a> {
+    pub seats: &'a [Seat],
+    pub table: &'a Inodes,
+    pub room: usize,
+    pub slots: &'a [u64],
+    pub lent: &'a [Held],
+}
+
+fn is_root(target: &Target) -> bool
+    ensures { result ≡ paths.is_root (path_of target.now) }
+{
+    match target {
+        Target::Good(path) => path.is_root(),
+        Target::Bad(_) => true,
+    }
+}
+
+/// Whether the first path is the root's, and the second one.
+fn are_roots(call: &Call) -> (bool, bool)
+    ensures first { result.0 ≡ paths.is_root (first_path call.now) }
+    ensures second { result.1 ≡ paths.is_root (second_path call.now) }
+{
+    match targets_of(call) {
+        Targets::No => (true, true),
+        Targets::One(target) => (is_root(target), is_root(target)),
+        Targets::Two(old, new) => (is_root(old), is_root(new)),
+    }
+}
+
+/// Whether another client's walk stands in the node under the last name.
+fn is_marked_at(seats: &[Seat], client: u64, is_root: bool, spot: &Spot) -> bool
+    ensures { (w : world.World) (path : Path) → w.walks ≡ walks_from 1 seats.now → is_root ≡ paths.is_root path
+        → result ≡ looks.is_marked_at (world.is_marked_by_other w client) path spot.now }
+{
+    if is_root {
+        return false;
+    }
+    match spot.there {
+        None => false,
+        Some(there) => is_marked_by_other(seats, client, there.inode),
+    }
+}
+
+fn is_marked_there(seats: &[Seat], client: u64, call: &Call, found: &Found) -> bool
+    ensures { (w : world.World) → w.walks ≡ walks_from 1 seats.now
+        → result ≡ looks.is_marked_there (world.is_marked_by_other w client) call.now found.now }
+{
+    let (first, second) = are_roots(call);
+    is_marked_at(seats, client, first, &found.first)
+        || is_marked_at(seats, client, second, &found.second)
+}
+
+/// With this found at the ends.
+fn stop_there(sight: &Sight<'_>, client: u64, spare: u64, call: &Call, found: Found) -> Stop
+    ensures { (w : world.World) → w.walks ≡ walks_from 1 sight.now.seats.now
+        → result ≡ looks.stop_there (world.is_marked_by_other w client) sight.now.slots.now sight.now.lent.now spare call.now found }
+{
+    if is_marked_there(sight.seats, client, call, &found) {
+        Stop::NotNow
+    } else if is_enough(sight.slots, sight.lent, spare, call, &found) {
+        Stop::Reached(found)
+    } else {
+        Stop::Astray
+    }
+}
+
+/// With the legs of both paths at their ends, in these directories.
+fn stop_between(
+    sight: &Sight<'_>,
+    client: u64,
+    spare: u64,
+    call: &Call,
+    first: u64,
+    second: u64,
+) -> Stop
+    ensures { (w : world.World) (s : State) (spares : List ℕ) → w.walks ≡ walks_from 1 sight.now.seats.now
+        → IsTable s spares sight.now.table.now
+        → looks.StopsBetween sight.now.table.now.facts (nat_le sight.now.room (len s.nodes))
+        (world.is_marked_by_other w client) sight.now.slots.now sight.now.lent.now spare call.now first second result }
+{
+    let Some(old) = find(sight.lent, first) else {
+        return Stop::Astray;
+    };
+    let Some(new) = find(sight.lent, second) else {
+        return Stop::Astray;
+    };
+    let found = found(
+        sight.table,
+        sight.room,
+        &sight.lent[old],
+        &sight.lent[new],
+        call,
+    );
+    stop_there(sight, client, spare, call, found)
+}
+
+/// With no name ahead of the leg in turn.
+fn stop_at_ends(sight: &Sight<'_>, client: u64, seat: &Seat) -> Stop
+    ensures { (w : world.World) (s : State) (spares : List ℕ) → w.walks ≡ walks_from 1 sight.now.seats.now
+        → IsTable s spares sight.now.table.now
+        → looks.StopsAtEnds sight.now.table.now.facts (nat_le sight.now.room (len s.nodes))
+        (world.is_marked_by_other w client) sight.now.slots.now sight.now.lent.now seat.now result }
+{
+    if !seat.is_at_ends() {
+        return Stop::NotNow;
+    }
+    let (Some(first), Some(second)) = (seat.first_here(), seat.second_here()) else {
+        unreachable!()
+    };
+    let Some(call) = seat.call() else {
+        unreachable!()
+    };
+    stop_between(sight, client, seat.spare(), call, first, second)
+}
+
+/// Whether the client's walk may be answered.
+pub(crate) fn stop_of(sight: &Sight<'_>, client: u64, seat: &Seat) -> Stop
+    ensures { (w : world.World) (s : State) (spares : List ℕ) → w.walks ≡ walks_from 1 sight.now.seats.now
+        → IsTable s spares sight.now.table.now
+        → looks.Stops sight.now.table.now.facts (nat_le sight.now.room (len s.nodes))
+        (world.is_marked_by_other w client) sight.now.slots.now sight.now.lent.now seat.now result }
+{
+    if !seat.goes_on() {
+        return Stop::NotNow;
+    }
+    if !seat.is_all_lent(sight.lent) {
+        return Stop::Astray;
+    }
+    match seat.next_name() {
+        None => stop_at_ends(sight, client, seat),
+        Some(name) => match seat.here() {
+            None => unreachable!(),
+            Some(here) => stop_before(sight.table, sight.lent, here, name),
+        },
+    }
+}
