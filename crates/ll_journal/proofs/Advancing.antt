@@ -15,7 +15,8 @@ use Rattle.ll_seq.specs.declared.reply.Reply.TheVariants.{Done, Refused}
 use Rattle.ll_seq.specs.State.{Name, State, root}
 use Rattle.ll_seq.specs.Tree.{kind_or_file}
 use Rattle.ll_walks.specs.Walk.{Walk, Leg, Position, turn, further, forked, leg_below, directory_under, if_directory, is_blocked, is_blocked_by, at_ends, is_above}
-use Rattle.ll_walks.specs.World.{World, Join, Descend, Fork, Commit, Restart, Outcome, NotNow, Stands, Forked, Restarted, Replied, Joined, advance, walking, shown, domain_of, next_number, reply_to, with_entry, with_walk, without_walk, with_stale, is_full, is_idle, is_marked, is_marked_by_other, last_nodes, may_hold, may_commit, entered, enter, stood, stand, descend, fork, committed, commit, restarted, restart, joined, replied, direct, moved_by}
+use Rattle.ll_walks.specs.World.{World, Outcome, NotNow, Stands, Forked, Restarted, Replied, Joined, advance, walking, shown, domain_of, next_number, reply_to, with_entry, with_walk, without_walk, with_stale, is_full, is_idle, is_marked, is_marked_by_other, last_nodes, may_hold, may_commit, entered, enter, stood, stand, descend, fork, committed, commit, restarted, restart, joined, replied, direct, moved_by}
+use Rattle.ll_walks.specs.declared.step.Step.TheVariants.{Join, Descend, Fork, Commit, Restart}
 use Rattle.ll_walks.proofs.Turns.{ended}
 use Rattle.ll_changes.specs.Accounts.{names_map}
 use Rattle.ll_changes.proofs.NameMaps.{get-names_map}

@@ -11,7 +11,8 @@ use Rattle.ll_seq.specs.declared.client.ClientRecord.{ClientRecord}
 use Rattle.ll_laws.proofs.Chains.{same_Some}
 use Rattle.ll_walks.specs.Walk.{Walk, Position, Above, Down, Split, marks, is_above, first_leg, trunk_path, further, turn}
 use Rattle.ll_walks.specs.World as world
-use Rattle.ll_walks.specs.World.{World, Outcome, Descend, Stands, advance, shown, domain_of, descend, is_marked, may_hold}
+use Rattle.ll_walks.specs.World.{World, Outcome, Stands, advance, shown, domain_of, descend, is_marked, may_hold}
+use Rattle.ll_walks.specs.declared.step.Step.TheVariants.{Descend}
 use Rattle.ll_walks.specs.Sound.{IsSound}
 use Rattle.ll_held.specs.declared.held.Held.{Held}
 use Rattle.ll_journal.specs.declared.journal.Journal.TheInside.{Inside}

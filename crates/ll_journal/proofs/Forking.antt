@@ -4,7 +4,8 @@ use Rattle.std.specs.Option.{option_map_or}
 use Rattle.std.proofs.Common.{sym, subst, ap, ◌∙◌}
 use Rattle.ll_walks.specs.Walk.{Walk, Position, forked}
 use Rattle.ll_walks.specs.World as world
-use Rattle.ll_walks.specs.World.{World, Outcome, Fork, Forked, advance, fork, with_walk}
+use Rattle.ll_walks.specs.World.{World, Outcome, Forked, advance, fork, with_walk}
+use Rattle.ll_walks.specs.declared.step.Step.TheVariants.{Fork}
 use Rattle.ll_walks.specs.Sound.{IsSound}
 use Rattle.ll_journal.specs.declared.journal.Journal.TheInside.{Inside}
 use Rattle.ll_journal.specs.Book.{Seat, Book, Spares, inode_in}

@@ -6,7 +6,8 @@ use Rattle.std.proofs.lemmas.Bool.{eqb-true, eq-eqb}
 use Rattle.ll_rights.specs.Map.{insert}
 use Rattle.ll_walks.specs.Walk.{Walk, Leg, Above, is_in, legs, marks}
 use Rattle.ll_walks.specs.World as world
-use Rattle.ll_walks.specs.World.{World, Outcome, Restart, Restarted, advance, restart, restarted}
+use Rattle.ll_walks.specs.World.{World, Outcome, Restarted, advance, restart, restarted}
+use Rattle.ll_walks.specs.declared.step.Step.TheVariants.{Restart}
 use Rattle.ll_walks.specs.Sound.{IsSound}
 use Rattle.ll_walks.proofs.Tests.{both}
 use Rattle.ll_journal.specs.declared.journal.Journal.TheInside.{Inside}

@@ -17,7 +17,8 @@ use Rattle.ll_seq.specs.State.{Name, State, kind_of, names_in, name_count}
 use Rattle.ll_laws.proofs.Chains.{same_Some}
 use Rattle.ll_walks.specs.Walk.{Walk, Leg, Position, Above, Down, Split, at_ends, has_two_paths, if_directory, is_blocked, is_blocked_by, marks, turn}
 use Rattle.ll_walks.specs.World as world
-use Rattle.ll_walks.specs.World.{World, Commit, advance, shown}
+use Rattle.ll_walks.specs.World.{World, advance, shown}
+use Rattle.ll_walks.specs.declared.step.Step.TheVariants.{Commit}
 use Rattle.ll_walks.proofs.Tests.{not_true}
 use Rattle.ll_changes.specs.Accounts.{names_map}
 use Rattle.ll_changes.proofs.NameMaps.{get-names_map}

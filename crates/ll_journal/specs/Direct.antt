@@ -10,7 +10,9 @@ use Rattle.ll_seq.specs.declared.reply.Reply.{Reply}
 use Rattle.ll_seq.specs.declared.reply.Reply.TheVariants.{Refused}
 use Rattle.ll_seq.specs.State.{kind_of}
 use Rattle.ll_walks.specs.World as world
-use Rattle.ll_walks.specs.World.{World, Step, advance, shown, descriptor_of}
+use Rattle.ll_walks.specs.declared.step.Step.TheVariants as steps
+use Rattle.ll_walks.specs.World.{World, advance, shown, descriptor_of}
+use Rattle.ll_walks.specs.declared.step.Step.{Step}
 use Rattle.ll_inodes.specs.InodeTable.{without_inode}
 use Rattle.ll_journal.specs.declared.direct.Answer.{Answer}
 use Rattle.ll_journal.specs.declared.direct.Answer.TheVariants as answer
@@ -56,7 +58,7 @@ pub record IsAstrayOn (b : Book) (client : ℕ) (call : Call) (slot : ℕ) : Typ
 -- The call comes back: its step isn't enabled, or another slot was lent than the file's
 abbrev pub ComesBack : Book → ℕ → Call → ℕ → Unmade → Type 0
 ComesBack b client call slot (unmade.NotNow back) =
-    (back ≡ call) × (advance b.world (world.FdCommit client call) ≡ (world.NotNow, b.world))
+    (back ≡ call) × (advance b.world (steps.FdCommit client call) ≡ (world.NotNow, b.world))
 ComesBack b client call slot (unmade.Astray back) = (back ≡ call) × IsAstrayOn b client call slot
 
 -- The node that lay in the slot is gone, and the slot is the last of the free ones

@@ -12,7 +12,8 @@ use Rattle.ll_seq.specs.State.{State}
 use Rattle.ll_seq.specs.Tree.{named}
 use Rattle.ll_walks.specs.Walk.{Walk, is_in, marks}
 use Rattle.ll_walks.specs.World as world
-use Rattle.ll_walks.specs.World.{World, Commit, advance, shown, is_full, last_node, without_walk}
+use Rattle.ll_walks.specs.World.{World, advance, shown, is_full, last_node, without_walk}
+use Rattle.ll_walks.specs.declared.step.Step.TheVariants.{Commit}
 use Rattle.ll_journal.specs.declared.outcome.Ending.{Ending}
 use Rattle.ll_journal.specs.declared.outcome.Ending.TheVariants as ending
 use Rattle.ll_journal.specs.Book.{Book, inode_in}

@@ -2,6 +2,7 @@
 
 ghost use Rattle.std.specs.Prelude.{◌≡◌, ◌≢◌, ℕ, ◌+◌, ◌<◌, [], ◌∷◌, ◌++◌, None, length, IfOk, IfErr, OnOk, OnErr};
 ghost use Rattle.ll_walks.specs.World as world;
+ghost use Rattle.ll_walks.specs.declared.step.Step.TheVariants as steps;
 ghost use Rattle.ll_seq.specs.declared.reply.Reply.TheVariants as replies;
 ghost use Rattle.ll_journal.specs.Own.{Spawns, SpawnTells};
 ghost use Rattle.ll_rights.specs.declared.limits.TheConstants.{TREE_CLIENTS};
@@ -138,9 +139,9 @@ impl Journal {
     /// may have, NoMemory.
     pub fn connect(&mut self) -> Result<u64, Errno>
         ensures joined { IfOk result (λ number.
-            world.advance self.old.world world.Join ≡ (world.Joined number, self.new.world)) }
+            world.advance self.old.world steps.Join ≡ (world.Joined number, self.new.world)) }
         ensures refused { IfErr result (λ errno. errno ≢ Errno.NoMemory
-            → world.advance self.old.world world.Join ≡ (world.Replied (replies.Refused errno), self.old.world)) }
+            → world.advance self.old.world steps.Join ≡ (world.Replied (replies.Refused errno), self.old.world)) }
         ensures same { OnErr result (self.new ≡ self.old) }
         ensures spares { Spares self.old self.new [] }
         ensures rest { OnOk result (TakesSpare self.old self.new) }
@@ -166,9 +167,9 @@ impl Journal {
     /// The client's call for itself alone is made and answered, or comes back where it is none, or the client isn't
     /// there or has a walk under way.
     pub fn client_step(&mut self, client: u64, call: Call) -> Result<Answer, Call>
-        ensures does { IfOk result (λ answer. Answers self.old (world.ClientStep client call) answer self.new) }
+        ensures does { IfOk result (λ answer. Answers self.old (steps.ClientStep client call) answer self.new) }
         ensures not_now { OnErr result
-            (world.advance self.old.world (world.ClientStep client call) ≡ (world.NotNow, self.old.world)) }
+            (world.advance self.old.world (steps.ClientStep client call) ≡ (world.NotNow, self.old.world)) }
         ensures back { IfErr result (λ back. back ≡ call) }
         ensures same { OnErr result (self.new ≡ self.old) }
         ensures spares { Spares self.old self.new [] }

@@ -110,7 +110,8 @@ impl Journal {
     ghost use Rattle.ll_journal.specs.Book.{Spares, inode_in, new_book, slot_of};
     ghost use Rattle.ll_journal.specs.WalkPlaces.{place_in};
     ghost use Rattle.ll_journal.specs.Steps.{Does, IsAstrayAt, IsAstrayAtTop, IsAstrayBelow, IsNext};
-    ghost use Rattle.ll_walks.specs.World.{Begin, Begun, Descend, Fork, NotNow, Restart, advance};
+    ghost use Rattle.ll_walks.specs.World.{Begun, NotNow, advance};
+    ghost use Rattle.ll_walks.specs.declared.step.Step.TheVariants.{Begin, Descend, Fork, Restart};
 
     /// A tree of the root alone, in which so many nodes may live, without a client. Room is reserved for so many
     /// entries of the history.

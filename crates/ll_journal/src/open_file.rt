@@ -78,6 +78,7 @@ fn serve(
 
 impl Journal {
     ghost use Rattle.ll_walks.specs.World as world;
+    ghost use Rattle.ll_walks.specs.declared.step.Step.TheVariants as steps;
     ghost use Rattle.ll_journal.specs.Book.{Spares, inode_in, slot_of};
     ghost use Rattle.ll_journal.specs.Direct.{Answers, ComesBack, IsOpen, LeavesSlot};
 
@@ -92,7 +93,7 @@ impl Journal {
         file: &mut Held,
     ) -> Result<Answer, Unmade>
         requires { file.old ≡ slot_of self.old slot }
-        ensures does { IfOk result (λ answer. Answers self.old (world.FdCommit client call) answer self.new) }
+        ensures does { IfOk result (λ answer. Answers self.old (steps.FdCommit client call) answer self.new) }
         ensures back { IfErr result (ComesBack self.old client call slot) }
         ensures same { OnErr result ((self.new ≡ self.old) × (file.new ≡ file.old)) }
         ensures lent { file.new ≡ slot_of self.new slot }

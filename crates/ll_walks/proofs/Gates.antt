@@ -14,7 +14,8 @@ use Rattle.ll_seq.specs.declared.rules.Rules.{Rules}
 use Rattle.ll_seq.proofs.Parted.{or_right}
 use Rattle.ll_laws.proofs.Chains.{same_Some}
 use Rattle.ll_walks.specs.Walk.{Walk, Position, Above, Down, Split, trunk_path, first_leg, with_turn, forked, is_above, passes}
-use Rattle.ll_walks.specs.World.{World, Step, new_world, world_after, shown, domain_of, takes_gate, moving, may_hold, map_values, overtaken, released, moved_by, reply_to}
+use Rattle.ll_walks.specs.World.{World, new_world, world_after, shown, domain_of, takes_gate, moving, may_hold, map_values, overtaken, released, moved_by, reply_to}
+use Rattle.ll_walks.specs.declared.step.Step.{Step}
 use Rattle.ll_walks.specs.Walks.{needs_gate, StartsAreFew, GateHolderIsNeverStale}
 use Rattle.ll_walks.proofs.Tests.{or_false, is_nil}
 use Rattle.ll_walks.proofs.Worlds.{was_other, moved_nothing}

@@ -16,7 +16,8 @@ use Rattle.ll_seq.specs.History.{IsLegal}
 use Rattle.ll_laws.proofs.Gain.{no_gain}
 use Rattle.ll_laws.proofs.Withholding.{bytes_are_withheld}
 use Rattle.ll_walks.specs.Walk.{Walk}
-use Rattle.ll_walks.specs.World.{World, Step, new_world, world_after, is_full, next_number, reply_to}
+use Rattle.ll_walks.specs.World.{World, new_world, world_after, is_full, next_number, reply_to}
+use Rattle.ll_walks.specs.declared.step.Step.{Step}
 use Rattle.ll_walks.specs.Walks.{HistoryIsLegal}
 use Rattle.ll_walks.specs.Growing.{Came, HistoryGrows, NoGainBetween, WithheldBetween}
 use Rattle.ll_walks.proofs.Turns.{Keeps, steps_kept}

@@ -16,7 +16,9 @@ use Rattle.ll_seq.specs.declared.call.Call.TheVariants.{Make, Open, Write, Stat,
 use Rattle.ll_seq.specs.declared.reply.Reply.TheVariants.{Done, Opened, Wrote, Found, Spawned, Refused}
 use Rattle.ll_seq.specs.Stages.{numbers_from}
 use Rattle.ll_seq.specs.Step.{client_of}
-use Rattle.ll_walks.specs.World.{World, Step, Join, Begin, Descend, Fork, Commit, Restart, FdCommit, ClientStep, Outcome, NotNow, Begun, Stands, Forked, Restarted, Replied, Joined, new_world, shown, enabled, advance, is_on_descriptor, is_walked, map_values}
+use Rattle.ll_walks.specs.World.{World, Outcome, NotNow, Begun, Stands, Forked, Restarted, Replied, Joined, new_world, shown, enabled, advance, is_on_descriptor, is_walked, map_values}
+use Rattle.ll_walks.specs.declared.step.Step.{Step}
+use Rattle.ll_walks.specs.declared.step.Step.TheVariants.{Join, Begin, Descend, Fork, Commit, Restart, FdCommit, ClientStep}
 
 -- the first of the steps that is enabled
 abbrev first_enabled : World → List Step → Option (Outcome × World)

@@ -4,7 +4,8 @@ use Rattle.ll_seq.specs.declared.reply.Entry.{Entry}
 use Rattle.ll_seq.specs.declared.rules.Rules.{Rules}
 use Rattle.ll_laws.specs.NoGain.{GainsNothing}
 use Rattle.ll_laws.specs.Withheld.{Withholds}
-use Rattle.ll_walks.specs.World.{World, Step, new_world, world_after}
+use Rattle.ll_walks.specs.World.{World, new_world, world_after}
+use Rattle.ll_walks.specs.declared.step.Step.{Step}
 
 -- the entries came to the first world's history
 abbrev pub Came : World → World → List Entry → Type 0

@@ -13,7 +13,8 @@ use Rattle.ll_seq.specs.Asked.{grants}
 use Rattle.ll_seq.specs.Step.{client_of}
 use Rattle.ll_seq.specs.History.{IsLegal}
 use Rattle.ll_walks.specs.Walk.{Walk, Leg, Position, Above, Down, Split, trunk_path, rights_where, marks, is_above}
-use Rattle.ll_walks.specs.World.{World, Step, new_world, world_after, shown, domain_of, is_walked, takes_gate}
+use Rattle.ll_walks.specs.World.{World, new_world, world_after, shown, domain_of, is_walked, takes_gate}
+use Rattle.ll_walks.specs.declared.step.Step.{Step}
 
 -- The names that the leg took name the directory where it stands, its chain are the inodes that these lead by, and its
 -- masks are the rights that each layer grants there

@@ -26,6 +26,8 @@ use Rattle.ll_seq.specs.Tree.{named, inode_of, kind_or_file}
 use Rattle.ll_seq.specs.Stages.{text_refusals, number_refusals, relation_refusals}
 use Rattle.ll_seq.specs.Step.{step, client_of}
 use Rattle.ll_seq.specs.History.{state_after, is_connect}
+use Rattle.ll_walks.specs.declared.step.Step.{Step}
+use Rattle.ll_walks.specs.declared.step.Step.TheVariants.{Join, Begin, Descend, Fork, Commit, Restart, FdCommit, ClientStep}
 use Rattle.ll_walks.specs.Walk.{Walk, Leg, Above, Down, trunk_path, first_leg, further, is_blocked, turn, with_turn, at_ends, forked, marks, passes, is_above}
 
 -- limit: how many entries the history may have. walks: of each client at most one. gate: who holds the move gate
@@ -44,19 +46,6 @@ new_world rules room limit =
 -- The tree that all see is the one that the history made: a walk changes nothing of it before its commit
 abbrev pub shown : World → State
 shown w = state_after (start w.rules w.room) w.history
-
--- Join: a new client connects. Each other step is that of the client of a number. Begin: its call sets out. Descend:
--- one directory further. Fork: a call of two paths leaves what is common to both. Commit: the call is answered.
--- Restart: the walk starts again. FdCommit, ClientStep: a call that doesn't walk, on a descriptor or not
-pub data Step : Type 0 where
-  Join : Step
-  Begin : ℕ → Call → Step
-  Descend : ℕ → Step
-  Fork : ℕ → Step
-  Commit : ℕ → Step
-  Restart : ℕ → Step
-  FdCommit : ℕ → Call → Step
-  ClientStep : ℕ → Call → Step
 
 -- NotNow: the step isn't enabled. Stands: in the directory of this inode. Joined: as the client of this number
 pub data Outcome : Type 0 where

@@ -1,6 +1,10 @@
 //! Laws about a tree that many clients share: of the walks of their calls, and the steps by which these go on.
 #![tactic(auto)]
 
+mod step;
+
+pub use step::Step;
+
 ghost use Rattle.ll_walks.specs.Commits.{BlockedAreRefused, EndsAreReached};
 ghost use Rattle.ll_walks.specs.Growing.{HistoryGrows, NoGainBetween, WithheldBetween};
 ghost use Rattle.ll_walks.specs.Walks.{GateHolderIsNeverStale, HistoryIsLegal, MarksAreApart, StartsAreFew, WalksAreValid};

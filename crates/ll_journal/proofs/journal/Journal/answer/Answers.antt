@@ -8,7 +8,8 @@ use Rattle.ll_seq.specs.declared.reply.Reply.TheVariants.{Refused}
 use Rattle.ll_rights.specs.declared.errno.Errno.TheVariants.{HistoryFull}
 use Rattle.ll_seq.specs.State.{State}
 use Rattle.ll_walks.specs.Walk.{Walk}
-use Rattle.ll_walks.specs.World.{Commit, Replied, advance, is_full, moved_by, shown}
+use Rattle.ll_walks.specs.World.{Replied, advance, is_full, moved_by, shown}
+use Rattle.ll_walks.specs.declared.step.Step.TheVariants.{Commit}
 use Rattle.ll_journal.specs.declared.journal.Journal.TheInside.{Inside}
 use Rattle.ll_journal.specs.Book.{Book, Spares, mark_of}
 use Rattle.ll_journal.specs.Decidings.{moved_list}

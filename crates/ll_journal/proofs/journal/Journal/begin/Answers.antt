@@ -1,6 +1,7 @@
 use Rattle.std.proofs.Common.{◌≡◌, [], refl, ap, sym, subst, ◌∙◌}
 use Rattle.ll_journal.specs.Book.{Book, Seat}
-use Rattle.ll_walks.specs.World.{Begin, Begun, NotNow, advance}
+use Rattle.ll_walks.specs.World.{Begun, NotNow, advance}
+use Rattle.ll_walks.specs.declared.step.Step.TheVariants.{Begin}
 use Rattle.ll_journal.proofs.Starting.{at_place, turned_down, idle_before, world_begun, sets_out, slots_kept, kept_by, over_begun, over_spares, sound_after, rest_kept, changed_world}
 use Rattle.ll_journal.proofs.journal.Journal.begin.Goals as goal
 

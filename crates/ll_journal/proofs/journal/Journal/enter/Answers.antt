@@ -3,7 +3,8 @@ use Rattle.std.specs.Prelude.{option_and_then, unwrap_or, cond, ◌==◌, false,
 use Rattle.std.specs.Option.{option_map_or}
 use Rattle.ll_walks.specs.Walk.{Walk}
 use Rattle.ll_journal.specs.Looks.{look_at_root}
-use Rattle.ll_walks.specs.World.{Descend, Stands, NotNow, advance}
+use Rattle.ll_walks.specs.World.{Stands, NotNow, advance}
+use Rattle.ll_walks.specs.declared.step.Step.TheVariants.{Descend}
 use Rattle.ll_walks.specs.World as world
 use Rattle.ll_journal.specs.Book.{Book, Seat, slot_of}
 use Rattle.ll_journal.specs.Kept.{seat_at, world_of}

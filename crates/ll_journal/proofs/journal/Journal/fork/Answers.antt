@@ -1,6 +1,7 @@
 use Rattle.std.proofs.Common.{◌≡◌, [], ap, sym, subst, ◌∙◌, refl}
 use Rattle.std.specs.Prelude.{option_and_then, unwrap_or, ◌&&◌}
-use Rattle.ll_walks.specs.World.{Fork, Forked, NotNow, advance}
+use Rattle.ll_walks.specs.World.{Forked, NotNow, advance}
+use Rattle.ll_walks.specs.declared.step.Step.TheVariants.{Fork}
 use Rattle.ll_walks.specs.World as world
 use Rattle.ll_journal.specs.Book.{Book, Seat}
 use Rattle.ll_journal.specs.Kept.{seat_at, world_of}

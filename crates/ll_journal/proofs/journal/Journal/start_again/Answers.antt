@@ -1,6 +1,7 @@
 use Rattle.std.proofs.Common.{◌≡◌, ℕ, List, map, ap, sym, subst, ◌∙◌, refl}
 use Rattle.std.specs.Prelude.{option_and_then, unwrap_or}
-use Rattle.ll_walks.specs.World.{Restart, Restarted, NotNow, advance}
+use Rattle.ll_walks.specs.World.{Restarted, NotNow, advance}
+use Rattle.ll_walks.specs.declared.step.Step.TheVariants.{Restart}
 use Rattle.ll_walks.specs.World as world
 use Rattle.ll_journal.specs.Book.{Book, Seat, inode_in, slot_of}
 use Rattle.ll_journal.specs.Kept.{seat_at, world_of}
