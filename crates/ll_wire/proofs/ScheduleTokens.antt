@@ -1,5 +1,5 @@
 -- Lines of schedules: their tokens.
-use Rattle.std.proofs.Common.{◌≡◌, ◌≢◌, ℕ, ◌+◌, ◌<◌, ◌≤◌, Bool, true, false, List, [], ◌∷◌, ◌++◌, length, codes, Option, Some, None, Result, Ok, Err, refl, ap, sym, ◌∙◌, subst, arith, length-append}
+use Rattle.std.proofs.Common.{◌≡◌, ◌≢◌, ℕ, ◌<◌, ◌≤◌, true, false, List, [], ◌∷◌, ◌++◌, length, codes, Option, Some, None, Result, Ok, Err, refl, ap, sym, ◌∙◌, subst, arith, length-append}
 use Rattle.std.specs.Prelude.{IfSome, option_map, unwrap_or, if◌then◌else◌}
 use Rattle.std.specs.Str.{bytes_eq, IsAscii}
 use Rattle.std.specs.List.{AllByRecursion, join_with_byte}
@@ -39,7 +39,8 @@ line_by word client call =
     else if bytes_eq word (codes "step") then lines.Step (ClientStep client call)
     else if bytes_eq word (codes "do") then lines.Do client call else lines.Step Join
 
-line_again : (value : ScheduleLine) → line_by (form value).1 (unwrap_or (client_in value) 0) (unwrap_or (call_in value) Spawn) ≡ value
+line_again : (value : ScheduleLine)
+    → line_by (form value).1 (unwrap_or (client_in value) 0) (unwrap_or (call_in value) Spawn) ≡ value
 line_again (lines.Step Join) = refl
 line_again (lines.Step (Begin client call)) = refl
 line_again (lines.Step (Descend client)) = refl
@@ -51,13 +52,22 @@ line_again (lines.Step (ClientStep client call)) = refl
 line_again (lines.Do client call) = refl
 
 -- lines of one form are one
-same_form : (some other : ScheduleLine) → client_in some ≡ client_in other → (form some).1 ≡ (form other).1 → call_in some ≡ call_in other → some ≡ other
+same_form : (some other : ScheduleLine) → client_in some ≡ client_in other → (form some).1 ≡ (form other).1
+    → call_in some ≡ call_in other → some ≡ other
 same_form some other clients words calls =
-    sym (line_again some) ∙ (λ i. line_by (words i) (unwrap_or (clients i) 0) (unwrap_or (calls i) Spawn)) ∙ line_again other
+    sym (line_again some) ∙ (λ i. line_by (words i) (unwrap_or (clients i) 0) (unwrap_or (calls i) Spawn))
+    ∙ line_again other
+
+abbrev Form : Type 0
+Form = Option ℕ × List ℕ × Option Call
 
 -- the tokens of the call, if there is one
 abbrev made : Option Call → List (List ℕ)
 made call = unwrap_or (option_map call_tokens call) []
+
+-- it takes memory to be read
+abbrev TakesText : ScheduleLine → Type 0
+TakesText value = line_holds_text value ≡ true
 
 -- ---- behind the client's name
 
@@ -66,37 +76,39 @@ abbrev pub IsOfCall : List ℕ → (ℕ → Call → ScheduleLine) → Type 0
 IsOfCall word make = (client : ℕ) (call : Call)
     → (form (make client call) ≡ (Some client, word, Some call)) × (line_by word client call ≡ make client call)
 
-call_behind : (word : List ℕ) (make : ℕ → Call → ScheduleLine) → IsOfCall word make → (client : ℕ) (args : List (List ℕ)) (value : ScheduleLine)
+call_behind : (word : List ℕ) (make : ℕ → Call → ScheduleLine) → IsOfCall word make
+    → (client : ℕ) (args : List (List ℕ)) (value : ScheduleLine)
     → SpellsBehind client (word ∷ args) value → (call : Call) × SpellsCall args call
 call_behind word make is client args value h =
     let call : Call = unwrap_or (call_in value) Spawn in
     let number : ℕ = unwrap_or (client_in value) 0 in
     let words : word ≡ (form value).1 = cc in
-    let same : value ≡ make number call = sym (line_again value) ∙ ap (λ w. line_by w number call) (sym words) ∙ (is number call).1 in
-    let calls : call_in value ≡ Some call = ap call_in same ∙ ap (λ (t : Option ℕ × List ℕ × Option Call). t.2) (is number call).0 in
+    let same : value ≡ make number call =
+    sym (line_again value) ∙ ap (λ w. line_by w number call) (sym words) ∙ (is number call).1 in
+    let calls : call_in value ≡ Some call = ap call_in same ∙ ap (λ (t : Form). t.2) (is number call).0 in
     let rest : args ≡ made (call_in value) = cc in
     (call, (subst (λ o. IfSome o IsCall) calls h.1, rest ∙ ap made calls))
 
-behind_call : (word : List ℕ) (make : ℕ → Call → ScheduleLine) → IsOfCall word make → (client : ℕ) (args : List (List ℕ)) (call : Call)
+behind_call : (word : List ℕ) (make : ℕ → Call → ScheduleLine) → IsOfCall word make
+    → (client : ℕ) (args : List (List ℕ)) (call : Call)
     → SpellsCall args call → SpellsBehind client (word ∷ args) (make client call)
 behind_call word make is client args call h =
     let f = (is client call).0 in (
-      ap (λ (t : Option ℕ × List ℕ × Option Call). t.0) f,
-      subst (λ o. IfSome o IsCall) (sym (ap (λ (t : Option ℕ × List ℕ × Option Call). t.2) f)) h.0,
-      ap (λ (ts : List (List ℕ)). word ∷ ts) h.1 ∙ sym (ap (λ (t : Option ℕ × List ℕ × Option Call). t.1 ∷ made t.2) f),
+      ap (λ (t : Form). t.0) f,
+      subst (λ o. IfSome o IsCall) (sym (ap (λ (t : Form). t.2) f)) h.0,
+      ap (λ (ts : List (List ℕ)). word ∷ ts) h.1 ∙ sym (ap (λ (t : Form). t.1 ∷ made t.2) f),
     )
 
 -- a line of a call, by the reader of the call
 pub called_reads : (word : List ℕ) (make : ℕ → Call → ScheduleLine) → IsOfCall word make
-    → (client : ℕ) (tokens args : List (List ℕ)) (r : Result Call Errno) (s : Result ScheduleLine Errno) → tokens ≡ word ∷ args
-    → MatchResult r (λ call. s ≡ Ok (make client call)) (λ e. s ≡ Err e) → ReadsCall args r
-    → ReadsBy (SpellsBehind client tokens) (λ value. line_holds_text value ≡ true) s
+    → (client : ℕ) (tokens args : List (List ℕ)) (r : Result Call Errno) (s : Result ScheduleLine Errno)
+    → tokens ≡ word ∷ args → MatchResult r (λ call. s ≡ Ok (make client call)) (λ e. s ≡ Err e)
+    → ReadsCall args r → ReadsBy (SpellsBehind client tokens) TakesText s
 called_reads word make is client tokens args r s parts made' h =
-    whole_reads (SpellsCall args) (λ call. holds_text call ≡ true) (SpellsBehind client tokens)
-    (λ (value : ScheduleLine). line_holds_text value ≡ true) (make client)
+    whole_reads (SpellsCall args) (λ call. holds_text call ≡ true) (SpellsBehind client tokens) TakesText (make client)
     (λ value k. call_behind word make is client args value (k.0, k.1, sym parts ∙ k.2))
     (λ call k. let b = behind_call word make is client args call k in (b.0, b.1, parts ∙ b.2))
-    (λ call k takes. ap (λ (t : Option ℕ × List ℕ × Option Call). unwrap_or (option_map holds_text t.2) false) (is client call).0 ∙ takes)
+    (λ call k takes. ap (λ (t : Form). unwrap_or (option_map holds_text t.2) false) (is client call).0 ∙ takes)
     r s made' h
 
 -- ---- the client's name
@@ -113,8 +125,9 @@ unnamed_word (lines.Step (ClientStep client call)) rest = refl
 unnamed_word (lines.Do client call) rest = refl
 
 -- where the first token names the client, the others are what stands behind the name
-named : (first : List ℕ) (others us : List (List ℕ)) (client : ℕ) (name : Option ℕ) → SpellsClient first client → IfSome name IsClient
-    → starts_named us ≡ false → first ∷ others ≡ name_tokens name ++ us → (name ≡ Some client) × (others ≡ us)
+named : (first : List ℕ) (others us : List (List ℕ)) (client : ℕ) (name : Option ℕ)
+    → SpellsClient first client → IfSome name IsClient → starts_named us ≡ false
+    → first ∷ others ≡ name_tokens name ++ us → (name ≡ Some client) × (others ≡ us)
 named first others us client None is h unnamed e =
     let names : starts_named (first ∷ others) ≡ true = ap (λ (t : List ℕ). starts_named (t ∷ others)) is.1 in
     absurd (false≢true (sym unnamed ∙ sym (ap starts_named e) ∙ names))
@@ -126,19 +139,25 @@ named first others us client (Some n) is h unnamed e =
 
 -- a name and what stands behind it are told apart
 same_names : (some other : Option ℕ) (us vs : List (List ℕ)) → IfSome some IsClient → IfSome other IsClient
-    → starts_named us ≡ false → starts_named vs ≡ false → name_tokens some ++ us ≡ name_tokens other ++ vs → (some ≡ other) × (us ≡ vs)
+    → starts_named us ≡ false → starts_named vs ≡ false → name_tokens some ++ us ≡ name_tokens other ++ vs
+    → (some ≡ other) × (us ≡ vs)
 same_names None None us vs h k a b e = (refl, e)
-same_names None (Some m) us vs h k a b e = let both = named (64 ∷ decimal m) vs us m None (k, refl) h a (sym e) in (both.0, sym both.1)
-same_names (Some n) other us vs h k a b e = let both = named (64 ∷ decimal n) us vs n other (h, refl) k b e in (sym both.0, both.1)
+same_names None (Some m) us vs h k a b e =
+    let both = named (64 ∷ decimal m) vs us m None (k, refl) h a (sym e) in (both.0, sym both.1)
+same_names (Some n) other us vs h k a b e =
+    let both = named (64 ∷ decimal n) us vs n other (h, refl) k b e in (sym both.0, both.1)
 
-behind_is : (tokens others : List (List ℕ)) (first : List ℕ) (client : ℕ) → tokens ≡ first ∷ others → SpellsClient first client
+behind_is : (tokens others : List (List ℕ)) (first : List ℕ) (client : ℕ) → tokens ≡ first ∷ others
+    → SpellsClient first client
     → (value : ScheduleLine) → SpellsLineTokens tokens value → SpellsBehind client others value
 behind_is tokens others first client parts name value h =
     let tail = (form value).1 ∷ made (call_in value) in
-    let both = named first others tail client (client_in value) name h.0.0 (unnamed_word value (made (call_in value))) (sym parts ∙ h.1) in
+    let unnamed = unnamed_word value (made (call_in value)) in
+    let both = named first others tail client (client_in value) name h.0.0 unnamed (sym parts ∙ h.1) in
     (both.0, h.0.1, both.1)
 
-line_is : (tokens others : List (List ℕ)) (first : List ℕ) (client : ℕ) → tokens ≡ first ∷ others → SpellsClient first client
+line_is : (tokens others : List (List ℕ)) (first : List ℕ) (client : ℕ) → tokens ≡ first ∷ others
+    → SpellsClient first client
     → (value : ScheduleLine) → SpellsBehind client others value → SpellsLineTokens tokens value
 line_is tokens others first client parts name value h = (
   (subst (λ o. IfSome o IsClient) (sym h.0) name.0, h.1),
@@ -150,22 +169,37 @@ abbrev Within : ℕ → ScheduleLine → Type 0
 Within clients value = IfSome (client_in value) (λ client. client ≤ clients)
 
 -- what is read behind the name of a client that there is
-pub named_reads : (tokens others : List (List ℕ)) (first : List ℕ) (client clients : ℕ) (r : Result ScheduleLine Errno) → tokens ≡ first ∷ others
-    → SpellsClient first client → client ≤ clients → ReadsBy (SpellsBehind client others) (λ value. line_holds_text value ≡ true) r
-    → ReadsBy (λ (value : ScheduleLine). SpellsLineTokens tokens value × Within clients value) (λ value. line_holds_text value ≡ true) r
+pub named_reads : (tokens others : List (List ℕ)) (first : List ℕ) (client clients : ℕ) (r : Result ScheduleLine Errno)
+    → tokens ≡ first ∷ others → SpellsClient first client → client ≤ clients
+    → ReadsBy (SpellsBehind client others) TakesText r
+    → ReadsBy (λ (value : ScheduleLine). SpellsLineTokens tokens value × Within clients value) TakesText r
 named_reads tokens others first client clients r parts name few h =
-    whole_reads (SpellsBehind client others) (λ (value : ScheduleLine). line_holds_text value ≡ true)
-    (λ (value : ScheduleLine). SpellsLineTokens tokens value × Within clients value) (λ (value : ScheduleLine). line_holds_text value ≡ true) (λ value. value)
+    whole_reads (SpellsBehind client others) TakesText
+    (λ (value : ScheduleLine). SpellsLineTokens tokens value × Within clients value) TakesText (λ value. value)
     (λ value k. (value, behind_is tokens others first client parts name value k.0))
-    (λ value k. (line_is tokens others first client parts name value k, subst (λ o. IfSome o (λ n. n ≤ clients)) (sym k.0) few))
+    (λ value k. (
+      line_is tokens others first client parts name value k,
+      subst (λ o. IfSome o (λ n. n ≤ clients)) (sym k.0) few,
+    ))
     (λ value k takes. takes)
     r r (same_err r) h
 
 -- no client of this number came
-pub too_late : (tokens others : List (List ℕ)) (first : List ℕ) (client clients : ℕ) → tokens ≡ first ∷ others → SpellsClient first client
-    → clients < client → (value : ScheduleLine) → SpellsLineTokens tokens value × Within clients value → ⊥
+pub too_late : (tokens others : List (List ℕ)) (first : List ℕ) (client clients : ℕ) → tokens ≡ first ∷ others
+    → SpellsClient first client → clients < client
+    → (value : ScheduleLine) → SpellsLineTokens tokens value × Within clients value → ⊥
 too_late tokens others first client clients parts name late value h =
-    let few = subst (λ o. IfSome o (λ n. n ≤ clients)) (behind_is tokens others first client parts name value h.0).0 h.1 in omega (arith, few)
+    let same = (behind_is tokens others first client parts name value h.0).0 in
+    let few = subst (λ o. IfSome o (λ n. n ≤ clients)) same h.1 in omega (arith, few)
+
+-- neither a client's name nor a connect
+pub no_name : (tokens others : List (List ℕ)) (first : List ℕ) → tokens ≡ first ∷ others
+    → ((client : ℕ) → SpellsClient first client → ⊥) → tokens ≢ codes "connect" ∷ []
+    → (value : ScheduleLine) → SpellsLineTokens tokens value → ⊥
+no_name tokens others first parts none other (lines.Step Join) h = other h.1
+no_name tokens others first parts none other value h =
+    let whole : first ∷ others ≡ line_tokens value = sym parts ∙ h.1 in
+    none (unwrap_or (client_in value) 0) (h.0.0, cc)
 
 -- ---- tokens
 
@@ -210,26 +244,32 @@ at_most_six value =
 
 -- ---- lines
 
-pub no_line : (line : List ℕ) → ((body : List ℕ) → IsAscii body → line ≢ body ++ 10 ∷ []) → (value : ScheduleLine) → SpellsScheduleLine line value → ⊥
-no_line line none value h = none (join_with_byte 32 (line_tokens value)) (body_is_ascii (line_tokens value) (line_is_tokens value h.is_line)) h.text
+pub no_line : (line : List ℕ) → ((body : List ℕ) → IsAscii body → line ≢ body ++ 10 ∷ [])
+    → (value : ScheduleLine) → SpellsScheduleLine line value → ⊥
+no_line line none value h =
+    let tokens = line_tokens value in
+    none (join_with_byte 32 tokens) (body_is_ascii tokens (line_is_tokens value h.is_line)) h.text
 
 -- the tokens of a line that spells a value are the value's
-line_parts : (line body : List ℕ) (value : ScheduleLine) → line ≡ body ++ 10 ∷ [] → SpellsScheduleLine line value → parts body ≡ line_tokens value
+line_parts : (line body : List ℕ) (value : ScheduleLine) → line ≡ body ++ 10 ∷ [] → SpellsScheduleLine line value
+    → parts body ≡ line_tokens value
 line_parts line body value e h =
     ap parts (same_front body (join_with_byte 32 (line_tokens value)) 10 10 (sym e ∙ h.text))
     ∙ cut (line_tokens value) (at_most_six value).0 (line_is_tokens value h.is_line)
 
-pub too_many : (line body : List ℕ) → line ≡ body ++ 10 ∷ [] → 6 < length (parts body) → (value : ScheduleLine) → SpellsScheduleLine line value → ⊥
-too_many line body e more value h = omega (arith, more, ap length (line_parts line body value e h), (at_most_six value).1)
+pub too_many : (line body : List ℕ) → line ≡ body ++ 10 ∷ [] → 6 < length (parts body)
+    → (value : ScheduleLine) → SpellsScheduleLine line value → ⊥
+too_many line body e more value h =
+    omega (arith, more, ap length (line_parts line body value e h), (at_most_six value).1)
 
 -- what is read from a line's tokens is read from the line
-pub line_reads : (line body : List ℕ) (tokens : List (List ℕ)) (clients : ℕ) (r : Result ScheduleLine Errno) → length line ≤ 16384
-    → line ≡ body ++ 10 ∷ [] → tokens ≡ parts body
-    → ReadsBy (λ (value : ScheduleLine). SpellsLineTokens tokens value × Within clients value) (λ value. line_holds_text value ≡ true) r
-    → ReadsBy (λ (value : ScheduleLine). SpellsScheduleLine line value × Within clients value) (λ value. line_holds_text value ≡ true) r
+pub line_reads : (line body : List ℕ) (tokens : List (List ℕ)) (clients : ℕ) (r : Result ScheduleLine Errno)
+    → length line ≤ 16384 → line ≡ body ++ 10 ∷ [] → tokens ≡ parts body
+    → ReadsBy (λ (value : ScheduleLine). SpellsLineTokens tokens value × Within clients value) TakesText r
+    → ReadsBy (λ (value : ScheduleLine). SpellsScheduleLine line value × Within clients value) TakesText r
 line_reads line body tokens clients r short e t h =
-    whole_reads (λ (value : ScheduleLine). SpellsLineTokens tokens value × Within clients value) (λ (value : ScheduleLine). line_holds_text value ≡ true)
-    (λ (value : ScheduleLine). SpellsScheduleLine line value × Within clients value) (λ (value : ScheduleLine). line_holds_text value ≡ true) (λ value. value)
+    whole_reads (λ (value : ScheduleLine). SpellsLineTokens tokens value × Within clients value) TakesText
+    (λ (value : ScheduleLine). SpellsScheduleLine line value × Within clients value) TakesText (λ value. value)
     (λ value k. (value, ((k.0.is_line, t ∙ line_parts line body value e k.0), k.1)))
     (λ value k. (
       record {
@@ -244,16 +284,19 @@ line_reads line body tokens clients r short e t h =
 
 -- ---- one value
 
-same_made : (some other : Option Call) → IfSome some IsCall → IfSome other IsCall → made some ≡ made other → some ≡ other
+same_made : (some other : Option Call) → IfSome some IsCall → IfSome other IsCall → made some ≡ made other
+    → some ≡ other
 same_made None None h k e = refl
 same_made None (Some call) h k e = absurd (omega (arith, ap length e, (few_tokens call).0))
 same_made (Some call) None h k e = absurd (omega (arith, ap length e, (few_tokens call).0))
 same_made (Some call) (Some other) h k e = ap Some (same_call call other h k e)
 
-pub spells_one_schedule_line : (line : List ℕ) (value other : ScheduleLine) → SpellsScheduleLine line value → SpellsScheduleLine line other → value ≡ other
+pub spells_one_schedule_line : (line : List ℕ) (value other : ScheduleLine)
+    → SpellsScheduleLine line value → SpellsScheduleLine line other → value ≡ other
 spells_one_schedule_line line value other h k =
     let body = join_with_byte 32 (line_tokens value) in
-    let same : line_tokens value ≡ line_tokens other = sym (line_parts line body value h.text h) ∙ line_parts line body other h.text k in
+    let same : line_tokens value ≡ line_tokens other =
+    sym (line_parts line body value h.text h) ∙ line_parts line body other h.text k in
     let both = same_names (client_in value) (client_in other) _ _ h.is_line.0 k.is_line.0
     (unnamed_word value (made (call_in value))) (unnamed_word other (made (call_in other))) same in
     let words : (form value).1 ≡ (form other).1 = (let rests = both.1 in cc) in

@@ -7,8 +7,9 @@ returns-in_default c = inl (refl, λ v is. no_line c.args.line.now c.in_default.
 
 pub returns-in_default-tokens_of : goal.returns-in_default-tokens_of
 returns-in_default-tokens_of c =
-    inl (refl, λ v is. too_many c.args.line.now c.in-Some.body.now c.in-Some.ensures.found c.in_default-tokens_of.ensures.none v is.0)
+    let found = c.in-Some.ensures.found in
+    inl (refl, λ v is. too_many c.args.line.now c.in-Some.body.now found c.in_default-tokens_of.ensures.none v is.0)
 
 pub returns : goal.returns
-returns c = line_reads c.args.line.now c.in-Some.body.now _ c.args.clients c.schedule_line_of.result (omega arith) c.in-Some.ensures.found
-    c.in-Some-tokens_of.ensures.found.1 c.schedule_line_of.ensures
+returns c = line_reads c.args.line.now c.in-Some.body.now _ c.args.clients c.schedule_line_of.result (omega arith)
+    c.in-Some.ensures.found c.in-Some-tokens_of.ensures.found.1 c.schedule_line_of.ensures

@@ -10,6 +10,7 @@ returns-in_err-strip_prefix c = rw c.from_residual.ensures (not_named _ c.in_err
 
 pub returns-then-number-lt1 : goal.returns-then-number-lt1
 returns-then-number-lt1 c v is =
-    let starts = behind 64 _ _ _ (strip_prefix_char 64 c.args.token.now c.strip_prefix.result c.strip_prefix.ensures.cases (lit< tt)) c.in_ok-strip_prefix.was in
+    let stripped = strip_prefix_char 64 c.args.token.now c.strip_prefix.result c.strip_prefix.ensures.cases (lit< tt) in
+    let starts = behind 64 _ _ _ stripped c.in_ok-strip_prefix.was in
     let same = number_named c.args.token.now _ c.in_ok-number.number v starts c.in_ok-number.ensures is in
     elim c.then-number-lt1.either [ inl low ↦ omega (arith, is.0.0) | inr high ↦ omega (arith, is.0.1) ]
