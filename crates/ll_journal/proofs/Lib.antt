@@ -23,6 +23,8 @@ pub mod OwnAnswers
 pub mod Answered
 pub mod Stepping
 pub mod Looking
+pub mod Gathering
+pub mod Standing
 pub mod Overtaking
 pub mod Ended
 pub mod EndedWalks
