@@ -42,7 +42,7 @@ root_placed j h e =
 
 -- where a walk stands there is a directory, also where it is stale
 stood_living : (j : Inside) → IsKept j → (number : ℕ) (walk : Walk) → get (world_of j).walks number ≡ Some walk → (inode : ℕ) → marks walk inode ≡ true → kind_of (shown (world_of j)) inode ≡ Some Dir
-stood_living j h number walk is inode marked = ?
+stood_living j h number walk is inode marked = h.sound.living number walk is inode marked
 
 stood_placed : (j : Inside) → IsKept j → (number : ℕ) (walk : Walk) → get (world_of j).walks number ≡ Some walk → (inode : ℕ) → marks walk inode ≡ true → (slot : ℕ) × (get j.table.places inode ≡ Some slot)
 stood_placed j h number walk is inode marked = living_placed j h inode Dir (stood_living j h number walk is inode marked)
