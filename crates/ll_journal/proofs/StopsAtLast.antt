@@ -236,9 +236,9 @@ module _ (j : Inside) (h : IsKept j) (number place : ℕ) (seat : Seat) (at : sl
             (each_node s walk.call found (lends lent) one_there other_there
             (root_lent (first_path walk.call) first one_end old old_lies one_stands)
             (root_lent (second_path walk.call) other other_end new new_lies other_stands)
-            (λ inode e. lends_is j h number place seat at numbered slots lent told inode ∙ enough.nodes inode e))
+            (λ inode e. lends_is j h number place seat at numbered slots lent told inode ∙ enough.nodes ends inode e))
             (elim (may_make walk.call found) as (λ t. may_make walk.call found ≡ t → (not t || is_in slots seat.spare) ≡ true) [
-              | true ↦ λ e. ap (is_in slots) (sym spare_is) ∙ enough.spare (sym (makes_there s walk.call found one_there) ∙ e)
+              | true ↦ λ e. ap (is_in slots) (sym spare_is) ∙ enough.spare ends (sym (makes_there s walk.call found one_there) ∙ e)
               | false ↦ λ e. refl
             ] refl)
 
