@@ -24,7 +24,6 @@ pub mod Answered
 pub mod Stepping
 pub mod Looking
 pub mod Gathering
-pub mod Standing
 pub mod Overtaking
 pub mod Ended
 pub mod EndedWalks
@@ -40,6 +39,8 @@ pub mod FileTables
 pub mod FileSteps
 pub mod LastSpots
 pub mod StopsAtLast
+pub mod Standing
+pub mod EndSlots
 pub mod Committed
 pub mod AtAnswers
 pub mod StopMeans

@@ -131,7 +131,7 @@ module _ (j : Inside) (h : IsKept j) (number place : ℕ) (seat : Seat) (at : sl
   tree : IsTree s
   tree = after_tree (start j.rules j.room) j.history.entries (start_tree j.rules j.room)
 
-  spare_is : spare_of b number ≡ seat.spare
+  pub spare_is : spare_of b number ≡ seat.spare
   spare_is = ap (λ n. slice_index_or (spares_of j.seats.items) n 0) below ∙ spare_at j.seats.items place seat at
     where
       below : number - 1 ≡ place
