@@ -237,6 +237,7 @@ impl Journal {
     pub fn next_slot(&self, client: u64, slot: u64, here: &Held) -> Option<u64>
         requires { here.now ≡ slot_of self.now slot }
         ensures some { IfSome result (λ next. IsNext self.now client slot next) }
+        ensures within { IfSome result (λ next. next < length self.now.inodes) }
         ensures none { IfNone result ((next : ℕ) → ¬ IsNext self.now client slot next) }
     {
         let Some(place) = place_of(&self.seats, client) else {
