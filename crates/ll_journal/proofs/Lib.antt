@@ -9,7 +9,6 @@ pub mod LentAfter
 pub mod Entering
 pub mod Forking
 pub mod Descending
-pub mod Restarting
 pub mod HeldAfter
 pub mod LentSlots
 pub mod ClientTables
@@ -29,6 +28,7 @@ pub mod Ended
 pub mod EndedWalks
 pub mod Stops
 pub mod LentMarks
+pub mod Restarting
 pub mod StopsOnWay
 pub mod OpenFiles
 pub mod FileCalls

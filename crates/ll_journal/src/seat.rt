@@ -16,7 +16,6 @@ ghost use Rattle.ll_walks.specs.Commits.{first_end, second_end};
 ghost use Rattle.ll_walks.specs.Walk as walks;
 ghost use Rattle.ll_walks.specs.World.{is_alone, is_walked, overtaken};
 ghost use Rattle.ll_journal.specs.Looks as looks;
-ghost use Rattle.ll_journal.specs.Looks.{stands_among};
 ghost use Rattle.ll_journal.specs.WalkPlaces.{place_of};
 ghost use Rattle.ll_journal.specs.Needs.{slots_in};
 ghost use Rattle.ll_journal.specs.Performed.{IsAtEnd, Performs};
@@ -417,24 +416,6 @@ impl Seat {
                 self.trunk.here() == inode
                     || self.first.here() == inode
                     || self.second.here() == inode
-            }
-        }
-    }
-
-    /// Whether the walk stands in none but these directories.
-    pub(crate) fn stands_among(&self, inodes: &[u64]) -> bool
-        ensures { result ≡ stands_among inodes.now self.now }
-    {
-        if self.call.is_none() {
-            return true;
-        }
-        match self.stage {
-            Stage::Above => true,
-            Stage::Down => is_in(inodes, self.trunk.here()),
-            Stage::Split => {
-                is_in(inodes, self.trunk.here())
-                    && is_in(inodes, self.first.here())
-                    && is_in(inodes, self.second.here())
             }
         }
     }
