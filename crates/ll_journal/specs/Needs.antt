@@ -28,9 +28,11 @@ with_slots_of places slots (leg ∷ more) = with_slots_of places (with_slot_of p
 abbrev pub slots_in : Map nat_cmp ℕ → Seat → List ℕ
 slots_in places seat = option_map_or (λ (walk : Walk). with_slots_of places [] (legs walk.at)) seat.walk []
 
--- besides those of directories: the spare one where the call may make a node, else that of the node which it may change or tell of
+-- Besides those of directories: the spare one where the call may make a node, else that of the node which it may change
+-- or tell of
 abbrev pub slot_besides : Map nat_cmp ℕ → ℕ → Call → Found → Option ℕ
-slot_besides places spare call found = if may_make call found then Some spare else get places (slice_index_or (nodes_of call found) 0 0)
+slot_besides places spare call found =
+    if may_make call found then Some spare else get places (slice_index_or (nodes_of call found) 0 0)
 
 -- at its ends the client's walk needs this slot besides those of directories, if any
 pub record IsBesides (b : Book) (number : ℕ) (walk : Walk) (o : Option ℕ) : Type 0 where
