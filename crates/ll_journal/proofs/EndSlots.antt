@@ -30,7 +30,7 @@ use Rattle.ll_journal.specs.Kept.{IsKept, book_of, spares_of, world_of}
 use Rattle.ll_journal.specs.Looks.{found_at, spot_at}
 use Rattle.ll_journal.specs.Needs.{IsBesides, slot_besides, with_slot}
 use Rattle.ll_journal.specs.Steps.{IsInTurn}
-use Rattle.ll_journal.specs.WalkEnds.{AreEnough, is_lent, nodes_at_end, spare_of, would_make}
+use Rattle.ll_journal.specs.WalkEnds.{AreEnough, spare_of}
 use Rattle.ll_journal.proofs.AtEnds.{IsEnd, second_is_end}
 use Rattle.ll_journal.proofs.Descending.{living_one, living_placed}
 use Rattle.ll_journal.proofs.Gathering.{Gathers, gathers_slot}

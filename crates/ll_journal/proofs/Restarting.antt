@@ -1,10 +1,10 @@
 -- A stale walk starts again.
-use Rattle.std.specs.Prelude.{◌≡◌, ◌≢◌, ℕ, suc, ◌+◌, ◌≤◌, Bool, true, false, cond, not, ◌&&◌, ◌||◌, ◌==◌, List, [], ◌∷◌, map, Option, Some, None, option_map, option_and_then, unwrap_or, slice_get, refl}
+use Rattle.std.specs.Prelude.{◌≡◌, ◌≢◌, ℕ, suc, ◌+◌, ◌≤◌, Bool, true, false, cond, not, ◌||◌, ◌==◌, List, [], ◌∷◌, map, Option, Some, None, option_map, option_and_then, unwrap_or, slice_get, refl}
 use Rattle.std.specs.Option.{option_map_or}
 use Rattle.std.proofs.Common.{sym, subst, ap, ◌∙◌}
 use Rattle.std.proofs.lemmas.Bool.{eqb-true, eq-eqb}
 use Rattle.ll_rights.specs.Map.{insert}
-use Rattle.ll_walks.specs.Walk.{Walk, Leg, Above, is_in, legs, marks}
+use Rattle.ll_walks.specs.Walk.{Walk, Above, is_in, marks}
 use Rattle.ll_walks.specs.World as world
 use Rattle.ll_walks.specs.World.{World, Outcome, Restarted, advance, restart, restarted}
 use Rattle.ll_walks.specs.declared.step.Step.TheVariants.{Restart}

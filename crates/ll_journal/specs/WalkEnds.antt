@@ -1,5 +1,5 @@
 -- What comes of a commit, and which slots it needs. own
-use Rattle.std.specs.Prelude.{◌≡◌, ℕ, ◌-◌, Bool, true, false, List, [], map, is_none, Option, Some, slice_index_or}
+use Rattle.std.specs.Prelude.{◌≡◌, ℕ, ◌-◌, Bool, true, false, List, [], map, is_none, Some, slice_index_or}
 use Rattle.ll_rights.specs.Map.{get}
 use Rattle.ll_rights.specs.declared.errno.Errno.TheVariants.{HistoryFull}
 use Rattle.ll_answer.specs.Lean.{spares_memory}

@@ -1,9 +1,7 @@
-use Rattle.std.specs.Prelude.{◌≡◌, ℕ, ◌<◌, ◌||◌, ◌==◌, List, length}
-use Rattle.std.specs.List.{AllByRecursion}
+use Rattle.std.specs.Prelude.{ℕ, ◌||◌, ◌==◌, List}
 use Rattle.std.proofs.Common.{sym, subst}
-use Rattle.ll_inodes.specs.InodeTable.{AreDistinct}
 use Rattle.ll_journal.specs.Book.{has_mark, inode_in}
-use Rattle.ll_journal.specs.Needs.{IsBesides, with_slot}
+use Rattle.ll_journal.specs.Needs.{IsBesides}
 use Rattle.ll_journal.specs.WalkEnds.{AreEnough}
 use Rattle.ll_journal.proofs.EndSlots.{enough_alone, enough_with}
 use Rattle.ll_journal.proofs.Gathering.{Gathers, gathers_slot}

@@ -1,4 +1,4 @@
-use Rattle.std.proofs.Common.{◌≡◌, ℕ, List, map, ap, sym, subst, ◌∙◌, refl, Some}
+use Rattle.std.proofs.Common.{◌≡◌, map, ap, sym, subst, ◌∙◌, refl, Some}
 use Rattle.std.specs.Prelude.{option_and_then, unwrap_or, slice_get}
 use Rattle.ll_walks.specs.World.{Restarted, NotNow, advance}
 use Rattle.ll_walks.specs.declared.step.Step.TheVariants.{Restart}

@@ -1,4 +1,4 @@
-use Rattle.std.specs.Prelude.{◌≡◌, ℕ, ◌<◌, true, false, length, nat_le, Option, Some, option_map, slice_get, slice_index_or, IfSome}
+use Rattle.std.specs.Prelude.{◌≡◌, ℕ, ◌<◌, true, false, length, nat_le, Option, Some, option_map, IfSome}
 use Rattle.std.specs.Borrow.{Bor}
 use Rattle.std.specs.Option.{option_map_or}
 use Rattle.std.proofs.Common.{ap, sym, subst, ◌∙◌}
@@ -7,8 +7,8 @@ use Rattle.ll_seq.specs.declared.call.Call.{Call}
 use Rattle.ll_laws.proofs.Chains.{same_Some}
 use Rattle.ll_walks.specs.Walk.{Walk, at_ends}
 use Rattle.ll_walks.specs.World.{shown}
-use Rattle.ll_journal.specs.Book.{Book, Seat, slot_of}
-use Rattle.ll_journal.specs.Kept.{book_of, seat_at, spares_of, world_of}
+use Rattle.ll_journal.specs.Book.{Book, slot_of}
+use Rattle.ll_journal.specs.Kept.{seat_at, spares_of, world_of}
 use Rattle.ll_journal.specs.Looks.{found_at}
 use Rattle.ll_journal.specs.Needs.{IsBesides}
 use Rattle.ll_journal.specs.Needs as needs

@@ -1,7 +1,5 @@
-use Rattle.std.specs.Prelude.{◌≡◌, ℕ, ◌<◌, ◌≤◌, List, length}
-use Rattle.std.specs.List.{AllByRecursion}
+use Rattle.std.specs.Prelude.{ℕ, ◌≤◌, List, length}
 use Rattle.std.proofs.Common.{ap, sym, subst, ◌∙◌}
-use Rattle.ll_inodes.specs.InodeTable.{AreDistinct}
 use Rattle.ll_journal.specs.Book.{Book, has_mark}
 use Rattle.ll_journal.specs.Kept.{book_of, seat_at, world_of}
 use Rattle.ll_journal.specs.WalkEnds.{is_lent}
