@@ -33,7 +33,7 @@ distinct_more : (ks : List ℕ) (k : ℕ) → AreDistinct ks → NotIn k ks → 
 distinct_more [] k each away = (tt, tt)
 distinct_more (x ∷ ks) k each away = (not_in_more ks x k each.0 (λ same. away.0 (sym same)), distinct_more ks k each.1 away.1)
 
-all_more : (P : ℕ → Type 0) (ks : List ℕ) (k : ℕ) → AllByRecursion P ks → P k → AllByRecursion P (ks ++ k ∷ [])
+pub all_more : (P : ℕ → Type 0) (ks : List ℕ) (k : ℕ) → AllByRecursion P ks → P k → AllByRecursion P (ks ++ k ∷ [])
 all_more P [] k all one = (one, tt)
 all_more P (x ∷ ks) k all one = (all.0, all_more P ks k all.1 one)
 
@@ -92,7 +92,7 @@ module _ (b : Book) where
   lent_more [] slot inode = or_none (inode_in b slot == inode)
   lent_more (k ∷ slots) slot inode = ap (λ t. (inode_in b k == inode) || t) (lent_more slots slot inode) ∙ or_regroup (inode_in b k == inode) (is_lent b slots inode) (inode_in b slot == inode)
 
-  lent_already : (slots : List ℕ) (slot : ℕ) → is_in slots slot ≡ true → is_lent b slots (inode_in b slot) ≡ true
+  pub lent_already : (slots : List ℕ) (slot : ℕ) → is_in slots slot ≡ true → is_lent b slots (inode_in b slot) ≡ true
   lent_already [] slot e = absurd (cc e)
   lent_already (k ∷ slots) slot e = elim (k == slot) as (λ t. (k == slot) ≡ t → (t || is_in slots slot) ≡ true → ((inode_in b k == inode_in b slot) || is_lent b slots (inode_in b slot)) ≡ true) [
     | true ↦ λ t f. ap (λ u. u || is_lent b slots (inode_in b slot)) (eq-eqb (inode_in b k) (inode_in b slot) (ap (inode_in b) (eqb-true k slot t)))

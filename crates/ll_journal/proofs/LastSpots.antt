@@ -1,9 +1,9 @@
 -- What is found under the last names: which of it is marked, and which nodes the commit needs.
-use Rattle.std.specs.Prelude.{◌≡◌, ℕ, Bool, true, false, cond, not, ◌&&◌, ◌||◌, ◌==◌, List, [], ◌∷◌, drop, Option, Some, None, is_none, option_map, option_and_then, option_to_list, nat_le, slice_index_or, refl}
+use Rattle.std.specs.Prelude.{◌≡◌, ◌≢◌, ◌⊎◌, ℕ, Bool, true, false, cond, not, ◌&&◌, ◌||◌, ◌==◌, List, [], ◌∷◌, drop, Option, Some, None, is_none, option_map, option_and_then, option_to_list, nat_le, slice_index_or, refl}
 use Rattle.std.specs.Option.{option_map_or}
 use Rattle.std.specs.List.{list_any, list_all}
 use Rattle.std.specs.Ordering.{nat_cmp}
-use Rattle.std.proofs.Common.{sym, ap, ◌∙◌}
+use Rattle.std.proofs.Common.{sym, ap, ◌∙◌, inl, inr}
 use Rattle.std.proofs.lemmas.Bool.{eqb-true}
 use Rattle.ll_rights.specs.declared.kind.Kind.TheVariants.{Dir}
 use Rattle.ll_rights.specs.declared.limits.TheConstants.{DIRECTORY_ENTRIES}
@@ -42,6 +42,10 @@ abbrev pub IsThere : State → Path → Spot → Type 0
 IsThere s path spot = spot.there ≡ option_map (there_in s) (named s path)
 
 -- ---- one path
+
+root_named : (s : State) (path : Path) → is_root path ≡ true → named s path ≡ Some root
+root_named s [] e = refl
+root_named s (name ∷ path) e = absurd (cc e)
 
 module _ (s : State) (path : Path) (spot : Spot) (there : IsThere s path spot) where
   pub marked_last : (marked : ℕ → Bool) → is_marked_at marked path spot ≡ list_any marked (last_node s path)
@@ -87,6 +91,20 @@ module _ (s : State) (path : Path) (spot : Spot) (there : IsThere s path spot) w
       by true o e = absurd (cc e)
       by false None e = absurd (cc e)
       by false (Some node) e = ap Some (eqb-true node inode (only (node == inode) e))
+
+  -- what is there is the root, or what the path names
+  pub at_spot : inode_at spot ≢ 0 → ((is_root path ≡ true) × (inode_at spot ≡ root)) ⊎ (is_in (last_node s path) (inode_at spot) ≡ true)
+  at_spot some = by (is_root path) refl (named s path) refl
+    where
+      inode_is : (i : ℕ) → named s path ≡ Some i → inode_at spot ≡ i
+      inode_is i e = ap inode_of (there ∙ ap (option_map (there_in s)) e)
+
+      by : (t : Bool) → is_root path ≡ t → (o : Option ℕ) → named s path ≡ o → ((is_root path ≡ true) × (inode_at spot ≡ root)) ⊎ (is_in (last_node s path) (inode_at spot) ≡ true)
+      by true top o e = inl (top, inode_is root (root_named s path top))
+      by false top None e = absurd (some (ap inode_of (there ∙ ap (option_map (there_in s)) e)))
+      by false top (Some i) e =
+          let last : last_node s path ≡ i ∷ [] = (λ k. when (not (top k)) (option_to_list (e k))) in
+          inr ((λ k. is_in (last k) (inode_is i e k)) ∙ itself_in i [])
 
   pub none_there : is_none spot.there ≡ is_none (named s path)
   none_there = ap is_none there ∙ elim (named s path) as (λ o. is_none (option_map (there_in s) o) ≡ is_none o) [ None ↦ refl | Some i ↦ refl ]
@@ -232,6 +250,31 @@ module _ (s : State) (facts : Map nat_cmp Fact) (full : Bool) (held : Held) wher
   last_first Spawn there inode e = absurd (cc e)
   last_first Connect there inode e = absurd (cc e)
 
+  -- and if there is one, that is the root, or one of those nodes
+  pub first_last : (call : Call) → IsSecond call → slice_index_or (nodes_of call (found_by call)) 0 0 ≢ 0
+      → ((is_root (second_path call) ≡ true) × (slice_index_or (nodes_of call (found_by call)) 0 0 ≡ root)) ⊎ (is_in (nodes_at_end s call) (slice_index_or (nodes_of call (found_by call)) 0 0) ≡ true)
+  first_last (Make kind t) there some = absurd (some refl)
+  first_last (Open mode t) there some = at_spot s (path_of t) (spot_at facts held (path_of t)) there some
+  first_last (Read fd offset count) there some = absurd (some refl)
+  first_last (Write fd offset bytes) there some = absurd (some refl)
+  first_last (Ftruncate fd size) there some = absurd (some refl)
+  first_last (Close fd) there some = absurd (some refl)
+  first_last (Truncate t size) there some = at_spot s (path_of t) (spot_at facts held (path_of t)) there some
+  first_last (ReadDir t) there some = at_spot s (path_of t) (spot_at facts held (path_of t)) there some
+  first_last (Stat t) there some = at_spot s (path_of t) (spot_at facts held (path_of t)) there some
+  first_last (Exec t) there some = absurd (some refl)
+  first_last (Unlink t) there some = at_spot s (path_of t) (spot_at facts held (path_of t)) there some
+  first_last (Rmdir t) there some = at_spot s (path_of t) (spot_at facts held (path_of t)) there some
+  first_last (Rename o n) there some = at_spot s (path_of n) (spot_at facts held (path_of n)) there some
+  first_last (RenameNoreplace o n) there some = at_spot s (path_of n) (spot_at facts held (path_of n)) there some
+  first_last (Exchange o n) there some = absurd (some refl)
+  first_last (Link o n) there some = absurd (some refl)
+  first_last (Ruleset rights) there some = absurd (some refl)
+  first_last (Allow number t rights) there some = absurd (some refl)
+  first_last (Confine number) there some = absurd (some refl)
+  first_last Spawn there some = absurd (some refl)
+  first_last Connect there some = absurd (some refl)
+
   pub makes_last : (call : Call) → IsSecond call → may_make call (found_by call) ≡ would_make s call
   makes_last (Make kind t) there = refl
   makes_last (Open mode t) there = none_there s (path_of t) (spot_at facts held (path_of t)) there
@@ -256,10 +299,6 @@ module _ (s : State) (facts : Map nat_cmp Fact) (full : Bool) (held : Held) wher
   makes_last Connect there = refl
 
 -- ---- what a lent directory and the facts tell of the last name
-
-root_named : (s : State) (path : Path) → is_root path ≡ true → named s path ≡ Some root
-root_named s [] e = refl
-root_named s (name ∷ path) e = absurd (cc e)
 
 module _ (s : State) (tree : IsTree s) (facts : Map nat_cmp Fact) (kept : AreKept s facts) (domain : List Layer) (path : Path) (leg : Leg) (end : IsEnd s domain path leg)
     (held : Held) (here : held.inode ≡ leg.here) (names : held.node.names ≡ names_map s leg.here) where

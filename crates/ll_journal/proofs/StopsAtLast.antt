@@ -71,7 +71,7 @@ standing None i e = absurd (cc e)
 standing (Some leg) i e = (leg, refl, same_Some leg.here i e)
 
 -- the root's path ends in the root
-root_end : (s : State) (path : Path) (i : ℕ) → is_root path ≡ true → named s (parent path) ≡ Some i → i ≡ root
+pub root_end : (s : State) (path : Path) (i : ℕ) → is_root path ≡ true → named s (parent path) ≡ Some i → i ≡ root
 root_end s [] i e names = sym (same_Some root i names)
 root_end s (name ∷ path) i e names = absurd (cc e)
 

@@ -1,5 +1,5 @@
 -- What comes of a commit, and which slots it needs. own
-use Rattle.std.specs.Prelude.{◌≡◌, ℕ, ◌-◌, Bool, true, false, List, [], map, is_none, Some, slice_index_or}
+use Rattle.std.specs.Prelude.{◌≡◌, ◌⊎◌, ℕ, ◌-◌, Bool, true, false, List, [], map, is_none, Some, slice_index_or}
 use Rattle.ll_rights.specs.Map.{get}
 use Rattle.ll_rights.specs.declared.errno.Errno.TheVariants.{HistoryFull}
 use Rattle.ll_answer.specs.Lean.{spares_memory}
@@ -94,6 +94,13 @@ pub record AreEnough (b : Book) (number : ℕ) (walk : Walk) (slots : List ℕ) 
   pub spare :
       at_ends walk.call walk.at ≡ true → would_make (shown b.world) walk.call ≡ true
       → is_in slots (spare_of b number) ≡ true
+
+-- the slot is one of these
+abbrev pub IsNeeded : Book → ℕ → Walk → ℕ → Type 0
+IsNeeded b number walk slot =
+    (marks walk (inode_in b slot) ≡ true)
+    ⊎ ((at_ends walk.call walk.at ≡ true) × (is_in (nodes_at_end (shown b.world) walk.call) (inode_in b slot) ≡ true))
+    ⊎ ((at_ends walk.call walk.at ≡ true) × (would_make (shown b.world) walk.call ≡ true) × (slot ≡ spare_of b number))
 
 -- the walk goes on, and the slots aren't enough
 abbrev pub IsAstrayAtEnd : Book → ℕ → List ℕ → Type 0

@@ -4,7 +4,7 @@ ghost use Rattle.std.specs.Prelude.{◌≡◌, ◌<◌, ◌≤◌, ℕ, List, []
 ghost use Rattle.std.specs.List.{AllByRecursion};
 ghost use Rattle.ll_rights.specs.Map.{get};
 ghost use Rattle.ll_seq.specs.State.{root};
-ghost use Rattle.ll_walks.specs.Walk.{Leg, Walk, at_ends};
+ghost use Rattle.ll_walks.specs.Walk.{Leg, Walk};
 ghost use Rattle.ll_journal.specs.Needs as needs;
 
 use crate::found::found;
@@ -33,7 +33,7 @@ impl Journal {
     ghost use Rattle.ll_journal.specs.Book.{has_mark, inode_in, slot_of};
     ghost use Rattle.ll_journal.specs.Needs.{IsBesides};
     ghost use Rattle.ll_journal.specs.Steps.{IsInTurn, leg_in_turn};
-    ghost use Rattle.ll_journal.specs.WalkEnds.{AreEnough, is_lent};
+    ghost use Rattle.ll_journal.specs.WalkEnds.{AreEnough, IsNeeded, is_lent};
 
     /// The slot of the root, to which a walk's first descent goes.
     pub fn root_slot(&self) -> u64
@@ -78,7 +78,7 @@ impl Journal {
     fn slot_at_ends(&self, client: u64, here: &Held) -> Option<u64>
         ensures within { IfSome result (λ slot. slot < length self.now.inodes) }
         ensures needed { (slot : ℕ) → here.now ≡ slot_of self.now slot → IsInTurn self.now client slot
-            → (walk : Walk) → get self.now.world.walks client ≡ Some walk → walk.stale ≡ false → at_ends walk.call walk.at ≡ true
+            → (walk : Walk) → get self.now.world.walks client ≡ Some walk → walk.stale ≡ false
             → IsBesides self.now client walk result }
     {
         let Some(place) = place_of(&self.seats, client) else {
@@ -95,12 +95,14 @@ impl Journal {
         slot_besides(&self.table, seat.spare(), call, &found)
     }
 
-    /// All the slots that a commit of the client's walk may need, seen from that of the directory where its leg in turn
-    /// stands.
+    /// All the slots that a commit of the client's walk may need, and no others, seen from that of the directory where its
+    /// leg in turn stands.
     pub fn end_slots(&self, client: u64, slot: u64, here: &Held) -> Slots
         requires { here.now ≡ slot_of self.now slot }
         ensures enough { IsInTurn self.now client slot → (walk : Walk) → get self.now.world.walks client ≡ Some walk → walk.stale ≡ false
             → AreEnough self.now client walk result }
+        ensures only { IsInTurn self.now client slot → (walk : Walk) → get self.now.world.walks client ≡ Some walk → walk.stale ≡ false
+            → AllByRecursion (IsNeeded self.now client walk) result }
         ensures distinct { AreDistinct result }
         ensures within { AllByRecursion (λ slot. slot < length self.now.inodes) result }
         ensures few { length result ≤ 4 }
