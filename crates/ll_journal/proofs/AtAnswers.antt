@@ -1,17 +1,15 @@
 -- A walk that has ended where each branch is at its end: what its call is made with.
-use Rattle.std.specs.Prelude.{◌≡◌, ◌≢◌, ℕ, zero, suc, ◌+◌, ◌-◌, ◌<◌, ◌≤◌, ◌^◌, Bool, true, false, cond, ◌&&◌, ◌||◌, ◌==◌, List, [], ◌∷◌, map, length, Option, Some, None, nat_le, option_map, slice_get, slice_index_or, unwrap_or, refl}
+use Rattle.std.specs.Prelude.{◌≡◌, ℕ, zero, suc, ◌+◌, ◌-◌, ◌<◌, ◌≤◌, ◌^◌, Bool, true, false, ◌&&◌, ◌||◌, ◌==◌, List, [], ◌∷◌, map, length, Option, Some, None, nat_le, slice_get, slice_index_or, unwrap_or, refl}
 use Rattle.std.specs.List.{list_any}
 use Rattle.std.proofs.Common.{sym, subst, ap, ◌∙◌, arith}
 use Rattle.std.proofs.lemmas.Bool.{eq-eqb}
 use Rattle.std.proofs.lemmas.Bool.Decides.{nat_tests}
 use Rattle.ll_rights.specs.declared.limits.TheConstants.{HISTORY_ENTRIES, TREE_CLIENTS}
 use Rattle.ll_rights.specs.Map.{get}
-use Rattle.ll_path.specs.Path.{Path, parent}
+use Rattle.ll_path.specs.Path.{Path}
 use Rattle.ll_decide.specs.Masks.{AreMasks}
-use Rattle.ll_rules.specs.Layer.{Layer}
 use Rattle.ll_laws.proofs.Chains.{same_Some}
 use Rattle.ll_answer.specs.Found.{AreFacts}
-use Rattle.ll_answer.specs.Near.{nodes_of}
 use Rattle.ll_answer.specs.Passed.{has_path}
 use Rattle.ll_answer.specs.declared.found.Found.{Found}
 use Rattle.ll_answer.specs.declared.found.Spot.{Spot}
@@ -24,10 +22,9 @@ use Rattle.ll_seq.specs.declared.client.ClientRecord.{ClientRecord}
 use Rattle.ll_seq.specs.Call.{first_path, second_path, targets}
 use Rattle.ll_seq.specs.State.{State, kind_of, new_client}
 use Rattle.ll_seq.specs.Step.{client_of}
-use Rattle.ll_seq.specs.Tree.{ancestors}
 use Rattle.ll_walks.specs.Commits.{first_end, second_end}
 use Rattle.ll_walks.specs.Walk.{Walk, Leg, Position, Above, Down, Split, is_in, marks}
-use Rattle.ll_walks.specs.World.{World, domain_of, has_any, is_full, is_walked, early_refusals, shown, without_walk}
+use Rattle.ll_walks.specs.World.{World, domain_of, has_any, is_full, shown, without_walk}
 use Rattle.ll_walks.proofs.SoundSteps.{marked_below}
 use Rattle.ll_journal.specs.declared.journal.Journal.TheInside.{Inside}
 use Rattle.ll_journal.specs.Book.{Seat, Book, inode_in, has_mark, mark_of, slot_of}

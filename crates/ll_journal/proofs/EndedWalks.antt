@@ -1,15 +1,13 @@
 -- A walk that ends: what the journal keeps, and every slot's account.
-use Rattle.std.specs.Prelude.{◌≡◌, ◌≢◌, ◌<◌, ℕ, suc, Bool, length, unwrap_or, true, false, cond, not, ◌||◌, ◌==◌, List, [], ◌∷◌, map, Option, Some, None, option_and_then, slice_get, slice_set, slice_index_or, refl}
+use Rattle.std.specs.Prelude.{◌≡◌, ◌≢◌, ◌<◌, ℕ, suc, length, unwrap_or, true, false, cond, ◌||◌, ◌==◌, List, [], ◌∷◌, map, Option, Some, None, option_and_then, slice_get, refl}
 use Rattle.std.specs.Ordering.{nat_cmp}
 use Rattle.std.proofs.Common.{sym, subst, ap, ◌∙◌}
 use Rattle.std.proofs.lemmas.Bool.{eqb-true, eq-eqb}
 use Rattle.ll_rights.specs.Map.{Map, get, remove}
-use Rattle.ll_laws.proofs.Chains.{same_Some}
-use Rattle.ll_held.specs.declared.held.Held.{Held}
 use Rattle.ll_held.specs.Lent.{vacant, unmarked}
 use Rattle.ll_inodes.specs.InodeTable.{NotIn}
 use Rattle.ll_walks.specs.Walk.{Walk, is_in, marks}
-use Rattle.ll_walks.specs.World.{World, domain_of, without_walk, released, with_stale}
+use Rattle.ll_walks.specs.World.{World, domain_of, without_walk, released}
 use Rattle.ll_seq.specs.declared.call.Call.TheVariants.{Spawn}
 use Rattle.ll_seq.specs.declared.client.ClientRecord.{ClientRecord}
 use Rattle.ll_seq.specs.State.{new_client}
@@ -19,12 +17,12 @@ use Rattle.ll_walks.specs.Sound.{IsSound}
 use Rattle.ll_journal.specs.declared.journal.Journal.TheInside.{Inside}
 use Rattle.ll_journal.specs.Book.{Seat, Book, Spares, inode_in, slot_of, held_of, mark_of, has_mark}
 use Rattle.ll_journal.specs.WalkEnds.{is_lent}
-use Rattle.ll_journal.specs.Kept.{IsKept, world_of, book_of, walks_from}
+use Rattle.ll_journal.specs.Kept.{IsKept, world_of, book_of}
 use Rattle.ll_journal.proofs.Ended.{gives_up, walks_ended, with_stale_none}
 use Rattle.ll_journal.proofs.Entering.{walk_here}
 use Rattle.ll_journal.proofs.LentAfter.{one_slot}
 use Rattle.ll_journal.proofs.LentSlots.{slot_kept}
-use Rattle.ll_journal.proofs.MarkOf.{AreClients, Leaves, are_clients, has_mark_of, leaves_removed, mark_found, mark_gone, mark_is, mark_left}
+use Rattle.ll_journal.proofs.MarkOf.{Leaves, are_clients, has_mark_of, leaves_removed, mark_found, mark_gone, mark_is, mark_left}
 use Rattle.ll_journal.proofs.Starting.{changed_world}
 
 -- the marks of others stay

@@ -1,7 +1,7 @@
 -- Why a commit stops, as the code finds it.
-use Rattle.std.specs.Prelude.{◌≡◌, ◌⊎◌, ℕ, zero, suc, Bool, List, [], ◌∷◌, Option, Some, None, slice_get, slice_index_or}
+use Rattle.std.specs.Prelude.{◌≡◌, ℕ, zero, suc, Bool, List, [], ◌∷◌, Option, Some, slice_get, slice_index_or}
 use Rattle.std.specs.Ordering.{nat_cmp}
-use Rattle.std.proofs.Common.{sym, ap, ◌∙◌, inl, inr}
+use Rattle.std.proofs.Common.{ap, ◌∙◌, inl}
 use Rattle.ll_rights.specs.Map.{Map, get}
 use Rattle.ll_rights.specs.declared.errno.Errno.{Errno}
 use Rattle.ll_laws.proofs.Chains.{same_Some}
@@ -11,7 +11,7 @@ use Rattle.ll_seq.specs.declared.facts.Fact.{Fact}
 use Rattle.ll_seq.specs.State.{Name}
 use Rattle.ll_held.specs.declared.held.Held.{Held}
 use Rattle.ll_journal.specs.declared.stop.Stop.{Stop}
-use Rattle.ll_journal.specs.Looks.{Lies, StopsBefore, StopsBetween, stop_by, stop_there, found_at, blocked_at}
+use Rattle.ll_journal.specs.Looks.{StopsBefore, StopsBetween, stop_by, stop_there, found_at, blocked_at}
 
 -- an element is the one at its place
 at_place : (lent : List Held) (place : ℕ) (d held : Held) → slice_get lent place ≡ Some held → slice_index_or lent place d ≡ held

@@ -1,5 +1,5 @@
 -- What it means that a commit stops so. No public contract cites it. own
-use Rattle.std.specs.Prelude.{◌≡◌, ◌≢◌, ℕ, true, false, List, Some, None}
+use Rattle.std.specs.Prelude.{◌≡◌, ◌≢◌, ℕ, true, List, Some, None}
 use Rattle.ll_rights.specs.declared.errno.Errno.{Errno}
 use Rattle.ll_rights.specs.declared.kind.Kind.TheVariants.{Dir}
 use Rattle.ll_rights.specs.Map.{get}

@@ -1,5 +1,5 @@
 -- What comes of a commit, and which slots it needs. own
-use Rattle.std.specs.Prelude.{◌≡◌, ℕ, ◌-◌, Bool, true, false, List, [], map, is_none, Option, Some, slice_index_or}
+use Rattle.std.specs.Prelude.{◌≡◌, ◌⊎◌, ℕ, ◌-◌, Bool, true, false, List, [], map, is_none, Some, slice_index_or}
 use Rattle.ll_rights.specs.Map.{get}
 use Rattle.ll_rights.specs.declared.errno.Errno.TheVariants.{HistoryFull}
 use Rattle.ll_answer.specs.Lean.{spares_memory}
@@ -10,7 +10,7 @@ use Rattle.ll_seq.specs.declared.reply.Reply.TheVariants.{Refused}
 use Rattle.ll_seq.specs.Call.{path_of}
 use Rattle.ll_seq.specs.State.{State}
 use Rattle.ll_seq.specs.Tree.{named}
-use Rattle.ll_walks.specs.Walk.{Walk, is_in, marks}
+use Rattle.ll_walks.specs.Walk.{Walk, at_ends, is_in, marks}
 use Rattle.ll_walks.specs.World as world
 use Rattle.ll_walks.specs.World.{World, advance, shown, is_full, last_node, without_walk}
 use Rattle.ll_walks.specs.declared.step.Step.TheVariants.{Commit}
@@ -84,11 +84,23 @@ spare_of b number = slice_index_or b.spares (number - 1) 0
 abbrev pub is_lent : Book → List ℕ → ℕ → Bool
 is_lent b slots inode = is_in (map (inode_in b) slots) inode
 
--- all that the walk's commit may need: the directories where it stands, those nodes, and the spare slot where it would make one
+-- All that the walk's commit may need: the directories where it stands, and at its ends those nodes, and the spare slot
+-- where it would make one
 pub record AreEnough (b : Book) (number : ℕ) (walk : Walk) (slots : List ℕ) : Type 0 where
   pub marked : (inode : ℕ) → marks walk inode ≡ true → is_lent b slots inode ≡ true
-  pub nodes : (inode : ℕ) → is_in (nodes_at_end (shown b.world) walk.call) inode ≡ true → is_lent b slots inode ≡ true
-  pub spare : would_make (shown b.world) walk.call ≡ true → is_in slots (spare_of b number) ≡ true
+  pub nodes :
+      at_ends walk.call walk.at ≡ true → (inode : ℕ) → is_in (nodes_at_end (shown b.world) walk.call) inode ≡ true
+      → is_lent b slots inode ≡ true
+  pub spare :
+      at_ends walk.call walk.at ≡ true → would_make (shown b.world) walk.call ≡ true
+      → is_in slots (spare_of b number) ≡ true
+
+-- the slot is one of these
+abbrev pub IsNeeded : Book → ℕ → Walk → ℕ → Type 0
+IsNeeded b number walk slot =
+    (marks walk (inode_in b slot) ≡ true)
+    ⊎ ((at_ends walk.call walk.at ≡ true) × (is_in (nodes_at_end (shown b.world) walk.call) (inode_in b slot) ≡ true))
+    ⊎ ((at_ends walk.call walk.at ≡ true) × (would_make (shown b.world) walk.call ≡ true) × (slot ≡ spare_of b number))
 
 -- the walk goes on, and the slots aren't enough
 abbrev pub IsAstrayAtEnd : Book → ℕ → List ℕ → Type 0

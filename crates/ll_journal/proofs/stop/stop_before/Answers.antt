@@ -1,4 +1,4 @@
-use Rattle.std.proofs.Common.{ap, sym, refl}
+use Rattle.std.proofs.Common.{ap, sym}
 use Rattle.ll_journal.specs.Looks.{stop_by}
 use Rattle.ll_journal.proofs.Stops.{stops_before}
 use Rattle.ll_journal.proofs.stop.stop_before.Goals as goal

@@ -4,10 +4,9 @@ use Rattle.ll_rights.specs.Map.{get}
 use Rattle.ll_decide.specs.Masks.{AreMasks}
 use Rattle.ll_held.specs.Lent.{unmarked}
 use Rattle.ll_rules.specs.Layer.{Layer}
-use Rattle.ll_walks.specs.Commits.{first_end, second_end}
 use Rattle.ll_walks.specs.Walk as walks
 use Rattle.ll_walks.specs.World.{domain_of, without_walk}
-use Rattle.ll_journal.specs.Book.{Book, Seat, Spares, slot_of}
+use Rattle.ll_journal.specs.Book.{Book, Seat, slot_of}
 use Rattle.ll_journal.specs.WalkEnds.{is_lent}
 use Rattle.ll_journal.specs.Kept.{book_of, spares_of, world_of}
 use Rattle.ll_journal.proofs.EndedWalks.{domain_is, ended_book, ended_slots, ended_sound, ended_spares, ended_world, place_within, seat_walks, spares_same, walk_of}
