@@ -42,3 +42,4 @@ pub mod Committed
 pub mod AtAnswers
 pub mod StopMeans
 pub mod Refusing
+pub mod Starved

@@ -18,7 +18,7 @@ ghost use Rattle.ll_walks.specs.World.{is_alone, is_walked, overtaken};
 ghost use Rattle.ll_journal.specs.Looks as looks;
 ghost use Rattle.ll_journal.specs.Looks.{stands_among};
 ghost use Rattle.ll_journal.specs.WalkPlaces.{place_of};
-ghost use Rattle.ll_journal.specs.Performed.{IsAtEnd, Performs};
+ghost use Rattle.ll_journal.specs.Performed.{IsAtEnd, IsFreeAtEnd, Performs};
 ghost use Rattle.ll_journal.specs.Seated.{turn_at};
 
 use crate::alone::{Own, RecordCall, answer, asked_of};
@@ -713,6 +713,7 @@ impl Seat {
             → Performs s number marks spares place table.old slots.now walk.now.call reply self.new.client self.new.spare table.new lent.new) }
         ensures rest { self.new.walk ≡ None }
         ensures err { OnErr result ((self.new ≡ self.old) × (table.new ≡ table.old) × (lent.new ≡ lent.old)) }
+        ensures starved { OnErr result (IsFreeAtEnd self.old.client self.old.spare table.old slots.now lent.old walk.now.call walk.now.first walk.now.second found.now) }
         ensures calm { spares_memory walk.now.call ≡ true → is_ok result ≡ true }
     {
         let (client, spare) = (&mut self.client, &mut self.spare);
