@@ -246,7 +246,7 @@ pub(crate) struct Ended {
 }
 
 impl Seat {
-    ghost use Rattle.ll_journal.specs.Own.{Comes, IsOwn};
+    ghost use Rattle.ll_journal.specs.Own.{Comes, IsFreeOwn, IsOwn};
     ghost use Rattle.ll_journal.specs.Seated.{again, call_in, entered, first_here_in, gone_down, here_in, is_at_ends, next_in, second_here_in, split};
 
     /// A client without a walk.
@@ -322,6 +322,7 @@ impl Seat {
         ensures descriptors { self.new.client.descriptors ≡ self.old.client.descriptors }
         ensures rest { self.new ≡ record self.old { client = self.new.client } }
         ensures err { OnErr result (self.new ≡ self.old) }
+        ensures starved { OnErr result (IsFreeOwn abi self.old.client asked) }
     {
         answer(&mut self.client, alloc, abi, asked)
     }
