@@ -1,15 +1,16 @@
 -- A walk is answered: the world after, what the journal keeps, and every slot's account.
-use Rattle.std.specs.Prelude.{◌≡◌, ◌≢◌, ◌⊎◌, ℕ, zero, suc, ◌+◌, ◌<◌, ◌≤◌, Bool, true, false, cond, ◌||◌, ◌==◌, List, [], ◌∷◌, ◌++◌, map, length, Option, Some, None, option_map, slice_get, slice_set, slice_index_or, refl}
+use Rattle.std.specs.Prelude.{◌≡◌, ◌≢◌, ◌⊎◌, ℕ, zero, suc, ◌+◌, ◌-◌, ◌<◌, ◌≤◌, Bool, true, false, cond, ◌||◌, ◌==◌, List, [], ◌∷◌, ◌++◌, map, length, Option, Some, None, option_map, slice_get, slice_set, slice_index_or, refl}
 use Rattle.std.specs.Option.{option_map_or}
 use Rattle.std.specs.Ordering.{nat_cmp}
-use Rattle.std.proofs.Common.{sym, subst, ap, ◌∙◌, arith, length-append}
+use Rattle.std.proofs.Common.{sym, subst, ap, ◌∙◌, arith, inl, inr, length-append}
 use Rattle.std.proofs.lemmas.Bool.{eqb-true, eq-eqb}
 use Rattle.std.proofs.lemmas.List.{length-map, length-set}
 use Rattle.ll_rights.specs.declared.limits.TheConstants.{HISTORY_ENTRIES, TREE_CLIENTS}
-use Rattle.ll_rights.specs.Map.{Map, get}
+use Rattle.ll_rights.specs.Map.{Map, get, has}
 use Rattle.ll_laws.proofs.Chains.{same_Some}
 use Rattle.ll_changes.specs.Accounts.{account, accounts, names_map}
-use Rattle.ll_changes.specs.Enacting.{IsMade}
+use Rattle.ll_changes.specs.Enacting.{IsMade, LeavesTable}
+use Rattle.ll_changes.proofs.GivenSlots.{put_again}
 use Rattle.ll_held.specs.declared.held.Held.{Held}
 use Rattle.ll_held.specs.Lent.{vacant}
 use Rattle.ll_inodes.specs.InodeTable.{Table, IsTable, NotIn}
@@ -17,7 +18,7 @@ use Rattle.ll_seq.specs.declared.call.Call.{Call}
 use Rattle.ll_seq.specs.declared.client.ClientRecord.{ClientRecord}
 use Rattle.ll_seq.specs.declared.reply.Reply.{Reply}
 use Rattle.ll_seq.specs.History.{Log}
-use Rattle.ll_seq.specs.State.{State, bytes_of, start}
+use Rattle.ll_seq.specs.State.{State, bytes_of, kind_of, start}
 use Rattle.ll_seq.specs.Tree.{kind_or_file}
 use Rattle.ll_seq.specs.Step.{step}
 use Rattle.ll_walks.specs.Walk.{Walk, marks}
@@ -25,7 +26,8 @@ use Rattle.ll_walks.specs.World.{World, Replied, advance, shown, is_full, may_co
 use Rattle.ll_walks.specs.declared.step.Step.TheVariants.{Commit}
 use Rattle.ll_walks.specs.Sound.{IsSound}
 use Rattle.ll_journal.specs.declared.journal.Journal.TheInside.{Inside}
-use Rattle.ll_journal.specs.Book.{Seat, Book, Spares, mark_of, has_mark, slot_of}
+use Rattle.ll_journal.specs.Book.{Seat, Book, Spares, inode_in, mark_of, has_mark, slot_of}
+use Rattle.ll_journal.specs.WalkEnds.{LeavesFree}
 use Rattle.ll_journal.specs.Kept.{IsKept, AreSeated, seat_at, world_of, book_of, walks_from, spares_of}
 use Rattle.ll_journal.specs.Performed.{Performs}
 use Rattle.ll_journal.proofs.Begun.{set_same, set_other}
@@ -183,3 +185,47 @@ module _ (j i k : Inside) (h : IsKept j) (mid : IsKept i) (number place : ℕ) (
         now ∙ ap (λ n. n + TREE_CLIENTS) rooms ∙ sym then;
     slots = λ q out. slot_so q ∙ performs.made.others q out;
   }
+
+  -- ---- slots and spares
+
+  spares_stay : slice_get (spares_of i.seats.items) place ≡ Some spare → spares_of k.seats.items ≡ spares_of i.seats.items
+  spares_stay same = spares_so ∙ put_again (spares_of i.seats.items) place spare same
+
+  pub committed_rest : LeavesFree (book_of i) number slots (book_of k)
+  committed_rest = by performs.made.freed
+    where
+      place_is : number - 1 ≡ place
+      place_is = omega (arith, numbered)
+
+      by : LeavesTable performs.after (spares_of i.seats.items) place spare i.table k.table slots → LeavesFree (book_of i) number slots (book_of k)
+      by (inl keeps) = inl (λ x. record { world = world_of k; inodes = keeps.1.inodes x; free = keeps.1.free x; spares = spares_stay keeps.0 x })
+      by (inr (inl takes)) = inr (inl (record {
+        slot = spare;
+        made = (λ x. has (shown_so x).nodes (sym mid.table.next x)) ∙ takes.made;
+        inodes = takes.inodes ∙ (λ x. slice_set i.table.inodes (slice_index_or (spares_of i.seats.items) (sym place_is x) 0) (mid.table.next x));
+        free = takes.free;
+        spares = spares_so ∙ ap (λ n. slice_set (spares_of i.seats.items) n spare) (sym place_is);
+      }))
+      by (inr (inr gives)) =
+          let back = gives.1 in
+          inr (inr (
+            back.slot,
+            back.lent,
+            record {
+              gone = ap (λ (s : State). kind_of s (inode_in (book_of i) back.slot)) shown_so ∙ back.gone;
+              inodes = back.inodes;
+              free = back.free;
+              spares = spares_stay gives.0;
+            },
+          ))
+
+-- the walk's end leaves the slots
+pub rest_before : (b v x : Book) (number : ℕ) (slots : List ℕ) → v.world ≡ without_walk b.world number → v ≡ record b { world = v.world } → LeavesFree v number slots x → LeavesFree b number slots x
+rest_before b v x number slots world rest h = by (subst (λ y. LeavesFree y number slots x) (rest ∙ ap (λ w. record b { world = w }) world) h)
+  where
+    by : LeavesFree (record b { world = without_walk b.world number }) number slots x → LeavesFree b number slots x
+    by (inl stays) = inl stays
+    by (inr (inl makes)) = inr (inl (record { slot = makes.slot; made = makes.made; inodes = makes.inodes; free = makes.free; spares = makes.spares }))
+    by (inr (inr frees)) =
+        let gone = frees.2 in
+        inr (inr (frees.0, frees.1, record { gone = gone.gone; inodes = gone.inodes; free = gone.free; spares = gone.spares }))

@@ -1,6 +1,6 @@
 -- What comes of a commit, and which slots it needs. own
-use Rattle.std.specs.Prelude.{◌≡◌, ℕ, ◌-◌, Bool, true, false, List, [], map, is_none, Option, Some, slice_index_or}
-use Rattle.ll_rights.specs.Map.{get}
+use Rattle.std.specs.Prelude.{◌≡◌, ◌⊎◌, ℕ, ◌-◌, Bool, true, false, List, [], ◌∷◌, ◌++◌, map, is_none, Option, Some, slice_index_or, slice_set}
+use Rattle.ll_rights.specs.Map.{get, has}
 use Rattle.ll_rights.specs.declared.errno.Errno.TheVariants.{HistoryFull}
 use Rattle.ll_answer.specs.Lean.{spares_memory}
 use Rattle.ll_seq.specs.declared.call.Call.{Call}
@@ -17,6 +17,7 @@ use Rattle.ll_walks.specs.declared.step.Step.TheVariants.{Commit}
 use Rattle.ll_journal.specs.declared.outcome.Ending.{Ending}
 use Rattle.ll_journal.specs.declared.outcome.Ending.TheVariants as ending
 use Rattle.ll_journal.specs.Book.{Book, inode_in}
+use Rattle.ll_journal.specs.Direct.{FreesSlot}
 use Rattle.ll_journal.specs.Starving.{StarvesAtEnd}
 
 -- The outcome is the step's, and so is the world after. Astray is none of its outcomes: then nothing changes. Where memory runs out, for a call
@@ -99,3 +100,17 @@ IsAstrayAtEnd b number slots =
 -- the client's walk is that of a call that may take memory
 abbrev pub MayTakeMemory : World → ℕ → Type 0
 MayTakeMemory w number = (walk : Walk) × (get w.walks number ≡ Some walk) × (spares_memory walk.call ≡ false)
+
+-- A node was made: it lies in the client's spare slot, and the last of the free slots is its spare now
+pub record MakesNode (b b' : Book) (number : ℕ) : Type 0 where
+  pub slot : ℕ
+  pub made : has (shown b'.world).nodes (shown b.world).next ≡ true
+  pub inodes : b'.inodes ≡ slice_set b.inodes (spare_of b number) (shown b.world).next
+  pub free : b.free ≡ b'.free ++ slot ∷ []
+  pub spares : b'.spares ≡ slice_set b.spares (number - 1) slot
+
+-- Beside the world nothing changes, unless a node is made, or one goes that lies in one of the slots
+abbrev pub LeavesFree : Book → ℕ → List ℕ → Book → Type 0
+LeavesFree b number slots b' =
+    (b' ≡ record b { world = b'.world }) ⊎ MakesNode b b' number
+    ⊎ ((slot : ℕ) × (is_in slots slot ≡ true) × FreesSlot b b' slot)

@@ -1,6 +1,6 @@
 use Rattle.std.specs.Prelude.{◌≡◌, [], None, map, slice_set, refl}
 use Rattle.std.specs.Vec.{with_item}
-use Rattle.std.proofs.Common.{ap, sym, subst, ◌∙◌}
+use Rattle.std.proofs.Common.{ap, sym, subst, ◌∙◌, inl}
 use Rattle.ll_answer.specs.Found.{AreFacts}
 use Rattle.ll_seq.specs.declared.call.Call.{Call}
 use Rattle.ll_seq.specs.declared.reply.Reply.TheVariants.{Refused}
@@ -8,15 +8,16 @@ use Rattle.ll_rights.specs.declared.errno.Errno.TheVariants.{HistoryFull}
 use Rattle.ll_seq.specs.State.{State}
 use Rattle.ll_seq.specs.Step.{refusals, client_of}
 use Rattle.ll_walks.specs.Walk.{Walk}
-use Rattle.ll_walks.specs.World.{Replied, advance, is_full, moved_by, next_number, shown}
+use Rattle.ll_walks.specs.World.{World, Replied, advance, is_full, moved_by, next_number, shown}
 use Rattle.ll_walks.specs.declared.step.Step.TheVariants.{Commit}
 use Rattle.ll_journal.specs.declared.journal.Journal.TheInside.{Inside}
 use Rattle.ll_journal.specs.Book.{Book, Spares, mark_of, slot_of}
+use Rattle.ll_journal.specs.WalkEnds.{LeavesFree}
 use Rattle.ll_journal.specs.Decidings.{moved_list}
 use Rattle.ll_journal.specs.Kept.{book_of, spares_of, world_of}
 use Rattle.ll_journal.specs.Performed.{Performs}
 use Rattle.ll_journal.proofs.AtAnswers.{EndedSo, at_end, ended_so, seat_idle}
-use Rattle.ll_journal.proofs.Committed.{committed_kept, committed_lent, committed_spares, committed_step, spares_both}
+use Rattle.ll_journal.proofs.Committed.{committed_kept, committed_lent, committed_rest, committed_spares, committed_step, rest_before, spares_both}
 use Rattle.ll_journal.proofs.DecidedCalls.{no_zero}
 use Rattle.ll_journal.proofs.Ended.{commit_gives_up}
 use Rattle.ll_journal.proofs.Starved.{step_granted}
@@ -174,5 +175,18 @@ returns-clause-spares c =
     spares_both c.args.self.now c.end_walk-walk.new.self (book_of (after c)) c.args.slots.now (c.end_walk-walk.ensures.spares c.args.slots.now r.walk r.ends.is r.ends.marked)
     (subst (λ (b : Book). Spares b (book_of (after c)) c.args.slots.now) c.self-2.view_is
     (committed_spares c.self.inside c.self-2.inside (after c) c.self.invariant c.self-2.invariant c.args.client c.args.place (walk_then c) (ended_then c).reached.ends.is (ended_then c).reached.ends.may
+    (ended_then c).world (ap is_full (ended_then c).world ∙ sym c.is_full-is_full.ensures ∙ c.if-is_full.false) c.index_mut-seat.result.now (ended_then c).at c.requires.numbered c.in-Ok.reply c.perform.new.self.client c.perform.new.self.spare c.perform.new.lent c.args.slots.now (performs c)
+    c.perform.new.self refl refl (c.in-Ok.ensures.rest ∙ sym (idle_then c)) (moved_list c.moved_by.result) (moves c) c.overtake_moved.ensures (entry_is c) refl refl refl))
+
+pub returns-in_default-clause-rest : goal.returns-in_default-clause-rest
+returns-in_default-clause-rest c =
+    rest_before c.args.self.now c.end_walk-walk.new.self (book_of (starved c)) c.args.client c.args.slots.now c.end_walk-walk.ensures.world c.end_walk-walk.ensures.rest
+    (inl (starved_is c ∙ ap (λ (w : World). record c.end_walk-walk.new.self { world = w }) (ap (λ (b : Book). b.world) (sym (starved_is c)))))
+
+pub returns-clause-rest : goal.returns-clause-rest
+returns-clause-rest c =
+    rest_before c.args.self.now c.end_walk-walk.new.self (book_of (after c)) c.args.client c.args.slots.now c.end_walk-walk.ensures.world c.end_walk-walk.ensures.rest
+    (subst (λ (b : Book). LeavesFree b c.args.client c.args.slots.now (book_of (after c))) c.self-2.view_is
+    (committed_rest c.self.inside c.self-2.inside (after c) c.self.invariant c.self-2.invariant c.args.client c.args.place (walk_then c) (ended_then c).reached.ends.is (ended_then c).reached.ends.may
     (ended_then c).world (ap is_full (ended_then c).world ∙ sym c.is_full-is_full.ensures ∙ c.if-is_full.false) c.index_mut-seat.result.now (ended_then c).at c.requires.numbered c.in-Ok.reply c.perform.new.self.client c.perform.new.self.spare c.perform.new.lent c.args.slots.now (performs c)
     c.perform.new.self refl refl (c.in-Ok.ensures.rest ∙ sym (idle_then c)) (moved_list c.moved_by.result) (moves c) c.overtake_moved.ensures (entry_is c) refl refl refl))
