@@ -13,7 +13,7 @@ use Rattle.ll_changes.specs.Enacting.{IsMade, LeavesTable}
 use Rattle.ll_changes.proofs.GivenSlots.{put_again}
 use Rattle.ll_held.specs.declared.held.Held.{Held}
 use Rattle.ll_held.specs.Lent.{vacant}
-use Rattle.ll_inodes.specs.InodeTable.{Table, IsTable, NotIn}
+use Rattle.ll_inodes.specs.InodeTable.{Table, IsTable, NotIn, without_inode}
 use Rattle.ll_seq.specs.declared.call.Call.{Call}
 use Rattle.ll_seq.specs.declared.client.ClientRecord.{ClientRecord}
 use Rattle.ll_seq.specs.declared.reply.Reply.{Reply}
@@ -26,12 +26,13 @@ use Rattle.ll_walks.specs.World.{World, Replied, advance, shown, is_full, may_co
 use Rattle.ll_walks.specs.declared.step.Step.TheVariants.{Commit}
 use Rattle.ll_walks.specs.Sound.{IsSound}
 use Rattle.ll_journal.specs.declared.journal.Journal.TheInside.{Inside}
-use Rattle.ll_journal.specs.Book.{Seat, Book, Spares, inode_in, mark_of, has_mark, slot_of}
-use Rattle.ll_journal.specs.WalkEnds.{LeavesFree}
+use Rattle.ll_journal.specs.Book.{Seat, Book, Spares, mark_of, has_mark, slot_of}
+use Rattle.ll_journal.specs.WalkEnds.{LeavesFree, would_make}
 use Rattle.ll_journal.specs.Kept.{IsKept, AreSeated, seat_at, world_of, book_of, walks_from, spares_of}
 use Rattle.ll_journal.specs.Performed.{Performs}
 use Rattle.ll_journal.proofs.Begun.{set_same, set_other}
 use Rattle.ll_journal.proofs.Ended.{commit_equation}
+use Rattle.ll_journal.proofs.MadeNodes.{would_have_made}
 use Rattle.ll_journal.proofs.MarkOf.{AreClients, are_clients, has_mark_stale, mark_same}
 use Rattle.ll_journal.proofs.Overtaking.{overtaken_seat, overtaken_seats, seated_overtaken, spares_overtaken, walks_overtaken}
 use Rattle.ll_journal.proofs.Ruled.{room_stays}
@@ -191,20 +192,35 @@ module _ (j i k : Inside) (h : IsKept j) (mid : IsKept i) (number place : ℕ) (
   spares_stay : slice_get (spares_of i.seats.items) place ≡ Some spare → spares_of k.seats.items ≡ spares_of i.seats.items
   spares_stay same = spares_so ∙ put_again (spares_of i.seats.items) place spare same
 
-  pub committed_rest : LeavesFree (book_of i) number slots (book_of k)
-  committed_rest = by performs.made.freed
+  pub committed_rest : i.table.inodes ≡ j.table.inodes → i.table.free ≡ j.table.free → spares_of i.seats.items ≡ spares_of j.seats.items → LeavesFree (book_of j) number slots (book_of k)
+  committed_rest inodes free spares = by performs.made.freed
     where
       place_is : number - 1 ≡ place
       place_is = omega (arith, numbered)
 
-      by : LeavesTable performs.after (spares_of i.seats.items) place spare i.table k.table slots → LeavesFree (book_of i) number slots (book_of k)
-      by (inl keeps) = inl (λ x. record { world = world_of k; inodes = keeps.1.inodes x; free = keeps.1.free x; spares = spares_stay keeps.0 x })
+      next_is : (shown w).next ≡ i.table.next
+      next_is = ap (λ (v : World). (shown v).next) (sym ended) ∙ sym mid.table.next
+
+      made_so : has performs.after.nodes i.table.next ≡ true → would_make (shown w) walk.call ≡ true
+      made_so made =
+          ap (λ (v : World). would_make (shown v) walk.call) (sym ended)
+          ∙ would_have_made before performs.after number walk.call (next_number (world_of i)) _ k.table (ap (λ (p : Reply × State). p.1) steps_so) performs.made.counted
+          (ap (has performs.after.nodes) (sym mid.table.next) ∙ made)
+
+      by : LeavesTable performs.after (spares_of i.seats.items) place spare i.table k.table slots → LeavesFree (book_of j) number slots (book_of k)
+      by (inl keeps) = inl (λ x. record {
+        world = world_of k;
+        inodes = (keeps.1.inodes ∙ inodes) x;
+        free = (keeps.1.free ∙ free) x;
+        spares = (spares_stay keeps.0 ∙ spares) x;
+      })
       by (inr (inl takes)) = inr (inl (record {
+        may = (walk, is, made_so takes.made);
         slot = spare;
-        made = (λ x. has (shown_so x).nodes (sym mid.table.next x)) ∙ takes.made;
-        inodes = takes.inodes ∙ (λ x. slice_set i.table.inodes (slice_index_or (spares_of i.seats.items) (sym place_is x) 0) (mid.table.next x));
-        free = takes.free;
-        spares = spares_so ∙ ap (λ n. slice_set (spares_of i.seats.items) n spare) (sym place_is);
+        made = (λ x. has (shown_so x).nodes (next_is x)) ∙ takes.made;
+        inodes = takes.inodes ∙ (λ x. slice_set (inodes x) (slice_index_or (spares x) (sym place_is x) 0) (sym next_is x));
+        free = sym free ∙ takes.free;
+        spares = spares_so ∙ (λ x. slice_set (spares x) (sym place_is x) spare);
       }))
       by (inr (inr gives)) =
           let back = gives.1 in
@@ -212,20 +228,9 @@ module _ (j i k : Inside) (h : IsKept j) (mid : IsKept i) (number place : ℕ) (
             back.slot,
             back.lent,
             record {
-              gone = ap (λ (s : State). kind_of s (inode_in (book_of i) back.slot)) shown_so ∙ back.gone;
-              inodes = back.inodes;
-              free = back.free;
-              spares = spares_stay gives.0;
+              gone = (λ x. kind_of (shown_so x) (slice_index_or (sym inodes x) back.slot 0)) ∙ back.gone;
+              inodes = back.inodes ∙ (λ x. without_inode (inodes x) (slice_index_or (inodes x) back.slot 0));
+              free = back.free ∙ ap (λ ks. ks ++ back.slot ∷ []) free;
+              spares = spares_stay gives.0 ∙ spares;
             },
           ))
-
--- the walk's end leaves the slots
-pub rest_before : (b v x : Book) (number : ℕ) (slots : List ℕ) → v.world ≡ without_walk b.world number → v ≡ record b { world = v.world } → LeavesFree v number slots x → LeavesFree b number slots x
-rest_before b v x number slots world rest h = by (subst (λ y. LeavesFree y number slots x) (rest ∙ ap (λ w. record b { world = w }) world) h)
-  where
-    by : LeavesFree (record b { world = without_walk b.world number }) number slots x → LeavesFree b number slots x
-    by (inl stays) = inl stays
-    by (inr (inl makes)) = inr (inl (record { slot = makes.slot; made = makes.made; inodes = makes.inodes; free = makes.free; spares = makes.spares }))
-    by (inr (inr frees)) =
-        let gone = frees.2 in
-        inr (inr (frees.0, frees.1, record { gone = gone.gone; inodes = gone.inodes; free = gone.free; spares = gone.spares }))

@@ -43,3 +43,4 @@ pub mod AtAnswers
 pub mod StopMeans
 pub mod Refusing
 pub mod Starved
+pub mod MadeNodes

@@ -101,8 +101,13 @@ IsAstrayAtEnd b number slots =
 abbrev pub MayTakeMemory : World → ℕ → Type 0
 MayTakeMemory w number = (walk : Walk) × (get w.walks number ≡ Some walk) × (spares_memory walk.call ≡ false)
 
+-- the client's walk is that of a call that would make a node
+abbrev pub MayMake : World → ℕ → Type 0
+MayMake w number = (walk : Walk) × (get w.walks number ≡ Some walk) × (would_make (shown w) walk.call ≡ true)
+
 -- A node was made: it lies in the client's spare slot, and the last of the free slots is its spare now
 pub record MakesNode (b b' : Book) (number : ℕ) : Type 0 where
+  pub may : MayMake b.world number
   pub slot : ℕ
   pub made : has (shown b'.world).nodes (shown b.world).next ≡ true
   pub inodes : b'.inodes ≡ slice_set b.inodes (spare_of b number) (shown b.world).next

@@ -17,7 +17,7 @@ use Rattle.ll_journal.specs.Decidings.{moved_list}
 use Rattle.ll_journal.specs.Kept.{book_of, spares_of, world_of}
 use Rattle.ll_journal.specs.Performed.{Performs}
 use Rattle.ll_journal.proofs.AtAnswers.{EndedSo, at_end, ended_so, seat_idle}
-use Rattle.ll_journal.proofs.Committed.{committed_kept, committed_lent, committed_rest, committed_spares, committed_step, rest_before, spares_both}
+use Rattle.ll_journal.proofs.Committed.{committed_kept, committed_lent, committed_rest, committed_spares, committed_step, spares_both}
 use Rattle.ll_journal.proofs.DecidedCalls.{no_zero}
 use Rattle.ll_journal.proofs.Ended.{commit_gives_up}
 use Rattle.ll_journal.proofs.Starved.{step_granted}
@@ -180,13 +180,12 @@ returns-clause-spares c =
 
 pub returns-in_default-clause-rest : goal.returns-in_default-clause-rest
 returns-in_default-clause-rest c =
-    rest_before c.args.self.now c.end_walk-walk.new.self (book_of (starved c)) c.args.client c.args.slots.now c.end_walk-walk.ensures.world c.end_walk-walk.ensures.rest
-    (inl (starved_is c ∙ ap (λ (w : World). record c.end_walk-walk.new.self { world = w }) (ap (λ (b : Book). b.world) (sym (starved_is c)))))
+    inl (starved_is c ∙ c.end_walk-walk.ensures.rest ∙ ap (λ (w : World). record c.args.self.now { world = w }) (ap (λ (b : Book). b.world) (sym (starved_is c))))
 
 pub returns-clause-rest : goal.returns-clause-rest
 returns-clause-rest c =
-    rest_before c.args.self.now c.end_walk-walk.new.self (book_of (after c)) c.args.client c.args.slots.now c.end_walk-walk.ensures.world c.end_walk-walk.ensures.rest
-    (subst (λ (b : Book). LeavesFree b c.args.client c.args.slots.now (book_of (after c))) c.self-2.view_is
+    subst (λ (b : Book). LeavesFree b c.args.client c.args.slots.now (book_of (after c))) c.self.view_is
     (committed_rest c.self.inside c.self-2.inside (after c) c.self.invariant c.self-2.invariant c.args.client c.args.place (walk_then c) (ended_then c).reached.ends.is (ended_then c).reached.ends.may
     (ended_then c).world (ap is_full (ended_then c).world ∙ sym c.is_full-is_full.ensures ∙ c.if-is_full.false) c.index_mut-seat.result.now (ended_then c).at c.requires.numbered c.in-Ok.reply c.perform.new.self.client c.perform.new.self.spare c.perform.new.lent c.args.slots.now (performs c)
-    c.perform.new.self refl refl (c.in-Ok.ensures.rest ∙ sym (idle_then c)) (moved_list c.moved_by.result) (moves c) c.overtake_moved.ensures (entry_is c) refl refl refl))
+    c.perform.new.self refl refl (c.in-Ok.ensures.rest ∙ sym (idle_then c)) (moved_list c.moved_by.result) (moves c) c.overtake_moved.ensures (entry_is c) refl refl refl
+    (ended_then c).inodes (ap (λ (b : Book). b.free) (c.self-2.view_is ∙ c.end_walk-walk.ensures.rest) ∙ ap (λ (b : Book). b.free) (sym c.self.view_is)) (ended_then c).spares)
