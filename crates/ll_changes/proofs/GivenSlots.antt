@@ -148,12 +148,15 @@ module _ (s : State) (spares : List ℕ) (table : Table) (counted : IsTable s sp
       by (Some n) e (Some slot) f = absurd ((left_there table.inodes inode slot inode (ap (λ is. slice_get is slot) (sym inodes) ∙ (after.placed.there inode slot f).0) some).1 refl)
 
   pub given_back : (slots : List ℕ) → list_any (λ k. inode_at table.inodes k == inode) slots ≡ true → (t : State) (spares' : List ℕ) (table' : Table) → IsTable t spares' table' → table'.inodes ≡ without_inode table.inodes inode
-      → ((slot : ℕ) → get table.places inode ≡ Some slot → table'.free ≡ table.free ++ slot ∷ []) → GivesBack t table table' slots
+      → ((slot : ℕ) → get table.places inode ≡ Some slot → table'.free ≡ table.free ++ slot ∷ []) → GivesBack s t table table' slots
   given_back slots any t spares' table' after inodes free =
       let here = slot_lent slots any in
       record {
         slot = here.0;
         lent = here.1;
+        there =
+            ap (has s.nodes) here.2 ∙ sym (counted.living inode)
+            ∙ ap is_some (counted.placed.lies here.0 inode (got table.inodes here.0 inode here.2 some) some);
         gone = ap (kind_of t) here.2 ∙ gone_so t spares' table' after inodes;
         inodes = inodes ∙ ap (without_inode table.inodes) (sym here.2);
         free = free here.0 (counted.placed.lies here.0 inode (got table.inodes here.0 inode here.2 some) some);
@@ -194,7 +197,7 @@ module _ (s : State) (number : ℕ) (marks : ℕ → Option ℕ) (spares : List 
       → ((q : ℕ) → get t.clients q ≡ (if q == number then Some c' else get s.clients q))
       → lent' ≡ map f lent → ((k : ℕ) → account t marks table'.inodes k ≡ f (account s marks table.inodes k))
       → AllByRecursion (λ i. i ≢ 0) touched → AllByRecursion (λ i. list_any (λ k. slice_index_or table.inodes k 0 == i) slots ≡ true) touched
-      → ((held : Held) → NotIn held.inode touched → f held ≡ held) → KeepsSlots table table' ⊎ GivesBack t table table' slots
+      → ((held : Held) → NotIn held.inode touched → f held ≡ held) → KeepsSlots table table' ⊎ GivesBack s t table table' slots
       → IsMade s t number marks spares place c' spare table table' slots lent'
   made_by t c' table' lent' f touched counted next clients done each somes covered spared free = record {
     counted = subst (λ kept. IsTable t kept table') (sym (put_again spares place spare given.kept)) counted;

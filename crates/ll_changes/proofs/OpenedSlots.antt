@@ -229,12 +229,12 @@ module _ (s : State) (number : ℕ) (marks : ℕ → Option ℕ) (spares : List 
         freed = freed_then made.freed;
       }))
     where
-      freed_then : LeavesTable made_file spares place spare' table table1 slots → LeavesTable (with_client made_file number (with_descriptor c o s.next)) spares place spare' table table' slots
+      freed_then : LeavesTable s made_file spares place spare' table table1 slots → LeavesTable s (with_client made_file number (with_descriptor c o s.next)) spares place spare' table table' slots
       freed_then (inl keeps) = inl (keeps.0, record { inodes = inodes ∙ keeps.1.inodes; free = free ∙ keeps.1.free })
       freed_then (inr (inl takes)) = inr (inl (record { made = takes.made; free = takes.free ∙ ap (λ ks. ks ++ spare' ∷ []) (sym free); inodes = inodes ∙ takes.inodes }))
       freed_then (inr (inr gives)) =
           let back = gives.1 in
-          inr (inr (gives.0, record { slot = back.slot; lent = back.lent; gone = back.gone; inodes = inodes ∙ back.inodes; free = free ∙ back.free }))
+          inr (inr (gives.0, record { slot = back.slot; lent = back.lent; there = back.there; gone = back.gone; inodes = inodes ∙ back.inodes; free = free ∙ back.free }))
 
       lives : has made_file.nodes inode ≡ true
       lives = ap (has made_file.nodes) is_next ∙ has_node (get made_file.nodes s.next) Reg (make_kind s Reg (dentry_at o.at))

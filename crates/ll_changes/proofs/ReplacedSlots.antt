@@ -134,7 +134,7 @@ module _ (s : State) (number : ℕ) (marks : ℕ → Option ℕ) (spares : List 
 
   made : (table' : Table) (lent' : List Held) (f : Held → Held) → IsTable over spares table' → lent' ≡ map f lent → ((k : ℕ) → account over marks table'.inodes k ≡ f (account s marks table.inodes k))
       → ((held : Held) → NotIn held.inode (old.directory ∷ new.directory ∷ replaced ∷ []) → f held ≡ held)
-      → KeepsSlots table table' ⊎ GivesBack over table table' slots → IsMade s over number marks spares place c spare table table' slots lent'
+      → KeepsSlots table table' ⊎ GivesBack s over table table' slots → IsMade s over number marks spares place c spare table table' slots lent'
   made table' lent' f counted done each spared free =
       made_by s number marks spares place c spare table slots lent given over c table' lent' f (old.directory ∷ new.directory ∷ replaced ∷ []) counted
       (after_next s number c (Replace old new inode replaced)) (client_stays s over number c clients given.client) done each (from_some, (into_some, (replaced_some, tt))) covers.touched spared free

@@ -85,7 +85,7 @@ module _ (s : State) (number : ℕ) (marks : ℕ → Option ℕ) (spares : List 
 
   made : (table' : Table) (lent' : List Held) (f : Held → Held) → IsTable without spares table' → lent' ≡ map f lent → ((k : ℕ) → account without marks table'.inodes k ≡ f (account s marks table.inodes k))
       → ((held : Held) → NotIn held.inode (at.directory ∷ inode ∷ []) → f held ≡ held)
-      → KeepsSlots table table' ⊎ GivesBack without table table' slots → IsMade s without number marks spares place c spare table table' slots lent'
+      → KeepsSlots table table' ⊎ GivesBack s without table table' slots → IsMade s without number marks spares place c spare table table' slots lent'
   made table' lent' f counted done each spared free =
       made_by s number marks spares place c spare table slots lent given without c table' lent' f (at.directory ∷ inode ∷ []) counted (after_next s number c (Take at inode))
       (client_stays s without number c clients given.client) done each (directory_some, (inode_some, tt)) covers.touched spared free

@@ -48,9 +48,10 @@ pub record TakesFree (t : State) (spare spare' : ℕ) (table table' : Table) : T
   pub inodes : table'.inodes ≡ slice_set table.inodes spare table.next
 
 -- A node is gone: its slot, which is lent, is the last of the free ones
-pub record GivesBack (t : State) (table table' : Table) (slots : List ℕ) : Type 0 where
+pub record GivesBack (s t : State) (table table' : Table) (slots : List ℕ) : Type 0 where
   pub slot : ℕ
   pub lent : list_any (λ k. k == slot) slots ≡ true
+  pub there : has s.nodes (slice_index_or table.inodes slot 0) ≡ true
   pub gone : kind_of t (slice_index_or table.inodes slot 0) ≡ None
   pub inodes : table'.inodes ≡ without_inode table.inodes (slice_index_or table.inodes slot 0)
   pub free : table'.free ≡ table.free ++ slot ∷ []
@@ -61,11 +62,11 @@ pub record KeepsSlots (table table' : Table) : Type 0 where
   pub free : table'.free ≡ table.free
 
 -- The spare of the client at the place is another only where a node was made
-abbrev pub LeavesTable : State → List ℕ → ℕ → ℕ → Table → Table → List ℕ → Type 0
-LeavesTable t spares place spare' table table' slots =
+abbrev pub LeavesTable : State → State → List ℕ → ℕ → ℕ → Table → Table → List ℕ → Type 0
+LeavesTable s t spares place spare' table table' slots =
     ((slice_get spares place ≡ Some spare') × KeepsSlots table table')
     ⊎ TakesFree t (slice_index_or spares place 0) spare' table table'
-    ⊎ ((slice_get spares place ≡ Some spare') × GivesBack t table table' slots)
+    ⊎ ((slice_get spares place ≡ Some spare') × GivesBack s t table table' slots)
 
 -- the tree after, its table and the client, and what lies in the slots then
 pub record IsMade
@@ -75,7 +76,7 @@ pub record IsMade
   pub clients : (q : ℕ) → get t.clients q ≡ (if q == number then Some c' else get s.clients q)
   pub told : lent' ≡ accounts t marks table'.inodes slots
   pub others : (k : ℕ) → NotIn k slots → account t marks table'.inodes k ≡ account s marks table.inodes k
-  pub freed : LeavesTable t spares place spare' table table' slots
+  pub freed : LeavesTable s t spares place spare' table table' slots
 
 -- so for each tree where it may be
 abbrev pub Enacts : Change → List ℕ → ClientRecord → ℕ → Table → List Held → ClientRecord → ℕ → Table → List Held → Type 0

@@ -1,5 +1,5 @@
 -- A walk is answered: the world after, what the journal keeps, and every slot's account.
-use Rattle.std.specs.Prelude.{◌≡◌, ◌≢◌, ◌⊎◌, ℕ, zero, suc, ◌+◌, ◌-◌, ◌<◌, ◌≤◌, Bool, true, false, cond, ◌||◌, ◌==◌, List, [], ◌∷◌, ◌++◌, map, length, Option, Some, None, option_map, slice_get, slice_set, slice_index_or, refl}
+use Rattle.std.specs.Prelude.{◌≡◌, ◌≢◌, ◌⊎◌, ℕ, zero, suc, ◌+◌, ◌-◌, ◌<◌, ◌≤◌, Bool, true, false, cond, ◌&&◌, ◌||◌, ◌==◌, List, [], ◌∷◌, ◌++◌, map, length, Option, Some, None, option_map, slice_get, slice_set, slice_index_or, refl}
 use Rattle.std.specs.Option.{option_map_or}
 use Rattle.std.specs.Ordering.{nat_cmp}
 use Rattle.std.proofs.Common.{sym, subst, ap, ◌∙◌, arith, inl, inr, length-append}
@@ -17,22 +17,23 @@ use Rattle.ll_inodes.specs.InodeTable.{Table, IsTable, NotIn, without_inode}
 use Rattle.ll_seq.specs.declared.call.Call.{Call}
 use Rattle.ll_seq.specs.declared.client.ClientRecord.{ClientRecord}
 use Rattle.ll_seq.specs.declared.reply.Reply.{Reply}
+use Rattle.ll_seq.specs.Call.{targets}
 use Rattle.ll_seq.specs.History.{Log}
 use Rattle.ll_seq.specs.State.{State, bytes_of, kind_of, start}
 use Rattle.ll_seq.specs.Tree.{kind_or_file}
 use Rattle.ll_seq.specs.Step.{step}
 use Rattle.ll_walks.specs.Walk.{Walk, marks}
-use Rattle.ll_walks.specs.World.{World, Replied, advance, shown, is_full, may_commit, moved_by, map_values, next_number, overtaken, reply_to, with_entry, with_stale, without_walk}
+use Rattle.ll_walks.specs.World.{World, Replied, advance, has_any, shown, is_full, may_commit, moved_by, map_values, next_number, overtaken, reply_to, with_entry, with_stale, without_walk}
 use Rattle.ll_walks.specs.declared.step.Step.TheVariants.{Commit}
 use Rattle.ll_walks.specs.Sound.{IsSound}
 use Rattle.ll_journal.specs.declared.journal.Journal.TheInside.{Inside}
 use Rattle.ll_journal.specs.Book.{Seat, Book, Spares, mark_of, has_mark, slot_of}
-use Rattle.ll_journal.specs.WalkEnds.{LeavesFree, would_make}
+use Rattle.ll_journal.specs.WalkEnds.{LeavesFree, TakesName, would_make}
 use Rattle.ll_journal.specs.Kept.{IsKept, AreSeated, seat_at, world_of, book_of, walks_from, spares_of}
 use Rattle.ll_journal.specs.Performed.{Performs}
 use Rattle.ll_journal.proofs.Begun.{set_same, set_other}
 use Rattle.ll_journal.proofs.Ended.{commit_equation}
-use Rattle.ll_journal.proofs.MadeNodes.{would_have_made}
+use Rattle.ll_journal.proofs.MadeNodes.{has_let_go, would_have_made}
 use Rattle.ll_journal.proofs.MarkOf.{AreClients, are_clients, has_mark_stale, mark_same}
 use Rattle.ll_journal.proofs.Overtaking.{overtaken_seat, overtaken_seats, seated_overtaken, spares_overtaken, walks_overtaken}
 use Rattle.ll_journal.proofs.Ruled.{room_stays}
@@ -189,6 +190,10 @@ module _ (j i k : Inside) (h : IsKept j) (mid : IsKept i) (number place : ℕ) (
 
   -- ---- slots and spares
 
+  first_true : (a b : Bool) → (a && b) ≡ true → a ≡ true
+  first_true true b e = refl
+  first_true false b e = absurd (cc e)
+
   spares_stay : slice_get (spares_of i.seats.items) place ≡ Some spare → spares_of k.seats.items ≡ spares_of i.seats.items
   spares_stay same = spares_so ∙ put_again (spares_of i.seats.items) place spare same
 
@@ -207,7 +212,12 @@ module _ (j i k : Inside) (h : IsKept j) (mid : IsKept i) (number place : ℕ) (
           ∙ would_have_made before performs.after number walk.call (next_number (world_of i)) _ k.table (ap (λ (p : Reply × State). p.1) steps_so) performs.made.counted
           (ap (has performs.after.nodes) (sym mid.table.next) ∙ made)
 
-      by : LeavesTable performs.after (spares_of i.seats.items) place spare i.table k.table slots → LeavesFree (book_of j) number slots (book_of k)
+      let_go_so : (x : ℕ) → has before.nodes x ≡ true → kind_of performs.after x ≡ None → TakesName walk.call
+      let_go_so x there gone =
+          has_let_go before performs.after number walk.call (next_number (world_of i)) x (ap (λ (p : Reply × State). p.1) steps_so)
+          (first_true (has_any (targets walk.call)) _ ((h.sound.valid number walk is).0.walked)) there gone
+
+      by : LeavesTable before performs.after (spares_of i.seats.items) place spare i.table k.table slots → LeavesFree (book_of j) number slots (book_of k)
       by (inl keeps) = inl (λ x. record {
         world = world_of k;
         inodes = (keeps.1.inodes ∙ inodes) x;
@@ -226,8 +236,10 @@ module _ (j i k : Inside) (h : IsKept j) (mid : IsKept i) (number place : ℕ) (
           let back = gives.1 in
           inr (inr (
             back.slot,
+            (walk, is, let_go_so (slice_index_or i.table.inodes back.slot 0) back.there back.gone),
             back.lent,
             record {
+              there = (λ x. has (shown (sym ended x)).nodes (slice_index_or (sym inodes x) back.slot 0)) ∙ back.there;
               gone = (λ x. kind_of (shown_so x) (slice_index_or (sym inodes x) back.slot 0)) ∙ back.gone;
               inodes = back.inodes ∙ (λ x. without_inode (inodes x) (slice_index_or (inodes x) back.slot 0));
               free = back.free ∙ ap (λ ks. ks ++ back.slot ∷ []) free;

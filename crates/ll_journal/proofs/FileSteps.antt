@@ -430,6 +430,7 @@ module _ (j k : Inside) (h : IsKept j) (number : ℕ) (call : Call) (place : ℕ
         fd,
         on,
         record {
+          there = ap (has before.nodes) at_slot ∙ alive;
           gone = ap (kind_of (shown (world_of k))) at_slot ∙ ap (λ s. kind_of s d.inode) tree_left ∙ let_go_gone without d.inode dead;
           inodes = inodes ∙ ap (without_inode j.table.inodes) (sym at_slot);
           free = free_by true e;

@@ -1,7 +1,7 @@
 -- What the calls do that don't walk. own
-use Rattle.std.specs.Prelude.{◌≡◌, ◌≢◌, ◌⊎◌, ℕ, [], ◌∷◌, ◌++◌, Some, None}
+use Rattle.std.specs.Prelude.{◌≡◌, ◌≢◌, ◌⊎◌, ℕ, [], ◌∷◌, ◌++◌, true, Some, None}
 use Rattle.ll_rights.specs.declared.access.Access.{Access}
-use Rattle.ll_rights.specs.Map.{get}
+use Rattle.ll_rights.specs.Map.{get, has}
 use Rattle.ll_rights.specs.declared.errno.Errno.TheVariants.{HistoryFull}
 use Rattle.ll_seq.specs.declared.call.Call.{Call}
 use Rattle.ll_seq.specs.declared.call.Call.TheVariants.{Ruleset, Confine, Spawn, Close}
@@ -70,6 +70,7 @@ ComesBack b client call slot (unmade.Astray back) = (back ≡ call) × IsAstrayO
 
 -- The node that lay in the slot is gone, and the slot is the last of the free ones
 pub record FreesSlot (b b' : Book) (slot : ℕ) : Type 0 where
+  pub there : has (shown b.world).nodes (inode_in b slot) ≡ true
   pub gone : kind_of (shown b'.world) (inode_in b slot) ≡ None
   pub inodes : b'.inodes ≡ without_inode b.inodes (inode_in b slot)
   pub free : b'.free ≡ b.free ++ slot ∷ []

@@ -2,6 +2,7 @@
 use Rattle.std.specs.Prelude.{◌≡◌, ◌⊎◌, ℕ, ◌-◌, Bool, true, false, List, [], ◌∷◌, ◌++◌, map, is_none, Option, Some, slice_index_or, slice_set}
 use Rattle.ll_rights.specs.Map.{get, has}
 use Rattle.ll_rights.specs.declared.errno.Errno.TheVariants.{HistoryFull}
+use Rattle.ll_path.specs.declared.target.Target.{Target}
 use Rattle.ll_answer.specs.Lean.{spares_memory}
 use Rattle.ll_seq.specs.declared.call.Call.{Call}
 use Rattle.ll_seq.specs.declared.call.Call.TheVariants as call
@@ -20,8 +21,8 @@ use Rattle.ll_journal.specs.Book.{Book, inode_in}
 use Rattle.ll_journal.specs.Direct.{FreesSlot}
 use Rattle.ll_journal.specs.Starving.{StarvesAtEnd}
 
--- The outcome is the step's, and so is the world after. Astray is none of its outcomes: then nothing changes. Where memory runs out, for a call
--- that nothing refuses, the walk has ended all the same
+-- The outcome is the step's, and so is the world after. Astray is none of its outcomes: then nothing changes. Where
+-- memory runs out, for a call that nothing refuses, the walk has ended all the same
 abbrev pub Ends : Book → ℕ → Ending → Book → Type 0
 Ends b number ending.NotNow b' = advance b.world (Commit number) ≡ (world.NotNow, b'.world)
 Ends b number ending.Astray b' = b' ≡ b
@@ -105,6 +106,16 @@ MayTakeMemory w number = (walk : Walk) × (get w.walks number ≡ Some walk) × 
 abbrev pub MayMake : World → ℕ → Type 0
 MayMake w number = (walk : Walk) × (get w.walks number ≡ Some walk) × (would_make (shown w) walk.call ≡ true)
 
+-- the call takes a name away, or may give it to another node
+abbrev pub TakesName : Call → Type 0
+TakesName call' =
+    ((target : Target) × (call' ≡ call.Unlink target)) ⊎ ((target : Target) × (call' ≡ call.Rmdir target))
+    ⊎ ((from : Target) × (into : Target) × (call' ≡ call.Rename from into))
+
+-- the client's walk is that of a call that may take away the last name of a node
+abbrev pub MayLetGo : World → ℕ → Type 0
+MayLetGo w number = (walk : Walk) × (get w.walks number ≡ Some walk) × TakesName walk.call
+
 -- A node was made: it lies in the client's spare slot, and the last of the free slots is its spare now
 pub record MakesNode (b b' : Book) (number : ℕ) : Type 0 where
   pub may : MayMake b.world number
@@ -118,4 +129,4 @@ pub record MakesNode (b b' : Book) (number : ℕ) : Type 0 where
 abbrev pub LeavesFree : Book → ℕ → List ℕ → Book → Type 0
 LeavesFree b number slots b' =
     (b' ≡ record b { world = b'.world }) ⊎ MakesNode b b' number
-    ⊎ ((slot : ℕ) × (is_in slots slot ≡ true) × FreesSlot b b' slot)
+    ⊎ ((slot : ℕ) × MayLetGo b.world number × (is_in slots slot ≡ true) × FreesSlot b b' slot)
