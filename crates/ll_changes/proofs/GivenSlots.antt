@@ -1,5 +1,5 @@
 -- What a change may rely on where its slots are lent to it, and what is to be shown of one by which no node comes.
-use Rattle.std.specs.Prelude.{◌≡◌, ◌≢◌, ◌⊎◌, ℕ, zero, suc, true, false, cond, ◌==◌, List, [], ◌∷◌, map, Option, Some, None, is_some, option_map, slice_get, slice_set, slice_index_or, if◌then◌else◌, refl}
+use Rattle.std.specs.Prelude.{◌≡◌, ◌≢◌, ◌⊎◌, ℕ, zero, suc, Bool, true, false, cond, ◌||◌, ◌==◌, List, [], ◌∷◌, ◌++◌, map, Option, Some, None, is_some, option_map, slice_get, slice_set, slice_index_or, if◌then◌else◌, refl}
 use Rattle.std.specs.List.{AllByRecursion, list_any}
 use Rattle.std.proofs.Common.{sym, subst, ap, ◌∙◌, inl, inr, arith}
 use Rattle.std.proofs.lemmas.Bool.{eqb-true, eqb-false, eq-eqb}
@@ -19,9 +19,10 @@ use Rattle.ll_answer.specs.Effect.{IsDirectory, Holds}
 use Rattle.ll_held.specs.declared.held.Held.{Held}
 use Rattle.ll_held.specs.Lent.{vacant}
 use Rattle.ll_inodes.specs.InodeTable.{Table, IsTable, NotIn, without_inode}
+use Rattle.ll_inodes.proofs.SlotLists.{left_there}
 use Rattle.ll_changes.specs.Accounts.{account, accounts}
-use Rattle.ll_changes.specs.Enacting.{IsReached, IsGiven, IsMade}
-use Rattle.ll_changes.proofs.Accounted.{inode_at, account_held, account_vacant, account_inode, told_by, not_here, all_lent}
+use Rattle.ll_changes.specs.Enacting.{IsReached, IsGiven, IsMade, GivesBack, KeepsSlots}
+use Rattle.ll_changes.proofs.Accounted.{inode_at, got, account_held, account_vacant, account_inode, told_by, not_here, all_lent}
 use Rattle.ll_changes.proofs.SlotAccounts.{content_of}
 
 -- ---- the tree, and the inodes in it
@@ -120,6 +121,47 @@ module _ (s t : State) (marks : ℕ → Option ℕ) (inodes : List ℕ) (f : Hel
         | false ↦ λ e. left inodes gone k (λ z. eqb-false 0 gone e (sym none ∙ z)) ∙ none
       ] refl
 
+-- ---- where a node goes
+
+module _ (s : State) (spares : List ℕ) (table : Table) (counted : IsTable s spares table) (inode : ℕ) (some : inode ≢ 0) where
+  -- some slot that is lent is its own
+  slot_lent : (slots : List ℕ) → list_any (λ k. inode_at table.inodes k == inode) slots ≡ true → (k : ℕ) × (list_any (λ l. l == k) slots ≡ true) × (inode_at table.inodes k ≡ inode)
+  slot_lent [] any = absurd (cc any)
+  slot_lent (k ∷ slots) any =
+      elim (inode_at table.inodes k == inode) as (λ b. (inode_at table.inodes k == inode) ≡ b → (b || list_any (λ k. inode_at table.inodes k == inode) slots) ≡ true
+      → (l : ℕ) × (list_any (λ m. m == l) (k ∷ slots) ≡ true) × (inode_at table.inodes l ≡ inode)) [
+        | true ↦ λ e f. (k, ap (λ b. b || list_any (λ m. m == k) slots) (eq-eqb k k refl), eqb-true (inode_at table.inodes k) inode e)
+        | false ↦ λ e f. let more = slot_lent slots f in (more.0, or_also (k == more.0) (list_any (λ m. m == more.0) slots) more.1, more.2)
+      ] refl any
+    where
+      or_also : (a b : Bool) → b ≡ true → (a || b) ≡ true
+      or_also true b e = refl
+      or_also false b e = e
+
+  -- no slot has it any more, so its node is gone
+  gone_so : (t : State) (spares' : List ℕ) (table' : Table) → IsTable t spares' table' → table'.inodes ≡ without_inode table.inodes inode → kind_of t inode ≡ None
+  gone_so t spares' table' after inodes = by (get t.nodes inode) refl (get table'.places inode) refl
+    where
+      by : (o : Option Node) → get t.nodes inode ≡ o → (p : Option ℕ) → get table'.places inode ≡ p → option_map (λ (n : Node). n.kind) o ≡ None
+      by None e p f = refl
+      by (Some n) e None f = absurd (cc (sym (ap is_some f) ∙ after.living inode ∙ ap is_some e))
+      by (Some n) e (Some slot) f = absurd ((left_there table.inodes inode slot inode (ap (λ is. slice_get is slot) (sym inodes) ∙ (after.placed.there inode slot f).0) some).1 refl)
+
+  pub given_back : (slots : List ℕ) → list_any (λ k. inode_at table.inodes k == inode) slots ≡ true → (t : State) (spares' : List ℕ) (table' : Table) → IsTable t spares' table' → table'.inodes ≡ without_inode table.inodes inode
+      → ((slot : ℕ) → get table.places inode ≡ Some slot → table'.free ≡ table.free ++ slot ∷ []) → GivesBack s t table table' slots
+  given_back slots any t spares' table' after inodes free =
+      let here = slot_lent slots any in
+      record {
+        slot = here.0;
+        lent = here.1;
+        there =
+            ap (has s.nodes) here.2 ∙ sym (counted.living inode)
+            ∙ ap is_some (counted.placed.lies here.0 inode (got table.inodes here.0 inode here.2 some) some);
+        gone = ap (kind_of t) here.2 ∙ gone_so t spares' table' after inodes;
+        inodes = inodes ∙ ap (without_inode table.inodes) (sym here.2);
+        free = free here.0 (counted.placed.lies here.0 inode (got table.inodes here.0 inode here.2 some) some);
+      }
+
 -- ---- what comes of the change
 
 -- a list where an element is put again
@@ -155,14 +197,15 @@ module _ (s : State) (number : ℕ) (marks : ℕ → Option ℕ) (spares : List 
       → ((q : ℕ) → get t.clients q ≡ (if q == number then Some c' else get s.clients q))
       → lent' ≡ map f lent → ((k : ℕ) → account t marks table'.inodes k ≡ f (account s marks table.inodes k))
       → AllByRecursion (λ i. i ≢ 0) touched → AllByRecursion (λ i. list_any (λ k. slice_index_or table.inodes k 0 == i) slots ≡ true) touched
-      → ((held : Held) → NotIn held.inode touched → f held ≡ held)
+      → ((held : Held) → NotIn held.inode touched → f held ≡ held) → KeepsSlots table table' ⊎ GivesBack s t table table' slots
       → IsMade s t number marks spares place c' spare table table' slots lent'
-  made_by t c' table' lent' f touched counted next clients done each somes covered spared = record {
+  made_by t c' table' lent' f touched counted next clients done each somes covered spared free = record {
     counted = subst (λ kept. IsTable t kept table') (sym (put_again spares place spare given.kept)) counted;
     next = (let was = given.counted.next in let is = counted.next in omega (arith, was, is, next));
     clients = clients;
     told = done ∙ ap (map f) given.told ∙ told_by s t marks table.inodes table'.inodes f each slots;
     others = λ k out. each k ∙ others_stay f touched somes covered spared k out;
+    freed = elim free [ inl keeps ↦ inl (given.kept, keeps) | inr back ↦ inr (inr (given.kept, back)) ];
   }
 
   -- where nothing is done, it is made
@@ -173,4 +216,5 @@ module _ (s : State) (number : ℕ) (marks : ℕ → Option ℕ) (spares : List 
     clients = client_stays s s number c refl given.client;
     told = given.told;
     others = λ k out. refl;
+    freed = inl (given.kept, record { inodes = refl; free = refl });
   }

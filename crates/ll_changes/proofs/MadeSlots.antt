@@ -37,6 +37,7 @@ use Rattle.ll_changes.specs.Accounts.{account, accounts, names_map}
 use Rattle.ll_changes.specs.Enacting.{IsReached, IsGiven, Covers, IsMade}
 use Rattle.ll_changes.proofs.Accounted.{inode_at, got, account_held, account_inode, account_kept, lent_apart, not_here, all_lent}
 use Rattle.ll_changes.proofs.ChangedSlots.{made_in, made_new}
+use Rattle.ll_changes.proofs.Living.{make_kind}
 use Rattle.ll_changes.proofs.NameMaps.{same_names, get-names_map, len-names_map}
 use Rattle.ll_changes.proofs.SlotAccounts.{content_of, make_other}
 
@@ -282,9 +283,9 @@ module _ (s : State) (number : ℕ) (marks : ℕ → Option ℕ) (spares : List 
           ∙ named_elsewhere at.directory at.name.now table.next (account s marks table.inodes k)
           (λ e. not_here table.inodes table.places given.counted.placed at.directory directory_some slots covers.touched.0 k out (sym (account_inode s marks table.inodes k) ∙ e))
 
-      pub made : (fresh : ℕ) (table' : Table) (lent' : List Held) (k : ℕ) → IsTable made_state (slice_set spares place fresh) table' → table'.inodes ≡ made_inodes → slice_get slots k ≡ Some spare
+      pub made : (fresh : ℕ) (table' : Table) (lent' : List Held) (k : ℕ) → IsTable made_state (slice_set spares place fresh) table' → table'.inodes ≡ made_inodes → table.free ≡ table'.free ++ fresh ∷ [] → slice_get slots k ≡ Some spare
           → lent' ≡ slice_set (map (named_in at.directory at.name.now table.next) lent) k (filled table.next kind) → IsMade s made_state number marks spares place c fresh table table' slots lent'
-      made fresh table' lent' k counted inodes lies put = record {
+      made fresh table' lent' k counted inodes free lies put = record {
         counted = counted;
         next = let new = counted.next in let old = given.counted.next in omega (arith, new, old);
         clients = λ q. by q (q == number) refl;
@@ -294,6 +295,11 @@ module _ (s : State) (number : ℕ) (marks : ℕ → Option ℕ) (spares : List 
             ∙ one_filled (named_in at.directory at.name.now table.next) spare (filled table.next kind) (account s marks table.inodes) (account made_state marks made_inodes) made_here made_elsewhere slots given.apart k lies
             ∙ ap (λ is. accounts made_state marks is slots) (sym inodes);
         others = λ j out. ap (λ is. account made_state marks is j) inodes ∙ made_others j out;
+        freed = inr (inl (record {
+          made = ap (has made_state.nodes) given.counted.next ∙ has_node (get made_state.nodes s.next) kind (make_kind s kind (dentry_at at));
+          free = free;
+          inodes = inodes ∙ ap (λ k. slice_set table.inodes k table.next) (sym (get_or_from_slice_get spares place spare 0 given.kept));
+        }));
       }
         where
           by : (q : ℕ) (b : Bool) → (q == number) ≡ b → get s.clients q ≡ cond b (Some c) (get s.clients q)

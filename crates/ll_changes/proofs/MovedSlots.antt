@@ -87,7 +87,7 @@ module _ {s : State} {number : ℕ} {marks : ℕ → Option ℕ} {spares : List 
       (done ∙ ap (map in_old) put ∙ map-map in_old in_new lent)
       (still_table s spares table given.counted all table.facts refl refl refl
       (kept_exchange s table.facts (dentry_at old) (dentry_at new) first second given.counted.facts fits.old.child fits.new.child))
-      refl refl (client_stays s all number c refl given.client) covers.touched
+      refl refl refl (client_stays s all number c refl given.client) covers.touched
       (directory_some given old fits.old.directory, (directory_some given new fits.new.directory, tt))
       (λ held away. ap in_old (named_elsewhere new.directory new.name.now first held away.1.0) ∙ named_elsewhere old.directory old.name.now second held away.0)
       (λ i some. ap in_old (named_each s marks new first i) ∙ named_each half marks old second i)
@@ -141,14 +141,14 @@ module _ (old new : At) (inode : ℕ) (slots : List ℕ) (c : ClientRecord) (spa
 module _ {s : State} {number : ℕ} {marks : ℕ → Option ℕ} {spares : List ℕ} {place : ℕ} {c : ClientRecord} {spare : ℕ} {table : Table} {slots : List ℕ} {lent : List Held} (given : IsGiven s number marks spares place c spare table slots lent) where
   pub moved_slots : (old new : At) (inode : ℕ) (table' : Table) (lent' : List Held) → FitsMove s old new inode → Covers table.inodes spare slots (change.Move old new inode)
       → lent' ≡ map (λ held. named_in new.directory new.name.now inode (unnamed_in old.directory old.name.now held)) lent
-      → IsTable (with_moved s (dentry_at old) (dentry_at new) inode) spares table' → table'.inodes ≡ table.inodes
+      → IsTable (with_moved s (dentry_at old) (dentry_at new) inode) spares table' → table'.inodes ≡ table.inodes → table'.free ≡ table.free
       → IsMade s (with_moved s (dentry_at old) (dentry_at new) inode) number marks spares place c spare table table' slots lent'
-  moved_slots old new inode table' lent' fits covers done counted inodes =
+  moved_slots old new inode table' lent' fits covers done counted inodes free =
       let all = with_moved s (dentry_at old) (dentry_at new) inode in
       let into = named_in new.directory new.name.now inode in
       let from = unnamed_in old.directory old.name.now in
       made_staying given all c table' lent' (λ held. into (from held)) (old.directory ∷ new.directory ∷ [])
-      done counted inodes refl (client_stays s all number c refl given.client) covers.touched
+      done counted inodes free refl (client_stays s all number c refl given.client) covers.touched
       (directory_some given old fits.old.directory, (directory_some given new fits.new.directory, tt))
       (λ held away. ap into (at_other held.inode old.directory _ held away.0) ∙ named_elsewhere new.directory new.name.now inode held away.1.0)
       (λ i some. ap into (unnamed_each s marks old i) ∙ named_each (left s old) marks new inode i)

@@ -59,10 +59,10 @@ module _ {s : State} {number : ℕ} {marks : ℕ → Option ℕ} {spares : List 
       )
 
   pub named_slots : (at : At) (inode : ℕ) (table' : Table) (lent' : List Held) → FitsName s at inode → Covers table.inodes spare slots (change.Name at inode) → lent' ≡ map (named_in at.directory at.name.now inode) lent
-      → IsTable (with_name s (dentry_at at) inode) spares table' → table'.inodes ≡ table.inodes → IsMade s (with_name s (dentry_at at) inode) number marks spares place c spare table table' slots lent'
-  named_slots at inode table' lent' fits covers done counted inodes =
+      → IsTable (with_name s (dentry_at at) inode) spares table' → table'.inodes ≡ table.inodes → table'.free ≡ table.free → IsMade s (with_name s (dentry_at at) inode) number marks spares place c spare table table' slots lent'
+  named_slots at inode table' lent' fits covers done counted inodes free =
       made_staying given (with_name s (dentry_at at) inode) c table' lent' (named_in at.directory at.name.now inode) (at.directory ∷ [])
-      done counted inodes refl (client_stays s (with_name s (dentry_at at) inode) number c refl given.client) covers.touched
+      done counted inodes free refl (client_stays s (with_name s (dentry_at at) inode) number c refl given.client) covers.touched
       (directory_some given at fits.lacks.directory, tt)
       (λ held away. named_elsewhere at.directory at.name.now inode held away.0) (λ i some. named_each s marks at inode i)
 

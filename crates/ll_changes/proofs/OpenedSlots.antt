@@ -1,5 +1,5 @@
 -- A file is opened: one that is there, whose lent slot may be emptied, or one that was made.
-use Rattle.std.specs.Prelude.{◌≡◌, ◌≢◌, ℕ, zero, suc, ◌+◌, ◌≤◌, ◌==◌, Bool, true, false, cond, List, [], ◌∷◌, map, length, nat_lt, Option, Some, None, is_some, is_none, option_map, slice_get, slice_set, refl}
+use Rattle.std.specs.Prelude.{◌≡◌, ◌≢◌, ℕ, zero, suc, ◌+◌, ◌≤◌, ◌==◌, Bool, true, false, cond, List, [], ◌∷◌, ◌++◌, map, length, nat_lt, Option, Some, None, is_some, is_none, option_map, slice_get, slice_set, refl}
 use Rattle.std.specs.List.{list_any}
 use Rattle.std.specs.Option.{option_map_or}
 use Rattle.std.specs.Ordering.{nat_cmp}
@@ -33,7 +33,7 @@ use Rattle.ll_held.specs.Lent.{emptied_in}
 use Rattle.ll_inodes.specs.InodeTable.{Table, IsTable, NotIn}
 use Rattle.ll_inodes.proofs.SlotLists.{same_or_not}
 use Rattle.ll_changes.specs.Accounts.{account, accounts}
-use Rattle.ll_changes.specs.Enacting.{IsGiven, Covers, IsMade, MayEnact}
+use Rattle.ll_changes.specs.Enacting.{IsGiven, Covers, IsMade, LeavesTable, MayEnact}
 use Rattle.ll_changes.proofs.Accounted.{inode_at, account_held, account_inode, account_kept, not_here, told_by}
 use Rattle.ll_changes.proofs.Living.{bytes_kind, bytes_next, same_len, make_kind}
 use Rattle.ll_changes.proofs.MadeSlots.{tree, some_node, has_node}
@@ -151,9 +151,9 @@ module _ (s : State) (number : ℕ) (marks : ℕ → Option ℕ) (spares : List 
           account_kept s (with_bytes s inode []) marks table.inodes table.inodes k refl (λ some. bytes_other s inode [] (inode_at table.inodes k) away)
       slots_kept false k out = refl
 
-      pub opened : (b : Bool) → o.is_emptied ≡ b → (c' : ClientRecord) (table' : Table) (lent' : List Held) → c' ≡ with_descriptor c o inode → Opens table inode table' → table'.inodes ≡ table.inodes
+      pub opened : (b : Bool) → o.is_emptied ≡ b → (c' : ClientRecord) (table' : Table) (lent' : List Held) → c' ≡ with_descriptor c o inode → Opens table inode table' → table'.inodes ≡ table.inodes → table'.free ≡ table.free
           → lent' ≡ cond b (map (emptied_in inode) lent) lent → IsMade s (with_opening s number c o o.there) number marks spares place c' spare table table' slots lent'
-      opened b emptied c' table' lent' client opens inodes put =
+      opened b emptied c' table' lent' client opens inodes free put =
           subst (λ d. IsMade s (with_opening s number c o o.there) number marks spares place d spare table table' slots lent') (sym client)
           (subst (λ t. IsMade s (with_opening s number c o t) number marks spares place (with_descriptor c o inode) spare table table' slots lent') (sym there)
           (subst (λ a. IsMade s (with_client (found_file a) number (with_descriptor c o inode)) number marks spares place (with_descriptor c o inode) spare table table' slots lent') (sym emptied) (record {
@@ -162,6 +162,7 @@ module _ (s : State) (number : ℕ) (marks : ℕ → Option ℕ) (spares : List 
             clients = λ q. one_client (found_file b).clients number (with_descriptor c o inode) q ∙ ap (λ m. cond (q == number) (Some (with_descriptor c o inode)) (get m q)) (file_clients b);
             told = put ∙ slots_told b ∙ ap (λ is. accounts (found_file b) marks is slots) (sym inodes);
             others = λ k out. ap (λ is. account (found_file b) marks is k) inodes ∙ slots_kept b k out;
+            freed = inl (given.kept, record { inodes = inodes; free = free });
           })))
         where
           file_next : (a : Bool) → (found_file a).next ≡ s.next
@@ -215,9 +216,9 @@ module _ (s : State) (number : ℕ) (marks : ℕ → Option ℕ) (spares : List 
       fact : ℕ → Kind → Fact
       fact i kind = record { kind = kind; names = length (names_in made_file i); links = name_count made_file i; opens = open_count made_file i }
 
-  pub opened_new : o.there ≡ None → FitsOpening s c o → (c' : ClientRecord) (table' : Table) → c' ≡ with_descriptor c o inode → Opens table1 inode table' → table'.inodes ≡ table1.inodes
+  pub opened_new : o.there ≡ None → FitsOpening s c o → (c' : ClientRecord) (table' : Table) → c' ≡ with_descriptor c o inode → Opens table1 inode table' → table'.inodes ≡ table1.inodes → table'.free ≡ table1.free
       → IsMade s (with_opening s number c o o.there) number marks spares place c' spare' table table' slots lent'
-  opened_new none fits c' table' client opens inodes =
+  opened_new none fits c' table' client opens inodes free =
       subst (λ d. IsMade s (with_opening s number c o o.there) number marks spares place d spare' table table' slots lent') (sym (client ∙ ap (with_descriptor c o) is_next))
       (subst (λ t. IsMade s (with_opening s number c o t) number marks spares place (with_descriptor c o s.next) spare' table table' slots lent') (sym none) (record {
         counted = counted;
@@ -225,8 +226,16 @@ module _ (s : State) (number : ℕ) (marks : ℕ → Option ℕ) (spares : List 
         clients = one_client s.clients number (with_descriptor c o s.next);
         told = made.told ∙ ap (λ is. accounts made_file marks is slots) (sym inodes);
         others = λ k out. ap (λ is. account made_file marks is k) inodes ∙ made.others k out;
+        freed = freed_then made.freed;
       }))
     where
+      freed_then : LeavesTable s made_file spares place spare' table table1 slots → LeavesTable s (with_client made_file number (with_descriptor c o s.next)) spares place spare' table table' slots
+      freed_then (inl keeps) = inl (keeps.0, record { inodes = inodes ∙ keeps.1.inodes; free = free ∙ keeps.1.free })
+      freed_then (inr (inl takes)) = inr (inl (record { made = takes.made; free = takes.free ∙ ap (λ ks. ks ++ spare' ∷ []) (sym free); inodes = inodes ∙ takes.inodes }))
+      freed_then (inr (inr gives)) =
+          let back = gives.1 in
+          inr (inr (gives.0, record { slot = back.slot; lent = back.lent; there = back.there; gone = back.gone; inodes = inodes ∙ back.inodes; free = free ∙ back.free }))
+
       lives : has made_file.nodes inode ≡ true
       lives = ap (has made_file.nodes) is_next ∙ has_node (get made_file.nodes s.next) Reg (make_kind s Reg (dentry_at o.at))
 

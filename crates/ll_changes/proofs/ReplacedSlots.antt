@@ -1,12 +1,12 @@
 -- A name that takes another node's place, in the slots that are lent and in the table.
-use Rattle.std.specs.Prelude.{◌≡◌, ◌≢◌, ℕ, true, false, not, cond, ◌&&◌, ◌==◌, Bool, List, [], ◌∷◌, map, Option, Some, is_some, refl}
+use Rattle.std.specs.Prelude.{◌≡◌, ◌≢◌, ◌⊎◌, ℕ, true, false, not, cond, ◌&&◌, ◌==◌, Bool, List, [], ◌∷◌, ◌++◌, map, Option, Some, is_some, refl}
 use Rattle.std.specs.List.{AllByRecursion}
-use Rattle.std.proofs.Common.{sym, subst, ap, ◌∙◌}
+use Rattle.std.proofs.Common.{sym, subst, ap, ◌∙◌, inl, inr}
 use Rattle.std.proofs.lemmas.Bool.{ne_eqb}
 use Rattle.std.proofs.lemmas.Simd.{map-map}
 use Rattle.ll_rights.specs.declared.errno.Errno.TheVariants.{ENOENT}
 use Rattle.ll_rights.specs.Errno.{refuse}
-use Rattle.ll_rights.specs.Map.{has, insert, remove}
+use Rattle.ll_rights.specs.Map.{get, has, insert, remove}
 use Rattle.ll_node.specs.Refusals.{missing}
 use Rattle.ll_seq.specs.declared.client.ClientRecord.{ClientRecord}
 use Rattle.ll_seq.specs.Effects.{lives, let_go, with_moved, renamed}
@@ -20,12 +20,12 @@ use Rattle.ll_held.specs.declared.held.Held.{Held}
 use Rattle.ll_held.specs.Lent.{vacant, named_in, unnamed_in, vacated}
 use Rattle.ll_inodes.specs.InodeTable.{Table, IsTable, NotIn, without_inode}
 use Rattle.ll_changes.specs.Accounts.{account, names_map}
-use Rattle.ll_changes.specs.Enacting.{IsGiven, Covers, IsMade}
+use Rattle.ll_changes.specs.Enacting.{IsGiven, Covers, IsMade, GivesBack, KeepsSlots}
 use Rattle.ll_changes.proofs.NameMaps.{get-names_map}
 use Rattle.ll_changes.proofs.SlotAccounts.{content_of, rename_over}
 use Rattle.ll_changes.proofs.ChangedSlots.{replaced_apart_old, replaced_apart_new, replaced_after, replaced_from, replaced_into, replaced_living, after_elsewhere}
 use Rattle.ll_changes.proofs.Living.{after_next}
-use Rattle.ll_changes.proofs.GivenSlots.{directory_there, held_there, some_there, held_of, all_given, each_stays, each_but, client_stays, given_tree, made_by}
+use Rattle.ll_changes.proofs.GivenSlots.{directory_there, held_there, some_there, held_of, all_given, each_stays, each_but, client_stays, given_back, given_tree, made_by}
 use Rattle.ll_changes.proofs.TakenSlots.{at_same, at_other, by_same, not_living, same_held}
 
 -- another node is replaced, and it goes or lives on
@@ -133,19 +133,20 @@ module _ (s : State) (number : ℕ) (marks : ℕ → Option ℕ) (spares : List 
   idle = renamed_away vacant (λ e. from_some (sym e)) (λ e. into_some (sym e))
 
   made : (table' : Table) (lent' : List Held) (f : Held → Held) → IsTable over spares table' → lent' ≡ map f lent → ((k : ℕ) → account over marks table'.inodes k ≡ f (account s marks table.inodes k))
-      → ((held : Held) → NotIn held.inode (old.directory ∷ new.directory ∷ replaced ∷ []) → f held ≡ held) → IsMade s over number marks spares place c spare table table' slots lent'
-  made table' lent' f counted done each spared =
+      → ((held : Held) → NotIn held.inode (old.directory ∷ new.directory ∷ replaced ∷ []) → f held ≡ held)
+      → KeepsSlots table table' ⊎ GivesBack s over table table' slots → IsMade s over number marks spares place c spare table table' slots lent'
+  made table' lent' f counted done each spared free =
       made_by s number marks spares place c spare table slots lent given over c table' lent' f (old.directory ∷ new.directory ∷ replaced ∷ []) counted
-      (after_next s number c (Replace old new inode replaced)) (client_stays s over number c clients given.client) done each (from_some, (into_some, (replaced_some, tt))) covers.touched spared
+      (after_next s number c (Replace old new inode replaced)) (client_stays s over number c clients given.client) done each (from_some, (into_some, (replaced_some, tt))) covers.touched spared free
     where
       clients : over.clients ≡ s.clients
       clients = elim (lives moved replaced) as (λ b. (cond b moved (record moved { nodes = remove moved.nodes replaced })).clients ≡ s.clients) [ true ↦ refl | false ↦ refl ]
 
   -- what is replaced lives on
-  pub replaced_alone : (table' : Table) (lent' : List Held) → IsTable over spares table' → lives moved replaced ≡ true → table'.inodes ≡ table.inodes → lent' ≡ map renamed_in lent → IsMade s over number marks spares place c spare table table' slots lent'
-  replaced_alone table' lent' counted living inodes done =
+  pub replaced_alone : (table' : Table) (lent' : List Held) → IsTable over spares table' → lives moved replaced ≡ true → table'.inodes ≡ table.inodes → table'.free ≡ table.free → lent' ≡ map renamed_in lent → IsMade s over number marks spares place c spare table table' slots lent'
+  replaced_alone table' lent' counted living inodes free done =
       made table' lent' renamed_in counted done (λ k. ap (λ is. account over marks is k) inodes ∙ each_stays s over marks table.inodes renamed_in idle (λ i some. each i) k)
-      (λ held away. renamed_away held away.0 away.1.0)
+      (λ held away. renamed_away held away.0 away.1.0) (inl (record { inodes = inodes; free = free }))
     where
       each : (i : ℕ) → renamed_in (held_of s marks i) ≡ held_of over marks i
       each i =
@@ -154,11 +155,13 @@ module _ (s : State) (number : ℕ) (marks : ℕ → Option ℕ) (spares : List 
           (renamed_each i)
 
   -- it goes
-  pub replaced_whole : (table' : Table) (lent' : List Held) → IsTable over spares table' → table'.inodes ≡ without_inode table.inodes replaced → lent' ≡ map (λ held. vacated replaced (renamed_in held)) lent → IsMade s over number marks spares place c spare table table' slots lent'
-  replaced_whole table' lent' counted inodes done =
+  pub replaced_whole : (table' : Table) (lent' : List Held) → IsTable over spares table' → table'.inodes ≡ without_inode table.inodes replaced
+      → ((slot : ℕ) → get table.places replaced ≡ Some slot → table'.free ≡ table.free ++ slot ∷ []) → lent' ≡ map (λ held. vacated replaced (renamed_in held)) lent → IsMade s over number marks spares place c spare table table' slots lent'
+  replaced_whole table' lent' counted inodes free done =
       made table' lent' (λ held. vacated replaced (renamed_in held)) counted done
       (λ k. ap (λ is. account over marks is k) inodes ∙ each_but s over marks table.inodes (λ held. vacated replaced (renamed_in held)) idle_too replaced leaves each k)
       (λ held away. ap (vacated replaced) (renamed_away held away.0 away.1.0) ∙ at_other held.inode replaced vacant held away.1.1.0)
+      (inr (given_back s spares table given.counted replaced replaced_some slots covers.touched.1.1.0 over spares table' counted inodes free))
     where
       idle_too : vacated replaced (renamed_in vacant) ≡ vacant
       idle_too = ap (vacated replaced) idle ∙ at_other 0 replaced vacant vacant (λ e. replaced_some (sym e))

@@ -45,7 +45,7 @@ module _ {s : State} {number : ℕ} {marks : ℕ → Option ℕ} {spares : List 
       let bytes = resized (bytes_of s inode) size in
       let known = named_kind given inode fits.named in
       made_staying given (with_size s inode size) c table lent' (resized_in inode size) (inode ∷ [])
-      done (bytes_table s inode bytes spares table given.counted) refl (bytes_next s inode bytes)
+      done (bytes_table s inode bytes spares table given.counted) refl refl (bytes_next s inode bytes)
       (client_stays s (with_size s inode size) number c (bytes_parts s inode bytes).0 given.client) covers.touched
       (named_some given inode fits.named, tt)
       (λ held away. resized_elsewhere inode size held away.0) (λ i some. resized_each s marks inode size known.0 known.1 i)

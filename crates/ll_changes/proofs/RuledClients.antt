@@ -1,7 +1,7 @@
 -- A rule more in a client's ruleset: no slot changes.
 use Rattle.std.specs.Prelude.{◌≡◌, false, Result, Ok, Err, OnOk, ℕ, cond, ◌==◌, List, Option, Some, slice_set, slice_get, unwrap_or, refl}
 use Rattle.std.specs.Result.{is_err}
-use Rattle.std.proofs.Common.{sym, subst, ap, ◌∙◌, arith}
+use Rattle.std.proofs.Common.{sym, subst, ap, ◌∙◌, arith, inl}
 use Rattle.ll_rights.specs.Map.{get}
 use Rattle.ll_rules.specs.Layer.{Layer}
 use Rattle.ll_rules.specs.Rules.{new_ruleset, with_rule}
@@ -41,4 +41,5 @@ module _ {s : State} {number : ℕ} {marks : ℕ → Option ℕ} {spares : List 
         clients = λ q. one_client s.clients number (with_rule_of c rule) q ∙ ap (λ d. cond (q == number) (Some d) (get s.clients q)) (sym is);
         told = given.told;
         others = λ k out. refl;
+        freed = inl (given.kept, record { inodes = refl; free = refl });
       }

@@ -1,7 +1,7 @@
 -- What is given for a change after which each inode lies where it lay, and what comes of it.
 use Rattle.std.specs.Prelude.{◌≡◌, ◌≢◌, ℕ, true, ◌==◌, List, [], ◌∷◌, map, Option, Some, if◌then◌else◌}
 use Rattle.std.specs.List.{AllByRecursion, list_any}
-use Rattle.std.proofs.Common.{sym, subst, ap, ◌∙◌}
+use Rattle.std.proofs.Common.{sym, subst, ap, ◌∙◌, inl}
 use Rattle.ll_rights.specs.declared.kind.Kind.{Kind}
 use Rattle.ll_rights.specs.declared.kind.Kind.TheVariants.{Dir}
 use Rattle.ll_rights.specs.Map.{get, has}
@@ -53,13 +53,13 @@ module _ {s : State} {number : ℕ} {marks : ℕ → Option ℕ} {spares : List 
 
   -- f: what is done to each slot that is lent. is: the nodes that it concerns, which lie in slots that are lent
   pub made_staying : (t : State) (c' : ClientRecord) (table' : Table) (lent' : List Held) (f : Held → Held) (is : List ℕ)
-      → lent' ≡ map f lent → IsTable t spares table' → table'.inodes ≡ table.inodes → t.next ≡ s.next
+      → lent' ≡ map f lent → IsTable t spares table' → table'.inodes ≡ table.inodes → table'.free ≡ table.free → t.next ≡ s.next
       → ((q : ℕ) → get t.clients q ≡ (if q == number then Some c' else get s.clients q))
       → AllByRecursion (λ i. list_any (λ k. inode_at table.inodes k == i) slots ≡ true) is → AllByRecursion (λ i. i ≢ 0) is
       → ((held : Held) → NotIn held.inode is → f held ≡ held)
       → ((i : ℕ) → i ≢ 0 → f (held_of s marks i) ≡ held_of t marks i)
       → IsMade s t number marks spares place c' spare table table' slots lent'
-  made_staying t c' table' lent' f is done counted inodes next clients touched some away each =
+  made_staying t c' table' lent' f is done counted inodes free next clients touched some away each =
       made_by s number marks spares place c spare table slots lent given t c' table' lent' f is counted next clients done
       (λ k. ap (λ is. account t marks is k) inodes ∙ each_stays s t marks table.inodes f (away vacant (zero_out is some)) each k)
-      some touched away
+      some touched away (inl (record { inodes = inodes; free = free }))

@@ -1,8 +1,8 @@
 -- A name that goes, in the slots that are lent and in the table.
-use Rattle.std.specs.Prelude.{◌≡◌, ◌≢◌, ℕ, true, false, not, cond, Bool, ◌==◌, List, [], ◌∷◌, map, Option, refl}
-use Rattle.std.proofs.Common.{sym, ap, ◌∙◌}
+use Rattle.std.specs.Prelude.{◌≡◌, ◌≢◌, ◌⊎◌, ℕ, true, false, not, cond, Bool, ◌==◌, List, [], ◌∷◌, ◌++◌, map, Option, Some, refl}
+use Rattle.std.proofs.Common.{sym, ap, ◌∙◌, inl, inr}
 use Rattle.std.proofs.lemmas.Bool.{eqb-true, eqb-false, eq-eqb, ne_eqb}
-use Rattle.ll_rights.specs.Map.{has, remove}
+use Rattle.ll_rights.specs.Map.{get, has, remove}
 use Rattle.ll_seq.specs.declared.client.ClientRecord.{ClientRecord}
 use Rattle.ll_seq.specs.Effects.{lives, without_name}
 use Rattle.ll_seq.specs.State.{State}
@@ -14,11 +14,11 @@ use Rattle.ll_held.specs.declared.held.Held.{Held}
 use Rattle.ll_held.specs.Lent.{vacant, unnamed_in, vacated}
 use Rattle.ll_inodes.specs.InodeTable.{Table, IsTable, NotIn, without_inode}
 use Rattle.ll_changes.specs.Accounts.{account}
-use Rattle.ll_changes.specs.Enacting.{IsGiven, Covers, IsMade}
+use Rattle.ll_changes.specs.Enacting.{IsGiven, Covers, IsMade, GivesBack, KeepsSlots}
 use Rattle.ll_changes.proofs.SlotAccounts.{content_of}
 use Rattle.ll_changes.proofs.ChangedSlots.{taken_apart, taken_from, taken_living, after_elsewhere}
 use Rattle.ll_changes.proofs.Living.{after_next}
-use Rattle.ll_changes.proofs.GivenSlots.{directory_there, held_there, some_there, held_of, each_stays, each_but, client_stays, given_tree, made_by}
+use Rattle.ll_changes.proofs.GivenSlots.{directory_there, held_there, some_there, held_of, each_stays, each_but, client_stays, given_back, given_tree, made_by}
 
 -- ---- a slot that is the inode's, and another one
 
@@ -84,19 +84,20 @@ module _ (s : State) (number : ℕ) (marks : ℕ → Option ℕ) (spares : List 
   left = record s { entries = remove s.entries (dentry_at at) }
 
   made : (table' : Table) (lent' : List Held) (f : Held → Held) → IsTable without spares table' → lent' ≡ map f lent → ((k : ℕ) → account without marks table'.inodes k ≡ f (account s marks table.inodes k))
-      → ((held : Held) → NotIn held.inode (at.directory ∷ inode ∷ []) → f held ≡ held) → IsMade s without number marks spares place c spare table table' slots lent'
-  made table' lent' f counted done each spared =
+      → ((held : Held) → NotIn held.inode (at.directory ∷ inode ∷ []) → f held ≡ held)
+      → KeepsSlots table table' ⊎ GivesBack s without table table' slots → IsMade s without number marks spares place c spare table table' slots lent'
+  made table' lent' f counted done each spared free =
       made_by s number marks spares place c spare table slots lent given without c table' lent' f (at.directory ∷ inode ∷ []) counted (after_next s number c (Take at inode))
-      (client_stays s without number c clients given.client) done each (directory_some, (inode_some, tt)) covers.touched spared
+      (client_stays s without number c clients given.client) done each (directory_some, (inode_some, tt)) covers.touched spared free
     where
       clients : without.clients ≡ s.clients
       clients = elim (lives left inode) as (λ b. (cond b left (record left { nodes = remove left.nodes inode })).clients ≡ s.clients) [ true ↦ refl | false ↦ refl ]
 
   -- the node lives on
-  pub taken_alone : (table' : Table) (lent' : List Held) → IsTable without spares table' → lives left inode ≡ true → table'.inodes ≡ table.inodes → lent' ≡ map unnamed lent → IsMade s without number marks spares place c spare table table' slots lent'
-  taken_alone table' lent' counted living inodes done =
+  pub taken_alone : (table' : Table) (lent' : List Held) → IsTable without spares table' → lives left inode ≡ true → table'.inodes ≡ table.inodes → table'.free ≡ table.free → lent' ≡ map unnamed lent → IsMade s without number marks spares place c spare table table' slots lent'
+  taken_alone table' lent' counted living inodes free done =
       made table' lent' unnamed counted done (λ k. ap (λ is. account without marks is k) inodes ∙ each_stays s without marks table.inodes unnamed idle (λ i some. each i) k)
-      (λ held away. unnamed_away held away.0)
+      (λ held away. unnamed_away held away.0) (inl (record { inodes = inodes; free = free }))
     where
       idle : unnamed vacant ≡ vacant
       idle = unnamed_away vacant (λ e. directory_some (sym e))
@@ -108,11 +109,13 @@ module _ (s : State) (number : ℕ) (marks : ℕ → Option ℕ) (spares : List 
           (unnamed_each i)
 
   -- it goes
-  pub taken_whole : (table' : Table) (lent' : List Held) → IsTable without spares table' → table'.inodes ≡ without_inode table.inodes inode → lent' ≡ map (λ held. vacated inode (unnamed held)) lent → IsMade s without number marks spares place c spare table table' slots lent'
-  taken_whole table' lent' counted inodes done =
+  pub taken_whole : (table' : Table) (lent' : List Held) → IsTable without spares table' → table'.inodes ≡ without_inode table.inodes inode
+      → ((slot : ℕ) → get table.places inode ≡ Some slot → table'.free ≡ table.free ++ slot ∷ []) → lent' ≡ map (λ held. vacated inode (unnamed held)) lent → IsMade s without number marks spares place c spare table table' slots lent'
+  taken_whole table' lent' counted inodes free done =
       made table' lent' (λ held. vacated inode (unnamed held)) counted done
       (λ k. ap (λ is. account without marks is k) inodes ∙ each_but s without marks table.inodes (λ held. vacated inode (unnamed held)) idle inode leaves each k)
       (λ held away. ap (vacated inode) (unnamed_away held away.0) ∙ at_other held.inode inode vacant held away.1.0)
+      (inr (given_back s spares table given.counted inode inode_some slots covers.touched.1.0 without spares table' counted inodes free))
     where
       idle : vacated inode (unnamed vacant) ≡ vacant
       idle = ap (vacated inode) (unnamed_away vacant (λ e. directory_some (sym e))) ∙ at_other 0 inode vacant vacant (λ e. inode_some (sym e))

@@ -197,6 +197,7 @@ impl Inodes {
             → has s.nodes inode ≡ true
             → IsTable (with_client s client (record c { descriptors = insert c.descriptors fd d })) spares self.new }
         ensures inodes { self.new.inodes ≡ self.old.inodes }
+        ensures free { self.new.free ≡ self.old.free }
     {
         self.facts.open(inode);
     }
@@ -235,6 +236,7 @@ impl Inodes {
             → get s.entries at ≡ None → is_crowded s directory ≡ false → has_many_names s inode ≡ false
             → IsTable (with_name s at inode) spares self.new }
         ensures inodes { self.new.inodes ≡ self.old.inodes }
+        ensures free { self.new.free ≡ self.old.free }
     {
         self.facts.name(directory, inode);
     }
@@ -268,6 +270,9 @@ impl Inodes {
             → result ≡ not (lives (record s { entries = remove s.entries at }) inode) }
         ensures inodes { (s : State) (spares : List ℕ) → IsTable s spares self.old
             → self.new.inodes ≡ (if result then without_inode self.old.inodes inode else self.old.inodes) }
+        ensures free { (s : State) (spares : List ℕ) (slot : ℕ) → IsTable s spares self.old
+            → get self.old.places inode ≡ Some slot
+            → self.new.free ≡ (if result then self.old.free ++ slot ∷ [] else self.old.free) }
     {
         let goes = self.facts.unname(directory, inode);
         if goes {
@@ -291,6 +296,10 @@ impl Inodes {
         ensures stays { replaced ≡ None → result ≡ false }
         ensures inodes { (s : State) (spares : List ℕ) → IsTable s spares self.old → self.new.inodes
             ≡ (if result then without_inode self.old.inodes (unwrap_or replaced 0) else self.old.inodes) }
+        ensures free { (s : State) (spares : List ℕ) (slot : ℕ) → IsTable s spares self.old
+            → get self.old.places (unwrap_or replaced 0) ≡ Some slot
+            → self.new.free ≡ (if result then self.old.free ++ slot ∷ [] else self.old.free) }
+        ensures still { replaced ≡ None → self.new.free ≡ self.old.free }
     {
         let goes = self.facts.rename(from, into, inode, replaced);
         if goes && let Some(node) = replaced {

@@ -92,7 +92,7 @@ second_marked (Split trunk old new) leg e walk is =
     ∙ or_also (trunk.here == leg.here) ((old.here == leg.here) || ((new.here == leg.here) || false))
     (or_also (old.here == leg.here) ((new.here == leg.here) || false) (or_true (new.here == leg.here) false (eq-eqb new.here leg.here (ap (λ (l : Leg). l.here) (same_Some new leg e)))))
 
-spare_at : (seats : List Seat) (place : ℕ) (seat : Seat) → slice_get seats place ≡ Some seat → slice_get (spares_of seats) place ≡ Some seat.spare
+pub spare_at : (seats : List Seat) (place : ℕ) (seat : Seat) → slice_get seats place ≡ Some seat → slice_get (spares_of seats) place ≡ Some seat.spare
 spare_at [] place seat at = absurd (cc at)
 spare_at (z ∷ seats) zero seat at = ap (λ (s : Seat). Some s.spare) (same_Some z seat at)
 spare_at (z ∷ seats) (suc place) seat at = spare_at seats place seat at

@@ -1,31 +1,40 @@
 -- A walk is answered: the world after, what the journal keeps, and every slot's account.
-use Rattle.std.specs.Prelude.{◌≡◌, ◌≢◌, ℕ, zero, suc, ◌+◌, ◌≤◌, Bool, true, false, cond, ◌==◌, List, [], ◌∷◌, map, length, Option, Some, option_map, slice_get, slice_set, slice_index_or, refl}
-use Rattle.std.proofs.Common.{sym, subst, ap, ◌∙◌, arith, length-append}
+use Rattle.std.specs.Prelude.{◌≡◌, ◌≢◌, ℕ, zero, suc, ◌+◌, ◌≤◌, Bool, true, false, cond, ◌==◌, List, [], ◌∷◌, map, length, Option, Some, option_map, slice_get, slice_set, slice_index_or, refl, ◌⊎◌, ◌-◌, ◌<◌, ◌&&◌, ◌||◌, ◌++◌, None}
+use Rattle.std.proofs.Common.{sym, subst, ap, ◌∙◌, arith, length-append, inl, inr}
 use Rattle.std.proofs.lemmas.Bool.{eqb-true, eq-eqb}
 use Rattle.std.proofs.lemmas.List.{length-map, length-set}
 use Rattle.ll_rights.specs.declared.limits.TheConstants.{HISTORY_ENTRIES, TREE_CLIENTS}
-use Rattle.ll_rights.specs.Map.{get}
+use Rattle.ll_rights.specs.Map.{get, Map, has}
 use Rattle.ll_changes.specs.Accounts.{account, accounts, names_map}
 use Rattle.ll_held.specs.declared.held.Held.{Held}
 use Rattle.ll_held.specs.Lent.{vacant}
-use Rattle.ll_inodes.specs.InodeTable.{IsTable}
+use Rattle.ll_inodes.specs.InodeTable.{IsTable, Table, NotIn, without_inode}
+use Rattle.std.specs.Option.{option_map_or}
+use Rattle.std.specs.Ordering.{nat_cmp}
+use Rattle.ll_laws.proofs.Chains.{same_Some}
+use Rattle.ll_changes.specs.Enacting.{IsMade, LeavesTable}
+use Rattle.ll_changes.proofs.GivenSlots.{put_again}
+use Rattle.ll_seq.specs.declared.call.Call.{Call}
 use Rattle.ll_seq.specs.declared.client.ClientRecord.{ClientRecord}
 use Rattle.ll_seq.specs.declared.reply.Reply.{Reply}
+use Rattle.ll_seq.specs.Call.{targets}
 use Rattle.ll_seq.specs.History.{Log}
-use Rattle.ll_seq.specs.State.{State, bytes_of, start}
+use Rattle.ll_seq.specs.State.{State, bytes_of, kind_of, start}
 use Rattle.ll_seq.specs.Tree.{kind_or_file}
 use Rattle.ll_seq.specs.Step.{step}
-use Rattle.ll_walks.specs.Walk.{Walk}
-use Rattle.ll_walks.specs.World.{World, Replied, advance, shown, is_full, may_commit, moved_by, map_values, next_number, overtaken, reply_to, with_entry, with_stale, without_walk}
+use Rattle.ll_walks.specs.Walk.{Walk, marks}
+use Rattle.ll_walks.specs.World.{World, Replied, advance, shown, is_full, may_commit, moved_by, map_values, next_number, overtaken, reply_to, with_entry, with_stale, without_walk, has_any}
 use Rattle.ll_walks.specs.declared.step.Step.TheVariants.{Commit}
 use Rattle.ll_walks.specs.Sound.{IsSound}
 use Rattle.ll_journal.specs.declared.journal.Journal.TheInside.{Inside}
 use Rattle.ll_journal.specs.Book.{Seat, Book, Spares, mark_of, has_mark, slot_of}
+use Rattle.ll_journal.specs.WalkEnds.{LeavesFree, TakesName, would_make}
 use Rattle.ll_journal.specs.Kept.{IsKept, AreSeated, seat_at, world_of, book_of, walks_from, spares_of}
 use Rattle.ll_journal.specs.Performed.{Performs}
 use Rattle.ll_journal.proofs.Begun.{set_same, set_other}
 use Rattle.ll_journal.proofs.Ended.{commit_equation}
-use Rattle.ll_journal.proofs.MarkOf.{are_clients, has_mark_stale, mark_same}
+use Rattle.ll_journal.proofs.MarkOf.{are_clients, has_mark_stale, mark_same, AreClients}
+use Rattle.ll_journal.proofs.MadeNodes.{has_let_go, would_have_made}
 use Rattle.ll_journal.proofs.Overtaking.{overtaken_seat, overtaken_seats, seated_overtaken, spares_overtaken, walks_overtaken}
 use Rattle.ll_journal.proofs.Ruled.{room_stays}
 use Rattle.ll_journal.proofs.Shown.{shown_answered}
@@ -178,3 +187,62 @@ module _ (j i k : Inside) (h : IsKept j) (mid : IsKept i) (number place : ℕ) (
         now ∙ ap (λ n. n + TREE_CLIENTS) rooms ∙ sym then;
     slots = λ q out. slot_so q ∙ performs.made.others q out;
   }
+
+  -- ---- slots and spares
+
+  first_true : (a b : Bool) → (a && b) ≡ true → a ≡ true
+  first_true true b e = refl
+  first_true false b e = absurd (cc e)
+
+  spares_stay : slice_get (spares_of i.seats.items) place ≡ Some spare → spares_of k.seats.items ≡ spares_of i.seats.items
+  spares_stay same = spares_so ∙ put_again (spares_of i.seats.items) place spare same
+
+  pub committed_rest : i.table.inodes ≡ j.table.inodes → i.table.free ≡ j.table.free → spares_of i.seats.items ≡ spares_of j.seats.items → LeavesFree (book_of j) number slots (book_of k)
+  committed_rest inodes free spares = by performs.made.freed
+    where
+      place_is : number - 1 ≡ place
+      place_is = omega (arith, numbered)
+
+      next_is : (shown w).next ≡ i.table.next
+      next_is = ap (λ (v : World). (shown v).next) (sym ended) ∙ sym mid.table.next
+
+      made_so : has performs.after.nodes i.table.next ≡ true → would_make (shown w) walk.call ≡ true
+      made_so made =
+          ap (λ (v : World). would_make (shown v) walk.call) (sym ended)
+          ∙ would_have_made before performs.after number walk.call (next_number (world_of i)) _ k.table (ap (λ (p : Reply × State). p.1) steps_so) performs.made.counted
+          (ap (has performs.after.nodes) (sym mid.table.next) ∙ made)
+
+      let_go_so : (x : ℕ) → has before.nodes x ≡ true → kind_of performs.after x ≡ None → TakesName walk.call
+      let_go_so x there gone =
+          has_let_go before performs.after number walk.call (next_number (world_of i)) x (ap (λ (p : Reply × State). p.1) steps_so)
+          (first_true (has_any (targets walk.call)) _ ((h.sound.valid number walk is).0.walked)) there gone
+
+      by : LeavesTable before performs.after (spares_of i.seats.items) place spare i.table k.table slots → LeavesFree (book_of j) number slots (book_of k)
+      by (inl keeps) = inl (λ x. record {
+        world = world_of k;
+        inodes = (keeps.1.inodes ∙ inodes) x;
+        free = (keeps.1.free ∙ free) x;
+        spares = (spares_stay keeps.0 ∙ spares) x;
+      })
+      by (inr (inl takes)) = inr (inl (record {
+        may = (walk, is, made_so takes.made);
+        slot = spare;
+        made = (λ x. has (shown_so x).nodes (next_is x)) ∙ takes.made;
+        inodes = takes.inodes ∙ (λ x. slice_set (inodes x) (slice_index_or (spares x) (sym place_is x) 0) (sym next_is x));
+        free = sym free ∙ takes.free;
+        spares = spares_so ∙ (λ x. slice_set (spares x) (sym place_is x) spare);
+      }))
+      by (inr (inr gives)) =
+          let back = gives.1 in
+          inr (inr (
+            back.slot,
+            (walk, is, let_go_so (slice_index_or i.table.inodes back.slot 0) back.there back.gone),
+            back.lent,
+            record {
+              there = (λ x. has (shown (sym ended x)).nodes (slice_index_or (sym inodes x) back.slot 0)) ∙ back.there;
+              gone = (λ x. kind_of (shown_so x) (slice_index_or (sym inodes x) back.slot 0)) ∙ back.gone;
+              inodes = back.inodes ∙ (λ x. without_inode (inodes x) (slice_index_or (inodes x) back.slot 0));
+              free = back.free ∙ ap (λ ks. ks ++ back.slot ∷ []) free;
+              spares = spares_stay gives.0 ∙ spares;
+            },
+          ))

@@ -45,3 +45,5 @@ pub mod Committed
 pub mod AtAnswers
 pub mod StopMeans
 pub mod Refusing
+pub mod Starved
+pub mod MadeNodes

@@ -1,6 +1,6 @@
 -- A walk whose call is refused: the step leaves the tree as it is, and nobody is overtaken.
 use Rattle.std.specs.Prelude.{◌≡◌, ◌<◌, ℕ, zero, suc, Bool, true, false, ◌||◌, List, [], ◌∷◌, map, length, Option, Some, None, option_map, slice_get, slice_set, refl}
-use Rattle.std.proofs.Common.{sym, subst, ap, ◌∙◌, arith}
+use Rattle.std.proofs.Common.{sym, subst, ap, ◌∙◌, arith, inl}
 use Rattle.ll_rights.specs.declared.errno.Errno.{Errno}
 use Rattle.ll_changes.proofs.GivenSlots.{client_stays}
 use Rattle.ll_held.specs.declared.held.Held.{Held}
@@ -23,6 +23,7 @@ use Rattle.ll_journal.specs.WalkEnds.{Ends}
 use Rattle.ll_journal.specs.Kept.{IsKept, book_of, spares_of, world_of}
 use Rattle.ll_journal.specs.Performed.{Performs}
 use Rattle.ll_journal.specs.Stopped.{IsBlockedEnd}
+use Rattle.ll_journal.proofs.AtAnswers.{spare_at}
 use Rattle.ll_journal.proofs.Committed.{committed_kept, committed_lent, committed_spares, committed_step, spares_set, told_slots}
 use Rattle.ll_journal.proofs.Overtaking.{overtaken_seats}
 use Rattle.ll_journal.proofs.Stepping.{entered, set_again, there}
@@ -101,6 +102,7 @@ module _ (i : Inside) (mid : IsKept i) (number place : ℕ) (seat : Seat) (at : 
       clients = client_stays s s number seat.client refl (there i mid number calls.Spawn place seat at numbered);
       told = told ∙ told_slots (book_of i) slots;
       others = λ k out. refl;
+      freed = inl (spare_at i.seats.items place seat at, record { inodes = refl; free = refl });
     };
   }
 

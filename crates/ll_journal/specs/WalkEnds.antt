@@ -1,7 +1,8 @@
 -- What comes of a commit, and which slots it needs. own
-use Rattle.std.specs.Prelude.{◌≡◌, ◌⊎◌, ℕ, ◌-◌, Bool, true, false, List, [], map, is_none, Some, slice_index_or}
-use Rattle.ll_rights.specs.Map.{get}
+use Rattle.std.specs.Prelude.{◌≡◌, ◌⊎◌, ℕ, ◌-◌, Bool, true, false, List, [], map, is_none, Some, slice_index_or, ◌∷◌, ◌++◌, Option, slice_set}
+use Rattle.ll_rights.specs.Map.{get, has}
 use Rattle.ll_rights.specs.declared.errno.Errno.TheVariants.{HistoryFull}
+use Rattle.ll_path.specs.declared.target.Target.{Target}
 use Rattle.ll_answer.specs.Lean.{spares_memory}
 use Rattle.ll_seq.specs.declared.call.Call.{Call}
 use Rattle.ll_seq.specs.declared.call.Call.TheVariants as call
@@ -17,16 +18,18 @@ use Rattle.ll_walks.specs.declared.step.Step.TheVariants.{Commit}
 use Rattle.ll_journal.specs.declared.outcome.Ending.{Ending}
 use Rattle.ll_journal.specs.declared.outcome.Ending.TheVariants as ending
 use Rattle.ll_journal.specs.Book.{Book, inode_in}
+use Rattle.ll_journal.specs.Direct.{FreesSlot}
+use Rattle.ll_journal.specs.Starving.{StarvesAtEnd}
 
--- The outcome is the step's, and so is the world after. Astray is none of its outcomes: then nothing changes. Where memory runs out the walk has
--- ended all the same
+-- The outcome is the step's, and so is the world after. Astray is none of its outcomes: then nothing changes. Where
+-- memory runs out, for a call that nothing refuses, the walk has ended all the same
 abbrev pub Ends : Book → ℕ → Ending → Book → Type 0
 Ends b number ending.NotNow b' = advance b.world (Commit number) ≡ (world.NotNow, b'.world)
 Ends b number ending.Astray b' = b' ≡ b
 Ends b number ending.Replied b' =
     (is_full b.world ≡ false) × (reply : Reply) × (advance b.world (Commit number) ≡ (world.Replied reply, b'.world))
 Ends b number ending.HistoryFull b' = advance b.world (Commit number) ≡ (world.Replied (Refused HistoryFull), b'.world)
-Ends b number ending.NoMemory b' = b'.world ≡ without_walk b.world number
+Ends b number ending.NoMemory b' = StarvesAtEnd b.world number × (b'.world ≡ without_walk b.world number)
 
 -- the nodes under last names that the call may change or tell of
 abbrev pub nodes_at_end : State → Call → List ℕ
@@ -110,3 +113,32 @@ IsAstrayAtEnd b number slots =
 -- the client's walk is that of a call that may take memory
 abbrev pub MayTakeMemory : World → ℕ → Type 0
 MayTakeMemory w number = (walk : Walk) × (get w.walks number ≡ Some walk) × (spares_memory walk.call ≡ false)
+
+-- the client's walk is that of a call that would make a node
+abbrev pub MayMake : World → ℕ → Type 0
+MayMake w number = (walk : Walk) × (get w.walks number ≡ Some walk) × (would_make (shown w) walk.call ≡ true)
+
+-- the call takes a name away, or may give it to another node
+abbrev pub TakesName : Call → Type 0
+TakesName call' =
+    ((target : Target) × (call' ≡ call.Unlink target)) ⊎ ((target : Target) × (call' ≡ call.Rmdir target))
+    ⊎ ((from : Target) × (into : Target) × (call' ≡ call.Rename from into))
+
+-- the client's walk is that of a call that may take away the last name of a node
+abbrev pub MayLetGo : World → ℕ → Type 0
+MayLetGo w number = (walk : Walk) × (get w.walks number ≡ Some walk) × TakesName walk.call
+
+-- A node was made: it lies in the client's spare slot, and the last of the free slots is its spare now
+pub record MakesNode (b b' : Book) (number : ℕ) : Type 0 where
+  pub may : MayMake b.world number
+  pub slot : ℕ
+  pub made : has (shown b'.world).nodes (shown b.world).next ≡ true
+  pub inodes : b'.inodes ≡ slice_set b.inodes (spare_of b number) (shown b.world).next
+  pub free : b.free ≡ b'.free ++ slot ∷ []
+  pub spares : b'.spares ≡ slice_set b.spares (number - 1) slot
+
+-- Beside the world nothing changes, unless a node is made, or one goes that lies in one of the slots
+abbrev pub LeavesFree : Book → ℕ → List ℕ → Book → Type 0
+LeavesFree b number slots b' =
+    (b' ≡ record b { world = b'.world }) ⊎ MakesNode b b' number
+    ⊎ ((slot : ℕ) × MayLetGo b.world number × (is_in slots slot ≡ true) × FreesSlot b b' slot)

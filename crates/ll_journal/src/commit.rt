@@ -21,7 +21,7 @@ impl Journal {
     ghost use Rattle.ll_walks.specs.World.{domain_of, without_walk};
     ghost use Rattle.ll_journal.specs.Book.{Spares, slot_of};
     ghost use Rattle.ll_inodes.specs.InodeTable.{AreDistinct};
-    ghost use Rattle.ll_journal.specs.WalkEnds.{Ends, IsAstrayAtEnd, MayTakeMemory, is_lent};
+    ghost use Rattle.ll_journal.specs.WalkEnds.{Ends, IsAstrayAtEnd, LeavesFree, MayTakeMemory, is_lent};
     ghost use Rattle.ll_journal.specs.Stopped.{IsBlockedEnd, IsReachedEnd, IsStop};
 
     /// The walk of the client at the place ends, and with it its marks.
@@ -80,6 +80,7 @@ impl Journal {
         ensures does { Ends self.old client result self.new }
         ensures lent { lent.new ≡ map (slot_of self.new) slots.now }
         ensures spares { Spares self.old self.new slots.now }
+        ensures rest { self.new ≡ record self.old { world = self.new.world } }
         ensures told { (result ≡ Ending.Replied) ⊎ (result ≡ Ending.HistoryFull) }
     {
         let is_full = self.history.is_full();
@@ -113,6 +114,7 @@ impl Journal {
         ensures does { Ends self.old client result self.new }
         ensures lent { lent.new ≡ map (slot_of self.new) slots.now }
         ensures spares { Spares self.old self.new slots.now }
+        ensures rest { LeavesFree self.old client slots.now self.new }
         ensures calm { result ≡ Ending.NoMemory → MayTakeMemory self.old.world client }
         ensures not_astray { result ≢ Ending.Astray }
     {
@@ -146,6 +148,7 @@ impl Journal {
         ensures does { Ends self.old client result self.new }
         ensures lent { lent.new ≡ map (slot_of self.new) slots.now }
         ensures spares { Spares self.old self.new slots.now }
+        ensures rest { LeavesFree self.old client slots.now self.new }
         ensures astray { result ≡ Ending.Astray → IsAstrayAtEnd self.old client slots.now }
         ensures calm { result ≡ Ending.NoMemory → MayTakeMemory self.old.world client }
     {

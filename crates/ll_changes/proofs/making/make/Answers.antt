@@ -35,7 +35,7 @@ returns-in-Some-clause-ok c client s number marks spares at given fits covers =
     (directory_has s number marks spares at client _ _ _ _ given c.args.at.now c.args.kind fits) fits.lacks.child
     (not_crowded s number marks spares at client _ _ _ _ given c.args.at.now c.args.kind fits)
     (few_nodes s number marks spares at client _ _ _ _ given c.args.at.now c.args.kind fits))
-    c.in-Ok.ensures.inodes
+    c.in-Ok.ensures.inodes c.in-Ok.ensures.free
     c.in-Some.ensures.some
     (c.fill.ensures
     ∙ ap (λ l. slice_set l c.in-Some.place (filled c.next-inode.result c.args.kind)) c.in_ok-name.ensures.ok

@@ -21,4 +21,4 @@ returns-clause-ok c s number marks spares place given fits covers =
     let o = c.args.opening.now in
     opened_new s number marks spares place c.args.client.now c.args.spare.now c.args.table.now c.args.slots.now c.args.lent.now given o _ c.make.new.table c.make.new.lent
     (c.in_default.ensures.ok c.args.client.now s number marks spares place given (room_new s c.args.client.now o c.requires.0 fits) (covers_new o c.requires.0 _ _ _ covers)) c.next-inode.result c.next-inode.ensures
-    c.requires.0 fits _ c.open.new.self (described c.args.client.now o c.next-inode.result c.descriptor.result _ c.descriptor.ensures c.in_ok-insert.ensures.ok) c.open.ensures.table c.open.ensures.inodes
+    c.requires.0 fits _ c.open.new.self (described c.args.client.now o c.next-inode.result c.descriptor.result _ c.descriptor.ensures c.in_ok-insert.ensures.ok) c.open.ensures.table c.open.ensures.inodes c.open.ensures.free

@@ -22,3 +22,4 @@ returns-clause-ok c slots client spare s number marks spares place given fits co
     moved_slots given c.args.old.now c.args.new.now c.args.inode c.rename.new.self c.move_name.new.lent fits covers c.in_ok-move_name.ensures.ok
     (c.rename.ensures.table s spares _ _ given.counted refl refl (directory_lives given c.args.new.now fits.new.directory) fits.old.child fits.new.child (λ node e. absurd (cc e)) fits.room)
     (c.rename.ensures.inodes s spares given.counted ∙ ap (λ b. if b then without_inode c.args.table.now.inodes 0 else c.args.table.now.inodes) (c.rename.ensures.stays refl))
+    (c.rename.ensures.still refl)

@@ -16,4 +16,4 @@ pub returns-clause-ok : goal.returns-clause-ok
 returns-clause-ok c slots client spare s number marks spares place given fits covers =
     named_slots given c.args.at.now c.args.inode c.name-2.new.self c.name.new.lent fits covers c.in_ok-name.ensures.ok
     (c.name-2.ensures.table s spares _ given.counted refl (directory_lives given c.args.at.now fits.lacks.directory) (named_lives given _ fits.named) fits.lacks.child fits.room fits.few_names)
-    (c.name-2.ensures.inodes)
+    c.name-2.ensures.inodes c.name-2.ensures.free
