@@ -18,7 +18,7 @@ use Rattle.ll_journal.proofs.LentAfter.{inode_is}
 use Rattle.ll_journal.proofs.Entering.{walk_here, no_walk}
 use Rattle.ll_journal.proofs.Descending.{looked_up, one_more, if_dir, directory_kind, directory_fact, living_placed}
 
-index_there : (xs : List ℕ) (k i : ℕ) → slice_get xs k ≡ Some i → slice_index_or xs k 0 ≡ i
+pub index_there : (xs : List ℕ) (k i : ℕ) → slice_get xs k ≡ Some i → slice_index_or xs k 0 ≡ i
 index_there [] k i e = absurd (cc e)
 index_there (x ∷ xs) zero i e = same_Some x i e
 index_there (x ∷ xs) (suc k) i e = index_there xs k i e

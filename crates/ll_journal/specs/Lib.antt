@@ -12,3 +12,4 @@ pub mod Performed
 pub mod Kept
 pub mod Files
 pub mod Decidings
+pub mod Needs

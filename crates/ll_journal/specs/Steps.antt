@@ -26,6 +26,10 @@ is_at_top w number = option_map_or (λ (walk : Walk). is_above walk.at) (get w.w
 abbrev pub leg_in_turn : World → ℕ → Option Leg
 leg_in_turn w number = option_and_then (λ (walk : Walk). turn walk.at) (get w.walks number)
 
+-- the client's leg in turn, if there is one, stands in the directory of the slot
+abbrev pub IsInTurn : Book → ℕ → ℕ → Type 0
+IsInTurn b number slot = (leg : Leg) → leg_in_turn b.world number ≡ Some leg → inode_in b slot ≡ leg.here
+
 -- its walk is under way, and isn't stale
 abbrev pub is_going : World → ℕ → Bool
 is_going w number = option_map_or (λ (walk : Walk). not walk.stale) (get w.walks number) false

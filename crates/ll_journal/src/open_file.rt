@@ -127,6 +127,7 @@ impl Journal {
     pub fn file_slot(&self, client: u64, number: u64) -> Option<u64>
         ensures some { IfSome result (λ slot. (file : record_of.Descriptor)
             × IsOpen self.now.world client number file × (inode_in self.now slot ≡ file.inode)) }
+        ensures within { IfSome result (λ slot. slot < length self.now.inodes) }
         ensures none { IfNone result ((file : record_of.Descriptor) → ¬ IsOpen self.now.world client number file) }
     {
         let Some(place) = place_of(&self.seats, client) else {

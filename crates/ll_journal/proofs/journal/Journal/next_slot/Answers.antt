@@ -1,9 +1,10 @@
-use Rattle.std.proofs.Common.{◌≡◌, ℕ, ap, sym, subst, ◌∙◌, IfSome, IfNone}
+use Rattle.std.proofs.Common.{◌≡◌, ℕ, ◌<◌, length, ap, sym, subst, ◌∙◌, IfSome, IfNone}
 use Rattle.ll_journal.specs.Book.{Book, slot_of}
 use Rattle.ll_journal.specs.Kept.{seat_at}
 use Rattle.ll_journal.specs.Steps.{IsNext}
 use Rattle.ll_journal.proofs.Starting.{at_place}
 use Rattle.ll_journal.proofs.Looking.{nobody_next, next_none, next_found}
+use Rattle.ll_journal.proofs.Standing.{is_placed}
 use Rattle.ll_journal.proofs.journal.Journal.next_slot.Goals as goal
 
 pub returns-in_default-clause-none : goal.returns-in_default-clause-none
@@ -34,3 +35,8 @@ returns-clause-none c =
     subst (λ (b : Book). IfNone c.slot.result ((next : ℕ) → IsNext b c.args.client c.args.slot next → ⊥)) c.self.view_is
     (next_found c.self.inside c.self.invariant c.args.client c.in-Some.place c.index.result.now at c.in-Some.ensures.some.0 c.args.slot c.args.here.now lent
     c.in-Some-directory_below.inode (sym c.directory_below.ensures ∙ c.in-Some-directory_below.is) c.slot.result c.slot.ensures).1
+
+pub returns-clause-within : goal.returns-clause-within
+returns-clause-within c =
+    subst (λ (b : Book). IfSome c.slot.result (λ next. next < length b.inodes)) c.self.view_is
+    (is_placed c.self.inside c.self.invariant c.in-Some-directory_below.inode c.slot.result c.slot.ensures).within
