@@ -45,3 +45,4 @@ pub mod Committed
 pub mod AtAnswers
 pub mod StopMeans
 pub mod Refusing
+pub mod Starved

@@ -6,6 +6,7 @@ pub mod Own
 pub mod SeatCodes
 pub mod Seated
 pub mod Looks
+pub mod Starving
 pub mod WalkEnds
 pub mod Stopped
 pub mod Performed

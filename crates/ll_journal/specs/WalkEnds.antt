@@ -17,16 +17,17 @@ use Rattle.ll_walks.specs.declared.step.Step.TheVariants.{Commit}
 use Rattle.ll_journal.specs.declared.outcome.Ending.{Ending}
 use Rattle.ll_journal.specs.declared.outcome.Ending.TheVariants as ending
 use Rattle.ll_journal.specs.Book.{Book, inode_in}
+use Rattle.ll_journal.specs.Starving.{StarvesAtEnd}
 
--- The outcome is the step's, and so is the world after. Astray is none of its outcomes: then nothing changes. Where memory runs out the walk has
--- ended all the same
+-- The outcome is the step's, and so is the world after. Astray is none of its outcomes: then nothing changes. Where memory runs out, for a call
+-- that nothing refuses, the walk has ended all the same
 abbrev pub Ends : Book → ℕ → Ending → Book → Type 0
 Ends b number ending.NotNow b' = advance b.world (Commit number) ≡ (world.NotNow, b'.world)
 Ends b number ending.Astray b' = b' ≡ b
 Ends b number ending.Replied b' =
     (is_full b.world ≡ false) × (reply : Reply) × (advance b.world (Commit number) ≡ (world.Replied reply, b'.world))
 Ends b number ending.HistoryFull b' = advance b.world (Commit number) ≡ (world.Replied (Refused HistoryFull), b'.world)
-Ends b number ending.NoMemory b' = b'.world ≡ without_walk b.world number
+Ends b number ending.NoMemory b' = StarvesAtEnd b.world number × (b'.world ≡ without_walk b.world number)
 
 -- the nodes under last names that the call may change or tell of
 abbrev pub nodes_at_end : State → Call → List ℕ

@@ -18,7 +18,7 @@ ghost use Rattle.ll_walks.specs.World.{is_alone, is_walked, overtaken};
 ghost use Rattle.ll_journal.specs.Looks as looks;
 ghost use Rattle.ll_journal.specs.WalkPlaces.{place_of};
 ghost use Rattle.ll_journal.specs.Needs.{slots_in};
-ghost use Rattle.ll_journal.specs.Performed.{IsAtEnd, Performs};
+ghost use Rattle.ll_journal.specs.Performed.{IsAtEnd, IsFreeAtEnd, Performs};
 ghost use Rattle.ll_journal.specs.Seated.{turn_at};
 
 use crate::alone::{Own, RecordCall, answer, asked_of};
@@ -247,7 +247,7 @@ pub(crate) struct Ended {
 }
 
 impl Seat {
-    ghost use Rattle.ll_journal.specs.Own.{Comes, IsOwn};
+    ghost use Rattle.ll_journal.specs.Own.{Comes, IsFreeOwn, IsOwn};
     ghost use Rattle.ll_journal.specs.Seated.{again, call_in, entered, first_here_in, gone_down, here_in, is_at_ends, next_in, second_here_in, split};
 
     /// A client without a walk.
@@ -323,6 +323,7 @@ impl Seat {
         ensures descriptors { self.new.client.descriptors ≡ self.old.client.descriptors }
         ensures rest { self.new ≡ record self.old { client = self.new.client } }
         ensures err { OnErr result (self.new ≡ self.old) }
+        ensures starved { OnErr result (IsFreeOwn abi self.old.client asked) }
     {
         answer(&mut self.client, alloc, abi, asked)
     }
@@ -716,6 +717,7 @@ impl Seat {
             → Performs s number marks spares place table.old slots.now walk.now.call reply self.new.client self.new.spare table.new lent.new) }
         ensures rest { self.new.walk ≡ None }
         ensures err { OnErr result ((self.new ≡ self.old) × (table.new ≡ table.old) × (lent.new ≡ lent.old)) }
+        ensures starved { OnErr result (IsFreeAtEnd self.old.client self.old.spare table.old slots.now lent.old walk.now.call walk.now.first walk.now.second found.now) }
         ensures calm { spares_memory walk.now.call ≡ true → is_ok result ≡ true }
     {
         let (client, spare) = (&mut self.client, &mut self.spare);
