@@ -1,0 +1,5 @@
+use Rattle.ll_steps.proofs.ContentsKept.{begin_keeps}
+use Rattle.ll_steps.proofs.world.World.begin.Goals as goal
+
+pub invariant_of-self : goal.invariant_of-self
+invariant_of-self c = begin_keeps _ _ _ c.args.client c.args.call _ c.self.invariant c.begin.ensures.begun c.begin.ensures.same c.begin.ensures.spares
