@@ -1,8 +1,8 @@
 -- The slots that are lent to a step, and what lies in all of them after it.
-use Rattle.std.specs.Prelude.{◌≡◌, ◌≢◌, ◌⊎◌, ℕ, ◌<◌, List, [], ◌∷◌, map, length, slice_set, refl}
+use Rattle.std.specs.Prelude.{◌≡◌, ◌≢◌, ◌⊎◌, ℕ, ◌<◌, List, [], ◌∷◌, map, length, slice_set, slice_index_or, refl}
 use Rattle.std.specs.List.{AllByRecursion}
 use Rattle.std.proofs.Common.{sym, ap, subst, ◌∙◌, inl, inr}
-use Rattle.std.proofs.lemmas.List.{get_or-set_same, length-set}
+use Rattle.std.proofs.lemmas.List.{get_or-set_same, get_or_default, length-set}
 use Rattle.ll_held.specs.declared.held.Held.{Held}
 use Rattle.ll_held.specs.Lent.{vacant}
 use Rattle.ll_inodes.specs.InodeTable.{NotIn}
@@ -22,6 +22,25 @@ bounds_of b slots ks e there = subst (λ n. AllByRecursion (λ k. k < n) ks) (sy
 
 pub bound_of : (b : Book) (slots : List Held) (k : ℕ) → slots ≡ accounts_of b → k < length b.inodes → k < length slots
 bound_of b slots k e there = subst (λ n. k < n) (sym (ap length e ∙ length_accounts b)) there
+
+pub lent_in : (b : Book) (slots : List Held) (ks : List ℕ) → slots ≡ accounts_of b → AllByRecursion (λ k. k < length slots) ks → map (held_at slots) ks ≡ map (slot_of b) ks
+lent_in b slots ks e there = lent_accounts b slots ks e (subst (λ n. AllByRecursion (λ k. k < n) ks) (ap length e ∙ length_accounts b) there)
+
+-- where the slots and the numbers are read again
+pub bounds_again : (b : Book) (slots read : List Held) (ks numbers : List ℕ) → slots ≡ accounts_of b → read ≡ slots → numbers ≡ ks → AllByRecursion (λ k. k < length b.inodes) ks → AllByRecursion (λ k. k < length read) numbers
+bounds_again b slots read ks numbers e same all there =
+    subst (λ (xs : List Held). AllByRecursion (λ k. k < length xs) numbers) (sym same) (bounds_of b slots numbers e (subst (AllByRecursion (λ k. k < length b.inodes)) (sym all) there))
+
+pub bound_again : (b : Book) (slots read : List Held) (k : ℕ) → slots ≡ accounts_of b → read ≡ slots → k < length b.inodes → k < length read
+bound_again b slots read k e same there = subst (λ (xs : List Held). k < length xs) (sym same) (bound_of b slots k e there)
+
+-- what is read at an index
+pub at_index : (b : Book) (slots : List Held) (k : ℕ) (held : Held) → slots ≡ accounts_of b → k < length b.inodes → held ≡ slice_index_or slots k held → held ≡ slot_of b k
+at_index b slots k held e lt is = is ∙ get_or_default slots k held vacant (bound_of b slots k e lt) ∙ account_at b slots k e lt
+
+-- and within the slots
+pub within_accounts : (b : Book) (slots : List Held) (k : ℕ) → slots ≡ accounts_of b → k < length slots → k < length b.inodes
+within_accounts b slots k e lt = subst (λ n. k < n) (ap length e ∙ length_accounts b) lt
 
 same_head : (x y : Held) (xs ys : List Held) → (x ∷ xs) ≡ (y ∷ ys) → x ≡ y
 same_head x y xs ys e = cc e

@@ -3,3 +3,5 @@ pub mod ContentsKept
 pub mod Going
 pub mod Adding
 pub mod LentContents
+pub mod DirectMakes
+pub mod WalkMakes

@@ -1,18 +1,18 @@
 -- What comes of a step, and which entry it adds to the history. own
-use Rattle.std.specs.Prelude.{◌≡◌, ◌≢◌, ◌⊎◌, ℕ, Bool, true, false, List, [], ◌∷◌, length, Option, Some, None, option_map, slice_get}
+use Rattle.std.specs.Prelude.{◌≡◌, ◌≢◌, ◌⊎◌, ℕ, Bool, true, false, not, List, [], ◌∷◌, length, Option, Some, None, option_map, slice_get}
 use Rattle.ll_rights.specs.declared.errno.Errno.TheVariants.{NoMemory}
 use Rattle.ll_rights.specs.Map.{get}
 use Rattle.ll_answer.specs.Lean.{spares_memory}
 use Rattle.ll_seq.specs.declared.call.Call.{Call}
 use Rattle.ll_seq.specs.declared.call.Call.TheVariants.{Close, Connect}
 use Rattle.ll_seq.specs.declared.reply.Entry.{Entry}
-use Rattle.ll_seq.specs.declared.reply.Reply.{Reply}
 use Rattle.ll_seq.specs.declared.reply.Reply.TheVariants as reply
 use Rattle.ll_walks.specs.declared.step.Step.{Step}
 use Rattle.ll_walks.specs.declared.step.Step.TheVariants.{Join, Begin, Descend, Fork, Commit, Restart, FdCommit, ClientStep}
 use Rattle.ll_walks.specs.Walk.{Walk}
 use Rattle.ll_walks.specs.World as world
 use Rattle.ll_walks.specs.World.{World, advance, is_full, next_number, without_walk}
+use Rattle.ll_journal.specs.Starving.{is_refusal}
 use Rattle.ll_steps.specs.declared.outcome.Outcome.{Outcome}
 use Rattle.ll_steps.specs.declared.outcome.Outcome.TheVariants as outcome
 
@@ -29,26 +29,14 @@ called w (ClientStep number call) = Some (number, call)
 
 -- ---- Want of memory
 
--- neither a refusal nor a denial
-abbrev pub is_granted : Reply → Bool
-is_granted reply.Done = true
-is_granted (reply.Opened number) = true
-is_granted (reply.Bytes bytes) = true
-is_granted (reply.Wrote count) = true
-is_granted (reply.Listed names) = true
-is_granted (reply.Found status) = true
-is_granted (reply.Created number) = true
-is_granted (reply.Spawned number) = true
-is_granted (reply.Refused errno) = false
-is_granted (reply.Denied denial) = false
-
+-- answered, and by no refusal
 abbrev pub succeeds : world.Outcome → Bool
 succeeds world.NotNow = false
 succeeds world.Begun = false
 succeeds (world.Stands inode) = false
 succeeds world.Forked = false
 succeeds world.Restarted = false
-succeeds (world.Replied reply) = is_granted reply
+succeeds (world.Replied reply) = not (is_refusal reply)
 succeeds (world.Joined number) = true
 
 -- what is left: a walk that was to be answered has ended, and nothing else has changed
@@ -69,7 +57,7 @@ pub record Starves (w : World) (step' : Step) (w' : World) : Type 0 where
   pub is : called w step' ≡ Some (client, call)
   pub takes : spares_memory call ≡ false
   pub not_close : (number : ℕ) → call ≢ Close number
-  pub succeeds : succeeds (advance w step').0 ≡ true
+  pub would : succeeds (advance w step').0 ≡ true
   pub left : w' ≡ starved w step'
 
 -- ---- Outcomes

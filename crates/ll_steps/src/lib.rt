@@ -4,6 +4,7 @@
 mod direct;
 mod outcome;
 mod slots;
+mod step;
 mod walk;
 mod world;
 
