@@ -1,7 +1,7 @@
 -- What each outcome tells of the history, and what holds of every world.
-use Rattle.std.specs.Prelude.{◌≡◌, ◌≢◌, ◌⊎◌, ℕ, zero, suc, ◌<◌, ◌≤◌, Bool, true, false, List, [], ◌∷◌, ◌++◌, length, Option, Some, None, slice_get, refl}
-use Rattle.std.proofs.Common.{sym, ap, subst, ◌∙◌, inl, inr, arith, append_assoc}
-use Rattle.std.proofs.lemmas.List.{append-nil}
+use Rattle.std.specs.Prelude.{◌≡◌, ◌≢◌, ◌⊎◌, ℕ, zero, suc, ◌+◌, ◌<◌, ◌≤◌, Bool, true, false, List, [], ◌∷◌, ◌++◌, length, take, Option, Some, None, slice_get, Result, Ok, Err, IfOk, OnErr, refl}
+use Rattle.std.proofs.Common.{sym, ap, subst, ◌∙◌, inl, inr, arith, append_assoc, get_or}
+use Rattle.std.proofs.lemmas.List.{append-nil, length-append, take_more, take_all}
 use Rattle.std.proofs.lemmas.Option.{slice_get_past}
 use Rattle.ll_laws.proofs.Chains.{same_Some}
 use Rattle.ll_laws.proofs.Gain.{no_gain}
@@ -27,7 +27,7 @@ use Rattle.ll_walks.specs.World.{World, advance, is_full, shown, next_number}
 use Rattle.ll_steps.specs.declared.outcome.Outcome.{Outcome}
 use Rattle.ll_steps.specs.declared.outcome.Outcome.TheVariants as outcome
 use Rattle.ll_steps.specs.Makes.{Makes, Adds, Starves, IsUntold, called, starved}
-use Rattle.ll_steps.specs.Headline.{Grows, IsLawful, Runs}
+use Rattle.ll_steps.specs.Headline.{Grows, IsLawful, IsHeadline, Runs}
 use Rattle.ll_steps.proofs.Going.{Went, went, still, entry_of}
 
 last_of_more : (es : List Entry) (e : Entry) → slice_get (es ++ e ∷ []) (length es) ≡ Some e
@@ -146,3 +146,43 @@ runs_on u v w [] (x ∷ outcomes) added its step' o r m a g = absurd r
 runs_on u v w (x ∷ steps) [] added its step' o r m a g = absurd r
 runs_on u v w (x ∷ steps) (y ∷ outcomes) added its step' o r m a g =
     (r.0, r.1, r.2 ++ its, ap (λ es. es ++ its) r.3 ∙ append_assoc r.1 r.2 its, r.4, r.5, r.6, runs_on r.0 v w steps outcomes r.2 its step' o r.7 m a g)
+
+-- ---- the step that is asked for
+
+pub told_step : (w v v' : World) (s s' : Step) (o o' : Outcome) → s ≡ s' → o ≡ o' → v ≡ v' → Makes w s' o' v' → Makes w s o v
+told_step w v v' s s' o o' e f g m = subst (λ (t : Step × (Outcome × World)). Makes w t.0 t.1.0 t.1.1) (λ i. (sym e i, (sym f i, sym g i))) m
+
+-- of a call that came back
+pub back_makes : (w v : World) (s : Step) (made : Result Outcome Call) (o : Outcome) → IfOk made (λ p. o ≡ p) → OnErr made (o ≡ outcome.NotNow) → IfOk made (λ p. Makes w s p v) → OnErr made (Makes w s outcome.NotNow w) → OnErr made (v ≡ w)
+    → Makes w s o v
+back_makes w v s (Ok p) o is back m not_now same = subst (λ (q : Outcome). Makes w s q v) (sym is) m
+back_makes w v s (Err c) o is back m not_now same =
+    subst (λ (q : Outcome). Makes w s q v) (sym back) (subst (λ (u : World). Makes w s outcome.NotNow u) (sym same) not_now)
+
+-- ---- a run
+
+abbrev pub HasRun : World → List Step → List Outcome → World → Type 0
+HasRun w steps outcomes v = (added : List Entry) × Runs w steps outcomes added v × Grows w v added
+
+pub ran_none : (w : World) (outcomes : List Outcome) → outcomes ≡ [] → HasRun w [] outcomes w
+ran_none w outcomes e = subst (λ (os : List Outcome). HasRun w [] os w) (sym e) ([], no_steps w, still w)
+
+ran_more : (u v w : World) (steps : List Step) (outcomes : List Outcome) (step' : Step) (o : Outcome) → HasRun u steps outcomes v → Makes v step' o w → HasRun u (steps ++ step' ∷ []) (outcomes ++ o ∷ []) w
+ran_more u v w steps outcomes step' o h m =
+    let a = adds v w step' o m in
+    (h.0 ++ a.0, runs_on u v w steps outcomes h.0 a.0 step' o h.1 m a.1 a.2, grows_on u v w h.0 a.0 h.2 a.2)
+
+-- with the next of the items
+pub ran_on : (u v w : World) (items yielded : List Step) (outcomes more : List Outcome) (step' : Step) (o : Outcome) → HasRun u (take (length yielded) items) outcomes v
+    → (length yielded < length items) × (step' ≡ get_or items (length yielded) step') → more ≡ outcomes ++ o ∷ [] → Makes v step' o w → HasRun u (take (length (yielded ++ step' ∷ [])) items) more w
+ran_on u v w items yielded outcomes more step' o h turn e m =
+    let one : length (yielded ++ step' ∷ []) ≡ length yielded + 1 = length-append yielded (step' ∷ []) in
+    let next : take (length (yielded ++ step' ∷ [])) items ≡ take (length yielded) items ++ step' ∷ [] =
+    ap (λ n. take n items) one ∙ take_more items (length yielded) step' turn.0 ∙ ap (λ s. take (length yielded) items ++ s ∷ []) (sym turn.1) in
+    subst (λ (os : List Outcome). HasRun u (take (length (yielded ++ step' ∷ [])) items) os w) (sym e)
+    (subst (λ (ss : List Step). HasRun u ss (outcomes ++ o ∷ []) w) (sym next) (ran_more u v w (take (length yielded) items) outcomes step' o h m))
+
+pub ran_all : (u v : World) (items : List Step) (n : ℕ) (outcomes : List Outcome) → length items ≤ n → HasRun u (take n items) outcomes v → IsLawful v → IsHeadline u items outcomes v
+ran_all u v items n outcomes all h law =
+    let r = subst (λ (ss : List Step). HasRun u ss outcomes v) (take_all n items all) h in
+    record { added = r.0; runs = r.1; grows = r.2; lawful = law }

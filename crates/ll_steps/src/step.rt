@@ -36,10 +36,7 @@ impl World {
     {
         let outcome = match step {
             Step::Join => self.join(),
-            Step::Begin(client, call) => match self.begin(client, call) {
-                Ok(()) => Outcome::Begun,
-                Err(_) => Outcome::NotNow,
-            },
+            Step::Begin(client, call) => or_not_now(self.begin(client, call)),
             Step::Descend(client) => self.descend(client),
             Step::Fork(client) => self.fork(client),
             Step::Commit(client) => self.commit(client),

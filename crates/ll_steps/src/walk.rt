@@ -1,6 +1,6 @@
 //! The steps of a walk.
 
-ghost use Rattle.std.specs.Prelude.{◌≡◌, ◌≢◌, ℕ, ◌<◌, ◌≤◌, true, false, Some, IfErr, OnOk, OnErr, length};
+ghost use Rattle.std.specs.Prelude.{◌≡◌, ◌≢◌, ℕ, ◌<◌, ◌≤◌, true, false, Some, IfOk, IfErr, OnErr, length};
 ghost use Rattle.std.specs.List.{AllByRecursion};
 ghost use Rattle.ll_rights.specs.Map.{get};
 ghost use Rattle.ll_inodes.specs.InodeTable.{AreDistinct};
@@ -130,13 +130,15 @@ fn restart_with(
 
 impl World {
     /// The client's call sets out, or comes back where it may not.
-    pub(crate) fn begin(&mut self, client: u64, call: Call) -> Result<(), Call>
-        ensures begun { OnOk result (Makes self.old (steps.Begin client call) Outcome.Begun self.new) }
+    pub(crate) fn begin(&mut self, client: u64, call: Call) -> Result<Outcome, Call>
+        ensures makes { IfOk result (λ outcome. Makes self.old (steps.Begin client call) outcome self.new) }
+        ensures begun { IfOk result (λ outcome. outcome ≡ Outcome.Begun) }
         ensures not_now { OnErr result (Makes self.old (steps.Begin client call) Outcome.NotNow self.old) }
         ensures back { IfErr result (λ back. back ≡ call) }
         ensures same { OnErr result (self.new ≡ self.old) }
     {
-        self.journal.begin(client, call)
+        self.journal.begin(client, call)?;
+        Ok(Outcome::Begun)
     }
 
     /// The client's walk, which is above the root, goes to it.
