@@ -200,8 +200,8 @@ pub record FileStepped (b : Book) (number : ℕ) (call : Call) (slot : ℕ) (ans
 same_spares : (b b' : Book) (slots : List ℕ) → b' ≡ b → Spares b b' slots
 same_spares b b' slots e = subst (λ x. Spares b x slots) (sym e) (record { limit = refl; size = refl; slots = λ j out. refl })
 
-replied_so : (b b' : Book) (number : ℕ) (call : Call) (answer : Answer) (reply : Reply) → answer ≡ answers.Replied → advance b.world (FdCommit number call) ≡ (Replied reply, b'.world) → Answers b (FdCommit number call) answer b'
-replied_so b b' number call answer reply is e = subst (λ a. Answers b (FdCommit number call) a b') (sym is) (reply, e)
+replied_so : (b b' : Book) (number : ℕ) (call : Call) (answer : Answer) (reply : Reply) → answer ≡ answers.Replied → is_full b.world ≡ false → advance b.world (FdCommit number call) ≡ (Replied reply, b'.world) → Answers b (FdCommit number call) answer b'
+replied_so b b' number call answer reply is room e = subst (λ a. Answers b (FdCommit number call) a b') (sym is) (room, reply, e)
 
 starved_so : (b b' : Book) (number : ℕ) (call : Call) (answer : Answer) → answer ≡ answers.NoMemory → b' ≡ b → Starves b.world (FdCommit number call) → Answers b (FdCommit number call) answer b'
 starved_so b b' number call answer is e starves = subst (λ a. Answers b (FdCommit number call) a b') (sym is) (e, starves)
@@ -315,7 +315,7 @@ module _ (j k : Inside) (h : IsKept j) (number : ℕ) (call : Call) (place : ℕ
     on_its_bytes : FileStepped (book_of j) number call slot answer file' k
     on_its_bytes = record {
       kept = bytes_kept_so;
-      does = replied_so (book_of j) (book_of k) number call answer reply is (advances reply changed steps_so history (ap (walks_from 1) seats) still_seated still_table (ap length seats) same_next);
+      does = replied_so (book_of j) (book_of k) number call answer reply is room_left (advances reply changed steps_so history (ap (walks_from 1) seats) still_seated still_table (ap length seats) same_next);
       lent = lent_bytes;
       spares = spares_so reply changed steps_so history (ap (walks_from 1) seats) still_seated still_table (ap length seats) same_next (ap length same_inodes)
           (λ q away. ap (λ ns. inode_in (record (book_of k) { inodes = ns }) q) same_inodes) (bytes_other before d.inode bytes);
@@ -372,7 +372,7 @@ module _ (j k : Inside) (h : IsKept j) (number : ℕ) (call : Call) (place : ℕ
     closed_kept = kept_so reply left steps_closed history walks_stay seated_less table_less seats_many next_same
 
     closed_does : Answers (book_of j) (FdCommit number call) answer (book_of k)
-    closed_does = replied_so (book_of j) (book_of k) number call answer reply is (advances reply left steps_closed history walks_stay seated_less table_less seats_many next_same)
+    closed_does = replied_so (book_of j) (book_of k) number call answer reply is room_left (advances reply left steps_closed history walks_stay seated_less table_less seats_many next_same)
 
     closed_spares : length k.table.inodes ≡ length j.table.inodes → ((q : ℕ) → NotIn q (slot ∷ []) → inode_in (book_of k) q ≡ inode_in (book_of j) q) → Spares (book_of j) (book_of k) (slot ∷ [])
     closed_spares size stay = spares_so reply left steps_closed history walks_stay seated_less table_less seats_many next_same size stay (let_go_other without d.inode)

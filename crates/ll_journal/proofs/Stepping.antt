@@ -140,8 +140,8 @@ seated_put s seats place number old new at numbered seated q = by (insert_cases 
 same_spares : (b b' : Book) → b' ≡ b → Spares b b' []
 same_spares b b' e = subst (λ x. Spares b x []) (sym e) (record { limit = refl; size = refl; slots = λ j out. refl })
 
-replied_so : (b b' : Book) (number : ℕ) (call : Call) (answer : Answer) (reply : Reply) → answer ≡ answers.Replied → advance b.world (ClientStep number call) ≡ (Replied reply, b'.world) → Answers b (ClientStep number call) answer b'
-replied_so b b' number call answer reply is e = subst (λ a. Answers b (ClientStep number call) a b') (sym is) (reply, e)
+replied_so : (b b' : Book) (number : ℕ) (call : Call) (answer : Answer) (reply : Reply) → answer ≡ answers.Replied → is_full b.world ≡ false → advance b.world (ClientStep number call) ≡ (Replied reply, b'.world) → Answers b (ClientStep number call) answer b'
+replied_so b b' number call answer reply is room e = subst (λ a. Answers b (ClientStep number call) a b') (sym is) (room, reply, e)
 
 starved_so : (b b' : Book) (number : ℕ) (call : Call) (answer : Answer) → answer ≡ answers.NoMemory → b' ≡ b → Starves b.world (ClientStep number call) → Answers b (ClientStep number call) answer b'
 starved_so b b' number call answer is e starves = subst (λ a. Answers b (ClientStep number call) a b') (sym is) (e, starves)
@@ -250,7 +250,7 @@ module _ (j k : Inside) (h : IsKept j) (number : ℕ) (call : Call) (place : ℕ
       answered_so : Stepped (book_of j) number call answer k
       answered_so = record {
         kept = kept_so;
-        does = replied_so (book_of j) (book_of k) number call answer reply is advances;
+        does = replied_so (book_of j) (book_of k) number call answer reply is room_left advances;
         spares = spares_answered (book_of j) (book_of k) number call reply h.sound kept_so.sound world_so told_so (ap (λ (t : Table). t.inodes) table) (λ i. ap (λ s. content_of s i) after);
         calm = replied_calm answer call is;
         rest = inl slots_stay;
@@ -348,7 +348,7 @@ module _ (j k : Inside) (h : IsKept j) (number : ℕ) (call : Call) (place : ℕ
       one_more : Stepped (book_of j) number call answer k
       one_more = record {
         kept = kept_spawned;
-        does = replied_so (book_of j) (book_of k) number call answer reply is advances_so;
+        does = replied_so (book_of j) (book_of k) number call answer reply is room_left advances_so;
         spares = spares_answered (book_of j) (book_of k) number call reply h.sound kept_spawned.sound world_spawned told_is (ap (λ (t : Table). t.inodes) spawns.rest-is) (λ i. ap (λ s. content_of s i) after_spawn);
         calm = replied_calm answer call is;
         rest = inr (spawn, takes_spare j k h number call reply told_is rules room gate history seat refl spawns.seats-are spawns.free-is after_spawn (ap (λ (t : Table). t.inodes) spawns.rest-is));

@@ -53,6 +53,15 @@ IsAstrayAt b number slots =
     (walk : Walk) × (get b.world.walks number ≡ Some walk) × (walk.stale ≡ true)
     × ¬ ((inode : ℕ) → marks walk inode ≡ true → is_in (map (inode_in b) slots) inode ≡ true)
 
+-- the client's leg in turn stands in the slot's directory, and would go down from there to another
+pub record GoesDown (b : Book) (number from : ℕ) : Type 0 where
+  pub going : is_going b.world number ≡ true
+  pub leg : Leg
+  pub next : Leg
+  pub in_turn : leg_in_turn b.world number ≡ Some leg
+  pub further_is : further (shown b.world) (domain_of b.world number) leg ≡ Some next
+  pub from_here : inode_in b from ≡ leg.here
+
 -- the client's leg in turn stands in the one slot's directory, and would go to that of the other slot
 pub record IsNext (b : Book) (number from to : ℕ) : Type 0 where
   pub going : is_going b.world number ≡ true

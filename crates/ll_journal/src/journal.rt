@@ -99,7 +99,7 @@ fn may_fork(seat: &Seat) -> bool
 impl Journal {
     ghost use Rattle.ll_journal.specs.Book.{Spares, inode_in, new_book, slot_of};
     ghost use Rattle.ll_journal.specs.WalkPlaces.{place_in};
-    ghost use Rattle.ll_journal.specs.Steps.{Does, IsAstrayAt, IsAstrayAtTop, IsAstrayBelow, IsNext};
+    ghost use Rattle.ll_journal.specs.Steps.{Does, GoesDown, IsAstrayAt, IsAstrayAtTop, IsAstrayBelow, IsNext};
     ghost use Rattle.ll_walks.specs.World.{Begun, NotNow, advance};
     ghost use Rattle.ll_walks.specs.declared.step.Step.TheVariants.{Begin, Descend, Fork, Restart};
 
@@ -228,7 +228,7 @@ impl Journal {
         requires { here.now ≡ slot_of self.now slot }
         ensures some { IfSome result (λ next. IsNext self.now client slot next) }
         ensures within { IfSome result (λ next. next < length self.now.inodes) }
-        ensures none { IfNone result ((next : ℕ) → ¬ IsNext self.now client slot next) }
+        ensures none { IfNone result (¬ GoesDown self.now client slot) }
     {
         let Some(place) = place_of(&self.seats, client) else {
             return None;
