@@ -157,6 +157,7 @@ fn carry_out(rt: &HostRuntime, options: &Options) -> Result<Outcome, Failure>
             Ok(Outcome::Done)
         }
         Options::Run(_) => Err(Failure::CommandLine),
+        Options::Schedule(_) => Err(Failure::NoMemory), // STUB
         Options::Audit(file) => Ok(Outcome::Judged(audit_file(rt, file)?)),
     }
 }
