@@ -116,10 +116,7 @@ fn audit_command<'a>(alloc: Global) -> Result<Command<'a>, AllocError>
 {
     let audit = Command::new(alloc, "audit")
         .about("Judges a saved history: how many entries are legal, or the first that isn't")
-        .arg(file_argument(
-            alloc,
-            "The history's file, or `-` for standard input",
-        ))?;
+        .arg(file_argument(alloc, "The history's file, or `-` for standard input"))?;
     Ok(audit)
 }
 
@@ -129,10 +126,7 @@ fn schedule_command<'a>(alloc: Global) -> Result<Command<'a>, AllocError>
 {
     let of_file = Command::new(alloc, "schedule")
         .about("Makes steps of many clients' calls: a step a line in, what came of it a line out")
-        .arg(file_argument(
-            alloc,
-            "The schedule's file, or `-` for standard input",
-        ))?;
+        .arg(file_argument(alloc, "The schedule's file, or `-` for standard input"))?;
     let schedule = of_file
         .arg(nodes_option(alloc))?
         .arg(abi_option(alloc))?
