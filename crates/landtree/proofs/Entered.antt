@@ -1,4 +1,4 @@
--- A parse that finds no fault enters one of the two subcommands that aren't `help`, where a subcommand is required.
+-- A parse that finds no fault enters one of the three subcommands that aren't `help`, where a subcommand is required.
 use Rattle.std.proofs.Common.{◌≡◌, ◌∙◌, ap, ℕ, Bool, true, false, not, cond, codes, refl, sym, List, [], ◌∷◌, Option, Some, None, is_some, ◌&&◌, true≢false, ◌⊎◌, inl, inr}
 use Rattle.std.specs.Prelude.{option_map}
 use Rattle.std.specs.List.{find, fold}
@@ -104,15 +104,15 @@ entered_where_required s rows false wants e = go _ s.subcommand_required _ wants
 abbrev pub named : Text → List Shape → Option Shape
 named name = find (λ s. answers_to name (label_of s))
 
--- the first of three that answers
-abbrev first : Shape → Shape → Shape → Bool → Bool → Bool → Option Shape
-first one two other a b c = cond a (Some one) (cond b (Some two) (cond c (Some other) None))
+-- the first of four that answers
+abbrev first : Shape → Shape → Shape → Shape → Bool → Bool → Bool → Bool → Option Shape
+first one two three other a b c d = cond a (Some one) (cond b (Some two) (cond c (Some three) (cond d (Some other) None)))
 
--- of two and `help`, only those two answer to a name that isn't `help`
-not_help : (one two other : Shape) (name : Text) → bytes_eq name help ≡ false → other.name ≡ help → other.aliases ≡ []
-    → is_some (named name (one ∷ two ∷ other ∷ [])) ≡ true
-    → (named name (one ∷ two ∷ other ∷ []) ≡ Some one) ⊎ (named name (one ∷ two ∷ other ∷ []) ≡ Some two)
-not_help one two other name differs is none has = go (answers_to name (label_of one)) (answers_to name (label_of two)) (answers_to name (label_of other)) unnamed has
+-- of three and `help`, only those three answer to a name that isn't `help`
+not_help : (one two three other : Shape) (name : Text) → bytes_eq name help ≡ false → other.name ≡ help → other.aliases ≡ []
+    → is_some (named name (one ∷ two ∷ three ∷ other ∷ [])) ≡ true
+    → (named name (one ∷ two ∷ three ∷ other ∷ []) ≡ Some one) ⊎ (named name (one ∷ two ∷ three ∷ other ∷ []) ≡ Some two) ⊎ (named name (one ∷ two ∷ three ∷ other ∷ []) ≡ Some three)
+not_help one two three other name differs is none has = go (answers_to name (label_of one)) (answers_to name (label_of two)) (answers_to name (label_of three)) (answers_to name (label_of other)) unnamed has
   where
     turned : (b : Bool) → bytes_eq help name ≡ b → b ≡ false
     turned false e = refl
@@ -121,26 +121,28 @@ not_help one two other name differs is none has = go (answers_to name (label_of 
     unnamed : answers_to name (label_of other) ≡ false
     unnamed = rw (is, none, turned (bytes_eq help name) refl) refl
 
-    go : (a b c : Bool) → c ≡ false → is_some (first one two other a b c) ≡ true
-        → (first one two other a b c ≡ Some one) ⊎ (first one two other a b c ≡ Some two)
-    go true b c f e = inl refl
-    go false true c f e = inr refl
-    go false false true f e = absurd (true≢false f)
-    go false false false f e = absurd (true≢false (sym e))
+    go : (a b c d : Bool) → d ≡ false → is_some (first one two three other a b c d) ≡ true
+        → (first one two three other a b c d ≡ Some one) ⊎ (first one two three other a b c d ≡ Some two) ⊎ (first one two three other a b c d ≡ Some three)
+    go true b c d f e = inl refl
+    go false true c d f e = inr (inl refl)
+    go false false true d f e = inr (inr refl)
+    go false false false true f e = absurd (true≢false f)
+    go false false false false f e = absurd (true≢false (sym e))
 
 -- the subcommand's words, where its level finds no fault
 abbrev pub Enters : App → Shape → Option (Text × List Text) → Type 0
 Enters a sub stop = (rest : List Text) × (entered a stop ≡ Some (rows_at sub rest)) × (level_fault sub [] nothing_held rest false [] ≡ [])
 
-module _ (a : App) (one two other : Shape) (subs : a.subs ≡ one ∷ two ∷ other ∷ []) (is : other.name ≡ help) (none : other.aliases ≡ []) where
+module _ (a : App) (one two three other : Shape) (subs : a.subs ≡ one ∷ two ∷ three ∷ other ∷ []) (is : other.name ≡ help) (none : other.aliases ≡ []) where
   enters_by : (sub : Shape) (q : Text × List Text) → named q.0 a.subs ≡ Some sub → entered_fault a (Some q) ≡ [] → Enters a sub (Some q)
   enters_by sub q first e = (q.1, ap (option_map (λ s. rows_at s q.1)) first, sym (ap (λ o. option_map_or (λ s. level_fault s [] nothing_held q.1 false []) o []) first) ∙ e)
 
-  enters : (stop : Option (Text × List Text)) → Passed stop → is_some (entered a stop) ≡ true → entered_fault a stop ≡ [] → Enters a one stop ⊎ Enters a two stop
+  enters : (stop : Option (Text × List Text)) → Passed stop → is_some (entered a stop) ≡ true → entered_fault a stop ≡ [] → Enters a one stop ⊎ Enters a two stop ⊎ Enters a three stop
   enters None p has e = absurd (true≢false (sym has))
-  enters (Some q) p has e = elim (not_help one two other q.0 p is none (ap (λ l. is_some (named q.0 l)) (sym subs) ∙ there (named q.0 a.subs) has)) [
+  enters (Some q) p has e = elim (not_help one two three other q.0 p is none (ap (λ l. is_some (named q.0 l)) (sym subs) ∙ there (named q.0 a.subs) has)) [
     | inl first ↦ inl (enters_by one q (ap (named q.0) subs ∙ first) e)
-    | inr second ↦ inr (enters_by two q (ap (named q.0) subs ∙ second) e)
+    | inr (inl second) ↦ inr (inl (enters_by two q (ap (named q.0) subs ∙ second) e))
+    | inr (inr third) ↦ inr (inr (enters_by three q (ap (named q.0) subs ∙ third) e))
   ]
     where
       there : (o : Option Shape) → is_some (option_map (λ s. rows_at s q.1) o) ≡ true → is_some o ≡ true
@@ -148,7 +150,7 @@ module _ (a : App) (one two other : Shape) (subs : a.subs ≡ one ∷ two ∷ ot
       there (Some s) h = refl
 
   pub built_enters : (words : List Text) → a.top.disable_help_subcommand ≡ false → a.top.subcommand_required ≡ true → built_fault a nothing_held words ≡ []
-      → let stop = (walk a.top.rules (names_of a) nothing_held words).stopped in Enters a one stop ⊎ Enters a two stop
+      → let stop = (walk a.top.rules (names_of a) nothing_held words).stopped in Enters a one stop ⊎ Enters a two stop ⊎ Enters a three stop
   built_enters words helps wants e =
       let walks = no_faults _ _ e in
       let below = no_faults _ _ walks.1 in

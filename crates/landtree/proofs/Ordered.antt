@@ -1,4 +1,4 @@
--- Words in which clap finds no fault want a run, with a script and its numbers, or an audit of a file.
+-- Words in which clap finds no fault want a run, with a script and its numbers, an audit of a file, or a schedule.
 use Rattle.std.proofs.Common.{◌≡◌, ◌≢◌, ◌∙◌, ap, ap₂, subst, ℕ, Bool, true, false, cond, codes, refl, sym, List, [], ◌∷◌, ◌++◌, length, not, Option, Some, None, is_some, ◌||◌, true≢false, inl, inr}
 use Rattle.std.specs.Prelude.{option_and_then, option_map, slice_get}
 use Rattle.std.specs.List.{AllByRecursion, find, fold, list_any}
@@ -21,10 +21,10 @@ use Rattle.clap.specs.declared.parser.matches.ValueSource.{ValueSource}
 use Rattle.clap.specs.declared.parser.matches.ValueSource.TheVariants.{CommandLine, DefaultValue}
 use Rattle.clap.specs.declared.builder.value_parser.Reading.{Reading}
 use Rattle.clap.specs.declared.builder.value_parser.Reading.TheVariants.{AsWritten}
-use Rattle.landtree.specs.Options.{abi, audit, file, history, history_numbers, landtree, node_numbers, nodes, number_in, ordered, ordered_by, run, run_order, script, to_audit, to_run, valued}
+use Rattle.landtree.specs.Options.{abi, audit, file, history, history_numbers, landtree, node_numbers, nodes, number_in, ordered, ordered_by, run, run_order, schedule, schedule_order, script, to_audit, to_run, to_schedule, valued}
 use Rattle.landtree.proofs.ArgumentsUsed.{Keeps, by_words, no_faults, settles}
 use Rattle.landtree.proofs.Entered.{built_enters}
-use Rattle.landtree.proofs.Numbers.{whole}
+use Rattle.landtree.proofs.Numbers.{whole, whole_schedule}
 
 -- ---- what the rows of a subcommand hold
 
@@ -103,6 +103,13 @@ run_built = record run.top {
 abbrev audit_built : Shape
 audit_built = record audit.top { rules = file_built ∷ help_built ∷ []; disable_help_subcommand = true; is_built = true }
 
+abbrev schedule_built : Shape
+schedule_built = record schedule.top {
+  rules = file_built ∷ nodes_built ∷ abi_built ∷ history_built ∷ help_built ∷ [];
+  disable_help_subcommand = true;
+  is_built = true;
+}
+
 no_option : (e : false ≡ true) → {A : Type 0} → A
 no_option e = absurd (true≢false (sym e))
 
@@ -172,6 +179,9 @@ run_keeps p a e = found_there (Keeps Good) p run_built.rules a
 
 audit_keeps : (p : Rule → Bool) (a : Rule) → find p audit_built.rules ≡ Some a → Keeps Good a
 audit_keeps p a e = found_there (Keeps Good) p audit_built.rules a (file_keeps, (help_keeps, tt)) e
+
+schedule_keeps : (p : Rule → Bool) (a : Rule) → find p schedule_built.rules ≡ Some a → Keeps Good a
+schedule_keeps p a e = found_there (Keeps Good) p schedule_built.rules a (file_keeps, (nodes_keep, (abi_keeps, (history_keeps, (help_keeps, tt))))) e
 
 -- ---- the defaults
 
@@ -249,6 +259,15 @@ audit_finished : (rows : List Row) → Good rows → Good (fold with_default row
 audit_finished rows g =
     let filed = with_default rows file_built in unchanged Good filed (has_row help_built.id filed) (unchanged Good rows (has_row (codes "FILE") rows) g)
 
+schedule_finished : (rows : List Row) → Good rows → WithBoth (fold with_default rows schedule_built.rules)
+schedule_finished rows g =
+    let numbered = with_default (with_default rows file_built) nodes_built in
+    let levelled = with_default numbered abi_built in
+    let limited = with_default levelled history_built in
+    unchanged WithBoth limited (has_row help_built.id limited)
+    (history_given levelled
+    (unchanged WithNodes numbered (has_row abi_built.id numbered) (nodes_given _ (unchanged Good rows (has_row (codes "FILE") rows) g))))
+
 -- ---- what is read of the rows
 
 found_good : (p : Row → Bool) (rows : List Row) (r : Row) → find p rows ≡ Some r → Good rows → GoodRow r × (p r ≡ true)
@@ -314,15 +333,34 @@ audit_wanted rest e =
     let path = text_read (find (λ r. bytes_eq r.id (codes "FILE")) rows) (given (is_given (codes "FILE") rows) defaults.1) (λ r is. (found_good _ rows r is good).0) in
     ap is_some path.1
 
+schedule_wanted : (rest : List Text) → level_fault schedule_built [] nothing_held rest false [] ≡ [] → is_some (schedule_order (rows_after schedule_built.rules [] rest)) ≡ true
+schedule_wanted rest e =
+    let walks = no_faults _ _ e in
+    let ends = no_faults _ _ walks.1 in
+    let defaults = no_faults _ _ ends.1 in
+    let h = (walk schedule_built.rules [] nothing_held rest).held in
+    let walked_good : Good h.rows = by_words Good schedule_built [] schedule_keeps rest (walk_from nothing_held) walks.0 tt in
+    let all = schedule_finished _ (settles Good schedule_built.rules schedule_built.args_override_self schedule_keeps h ends.0 walked_good) in
+    let good = all.0.0 in
+    let rows = finished schedule_built.rules h in
+    let path = text_read (find (λ r. bytes_eq r.id (codes "FILE")) rows) (given (is_given (codes "FILE") rows) defaults.1) (λ r is. (found_good _ rows r is good).0) in
+    let nodes_row = number_read node_numbers (find (λ r. bytes_eq r.id (codes "nodes")) rows) (found_any _ rows all.0.1)
+    (λ r is. let f = found_good _ rows r is good in let fits = f.0.3.0 f.1 in (f.0.0, f.0.1, f.0.2, fits.0, fits.1)) in
+    let history_row = number_read history_numbers (find (λ r. bytes_eq r.id (codes "history")) rows) (found_any _ rows all.1)
+    (λ r is. let f = found_good _ rows r is good in let fits = f.0.3.1 f.1 in (f.0.0, f.0.1, f.0.2, fits.0, fits.1)) in
+    whole_schedule _ _ _ _ path.0 nodes_row.0 history_row.0 path.1 nodes_row.1 history_row.1
+
 is_some-map : {A B : Type 0} (f : A → B) (o : Option A) → is_some o ≡ true → is_some (option_map f o) ≡ true
 is_some-map f None e = e
 is_some-map f (Some x) e = refl
 
 pub never_none : (words : List Text) → fault_of landtree words ≡ [] → ordered_by words ≢ None
 never_none words e none =
-    elim (built_enters (built landtree) run_built audit_built _ refl refl refl (argument_words landtree words) refl refl e) [
+    elim (built_enters (built landtree) run_built audit_built schedule_built _ refl refl refl (argument_words landtree words) refl refl e) [
       | inl runs ↦ (let order = run_wanted runs.0 runs.2 in
           true≢false (sym (is_some-map to_run _ order) ∙ ap is_some (sym (ap (option_and_then (λ named. ordered named.0 named.1)) runs.1) ∙ none)))
-      | inr audits ↦ (let order = audit_wanted audits.0 audits.2 in
+      | inr (inl audits) ↦ (let order = audit_wanted audits.0 audits.2 in
           true≢false (sym (is_some-map to_audit _ order) ∙ ap is_some (sym (ap (option_and_then (λ named. ordered named.0 named.1)) audits.1) ∙ none)))
+      | inr (inr schedules) ↦ (let order = schedule_wanted schedules.0 schedules.2 in
+          true≢false (sym (is_some-map to_schedule _ order) ∙ ap is_some (sym (ap (option_and_then (λ named. ordered named.0 named.1)) schedules.1) ∙ none)))
     ]

@@ -7,6 +7,7 @@ use Rattle.ll_policy.specs.declared.fault.PolicyFault.{PolicyFault}
 use Rattle.ll_policy.specs.declared.fault.PolicyFault.TheVariants as wrong
 use Rattle.ll_session.specs.declared.fault.RunFault.{RunFault}
 use Rattle.ll_session.specs.declared.fault.RunFault.TheVariants as run
+use Rattle.ll_session.specs.declared.fault.SessionFault.{SessionFault}
 use Rattle.ll_session.specs.declared.fault.SessionFault.TheVariants as session
 use Rattle.ll_saved.specs.declared.auditing.AuditFailure.{AuditFailure}
 use Rattle.ll_saved.specs.declared.auditing.AuditFailure.TheVariants as audit
@@ -18,12 +19,15 @@ use Rattle.landtree.specs.declared.failure.Failure.TheVariants.{CommandLine, Pol
 use Rattle.landtree.specs.declared.outcome.Outcome.{Outcome}
 use Rattle.landtree.specs.declared.outcome.Outcome.TheVariants.{Done, Judged}
 
+abbrev pub failure_in_session : SessionFault → Failure
+failure_in_session session.Read = File
+failure_in_session session.Write = Output
+failure_in_session session.NoMemory = NoMemory
+failure_in_session session.TooLong = File
+
 abbrev pub failure_of : RunFault → Failure
 failure_of run.Opening = Opening
-failure_of (run.Session session.Read) = File
-failure_of (run.Session session.Write) = Output
-failure_of (run.Session session.NoMemory) = NoMemory
-failure_of (run.Session session.TooLong) = File
+failure_of (run.Session fault) = failure_in_session fault
 
 -- the same of what is wrong with a policy
 abbrev pub failure_in : PolicyFault → Failure
@@ -90,15 +94,21 @@ IsOfSaving File = ⊤
 IsOfSaving NoMemory = ⊤
 IsOfSaving failure = ⊥
 
--- what an audit may fail for: its file, its output or memory
-abbrev pub IsOfAudit : Failure → Type 0
-IsOfAudit File = ⊤
-IsOfAudit Output = ⊤
-IsOfAudit NoMemory = ⊤
-IsOfAudit failure = ⊥
+-- what an audit or a schedule may fail for: its file, its output or memory
+abbrev pub IsOfDevices : Failure → Type 0
+IsOfDevices File = ⊤
+IsOfDevices Output = ⊤
+IsOfDevices NoMemory = ⊤
+IsOfDevices failure = ⊥
 
 -- an audit may end so: with an answer, or failing
 abbrev pub EndsAudit : Result Outcome Failure → Type 0
 EndsAudit (Ok Done) = ⊥
 EndsAudit (Ok (Judged verdict)) = ⊤
-EndsAudit (Err failure) = IsOfAudit failure
+EndsAudit (Err failure) = IsOfDevices failure
+
+-- a schedule may end so: done, or failing
+abbrev pub EndsSchedule : Result Outcome Failure → Type 0
+EndsSchedule (Ok Done) = ⊤
+EndsSchedule (Ok (Judged verdict)) = ⊥
+EndsSchedule (Err failure) = IsOfDevices failure

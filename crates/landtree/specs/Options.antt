@@ -9,8 +9,9 @@ use Rattle.clap.specs.ValueTests.{accepts}
 use Rattle.clap.specs.declared.builder.value_parser.ValueParser.{ValueParser}
 use Rattle.clap.specs.declared.builder.value_parser.ValueParser.TheVariants.{Unsigned}
 use Rattle.landtree.specs.declared.options.RunOptions.{RunOptions}
+use Rattle.landtree.specs.declared.options.ScheduleOptions.{ScheduleOptions}
 use Rattle.landtree.specs.declared.options.Options.{Options}
-use Rattle.landtree.specs.declared.options.Options.TheVariants.{Run, Audit}
+use Rattle.landtree.specs.declared.options.Options.TheVariants.{Run, Schedule, Audit}
 
 abbrev pub script : Rule
 script = record (new_rule (codes "SCRIPT")) { required = true }
@@ -53,10 +54,13 @@ file = record (new_rule (codes "FILE")) { required = true }
 abbrev pub audit : App
 audit = with_rule (new_app (codes "audit")) file
 
+abbrev pub schedule : App
+schedule = fold with_rule (new_app (codes "schedule")) (file ∷ nodes ∷ abi ∷ history ∷ [])
+
 abbrev pub landtree : App
 landtree =
     let top = on_top (λ s. record s { has_version = true; subcommand_required = true }) (new_app (codes "landtree")) in
-    with_subcommand (with_subcommand top run.top) audit.top
+    with_subcommand (with_subcommand (with_subcommand top run.top) audit.top) schedule.top
 
 -- the run that is wanted
 pub record RunOrder : Type 0 where
@@ -68,10 +72,18 @@ pub record RunOrder : Type 0 where
   pub profile : Option Text
   pub save : Option Text
 
--- What the words want: a run, or an audit of a file
+-- the schedule that is wanted
+pub record ScheduleOrder : Type 0 where
+  pub file : Text
+  pub nodes : ℕ
+  pub level : Option ℕ
+  pub history : ℕ
+
+-- What the words want: a run, an audit of a file, or a schedule
 pub data Order : Type 0 where
   to_run : RunOrder → Order
   to_audit : Text → Order
+  to_schedule : ScheduleOrder → Order
 
 abbrev pub order_in : RunOptions → RunOrder
 order_in o =
@@ -86,8 +98,12 @@ order_in o =
       save = text o.save;
     }
 
+abbrev pub scheduled_in : ScheduleOptions → ScheduleOrder
+scheduled_in o = record { file = o.file.now; nodes = o.nodes; level = o.level; history = o.history }
+
 abbrev pub ordered_in : Options → Order
 ordered_in (Run o) = to_run (order_in o)
+ordered_in (Schedule o) = to_schedule (scheduled_in o)
 ordered_in (Audit file) = to_audit file.now
 
 -- the number that the text writes, if the parser accepts it
@@ -114,10 +130,24 @@ run_order rows =
     (number_of (codes "nodes") node_numbers rows))
     (first_of (codes "SCRIPT") rows)
 
+-- the same of `schedule`
+abbrev pub schedule_order : List Row → Option ScheduleOrder
+schedule_order rows =
+    option_and_then (λ path. option_and_then (λ n. option_map (λ most. record {
+      file = path;
+      nodes = n;
+      level = number_of (codes "abi") levels rows;
+      history = most;
+    })
+    (number_of (codes "history") history_numbers rows))
+    (number_of (codes "nodes") node_numbers rows))
+    (first_of (codes "FILE") rows)
+
 -- what the matches of the subcommand with this name want
 abbrev pub ordered : Text → List Row → Option Order
 ordered name rows =
     if bytes_eq name (codes "run") then option_map to_run (run_order rows)
+    else if bytes_eq name (codes "schedule") then option_map to_schedule (schedule_order rows)
     else option_map to_audit (first_of (codes "FILE") rows)
 
 -- the same of the subcommand that the words name

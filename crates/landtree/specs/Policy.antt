@@ -10,12 +10,13 @@ use Rattle.ll_policy.specs.Plan.{Plan, IsPlanOf}
 use Rattle.landtree.specs.declared.failure.Failure.{Failure}
 use Rattle.landtree.specs.declared.failure.Failure.TheVariants.{CommandLine, Policy, Opening, File, Output, NoMemory}
 use Rattle.ll_session.specs.declared.fault.RunFault.{RunFault}
+use Rattle.ll_schedule.specs.declared.setup.WorldSetup.{WorldSetup}
 use Rattle.ll_session.specs.declared.setup.Setup.{Setup}
 use Rattle.landtree.specs.Failure.{failure_of, IsOfSaving}
 use Rattle.ll_wire.specs.declared.header.Header.{Header}
 use Rattle.ll_wire.specs.declared.header.Version.TheVariants.{Three}
 use Rattle.ll_session.specs.Run.{MayEnd}
-use Rattle.landtree.specs.Options.{RunOrder}
+use Rattle.landtree.specs.Options.{RunOrder, ScheduleOrder}
 
 -- the calls of the profile that is wanted, none where none is. There is no answer where the plan hasn't that profile
 abbrev pub profile_of : Option (List ℕ) → Plan → Option (List Call)
@@ -44,7 +45,13 @@ abbrev pub IsSetup : RunOrder → List ℕ → Setup → Type 0
 IsSetup order text setup =
     (setup.nodes ≡ order.nodes) × (setup.history ≡ order.history) × IsSetBy order.policy order text setup
 
--- Why there is none: the first of what is wrong with the policy's text, a profile that a right policy hasn't, a file
+-- The same of a schedule
+pub record IsWorldSetup (order : ScheduleOrder) (setup : WorldSetup) : Type 0 where
+  pub rules : setup.rules ≡ record { abi = unwrap_or order.level 3; copies = true }
+  pub nodes : setup.nodes ≡ order.nodes
+  pub history : setup.history ≡ order.history
+
+-- Why there is no setup of a run: the first of what is wrong with the policy's text, a profile that a right policy hasn't, a file
 -- that can't be read, want of memory
 abbrev pub Lacks : RunOrder → List ℕ → Failure → Type 0
 Lacks order text (Policy fault) =

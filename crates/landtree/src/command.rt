@@ -3,7 +3,7 @@
 ghost use Rattle.std.specs.Prelude.{◌≡◌, codes, IfOk, false};
 ghost use Rattle.clap.specs.Words.{app_of, rule_of};
 ghost use Rattle.clap.specs.declared.builder.command.Command.TheViews.{out-Command as fields_of};
-ghost use Rattle.landtree.specs.Options.{abi, audit, file, history, landtree, nodes, run, script, valued};
+ghost use Rattle.landtree.specs.Options.{abi, audit, file, history, landtree, nodes, run, schedule, script, valued};
 
 use clap::{Arg, Command, value_parser};
 use ll_rights::limits::{HISTORY_ENTRIES, TREE_NODES};
@@ -103,13 +103,11 @@ fn run_command<'a>(alloc: Global) -> Result<Command<'a>, AllocError>
     Ok(run)
 }
 
-fn file_argument<'a>(alloc: Global) -> Arg<'a>
+fn file_argument<'a>(alloc: Global, help: &'a str) -> Arg<'a>
     ensures rule { rule_of result ≡ file }
     ensures local { result.global ≡ false }
 {
-    Arg::new(alloc, "FILE")
-        .required(true)
-        .help("The history's file, or `-` for standard input")
+    Arg::new(alloc, "FILE").required(true).help(help)
 }
 
 fn audit_command<'a>(alloc: Global) -> Result<Command<'a>, AllocError>
@@ -118,8 +116,22 @@ fn audit_command<'a>(alloc: Global) -> Result<Command<'a>, AllocError>
 {
     let audit = Command::new(alloc, "audit")
         .about("Judges a saved history: how many entries are legal, or the first that isn't")
-        .arg(file_argument(alloc))?;
+        .arg(file_argument(alloc, "The history's file, or `-` for standard input"))?;
     Ok(audit)
+}
+
+fn schedule_command<'a>(alloc: Global) -> Result<Command<'a>, AllocError>
+    ensures app { IfOk result (λ command. app_of command ≡ schedule) }
+    ensures local { IfOk result (λ command. (fields_of command).has_globals ≡ false) }
+{
+    let of_file = Command::new(alloc, "schedule")
+        .about("Makes steps of many clients' calls: a step a line in, what came of it a line out")
+        .arg(file_argument(alloc, "The schedule's file, or `-` for standard input"))?;
+    let schedule = of_file
+        .arg(nodes_option(alloc))?
+        .arg(abi_option(alloc))?
+        .arg(history_option(alloc))?;
+    Ok(schedule)
 }
 
 /// The program's words.
@@ -128,10 +140,12 @@ pub fn landtree_command<'a>(alloc: Global) -> Result<Command<'a>, AllocError>
 {
     let run = run_command(alloc)?;
     let audit = audit_command(alloc)?;
+    let schedule = schedule_command(alloc)?;
     let with_run = Command::new(alloc, "landtree")
         .about("A file tree in memory whose clients confine themselves with Landlock rulesets")
         .version("0.1.0")
         .subcommand_required(true)
         .subcommand(run)?;
-    with_run.subcommand(audit)
+    let with_audit = with_run.subcommand(audit)?;
+    with_audit.subcommand(schedule)
 }

@@ -2,7 +2,7 @@
 
 ghost use Rattle.std.specs.Prelude.{◌≡◌};
 ghost use Rattle.clap.specs.Words.{kind_of};
-ghost use Rattle.landtree.specs.Failure.{failure_at, failure_by, failure_by_saving, failure_in, failure_of, line_of, status_of};
+ghost use Rattle.landtree.specs.Failure.{failure_at, failure_by, failure_by_saving, failure_in, failure_in_session, failure_of, line_of, status_of};
 
 use clap::error::ErrorKind;
 use ll_policy::PolicyFault;
@@ -45,10 +45,19 @@ impl Failure {
     {
         match fault {
             RunFault::Opening => Failure::Opening,
-            RunFault::Session(SessionFault::Read) => Failure::File,
-            RunFault::Session(SessionFault::Write) => Failure::Output,
-            RunFault::Session(SessionFault::NoMemory) => Failure::NoMemory,
-            RunFault::Session(SessionFault::TooLong) => Failure::File,
+            RunFault::Session(fault) => Failure::of_session(fault),
+        }
+    }
+
+    /// What a session's fault is for the program, or a schedule's: its input is a file.
+    pub fn of_session(fault: SessionFault) -> Failure
+        ensures { result ≡ failure_in_session fault }
+    {
+        match fault {
+            SessionFault::Read => Failure::File,
+            SessionFault::Write => Failure::Output,
+            SessionFault::NoMemory => Failure::NoMemory,
+            SessionFault::TooLong => Failure::File,
         }
     }
 

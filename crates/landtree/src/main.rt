@@ -1,4 +1,4 @@
-//! Landtree, the program: runs scripts of command lines over a tree in memory.
+//! Landtree, the program: runs scripts of command lines over a tree in memory, audits histories, and makes schedules.
 #![tactic(auto)]
 
 mod command;
@@ -19,8 +19,8 @@ ghost use Rattle.ll_session.specs.declared.fault.RunFault.{RunFault};
 ghost use Rattle.landtree.specs.declared.failure.Failure.{Failure};
 ghost use Rattle.ll_rights.specs.declared.limits.TheConstants.{TREE_NODES};
 ghost use Rattle.ll_wire.specs.Entries.{IsEntry};
-ghost use Rattle.landtree.specs.Failure.{failure_by, failure_of, status_at, EndsAudit, EndsRun, IsOfAudit, IsOfSaving};
-ghost use Rattle.landtree.specs.Options.{RunOrder, fits, landtree, order_in, ordered_by, ordered_in, to_audit, to_run};
+ghost use Rattle.landtree.specs.Failure.{failure_by, failure_of, status_at, EndsAudit, EndsRun, EndsSchedule, IsOfDevices, IsOfSaving};
+ghost use Rattle.landtree.specs.Options.{RunOrder, ScheduleOrder, fits, landtree, order_in, ordered_by, ordered_in, to_audit, to_run, to_schedule};
 ghost use Rattle.landtree.specs.Options.{EndsWell};
 ghost use Rattle.landtree.specs.Policy.{MayFail};
 ghost use Rattle.ll_session.specs.Run.{MayEnd};
@@ -31,10 +31,10 @@ use ll_saved::Verdict;
 use ll_seq::History;
 use ll_session::Setup;
 use ll_wire::Header;
-use options::{Options, RunOptions};
+use options::{Options, RunOptions, ScheduleOptions};
 use outcome::Outcome;
-use policy::setup_of;
-use program::{audit, header_of, perform, save_history};
+use policy::{setup_by, setup_of};
+use program::{audit, header_of, perform, perform_schedule, save_history};
 use shown::Shown;
 use std::fs::File;
 use std::io::IsTerminal;
@@ -127,7 +127,7 @@ fn run_options(rt: &HostRuntime, options: &RunOptions) -> Result<(), Failure>
 
 // Judges the history in the file of this name.
 fn audit_file(rt: &HostRuntime, file: &str) -> Result<Verdict, Failure>
-    ensures { IfErr result IsOfAudit }
+    ensures { IfErr result IsOfDevices }
 {
     let mut out = rt.stdout();
     let mut shown = Shown::new(rt.stderr(), rt.stderr().is_terminal());
@@ -143,6 +143,24 @@ fn audit_file(rt: &HostRuntime, file: &str) -> Result<Verdict, Failure>
     }
 }
 
+// Does what the schedule in this file asks for.
+fn schedule_file(rt: &HostRuntime, options: &ScheduleOptions) -> Result<(), Failure>
+    ensures { IfErr result IsOfDevices }
+{
+    let setup = setup_by(options);
+    let mut out = rt.stdout();
+    if options.file == "-" {
+        perform_schedule(rt.alloc(), setup, &mut rt.stdin(), &mut out)
+    } else {
+        perform_schedule(
+            rt.alloc(),
+            setup,
+            &mut InputFile::new(rt, options.file),
+            &mut out,
+        )
+    }
+}
+
 // Does what is wanted.
 fn carry_out(rt: &HostRuntime, options: &Options) -> Result<Outcome, Failure>
     ensures unfit { (order : RunOrder) → ordered_in options.now ≡ to_run order → fits order ≡ false
@@ -150,6 +168,7 @@ fn carry_out(rt: &HostRuntime, options: &Options) -> Result<Outcome, Failure>
     ensures run { (order : RunOrder) → ordered_in options.now ≡ to_run order → fits order ≡ true
         → order.profile ≡ None → EndsRun result }
     ensures audit { (file : Text) → ordered_in options.now ≡ to_audit file → EndsAudit result }
+    ensures schedule { (order : ScheduleOrder) → ordered_in options.now ≡ to_schedule order → EndsSchedule result }
 {
     match options {
         Options::Run(run) if run.fit() => {
@@ -157,6 +176,10 @@ fn carry_out(rt: &HostRuntime, options: &Options) -> Result<Outcome, Failure>
             Ok(Outcome::Done)
         }
         Options::Run(_) => Err(Failure::CommandLine),
+        Options::Schedule(schedule) => {
+            schedule_file(rt, schedule)?;
+            Ok(Outcome::Done)
+        }
         Options::Audit(file) => Ok(Outcome::Judged(audit_file(rt, file)?)),
     }
 }
@@ -174,6 +197,8 @@ fn run_words(rt: &HostRuntime, words: &[&str]) -> Result<Outcome, Failure>
         → order.profile ≡ None → EndsRun result }
     ensures audit { (file : Text) → fault_of landtree (map (λ w. w.now) words.now) ≡ []
         → ordered_by (map (λ w. w.now) words.now) ≡ Some (to_audit file) → EndsAudit result }
+    ensures schedule { (order : ScheduleOrder) → fault_of landtree (map (λ w. w.now) words.now) ≡ []
+        → ordered_by (map (λ w. w.now) words.now) ≡ Some (to_schedule order) → EndsSchedule result }
 {
     match Options::read(rt.alloc(), words) {
         Ok(options) => carry_out(rt, &options),

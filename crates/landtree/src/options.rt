@@ -80,10 +80,52 @@ impl<'a> RunOptions<'a> {
     }
 }
 
+/// The schedule that is wanted: in this file, or in standard input where it is `-`, over a tree in which so many nodes
+/// may live, at this level. Its history has at most so many entries.
+#[derive(Drop)]
+pub struct ScheduleOptions<'a> {
+    pub file: &'a str,
+    pub nodes: usize,
+    pub level: Option<Abi>,
+    pub history: usize,
+    ghost some: { 1 ≤ nodes },
+    ghost most: { nodes ≤ TREE_NODES },
+    ghost some_entries: { 1 ≤ history },
+    ghost most_entries: { history ≤ HISTORY_ENTRIES },
+}
+
+impl<'a> ScheduleOptions<'a> {
+    ghost use Rattle.clap.specs.Words.{found_of, rows_of};
+    ghost use Rattle.landtree.specs.Options.{schedule_order, scheduled_in};
+
+    // What the matches of `schedule` ask for.
+    fn of_matches(schedule: &ArgMatches<'a>) -> Option<ScheduleOptions<'a>>
+        ensures { option_map scheduled_in result ≡ schedule_order (rows_of (found_of schedule.now)) }
+    {
+        let file = schedule.get_str("FILE")?;
+        let nodes = schedule.get_one::<usize>("nodes")?;
+        if nodes < 1 || TREE_NODES < nodes {
+            return None;
+        }
+        let history = schedule.get_one::<usize>("history")?;
+        if history < 1 || HISTORY_ENTRIES < history {
+            return None;
+        }
+        let level = RunOptions::level_of(schedule);
+        Some(ScheduleOptions {
+            file,
+            nodes,
+            level,
+            history,
+        })
+    }
+}
+
 /// What the program is asked to do.
 #[derive(Drop)]
 pub enum Options<'a> {
     Run(RunOptions<'a>),
+    Schedule(ScheduleOptions<'a>),
     /// To judge the history in this file, or in standard input where it is `-`.
     Audit(&'a str),
 }
@@ -99,6 +141,12 @@ impl<'a> Options<'a> {
         if name == "run" {
             return match RunOptions::of_matches(matches) {
                 Some(run) => Some(Options::Run(run)),
+                None => None,
+            };
+        }
+        if name == "schedule" {
+            return match ScheduleOptions::of_matches(matches) {
+                Some(schedule) => Some(Options::Schedule(schedule)),
                 None => None,
             };
         }

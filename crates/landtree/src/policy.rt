@@ -3,14 +3,15 @@
 ghost use Rattle.std.specs.Prelude.{◌≡◌, ◌⊎◌, ℕ, List, Some, None, IfOk, IfErr, IfSome, IsOk};
 ghost use Rattle.toml.specs.Parse.{parse_document};
 ghost use Rattle.ll_policy.specs.Plan.{IsPlanOf};
-ghost use Rattle.landtree.specs.Options.{RunOrder, order_in};
+ghost use Rattle.landtree.specs.Options.{RunOrder, order_in, scheduled_in};
 ghost use Rattle.ll_session.specs.Transcript.{AreOthers};
-ghost use Rattle.landtree.specs.Policy.{ByLevel, ByPlan, IsSetup, Lacks, profile_of};
+ghost use Rattle.landtree.specs.Policy.{ByLevel, ByPlan, IsSetup, IsWorldSetup, Lacks, profile_of};
 
 use crate::failure::Failure;
-use crate::options::RunOptions;
+use crate::options::{RunOptions, ScheduleOptions};
 use ll_policy::{Policy, PolicyFault};
 use ll_rights::Abi;
+use ll_schedule::WorldSetup;
 use ll_seq::{Call, Rules};
 use ll_session::Setup;
 use std::alloc::Global;
@@ -99,6 +100,20 @@ fn by_level(alloc: Global, options: &RunOptions) -> Setup
         history: options.history,
         loader: None,
         profile: Vec::new(alloc),
+    }
+}
+
+/// What the options of a schedule ask for.
+pub fn setup_by(options: &ScheduleOptions) -> WorldSetup
+    ensures { IsWorldSetup (scheduled_in options.now) result }
+{
+    WorldSetup {
+        rules: Rules {
+            abi: options.level.unwrap_or(Abi::NEWEST),
+            copies: true,
+        },
+        nodes: options.nodes,
+        history: options.history,
     }
 }
 

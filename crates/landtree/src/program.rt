@@ -1,19 +1,21 @@
 //! What the program does once its words are read.
 
-ghost use Rattle.std.specs.Prelude.{◌≡◌, ◌≤◌, ℕ, List, OnOk, OnErr, IfOk, IfErr, IfSome, Some};
+ghost use Rattle.std.specs.Prelude.{◌≡◌, ◌≤◌, ℕ, List, [], OnOk, OnErr, IfOk, IfErr, IfSome, Some};
 ghost use Rattle.std.specs.Io.KnownBytes.{Appends};
 ghost use Rattle.std.specs.List.{All};
 ghost use Rattle.ll_rights.specs.declared.limits.TheConstants.{TREE_NODES};
 ghost use Rattle.ll_saved.specs.Saved.{Judges, saved_text, verdict_line};
+ghost use Rattle.ll_schedule.specs.Told.{IsBegun, IsTold};
 ghost use Rattle.ll_session.specs.declared.fault.RunFault.{RunFault};
 ghost use Rattle.ll_session.specs.Run.{Runs, Begins, MayEnd, Writes};
 ghost use Rattle.ll_wire.specs.Entries.{IsEntry};
 ghost use Rattle.ll_wire.specs.Pieces.{pieces};
-ghost use Rattle.landtree.specs.Failure.{failure_of, IsOfAudit, IsOfSaving};
+ghost use Rattle.landtree.specs.Failure.{failure_of, IsOfDevices, IsOfSaving};
 ghost use Rattle.landtree.specs.Policy.{header_of};
 
 use crate::failure::Failure;
 use ll_saved::{Progress, Verdict, run_audit, save};
+use ll_schedule::{WorldSetup, run_schedule};
 use ll_seq::History;
 use ll_session::{Setup, run_script};
 use ll_wire::{Header, Version};
@@ -39,6 +41,25 @@ pub fn perform<R: Read, W: Write>(
     match run_script(alloc, setup, script, out) {
         Ok(history) => Ok(history),
         Err(fault) => Err(Failure::of_run(fault)),
+    }
+}
+
+/// Does what the lines of a schedule ask for, in a tree that is set up so.
+pub fn perform_schedule<R: Read, W: Write>(
+    alloc: Global,
+    setup: WorldSetup,
+    schedule: &mut R,
+    out: &mut W,
+) -> Result<(), Failure>
+    ensures transcript { OnOk result (IfSome (R.remaining schedule.old) (λ input.
+        (R.remaining schedule.new ≡ Some []) × Writes (W.contents out.old) (W.contents out.new) (IsTold setup input))) }
+    ensures beginning { OnErr result (IfSome (R.remaining schedule.old) (λ input.
+        Writes (W.contents out.old) (W.contents out.new) (IsBegun setup input))) }
+    ensures failure { IfErr result IsOfDevices }
+{
+    match run_schedule(alloc, setup, schedule, out) {
+        Ok(()) => Ok(()),
+        Err(fault) => Err(Failure::of_session(fault)),
     }
 }
 
@@ -83,7 +104,7 @@ pub fn audit<R: Read, W: Write, P: Progress>(
 ) -> Result<Verdict, Failure>
     ensures verdict { IfOk result (λ verdict. IfSome (R.remaining file.old) (λ bytes. Judges (pieces bytes) verdict)) }
     ensures answer { IfOk result (λ verdict. Appends (W.contents out.old) (W.contents out.new) (verdict_line verdict)) }
-    ensures failure { IfErr result IsOfAudit }
+    ensures failure { IfErr result IsOfDevices }
 {
     match run_audit(alloc, file, out, progress) {
         Ok(verdict) => Ok(verdict),

@@ -1,16 +1,69 @@
 -- What a line holds.
-use Rattle.std.proofs.Common.{◌≡◌, ℕ, ◌<◌, ◌≤◌, Bool, true, false, List, [], ◌∷◌, length, refl, arith}
-use Rattle.ll_session.specs.declared.line.Line.{Line}
-use Rattle.ll_session.specs.Progress.{Holds}
+use Rattle.std.proofs.Common.{◌≡◌, ◌∙◌, ◌↔◌, IsTrue, not, ℕ, ◌<◌, Bool, true, false, List, [], ◌∷◌, ◌++◌, append_assoc, length, Option, None, Some, ap, refl, subst, sym, arith}
+use Rattle.ll_wire.specs.Pieces.{pieces}
+use Rattle.ll_wire.proofs.CutStreams.{IsOpen, open-append, pieces-last, pieces-line}
+use Rattle.ll_session.specs.Cutting.{Cuts, Gives, Holds}
 
 -- what a line holds that isn't too long
-pub kept : (line : Line) (part : List ℕ) → line.is_long ≡ false → Holds line part → line.bytes.items ≡ part
-kept line part e held = let h : (line.bytes.items ≡ part) × (length part ≤ 16384) = rw e at held in h.0
+pub kept : (line : Option (List ℕ)) (bytes part : List ℕ) → line ≡ Some bytes → Holds line part → bytes ≡ part
+kept line bytes part is held = (subst (λ (l : Option (List ℕ)). Holds l part) is held).0
 
-pub has_bytes : (line : Line) (part : List ℕ) → (line.bytes.items ≡ [] → line.is_long ≡ false → ⊥) → Holds line part → 0 < length part
-has_bytes line [] not_empty held = go line.is_long refl
-  where
-    go : (b : Bool) → line.is_long ≡ b → 0 < 0
-    go true e = let more : 16384 < 0 = rw e at held in absurd (omega arith)
-    go false e = absurd (not_empty (kept line [] e held) e)
+-- a line that is too long holds over 16,384 bytes
+pub long : (line : Option (List ℕ)) (part : List ℕ) → line ≡ None → Holds line part → 16384 < length part
+long line part is held = subst (λ (l : Option (List ℕ)). Holds l part) is held
+
+pub has_bytes : (line : Option (List ℕ)) (part : List ℕ) → (line ≡ Some [] → ⊥) → Holds line part → 0 < length part
+has_bytes (Some bytes) [] not_empty held = absurd (not_empty (let none = held.0 in cc))
+has_bytes None [] not_empty held = absurd (omega (arith, held))
 has_bytes line (b ∷ part) not_empty held = omega arith
+
+-- an empty line holds nothing
+pub no_bytes : (line : Option (List ℕ)) (part : List ℕ) → line ≡ Some [] → Holds line part → part ≡ []
+no_bytes line part is held = let h = kept line [] part is held in cc
+
+-- ---- a line that is being read
+
+one_line : (part rest : List ℕ) (b : ℕ) → b ≡ 10 → IsOpen part → pieces (part ++ b ∷ rest) ≡ (part ++ b ∷ []) ∷ pieces rest
+one_line part rest b lf is_open = rw lf (pieces-line part rest is_open)
+
+-- of what is left, a part without a line feed is held, and the rest is so
+abbrev pub Held : Option (List ℕ) → List ℕ → (List ℕ → Type 0) → Type 0
+Held line left IsRest = (part rest : List ℕ) × (left ≡ part ++ rest) × IsOpen part × Holds line part × IsRest rest
+
+-- the line took a byte
+abbrev pub Takes : Option (List ℕ) → ℕ → Option (List ℕ) → Type 0
+Takes line b line' = (part : List ℕ) → Holds line part → Holds line' (part ++ b ∷ [])
+
+module _ (IsRest IsNext : List ℕ → Type 0) (next : Option ℕ) (gives : (rest : List ℕ) → IsRest rest → Gives rest next IsNext) (line line' : Option (List ℕ)) (left : List ℕ) where
+  given : (o : Option ℕ) → next ≡ o → (rest : List ℕ) → IsRest rest → Gives rest o IsNext
+  given o is rest h = subst (λ (x : Option ℕ). Gives rest x IsNext) is (gives rest h)
+
+  -- a byte of the line
+  pub byte_more : (b : ℕ) → next ≡ Some b → (b ≡ 10 → ⊥) → Takes line b line' → Held line left IsRest → Held line' left IsNext
+  byte_more b is ne takes h =
+      let more = given (Some b) is h.1 h.5 in
+      (h.0 ++ b ∷ [], more.0, h.2 ∙ ap (λ x. h.0 ++ x) more.1 ∙ sym (append_assoc h.0 (b ∷ []) more.0), open-append h.0 b ne h.3, takes h.0 h.4, more.2)
+
+  -- its line feed
+  pub byte_last : (b : ℕ) → next ≡ Some b → b ≡ 10 → Takes line b line' → Held line left IsRest → Cuts left true line' IsNext
+  byte_last b is lf takes h =
+      let more = given (Some b) is h.1 h.5 in
+      (h.0 ++ b ∷ [], more.0, ap pieces (h.2 ∙ ap (λ x. h.0 ++ x) more.1) ∙ one_line h.0 more.0 b lf h.3, takes h.0 h.4, more.2)
+
+  -- the end of the input
+  pub no_byte : (is_empty : Bool) → next ≡ None → (IsTrue is_empty ↔ (line ≡ Some [])) → Held line left IsRest → Cuts left (not is_empty) line IsNext
+  no_byte true none is h =
+      let end = given None none h.1 h.5 in
+      let nothing : left ≡ [] = h.2 ∙ ap (λ x. x ++ h.1) (no_bytes line h.0 (is.0 refl) h.4) ∙ end.0 in (nothing, end.1)
+  no_byte false none is h =
+      let end = given None none h.1 h.5 in
+      let all : left ≡ h.0 ++ [] = h.2 ∙ ap (λ x. h.0 ++ x) end.0 in
+      (h.0, [], ap pieces all ∙ pieces-last h.0 (has_bytes line h.0 (λ e. absurd (let yes = is.1 e in cc)) h.4) h.3, h.4, end.1)
+
+-- ---- a line that is read
+
+pub line_there : (left : List ℕ) (is_there : Bool) (line : Option (List ℕ)) (IsRest : List ℕ → Type 0) → is_there ≡ true → Cuts left is_there line IsRest → Cuts left true line IsRest
+line_there left is_there line IsRest is cut = subst (λ (b : Bool). Cuts left b line IsRest) is cut
+
+pub none_there : (left : List ℕ) (is_there : Bool) (line : Option (List ℕ)) (IsRest : List ℕ → Type 0) → is_there ≡ false → Cuts left is_there line IsRest → Cuts left false line IsRest
+none_there left is_there line IsRest is cut = subst (λ (b : Bool). Cuts left b line IsRest) is cut

@@ -1,8 +1,7 @@
--- The end of the input, and whole runs.
-use Rattle.std.proofs.Common.{◌≡◌, ℕ, false, List, [], ◌∷◌, ◌++◌, Option, None, Some, refl, sym, ap, subst, ◌∙◌, inl, inr}
+-- Whole runs.
+use Rattle.std.proofs.Common.{◌≡◌, ℕ, List, [], Option, None, Some, refl, sym, subst, ◌∙◌, inl, inr}
 use Rattle.std.specs.Prelude.{IfSome, OnErr, Result, Ok, Err}
 use Rattle.std.specs.Io.KnownBytes.{Appends}
-use Rattle.std.proofs.lemmas.List.{append-nil}
 use Rattle.ll_session.specs.declared.answer.Answer.{Answer}
 use Rattle.ll_session.specs.declared.tree.SessionTree.{SessionTree}
 use Rattle.ll_wire.specs.Grammar.{reply_line}
@@ -14,47 +13,15 @@ use Rattle.ll_session.specs.declared.setup.Setup.{Setup}
 use Rattle.ll_session.specs.declared.session.OpenSession.{OpenSession}
 use Rattle.ll_session.specs.declared.session.Opened.{Opened}
 use Rattle.ll_session.specs.declared.session.Opened.TheVariants as opened
-use Rattle.ll_wire.specs.Pieces.{pieces}
 use Rattle.ll_session.specs.Transcript.{Session}
 use Rattle.ll_session.specs.Opening.{begun, fresh, refused, Opens}
 use Rattle.ll_session.specs.Run.{Runs, Begins, Writes}
 use Rattle.ll_wire.specs.Writing.{AppendsFront}
-use Rattle.ll_session.specs.Progress.{Holds, IfBegun, IfRefused, StandsAt, IsWritten, HasBegun, Progress}
-use Rattle.ll_wire.proofs.CutStreams.{pieces-last}
-use Rattle.ll_session.proofs.Cuts.{kept, has_bytes}
-use Rattle.ll_wire.proofs.WrittenText.{appends-more, front-none}
+use Rattle.ll_session.specs.Progress.{IfBegun, IfRefused, ReachedBy, StandsAt, TellsLine}
+use Rattle.ll_session.specs.Reached.{IsWritten, HasBegun}
+use Rattle.ll_wire.proofs.WrittenText.{front-none}
 use Rattle.ll_session.proofs.Coming.{may_be_refused}
-use Rattle.ll_session.proofs.Advance.{Answering, Starting, lines-append, begins, piece_stops}
-
--- the input ended with a line feed
-pub no_part : (first : Session) (input : List ℕ) (old new : Option (List ℕ)) (session : OpenSession) → session.line.bytes.items ≡ [] → session.line.is_long ≡ false
-    → Progress first input [] old new session → IsWritten first input old new session.tree.history.entries
-no_part first input old new session empty short p =
-    let part : p.part ≡ [] = sym (kept session.line p.part short p.held) ∙ empty in
-    let all : pieces input ≡ p.done = p.cut ∙ rw part (append-nil p.done) in
-    (p.text, p.last, rw all p.lines, p.wrote, sym p.stands.entries)
-
--- it ended without one
-pub last_part : (first : Session) (input : List ℕ) (old mid new : Option (List ℕ)) (session : OpenSession) (tree : SessionTree)
-    → (session.line.bytes.items ≡ [] → session.line.is_long ≡ false → ⊥) → Answering session.line session.tree tree mid new
-    → Progress first input [] old mid session → IsWritten first input old new tree.history.entries
-last_part first input old mid new session tree not_empty answer p =
-    let a = answer p.last p.part p.held p.stands in
-    let all : pieces input ≡ p.done ++ p.part ∷ [] = p.cut ∙ ap (λ (x : List (List ℕ)). p.done ++ x) (pieces-last p.part (has_bytes session.line p.part not_empty p.held) p.open_part) in (
-      p.text ++ reply_line a.1,
-      a.0,
-      rw all (lines-append p.done first p.last a.0 p.text p.part a.1 p.lines a.2),
-      appends-more old mid new p.text (reply_line a.1) p.wrote a.4,
-      sym a.3.entries,
-    )
-
-pub last_stops : (first : Session) (input : List ℕ) (old mid new : Option (List ℕ)) (session : OpenSession)
-    → (session.line.bytes.items ≡ [] → session.line.is_long ≡ false → ⊥) → Starting session.line session.tree mid new
-    → Progress first input [] old mid session → HasBegun first input old new
-last_stops first input old mid new session not_empty start p =
-    piece_stops first input p.part [] old mid new [] session p (pieces-last p.part (has_bytes session.line p.part not_empty p.held) p.open_part) (start p.last p.part p.held p.stands)
-
--- ---- whole runs
+use Rattle.ll_session.proofs.Advance.{begins}
 
 pub on_err : {T E P : Type 0} → (r : Result T E) → P → OnErr r P
 on_err (Ok value) p = tt
@@ -69,32 +36,32 @@ of_refused P o tree answer is h = subst (λ (x : Opened). IfRefused x P) is h
 -- a session that is opened, and all of the input is read and answered
 abbrev pub Whole : OpenSession → (remaining remaining' old new : Option (List ℕ)) → List Entry → Type 0
 Whole session remaining remaining' old new entries = (first : Session) (input : List ℕ) (old' : Option (List ℕ)) → remaining ≡ Some input
-    → Progress first input input old' old session → (remaining' ≡ Some []) × IsWritten first input old' new entries
+    → ReachedBy session.tree first input input old' old → (remaining' ≡ Some []) × IsWritten TellsLine (λ last. entries ≡ last.entries) first input old' new
 
 abbrev pub Part : OpenSession → (remaining old new : Option (List ℕ)) → Type 0
 Part session remaining old new = (first : Session) (input : List ℕ) (old' : Option (List ℕ)) → remaining ≡ Some input
-    → Progress first input input old' old session → HasBegun first input old' new
+    → ReachedBy session.tree first input input old' old → HasBegun TellsLine first input old' new
 
 -- the session that an opening began
 abbrev pub Begun : Setup → OpenSession → Type 0
 Begun setup session = (first : Session) × Opens setup (begun first) × StandsAt session.tree first
 
-pub runs : (setup : Setup) (remaining remaining' old new : Option (List ℕ)) (session : OpenSession) (entries : List Entry) → Holds session.line [] → Begun setup session
+pub runs : (setup : Setup) (remaining remaining' old new : Option (List ℕ)) (session : OpenSession) (entries : List Entry) → Begun setup session
     → Whole session remaining remaining' old new entries
     → IfSome remaining (λ input. (left : List ℕ) × (remaining' ≡ Some left) × Writes old new (λ text. Runs setup input left text entries))
-runs setup None remaining' old new session entries held b whole = tt
-runs setup (Some input) remaining' old new session entries held b whole =
-    let w = whole b.0 input old refl (begins b.0 input old session held b.2) in
-    ([], w.0, (w.1.0, inl (b.0, w.1.1, b.1, refl, w.1.2, w.1.4), w.1.3))
+runs setup None remaining' old new session entries b whole = tt
+runs setup (Some input) remaining' old new session entries b whole =
+    let w = whole b.0 input old refl (begins TellsLine (StandsAt session.tree) b.0 input old b.2) in
+    ([], w.0, (w.1.0, inl (b.0, w.1.1, b.1, refl, w.1.2, w.1.3), w.1.4))
 
-has_begun : (setup : Setup) (first : Session) (input : List ℕ) (old new : Option (List ℕ)) → Opens setup (begun first) → HasBegun first input old new → Writes old new (Begins setup input)
+has_begun : (setup : Setup) (first : Session) (input : List ℕ) (old new : Option (List ℕ)) → Opens setup (begun first) → HasBegun TellsLine first input old new → Writes old new (Begins setup input)
 has_begun setup first input old new opens h = (h.6.0, inl (first, h.3, h.0, h.1, h.2, h.6.1, opens, h.4, h.5, h.6.2), h.6.3)
 
-pub run_stops : (setup : Setup) (remaining old new : Option (List ℕ)) (session : OpenSession) → Holds session.line [] → Begun setup session
+pub run_stops : (setup : Setup) (remaining old new : Option (List ℕ)) (session : OpenSession) → Begun setup session
     → Part session remaining old new → IfSome remaining (λ input. Writes old new (Begins setup input))
-run_stops setup None old new session held b part = tt
-run_stops setup (Some input) old new session held b part =
-    has_begun setup b.0 input old new b.1 (part b.0 input old refl (begins b.0 input old session held b.2))
+run_stops setup None old new session b part = tt
+run_stops setup (Some input) old new session b part =
+    has_begun setup b.0 input old new b.1 (part b.0 input old refl (begins TellsLine (StandsAt session.tree) b.0 input old b.2))
 
 -- ---- runs whose opening is refused
 

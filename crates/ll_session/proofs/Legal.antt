@@ -205,7 +205,7 @@ module _ (empty : State) where
 
   by_lines : (s t : Session) (done : List (List ℕ)) (text : List ℕ) → Lines s done text t → IsSound empty s → IsSound empty t
   by_lines s t [] text h sound = subst (IsSound empty) (sym h.1) sound
-  by_lines s t (piece ∷ done) text h sound = by_lines h.1 t done h.2 h.4 (by_answer s h.1 piece h.0 h.3 sound)
+  by_lines s t (piece ∷ done) text h sound = by_lines h.1 t done h.2 h.4 (by_answer s h.1 piece h.3.0 h.3.1 sound)
 
 those_left : (tree : State) (n : ℕ) (clients : List ℕ) → AreThere tree clients → AreThere tree (drop n clients)
 those_left tree zero clients all = all

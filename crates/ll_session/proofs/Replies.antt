@@ -1,5 +1,5 @@
 -- The reply to a piece.
-use Rattle.std.proofs.Common.{◌≡◌, ◌≢◌, ℕ, ◌+◌, ◌-◌, ◌^◌, ◌<◌, ◌≤◌, true, false, List, [], ◌∷◌, ◌++◌, length, Option, Some, Err, refl, sym, ap, subst, ◌∙◌, arith, inl, inr}
+use Rattle.std.proofs.Common.{◌≡◌, ◌≢◌, ℕ, ◌+◌, ◌-◌, ◌^◌, ◌<◌, ◌≤◌, true, false, List, [], ◌∷◌, ◌++◌, length, Option, None, Some, Err, refl, sym, ap, subst, ◌∙◌, arith, inl, inr}
 use Rattle.std.specs.Prelude.{slice_get}
 use Rattle.std.specs.List.{All}
 use Rattle.std.specs.Option.{option_map_or}
@@ -21,12 +21,13 @@ use Rattle.ll_plain.specs.Refusal.{is_refusal}
 use Rattle.ll_wire.specs.Entries.{IsEntry}
 use Rattle.ll_wire.specs.Grammar.{IsReply, SpellsCommand}
 use Rattle.ll_wire.specs.Reads.{ReadsBy, holds_text}
-use Rattle.ll_session.specs.declared.line.Line.{Line}
 use Rattle.ll_session.specs.declared.answer.Answer.{Answer}
 use Rattle.ll_session.specs.declared.answer.Answer.TheVariants.{Apart, Entered}
 use Rattle.ll_session.specs.declared.tree.SessionTree.{SessionTree}
 use Rattle.ll_session.specs.Transcript.{Session, IsFull, Called, as_written, brought, next, answered, full, starved, calls, unread, bad}
-use Rattle.ll_session.specs.Progress.{Holds, StandsAt, AnswersLine, last_reply, placed, told_by, written}
+use Rattle.ll_session.specs.Progress.{StandsAt, AnswersLine, last_reply, placed, told_by, written}
+use Rattle.ll_session.specs.Cutting.{Holds}
+use Rattle.ll_session.proofs.Cuts.{long}
 use Rattle.ll_session.proofs.SessionPlaces.{how_many, in_place, no_place, with_brought}
 
 -- the call is answered so, and this tree is left
@@ -210,8 +211,8 @@ spells_none s piece left none stands = (
       | inr less ↦ absurd (none (n, call) (is, less))
     ]
 
-pub too_long : (line : Line) (piece : List ℕ) (clients : ℕ) → line.is_long ≡ true → Holds line piece → (v : ℕ × Call) → Spells clients piece v → ⊥
-too_long line piece clients e held v is = let more : 16384 < length piece = rw e at held in let less = is.0.short in omega arith
+pub too_long : (line : Option (List ℕ)) (piece : List ℕ) (clients : ℕ) → line ≡ None → Holds line piece → (v : ℕ × Call) → Spells clients piece v → ⊥
+too_long line piece clients none held v is = let more = long line piece none held in let less = is.0.short in omega arith
 
 -- nothing was read from the piece: it spells nothing, or there was no memory for its word or bytes
 pub not_read : (s : Session) (piece bytes : List ℕ) (left : SessionTree) (errno : Errno) → bytes ≡ piece

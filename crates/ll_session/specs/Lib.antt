@@ -1,4 +1,6 @@
+pub mod Cutting
 pub mod Opening
 pub mod Progress
+pub mod Reached
 pub mod Run
 pub mod Transcript

@@ -1,8 +1,7 @@
 -- How far a run has come. (Support of the functions below `run_script`: no public contract cites this file.)
-use Rattle.std.specs.Prelude.{⊤, ◌≡◌, ◌≢◌, ◌⊎◌, ℕ, ◌+◌, ◌-◌, ◌≤◌, ◌<◌, true, List, ◌++◌, length, Option, MatchBool, slice_get}
+use Rattle.std.specs.Prelude.{⊤, ◌≡◌, ◌⊎◌, ℕ, ◌+◌, ◌-◌, true, List, length, Option, slice_get}
 use Rattle.std.specs.List.{AllByRecursion}
 use Rattle.std.specs.Option.{option_map_or}
-use Rattle.std.specs.Io.KnownBytes.{Appends}
 use Rattle.ll_seq.specs.declared.reply.Entry.{Entry}
 use Rattle.ll_seq.specs.declared.reply.Reply.{Reply}
 use Rattle.ll_seq.specs.declared.reply.Reply.TheVariants as replies
@@ -10,12 +9,10 @@ use Rattle.ll_rights.specs.Map.{has}
 use Rattle.ll_seq.specs.History.{IsLegal, state_after}
 use Rattle.ll_seq.specs.Stages.{numbers_from}
 use Rattle.ll_seq.specs.State.{State}
-use Rattle.ll_wire.specs.Grammar.{reply_line}
 use Rattle.ll_session.specs.declared.fault.SessionFault.{SessionFault}
 use Rattle.ll_session.specs.declared.fault.SessionFault.TheVariants as fault
 use Rattle.ll_session.specs.declared.fault.RunFault.{RunFault}
 use Rattle.ll_session.specs.declared.fault.RunFault.TheVariants as run
-use Rattle.ll_session.specs.declared.line.Line.{Line}
 use Rattle.ll_session.specs.declared.setup.Setup.{Setup}
 use Rattle.ll_session.specs.declared.answer.Answer.{Answer}
 use Rattle.ll_session.specs.declared.answer.Answer.TheVariants.{Apart, Entered}
@@ -26,14 +23,8 @@ use Rattle.ll_session.specs.declared.session.OpenSession.{OpenSession}
 use Rattle.ll_session.specs.declared.session.Opened.{Opened}
 use Rattle.ll_session.specs.declared.session.Opened.TheVariants.{Begun, Refused}
 use Rattle.ll_session.specs.Opening.{Coming, unconnected, unmade, Opens, stopped}
-use Rattle.ll_session.specs.Run.{Lines}
-use Rattle.ll_wire.specs.Pieces.{pieces}
-use Rattle.ll_wire.specs.Writing.{AppendsFront}
-use Rattle.ll_session.specs.Transcript.{Session, Called, Answers}
-
--- the bytes since the last line feed: kept, or over 16,384 of them
-abbrev pub Holds : Line → List ℕ → Type 0
-Holds line part = MatchBool line.is_long (16384 < length part) ((line.bytes.items ≡ part) × (length part ≤ 16384))
+use Rattle.ll_session.specs.Reached.{Reached}
+use Rattle.ll_session.specs.Transcript.{Session, Called, Answers, Tells}
 
 -- this of the session that the opening began
 abbrev pub IfBegun : Opened → (OpenSession → Type 0) → Type 0
@@ -105,45 +96,18 @@ StaysSound before after =
     (empty : State) (s : Session) → StandsAt before s → IsSound empty s
     → (t : Session) × StandsAt after t × IsSound empty t
 
+-- the piece gives this line
+abbrev pub TellsLine : Session → List ℕ → List ℕ → Session → Type 0
+TellsLine = Tells (λ s. s.clients) Called
+
+-- so far a run has come that stands here
+abbrev pub ReachedBy : SessionTree → Session → (input left : List ℕ) → (old new : Option (List ℕ)) → Type 0
+ReachedBy tree = Reached TellsLine (StandsAt tree)
+
+-- the piece gets this reply
 abbrev pub AnswersLine : Session → List ℕ → Reply → Session → Type 0
 AnswersLine = Answers (λ s. s.clients) Called
 
 -- what ends the answering of lines: a failed write, or want of memory
 abbrev pub IsOfWriting : SessionFault → Type 0
 IsOfWriting of = (of ≡ fault.NoMemory) ⊎ (of ≡ fault.Write)
-
--- the piece is answered, the answer is written, and this tree is left
-abbrev pub IsAnswered : Session → List ℕ → SessionTree → (old new : Option (List ℕ)) → Type 0
-IsAnswered s piece left old new =
-    (t : Session) × (reply : Reply) × AnswersLine s piece reply t × StandsAt left t × Appends old new (reply_line reply)
-
--- the piece is answered, and a front of the answer is written
-abbrev pub IsStarted : Session → List ℕ → (old new : Option (List ℕ)) → Type 0
-IsStarted s piece old new =
-    (t : Session) × (reply : Reply) × AnswersLine s piece reply t × AppendsFront old new (reply_line reply)
-
--- the whole transcript is written, and the session has these entries then
-abbrev pub IsWritten : Session → List ℕ → (old new : Option (List ℕ)) → List Entry → Type 0
-IsWritten first input old new entries =
-    (text : List ℕ) × (last : Session) × Lines first (pieces input) text last × Appends old new text
-    × (entries ≡ last.entries)
-
--- a beginning of the transcript of some first pieces is written
-abbrev pub HasBegun : Session → List ℕ → (old new : Option (List ℕ)) → Type 0
-HasBegun first input old new =
-    (done more : List (List ℕ)) × (text : List ℕ) × (last : Session) × (pieces input ≡ done ++ more)
-    × Lines first done text last × AppendsFront old new text
-
--- Of the input this is left to read. The pieces before the line that is being read are answered, and their transcript
--- is written
-pub record Progress (first : Session) (input left : List ℕ) (old new : Option (List ℕ)) (open_session : OpenSession) : Type 0 where
-  pub done : List (List ℕ)
-  pub part : List ℕ
-  pub text : List ℕ
-  pub last : Session
-  pub cut : pieces input ≡ done ++ pieces (part ++ left)
-  pub open_part : AllByRecursion (λ b. b ≢ 10) part
-  pub held : Holds open_session.line part
-  pub lines : Lines first done text last
-  pub stands : StandsAt open_session.tree last
-  pub wrote : Appends old new text

@@ -10,15 +10,11 @@ use Rattle.ll_session.specs.declared.fault.RunFault.{RunFault}
 use Rattle.ll_session.specs.declared.fault.RunFault.TheVariants as run
 use Rattle.ll_session.specs.declared.setup.Setup.{Setup}
 use Rattle.ll_wire.specs.Pieces.{pieces}
-use Rattle.ll_session.specs.Transcript.{Session, Called, Transcript}
+use Rattle.ll_session.specs.Transcript.{Session, Called, Tells, Transcript}
 use Rattle.ll_session.specs.Opening.{Opens, begun, refused, stopped}
 
--- the most reads of one input
-abbrev pub most_reads : ℕ
-most_reads = 1000000000
-
 abbrev pub Lines : Session → List (List ℕ) → List ℕ → Session → Type 0
-Lines = Transcript (λ s. s.clients) Called
+Lines = Transcript (Tells (λ s. s.clients) Called)
 
 -- The fault may end a run of this setup: a refused opening call only where the opening can stop at one
 abbrev pub MayEnd : Setup → RunFault → Type 0

@@ -70,9 +70,14 @@ module _ {S : Type 0} (clients : S → List ℕ) (Called : S → ℕ → Call �
     bad : ((n : ℕ) (call : Call) → SpellsCommand piece n call → slice_get (clients s) (n - 1) ≡ None)
         → Answers s piece (Refused BadLine) s
 
-  -- Each piece gives one line, in order
+  -- the piece is answered by this line
+  abbrev pub Tells : S → List ℕ → List ℕ → S → Type 0
+  Tells s piece line t = (reply : Reply) × Answers s piece reply t × (line ≡ reply_line reply)
+
+-- Each piece gives one line, in order. `Tells s piece line t`: the piece gives this line, and leaves t
+module _ {S : Type 0} (Tells : S → List ℕ → List ℕ → S → Type 0) where
   abbrev pub Transcript : S → List (List ℕ) → List ℕ → S → Type 0
   Transcript s [] text t = (text ≡ []) × (t ≡ s)
   Transcript s (piece ∷ pieces) text t =
-      (reply : Reply) × (mid : S) × (rest : List ℕ) × Answers s piece reply mid × Transcript mid pieces rest t
-      × (text ≡ reply_line reply ++ rest)
+      (line : List ℕ) × (mid : S) × (rest : List ℕ) × Tells s piece line mid × Transcript mid pieces rest t
+      × (text ≡ line ++ rest)

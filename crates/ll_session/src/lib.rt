@@ -5,6 +5,7 @@ mod answer;
 mod fault;
 mod laws;
 mod line;
+mod line_reader;
 mod output;
 mod run;
 mod session;
@@ -13,5 +14,7 @@ mod tree;
 
 pub use fault::{RunFault, SessionFault};
 pub use laws::runs_legally;
+pub use line::Line;
+pub use line_reader::LineReader;
 pub use run::run_script;
 pub use setup::Setup;

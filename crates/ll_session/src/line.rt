@@ -1,27 +1,47 @@
 //! The line that is being read.
 
-ghost use Rattle.std.specs.Prelude.{◌≡◌, [], ◌∷◌, ◌++◌, ℕ, List, OnOk, IfOk, MatchBool, false};
-ghost use Rattle.ll_session.specs.Progress.{Holds};
+ghost use Rattle.std.specs.Prelude.{◌≡◌, [], ◌∷◌, ◌++◌, ◌↔◌, ℕ, List, OnOk, IfOk, IsTrue, Some, option_map};
+ghost use Rattle.ll_session.specs.Cutting.{Holds};
 
 use ll_wire::LINE_LIMIT;
 use std::alloc::{AllocError, Global};
+use std::marker::Model;
 
 /// The bytes since the last line feed. Of a line that is too long only that it is.
 #[derive(Drop)]
 pub struct Line {
-    pub bytes: Vec<u8>,
-    pub is_long: bool,
+    bytes: Vec<u8>,
+    is_long: bool,
+}
+
+impl Model for Line {
+    ghost use Rattle.std.specs.Prelude.{ℕ, List, Option, None, Some, if◌then◌else◌};
+
+    ghost Value = { Option (List ℕ) };
+
+    ghost view = { λ line. if line.is_long then None else Some line.bytes.items };
 }
 
 impl Line {
     /// An empty line, with room for the longest command.
     pub fn new(alloc: Global) -> Result<Line, AllocError>
-        ensures { IfOk result (λ line. Holds line []) }
+        ensures { IfOk result (λ line. line ≡ Some []) }
     {
         Ok(Line {
             bytes: Vec::with_capacity(alloc, LINE_LIMIT)?,
             is_long: false,
         })
+    }
+
+    /// The bytes, or none where they are too many for a command.
+    pub fn bytes(&self) -> Option<&[u8]>
+        ensures { option_map (λ bytes. bytes.now) result ≡ self.now }
+    {
+        if self.is_long {
+            None
+        } else {
+            Some(&self.bytes)
+        }
     }
 
     pub fn push(&mut self, byte: u8) -> Result<(), AllocError>
@@ -39,15 +59,14 @@ impl Line {
     }
 
     pub fn clear(&mut self)
-        ensures { Holds self.new [] }
+        ensures { self.new ≡ Some [] }
     {
         self.bytes.clear();
         self.is_long = false;
     }
 
     pub fn is_empty(&self) -> bool
-        ensures { MatchBool result ((self.now.bytes.items ≡ []) × (self.now.is_long ≡ false))
-            (self.now.bytes.items ≡ [] → self.now.is_long ≡ false → ⊥) }
+        ensures { IsTrue result ↔ (self.now ≡ Some []) }
     {
         self.bytes.is_empty() && !self.is_long
     }

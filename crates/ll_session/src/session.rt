@@ -1,6 +1,6 @@
 //! A session under way.
 
-ghost use Rattle.std.specs.Prelude.{◌≡◌, ◌<◌, ◌≤◌, ◌+◌, ◌-◌, ◌*◌, ◌^◌, ◌∷◌, [], ◌++◌, length, ℕ, List, Option, OnOk, OnErr, IfErr, IfOk};
+ghost use Rattle.std.specs.Prelude.{◌≡◌, ◌<◌, ◌≤◌, ◌+◌, ◌-◌, ◌^◌, ℕ, List, OnOk, OnErr, IfErr, IfOk};
 
 use crate::answer::{Answer, Refusal};
 use crate::fault::{RunFault, SessionFault};
@@ -37,14 +37,15 @@ impl OpenSession {
     ghost use Rattle.ll_session.specs.declared.fault.SessionFault.{SessionFault};
     ghost use Rattle.ll_session.specs.Transcript.{Session};
     ghost use Rattle.ll_session.specs.Opening.{Opens, begun, fresh, refused};
-    ghost use Rattle.ll_session.specs.Progress.{used, written, Holds, IfBegun, IfRefused, OpensBadly, StandsAt, StaysSound, AnswersLine, IsAnswered, IsStarted, HasBegun, IsWritten, IsOfWriting, Progress};
+    ghost use Rattle.ll_session.specs.Cutting.{Holds};
+    ghost use Rattle.ll_session.specs.Progress.{used, written, AnswersLine, IfBegun, IfRefused, IsOfWriting, OpensBadly, StandsAt, StaysSound, TellsLine};
+    ghost use Rattle.ll_session.specs.Reached.{IsAnswered, IsStarted};
 
     // A fresh tree and an empty line.
     fn fresh(alloc: Global, setup: &Setup) -> Result<(SessionTree, Line), AllocError>
         ensures stands { IfOk result (λ x. StandsAt x.0 (fresh setup.now)) }
         ensures before { IfOk result (λ x. x.0.before ≡ 0) }
         ensures clients { IfOk result (λ x. x.0.clients ≡ 0) }
-        ensures line { IfOk result (λ x. Holds x.1 []) }
         ensures numbers { IfOk result (λ x. used x.0 ≤ 2) }
     {
         let plain = Plain::new(alloc, setup.rules, setup.nodes)?;
@@ -57,7 +58,6 @@ impl OpenSession {
     pub fn open(alloc: Global, setup: Setup) -> Result<Opened, RunFault>
         ensures session { IfOk result (λ opened. IfBegun opened (λ session.
             (first : Session) × Opens setup (begun first) × StandsAt session.tree first)) }
-        ensures line { IfOk result (λ opened. IfBegun opened (λ session. Holds session.line [])) }
         ensures numbers { IfOk result (λ opened. IfBegun opened (λ session. used session.tree ≤ 2 ^ 62)) }
         ensures refused { IfOk result (λ opened. IfRefused opened (λ tree answer.
             (last : Session) × Opens setup (refused (written tree answer) last) × StandsAt tree last)) }
@@ -94,90 +94,27 @@ impl OpenSession {
         ensures sound { StaysSound self.old.tree self.new.tree }
         ensures numbers { used self.new.tree ≤ used self.old.tree + 2 }
     {
-        if self.line.is_long {
+        let Some(bytes) = self.line.bytes() else {
             return Answer::Apart(Errno::BadLine);
-        }
-        match read_command(self.alloc, &self.line.bytes, self.tree.clients) {
+        };
+        match read_command(self.alloc, bytes, self.tree.clients) {
             Ok((place, call)) => self.tree.call_at(place, call),
             Err(errno) => Answer::Apart(errno),
         }
     }
 
-    // Answers the line.
-    fn answer<W: Write>(&mut self, writer: &mut W) -> Result<(), SessionFault>
+    /// Answers the line.
+    pub fn answer<W: Write>(&mut self, writer: &mut W) -> Result<(), SessionFault>
         requires room { used self.old.tree < 2 ^ 64 - 1 }
         ensures ok { OnOk result ((s : Session) (piece : List ℕ) → Holds self.old.line piece → StandsAt self.old.tree s
-            → IsAnswered s piece self.new.tree (W.contents writer.old) (W.contents writer.new)) }
+            → IsAnswered TellsLine (StandsAt self.new.tree) s piece (W.contents writer.old) (W.contents writer.new)) }
         ensures err { OnErr result ((s : Session) (piece : List ℕ) → Holds self.old.line piece → StandsAt self.old.tree s
-            → IsStarted s piece (W.contents writer.old) (W.contents writer.new)) }
+            → IsStarted TellsLine s piece (W.contents writer.old) (W.contents writer.new)) }
         ensures sound { StaysSound self.old.tree self.new.tree }
         ensures numbers { used self.new.tree ≤ used self.old.tree + 2 }
         ensures fault { IfErr result (λ fault. IsOfWriting fault) }
     {
         let answer = self.reply();
         write_answer(self.alloc, &self.tree, answer, writer)
-    }
-
-    fn take_byte<W: Write>(&mut self, byte: u8, writer: &mut W) -> Result<(), SessionFault>
-        requires room { used self.old.tree < 2 ^ 64 - 1 }
-        ensures ok { OnOk result ((first : Session) (input rest : List ℕ) (old : Option (List ℕ))
-            → Progress first input (byte ∷ rest) old (W.contents writer.old) self.old
-            → Progress first input rest old (W.contents writer.new) self.new) }
-        ensures err { OnErr result ((first : Session) (input rest : List ℕ) (old : Option (List ℕ))
-            → Progress first input (byte ∷ rest) old (W.contents writer.old) self.old
-            → HasBegun first input old (W.contents writer.new)) }
-        ensures sound { StaysSound self.old.tree self.new.tree }
-        ensures numbers { used self.new.tree ≤ used self.old.tree + 2 }
-        ensures fault { IfErr result (λ fault. IsOfWriting fault) }
-    {
-        let Ok(()) = self.line.push(byte) else {
-            return Err(SessionFault::NoMemory);
-        };
-        if byte == b'\n' {
-            if let Err(fault) = self.answer(writer) {
-                return Err(fault);
-            }
-            self.line.clear();
-        }
-        Ok(())
-    }
-
-    /// Answers each line that these bytes end.
-    pub fn take_bytes<W: Write>(&mut self, bytes: &[u8], writer: &mut W) -> Result<(), SessionFault>
-        requires room { used self.old.tree + 2 * length bytes.now < 2 ^ 64 }
-        ensures ok { OnOk result ((first : Session) (input rest : List ℕ) (old : Option (List ℕ))
-            → Progress first input (bytes.now ++ rest) old (W.contents writer.old) self.old
-            → Progress first input rest old (W.contents writer.new) self.new) }
-        ensures err { OnErr result ((first : Session) (input rest : List ℕ) (old : Option (List ℕ))
-            → Progress first input (bytes.now ++ rest) old (W.contents writer.old) self.old
-            → HasBegun first input old (W.contents writer.new)) }
-        ensures sound { StaysSound self.old.tree self.new.tree }
-        ensures numbers { used self.new.tree ≤ used self.old.tree + 2 * length bytes.now }
-        ensures fault { IfErr result (λ fault. IsOfWriting fault) }
-    {
-        for byte in bytes {
-            if let Err(fault) = self.take_byte(*byte, writer) {
-                return Err(fault);
-            }
-        }
-        Ok(())
-    }
-
-    /// Answers what stands after the last line feed.
-    pub fn finish<W: Write>(&mut self, writer: &mut W) -> Result<(), SessionFault>
-        requires room { used self.old.tree < 2 ^ 64 - 1 }
-        ensures ok { OnOk result ((first : Session) (input : List ℕ) (old : Option (List ℕ))
-            → Progress first input [] old (W.contents writer.old) self.old
-            → IsWritten first input old (W.contents writer.new) self.new.tree.history.entries) }
-        ensures err { OnErr result ((first : Session) (input : List ℕ) (old : Option (List ℕ))
-            → Progress first input [] old (W.contents writer.old) self.old
-            → HasBegun first input old (W.contents writer.new)) }
-        ensures sound { StaysSound self.old.tree self.new.tree }
-        ensures fault { IfErr result (λ fault. IsOfWriting fault) }
-    {
-        if self.line.is_empty() {
-            return Ok(());
-        }
-        self.answer(writer)
     }
 }

@@ -1,5 +1,5 @@
-use Rattle.std.proofs.Common.{[], ap}
-use Rattle.ll_session.specs.Progress.{Holds, written}
+use Rattle.std.proofs.Common.{ap}
+use Rattle.ll_session.specs.Progress.{written}
 use Rattle.ll_session.proofs.Endings.{Begun, Refuses, of_begun, of_refused, on_err, refusal, refusal_stops, runs, run_stops, not_opened}
 use Rattle.ll_session.proofs.Legal.{by_opening, leaves_refused}
 use Rattle.ll_session.proofs.run.run_script.Goals as goal
@@ -12,7 +12,6 @@ pub returns-in_err-run_session-in-Begun-clause-beginning : goal.returns-in_err-r
 returns-in_err-run_session-in-Begun-clause-beginning g c =
     on_err c.from_residual-in_err-run_session-in-Begun.result
     (run_stops c.args.setup (g.R.Read.remaining c.args.reader.now) (g.W.Write.contents c.args.writer.now) (g.W.Write.contents c.run_session.new.writer) c.in-Begun.session
-    (of_begun (λ session. Holds session.line []) _ _ c.in-Begun.is c.in_ok-session.ensures.line)
     (of_begun (Begun c.args.setup) _ _ c.in-Begun.is c.in_ok-session.ensures.session)
     c.in_err-run_session-in-Begun.ensures.err)
 
@@ -20,7 +19,6 @@ pub returns-in_ok-run_session-in-Begun-clause-transcript : goal.returns-in_ok-ru
 returns-in_ok-run_session-in-Begun-clause-transcript g c =
     runs c.args.setup (g.R.Read.remaining c.args.reader.now) (g.R.Read.remaining c.run_session.new.reader) (g.W.Write.contents c.args.writer.now) (g.W.Write.contents c.run_session.new.writer)
     c.in-Begun.session _
-    (of_begun (λ session. Holds session.line []) _ _ c.in-Begun.is c.in_ok-session.ensures.line)
     (of_begun (Begun c.args.setup) _ _ c.in-Begun.is c.in_ok-session.ensures.session)
     c.in_ok-run_session-in-Begun.ensures.ok
 
