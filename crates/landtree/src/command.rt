@@ -85,22 +85,33 @@ fn script_argument<'a>(alloc: Global) -> Arg<'a>
         .help("The script's file, or `-` for standard input")
 }
 
+// (A `?` on a command costs its proof more than `let .. else`.)
 fn run_command<'a>(alloc: Global) -> Result<Command<'a>, AllocError>
     ensures app { IfOk result (λ command. app_of command ≡ run) }
     ensures local { IfOk result (λ command. (fields_of command).has_globals ≡ false) }
 {
-    let by_level = Command::new(alloc, "run")
-        .about("Runs a script: a command a line in, a reply a line out")
-        .arg(script_argument(alloc))?
-        .arg(nodes_option(alloc))?
-        .arg(abi_option(alloc))?;
-    let by_policy = by_level
-        .arg(policy_option(alloc))?
-        .arg(profile_option(alloc))?;
-    let run = by_policy
-        .arg(history_option(alloc))?
-        .arg(save_option(alloc))?;
-    Ok(run)
+    let run = Command::new(alloc, "run").about(
+        "Runs a script: a command a line in, a reply a line out",
+    );
+    let Ok(run) = run.arg(script_argument(alloc)) else {
+        return Err(AllocError);
+    };
+    let Ok(run) = run.arg(nodes_option(alloc)) else {
+        return Err(AllocError);
+    };
+    let Ok(run) = run.arg(abi_option(alloc)) else {
+        return Err(AllocError);
+    };
+    let Ok(run) = run.arg(policy_option(alloc)) else {
+        return Err(AllocError);
+    };
+    let Ok(run) = run.arg(profile_option(alloc)) else {
+        return Err(AllocError);
+    };
+    let Ok(run) = run.arg(history_option(alloc)) else {
+        return Err(AllocError);
+    };
+    run.arg(save_option(alloc))
 }
 
 fn file_argument<'a>(alloc: Global) -> Arg<'a>
@@ -126,12 +137,21 @@ fn audit_command<'a>(alloc: Global) -> Result<Command<'a>, AllocError>
 pub fn landtree_command<'a>(alloc: Global) -> Result<Command<'a>, AllocError>
     ensures { IfOk result (λ command. app_of command ≡ landtree) }
 {
-    let run = run_command(alloc)?;
-    let audit = audit_command(alloc)?;
-    let with_run = Command::new(alloc, "landtree")
+    let Ok(run) = run_command(alloc) else {
+        return Err(AllocError);
+    };
+    let top = Command::new(alloc, "landtree")
         .about("A file tree in memory whose clients confine themselves with Landlock rulesets")
         .version("0.1.0")
-        .subcommand_required(true)
-        .subcommand(run)?;
-    with_run.subcommand(audit)
+        .subcommand_required(true);
+    let Ok(with_run) = top.subcommand(run) else {
+        return Err(AllocError);
+    };
+    match audit_command(alloc) {
+        Ok(audit) => with_run.subcommand(audit),
+        Err(error) => {
+            drop(with_run);
+            Err(error)
+        }
+    }
 }

@@ -10,9 +10,9 @@ versioned = on_top (λ (s : Shape). record s { has_version = true })
 abbrev demanding : App → App
 demanding = on_top (λ (s : Shape). record s { subcommand_required = true })
 
-pub returns : goal.returns
-returns c =
-    let top_is : app_of c.subcommand_required.result ≡ demanding (versioned (new_app (codes "landtree"))) = ap app_of_fields c.subcommand_required.ensures
+pub returns-in-Ok-audit_command : goal.returns-in-Ok-audit_command
+returns-in-Ok-audit_command c =
+    let top_is : app_of c.subcommand_required-top.result ≡ demanding (versioned (new_app (codes "landtree"))) = ap app_of_fields c.subcommand_required-top.ensures
     ∙ ap demanding (ap app_of_fields c.version.ensures ∙ ap versioned (ap app_of_fields c.about.ensures ∙ c.new.ensures.app)) in
-    let runs = c.in_ok-with_run.ensures.shape c.in_ok-run.ensures.local ∙ ap₂ with_subcommand top_is (ap (λ (a : App). a.top) c.in_ok-run.ensures.app) in
-    IfOk-weaker c.subcommand-2.result _ _ (λ command adds. adds.shape c.in_ok-audit.ensures.local ∙ ap₂ with_subcommand runs (ap (λ (a : App). a.top) c.in_ok-audit.ensures.app)) c.subcommand-2.ensures
+    let runs = c.in-Ok-subcommand.ensures.shape c.in-Ok.ensures.local ∙ ap₂ with_subcommand top_is (ap (λ (a : App). a.top) c.in-Ok.ensures.app) in
+    IfOk-weaker c.subcommand-in-Ok-audit_command.result _ _ (λ command adds. adds.shape c.in-Ok-audit_command.ensures.local ∙ ap₂ with_subcommand runs (ap (λ (a : App). a.top) c.in-Ok-audit_command.ensures.app)) c.subcommand-in-Ok-audit_command.ensures
