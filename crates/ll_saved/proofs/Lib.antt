@@ -2,3 +2,4 @@ pub mod FirstLine
 pub mod FollowedParts
 pub mod Telling
 pub mod SavedText
+pub mod FileRead

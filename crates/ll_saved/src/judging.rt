@@ -22,7 +22,9 @@ impl Saved {
     {
         let header = self.header;
         let mut tree = Plain::new(alloc, header.version.rules(), header.nodes)?;
-        match follow_parts(&mut tree, &self.entries, progress) {
+        let followed = follow_parts(&mut tree, &self.entries, progress);
+        drop(tree);
+        match followed {
             Ok(()) => Ok(Verdict::Legal(self.entries.len())),
             Err(AuditFault::Illegal(entry)) => Ok(Verdict::Illegal(entry)),
             Err(AuditFault::NoMemory) => Err(AllocError),

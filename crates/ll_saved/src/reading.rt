@@ -57,11 +57,17 @@ fn take(told: &mut Vec<Entry>, alloc: Global, line: &[u8]) -> Result<(), ReadFau
         → (k ≡ length told.old.items + 2) × ((e : entries.Entry) → SpellsEntry line.now e → ⊥)) }
     ensures starved { IfErr result (λ fault. fault ≡ ReadFault.NoMemory → (e : entries.Entry) × SpellsEntry line.now e) }
 {
-    let entry = entry_of(alloc, line, told.len() + 2)?;
-    if told.push(entry).is_err() {
-        return Err(ReadFault::NoMemory);
+    let entry = match entry_of(alloc, line, told.len() + 2) {
+        Ok(entry) => entry,
+        Err(fault) => return Err(fault),
+    };
+    match told.push(entry) {
+        Ok(()) => Ok(()),
+        Err(refused) => {
+            drop(refused);
+            Err(ReadFault::NoMemory)
+        }
     }
-    Ok(())
 }
 
 impl Saved {

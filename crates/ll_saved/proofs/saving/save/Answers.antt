@@ -5,8 +5,12 @@ use Rattle.ll_wire.specs.Grammar.{line_of}
 use Rattle.ll_wire.specs.Entries.{header_tokens, entry_line}
 use Rattle.ll_wire.specs.Writing.{AppendsFront}
 use Rattle.ll_wire.proofs.WrittenText.{appends-none, front-none}
-use Rattle.ll_saved.proofs.SavedText.{ends, stops, waits_more}
+use Rattle.ll_saved.proofs.SavedText.{ends, stops, waits_first, waits_more}
 use Rattle.ll_saved.proofs.saving.save.Goals as goal
+
+pub loop-entry-init : goal.loop-entry-init
+loop-entry-init g c =
+    waits_first (line_of (header_tokens c.args.header)) entry_line c.args.entries.now (g.W.Write.contents c.args.writer.now) (string_bytes c.in-Ok.text) c.in-Ok.ensures.1
 
 pub returns-in_default-push_entry-clause-err : goal.returns-in_default-push_entry-clause-err
 returns-in_default-push_entry-clause-err g c =

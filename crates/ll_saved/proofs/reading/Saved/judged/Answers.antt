@@ -24,6 +24,7 @@ returns-in-Err-Illegal g c =
     let es = c.args.self.now.entries.items in
     let k = c.in-Err-Illegal.entry in
     let tree : c.in_ok-tree.tree ≡ opened h = c.in_ok-tree.ensures ∙ ap (λ (r : Rules). start r h.nodes) c.rules.ensures in
-    let first : IsFirstIllegal c.in_ok-tree.tree c.deref.result.now k = c.in-Err-Illegal.ensures.illegal k c.in-Err-Illegal.field-0-is in
+    let first : IsFirstIllegal c.in_ok-tree.tree c.deref.result.now k
+    = (rw c.in-Err-Illegal.is at c.follow_parts-followed.ensures.illegal) k (rw c.in-Err-Illegal.is at c.in-Err-Illegal.field-0-is) in
     λ lines told. illegal h es k told
     (subst (λ (s : State). IsFirstIllegal s es k) tree (subst (λ (xs : List Entry). IsFirstIllegal c.in_ok-tree.tree xs k) c.deref.ensures.value first))

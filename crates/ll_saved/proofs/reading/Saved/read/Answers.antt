@@ -9,6 +9,9 @@ pub returns-then-is_empty-clause-bad : goal.returns-then-is_empty-clause-bad
 returns-then-is_empty-clause-bad c =
     λ k is. told_at _ 1 k is (no_line (ap pieces (empty c.args.bytes.now c.if-is_empty.ensures)))
 
+pub returns-then-is_empty-clause-starved : goal.returns-then-is_empty-clause-starved
+returns-then-is_empty-clause-starved c is = absurd (cc)
+
 pub returns-in_default-clause-bad : goal.returns-in_default-clause-bad
 returns-in_default-clause-bad c =
     λ k is. told_at _ 1 k is (no_header c.cut.result.0.now (pieces c.cut.result.1.now) c.cut.ensures.first c.in_default.ensures)
