@@ -54,6 +54,8 @@ struct Pen<'a> {
     trunk: Option<Mark<'a>>,
     first: Option<Mark<'a>>,
     second: Option<Mark<'a>>,
+    // where the walk forked
+    fork: Option<Point>,
     is_stale: bool,
     // where the walk took the gate
     gate: Option<f64>,
@@ -68,6 +70,7 @@ impl<'a> Pen<'a> {
             trunk: None,
             first: None,
             second: None,
+            fork: None,
             is_stale: false,
             gate: None,
         }
@@ -82,12 +85,15 @@ impl<'a> Pen<'a> {
         self.above.is_none() && self.trunk.is_none()
     }
 
-    // Draws all marks up to here.
-    fn draw_marks(&self, canvas: &mut Canvas, x: f64) -> Result<(), AllocError> {
+    // Draws all marks up to here, and the fork on what it forked from.
+    fn draw_marks(&mut self, canvas: &mut Canvas, x: f64) -> Result<(), AllocError> {
         for mark in [self.trunk, self.first, self.second].into_iter().flatten() {
             mark.draw(canvas, x, self.is_stale)?;
         }
-        Ok(())
+        match self.fork.take() {
+            Some(fork) => canvas.circle("fork", fork, 4.0),
+            None => Ok(()),
+        }
     }
 
     // The walk isn't above the root from here on.
@@ -236,7 +242,10 @@ impl<'a> Pen<'a> {
                 canvas.circle("point", self.on_line(x), 4.5)
             }
             Event::Stands(branch, name) => self.descend(canvas, x, *branch, name.as_str()),
-            Event::Forked => canvas.circle("fork", Point::new(x, self.lowest), 4.0),
+            Event::Forked => {
+                self.fork = Some(Point::new(x, self.lowest));
+                Ok(())
+            }
             Event::Overtaken(mover) => self.overtake(canvas, x, sheet.line(*mover)),
             Event::Restarted => self.restart(canvas, x),
             Event::GateTaken => {
