@@ -269,6 +269,13 @@ join_append (x ∷ []) ys h k = two_tokens x ys k
 join_append (x ∷ y ∷ xs) ys h k =
     ap (λ (t : List ℕ). x ++ 32 ∷ t) (join_append (y ∷ xs) ys (omega arith) k) ∙ sym (append_assoc x (32 ∷ join_with_byte 32 (y ∷ xs)) (32 ∷ join_with_byte 32 ys))
 
+-- a reply is written by itself, and then put behind a word
+pub reply_behind : (word : List ℕ) (reply : Reply) (body text : List ℕ) → body ≡ join_with_byte 32 (reply_tokens reply)
+    → text ≡ line_of (word ∷ body ∷ []) → text ≡ line_of (word ∷ reply_tokens reply)
+reply_behind word reply body text e h =
+    let whole = ap (λ (t : List ℕ). word ++ 32 ∷ t) e ∙ sym (two_tokens word (reply_tokens reply) (some_tokens reply)) in
+    h ∙ ap (λ (x : List ℕ). x ++ 10 ∷ []) whole
+
 -- the call and the reply are written by themselves, and then joined
 pub entry_is : (e : Entry) (client call reply text : List ℕ) → client ≡ decimal e.client → call ≡ join_with_byte 32 (call_tokens e.call) → reply ≡ join_with_byte 32 (reply_tokens e.reply)
     → text ≡ line_of (client ∷ call ∷ codes "=" ∷ reply ∷ []) → text ≡ entry_line e

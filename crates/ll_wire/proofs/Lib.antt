@@ -13,6 +13,7 @@ pub mod OneReply
 pub mod CutStreams
 pub mod ReadReplies
 pub mod Rights
+pub mod ScheduleTokens
 pub mod Sizes
 pub mod Targets
 pub mod Tokens

@@ -9,24 +9,31 @@ use Rattle.ll_rights.specs.declared.errno.Errno.{Errno}
 use Rattle.ll_seq.specs.declared.call.Call.{Call}
 use Rattle.ll_seq.specs.declared.call.Call.TheVariants as calls
 use Rattle.ll_wire.specs.Grammar.{call_tokens, client_tokens}
-use Rattle.ll_wire.specs.Parts.{ReadsCall, SpellsNumber, NamesClient, SpellsCall, SpellsTokens}
+use Rattle.ll_wire.specs.Parts.{ReadsCall, SpellsNumber, SpellsClient, NamesClient, SpellsCall, SpellsTokens}
 use Rattle.ll_wire.specs.Reads.{ReadsBy, holds_text}
 use Rattle.ll_wire.proofs.FirstTokens.{whole_reads}
 
 of_other : (client : ℕ) → 2 ≤ client → client_tokens client ≡ (64 ∷ decimal client) ∷ []
 of_other client h = ap (λ (b : Bool). if b then [] else (64 ∷ decimal client) ∷ []) (ne_eqb client 1 (λ e. omega arith))
 
-pub not_named : (token : List ℕ) → ((rest : List ℕ) → token ≡ 64 ∷ rest → ⊥) → (client : ℕ) → NamesClient token client → ⊥
-not_named token none client is = none (decimal client) is.2
+pub not_named : (token : List ℕ) → ((rest : List ℕ) → token ≡ 64 ∷ rest → ⊥) → (client : ℕ) → SpellsClient token client → ⊥
+not_named token none client is = none (decimal client) is.1
 
 -- the number behind the sign is the client's
-pub number_named : (token digits : List ℕ) (number client : ℕ) → token ≡ 64 ∷ digits → SpellsNumber digits number → NamesClient token client → number ≡ client
+pub number_named : (token digits : List ℕ) (number client : ℕ) → token ≡ 64 ∷ digits → SpellsNumber digits number → SpellsClient token client → number ≡ client
 number_named token digits number client starts n is =
     let same : decimal number ≡ decimal client = cc in
-    decimal_injective number client n.0 (omega arith) same
+    decimal_injective number client n.0 (omega (arith, is.0.1)) same
+
+-- where the first client is named, no other is
+pub first_named : (token : List ℕ) (client other : ℕ) → SpellsClient token client → client ≡ 1 → NamesClient token other → ⊥
+first_named token client other h one is =
+    let texts : 64 ∷ decimal client ≡ 64 ∷ decimal other = sym h.1 ∙ is.2 in
+    let numbers : decimal client ≡ decimal other = cc in
+    omega (arith, one, is.0, decimal_injective client other (omega (arith, h.0.1)) (omega (arith, is.1)) numbers)
 
 -- whether the first token starts as a client's name
-abbrev starts_named : List (List ℕ) → Bool
+abbrev pub starts_named : List (List ℕ) → Bool
 starts_named [] = false
 starts_named ([] ∷ tokens) = false
 starts_named ((b ∷ bs) ∷ tokens) = b == 64

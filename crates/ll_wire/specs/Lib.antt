@@ -5,3 +5,5 @@ pub mod Parts
 pub mod Reads
 pub mod Pieces
 pub mod Writing
+pub mod ScheduleLines
+pub mod ScheduleParts

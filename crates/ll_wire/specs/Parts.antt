@@ -29,6 +29,10 @@ SpellsData token bytes = IsData bytes × (token ≡ data_text bytes)
 abbrev pub IsDigit : ℕ → Type 0
 IsDigit c = ((48 ≤ c) × (c ≤ 57)) ⊎ ((97 ≤ c) × (c ≤ 102))
 
+-- the token names the client
+abbrev pub SpellsClient : List ℕ → ℕ → Type 0
+SpellsClient token client = IsClient client × (token ≡ 64 ∷ decimal client)
+
 -- the token names a client that isn't the first
 abbrev pub NamesClient : List ℕ → ℕ → Type 0
 NamesClient token client = (2 ≤ client) × (client ≤ TREE_CLIENTS) × (token ≡ 64 ∷ decimal client)

@@ -9,6 +9,8 @@ ghost use Rattle.ll_seq.specs.declared.reply.Reply.TheVariants.{Listed};
 ghost use Rattle.ll_wire.specs.declared.header.Header.{Header};
 ghost use Rattle.ll_wire.specs.Entries.{IsEntry, entry_line, SpellsEntry, SpellsHeader};
 ghost use Rattle.ll_wire.specs.Grammar.{SpellsCommand, SpellsReply};
+ghost use Rattle.ll_wire.specs.ScheduleLines.{SpellsScheduleLine};
+ghost use Rattle.ll_wire.specs.declared.schedule.ScheduleLine.{ScheduleLine};
 
 /// A line spells at most one command, of one client.
 pub fn spells_one()
@@ -31,6 +33,12 @@ pub fn entries_fit()
     ensures { (entry : Entry) → IsEntry entry
         → ((names : List (List ℕ)) → entry.reply ≡ Listed names → length names ≤ DIRECTORY_ENTRIES)
         → SpellsEntry (entry_line entry) entry }
+{}
+
+/// A line of a schedule spells at most one step, or the steps of one call.
+pub fn spells_one_schedule_line()
+    ensures { (line : List ℕ) (value other : ScheduleLine) → SpellsScheduleLine line value
+        → SpellsScheduleLine line other → value ≡ other }
 {}
 
 /// A line spells at most one header of a history.

@@ -3,7 +3,7 @@
 ghost use Rattle.std.specs.Prelude.{◌≡◌, ◌≢◌, ◌<◌, ◌≤◌, ◌==◌, ◌∷◌, [], ◌++◌, ℕ, List, map, length, take, slice_index, MatchBool, IfSome, IfNone};
 ghost use Rattle.std.specs.List.{slice_split};
 ghost use Rattle.std.specs.Str.{IsAscii};
-ghost use Rattle.ll_wire.specs.Parts.{SpellsNumber, NamesClient};
+ghost use Rattle.ll_wire.specs.Parts.{SpellsNumber, SpellsClient, NamesClient};
 ghost use Rattle.ll_wire.specs.Reads.{Finds};
 
 use ll_rights::limits::TREE_CLIENTS;
@@ -85,13 +85,24 @@ pub(crate) fn number_of(token: &str) -> Option<u64>
     token.parse::<u64>().ok()
 }
 
-// The first client's number is never written.
-pub(crate) fn client_of(token: &str) -> Option<u64>
-    ensures { Finds (NamesClient token.now) result }
+// The client that the token names, whichever it is.
+pub(crate) fn named_client(token: &str) -> Option<u64>
+    ensures { Finds (SpellsClient token.now) result }
 {
     let number = number_of(token.strip_prefix('@')?)?;
-    if number < 2 || number > TREE_CLIENTS as u64 {
+    if number < 1 || number > TREE_CLIENTS as u64 {
         return None;
     }
     Some(number)
+}
+
+// The first client's number is never written in a command.
+pub(crate) fn client_of(token: &str) -> Option<u64>
+    ensures { Finds (NamesClient token.now) result }
+{
+    let client = named_client(token)?;
+    if client == 1 {
+        return None;
+    }
+    Some(client)
 }

@@ -36,7 +36,8 @@ fn spaced_text(alloc: Global, first: &str, others: &[&str]) -> Result<String, Al
     Ok(text)
 }
 
-pub(crate) fn line_text(alloc: Global, first: &str, others: &[&str]) -> Result<String, AllocError>
+/// The line of these tokens.
+pub fn line_text(alloc: Global, first: &str, others: &[&str]) -> Result<String, AllocError>
     ensures { IfOk result (λ text. string_bytes text ≡ line_of (first.now ∷ map (λ t. t.now) others.now)) }
 {
     ended(spaced_text(alloc, first, others)?)
@@ -269,4 +270,12 @@ pub fn reply_text(alloc: Global, reply: &Reply) -> Result<String, AllocError>
     ensures { IfOk result (λ text. string_bytes text ≡ reply_line reply.now) }
 {
     ended(reply_body(alloc, reply)?)
+}
+
+/// The line of a word and a reply behind it.
+pub fn reply_text_behind(alloc: Global, word: &str, reply: &Reply) -> Result<String, AllocError>
+    ensures { IfOk result (λ text. string_bytes text ≡ line_of (word.now ∷ reply_tokens reply.now)) }
+{
+    let reply = reply_body(alloc, reply)?;
+    line_text(alloc, word, &[reply.as_str()])
 }
