@@ -178,5 +178,14 @@ connect_crowded j h room many =
     (ap (λ (p : Reply × State). p.0) (connect_refused (shown (world_of j)) (next_number (world_of j)) (next_number (world_of j))
     (many_clients (len (shown (world_of j)).clients) (length j.seats.items) (clients_len (shown (world_of j)) j.seats.items h.seated) many)))
 
+-- where a client more may come, the next one would
+pub connect_would : (j : Inside) (b : Book) → book_of j ≡ b → IsKept j → is_full (world_of j) ≡ false → length j.seats.items < TREE_CLIENTS → (after : World) × (advance b.world Join ≡ (Joined (next_number b.world), after))
+connect_would j b is h room few =
+    let w = world_of j in
+    subst (λ (b : Book). (after : World) × (advance b.world Join ≡ (Joined (next_number b.world), after))) is (
+      with_entry w (next_number w) Connect Done,
+      join_done w room (ap (λ (p : Reply × State). p.0) (connect_done (shown w) (next_number w) (next_number w) (few_clients (len (shown w).clients) (length j.seats.items) (clients_len (shown w) j.seats.items h.seated) few))),
+    )
+
 pub over_joined : (b b' : Book) (v : World) (number : ℕ) → b ≡ b' → advance b.world Join ≡ (Joined number, v) → advance b'.world Join ≡ (Joined number, v)
 over_joined b b' v number e h = subst (λ (b : Book). advance b.world Join ≡ (Joined number, v)) e h

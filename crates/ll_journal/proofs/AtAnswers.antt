@@ -28,6 +28,7 @@ use Rattle.ll_seq.specs.Tree.{ancestors}
 use Rattle.ll_walks.specs.Commits.{first_end, second_end}
 use Rattle.ll_walks.specs.Walk.{Walk, Leg, Position, Above, Down, Split, is_in, marks}
 use Rattle.ll_walks.specs.World.{World, domain_of, has_any, is_full, is_walked, early_refusals, shown, without_walk}
+use Rattle.ll_walks.proofs.SoundSteps.{marked_below}
 use Rattle.ll_journal.specs.declared.journal.Journal.TheInside.{Inside}
 use Rattle.ll_journal.specs.Book.{Seat, Book, inode_in, has_mark, mark_of, slot_of}
 use Rattle.ll_journal.specs.Decidings.{IsEndAt}
@@ -146,7 +147,7 @@ module _ (j i : Inside) (h : IsKept j) (mid : IsKept i) (number place : ℕ) (sl
       by false e = refl
       by true e =
           let walk = whose_mark (world_of i) (shown (world_of i)).next n e in
-          let less = mid.sound.known n walk.0 walk.1 (shown (world_of i)).next walk.2 in
+          let less = marked_below (world_of i) mid.sound n walk.0 walk.1 (shown (world_of i)).next walk.2 in
           absurd (omega (arith, less))
 
   given : IsGiven (shown (world_of i)) number (mark_of (world_of i)) (spares_of i.seats.items) place seat.client seat.spare i.table slots lent

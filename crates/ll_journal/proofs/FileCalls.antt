@@ -1,5 +1,5 @@
 -- What calls on descriptors are answered.
-use Rattle.std.specs.Prelude.{◌≡◌, ◌≢◌, ℕ, ◌<◌, ◌≤◌, ◌==◌, Bool, true, false, cond, not, List, [], ◌∷◌, ◌++◌, map, length, take, drop, Option, Some, None, is_none, option_map, option_and_then, option_to_list, slice_get, nat_lt, Result, IfOk, refl}
+use Rattle.std.specs.Prelude.{◌≡◌, ◌≢◌, ℕ, ◌<◌, ◌≤◌, ◌==◌, Bool, true, false, cond, not, List, [], ◌∷◌, ◌++◌, map, length, take, drop, Option, Some, None, is_none, option_map, option_and_then, option_to_list, slice_get, nat_lt, Result, IfOk, OnErr, refl}
 use Rattle.std.specs.Option.{option_map_or}
 use Rattle.std.specs.Cmp.{nat_cmp_total}
 use Rattle.std.specs.FinMap.{nat_cmp-IsAntisymmetric}
@@ -8,7 +8,7 @@ use Rattle.std.proofs.Common.{ap, sym, subst, ◌∙◌, inl, inr}
 use Rattle.std.proofs.lemmas.Bool.{lt-ltb, le-ltb}
 use Rattle.std.proofs.lemmas.Result.{IfOk-weaker}
 use Rattle.ll_rights.specs.declared.errno.Errno.{Errno}
-use Rattle.ll_rights.specs.declared.errno.Errno.TheVariants.{EBADF, EINVAL, NoMemory}
+use Rattle.ll_rights.specs.declared.errno.Errno.TheVariants.{EBADF, EFBIG, EINVAL, NoMemory}
 use Rattle.ll_rights.specs.declared.limits.TheConstants.{DATA_BYTES}
 use Rattle.ll_rights.specs.Errno.{refuse}
 use Rattle.ll_rights.specs.Right as right
@@ -34,11 +34,12 @@ use Rattle.ll_node.specs.Slot as slots
 use Rattle.ll_laws.proofs.ClientChanges.{inode_at_is}
 use Rattle.ll_laws.proofs.Gain.{done_of}
 use Rattle.ll_walks.specs.World.{descriptor_of, is_on_descriptor}
-use Rattle.ll_journal.specs.Files.{ComesOn, on_file}
+use Rattle.ll_journal.specs.Files.{ComesOn, IsFreeOn, on_file}
 use Rattle.ll_journal.specs.declared.files.BytesCall.TheVariants as onto
 use Rattle.ll_journal.specs.declared.files.FileCall.{FileCall}
 use Rattle.ll_journal.specs.declared.files.FileCall.TheVariants as file
 use Rattle.ll_journal.proofs.OwnAnswers.{nothing_denied}
+use Rattle.ll_journal.proofs.Starved.{if_err, one_refusal, only_memory, when_err}
 
 -- the bytes that a file has already change nothing
 pub bytes_kept : (s : State) (inode : ℕ) → with_bytes s inode (bytes_of s inode) ≡ s
@@ -225,3 +226,21 @@ module _ (file : Descriptor) (bytes : List ℕ) where
 
   pub comes_resized : (size : ℕ) (after : List ℕ) → file.writes ≡ true → file.kept ≡ None → len_refusals size ≡ [] → after ≡ resized bytes size → ComesOn file (λ fd. Ftruncate fd size) bytes Done after
   comes_resized size after a b free is s number fresh fd there holds = resize_done file bytes s number fresh fd there holds size a b free after is
+
+-- ---- where memory ran out, nothing refuses the call
+
+module _ (file : Descriptor) where
+  pub free_to_read : (offset count : ℕ) (result : Result Reply AllocError) → count ≤ DATA_BYTES → file.reads ≡ true → OnErr result (IsFreeOn file (λ fd. Read fd offset count))
+  free_to_read offset count result a b = if_err result (λ s number fd there. read_stages file (bytes_of s file.inode) s number 0 fd there refl offset count false true (le-ltb DATA_BYTES count a) b)
+
+  pub free_to_write : (offset : ℕ) (put given : List ℕ) (e : Errno) (result : Result Reply AllocError) → file.writes ≡ true → given ≡ put → Fails (write_refusals offset given) e → OnErr result (e ≡ NoMemory)
+      → OnErr result (IsFreeOn file (λ fd. Write fd offset put))
+  free_to_write offset put given e result b same fails out = when_err result (λ none s number fd there.
+      write_stages file (bytes_of s file.inode) s number 0 fd there refl offset put true b
+      ∙ ap (map Refused) (only_memory (write_refusals offset put) (one_refusal _ EFBIG (λ x. cc x)) e none (subst (λ p. Fails (write_refusals offset p) e) same fails))) out
+
+  pub free_to_resize : (size : ℕ) (e : Errno) (result : Result Reply AllocError) → file.writes ≡ true → file.kept ≡ None → Fails (len_refusals size) e → OnErr result (e ≡ NoMemory)
+      → OnErr result (IsFreeOn file (λ fd. Ftruncate fd size))
+  free_to_resize size e result a b fails out = when_err result (λ none s number fd there.
+      resize_stages file (bytes_of s file.inode) s number 0 fd there refl size true None a b
+      ∙ ap (map Refused) (only_memory (len_refusals size) (one_refusal _ EFBIG (λ x. cc x)) e none fails)) out

@@ -19,7 +19,7 @@ use Rattle.ll_seq.specs.declared.client.Descriptor.{Descriptor}
 use Rattle.ll_seq.specs.declared.reply.Reply.{Reply}
 use Rattle.ll_seq.specs.declared.reply.Reply.TheVariants as replies
 use Rattle.ll_seq.specs.State.{State, new_client, kind_of}
-use Rattle.ll_seq.specs.Step.{step, client_of}
+use Rattle.ll_seq.specs.Step.{step, refusals, client_of}
 use Rattle.ll_seq.specs.Effects.{let_go, lives, with_bytes, with_client}
 use Rattle.ll_changes.proofs.Living.{let_go_gone, let_go_next}
 use Rattle.ll_changes.proofs.SlotAccounts.{content_of, bytes_put, bytes_other, let_go_other, let_go_living}
@@ -39,7 +39,8 @@ use Rattle.ll_journal.specs.declared.files.FileCall.TheVariants as files
 use Rattle.ll_journal.specs.declared.journal.Journal.TheInside.{Inside}
 use Rattle.ll_journal.specs.Book.{Seat, Book, Spares, inode_in, slot_of, held_of, mark_of}
 use Rattle.ll_journal.specs.Direct.{Answers, IsOpen, IsAstrayOn, LeavesSlot}
-use Rattle.ll_journal.specs.Files.{ComesOn, LetsGo, Serves, on_bytes, on_file, unopened}
+use Rattle.ll_journal.specs.Files.{ComesOn, IsFreeOn, LetsGo, Serves, on_bytes, on_file, unopened}
+use Rattle.ll_journal.specs.Starving.{Starves}
 use Rattle.ll_journal.specs.Kept.{AreSeated, IsKept, seat_at, walks_from, world_of, book_of, spares_of}
 use Rattle.ll_journal.proofs.Advancing.{direct_not_now, direct_full, direct_replies}
 use Rattle.ll_journal.proofs.Answered.{world_is, kept_answered}
@@ -50,6 +51,7 @@ use Rattle.ll_journal.proofs.HeldAfter.{held_answered}
 use Rattle.ll_journal.proofs.LentSlots.{slot_holds, slot_vacant, slot_inode, spares_others, got_of_index, one_slot}
 use Rattle.ll_journal.proofs.OpenFiles.{descriptor_file, file_kind}
 use Rattle.ll_journal.proofs.Shown.{shown_reply}
+use Rattle.ll_journal.proofs.Starved.{step_granted}
 use Rattle.ll_journal.proofs.Starting.{sound_after, spares_kept}
 use Rattle.ll_journal.proofs.Stepping.{there, walks_same, seated_put, set_again, world_unchanged, book_unchanged, kept_unchanged, entered}
 
@@ -198,11 +200,11 @@ pub record FileStepped (b : Book) (number : ℕ) (call : Call) (slot : ℕ) (ans
 same_spares : (b b' : Book) (slots : List ℕ) → b' ≡ b → Spares b b' slots
 same_spares b b' slots e = subst (λ x. Spares b x slots) (sym e) (record { limit = refl; size = refl; slots = λ j out. refl })
 
-replied_so : (b b' : Book) (number : ℕ) (call : Call) (answer : Answer) (reply : Reply) → answer ≡ answers.Replied → advance b.world (FdCommit number call) ≡ (Replied reply, b'.world) → Answers b (FdCommit number call) answer b'
-replied_so b b' number call answer reply is e = subst (λ a. Answers b (FdCommit number call) a b') (sym is) (reply, e)
+replied_so : (b b' : Book) (number : ℕ) (call : Call) (answer : Answer) (reply : Reply) → answer ≡ answers.Replied → is_full b.world ≡ false → advance b.world (FdCommit number call) ≡ (Replied reply, b'.world) → Answers b (FdCommit number call) answer b'
+replied_so b b' number call answer reply is room e = subst (λ a. Answers b (FdCommit number call) a b') (sym is) (room, reply, e)
 
-starved_so : (b b' : Book) (number : ℕ) (call : Call) (answer : Answer) → answer ≡ answers.NoMemory → b' ≡ b → Answers b (FdCommit number call) answer b'
-starved_so b b' number call answer is e = subst (λ a. Answers b (FdCommit number call) a b') (sym is) e
+starved_so : (b b' : Book) (number : ℕ) (call : Call) (answer : Answer) → answer ≡ answers.NoMemory → b' ≡ b → Starves b.world (FdCommit number call) → Answers b (FdCommit number call) answer b'
+starved_so b b' number call answer is e starves = subst (λ a. Answers b (FdCommit number call) a b') (sym is) (e, starves)
 
 module _ (j k : Inside) (h : IsKept j) (number : ℕ) (call : Call) (place : ℕ) (old : Seat) (at : slice_get j.seats.items place ≡ Some old) (numbered : number ≡ suc place)
     (fd : ℕ) (what : FileCall) (is_call : call ≡ on_file what fd) (d : Descriptor) (idle : old.walk ≡ None) (holds : get old.client.descriptors fd ≡ Some d)
@@ -313,7 +315,7 @@ module _ (j k : Inside) (h : IsKept j) (number : ℕ) (call : Call) (place : ℕ
     on_its_bytes : FileStepped (book_of j) number call slot answer file' k
     on_its_bytes = record {
       kept = bytes_kept_so;
-      does = replied_so (book_of j) (book_of k) number call answer reply is (advances reply changed steps_so history (ap (walks_from 1) seats) still_seated still_table (ap length seats) same_next);
+      does = replied_so (book_of j) (book_of k) number call answer reply is room_left (advances reply changed steps_so history (ap (walks_from 1) seats) still_seated still_table (ap length seats) same_next);
       lent = lent_bytes;
       spares = spares_so reply changed steps_so history (ap (walks_from 1) seats) still_seated still_table (ap length seats) same_next (ap length same_inodes)
           (λ q away. ap (λ ns. inode_in (record (book_of k) { inodes = ns }) q) same_inodes) (bytes_other before d.inode bytes);
@@ -370,7 +372,7 @@ module _ (j k : Inside) (h : IsKept j) (number : ℕ) (call : Call) (place : ℕ
     closed_kept = kept_so reply left steps_closed history walks_stay seated_less table_less seats_many next_same
 
     closed_does : Answers (book_of j) (FdCommit number call) answer (book_of k)
-    closed_does = replied_so (book_of j) (book_of k) number call answer reply is (advances reply left steps_closed history walks_stay seated_less table_less seats_many next_same)
+    closed_does = replied_so (book_of j) (book_of k) number call answer reply is room_left (advances reply left steps_closed history walks_stay seated_less table_less seats_many next_same)
 
     closed_spares : length k.table.inodes ≡ length j.table.inodes → ((q : ℕ) → NotIn q (slot ∷ []) → inode_in (book_of k) q ≡ inode_in (book_of j) q) → Spares (book_of j) (book_of k) (slot ∷ [])
     closed_spares size stay = spares_so reply left steps_closed history walks_stay seated_less table_less seats_many next_same size stay (let_go_other without d.inode)
@@ -461,12 +463,23 @@ module _ (j k : Inside) (h : IsKept j) (number : ℕ) (call : Call) (place : ℕ
 
   -- ---- memory ran out
 
-  unmade : k.seats.items ≡ j.seats.items → k.table ≡ j.table → k.history ≡ j.history → file' ≡ file → answer ≡ answers.NoMemory → FileStepped (book_of j) number call slot answer file' k
-  unmade seats table history stays is =
+  starves : IsFreeOn d (on_file what) → Starves (world_of j) (FdCommit number call)
+  starves free = record {
+    reply = reply_to (world_of j) number call;
+    after = with_entry (world_of j) number call (reply_to (world_of j) number call);
+    replied = file_replies j h number call place old at numbered fd what is_call d idle holds (reply_to (world_of j) number call) room_left refl;
+    room = room_left;
+    granted =
+        step_granted before number call (next_number (world_of j))
+        (ap (refusals before (client_of before number)) is_call ∙ free before number fd held_by_caller);
+  }
+
+  unmade : k.seats.items ≡ j.seats.items → k.table ≡ j.table → k.history ≡ j.history → file' ≡ file → answer ≡ answers.NoMemory → IsFreeOn d (on_file what) → FileStepped (book_of j) number call slot answer file' k
+  unmade seats table history stays is free =
       let same_book = book_unchanged j k rules room gate history seats table in
       record {
         kept = kept_unchanged j k rules room gate history seats table h;
-        does = starved_so (book_of j) (book_of k) number call answer is same_book;
+        does = starved_so (book_of j) (book_of k) number call answer is same_book (starves free);
         lent = stays ∙ lent ∙ ap (λ b. slot_of b slot) (sym same_book);
         spares = same_spares (book_of j) (book_of k) (slot ∷ []) same_book;
         rest = inl (same_book ∙ ap (λ v. record (book_of j) { world = v }) (sym (world_unchanged j k rules room gate history seats table)));
@@ -479,16 +492,16 @@ module _ (j k : Inside) (h : IsKept j) (number : ℕ) (call : Call) (place : ℕ
     (slot : ℕ) (file : Held) (lent : file ≡ slot_of (book_of j) slot) (same : d.inode ≡ file.inode) (room_left : is_full (world_of j) ≡ false)
     (rules : k.rules ≡ j.rules) (room : k.room ≡ j.room) (gate : k.gate ≡ j.gate) (answer : Answer) (file' : Held) (new : Seat) (seats : k.seats.items ≡ slice_set j.seats.items place new) where
   pub served : (what : FileCall) → call ≡ on_file what fd → (told : Result Reply AllocError) → IfOk told (λ reply. Serves fd d what old j.table file reply new k.table file') → OnErr told ((new ≡ old) × (k.table ≡ j.table) × (file' ≡ file))
-      → IfOk told (λ reply. (answer ≡ answers.Replied) × (k.history ≡ entered j number call reply)) → OnErr told ((answer ≡ answers.NoMemory) × (k.history ≡ j.history)) → FileStepped (book_of j) number call slot answer file' k
-  served files.Close is_call (Ok reply) serves err ok bad =
+      → OnErr told (IsFreeOn d (on_file what)) → IfOk told (λ reply. (answer ≡ answers.Replied) × (k.history ≡ entered j number call reply)) → OnErr told ((answer ≡ answers.NoMemory) × (k.history ≡ j.history)) → FileStepped (book_of j) number call slot answer file' k
+  served files.Close is_call (Ok reply) serves err free ok bad =
       closes j k h number call place old at numbered fd files.Close is_call d idle holds slot file lent same room_left rules room gate answer file'
       is_call new seats serves.1 (subst (λ i. LetsGo i j.table k.table file file') (sym same) serves.2) reply serves.0 ok.1 ok.0
-  served (files.OnBytes asked) is_call (Ok reply) serves err ok bad =
+  served (files.OnBytes asked) is_call (Ok reply) serves err free ok bad =
       on_its_bytes j k h number call place old at numbered fd (files.OnBytes asked) is_call d idle holds slot file lent same room_left rules room gate answer file'
       asked is_call (seats ∙ ap (slice_set j.seats.items place) serves.0 ∙ set_again j.seats.items place old at) serves.1 reply serves.2 serves.3 ok.1 ok.0
-  served what is_call (Err e) serves err ok bad =
+  served what is_call (Err e) serves err free ok bad =
       unmade j k h number call place old at numbered fd what is_call d idle holds slot file lent same room_left rules room gate answer file'
-      (seats ∙ ap (slice_set j.seats.items place) err.0 ∙ set_again j.seats.items place old at) err.1 bad.1 err.2 bad.0
+      (seats ∙ ap (slice_set j.seats.items place) err.0 ∙ set_again j.seats.items place old at) err.1 bad.1 err.2 bad.0 free
 
 pub over_file_stepped : (b b' : Book) (number : ℕ) (call : Call) (slot : ℕ) (answer : Answer) (file : Held) (k : Inside) → b ≡ b' → FileStepped b number call slot answer file k → FileStepped b' number call slot answer file k
 over_file_stepped b b' number call slot answer file k e h = subst (λ (b : Book). FileStepped b number call slot answer file k) e h

@@ -1,9 +1,10 @@
 -- What is found under the last names: which of it is marked, and which nodes the commit needs.
-use Rattle.std.specs.Prelude.{◌≡◌, ℕ, Bool, true, false, cond, not, ◌&&◌, ◌||◌, ◌==◌, List, [], ◌∷◌, drop, Option, Some, None, is_none, option_map, option_and_then, option_to_list, nat_le, refl}
+use Rattle.std.specs.Prelude.{◌≡◌, ℕ, Bool, true, false, cond, not, ◌&&◌, ◌||◌, ◌==◌, List, [], ◌∷◌, drop, Option, Some, None, is_none, option_map, option_and_then, option_to_list, nat_le, slice_index_or, refl}
 use Rattle.std.specs.Option.{option_map_or}
 use Rattle.std.specs.List.{list_any, list_all}
 use Rattle.std.specs.Ordering.{nat_cmp}
 use Rattle.std.proofs.Common.{sym, ap, ◌∙◌}
+use Rattle.std.proofs.lemmas.Bool.{eqb-true}
 use Rattle.ll_rights.specs.declared.kind.Kind.TheVariants.{Dir}
 use Rattle.ll_rights.specs.declared.limits.TheConstants.{DIRECTORY_ENTRIES}
 use Rattle.ll_rights.specs.Map.{Map, get}
@@ -33,7 +34,7 @@ use Rattle.ll_walks.proofs.Tests.{itself_in}
 use Rattle.ll_held.specs.declared.held.Held.{Held}
 use Rattle.ll_changes.specs.Accounts.{names_map}
 use Rattle.ll_journal.specs.WalkEnds.{nodes_at_end, would_make}
-use Rattle.ll_journal.specs.Looks.{crowded_at, is_marked_at, is_marked_there, last_in, spot_at, there_at, there_by}
+use Rattle.ll_journal.specs.Looks.{crowded_at, found_at, is_marked_at, is_marked_there, last_in, spot_at, there_at, there_by}
 use Rattle.ll_journal.proofs.AtEnds.{IsEnd, any_last, crowded_is, end_look_up, end_spot, has_fact, there_is}
 
 -- under the path's last name stands what the spot tells
@@ -70,6 +71,22 @@ module _ (s : State) (path : Path) (spot : Spot) (there : IsThere s path spot) w
             | None ↦ λ l. refl
             | Some i ↦ λ l. or_right (i == 0) (f i) (l i (itself_in i []))
           ] last
+
+  -- what the path names, if it isn't the root's
+  pub last_found : (inode : ℕ) → is_in (last_node s path) inode ≡ true → (named s path ≡ Some inode) × (inode_at spot ≡ inode) × (is_none spot.there ≡ false)
+  last_found inode e =
+      let names = by (is_root path) (named s path) e in
+      let found : spot.there ≡ Some (there_in s inode) = there ∙ ap (option_map (there_in s)) names in
+      (names, ap inode_of found, ap is_none found)
+    where
+      only : (a : Bool) → (a || false) ≡ true → a ≡ true
+      only true e = refl
+      only false e = absurd (cc e)
+
+      by : (b : Bool) (o : Option ℕ) → is_in (when (not b) (option_to_list o)) inode ≡ true → o ≡ Some inode
+      by true o e = absurd (cc e)
+      by false None e = absurd (cc e)
+      by false (Some node) e = ap Some (eqb-true node inode (only (node == inode) e))
 
   pub none_there : is_none spot.there ≡ is_none (named s path)
   none_there = ap is_none there ∙ elim (named s path) as (λ o. is_none (option_map (there_in s) o) ≡ is_none o) [ None ↦ refl | Some i ↦ refl ]
@@ -176,6 +193,67 @@ makes_there s (Allow number t rights) found there = refl
 makes_there s (Confine number) found there = refl
 makes_there s Spawn found there = refl
 makes_there s Connect found there = refl
+
+-- ---- of one directory alone: where the leg in turn stands at the ends, and so both with one path
+
+-- the call may change or tell of this node, and makes none
+pub record IsFirst (s : State) (call : Call) (found : Found) (inode : ℕ) : Type 0 where
+  pub names : named s (second_path call) ≡ Some inode
+  pub first : slice_index_or (nodes_of call found) 0 0 ≡ inode
+  pub kept : may_make call found ≡ false
+
+module _ (s : State) (facts : Map nat_cmp Fact) (full : Bool) (held : Held) where
+  abbrev found_by : Call → Found
+  found_by call = found_at facts full held held call
+
+  abbrev IsSecond : Call → Type 0
+  IsSecond call = IsThere s (second_path call) (spot_at facts held (second_path call))
+
+  pub last_first : (call : Call) → IsSecond call → (inode : ℕ) → is_in (nodes_at_end s call) inode ≡ true → IsFirst s call (found_by call) inode
+  last_first (Make kind t) there inode e = absurd (cc e)
+  last_first (Open mode t) there inode e = let last = last_found s (path_of t) (spot_at facts held (path_of t)) there inode e in record { names = last.0; first = last.1; kept = last.2 }
+  last_first (Read fd offset count) there inode e = absurd (cc e)
+  last_first (Write fd offset bytes) there inode e = absurd (cc e)
+  last_first (Ftruncate fd size) there inode e = absurd (cc e)
+  last_first (Close fd) there inode e = absurd (cc e)
+  last_first (Truncate t size) there inode e = let last = last_found s (path_of t) (spot_at facts held (path_of t)) there inode e in record { names = last.0; first = last.1; kept = refl }
+  last_first (ReadDir t) there inode e = let last = last_found s (path_of t) (spot_at facts held (path_of t)) there inode e in record { names = last.0; first = last.1; kept = refl }
+  last_first (Stat t) there inode e = let last = last_found s (path_of t) (spot_at facts held (path_of t)) there inode e in record { names = last.0; first = last.1; kept = refl }
+  last_first (Exec t) there inode e = absurd (cc e)
+  last_first (Unlink t) there inode e = let last = last_found s (path_of t) (spot_at facts held (path_of t)) there inode e in record { names = last.0; first = last.1; kept = refl }
+  last_first (Rmdir t) there inode e = let last = last_found s (path_of t) (spot_at facts held (path_of t)) there inode e in record { names = last.0; first = last.1; kept = refl }
+  last_first (Rename o n) there inode e = let last = last_found s (path_of n) (spot_at facts held (path_of n)) there inode e in record { names = last.0; first = last.1; kept = refl }
+  last_first (RenameNoreplace o n) there inode e = let last = last_found s (path_of n) (spot_at facts held (path_of n)) there inode e in record { names = last.0; first = last.1; kept = refl }
+  last_first (Exchange o n) there inode e = absurd (cc e)
+  last_first (Link o n) there inode e = absurd (cc e)
+  last_first (Ruleset rights) there inode e = absurd (cc e)
+  last_first (Allow number t rights) there inode e = absurd (cc e)
+  last_first (Confine number) there inode e = absurd (cc e)
+  last_first Spawn there inode e = absurd (cc e)
+  last_first Connect there inode e = absurd (cc e)
+
+  pub makes_last : (call : Call) → IsSecond call → may_make call (found_by call) ≡ would_make s call
+  makes_last (Make kind t) there = refl
+  makes_last (Open mode t) there = none_there s (path_of t) (spot_at facts held (path_of t)) there
+  makes_last (Read fd offset count) there = refl
+  makes_last (Write fd offset bytes) there = refl
+  makes_last (Ftruncate fd size) there = refl
+  makes_last (Close fd) there = refl
+  makes_last (Truncate t size) there = refl
+  makes_last (ReadDir t) there = refl
+  makes_last (Stat t) there = refl
+  makes_last (Exec t) there = refl
+  makes_last (Unlink t) there = refl
+  makes_last (Rmdir t) there = refl
+  makes_last (Rename o n) there = refl
+  makes_last (RenameNoreplace o n) there = refl
+  makes_last (Exchange o n) there = refl
+  makes_last (Link o n) there = refl
+  makes_last (Ruleset rights) there = refl
+  makes_last (Allow number t rights) there = refl
+  makes_last (Confine number) there = refl
+  makes_last Spawn there = refl
+  makes_last Connect there = refl
 
 -- ---- what a lent directory and the facts tell of the last name
 

@@ -119,14 +119,13 @@ module _ (j : Inside) (h : IsKept j) (number place : ℕ) (seat : Seat) (at : sl
     pub all_marked : is_all_lent lent seat ≡ true → (inode : ℕ) → marks walk inode ≡ true → is_lent b slots inode ≡ true
     all_marked all inode marked = sym (lends_is inode) ∙ all_lent lent (legs walk.at) inode (legs_lent true all) marked
 
+    -- that each lies in the slots can't be where some isn't lent
+    pub some_unlent : is_all_lent lent seat ≡ false → ((inode : ℕ) → marks walk inode ≡ true → is_lent b slots inode ≡ true) → ⊥
+    some_unlent none all = not_all_lent lent (legs walk.at) (legs_lent false none) (λ inode e. lends_is inode ∙ all inode e)
+
     module _ (fresh : walk.stale ≡ false) where
       pub not_all_marked : is_all_lent lent seat ≡ false → IsAstrayAtEnd b number slots
-      not_all_marked none = (
-        walk,
-        walk_here j h number place seat at numbered ∙ is,
-        fresh,
-        λ (enough : AreEnough b number walk slots). not_all_lent lent (legs walk.at) (legs_lent false none) (λ inode e. lends_is inode ∙ enough.marked inode e),
-      )
+      not_all_marked none = (walk, walk_here j h number place seat at numbered ∙ is, fresh, λ (enough : AreEnough b number walk slots). some_unlent none enough.marked)
 
       -- each directory where it stands is a node
       pub leg_some : (inode : ℕ) → marks walk inode ≡ true → inode ≢ 0

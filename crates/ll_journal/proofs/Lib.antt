@@ -9,7 +9,6 @@ pub mod LentAfter
 pub mod Entering
 pub mod Forking
 pub mod Descending
-pub mod Restarting
 pub mod HeldAfter
 pub mod LentSlots
 pub mod ClientTables
@@ -23,11 +22,13 @@ pub mod OwnAnswers
 pub mod Answered
 pub mod Stepping
 pub mod Looking
+pub mod Gathering
 pub mod Overtaking
 pub mod Ended
 pub mod EndedWalks
 pub mod Stops
 pub mod LentMarks
+pub mod Restarting
 pub mod StopsOnWay
 pub mod OpenFiles
 pub mod FileCalls
@@ -38,7 +39,10 @@ pub mod FileTables
 pub mod FileSteps
 pub mod LastSpots
 pub mod StopsAtLast
+pub mod Standing
+pub mod EndSlots
 pub mod Committed
 pub mod AtAnswers
 pub mod StopMeans
 pub mod Refusing
+pub mod Starved

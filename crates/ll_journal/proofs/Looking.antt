@@ -13,18 +13,18 @@ use Rattle.ll_journal.specs.declared.journal.Journal.TheInside.{Inside}
 use Rattle.ll_journal.specs.Book.{Seat, inode_in, slot_of}
 use Rattle.ll_journal.specs.Kept.{IsKept, seat_at, world_of, book_of}
 use Rattle.ll_journal.specs.Looks.{directory_below, directory_from, directory_for, directory_at, is_directory}
-use Rattle.ll_journal.specs.Steps.{IsNext, leg_in_turn}
+use Rattle.ll_journal.specs.Steps.{GoesDown, IsNext, leg_in_turn}
 use Rattle.ll_journal.proofs.LentAfter.{inode_is}
 use Rattle.ll_journal.proofs.Entering.{walk_here, no_walk}
 use Rattle.ll_journal.proofs.Descending.{looked_up, one_more, if_dir, directory_kind, directory_fact, living_placed}
 
-index_there : (xs : List ℕ) (k i : ℕ) → slice_get xs k ≡ Some i → slice_index_or xs k 0 ≡ i
+pub index_there : (xs : List ℕ) (k i : ℕ) → slice_get xs k ≡ Some i → slice_index_or xs k 0 ≡ i
 index_there [] k i e = absurd (cc e)
 index_there (x ∷ xs) zero i e = same_Some x i e
 index_there (x ∷ xs) (suc k) i e = index_there xs k i e
 
-pub nobody_next : (j : Inside) (number from to : ℕ) → seat_at j.seats.items number ≡ None → IsNext (book_of j) number from to → ⊥
-nobody_next j number from to none is = cc (sym is.in_turn ∙ ap (option_and_then (λ (v : Walk). turn v.at)) (no_walk j number none))
+pub nobody_next : (j : Inside) (number from : ℕ) → seat_at j.seats.items number ≡ None → GoesDown (book_of j) number from → ⊥
+nobody_next j number from none is = cc (sym is.in_turn ∙ ap (option_and_then (λ (v : Walk). turn v.at)) (no_walk j number none))
 
 module _ (j : Inside) (h : IsKept j) (number place : ℕ) (seat : Seat) (at : slice_get j.seats.items place ≡ Some seat) (numbered : number ≡ suc place)
     (k : ℕ) (from : Held) (lent : from ≡ slot_of (book_of j) k) where
@@ -33,28 +33,28 @@ module _ (j : Inside) (h : IsKept j) (number place : ℕ) (seat : Seat) (at : sl
 
   -- what is found, by the inode
   abbrev Found : Option ℕ → Type 0
-  Found None = (to : ℕ) → IsNext (book_of j) number k to → ⊥
+  Found None = GoesDown (book_of j) number k → ⊥
   Found (Some i) = ((slot : ℕ) × (get j.table.places i ≡ Some slot)) × ((to : ℕ) → inode_in (book_of j) to ≡ i → IsNext (book_of j) number k to)
 
   walk_is : (o : Option Walk) → seat.walk ≡ o → get w.walks number ≡ o
   walk_is o e = walk_here j h number place seat at numbered ∙ e
 
   not_going : (o : Option Walk) → seat.walk ≡ o → option_map_or (λ (v : Walk). not v.stale) o false ≡ false → Found None
-  not_going o is e to next = cc (sym next.going ∙ ap (λ (p : Option Walk). option_map_or (λ (v : Walk). not v.stale) p false) (walk_is o is) ∙ e)
+  not_going o is e next = cc (sym next.going ∙ ap (λ (p : Option Walk). option_map_or (λ (v : Walk). not v.stale) p false) (walk_is o is) ∙ e)
 
   module _ (walk : Walk) (is : seat.walk ≡ Some walk) (fresh : walk.stale ≡ false) where
     turn_is : leg_in_turn w number ≡ turn walk.at
     turn_is = ap (option_and_then (λ (v : Walk). turn v.at)) (walk_is (Some walk) is)
 
     module _ (leg : Leg) (turned : turn walk.at ≡ Some leg) where
-      same_leg : (to : ℕ) (next : IsNext (book_of j) number k to) → leg ≡ next.leg
-      same_leg to next = same_Some leg next.leg (sym (turn_is ∙ turned) ∙ next.in_turn)
+      same_leg : (next : GoesDown (book_of j) number k) → leg ≡ next.leg
+      same_leg next = same_Some leg next.leg (sym (turn_is ∙ turned) ∙ next.in_turn)
 
       not_further : further (shown w) (domain_of w number) leg ≡ None → Found None
-      not_further e to next = cc (sym e ∙ ap (further (shown w) (domain_of w number)) (same_leg to next) ∙ next.further_is)
+      not_further e next = cc (sym e ∙ ap (further (shown w) (domain_of w number)) (same_leg next) ∙ next.further_is)
 
       not_here : (from.inode == leg.here) ≡ false → Found None
-      not_here e to next = cc (sym e ∙ eq-eqb from.inode leg.here (inode_is (book_of j) k from lent ∙ next.from_here ∙ ap (λ (v : Leg). v.here) (sym (same_leg to next))))
+      not_here e next = cc (sym e ∙ eq-eqb from.inode leg.here (inode_is (book_of j) k from lent ∙ next.from_here ∙ ap (λ (v : Leg). v.here) (sym (same_leg next))))
 
       module _ (here : (from.inode == leg.here) ≡ true) where
         found_inode : (name : List ℕ) (rest : List (List ℕ)) → leg.ahead ≡ name ∷ rest → (o : Option ℕ) → child (shown w) leg.here name ≡ o → Found (directory_at j.table.facts o)
@@ -89,7 +89,7 @@ module _ (j : Inside) (h : IsKept j) (number place : ℕ) (seat : Seat) (at : sl
 
     found_turn : Found (directory_from j.table.facts (option_map (λ (v : Leg). v.here) (turn walk.at)) (option_and_then (λ (v : Leg). slice_get v.ahead 0) (turn walk.at)) from)
     found_turn = elim (turn walk.at) as (λ t. turn walk.at ≡ t → Found (directory_from j.table.facts (option_map (λ (v : Leg). v.here) t) (option_and_then (λ (v : Leg). slice_get v.ahead 0) t) from)) [
-      | None ↦ λ e to next. cc (sym (turn_is ∙ e) ∙ next.in_turn)
+      | None ↦ λ e next. cc (sym (turn_is ∙ e) ∙ next.in_turn)
       | Some leg ↦ λ e. found_here leg e
     ] refl
 
@@ -105,9 +105,9 @@ module _ (j : Inside) (h : IsKept j) (number place : ℕ) (seat : Seat) (at : sl
     | Some walk ↦ found_walk walk
   ] refl
 
-  pub next_none : directory_below j.table.facts seat from ≡ None → (to : ℕ) → IsNext (book_of j) number k to → ⊥
+  pub next_none : directory_below j.table.facts seat from ≡ None → GoesDown (book_of j) number k → ⊥
   next_none e = subst Found e found_below
 
-  pub next_found : (i : ℕ) → directory_below j.table.facts seat from ≡ Some i → (o : Option ℕ) → o ≡ get j.table.places i → IfSome o (λ slot. IsNext (book_of j) number k slot) × IfNone o ((to : ℕ) → IsNext (book_of j) number k to → ⊥)
+  pub next_found : (i : ℕ) → directory_below j.table.facts seat from ≡ Some i → (o : Option ℕ) → o ≡ get j.table.places i → IfSome o (λ slot. IsNext (book_of j) number k slot) × IfNone o (GoesDown (book_of j) number k → ⊥)
   next_found i e None is = let found = subst Found e found_below in absurd (cc (is ∙ found.0.1))
   next_found i e (Some slot) is = let found = subst Found e found_below in (found.1 slot (index_there j.table.inodes slot i (h.table.placed.there i slot (sym is)).0), tt)

@@ -1,5 +1,5 @@
 -- What the sequential step answers where a client calls for itself.
-use Rattle.std.specs.Prelude.{◌≡◌, ◌≢◌, ℕ, ◌+◌, Bool, true, false, List, [], ◌∷◌, ◌++◌, map, length, zero, suc, ◌<◌, not, Option, Some, None, Result, Ok, Err, IfOk, nat_le, is_none, is_some, unwrap_or, slice_get, refl}
+use Rattle.std.specs.Prelude.{◌≡◌, ◌≢◌, ℕ, ◌+◌, Bool, true, false, List, [], ◌∷◌, ◌++◌, map, length, zero, suc, ◌<◌, not, Option, Some, None, Result, Ok, Err, IfOk, OnErr, nat_le, is_none, is_some, unwrap_or, slice_get, refl}
 use Rattle.std.specs.declared.alloc.AllocError.{AllocError}
 use Rattle.std.specs.Borrow.{Bor}
 use Rattle.std.specs.Option.{option_copied}
@@ -7,10 +7,12 @@ use Rattle.std.specs.Cmp.{nat_cmp_total}
 use Rattle.std.specs.FinMap.{nat_cmp-IsAntisymmetric}
 use Rattle.std.specs.List.{flat_map, enumerate_from}
 use Rattle.std.proofs.Common.{sym, subst, arith, ap, ◌∙◌, inl, inr}
+use Rattle.std.proofs.lemmas.Bool.{false≢true}
 use Rattle.ll_rights.specs.declared.errno.Errno.{Errno}
-use Rattle.ll_rights.specs.declared.errno.Errno.TheVariants.{EBADF, EMFILE, NoMemory}
+use Rattle.ll_rights.specs.declared.errno.Errno.TheVariants.{E2BIG, EBADF, EINVAL, EMFILE, ENOMSG, NoMemory}
 use Rattle.ll_rights.specs.declared.limits.TheConstants.{CLIENT_RULESETS, TREE_CLIENTS}
 use Rattle.ll_rights.specs.declared.access.Access.{Access}
+use Rattle.ll_rights.specs.Access.{is_within, known_set}
 use Rattle.ll_rights.specs.Errno.{refuse}
 use Rattle.ll_rights.specs.MapCodes.{same_list_map}
 use Rattle.ll_rights.specs.Map.{get, insert, len}
@@ -36,8 +38,10 @@ use Rattle.ll_seq.specs.State.{State, new_client}
 use Rattle.ll_seq.specs.Step.{step, refusals, client_of}
 use Rattle.ll_journal.specs.declared.alone.RecordCall.{RecordCall}
 use Rattle.ll_journal.specs.declared.alone.RecordCall.TheVariants as asked
-use Rattle.ll_journal.specs.Own.{Comes}
+use Rattle.ll_journal.specs.Own.{Comes, IsFreeOwn}
+use Rattle.ll_journal.specs.Starving.{is_refusal}
 use Rattle.ll_journal.proofs.Shown.{step_refused, step_done}
+use Rattle.ll_journal.proofs.Starved.{both_refuse, one_refusal, only_memory, step_granted, when_err}
 
 abbrev silent : {A : Type 0} → ℕ × A → List Denial
 silent l = []
@@ -127,6 +131,13 @@ module _ (s : State) (number fresh : ℕ) (c : ClientRecord) (there : get s.clie
         ap (λ ds. (map Denied ds ++ map Refused (create_refusals s.rules.abi rights.0)) ++ map Refused (refuse (nat_le CLIENT_RULESETS (length c.rulesets)) EMFILE)) (nothing_denied s c.domain)
         ∙ both (create_refusals s.rules.abi rights.0) (refuse (nat_le CLIENT_RULESETS (length c.rulesets)) EMFILE)
 
+    pub ruleset_free : (e : Errno) → e ≡ NoMemory → Fails ruleset_fails e → refusals s c (Ruleset rights) ≡ []
+    ruleset_free e none fails =
+        ruleset_refusals
+        ∙ ap (map Refused) (only_memory ruleset_fails
+        (both_refuse (create_refusals s.rules.abi rights.0) _ (both_refuse (refuse (not (is_within rights.0 (known_set s.rules.abi))) EINVAL) _ (one_refusal _ EINVAL (λ x. cc x)) (one_refusal _ ENOMSG (λ x. cc x))) (one_refusal _ EMFILE (λ x. cc x)))
+        e none fails)
+
     pub ruleset_fails_so : (e : Errno) → Fails ruleset_fails e → e ≢ NoMemory → step s number (Ruleset rights) fresh ≡ (Refused e, with_client s number c)
     ruleset_fails_so e = fails_own (Ruleset rights) ruleset_fails e ruleset_refusals
 
@@ -144,6 +155,9 @@ module _ (s : State) (number fresh : ℕ) (c : ClientRecord) (there : get s.clie
           ap (λ b. rest_of (map Refused (refuse b EBADF) ++ []) [] [] (all_denials (grants s) c.domain [] []) [] (layer_limit c.domain)) some
           ∙ ap (λ ds. (map Denied ds ++ []) ++ map Refused (layer_limit c.domain)) (nothing_denied s c.domain)
 
+      pub confine_free : (e : Errno) → e ≡ NoMemory → Fails (layer_limit c.domain) e → refusals s c (Confine layer) ≡ []
+      confine_free e none fails = confine_refusals ∙ ap (map Refused) (only_memory (layer_limit c.domain) (one_refusal _ E2BIG (λ x. cc x)) e none fails)
+
       pub confine_fails_so : (e : Errno) → Fails (layer_limit c.domain) e → e ≢ NoMemory → step s number (Confine layer) fresh ≡ (Refused e, with_client s number c)
       confine_fails_so e = fails_own (Confine layer) (layer_limit c.domain) e confine_refusals
 
@@ -156,6 +170,9 @@ module _ (s : State) (number fresh : ℕ) (c : ClientRecord) (there : get s.clie
 
   pub spawn_refused : nat_le TREE_CLIENTS (len s.clients) ≡ true → step s number Spawn fresh ≡ (Refused EMFILE, with_client s number c)
   spawn_refused many = refused_as Spawn EMFILE ([], spawn_refusals ∙ ap (λ b. map Refused (refuse b EMFILE)) many)
+
+  pub spawn_free : nat_le TREE_CLIENTS (len s.clients) ≡ false → refusals s c Spawn ≡ []
+  spawn_free few = spawn_refusals ∙ ap (λ b. map Refused (refuse b EMFILE)) few
 
   pub spawned : nat_le TREE_CLIENTS (len s.clients) ≡ false → step s number Spawn fresh ≡ (Spawned fresh, with_client s fresh (child_of s.rules c))
   spawned few = done_own Spawn (refuse (nat_le TREE_CLIENTS (len s.clients)) EMFILE) spawn_refusals (ap (λ b. refuse b EMFILE) few)
@@ -202,6 +219,23 @@ comes_not_confined c after layer e result some fails same told = when_ok result 
     ap (λ k. step s number k fresh) is
     ∙ confine_fails_so s number fresh c there layer some e fails tells.0
     ∙ (λ i. (sym tells.1 i, with_client s number (sym same i)))) told
+
+-- where memory ran out, nothing refuses the call
+pub free_to_make : (abi : ℕ) (c : ClientRecord) (rights : Access) (e : Errno) (result : Result Reply AllocError) → Fails (create_refusals abi rights.0 ++ refuse (nat_le CLIENT_RULESETS (length c.rulesets)) EMFILE) e
+    → OnErr result (e ≡ NoMemory) → OnErr result (IsFreeOwn abi c (asked.Ruleset rights))
+free_to_make abi c rights e result fails out = when_err result (λ none call is s number level there.
+    ap (refusals s c) is
+    ∙ ruleset_free s number 0 c there rights e none (subst (λ a. Fails (create_refusals a rights.0 ++ refuse (nat_le CLIENT_RULESETS (length c.rulesets)) EMFILE) e) (sym level) fails)) out
+
+pub free_to_confine : (c : ClientRecord) (layer : ℕ) (e : Errno) (result : Result Reply AllocError) → is_none (slice_get c.rulesets layer) ≡ false → Fails (layer_limit c.domain) e
+    → OnErr result (e ≡ NoMemory) → OnErr result ((abi : ℕ) → IsFreeOwn abi c (asked.Confine layer))
+free_to_confine c layer e result some fails out = when_err result (λ none abi call is s number level there.
+    ap (refusals s c) is ∙ confine_free s number 0 c there layer some e none fails) out
+
+-- a call that an early stage refuses is refused
+pub early_not_free : (s : State) (number : ℕ) (c : ClientRecord) → get s.clients number ≡ Some c → (call : Call) (e : Errno) → slice_get (early_refusals c call) 0 ≡ Some e → refusals s c call ≡ [] → ⊥
+early_not_free s number c there call e early free =
+    false≢true (sym (step_granted s number call 0 (ap (λ x. refusals s x call) (client_is s number 0 c there) ∙ free)) ∙ ap (λ (o : Reply × State). is_refusal o.0) (refused_own s number 0 c there call e early))
 
 -- whether the client has the ruleset
 pub none_found : {A B : Type 0} (found : Option A) (there : Option B) (f : Option A → Option B) (none : Bool) → f found ≡ there → ((o : Option A) → is_none (f o) ≡ is_none o) → is_some found ≡ not none → is_none there ≡ none

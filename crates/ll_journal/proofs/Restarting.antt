@@ -1,6 +1,6 @@
 -- A stale walk starts again.
 use Rattle.std.specs.Prelude.{◌≡◌, ◌≢◌, ℕ, suc, ◌+◌, ◌≤◌, Bool, true, false, cond, not, ◌&&◌, ◌||◌, ◌==◌, List, [], ◌∷◌, map, Option, Some, None, option_map, option_and_then, unwrap_or, slice_get, refl}
-use Rattle.std.specs.List.{list_any, list_all}
+use Rattle.std.specs.Option.{option_map_or}
 use Rattle.std.proofs.Common.{sym, subst, ap, ◌∙◌}
 use Rattle.std.proofs.lemmas.Bool.{eqb-true, eq-eqb}
 use Rattle.ll_rights.specs.Map.{insert}
@@ -9,7 +9,7 @@ use Rattle.ll_walks.specs.World as world
 use Rattle.ll_walks.specs.World.{World, Outcome, Restarted, advance, restart, restarted}
 use Rattle.ll_walks.specs.declared.step.Step.TheVariants.{Restart}
 use Rattle.ll_walks.specs.Sound.{IsSound}
-use Rattle.ll_walks.proofs.Tests.{both}
+use Rattle.ll_held.specs.declared.held.Held.{Held}
 use Rattle.ll_journal.specs.declared.journal.Journal.TheInside.{Inside}
 use Rattle.ll_journal.specs.declared.look.Look.{Look}
 use Rattle.ll_journal.specs.declared.look.Look.TheVariants.{NotNow, Astray, Go}
@@ -17,46 +17,26 @@ use Rattle.ll_journal.specs.Book.{Seat, Book, Spares, inode_in, slot_of, held_of
 use Rattle.ll_inodes.specs.InodeTable.{NotIn}
 use Rattle.ll_held.specs.Lent.{vacant}
 use Rattle.ll_journal.specs.Kept.{IsKept, world_of, book_of}
-use Rattle.ll_journal.specs.Looks.{look_again}
+use Rattle.ll_journal.specs.Looks.{is_all_lent, look_again}
+use Rattle.ll_journal.specs.WalkEnds.{is_lent}
 use Rattle.ll_journal.specs.Seated.{again}
 use Rattle.ll_journal.specs.Steps.{IsAstrayAt}
 use Rattle.ll_held.specs.Lent.{unmarked}
 use Rattle.ll_journal.proofs.MarkOf.{AreClients, are_clients, has_mark_of, mark_is, mark_found, mark_put_gone, mark_put_same}
 use Rattle.ll_journal.proofs.LentAfter.{spares_moved, one_slot}
+use Rattle.ll_journal.proofs.LentMarks.{all_marked, some_unlent}
 use Rattle.ll_journal.proofs.Starting.{changed_world, sound_after}
 use Rattle.ll_journal.proofs.Entering.{walk_here, known_here, world_put}
 
-abbrev all_in : List ℕ → List Leg → Bool
-all_in inodes ls = list_all (λ (leg : Leg). is_in inodes leg.here) ls
-
-in_all : (inodes : List ℕ) (ls : List Leg) (i : ℕ) → all_in inodes ls ≡ true → list_any (λ (leg : Leg). leg.here == i) ls ≡ true → is_in inodes i ≡ true
-in_all inodes [] i a e = absurd (cc e)
-in_all inodes (leg ∷ ls) i a e =
-    let parts = both (is_in inodes leg.here) (all_in inodes ls) a in
-    elim (leg.here == i) as (λ b. (leg.here == i) ≡ b → (b || list_any (λ (l : Leg). l.here == i) ls) ≡ true → is_in inodes i ≡ true) [
-      | true ↦ λ t f. ap (is_in inodes) (sym (eqb-true leg.here i t)) ∙ parts.0
-      | false ↦ λ t f. in_all inodes ls i parts.1 f
-    ] refl e
-
-or_true : (a b : Bool) → b ≡ true → (a || b) ≡ true
-or_true true b e = refl
-or_true false b e = e
-
--- and where each directory is among them, all are
-all_in_by : (inodes : List ℕ) (ls : List Leg) → ((i : ℕ) → list_any (λ (leg : Leg). leg.here == i) ls ≡ true → is_in inodes i ≡ true) → all_in inodes ls ≡ true
-all_in_by inodes [] f = refl
-all_in_by inodes (leg ∷ ls) f =
-    ap (λ b. b && all_in inodes ls) (f leg.here (ap (λ b. b || list_any (λ (l : Leg). l.here == leg.here) ls) (eq-eqb leg.here leg.here refl)))
-    ∙ all_in_by inodes ls (λ i e. f i (or_true (leg.here == i) _ e))
-
--- a stale walk in these directories
-pub record StartsAgain (j : Inside) (number : ℕ) (seat : Seat) (inodes : List ℕ) : Type 0 where
+-- a stale walk that stands in the directories of these slots
+pub record StartsAgain (j : Inside) (number : ℕ) (seat : Seat) (slots : List ℕ) : Type 0 where
   pub walk : Walk
   pub is : seat.walk ≡ Some walk
-  pub among : (i : ℕ) → marks walk i ≡ true → is_in inodes i ≡ true
+  pub among : (i : ℕ) → marks walk i ≡ true → is_lent (book_of j) slots i ≡ true
   pub step : advance (world_of j) (Restart number) ≡ (Restarted, restarted (world_of j) number walk)
 
-module _ (j : Inside) (h : IsKept j) (number place : ℕ) (seat : Seat) (at : slice_get j.seats.items place ≡ Some seat) (numbered : number ≡ suc place) (inodes : List ℕ) where
+module _ (j : Inside) (h : IsKept j) (number place : ℕ) (seat : Seat) (at : slice_get j.seats.items place ≡ Some seat) (numbered : number ≡ suc place)
+    (slots : List ℕ) (lent : List Held) (told : lent ≡ map (slot_of (book_of j)) slots) where
   abbrev w : World
   w = world_of j
 
@@ -66,51 +46,46 @@ module _ (j : Inside) (h : IsKept j) (number place : ℕ) (seat : Seat) (at : sl
   -- what is found
   abbrev Seen : Look → Type 0
   Seen NotNow = advance w (Restart number) ≡ (world.NotNow, w)
-  Seen Astray = (ks : List ℕ) → map (inode_in (book_of j)) ks ≡ inodes → IsAstrayAt (book_of j) number ks
-  Seen Go = StartsAgain j number seat inodes
+  Seen Astray = IsAstrayAt (book_of j) number slots
+  Seen Go = StartsAgain j number seat slots
 
   found : (o : Option Walk) → seat.walk ≡ o → advance w (Restart number) ≡ answer (option_and_then (restart w number) o)
   found o e = ap (λ (v : Option Walk). answer (option_and_then (restart w number) v)) (walk_here j h number place seat at numbered ∙ e)
 
-  module _ (walk : Walk) (is : seat.walk ≡ Some walk) where
-    stepped : (b : Bool) → walk.stale ≡ b → advance w (Restart number) ≡ answer (cond b (Some (Restarted, restarted w number walk)) None)
-    stepped b e = found (Some walk) is ∙ ap (λ b. answer (cond b (Some (Restarted, restarted w number walk)) None)) e
-
-    astray : walk.stale ≡ true → all_in inodes (legs walk.at) ≡ false → Seen Astray
-    astray stale e ks same = (
-      walk,
-      walk_here j h number place seat at numbered ∙ is,
-      stale,
-      λ within. cc (sym e ∙ all_in_by inodes (legs walk.at) (λ i f. ap (λ ns. is_in ns i) (sym same) ∙ within i f)),
-    )
-
-    seen_walk : Seen (look_again inodes (record seat { walk = Some walk }))
-    seen_walk = elim walk.stale as (λ b. walk.stale ≡ b → Seen (cond (not b) NotNow (cond (all_in inodes (legs walk.at)) Go Astray))) [
-      | true ↦ λ e. elim (all_in inodes (legs walk.at)) as (λ b. all_in inodes (legs walk.at) ≡ b → Seen (cond b Go Astray)) [
-        | true ↦ λ f. record { walk = walk; is = is; among = λ i m. in_all inodes (legs walk.at) i f m; step = stepped true e }
-        | false ↦ astray e
-      ] refl
-      | false ↦ stepped false
+  seen_walk : (walk : Walk) → seat.walk ≡ Some walk → Seen (cond (not walk.stale) NotNow (cond (is_all_lent lent seat) Go Astray))
+  seen_walk walk is = elim walk.stale as (λ t. walk.stale ≡ t → Seen (cond (not t) NotNow (cond (is_all_lent lent seat) Go Astray))) [
+    | true ↦ λ e. elim (is_all_lent lent seat) as (λ t. is_all_lent lent seat ≡ t → Seen (cond t Go Astray)) [
+      | true ↦ λ f. record { walk = walk; is = is; among = all_marked j h number place seat at numbered slots lent told walk is f; step = stepped true e }
+      | false ↦ λ f. (walk, walk_here j h number place seat at numbered ∙ is, e, some_unlent j h number place seat at numbered slots lent told walk is f)
     ] refl
-
-  seen : Seen (look_again inodes seat)
-  seen = elim seat.walk as (λ o. seat.walk ≡ o → Seen (look_again inodes (record seat { walk = o }))) [
-    | None ↦ λ e. found None e
-    | Some walk ↦ seen_walk walk
+    | false ↦ stepped false
   ] refl
+    where
+      stepped : (t : Bool) → walk.stale ≡ t → advance w (Restart number) ≡ answer (cond t (Some (Restarted, restarted w number walk)) None)
+      stepped t e = found (Some walk) is ∙ ap (λ t. answer (cond t (Some (Restarted, restarted w number walk)) None)) e
 
-  pub again_not_now : look_again inodes seat ≡ NotNow → advance w (Restart number) ≡ (world.NotNow, w)
+  seen : Seen (look_again lent seat)
+  seen = by seat.walk refl
+    where
+      stale_as : (o : Option Walk) → seat.walk ≡ o → Seen (cond (not (option_map_or (λ (v : Walk). v.stale) o false)) NotNow (cond (is_all_lent lent seat) Go Astray)) → Seen (look_again lent seat)
+      stale_as o e s = subst (λ (o : Option Walk). Seen (cond (not (option_map_or (λ (v : Walk). v.stale) o false)) NotNow (cond (is_all_lent lent seat) Go Astray))) (sym e) s
+
+      by : (o : Option Walk) → seat.walk ≡ o → Seen (look_again lent seat)
+      by None e = stale_as None e (found None e)
+      by (Some walk) e = stale_as (Some walk) e (seen_walk walk e)
+
+  pub again_not_now : look_again lent seat ≡ NotNow → advance w (Restart number) ≡ (world.NotNow, w)
   again_not_now e = subst Seen e seen
 
-  pub again_astray : look_again inodes seat ≡ Astray → (ks : List ℕ) → map (inode_in (book_of j)) ks ≡ inodes → IsAstrayAt (book_of j) number ks
+  pub again_astray : look_again lent seat ≡ Astray → IsAstrayAt (book_of j) number slots
   again_astray e = subst Seen e seen
 
-  pub again_goes : look_again inodes seat ≡ Go → StartsAgain j number seat inodes
+  pub again_goes : look_again lent seat ≡ Go → StartsAgain j number seat slots
   again_goes e = subst Seen e seen
 
   -- ---- when it starts
 
-  module _ (go : StartsAgain j number seat inodes) where
+  module _ (go : StartsAgain j number seat slots) where
     pub few_starts : (walk : Walk) × (seat.walk ≡ Some walk) × (walk.starts ≤ 4)
     few_starts = (go.walk, go.is, h.sound.few number go.walk (walk_here j h number place seat at numbered ∙ go.is))
 
@@ -166,12 +141,26 @@ module _ (j : Inside) (h : IsKept j) (number place : ℕ) (seat : Seat) (at : sl
             ∙ sym (not_ours (mark_of w i) (λ f. cc (sym e ∙ mark_found w i number f)))
       ] refl
 
-      pub again_lent : (k : ℕ) → slot_of (record (book_of j) { world = after }) k ≡ unmarked number (slot_of (book_of j) k)
-      again_lent k =
+      abbrev again_book : Book
+      again_book = record (book_of j) { world = after }
+
+      again_slot : (k : ℕ) → slot_of again_book k ≡ unmarked number (slot_of (book_of j) k)
+      again_slot k =
           elim (inode_in (book_of j) k == 0) as (λ t. cond t vacant (held_of after (inode_in (book_of j) k)) ≡ unmarked number (cond t vacant (held_of w (inode_in (book_of j) k)))) [
             | true ↦ refl
             | false ↦ ap (λ m. record (held_of w (inode_in (book_of j) k)) { node = record (held_of w (inode_in (book_of j) k)).node { mark = m } }) (mark_then (inode_in (book_of j) k))
           ]
+
+      -- the marks go
+      pub again_lent : (b : Book) → b.world ≡ after → b.inodes ≡ j.table.inodes → map (unmarked number) lent ≡ map (slot_of b) slots
+      again_lent b is same = ap (map (unmarked number)) told ∙ each slots
+        where
+          here : (k : ℕ) → slot_of again_book k ≡ slot_of b k
+          here k = sym (λ i. slot_of (record b { world = is i; inodes = same i }) k)
+
+          each : (ks : List ℕ) → map (unmarked number) (map (slot_of (book_of j)) ks) ≡ map (slot_of b) ks
+          each [] = refl
+          each (k ∷ ks) = let one = sym (again_slot k) ∙ here k in let rest = each ks in λ i. one i ∷ rest i
 
       not_among : (ks : List ℕ) (q : ℕ) → NotIn q ks → inode_in (book_of j) q ≢ 0 → is_in (map (inode_in (book_of j)) ks) (inode_in (book_of j) q) ≡ true → ⊥
       not_among [] q out some e = cc e
@@ -184,8 +173,8 @@ module _ (j : Inside) (h : IsKept j) (number place : ℕ) (seat : Seat) (at : sl
       none_marked : (i : ℕ) → (marks go.walk i ≡ true → ⊥) → marks go.walk i ≡ false
       none_marked i n = elim (marks go.walk i) as (λ b. marks go.walk i ≡ b → b ≡ false) [ true ↦ λ e. absurd (n e) | false ↦ λ e. refl ] refl
 
-      pub again_spares : (b : Book) → b.world ≡ after → b.inodes ≡ j.table.inodes → (ks : List ℕ) → map (inode_in (book_of j)) ks ≡ inodes → Spares (book_of j) b ks
-      again_spares b is same ks lent =
-          spares_moved (book_of j) b number top j.gate ks (is ∙ put) same known (subst AreClients (sym is) known_then)
+      pub again_spares : (b : Book) → b.world ≡ after → b.inodes ≡ j.table.inodes → Spares (book_of j) b slots
+      again_spares b is same =
+          spares_moved (book_of j) b number top j.gate slots (is ∙ put) same known (subst AreClients (sym is) known_then)
           (λ q out some. had (inode_in (book_of j) q) ∙ none_marked (inode_in (book_of j) q) (λ m.
-          not_among ks q out some (ap (λ ns. is_in ns (inode_in (book_of j) q)) lent ∙ go.among (inode_in (book_of j) q) m)))
+          not_among slots q out some (go.among (inode_in (book_of j) q) m)))

@@ -18,7 +18,7 @@ use Rattle.ll_seq.specs.declared.reply.Reply.{Reply}
 use Rattle.ll_seq.specs.declared.reply.Reply.TheVariants as replies
 use Rattle.ll_seq.specs.declared.rules.Rules.{Rules}
 use Rattle.ll_seq.specs.State.{State, new_client, start}
-use Rattle.ll_seq.specs.Step.{step, client_of}
+use Rattle.ll_seq.specs.Step.{step, refusals, client_of}
 use Rattle.ll_seq.specs.Effects.{with_client, child_of}
 use Rattle.ll_seq.specs.Facts.{AreKept}
 use Rattle.ll_seq.specs.History.{Log}
@@ -36,17 +36,19 @@ use Rattle.ll_journal.specs.declared.direct.Answer.{Answer}
 use Rattle.ll_journal.specs.declared.direct.Answer.TheVariants as answers
 use Rattle.ll_journal.specs.declared.journal.Journal.TheInside.{Inside}
 use Rattle.ll_journal.specs.Book.{Seat, Book, Spares}
-use Rattle.ll_journal.specs.Direct.{Answers, LeavesSlots}
+use Rattle.ll_journal.specs.Direct.{Answers, LeavesSlots, TakesMemory}
+use Rattle.ll_journal.specs.Starving.{Starves}
 use Rattle.ll_journal.specs.Kept.{AreSeated, IsKept, seat_at, walks_from, world_of, book_of, spares_of}
 use Rattle.ll_inodes.specs.InodeTable.{Table, IsTable}
-use Rattle.ll_journal.specs.Own.{Asks, IsOwn, Comes, Spawns, SpawnTells}
+use Rattle.ll_journal.specs.Own.{Asks, IsOwn, Comes, IsFreeOwn, Spawns, SpawnTells}
 use Rattle.ll_journal.proofs.Advancing.{direct_not_now, direct_full, direct_replies}
 use Rattle.ll_journal.proofs.Answered.{spares_answered, world_is, kept_answered, world_more, kept_more, takes_spare, few_clients, many_clients}
 use Rattle.ll_journal.proofs.Begun.{walk_at, set_same, set_other}
 use Rattle.ll_journal.proofs.NewClients.{clients_len}
-use Rattle.ll_journal.proofs.OwnAnswers.{spawn_refused, spawned}
+use Rattle.ll_journal.proofs.OwnAnswers.{early_not_free, spawn_free, spawn_refused, spawned}
 use Rattle.ll_journal.proofs.Ruled.{rules_stay}
 use Rattle.ll_changes.proofs.SlotAccounts.{content_of}
+use Rattle.ll_journal.proofs.Starved.{step_granted}
 use Rattle.ll_journal.proofs.Starting.{sound_after, spares_kept}
 use Rattle.ll_journal.proofs.ClientTables.{table_client}
 
@@ -138,11 +140,11 @@ seated_put s seats place number old new at numbered seated q = by (insert_cases 
 same_spares : (b b' : Book) → b' ≡ b → Spares b b' []
 same_spares b b' e = subst (λ x. Spares b x []) (sym e) (record { limit = refl; size = refl; slots = λ j out. refl })
 
-replied_so : (b b' : Book) (number : ℕ) (call : Call) (answer : Answer) (reply : Reply) → answer ≡ answers.Replied → advance b.world (ClientStep number call) ≡ (Replied reply, b'.world) → Answers b (ClientStep number call) answer b'
-replied_so b b' number call answer reply is e = subst (λ a. Answers b (ClientStep number call) a b') (sym is) (reply, e)
+replied_so : (b b' : Book) (number : ℕ) (call : Call) (answer : Answer) (reply : Reply) → answer ≡ answers.Replied → is_full b.world ≡ false → advance b.world (ClientStep number call) ≡ (Replied reply, b'.world) → Answers b (ClientStep number call) answer b'
+replied_so b b' number call answer reply is room e = subst (λ a. Answers b (ClientStep number call) a b') (sym is) (room, reply, e)
 
-starved_so : (b b' : Book) (number : ℕ) (call : Call) (answer : Answer) → answer ≡ answers.NoMemory → b' ≡ b → Answers b (ClientStep number call) answer b'
-starved_so b b' number call answer is e = subst (λ a. Answers b (ClientStep number call) a b') (sym is) e
+starved_so : (b b' : Book) (number : ℕ) (call : Call) (answer : Answer) → answer ≡ answers.NoMemory → b' ≡ b → Starves b.world (ClientStep number call) → Answers b (ClientStep number call) answer b'
+starved_so b b' number call answer is e starves = subst (λ a. Answers b (ClientStep number call) a b') (sym is) (e, starves)
 
 -- with the same items nothing has changed
 module _ (j k : Inside) (rules : k.rules ≡ j.rules) (room : k.room ≡ j.room) (gate : k.gate ≡ j.gate) (history : k.history ≡ j.history) (seats : k.seats.items ≡ j.seats.items) (table : k.table ≡ j.table) where
@@ -177,7 +179,17 @@ pub record Stepped (b : Book) (number : ℕ) (call : Call) (answer : Answer) (k 
   pub kept : IsKept k
   pub does : Answers b (ClientStep number call) answer (book_of k)
   pub spares : Spares b (book_of k) []
+  pub calm : answer ≡ answers.NoMemory → TakesMemory call
   pub rest : LeavesSlots call b (book_of k)
+
+replied_calm : (answer : Answer) (call : Call) → answer ≡ answers.Replied → answer ≡ answers.NoMemory → TakesMemory call
+replied_calm answer call is starved = absurd (cc (sym is ∙ starved))
+
+-- what a call on the record takes memory for
+record_calm : (s : State) (number : ℕ) (c : ClientRecord) → get s.clients number ≡ Some c → (call : Call) (what : RecordCall) → Asks c call what → refusals s c call ≡ [] → TakesMemory call
+record_calm s number c here call (asked.Ruleset rights) is free = inl (rights, is)
+record_calm s number c here call (asked.Confine layer) is free = inr (inl (layer, is))
+record_calm s number c here call (asked.Refused e) is free = absurd (early_not_free s number c here call e is.1 free)
 
 abbrev pub entered : Inside → ℕ → Call → Reply → Log
 entered j number call reply = record j.history { entries = j.history.entries ++ record { client = number; call = call; reply = reply } ∷ [] }
@@ -238,30 +250,47 @@ module _ (j k : Inside) (h : IsKept j) (number : ℕ) (call : Call) (place : ℕ
       answered_so : Stepped (book_of j) number call answer k
       answered_so = record {
         kept = kept_so;
-        does = replied_so (book_of j) (book_of k) number call answer reply is advances;
+        does = replied_so (book_of j) (book_of k) number call answer reply is room_left advances;
         spares = spares_answered (book_of j) (book_of k) number call reply h.sound kept_so.sound world_so told_so (ap (λ (t : Table). t.inodes) table) (λ i. ap (λ s. content_of s i) after);
+        calm = replied_calm answer call is;
         rest = inl slots_stay;
       }
 
   -- memory ran out
-  starved : k.seats.items ≡ j.seats.items → k.table ≡ j.table → k.history ≡ j.history → answer ≡ answers.NoMemory → Stepped (book_of j) number call answer k
-  starved seats table history is =
+  starves : is_alone old.client call ≡ true → refusals before old.client call ≡ [] → Starves (world_of j) (ClientStep number call)
+  starves alone free = record {
+    reply = reply_to (world_of j) number call;
+    after = with_entry (world_of j) number call (reply_to (world_of j) number call);
+    replied = step_replies j h number call place old at numbered idle alone (reply_to (world_of j) number call) room_left refl;
+    room = room_left;
+    granted =
+        step_granted before number call (next_number (world_of j))
+        (ap (λ (o : Option ClientRecord). refusals before (unwrap_or o new_client) call) (there j h number call place old at numbered) ∙ free);
+  }
+
+  starved : k.seats.items ≡ j.seats.items → k.table ≡ j.table → k.history ≡ j.history → answer ≡ answers.NoMemory
+      → is_alone old.client call ≡ true → refusals before old.client call ≡ [] → TakesMemory call → Stepped (book_of j) number call answer k
+  starved seats table history is alone free takes =
       let same = book_unchanged j k rules room gate history seats table in
       record {
         kept = kept_unchanged j k rules room gate history seats table h;
-        does = starved_so (book_of j) (book_of k) number call answer is same;
+        does = starved_so (book_of j) (book_of k) number call answer is same (starves alone free);
         spares = same_spares (book_of j) (book_of k) same;
+        calm = λ e. takes;
         rest = inl (same ∙ ap (λ v. record (book_of j) { world = v }) (sym (world_unchanged j k rules room gate history seats table)));
       }
 
   pub on_record : (new : Seat) → k.seats.items ≡ slice_set j.seats.items place new → k.table ≡ j.table → new ≡ record old { client = new.client } → (what : RecordCall) → Asks old.client call what
       → (told : Result Reply AllocError) → IfOk told (λ reply. Comes j.rules.abi old.client what reply new.client) → new.client.descriptors ≡ old.client.descriptors → OnErr told (new ≡ old)
-      → IfOk told (λ reply. (answer ≡ answers.Replied) × (k.history ≡ entered j number call reply)) → OnErr told ((answer ≡ answers.NoMemory) × (k.history ≡ j.history)) → Stepped (book_of j) number call answer k
-  on_record new seats table rest what asks (Ok reply) comes same err ok bad =
+      → OnErr told (IsFreeOwn j.rules.abi old.client what) → IfOk told (λ reply. (answer ≡ answers.Replied) × (k.history ≡ entered j number call reply)) → OnErr told ((answer ≡ answers.NoMemory) × (k.history ≡ j.history)) → Stepped (book_of j) number call answer k
+  on_record new seats table rest what asks (Ok reply) comes same err free ok bad =
       answered_so new seats table rest (asks_alone old.client call what asks) reply
       (comes call asks before number (next_number (world_of j)) (ap (λ (r : Rules). r.abi) rules_are) (there j h number call place old at numbered)) same ok.1 ok.0
-  on_record new seats table rest what asks (Err e) comes same err ok bad =
+  on_record new seats table rest what asks (Err e) comes same err free ok bad =
+      let here = there j h number call place old at numbered in
+      let granted = free call asks before number (ap (λ (r : Rules). r.abi) rules_are) here in
       starved (seats ∙ ap (slice_set j.seats.items place) err ∙ set_again j.seats.items place old at) table bad.1 bad.0
+      (asks_alone old.client call what asks) granted (record_calm before number old.client here call what asks granted)
 
   -- ---- a client is spawned
 
@@ -319,17 +348,22 @@ module _ (j k : Inside) (h : IsKept j) (number : ℕ) (call : Call) (place : ℕ
       one_more : Stepped (book_of j) number call answer k
       one_more = record {
         kept = kept_spawned;
-        does = replied_so (book_of j) (book_of k) number call answer reply is advances_so;
+        does = replied_so (book_of j) (book_of k) number call answer reply is room_left advances_so;
         spares = spares_answered (book_of j) (book_of k) number call reply h.sound kept_spawned.sound world_spawned told_is (ap (λ (t : Table). t.inodes) spawns.rest-is) (λ i. ap (λ s. content_of s i) after_spawn);
+        calm = replied_calm answer call is;
         rest = inr (spawn, takes_spare j k h number call reply told_is rules room gate history seat refl spawns.seats-are spawns.free-is after_spawn (ap (λ (t : Table). t.inodes) spawns.rest-is));
       }
 
     pub on_spawn : (told : Result Reply AllocError) → IfOk told (SpawnTells j.rules place j.seats.items j.table k.seats.items k.table)
-        → OnErr told ((k.seats.items ≡ j.seats.items) × (k.table ≡ j.table))
+        → OnErr told ((k.seats.items ≡ j.seats.items) × (k.table ≡ j.table)) → OnErr told (length j.seats.items < TREE_CLIENTS)
         → IfOk told (λ reply. (answer ≡ answers.Replied) × (k.history ≡ entered j number call reply)) → OnErr told ((answer ≡ answers.NoMemory) × (k.history ≡ j.history)) → Stepped (book_of j) number call answer k
-    on_spawn (Ok reply) (inl a) err ok bad = crowded a.0 reply a.1 a.2 a.3 ok.1 ok.0
-    on_spawn (Ok reply) (inr a) err ok bad = one_more a.0 a.1 reply a.2 a.3 ok.1 ok.0
-    on_spawn (Err e) tells err ok bad = starved err.0 err.1 bad.1 bad.0
+    on_spawn (Ok reply) (inl a) err few ok bad = crowded a.0 reply a.1 a.2 a.3 ok.1 ok.0
+    on_spawn (Ok reply) (inr a) err few ok bad = one_more a.0 a.1 reply a.2 a.3 ok.1 ok.0
+    on_spawn (Err e) tells err few ok bad =
+        starved err.0 err.1 bad.1 bad.0 alone_so
+        (ap (refusals before old.client) spawn
+        ∙ spawn_free before number (next_number (world_of j)) old.client here (few_clients (len before.clients) (length j.seats.items) (clients_len before j.seats.items h.seated) few))
+        (inr (inr spawn))
 
 -- ---- as the code finds it
 

@@ -131,7 +131,7 @@ module _ (j : Inside) (h : IsKept j) (number place : ℕ) (seat : Seat) (at : sl
   tree : IsTree s
   tree = after_tree (start j.rules j.room) j.history.entries (start_tree j.rules j.room)
 
-  spare_is : spare_of b number ≡ seat.spare
+  pub spare_is : spare_of b number ≡ seat.spare
   spare_is = ap (λ n. slice_index_or (spares_of j.seats.items) n 0) below ∙ spare_at j.seats.items place seat at
     where
       below : number - 1 ≡ place
@@ -236,9 +236,9 @@ module _ (j : Inside) (h : IsKept j) (number place : ℕ) (seat : Seat) (at : sl
             (each_node s walk.call found (lends lent) one_there other_there
             (root_lent (first_path walk.call) first one_end old old_lies one_stands)
             (root_lent (second_path walk.call) other other_end new new_lies other_stands)
-            (λ inode e. lends_is j h number place seat at numbered slots lent told inode ∙ enough.nodes inode e))
+            (λ inode e. lends_is j h number place seat at numbered slots lent told inode ∙ enough.nodes ends inode e))
             (elim (may_make walk.call found) as (λ t. may_make walk.call found ≡ t → (not t || is_in slots seat.spare) ≡ true) [
-              | true ↦ λ e. ap (is_in slots) (sym spare_is) ∙ enough.spare (sym (makes_there s walk.call found one_there) ∙ e)
+              | true ↦ λ e. ap (is_in slots) (sym spare_is) ∙ enough.spare ends (sym (makes_there s walk.call found one_there) ∙ e)
               | false ↦ λ e. refl
             ] refl)
 

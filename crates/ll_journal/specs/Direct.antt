@@ -1,9 +1,10 @@
 -- What the calls do that don't walk. own
-use Rattle.std.specs.Prelude.{◌≡◌, ◌≢◌, ◌⊎◌, ℕ, [], ◌∷◌, ◌++◌, Some, None}
+use Rattle.std.specs.Prelude.{◌≡◌, ◌≢◌, ◌⊎◌, ℕ, false, [], ◌∷◌, ◌++◌, Some, None}
+use Rattle.ll_rights.specs.declared.access.Access.{Access}
 use Rattle.ll_rights.specs.Map.{get}
 use Rattle.ll_rights.specs.declared.errno.Errno.TheVariants.{HistoryFull}
 use Rattle.ll_seq.specs.declared.call.Call.{Call}
-use Rattle.ll_seq.specs.declared.call.Call.TheVariants.{Spawn, Close}
+use Rattle.ll_seq.specs.declared.call.Call.TheVariants.{Ruleset, Confine, Spawn, Close}
 use Rattle.ll_seq.specs.declared.client.ClientRecord.{ClientRecord}
 use Rattle.ll_seq.specs.declared.client.Descriptor.{Descriptor}
 use Rattle.ll_seq.specs.declared.reply.Reply.{Reply}
@@ -11,7 +12,7 @@ use Rattle.ll_seq.specs.declared.reply.Reply.TheVariants.{Refused}
 use Rattle.ll_seq.specs.State.{kind_of}
 use Rattle.ll_walks.specs.World as world
 use Rattle.ll_walks.specs.declared.step.Step.TheVariants as steps
-use Rattle.ll_walks.specs.World.{World, advance, shown, descriptor_of}
+use Rattle.ll_walks.specs.World.{World, advance, shown, descriptor_of, is_full}
 use Rattle.ll_walks.specs.declared.step.Step.{Step}
 use Rattle.ll_inodes.specs.InodeTable.{without_inode}
 use Rattle.ll_journal.specs.declared.direct.Answer.{Answer}
@@ -19,14 +20,21 @@ use Rattle.ll_journal.specs.declared.direct.Answer.TheVariants as answer
 use Rattle.ll_journal.specs.declared.open_file.Unmade.{Unmade}
 use Rattle.ll_journal.specs.declared.open_file.Unmade.TheVariants as unmade
 use Rattle.ll_journal.specs.Book.{Book, inode_in}
+use Rattle.ll_journal.specs.Starving.{Starves}
 
--- The outcome is that of the step, and so is the world after. A full history takes no entry, and where memory runs out
--- the step isn't made
+-- The outcome is that of the step, and so is the world after. A full history takes no entry, and where memory runs out,
+-- for a call that nothing refuses, the step isn't made
 abbrev pub Answers : Book → Step → Answer → Book → Type 0
-Answers b step' answer.Replied b' = (reply : Reply) × (advance b.world step' ≡ (world.Replied reply, b'.world))
+Answers b step' answer.Replied b' =
+    (is_full b.world ≡ false) × (reply : Reply) × (advance b.world step' ≡ (world.Replied reply, b'.world))
 Answers b step' answer.HistoryFull b' =
     (advance b.world step' ≡ (world.Replied (Refused HistoryFull), b'.world)) × (b' ≡ b)
-Answers b step' answer.NoMemory b' = b' ≡ b
+Answers b step' answer.NoMemory b' = (b' ≡ b) × Starves b.world step'
+
+-- The calls for the client alone that may take memory
+abbrev pub TakesMemory : Call → Type 0
+TakesMemory call =
+    ((rights : Access) × (call ≡ Ruleset rights)) ⊎ ((number : ℕ) × (call ≡ Confine number)) ⊎ (call ≡ Spawn)
 
 -- A new client keeps the last of the free slots
 pub record TakesSpare (b b' : Book) : Type 0 where

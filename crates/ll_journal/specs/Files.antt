@@ -9,7 +9,7 @@ use Rattle.ll_seq.specs.declared.reply.Reply.{Reply}
 use Rattle.ll_seq.specs.declared.reply.Reply.TheVariants.{Done}
 use Rattle.ll_seq.specs.Effects.{let_go, lives, with_bytes, with_client}
 use Rattle.ll_seq.specs.State.{State, bytes_of}
-use Rattle.ll_seq.specs.Step.{step, client_of}
+use Rattle.ll_seq.specs.Step.{step, refusals, client_of}
 use Rattle.ll_held.specs.declared.held.Held.{Held}
 use Rattle.ll_held.specs.Lent.{vacant}
 use Rattle.ll_inodes.specs.InodeTable.{Table, IsTable, without_inode}
@@ -42,6 +42,12 @@ abbrev pub ComesOn : Descriptor → (ℕ → Call) → List ℕ → Reply → Li
 ComesOn file call bytes reply after =
     (s : State) (number fresh fd : ℕ) → get (client_of s number).descriptors fd ≡ Some file
     → bytes_of s file.inode ≡ bytes → step s number (call fd) fresh ≡ (reply, with_bytes s file.inode after)
+
+-- nothing refuses the call on the descriptor's number, in each tree where the caller has this descriptor
+abbrev pub IsFreeOn : Descriptor → (ℕ → Call) → Type 0
+IsFreeOn file call =
+    (s : State) (number fd : ℕ) → get (client_of s number).descriptors fd ≡ Some file
+    → refusals s (client_of s number) (call fd) ≡ []
 
 -- without the descriptor
 abbrev pub unopened : ClientRecord → ℕ → ClientRecord

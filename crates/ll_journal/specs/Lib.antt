@@ -6,9 +6,11 @@ pub mod Own
 pub mod SeatCodes
 pub mod Seated
 pub mod Looks
+pub mod Starving
 pub mod WalkEnds
 pub mod Stopped
 pub mod Performed
 pub mod Kept
 pub mod Files
 pub mod Decidings
+pub mod Needs

@@ -63,15 +63,19 @@ abbrev pub look_from : Map nat_cmp Fact → Option ℕ → Option Name → Held 
 look_from facts None next from to = Astray
 look_from facts (Some here) next from to = if from.inode == here then look_for facts next from to else Astray
 
--- the seat's walk stands in these directories alone
-abbrev pub stands_among : List ℕ → Seat → Bool
-stands_among inodes seat =
-    option_map_or (λ (walk : Walk). list_all (λ (leg : Leg). is_in inodes leg.here) (legs walk.at)) seat.walk true
+-- the inode lies in what is lent
+abbrev pub lends : List Held → ℕ → Bool
+lends lent inode = list_any (λ (held : Held). held.inode == inode) lent
 
-abbrev pub look_again : List ℕ → Seat → Look
-look_again inodes seat =
+-- each directory where the seat's walk stands is lent
+abbrev pub is_all_lent : List Held → Seat → Bool
+is_all_lent lent seat =
+    option_map_or (λ (walk : Walk). list_all (λ (leg : Leg). lends lent leg.here) (legs walk.at)) seat.walk true
+
+abbrev pub look_again : List Held → Seat → Look
+look_again lent seat =
     if not (option_map_or (λ (walk : Walk). walk.stale) seat.walk false) then NotNow
-    else if stands_among inodes seat then Go
+    else if is_all_lent lent seat then Go
     else Astray
 
 abbrev pub look_down : Map nat_cmp Fact → Seat → Held → Held → Look
@@ -156,10 +160,6 @@ abbrev pub is_marked_there : (ℕ → Bool) → Call → Found → Bool
 is_marked_there marked call found =
     is_marked_at marked (first_path call) found.first || is_marked_at marked (second_path call) found.second
 
--- the inode lies in what is lent
-abbrev pub lends : List Held → ℕ → Bool
-lends lent inode = list_any (λ (held : Held). held.inode == inode) lent
-
 -- besides the directories, what the call may need is lent
 abbrev pub is_enough : List ℕ → List Held → ℕ → Call → Found → Bool
 is_enough slots lent spare call found =
@@ -184,11 +184,6 @@ abbrev pub StopsBetween : Map nat_cmp Fact → Bool → (ℕ → Bool) → List 
 StopsBetween facts full marked slots lent spare call first second stop =
     ((a b : Held) × Lies lent first a × Lies lent second b × (stop ≡ stop_there marked slots lent spare call (found_at facts full a b call)))
     ⊎ ((Misses first lent ⊎ Misses second lent) × (stop ≡ stops.Astray))
-
--- each directory where the seat's walk stands is lent
-abbrev pub is_all_lent : List Held → Seat → Bool
-is_all_lent lent seat =
-    option_map_or (λ (walk : Walk). list_all (λ (leg : Leg). lends lent leg.here) (legs walk.at)) seat.walk true
 
 abbrev pub StopsAtEnds : Map nat_cmp Fact → Bool → (ℕ → Bool) → List ℕ → List Held → Seat → Stop → Type 0
 StopsAtEnds facts full marked slots lent seat stop =

@@ -13,7 +13,7 @@ use Rattle.ll_seq.specs.Effects.{with_client, child_of}
 use Rattle.ll_seq.specs.Facts.{AreKept}
 use Rattle.ll_inodes.specs.InodeTable.{Table}
 use Rattle.ll_seq.specs.declared.rules.Rules.{Rules}
-use Rattle.ll_seq.specs.Step.{step}
+use Rattle.ll_seq.specs.Step.{step, refusals}
 use Rattle.ll_walks.specs.World.{is_alone, early_refusals}
 use Rattle.ll_journal.specs.Book.{Seat}
 use Rattle.ll_journal.specs.declared.alone.Own.{Own}
@@ -38,6 +38,12 @@ abbrev pub Comes : ℕ → ClientRecord → RecordCall → Reply → ClientRecor
 Comes abi c asked reply after =
     (call' : Call) → Asks c call' asked → (s : State) (number fresh : ℕ) → s.rules.abi ≡ abi
     → get s.clients number ≡ Some c → step s number call' fresh ≡ (reply, with_client s number after)
+
+-- in each such tree nothing refuses the call
+abbrev pub IsFreeOwn : ℕ → ClientRecord → RecordCall → Type 0
+IsFreeOwn abi c asked =
+    (call' : Call) → Asks c call' asked → (s : State) (number : ℕ) → s.rules.abi ≡ abi
+    → get s.clients number ≡ Some c → refusals s c call' ≡ []
 
 -- the child of the client at the place has the last seat, and the last of the free slots; its descriptors are counted
 pub record Spawns

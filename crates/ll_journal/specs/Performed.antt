@@ -1,5 +1,5 @@
 -- A call at its walk's ends: what is given for it, and what comes of it. No public contract cites it. own
-use Rattle.std.specs.Prelude.{◌≡◌, ◌≢◌, ℕ, true, ◌==◌, List, Option, slice_index_or}
+use Rattle.std.specs.Prelude.{◌≡◌, ◌≢◌, ℕ, true, ◌==◌, List, [], Option, slice_index_or}
 use Rattle.std.specs.List.{list_any}
 use Rattle.ll_answer.specs.Found.{AreFacts}
 use Rattle.ll_answer.specs.Near.{nodes_of, may_make}
@@ -13,7 +13,7 @@ use Rattle.ll_seq.specs.declared.client.ClientRecord.{ClientRecord}
 use Rattle.ll_seq.specs.declared.reply.Reply.{Reply}
 use Rattle.ll_seq.specs.Call.{first_path, second_path}
 use Rattle.ll_seq.specs.State.{State}
-use Rattle.ll_seq.specs.Step.{step}
+use Rattle.ll_seq.specs.Step.{step, refusals, client_of}
 use Rattle.ll_walks.specs.Walk.{is_in}
 use Rattle.ll_journal.specs.Decidings.{IsEndAt}
 
@@ -34,6 +34,13 @@ pub record IsAtEnd
   pub new_lent : lies_in table.inodes slots found.second.directory
   pub nodes : (inode : ℕ) → is_in (nodes_of call found) inode ≡ true → inode ≢ 0 → lies_in table.inodes slots inode
   pub kept : may_make call found ≡ true → is_in slots spare ≡ true
+
+-- nothing refuses the call, in whichever tree its walk has ended so
+abbrev pub IsFreeAtEnd : ClientRecord → ℕ → Table → List ℕ → List Held → Call → List ℕ → List ℕ → Found → Type 0
+IsFreeAtEnd c spare table slots lent call first second found =
+    (s : State) (number : ℕ) (marks : ℕ → Option ℕ) (spares : List ℕ) (place : ℕ)
+    → IsAtEnd s number marks spares place c spare table slots lent call first second found
+    → refusals s (client_of s number) call ≡ []
 
 -- the reply is the step's, and the tree after it is made
 pub record Performs

@@ -26,6 +26,10 @@ is_at_top w number = option_map_or (λ (walk : Walk). is_above walk.at) (get w.w
 abbrev pub leg_in_turn : World → ℕ → Option Leg
 leg_in_turn w number = option_and_then (λ (walk : Walk). turn walk.at) (get w.walks number)
 
+-- the client's leg in turn, if there is one, stands in the directory of the slot
+abbrev pub IsInTurn : Book → ℕ → ℕ → Type 0
+IsInTurn b number slot = (leg : Leg) → leg_in_turn b.world number ≡ Some leg → inode_in b slot ≡ leg.here
+
 -- its walk is under way, and isn't stale
 abbrev pub is_going : World → ℕ → Bool
 is_going w number = option_map_or (λ (walk : Walk). not walk.stale) (get w.walks number) false
@@ -48,6 +52,15 @@ abbrev pub IsAstrayAt : Book → ℕ → List ℕ → Type 0
 IsAstrayAt b number slots =
     (walk : Walk) × (get b.world.walks number ≡ Some walk) × (walk.stale ≡ true)
     × ¬ ((inode : ℕ) → marks walk inode ≡ true → is_in (map (inode_in b) slots) inode ≡ true)
+
+-- the client's leg in turn stands in the slot's directory, and would go down from there to another
+pub record GoesDown (b : Book) (number from : ℕ) : Type 0 where
+  pub going : is_going b.world number ≡ true
+  pub leg : Leg
+  pub next : Leg
+  pub in_turn : leg_in_turn b.world number ≡ Some leg
+  pub further_is : further (shown b.world) (domain_of b.world number) leg ≡ Some next
+  pub from_here : inode_in b from ≡ leg.here
 
 -- the client's leg in turn stands in the one slot's directory, and would go to that of the other slot
 pub record IsNext (b : Book) (number from to : ℕ) : Type 0 where

@@ -10,23 +10,24 @@ use Rattle.ll_seq.specs.declared.reply.Reply.TheVariants.{Refused}
 use Rattle.ll_seq.specs.Call.{path_of}
 use Rattle.ll_seq.specs.State.{State}
 use Rattle.ll_seq.specs.Tree.{named}
-use Rattle.ll_walks.specs.Walk.{Walk, is_in, marks}
+use Rattle.ll_walks.specs.Walk.{Walk, at_ends, is_in, marks}
 use Rattle.ll_walks.specs.World as world
 use Rattle.ll_walks.specs.World.{World, advance, shown, is_full, last_node, without_walk}
 use Rattle.ll_walks.specs.declared.step.Step.TheVariants.{Commit}
 use Rattle.ll_journal.specs.declared.outcome.Ending.{Ending}
 use Rattle.ll_journal.specs.declared.outcome.Ending.TheVariants as ending
 use Rattle.ll_journal.specs.Book.{Book, inode_in}
+use Rattle.ll_journal.specs.Starving.{StarvesAtEnd}
 
--- The outcome is the step's, and so is the world after. Astray is none of its outcomes: then nothing changes. Where memory runs out the walk has
--- ended all the same
+-- The outcome is the step's, and so is the world after. Astray is none of its outcomes: then nothing changes. Where memory runs out, for a call
+-- that nothing refuses, the walk has ended all the same
 abbrev pub Ends : Book → ℕ → Ending → Book → Type 0
 Ends b number ending.NotNow b' = advance b.world (Commit number) ≡ (world.NotNow, b'.world)
 Ends b number ending.Astray b' = b' ≡ b
 Ends b number ending.Replied b' =
     (is_full b.world ≡ false) × (reply : Reply) × (advance b.world (Commit number) ≡ (world.Replied reply, b'.world))
 Ends b number ending.HistoryFull b' = advance b.world (Commit number) ≡ (world.Replied (Refused HistoryFull), b'.world)
-Ends b number ending.NoMemory b' = b'.world ≡ without_walk b.world number
+Ends b number ending.NoMemory b' = StarvesAtEnd b.world number × (b'.world ≡ without_walk b.world number)
 
 -- the nodes under last names that the call may change or tell of
 abbrev pub nodes_at_end : State → Call → List ℕ
@@ -84,11 +85,13 @@ spare_of b number = slice_index_or b.spares (number - 1) 0
 abbrev pub is_lent : Book → List ℕ → ℕ → Bool
 is_lent b slots inode = is_in (map (inode_in b) slots) inode
 
--- all that the walk's commit may need: the directories where it stands, those nodes, and the spare slot where it would make one
+-- all that the walk's commit may need: the directories where it stands, and at its ends those nodes, and the spare slot where it would make one
 pub record AreEnough (b : Book) (number : ℕ) (walk : Walk) (slots : List ℕ) : Type 0 where
   pub marked : (inode : ℕ) → marks walk inode ≡ true → is_lent b slots inode ≡ true
-  pub nodes : (inode : ℕ) → is_in (nodes_at_end (shown b.world) walk.call) inode ≡ true → is_lent b slots inode ≡ true
-  pub spare : would_make (shown b.world) walk.call ≡ true → is_in slots (spare_of b number) ≡ true
+  pub nodes :
+      at_ends walk.call walk.at ≡ true → (inode : ℕ) → is_in (nodes_at_end (shown b.world) walk.call) inode ≡ true
+      → is_lent b slots inode ≡ true
+  pub spare : at_ends walk.call walk.at ≡ true → would_make (shown b.world) walk.call ≡ true → is_in slots (spare_of b number) ≡ true
 
 -- the walk goes on, and the slots aren't enough
 abbrev pub IsAstrayAtEnd : Book → ℕ → List ℕ → Type 0

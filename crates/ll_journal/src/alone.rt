@@ -4,7 +4,7 @@ ghost use Rattle.std.specs.Prelude.{◌≡◌, ◌≢◌, ◌<◌, None, Some, t
 ghost use Rattle.ll_rights.specs.Map.{has};
 ghost use Rattle.ll_walks.specs.World as world;
 ghost use Rattle.ll_seq.specs.declared.reply.Reply.TheVariants as replies;
-ghost use Rattle.ll_journal.specs.Own.{Asks, IsOwn, Comes};
+ghost use Rattle.ll_journal.specs.Own.{Asks, IsOwn, Comes, IsFreeOwn};
 
 use ll_answer::refused_early;
 use ll_rights::{Abi, Access, Errno};
@@ -82,7 +82,8 @@ pub(crate) fn asked_of(caller: &ClientRecord, call: &Call) -> Option<Own>
 
 /// The reply, unless memory ran out.
 pub(crate) fn refusal(errno: Errno) -> Result<Reply, AllocError>
-    ensures { IfOk result (λ reply. (errno ≢ Errno.NoMemory) × (reply ≡ replies.Refused errno)) }
+    ensures ok { IfOk result (λ reply. (errno ≢ Errno.NoMemory) × (reply ≡ replies.Refused errno)) }
+    ensures err { OnErr result (errno ≡ Errno.NoMemory) }
 {
     if errno == Errno::NoMemory {
         return Err(AllocError);
@@ -100,6 +101,7 @@ fn create_ruleset(
     ensures ok { IfOk result (λ reply. Comes abi client.old (RecordCall.Ruleset rights) reply client.new) }
     ensures descriptors { client.new.descriptors ≡ client.old.descriptors }
     ensures err { OnErr result (client.new ≡ client.old) }
+    ensures starved { OnErr result (IsFreeOwn abi client.old (RecordCall.Ruleset rights)) }
 {
     match client.create_ruleset(alloc, abi, rights) {
         Ok(number) => Ok(Reply::Created(number)),
@@ -113,6 +115,7 @@ fn confine(client: &mut ClientRecord, number: u64) -> Result<Reply, AllocError>
         → Comes abi client.old (RecordCall.Confine number) reply client.new) }
     ensures descriptors { client.new.descriptors ≡ client.old.descriptors }
     ensures err { OnErr result (client.new ≡ client.old) }
+    ensures starved { OnErr result ((abi : Abi) → IsFreeOwn abi client.old (RecordCall.Confine number)) }
 {
     if client.rulesets.get(number).is_none() {
         return Ok(Reply::Refused(Errno::EBADF));
@@ -123,7 +126,7 @@ fn confine(client: &mut ClientRecord, number: u64) -> Result<Reply, AllocError>
     }
 }
 
-/// The reply, after the call has been made.
+/// The reply, after the call has been made. Errors: memory ran out, and nothing has changed.
 pub(crate) fn answer(
     client: &mut ClientRecord,
     alloc: Global,
@@ -133,6 +136,7 @@ pub(crate) fn answer(
     ensures ok { IfOk result (λ reply. Comes abi client.old asked reply client.new) }
     ensures descriptors { client.new.descriptors ≡ client.old.descriptors }
     ensures err { OnErr result (client.new ≡ client.old) }
+    ensures starved { OnErr result (IsFreeOwn abi client.old asked) }
 {
     match asked {
         RecordCall::Ruleset(rights) => create_ruleset(client, alloc, abi, rights),

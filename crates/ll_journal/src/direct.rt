@@ -1,6 +1,6 @@
 //! The calls that don't walk: a client's on itself, and the coming of clients.
 
-ghost use Rattle.std.specs.Prelude.{◌≡◌, ◌≢◌, ℕ, ◌+◌, ◌<◌, [], ◌∷◌, ◌++◌, None, length, IfOk, IfErr, OnOk, OnErr};
+ghost use Rattle.std.specs.Prelude.{◌≡◌, ◌≢◌, ℕ, ◌+◌, ◌<◌, [], ◌∷◌, ◌++◌, None, length, Ok, Err, IfOk, IfErr, OnOk, OnErr};
 ghost use Rattle.ll_walks.specs.World as world;
 ghost use Rattle.ll_walks.specs.declared.step.Step.TheVariants as steps;
 ghost use Rattle.ll_seq.specs.declared.reply.Reply.TheVariants as replies;
@@ -86,6 +86,7 @@ fn answer_spawn(
         seats.old.items table.old seats.new.items table.new) }
     ensures err { OnErr result
         ((seats.new.items ≡ seats.old.items) × (table.new ≡ table.old)) }
+    ensures few { OnErr result (length seats.old.items < TREE_CLIENTS) }
 {
     if TREE_CLIENTS <= seats.len() {
         return Ok(Reply::Refused(Errno::EMFILE));
@@ -126,7 +127,7 @@ pub(crate) fn enter(
 
 impl Journal {
     ghost use Rattle.ll_journal.specs.Book.{Spares};
-    ghost use Rattle.ll_journal.specs.Direct.{Answers, LeavesSlots, TakesSpare};
+    ghost use Rattle.ll_journal.specs.Direct.{Answers, LeavesSlots, TakesMemory, TakesSpare};
 
     /// The entries of the history, in their order.
     pub fn entries(&self) -> &[Entry]
@@ -142,6 +143,8 @@ impl Journal {
             world.advance self.old.world steps.Join ≡ (world.Joined number, self.new.world)) }
         ensures refused { IfErr result (λ errno. errno ≢ Errno.NoMemory
             → world.advance self.old.world steps.Join ≡ (world.Replied (replies.Refused errno), self.old.world)) }
+        ensures starved { result ≡ Err Errno.NoMemory → (after : world.World)
+            × (world.advance self.old.world steps.Join ≡ (world.Joined (world.next_number self.old.world), after)) }
         ensures same { OnErr result (self.new ≡ self.old) }
         ensures spares { Spares self.old self.new [] }
         ensures rest { OnOk result (TakesSpare self.old self.new) }
@@ -165,7 +168,7 @@ impl Journal {
     }
 
     /// The client's call for itself alone is made and answered, or comes back where it is none, or the client isn't
-    /// there or has a walk under way.
+    /// there or has a walk under way. Only ruleset, confine and spawn take memory.
     pub fn client_step(&mut self, client: u64, call: Call) -> Result<Answer, Call>
         ensures does { IfOk result (λ answer. Answers self.old (steps.ClientStep client call) answer self.new) }
         ensures not_now { OnErr result
@@ -173,6 +176,7 @@ impl Journal {
         ensures back { IfErr result (λ back. back ≡ call) }
         ensures same { OnErr result (self.new ≡ self.old) }
         ensures spares { Spares self.old self.new [] }
+        ensures calm { result ≡ Ok Answer.NoMemory → TakesMemory call }
         ensures rest { LeavesSlots call self.old self.new }
     {
         let Some(place) = place_of(&self.seats, client) else {

@@ -3,7 +3,7 @@
 ghost use Rattle.std.specs.Prelude.{◌≡◌, false, IfOk, OnErr};
 ghost use Rattle.ll_rights.specs.Kind.{is_dir};
 ghost use Rattle.ll_seq.specs.declared.call.Call.TheVariants as calls;
-ghost use Rattle.ll_journal.specs.Files.{ComesOn, IsOn, on_bytes};
+ghost use Rattle.ll_journal.specs.Files.{ComesOn, IsFreeOn, IsOn, on_bytes};
 
 use crate::alone::refusal;
 use ll_decide::{Cause, Denial, Place};
@@ -68,9 +68,10 @@ pub(crate) fn file_call(call: &Call) -> Option<(u64, FileCall<'_>)>
     }
 }
 
-/// What a reading is answered.
+/// What a reading is answered. Errors: memory ran out.
 fn read(file: &Descriptor, offset: u64, count: u64, node: &Slot) -> Result<Reply, AllocError>
-    ensures { IfOk result (λ reply. ComesOn file.now (λ fd. calls.Read fd offset count) node.now.bytes reply node.now.bytes) }
+    ensures ok { IfOk result (λ reply. ComesOn file.now (λ fd. calls.Read fd offset count) node.now.bytes reply node.now.bytes) }
+    ensures starved { OnErr result (IsFreeOn file.now (λ fd. calls.Read fd offset count)) }
 {
     if MOST_READ < count {
         return Ok(Reply::Refused(Errno::EINVAL));
@@ -88,6 +89,7 @@ fn write(file: &Descriptor, offset: u64, bytes: &Data, node: &mut Slot) -> Resul
     ensures ok { IfOk result (λ reply. ComesOn file.now (λ fd. calls.Write fd offset bytes.now) node.old.bytes reply node.new.bytes) }
     ensures rest { node.new ≡ record node.old { bytes = node.new.bytes } }
     ensures err { OnErr result (node.new ≡ node.old) }
+    ensures starved { OnErr result (IsFreeOn file.now (λ fd. calls.Write fd offset bytes.now)) }
 {
     if !file.writes {
         return Ok(Reply::Refused(Errno::EBADF));
@@ -104,6 +106,7 @@ fn resize(file: &Descriptor, size: u64, node: &mut Slot) -> Result<Reply, AllocE
     ensures ok { IfOk result (λ reply. ComesOn file.now (λ fd. calls.Ftruncate fd size) node.old.bytes reply node.new.bytes) }
     ensures rest { node.new ≡ record node.old { bytes = node.new.bytes } }
     ensures err { OnErr result (node.new ≡ node.old) }
+    ensures starved { OnErr result (IsFreeOn file.now (λ fd. calls.Ftruncate fd size)) }
 {
     if !file.writes {
         return Ok(Reply::Refused(Errno::EINVAL));
@@ -132,6 +135,7 @@ pub(crate) fn answer(
     ensures ok { IfOk result (λ reply. ComesOn file.now (on_bytes asked.entry) held.old.node.bytes reply held.new.node.bytes) }
     ensures rest { held.new ≡ record held.old { node = record held.old.node { bytes = held.new.node.bytes } } }
     ensures err { OnErr result (held.new ≡ held.old) }
+    ensures starved { OnErr result (IsFreeOn file.now (on_bytes asked.entry)) }
 {
     match asked {
         BytesCall::Read(offset, count) => read(file, offset, count, &held.node),

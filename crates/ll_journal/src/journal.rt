@@ -7,7 +7,6 @@ ghost use Rattle.std.specs.Option.{option_map_or};
 ghost use Rattle.ll_seq.specs.State.{root};
 ghost use Rattle.ll_walks.specs.Walk.{Walk, forked, marks};
 ghost use Rattle.ll_journal.specs.Looks.{goes_on};
-ghost use Rattle.ll_held.specs.Lent.{unmarked};
 ghost use Rattle.ll_journal.specs.Kept.{seat_at};
 
 use crate::look::{Look, directory_below, look_again, look_at_root, look_down};
@@ -15,7 +14,7 @@ use crate::outcome::Outcome;
 use crate::place::Place;
 use crate::seat::Seat;
 use crate::walked::{is_free, next_gate};
-use ll_held::Held;
+use ll_held::{Held, unmark};
 use ll_inodes::Inodes;
 use ll_rights::limits::TREE_CLIENTS;
 use ll_seq::{Call, History, Rules};
@@ -97,19 +96,10 @@ fn may_fork(seat: &Seat) -> bool
     seat.goes_on() && seat.may_fork()
 }
 
-/// The client's mark goes from the slot, if it is there.
-fn unmark(held: &mut Held, client: u64)
-    ensures { held.new ≡ unmarked client held.old }
-{
-    if held.node.mark() == Some(client) {
-        held.node.set_mark(None);
-    }
-}
-
 impl Journal {
     ghost use Rattle.ll_journal.specs.Book.{Spares, inode_in, new_book, slot_of};
     ghost use Rattle.ll_journal.specs.WalkPlaces.{place_in};
-    ghost use Rattle.ll_journal.specs.Steps.{Does, IsAstrayAt, IsAstrayAtTop, IsAstrayBelow, IsNext};
+    ghost use Rattle.ll_journal.specs.Steps.{Does, GoesDown, IsAstrayAt, IsAstrayAtTop, IsAstrayBelow, IsNext};
     ghost use Rattle.ll_walks.specs.World.{Begun, NotNow, advance};
     ghost use Rattle.ll_walks.specs.declared.step.Step.TheVariants.{Begin, Descend, Fork, Restart};
 
@@ -237,7 +227,8 @@ impl Journal {
     pub fn next_slot(&self, client: u64, slot: u64, here: &Held) -> Option<u64>
         requires { here.now ≡ slot_of self.now slot }
         ensures some { IfSome result (λ next. IsNext self.now client slot next) }
-        ensures none { IfNone result ((next : ℕ) → ¬ IsNext self.now client slot next) }
+        ensures within { IfSome result (λ next. next < length self.now.inodes) }
+        ensures none { IfNone result (¬ GoesDown self.now client slot) }
     {
         let Some(place) = place_of(&self.seats, client) else {
             return None;
@@ -266,102 +257,27 @@ impl Journal {
         Outcome::Forked
     }
 
-    /// The client's stale walk starts again, if it stands in none but these directories.
-    fn start_again(&mut self, client: u64, inodes: &[u64]) -> Outcome
+    /// The client's stale walk starts again, above the root. What is lent lies in these slots: those of the directories
+    /// where it stands. Takes no memory.
+    pub fn restart(&mut self, client: u64, slots: &[u64], lent: &mut [Held]) -> Outcome
+        requires { lent.old ≡ map (slot_of self.old) slots.now }
         ensures does { Does self.old (Restart client) result self.new }
-        ensures lent { result ≡ Outcome.Restarted → (k : ℕ) → slot_of self.new k ≡ unmarked client (slot_of self.old k) }
-        ensures same { result ≢ Outcome.Restarted → self.new ≡ self.old }
-        ensures spares { (ks : List ℕ) → map (inode_in self.old) ks ≡ inodes.now → Spares self.old self.new ks }
+        ensures lent { lent.new ≡ map (slot_of self.new) slots.now }
+        ensures spares { Spares self.old self.new slots.now }
         ensures rest { self.new ≡ record self.old { world = self.new.world } }
-        ensures astray { result ≡ Outcome.Astray → (ks : List ℕ) → map (inode_in self.old) ks ≡ inodes.now → IsAstrayAt self.old client ks }
+        ensures astray { result ≡ Outcome.Astray → IsAstrayAt self.old client slots.now }
     {
         let Some(place) = place_of(&self.seats, client) else {
             return Outcome::NotNow;
         };
-        match look_again(&self.seats[place], inodes) {
+        match look_again(&self.seats[place], lent) {
             Look::NotNow => return Outcome::NotNow,
             Look::Astray => return Outcome::Astray,
             Look::Go => {}
         }
         let seat = &mut self.seats[place];
         seat.restart();
+        unmark(lent, client);
         Outcome::Restarted
-    }
-
-    /// The client's stale walk starts again, above the root. The slot is that of the one directory where it stands.
-    /// Takes no memory.
-    pub fn restart(&mut self, client: u64, slot: u64, here: &mut Held) -> Outcome
-        requires { here.old ≡ slot_of self.old slot }
-        ensures does { Does self.old (Restart client) result self.new }
-        ensures lent { here.new ≡ slot_of self.new slot }
-        ensures spares { Spares self.old self.new (slot ∷ []) }
-        ensures rest { self.new ≡ record self.old { world = self.new.world } }
-        ensures astray { result ≡ Outcome.Astray → IsAstrayAt self.old client (slot ∷ []) }
-    {
-        let outcome = self.start_again(client, &[here.inode]);
-        if outcome != Outcome::Restarted {
-            return outcome;
-        }
-        unmark(here, client);
-        outcome
-    }
-
-    /// The same, where the walk stands in two directories.
-    pub fn restart_two(
-        &mut self,
-        client: u64,
-        slot: u64,
-        here: &mut Held,
-        other_slot: u64,
-        other: &mut Held,
-    ) -> Outcome
-        requires here { here.old ≡ slot_of self.old slot }
-        requires other { other.old ≡ slot_of self.old other_slot }
-        ensures does { Does self.old (Restart client) result self.new }
-        ensures here { here.new ≡ slot_of self.new slot }
-        ensures other { other.new ≡ slot_of self.new other_slot }
-        ensures spares { Spares self.old self.new (slot ∷ other_slot ∷ []) }
-        ensures rest { self.new ≡ record self.old { world = self.new.world } }
-        ensures astray { result ≡ Outcome.Astray → IsAstrayAt self.old client (slot ∷ other_slot ∷ []) }
-    {
-        let outcome = self.start_again(client, &[here.inode, other.inode]);
-        if outcome != Outcome::Restarted {
-            return outcome;
-        }
-        unmark(here, client);
-        unmark(other, client);
-        outcome
-    }
-
-    /// The same, where it stands in three: the common directory, and the ends of both branches.
-    pub fn restart_three(
-        &mut self,
-        client: u64,
-        common_slot: u64,
-        common: &mut Held,
-        first_slot: u64,
-        first: &mut Held,
-        second_slot: u64,
-        second: &mut Held,
-    ) -> Outcome
-        requires common { common.old ≡ slot_of self.old common_slot }
-        requires first { first.old ≡ slot_of self.old first_slot }
-        requires second { second.old ≡ slot_of self.old second_slot }
-        ensures does { Does self.old (Restart client) result self.new }
-        ensures common { common.new ≡ slot_of self.new common_slot }
-        ensures first { first.new ≡ slot_of self.new first_slot }
-        ensures second { second.new ≡ slot_of self.new second_slot }
-        ensures spares { Spares self.old self.new (common_slot ∷ first_slot ∷ second_slot ∷ []) }
-        ensures rest { self.new ≡ record self.old { world = self.new.world } }
-        ensures astray { result ≡ Outcome.Astray → IsAstrayAt self.old client (common_slot ∷ first_slot ∷ second_slot ∷ []) }
-    {
-        let outcome = self.start_again(client, &[common.inode, first.inode, second.inode]);
-        if outcome != Outcome::Restarted {
-            return outcome;
-        }
-        unmark(common, client);
-        unmark(first, client);
-        unmark(second, client);
-        outcome
     }
 }

@@ -97,14 +97,14 @@ pub(crate) fn look_down(table: &Inodes, seat: &Seat, from: &Held, to: &Held) -> 
     }
 }
 
-/// Of a new start: the walk stands in none but these directories.
-pub(crate) fn look_again(seat: &Seat, inodes: &[u64]) -> Look
-    ensures { result ≡ looks.look_again inodes.now seat.now }
+/// Of a new start, where this is lent.
+pub(crate) fn look_again(seat: &Seat, lent: &[Held]) -> Look
+    ensures { result ≡ looks.look_again lent.now seat.now }
 {
     if !seat.is_stale() {
         return Look::NotNow;
     }
-    if seat.stands_among(inodes) {
+    if seat.is_all_lent(lent) {
         Look::Go
     } else {
         Look::Astray

@@ -4,7 +4,7 @@ ghost use Rattle.std.specs.Prelude.{◌≡◌, ◌≢◌, ◌<◌, ℕ, [], ◌�
 ghost use Rattle.ll_rights.specs.Kind.{is_dir};
 ghost use Rattle.ll_rights.specs.Map.{get};
 ghost use Rattle.ll_seq.specs.declared.client.Descriptor as record_of;
-ghost use Rattle.ll_journal.specs.Files.{LetsGo, Serves};
+ghost use Rattle.ll_journal.specs.Files.{IsFreeOn, LetsGo, Serves, on_file};
 
 use crate::direct::{Answer, enter};
 use crate::files::{FileCall, answer, file_call};
@@ -64,6 +64,7 @@ fn serve(
     requires { is_dir file.old.node.kind ≡ false }
     ensures ok { IfOk result (λ reply. Serves number held asked.entry seat.old table.old file.old reply seat.new table.new file.new) }
     ensures err { OnErr result ((seat.new ≡ seat.old) × (table.new ≡ table.old) × (file.new ≡ file.old)) }
+    ensures starved { OnErr result (IsFreeOn held (on_file asked.entry)) }
     ensures calm { OnErr result (asked.entry ≢ FileCall.Close) }
 {
     match asked {
@@ -127,6 +128,7 @@ impl Journal {
     pub fn file_slot(&self, client: u64, number: u64) -> Option<u64>
         ensures some { IfSome result (λ slot. (file : record_of.Descriptor)
             × IsOpen self.now.world client number file × (inode_in self.now slot ≡ file.inode)) }
+        ensures within { IfSome result (λ slot. slot < length self.now.inodes) }
         ensures none { IfNone result ((file : record_of.Descriptor) → ¬ IsOpen self.now.world client number file) }
     {
         let Some(place) = place_of(&self.seats, client) else {

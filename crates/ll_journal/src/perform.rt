@@ -3,7 +3,7 @@
 ghost use Rattle.std.specs.Prelude.{◌≡◌, ℕ, true, List, Option, is_ok, IfOk, OnErr};
 ghost use Rattle.ll_answer.specs.Lean.{spares_memory};
 ghost use Rattle.ll_seq.specs.State.{State};
-ghost use Rattle.ll_journal.specs.Performed.{IsAtEnd, Performs};
+ghost use Rattle.ll_journal.specs.Performed.{IsAtEnd, IsFreeAtEnd, Performs};
 
 use crate::decided::{decided, tell};
 use crate::seat::Ended;
@@ -31,6 +31,7 @@ pub(crate) fn perform(
         → IsAtEnd s number marks spares place client.old spare.old table.old slots.now lent.old walk.now.call walk.now.first walk.now.second found.now
         → Performs s number marks spares place table.old slots.now walk.now.call reply client.new spare.new table.new lent.new) }
     ensures err { OnErr result ((client.new ≡ client.old) × (spare.new ≡ spare.old) × (table.new ≡ table.old) × (lent.new ≡ lent.old)) }
+    ensures starved { OnErr result (IsFreeAtEnd client.old spare.old table.old slots.now lent.old walk.now.call walk.now.first walk.now.second found.now) }
     ensures calm { spares_memory walk.now.call ≡ true → is_ok result ≡ true }
 {
     let effect = match decided(client, walk, found) {

@@ -16,14 +16,15 @@ ghost use Rattle.ll_walks.specs.Commits.{first_end, second_end};
 ghost use Rattle.ll_walks.specs.Walk as walks;
 ghost use Rattle.ll_walks.specs.World.{is_alone, is_walked, overtaken};
 ghost use Rattle.ll_journal.specs.Looks as looks;
-ghost use Rattle.ll_journal.specs.Looks.{stands_among};
 ghost use Rattle.ll_journal.specs.WalkPlaces.{place_of};
-ghost use Rattle.ll_journal.specs.Performed.{IsAtEnd, Performs};
+ghost use Rattle.ll_journal.specs.Needs.{slots_in};
+ghost use Rattle.ll_journal.specs.Performed.{IsAtEnd, IsFreeAtEnd, Performs};
 ghost use Rattle.ll_journal.specs.Seated.{turn_at};
 
 use crate::alone::{Own, RecordCall, answer, asked_of};
 use crate::perform::perform;
 use crate::place::Place;
+use crate::slots::Slots;
 use crate::walked::walks;
 use crate::way::{first_name, has_two_paths, know_ways, second_name, trunk_name};
 use ll_answer::{Found, Rule};
@@ -246,7 +247,7 @@ pub(crate) struct Ended {
 }
 
 impl Seat {
-    ghost use Rattle.ll_journal.specs.Own.{Comes, IsOwn};
+    ghost use Rattle.ll_journal.specs.Own.{Comes, IsFreeOwn, IsOwn};
     ghost use Rattle.ll_journal.specs.Seated.{again, call_in, entered, first_here_in, gone_down, here_in, is_at_ends, next_in, second_here_in, split};
 
     /// A client without a walk.
@@ -322,6 +323,7 @@ impl Seat {
         ensures descriptors { self.new.client.descriptors ≡ self.old.client.descriptors }
         ensures rest { self.new ≡ record self.old { client = self.new.client } }
         ensures err { OnErr result (self.new ≡ self.old) }
+        ensures starved { OnErr result (IsFreeOwn abi self.old.client asked) }
     {
         answer(&mut self.client, alloc, abi, asked)
     }
@@ -419,24 +421,6 @@ impl Seat {
         }
     }
 
-    /// Whether the walk stands in none but these directories.
-    pub(crate) fn stands_among(&self, inodes: &[u64]) -> bool
-        ensures { result ≡ stands_among inodes.now self.now }
-    {
-        if self.call.is_none() {
-            return true;
-        }
-        match self.stage {
-            Stage::Above => true,
-            Stage::Down => is_in(inodes, self.trunk.here()),
-            Stage::Split => {
-                is_in(inodes, self.trunk.here())
-                    && is_in(inodes, self.first.here())
-                    && is_in(inodes, self.second.here())
-            }
-        }
-    }
-
     /// Whether each directory where the walk stands is lent.
     pub(crate) fn is_all_lent(&self, lent: &[Held]) -> bool
         ensures { result ≡ looks.is_all_lent lent.now self.now }
@@ -453,6 +437,26 @@ impl Seat {
                     && is_lent(lent, self.second.here())
             }
         }
+    }
+
+    /// The slots of the directories where the walk stands.
+    pub(crate) fn slots(&self, table: &Inodes) -> Slots
+        ensures { result ≡ slots_in table.now.places self.now }
+    {
+        let mut slots = Slots::new();
+        if self.call.is_none() {
+            return slots;
+        }
+        match self.stage {
+            Stage::Above => {}
+            Stage::Down => slots.add_of(table, self.trunk.here()),
+            Stage::Split => {
+                slots.add_of(table, self.trunk.here());
+                slots.add_of(table, self.first.here());
+                slots.add_of(table, self.second.here());
+            }
+        }
+        slots
     }
 
     /// The leg in turn takes its next name, which names this directory.
@@ -713,6 +717,7 @@ impl Seat {
             → Performs s number marks spares place table.old slots.now walk.now.call reply self.new.client self.new.spare table.new lent.new) }
         ensures rest { self.new.walk ≡ None }
         ensures err { OnErr result ((self.new ≡ self.old) × (table.new ≡ table.old) × (lent.new ≡ lent.old)) }
+        ensures starved { OnErr result (IsFreeAtEnd self.old.client self.old.spare table.old slots.now lent.old walk.now.call walk.now.first walk.now.second found.now) }
         ensures calm { spares_memory walk.now.call ≡ true → is_ok result ≡ true }
     {
         let (client, spare) = (&mut self.client, &mut self.spare);

@@ -1,6 +1,6 @@
 //! Whether a walk may be answered, and for what: seen from what is lent.
 
-ghost use Rattle.std.specs.Prelude.{◌≡◌, ◌==◌, ◌||◌, ◌&&◌, ℕ, Bool, List, true, not, map, nat_le};
+ghost use Rattle.std.specs.Prelude.{◌≡◌, ◌==◌, ◌||◌, ◌&&◌, ℕ, Bool, List, true, not, map, nat_le, slice_index_or};
 ghost use Rattle.std.specs.List.{list_all};
 ghost use Rattle.ll_answer.specs.Near as near;
 ghost use Rattle.ll_answer.specs.declared.found.Spot as spot_of;
@@ -52,8 +52,9 @@ fn stop_before(table: &Inodes, lent: &[Held], here: u64, name: &str) -> Stop
 }
 
 /// The node besides the directories of its paths that the call may change or tell of, or 0.
-fn other_node(call: &Call, found: &Found) -> u64
-    ensures { (p : ℕ → Bool) → p 0 ≡ true → list_all p (near.nodes_of call.now found.now) ≡ p result }
+pub(crate) fn other_node(call: &Call, found: &Found) -> u64
+    ensures first { result ≡ slice_index_or (near.nodes_of call.now found.now) 0 0 }
+    ensures alone { (p : ℕ → Bool) → p 0 ≡ true → list_all p (near.nodes_of call.now found.now) ≡ p result }
 {
     let spot = match call {
         Call::Open(..) | Call::Truncate(..) | Call::ReadDir(_) => &found.first,
@@ -71,7 +72,8 @@ fn other_node(call: &Call, found: &Found) -> u64
     }
 }
 
-fn may_make(call: &Call, found: &Found) -> bool
+/// Whether the call may make a node.
+pub(crate) fn may_make(call: &Call, found: &Found) -> bool
     ensures { result ≡ near.may_make call.now found.now }
 {
     match call {

@@ -20,6 +20,7 @@ use Rattle.ll_laws.proofs.Gain.{done_of, passes, named_below}
 use Rattle.ll_walks.specs.Walk.{Leg, is_in, rights_where}
 use Rattle.ll_walks.specs.World.{last_nodes, moved_by}
 use Rattle.ll_walks.specs.Walks.{IsRight}
+use Rattle.ll_walks.specs.Sound.{HasPlace}
 use Rattle.ll_walks.proofs.Tests.{itself_in}
 use Rattle.ll_walks.proofs.Undisturbed.{not_empty, done_kinds, done_kept}
 
@@ -66,15 +67,19 @@ LeavesLeg s number call leg =
     refusals s (client_of s number) call ≡ [] →
     ((j : ℕ) → is_in leg.chain j ≡ true → is_in (moved_by s call Done) j ≡ false) × (is_in (last_nodes s call) leg.here ≡ false)
 
--- a directory that has a name after a call is one, as it was
+-- a directory that has a place after a call is one, as it was
+pub placed_kept : (s t : State) → IsTree t → (x : ℕ) → ((k : Kind) → kind_of t x ≡ Some k → kind_of s x ≡ Some k) → HasPlace t x → kind_of s x ≡ Some Dir → kind_of t x ≡ Some Dir
+placed_kept s t tree x back (inl top) dir = ap (kind_of t) top ∙ tree.root_node
+placed_kept s t tree x back (inr at) dir =
+    let known = tree.known at.0 at.1 x at.2 in
+    known.1 ∙ sym (back known.0 known.1) ∙ dir
+
 directory_kept : (s t : State) → IsTree t → (x : ℕ) → ((k : Kind) → kind_of t x ≡ Some k → kind_of s x ≡ Some k) → (p : Path) → named t p ≡ Some x → kind_of s x ≡ Some Dir → kind_of t x ≡ Some Dir
 directory_kept s t tree x back p e dir = by (last t p root x e)
   where
     by : ((p ≡ []) × (root ≡ x)) ⊎ Last t p root x → kind_of t x ≡ Some Dir
-    by (inl a) = ap (kind_of t) (sym a.1) ∙ tree.root_node
-    by (inr l) =
-        let known = tree.known l.directory l.name x l.names in
-        known.1 ∙ sym (back known.0 known.1) ∙ dir
+    by (inl a) = placed_kept s t tree x back (inl (sym a.1)) dir
+    by (inr l) = placed_kept s t tree x back (inr (l.directory, l.name, l.names)) dir
 
 pub leg_kept : (s : State) (number : ℕ) (call : Call) (fresh : ℕ) → IsTree s → IsTree (step s number call fresh).1 → (domain : List Layer) (leg : Leg) → IsRight s domain leg → LeavesLeg s number call leg → IsRight (step s number call fresh).1 domain leg
 leg_kept s number call fresh tree grown domain leg r leaves = by (refusals s (client_of s number) call) refl

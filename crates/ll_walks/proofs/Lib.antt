@@ -7,7 +7,7 @@ pub mod Legs
 pub mod Turns
 pub mod Worlds
 pub mod Marks
-pub mod KnownMarks
+pub mod LivingMarks
 pub mod Gates
 pub mod EndsReached
 pub mod SoundSteps

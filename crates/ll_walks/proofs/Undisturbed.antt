@@ -7,10 +7,11 @@ use Rattle.std.specs.FinMap.{nat_cmp-IsAntisymmetric}
 use Rattle.std.specs.FinMap.Entries.{find}
 use Rattle.std.proofs.Common.{sym, ap, ◌∙◌, inl, inr, arith}
 use Rattle.std.proofs.lemmas.Bool.{eq-eqb, eqb-true, lt-ltb}
+use Rattle.std.proofs.lemmas.List.Folds.{list_any-append}
 use Rattle.ll_rights.specs.declared.kind.Kind.{Kind}
 use Rattle.ll_rights.specs.declared.kind.Kind.TheVariants.{Reg, Dir}
 use Rattle.ll_rights.specs.declared.errno.Errno.{Errno}
-use Rattle.ll_rights.specs.declared.errno.Errno.TheVariants.{EISDIR, ENOTDIR, ENOTEMPTY, EEXIST, EBUSY, EINVAL}
+use Rattle.ll_rights.specs.declared.errno.Errno.TheVariants.{EISDIR, ENOTDIR, ENOTEMPTY, EEXIST, EBUSY, EINVAL, ENOENT}
 use Rattle.ll_rights.specs.Errno.{refuse}
 use Rattle.ll_rights.specs.Kind.{is_dir}
 use Rattle.ll_rights.specs.Map.{get, insert, remove, entries}
@@ -36,10 +37,10 @@ use Rattle.ll_laws.proofs.Chains.{same_Some}
 use Rattle.ll_laws.proofs.Trees.{IsTree, root_dir}
 use Rattle.ll_laws.proofs.Unrefused.{nil_left, nil_right, not_refused, neither, walked, inode_is, parent_last}
 use Rattle.ll_laws.proofs.Changes.{IsPlace, let_go_shrinks, without_name_shrinks, close_shrinks, with_bytes_shrinks}
-use Rattle.ll_laws.proofs.Gain.{done_of, Passes}
+use Rattle.ll_laws.proofs.Gain.{done_of, Passes, there_is}
 use Rattle.ll_walks.specs.Walk.{is_in}
-use Rattle.ll_walks.specs.World.{last_node, last_nodes, moving, is_same_node, moved_by}
-use Rattle.ll_walks.proofs.Tests.{itself_in, first_in, second_in}
+use Rattle.ll_walks.specs.World.{is_done, last_node, last_nodes, moving, is_same_node, moved_by}
+use Rattle.ll_walks.proofs.Tests.{or_false, itself_in, first_in, second_in, is_in_filter}
 
 -- ---- places
 
@@ -363,3 +364,63 @@ module _ (s : State) (number : ℕ) (c : ClientRecord) (fresh : ℕ) (t : IsTree
   done_kept (Confine rs) h k = is
   done_kept Spawn h k = is
   done_kept Connect h k = is
+
+-- ---- what is moved is a last node
+
+-- of two lists that it isn't in, neither
+neither_in : (xs ys : List ℕ) (x : ℕ) → is_in (xs ++ ys) x ≡ false → (is_in xs x ≡ false) × (is_in ys x ≡ false)
+neither_in xs ys x e = neither (is_in xs x) (is_in ys x) (sym (list_any-append (λ y. y == x) xs ys) ∙ e)
+
+kept_away : (b : Bool) (test : ℕ → Bool) (xs : List ℕ) (x : ℕ) → is_in xs x ≡ false → is_in (when b (filter test xs)) x ≡ false
+kept_away true test xs x e = is_in_filter test xs x ∙ ap (λ a. a && test x) e
+kept_away false test xs x e = refl
+
+module _ (s : State) (t : IsTree s) (c : ClientRecord) (x : ℕ) where
+  not_named : (p : Path) (d : ℕ) → IsPlace s p d → is_none (named s p) ≡ false → is_in (last_node s p) x ≡ false → (inode_of s p == x) ≡ false
+  not_named p d h there away = or_false _ (λ same.
+      let node = there_is s p there in
+      cc (sym away ∙ last_is s p x h.not_root (node.1 ∙ ap Some (sym (inode_is s p node.0 node.1) ∙ eqb-true _ _ same))))
+
+  moving_away : (call : Call) → Passes s c call → is_in (last_nodes s call) x ≡ false → is_in (map (inode_of s) (moving call)) x ≡ false
+  moving_away (Make kind p) h away = refl
+  moving_away (Open mode p) h away = refl
+  moving_away (Read fd offset count) h away = refl
+  moving_away (Write fd offset bytes) h away = refl
+  moving_away (Ftruncate fd size) h away = refl
+  moving_away (Close fd) h away = refl
+  moving_away (Truncate p size) h away = refl
+  moving_away (ReadDir p) h away = refl
+  moving_away (Stat p) h away = refl
+  moving_away (Exec p) h away = refl
+  moving_away (Unlink p) h away = refl
+  moving_away (Rmdir p) h away = refl
+  moving_away (Rename o p) h away =
+      let w = places s t o p ENOTEMPTY h.relation h.way in
+      let last = neither_in (last_node s (path_of o)) (last_node s (path_of p) ++ []) x away in
+      ap (λ b. b || false) (not_named (path_of o) w.left w.here (not_refused _ ENOENT h.existence) last.0)
+  moving_away (RenameNoreplace o p) h away =
+      let w = places s t o p EEXIST h.relation h.way in
+      let last = neither_in (last_node s (path_of o)) (last_node s (path_of p) ++ []) x away in
+      let there = not_refused _ ENOENT (nil_left (missing s (path_of o)) (present s (path_of p)) h.existence) in
+      ap (λ b. b || false) (not_named (path_of o) w.left w.here there last.0)
+  moving_away (Exchange o p) h away =
+      let w = places s t o p EINVAL h.relation h.way in
+      let last = neither_in (last_node s (path_of o)) (last_node s (path_of p) ++ []) x away in
+      let old = not_refused _ ENOENT (nil_left (missing s (path_of o)) (missing s (path_of p)) h.existence) in
+      let new = not_refused _ ENOENT (nil_right (missing s (path_of o)) (missing s (path_of p)) h.existence) in
+      ap (λ b. b || ((inode_of s (path_of p) == x) || false)) (not_named (path_of o) w.left w.here old last.0)
+      ∙ ap (λ b. b || false) (not_named (path_of p) w.entered w.there new (neither_in (last_node s (path_of p)) [] x last.1).0)
+  moving_away (Link o p) h away = refl
+  moving_away (Ruleset rights) h away = refl
+  moving_away (Allow rs p rights) h away = refl
+  moving_away (Confine rs) h away = refl
+  moving_away Spawn h away = refl
+  moving_away Connect h away = refl
+
+  -- so a directory that is none stays where it is
+  pub stays : (call : Call) → Passes s c call → kind_of s x ≡ Some Dir → is_in (last_nodes s call) x ≡ false → Stays s call x
+  stays call h dir away = record {
+    dir = dir;
+    unmoved = kept_away (is_done Done && not (is_same_node s (first_path call) (second_path call))) (λ inode. is_dir (kind_or_file s inode)) (map (inode_of s) (moving call)) x (moving_away call h away);
+    held = inr away;
+  }

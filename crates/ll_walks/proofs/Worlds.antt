@@ -274,12 +274,9 @@ step_moves s number call fresh e =
     ap (λ rs. moved_by s call (first_or s rs (done_of s number (client_of s number) call fresh)).0) e
     ∙ done_moves s number (client_of s number) call fresh
 
--- one without a walk: it is refused early, or names no path
-leaves_unwalked : (s : State) (number : ℕ) (call : Call) (leg : Leg) → is_walked (client_of s number) call ≡ false → LeavesLeg s number call leg
-leaves_unwalked s number call leg e none = (
-  λ j g. ap (λ xs. is_in xs j) (moved_nothing s call Done (still call nowhere)),
-  ap (λ ts. is_in (flat_map (λ (t : Target). last_node s (path_of t)) ts) leg.here) nowhere,
-)
+-- one without a walk that isn't refused early names no path
+nowhere : (s : State) (number : ℕ) (call : Call) → is_walked (client_of s number) call ≡ false → refusals s (client_of s number) call ≡ [] → targets call ≡ []
+nowhere s number call e none = is_nil (targets call) (walks (has_any (early_refusals c call)) refl e)
   where
     c : ClientRecord
     c = client_of s number
@@ -301,8 +298,13 @@ leaves_unwalked s number call leg e none = (
         and_true true g = absurd (cc g)
         and_true false g = refl
 
-    nowhere : targets call ≡ []
-    nowhere = is_nil (targets call) (walks (has_any (early_refusals c call)) refl e)
+-- so it has no last node
+pub unwalked_away : (s : State) (number : ℕ) (call : Call) (i : ℕ) → is_walked (client_of s number) call ≡ false → refusals s (client_of s number) call ≡ [] → is_in (last_nodes s call) i ≡ false
+unwalked_away s number call i e none = ap (λ ts. is_in (flat_map (λ (t : Target). last_node s (path_of t)) ts) i) (nowhere s number call e none)
+
+leaves_unwalked : (s : State) (number : ℕ) (call : Call) (leg : Leg) → is_walked (client_of s number) call ≡ false → LeavesLeg s number call leg
+leaves_unwalked s number call leg e none =
+    (λ j g. ap (λ xs. is_in xs j) (moved_nothing s call Done (still call (nowhere s number call e none))), unwalked_away s number call leg.here e none)
 
 -- another walk's legs, where a walk may be answered
 module _ (w : World) (number : ℕ) (walk : Walk) (h : Holds w) (is : get w.walks number ≡ Some walk) (may : may_commit w number walk ≡ true) where
@@ -319,12 +321,16 @@ module _ (w : World) (number : ℕ) (walk : Walk) (h : Holds w) (is : get w.walk
       let ends = second (option_map_or (is_blocked (shown w)) (turn walk.at) false) (at_ends walk.call walk.at && not (list_any (is_marked_by_other w number) (last_nodes (shown w) walk.call))) free (both (not walk.stale) _ may).1 in
       not_true _ (both (at_ends walk.call walk.at) _ ends).1
 
+  -- so what another walk marks isn't one
+  pub marked_away : (c : ℕ) (u : Walk) → c ≢ number → get w.walks c ≡ Some u → (i : ℕ) → marks u i ≡ true → refusals (shown w) (client_of (shown w) number) walk.call ≡ [] → is_in (last_nodes (shown w) walk.call) i ≡ false
+  marked_away c u other there i m none = or_false _ (λ among. cc (sym (none_of (is_marked_by_other w number) (last_nodes (shown w) walk.call) i (unmarked none) among)
+      ∙ found w.walks (λ e. not (e.0 == number) && marks e.1 i) c u there (ap (λ b. not b && marks u i) (or_false _ (λ f. other (eqb-true c number f))) ∙ m)))
+
   module _ (c : ℕ) (u : Walk) (other : c ≢ number) (there : get w.walks c ≡ Some u) (not_passed : list_any (walk_passes u) moved ≡ false) where
     leaves_leg : (leg : Leg) → ((f : Leg → Bool) → f leg ≡ true → list_any f (legs u.at) ≡ true) → LeavesLeg (shown w) number walk.call leg
     leaves_leg leg among none = (
       λ j g. or_false _ (λ i. cc (sym (among (λ l. is_in l.chain j) g) ∙ none_of (walk_passes u) moved j not_passed (ap (λ xs. is_in xs j) (step_moves (shown w) number walk.call (next_number w) none) ∙ i))),
-      or_false _ (λ i. cc (sym (none_of (is_marked_by_other w number) (last_nodes (shown w) walk.call) leg.here (unmarked none) i)
-          ∙ found w.walks (λ e. not (e.0 == number) && marks e.1 leg.here) c u there (ap (λ b. not b && marks u leg.here) (or_false _ (λ f. other (eqb-true c number f))) ∙ among (λ l. l.here == leg.here) (eq-eqb leg.here leg.here refl)))),
+      marked_away c u other there leg.here (among (λ l. l.here == leg.here) (eq-eqb leg.here leg.here refl)) none,
     )
 
     leaves : (at : Position) → u.at ≡ at → LeavesWalk (shown w) number walk.call at

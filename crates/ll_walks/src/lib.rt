@@ -3,11 +3,11 @@
 
 mod step;
 
-pub use step::Step;
-
 ghost use Rattle.ll_walks.specs.Commits.{BlockedAreRefused, EndsAreReached};
 ghost use Rattle.ll_walks.specs.Growing.{HistoryGrows, NoGainBetween, WithheldBetween};
 ghost use Rattle.ll_walks.specs.Walks.{GateHolderIsNeverStale, HistoryIsLegal, MarksAreApart, StartsAreFew, WalksAreValid};
+
+pub use step::Step;
 
 /// Whatever steps are made, in whatever order, the history is one of the sequential tree.
 pub fn history_is_legal()

@@ -1,7 +1,7 @@
 use Rattle.std.specs.Prelude.{refl}
 use Rattle.std.proofs.Common.{◌∙◌}
 use Rattle.std.specs.Option.{option_copied}
-use Rattle.ll_journal.proofs.OwnAnswers.{comes_without, comes_confined, comes_not_confined, none_found, copied_none, within}
+use Rattle.ll_journal.proofs.OwnAnswers.{comes_without, comes_confined, comes_not_confined, free_to_confine, none_found, copied_none, within}
 use Rattle.ll_journal.proofs.alone.confine.Goals as goal
 
 pub returns-then-is_none-clause-ok : goal.returns-then-is_none-clause-ok
@@ -18,4 +18,9 @@ returns-in-Ok-clause-ok c abi =
 pub returns-in-Err-clause-ok : goal.returns-in-Err-clause-ok
 returns-in-Err-clause-ok c =
     comes_not_confined c.args.client.now c.confine.new.self c.args.number c.in-Err.errno c.refusal.result (none_found c.get.result _ option_copied c.is_none.result c.get.ensures copied_none c.is_none.ensures ∙ c.if-is_none.false)
-    c.in-Err.ensures.refused c.in-Err.ensures.err c.refusal.ensures
+    c.in-Err.ensures.refused c.in-Err.ensures.err c.refusal.ensures.ok
+
+pub returns-in-Err-clause-starved : goal.returns-in-Err-clause-starved
+returns-in-Err-clause-starved c =
+    free_to_confine c.args.client.now c.args.number c.in-Err.errno c.refusal.result (none_found c.get.result _ option_copied c.is_none.result c.get.ensures copied_none c.is_none.ensures ∙ c.if-is_none.false)
+    c.in-Err.ensures.refused c.refusal.ensures.err

@@ -1,11 +1,14 @@
-use Rattle.ll_journal.proofs.FileCalls.{comes_too_long, comes_unreadable, comes_read}
+use Rattle.ll_journal.proofs.FileCalls.{comes_too_long, comes_unreadable, comes_read, free_to_read}
 use Rattle.ll_journal.proofs.files.read.Goals as goal
 
-pub returns-then-count-gt-MOST_READ : goal.returns-then-count-gt-MOST_READ
-returns-then-count-gt-MOST_READ c = comes_too_long c.args.file.now c.args.node.now.bytes c.args.offset c.args.count c.if-count-gt-MOST_READ.true
+pub returns-then-count-gt-MOST_READ-clause-ok : goal.returns-then-count-gt-MOST_READ-clause-ok
+returns-then-count-gt-MOST_READ-clause-ok c = comes_too_long c.args.file.now c.args.node.now.bytes c.args.offset c.args.count c.if-count-gt-MOST_READ.true
 
-pub returns-then-not-file : goal.returns-then-not-file
-returns-then-not-file c = comes_unreadable c.args.file.now c.args.node.now.bytes c.args.offset c.args.count c.if-count-gt-MOST_READ.false c.if-not-file.true
+pub returns-then-not-file-clause-ok : goal.returns-then-not-file-clause-ok
+returns-then-not-file-clause-ok c = comes_unreadable c.args.file.now c.args.node.now.bytes c.args.offset c.args.count c.if-count-gt-MOST_READ.false c.if-not-file.true
 
-pub returns : goal.returns
-returns c = comes_read c.args.file.now c.args.node.now.bytes c.args.offset c.args.count c.in_ok-bytes.bytes c.if-count-gt-MOST_READ.false c.if-not-file.false c.in_ok-bytes.ensures
+pub returns-clause-ok : goal.returns-clause-ok
+returns-clause-ok c = comes_read c.args.file.now c.args.node.now.bytes c.args.offset c.args.count c.in_ok-bytes.bytes c.if-count-gt-MOST_READ.false c.if-not-file.false c.in_ok-bytes.ensures
+
+pub returns-in_err-bytes-clause-starved : goal.returns-in_err-bytes-clause-starved
+returns-in_err-bytes-clause-starved c = free_to_read c.args.file.now c.args.offset c.args.count c.from_residual.result c.if-count-gt-MOST_READ.false c.if-not-file.false

@@ -1,6 +1,6 @@
 use Rattle.std.proofs.Common.{ap}
 use Rattle.ll_node.specs.Slot.{Slot}
-use Rattle.ll_journal.proofs.FileCalls.{comes_unsized, comes_denied, comes_not_resized, comes_resized}
+use Rattle.ll_journal.proofs.FileCalls.{comes_unsized, comes_denied, comes_not_resized, comes_resized, free_to_resize}
 use Rattle.ll_journal.proofs.files.resize.Goals as goal
 
 pub returns-then-not-file-clause-ok : goal.returns-then-not-file-clause-ok
@@ -16,4 +16,8 @@ returns-in-Ok-clause-ok c =
 pub returns-in-Err-clause-ok : goal.returns-in-Err-clause-ok
 returns-in-Err-clause-ok c =
     comes_not_resized c.args.file.now c.args.node.now.bytes c.args.size c.set_len.new.self.bytes c.in-Err.errno c.refusal.result c.if-not-file.false c.in_default.is c.in-Err.ensures.refused
-    (ap (λ (n : Slot). n.bytes) c.in-Err.ensures.err) c.refusal.ensures
+    (ap (λ (n : Slot). n.bytes) c.in-Err.ensures.err) c.refusal.ensures.ok
+
+pub returns-in-Err-clause-starved : goal.returns-in-Err-clause-starved
+returns-in-Err-clause-starved c =
+    free_to_resize c.args.file.now c.args.size c.in-Err.errno c.refusal.result c.if-not-file.false c.in_default.is c.in-Err.ensures.refused c.refusal.ensures.err

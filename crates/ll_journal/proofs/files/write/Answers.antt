@@ -1,6 +1,6 @@
 use Rattle.std.proofs.Common.{ap}
 use Rattle.ll_node.specs.Slot.{Slot}
-use Rattle.ll_journal.proofs.FileCalls.{comes_unwritable, comes_not_written, comes_written}
+use Rattle.ll_journal.proofs.FileCalls.{comes_unwritable, comes_not_written, comes_written, free_to_write}
 use Rattle.ll_journal.proofs.files.write.Goals as goal
 
 pub returns-then-not-file-clause-ok : goal.returns-then-not-file-clause-ok
@@ -14,4 +14,8 @@ returns-in-Ok-clause-ok c =
 pub returns-in-Err-clause-ok : goal.returns-in-Err-clause-ok
 returns-in-Err-clause-ok c =
     comes_not_written c.args.file.now c.args.node.now.bytes c.args.offset c.args.bytes.now c.as_slice.result.now c.write_at.new.self.bytes c.in-Err.errno c.refusal.result c.if-not-file.false
-    c.as_slice.ensures.bytes c.in-Err.ensures.refused (ap (λ (n : Slot). n.bytes) c.in-Err.ensures.err) c.refusal.ensures
+    c.as_slice.ensures.bytes c.in-Err.ensures.refused (ap (λ (n : Slot). n.bytes) c.in-Err.ensures.err) c.refusal.ensures.ok
+
+pub returns-in-Err-clause-starved : goal.returns-in-Err-clause-starved
+returns-in-Err-clause-starved c =
+    free_to_write c.args.file.now c.args.offset c.args.bytes.now c.as_slice.result.now c.in-Err.errno c.refusal.result c.if-not-file.false c.as_slice.ensures.bytes c.in-Err.ensures.refused c.refusal.ensures.err

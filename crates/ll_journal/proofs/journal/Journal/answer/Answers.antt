@@ -1,17 +1,17 @@
-use Rattle.std.specs.Prelude.{◌≡◌, ℕ, List, Option, Some, None, length, map, slice_set, refl}
+use Rattle.std.specs.Prelude.{◌≡◌, [], None, map, slice_set, refl}
 use Rattle.std.specs.Vec.{with_item}
-use Rattle.std.proofs.Common.{rules, ap, sym, subst, ◌∙◌}
+use Rattle.std.proofs.Common.{ap, sym, subst, ◌∙◌}
 use Rattle.ll_answer.specs.Found.{AreFacts}
 use Rattle.ll_seq.specs.declared.call.Call.{Call}
-use Rattle.ll_seq.specs.declared.reply.Reply.{Reply}
 use Rattle.ll_seq.specs.declared.reply.Reply.TheVariants.{Refused}
 use Rattle.ll_rights.specs.declared.errno.Errno.TheVariants.{HistoryFull}
 use Rattle.ll_seq.specs.State.{State}
+use Rattle.ll_seq.specs.Step.{refusals, client_of}
 use Rattle.ll_walks.specs.Walk.{Walk}
-use Rattle.ll_walks.specs.World.{Replied, advance, is_full, moved_by, shown}
+use Rattle.ll_walks.specs.World.{Replied, advance, is_full, moved_by, next_number, shown}
 use Rattle.ll_walks.specs.declared.step.Step.TheVariants.{Commit}
 use Rattle.ll_journal.specs.declared.journal.Journal.TheInside.{Inside}
-use Rattle.ll_journal.specs.Book.{Book, Spares, mark_of}
+use Rattle.ll_journal.specs.Book.{Book, Spares, mark_of, slot_of}
 use Rattle.ll_journal.specs.Decidings.{moved_list}
 use Rattle.ll_journal.specs.Kept.{book_of, spares_of, world_of}
 use Rattle.ll_journal.specs.Performed.{Performs}
@@ -19,6 +19,7 @@ use Rattle.ll_journal.proofs.AtAnswers.{EndedSo, at_end, ended_so, seat_idle}
 use Rattle.ll_journal.proofs.Committed.{committed_kept, committed_lent, committed_spares, committed_step, spares_both}
 use Rattle.ll_journal.proofs.DecidedCalls.{no_zero}
 use Rattle.ll_journal.proofs.Ended.{commit_gives_up}
+use Rattle.ll_journal.proofs.Starved.{step_granted}
 use Rattle.ll_journal.proofs.Stepping.{book_unchanged, entered, set_again}
 use Rattle.ll_journal.proofs.journal.Journal.answer.Goals as goal
 
@@ -64,13 +65,45 @@ ended_starved c =
 abbrev starved : goal.After-drop-in_default → Inside
 starved c = record c.self-2.inside { seats = with_item c.self-2.inside.seats c.args.place c.perform.new.self; table = c.perform.new.table }
 
+-- as the walk's end left it
+starved_is : (c : goal.After-drop-in_default) → book_of (starved c) ≡ c.end_walk-walk.new.self
+starved_is c =
+    let err = c.in_default.ensures.err in
+    book_unchanged c.self-2.inside (starved c) refl refl refl refl
+    (ap (slice_set c.self-2.inside.seats.items c.args.place) err.0 ∙ set_again c.self-2.inside.seats.items c.args.place c.index_mut-seat.result.now (ended_starved c).at) err.1
+    ∙ c.self-2.view_is
+
+-- nothing refuses the call
+free_then : (c : goal.After-drop-in_default) → refusals (shown c.args.self.now.world) (client_of (shown c.args.self.now.world) c.args.client) c.requires.reached.walk.call ≡ []
+free_then c =
+    let e = ended_starved c in
+    let tree : shown (world_of c.self-2.inside) ≡ shown c.args.self.now.world = ap shown (ap (λ (b : Book). b.world) c.self-2.view_is ∙ c.end_walk-walk.ensures.world) in
+    subst (λ (p : State × Call). refusals p.0 (client_of p.0 c.args.client) p.1 ≡ []) (λ i. (tree i, c.end_walk-walk.ensures.call c.requires.reached.walk c.requires.reached.ends.is i))
+    (c.in_default.ensures.starved (shown (world_of c.self-2.inside)) c.args.client (mark_of (world_of c.self-2.inside)) (spares_of c.self-2.inside.seats.items) c.args.place
+    (at_end c.self.inside c.self-2.inside c.self.invariant c.self-2.invariant c.args.client c.args.place c.args.slots.now c.requires.distinct c.args.found.now e.reached e.world e.inodes e.spares
+    c.end_walk-walk.result.call e.call_is c.end_walk-walk.result.first c.end_walk-walk.result.second e.first_masks e.second_masks c.end_walk-walk.new.lent e.told (ap is_full e.world ∙ sym c.is_full-is_full.ensures ∙ c.if-is_full.false) c.index_mut-seat.result.now e.at c.requires.numbered))
+
+pub returns-in_default-clause-does : goal.returns-in_default-clause-does
+returns-in_default-clause-does c =
+    let r = c.requires.reached in (
+      record {
+        walk = r.walk;
+        is = r.ends.is;
+        may = r.ends.may;
+        room = ap (λ (b : Book). is_full b.world) (sym c.self.view_is) ∙ sym c.is_full-is_full.ensures ∙ c.if-is_full.false;
+        granted = step_granted (shown c.args.self.now.world) c.args.client r.walk.call (next_number c.args.self.now.world) (free_then c);
+      },
+      ap (λ (b : Book). b.world) (starved_is c) ∙ c.end_walk-walk.ensures.world,
+    )
+
+pub returns-in_default-clause-lent : goal.returns-in_default-clause-lent
+returns-in_default-clause-lent c =
+    c.in_default.ensures.err.2 ∙ c.end_walk-walk.ensures.lent c.args.slots.now c.requires.lent ∙ ap (λ (b : Book). map (slot_of b) c.args.slots.now) (sym (starved_is c))
+
 pub returns-in_default-clause-spares : goal.returns-in_default-clause-spares
 returns-in_default-clause-spares c =
     let r = c.requires.reached in
-    let err = c.in_default.ensures.err in
-    subst (λ (b : Book). Spares c.args.self.now b c.args.slots.now)
-    (sym c.self-2.view_is ∙ sym (book_unchanged c.self-2.inside (starved c) refl refl refl refl
-    (ap (slice_set c.self-2.inside.seats.items c.args.place) err.0 ∙ set_again c.self-2.inside.seats.items c.args.place c.index_mut-seat.result.now (ended_starved c).at) err.1))
+    subst (λ (b : Book). Spares c.args.self.now b c.args.slots.now) (sym (starved_is c))
     (c.end_walk-walk.ensures.spares c.args.slots.now r.walk r.ends.is r.ends.marked)
 
 -- ---- the call is answered

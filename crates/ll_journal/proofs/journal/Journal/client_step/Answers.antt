@@ -39,7 +39,7 @@ spawn_stepped c =
     let asks = c.in-Some-asked_of.ensures.some in
     over_stepped _ _ c.args.client c.args.call c.enter.result (spawned_inside c) c.self.view_is
     (on_spawn c.self.inside (spawned_inside c) c.self.invariant c.args.client c.args.call c.in-Some.place c.index.result.now at c.in-Some.ensures.some.0 asks.0 (sym c.is_full.ensures ∙ c.if-is_full.false) c.enter.result
-    refl refl refl (subst (λ own. IsOwn c.index.result.now.client c.args.call (Some own)) c.in-Spawn.is asks.1) c.answer_spawn-told.result c.answer_spawn-told.ensures.ok c.answer_spawn-told.ensures.err
+    refl refl refl (subst (λ own. IsOwn c.index.result.now.client c.args.call (Some own)) c.in-Spawn.is asks.1) c.answer_spawn-told.result c.answer_spawn-told.ensures.ok c.answer_spawn-told.ensures.err c.answer_spawn-told.ensures.few
     c.enter.ensures.ok c.enter.ensures.err)
 
 -- the journal after a call on the client's record
@@ -56,7 +56,7 @@ record_stepped c =
     over_stepped _ _ c.args.client c.args.call c.enter-in-OnRecord.result (answered_inside c) c.self.view_is
     (on_record c.self.inside (answered_inside c) c.self.invariant c.args.client c.args.call c.in-Some.place c.index_mut-seat.result.now at c.in-Some.ensures.some.0 asks.0 (sym c.is_full.ensures ∙ c.if-is_full.false) c.enter-in-OnRecord.result
     refl refl refl c.answer-told.new.self refl refl c.answer-told.ensures.rest c.in-OnRecord.asked
-    (subst (λ own. IsOwn c.index_mut-seat.result.now.client c.args.call (Some own)) c.in-OnRecord.is asks.1) c.answer-told.result c.answer-told.ensures.ok c.answer-told.ensures.descriptors c.answer-told.ensures.err
+    (subst (λ own. IsOwn c.index_mut-seat.result.now.client c.args.call (Some own)) c.in-OnRecord.is asks.1) c.answer-told.result c.answer-told.ensures.ok c.answer-told.ensures.descriptors c.answer-told.ensures.err c.answer-told.ensures.starved
     c.enter-in-OnRecord.ensures.ok c.enter-in-OnRecord.ensures.err)
 
 pub invariant_of-self : goal.invariant_of-self
@@ -82,3 +82,9 @@ returns-in-OnRecord-clause-spares c = (record_stepped c).spares
 
 pub returns-in-OnRecord-clause-rest : goal.returns-in-OnRecord-clause-rest
 returns-in-OnRecord-clause-rest c = (record_stepped c).rest
+
+pub returns-in-Spawn-clause-calm : goal.returns-in-Spawn-clause-calm
+returns-in-Spawn-clause-calm c e = (spawn_stepped c).calm (cc e)
+
+pub returns-in-OnRecord-clause-calm : goal.returns-in-OnRecord-clause-calm
+returns-in-OnRecord-clause-calm c e = (record_stepped c).calm (cc e)

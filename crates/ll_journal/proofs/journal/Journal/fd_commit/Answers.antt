@@ -82,7 +82,7 @@ stepped c =
     (served c.self.inside (served_inside c) c.self.invariant c.args.client c.args.call c.in-Some.place c.index_mut-seat.result.now at c.in-Some.ensures.some.0
     c.in-Some-file_call.number c.in-Some-opened_idle.held idle.0 idle.1 c.args.slot c.args.file.now lent c.if-held-file.false (sym c.is_full.ensures ∙ c.if-is_full.false)
     refl refl refl c.enter.result c.serve-told.new.file c.serve-told.new.seat refl c.in-Some-file_call.asked c.in-Some-file_call.ensures
-    c.serve-told.result c.serve-told.ensures.ok c.serve-told.ensures.err c.enter.ensures.ok c.enter.ensures.err)
+    c.serve-told.result c.serve-told.ensures.ok c.serve-told.ensures.err c.serve-told.ensures.starved c.enter.ensures.ok c.enter.ensures.err)
 
 pub invariant_of-self : goal.invariant_of-self
 invariant_of-self c = (stepped c).kept

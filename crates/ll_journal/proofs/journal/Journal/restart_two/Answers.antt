@@ -1,9 +1,0 @@
-use Rattle.std.proofs.Common.{[], ◌∷◌, sym}
-use Rattle.ll_journal.proofs.LentAfter.{inode_is}
-use Rattle.ll_journal.proofs.journal.Journal.restart_two.Goals as goal
-
-pub returns-then-ne-clause-astray : goal.returns-then-ne-clause-astray
-returns-then-ne-clause-astray c e = c.start_again-outcome.ensures.astray e (c.args.slot ∷ c.args.other_slot ∷ []) (sym (λ i. inode_is c.args.self.now c.args.slot c.args.here.now c.requires.here i ∷ inode_is c.args.self.now c.args.other_slot c.args.other.now c.requires.other i ∷ []))
-
-pub returns-clause-spares : goal.returns-clause-spares
-returns-clause-spares c = c.start_again-outcome.ensures.spares (c.args.slot ∷ c.args.other_slot ∷ []) (sym (λ i. inode_is c.args.self.now c.args.slot c.args.here.now c.requires.here i ∷ inode_is c.args.self.now c.args.other_slot c.args.other.now c.requires.other i ∷ []))

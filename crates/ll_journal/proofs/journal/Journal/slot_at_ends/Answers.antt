@@ -1,0 +1,56 @@
+use Rattle.std.specs.Prelude.{◌≡◌, ℕ, ◌<◌, true, false, length, nat_le, Option, Some, option_map, slice_get, slice_index_or, IfSome}
+use Rattle.std.specs.Borrow.{Bor}
+use Rattle.std.specs.Option.{option_map_or}
+use Rattle.std.proofs.Common.{ap, sym, subst, ◌∙◌}
+use Rattle.ll_rights.specs.Map.{get, len}
+use Rattle.ll_seq.specs.declared.call.Call.{Call}
+use Rattle.ll_laws.proofs.Chains.{same_Some}
+use Rattle.ll_walks.specs.Walk.{Walk, at_ends}
+use Rattle.ll_walks.specs.World.{shown}
+use Rattle.ll_journal.specs.Book.{Book, Seat, slot_of}
+use Rattle.ll_journal.specs.Kept.{book_of, seat_at, spares_of, world_of}
+use Rattle.ll_journal.specs.Looks.{found_at}
+use Rattle.ll_journal.specs.Needs.{IsBesides}
+use Rattle.ll_journal.specs.Needs as needs
+use Rattle.ll_journal.specs.Steps.{IsInTurn}
+use Rattle.ll_journal.proofs.EndSlots.{besides_is, besides_within}
+use Rattle.ll_journal.proofs.Entering.{no_walk, walk_here}
+use Rattle.ll_journal.proofs.Starting.{at_place}
+use Rattle.ll_journal.proofs.journal.Journal.slot_at_ends.Goals as goal
+
+-- what is needed, where the journal's book is this one
+abbrev Needed : ℕ → Option ℕ → Book → Type 0
+Needed number result b = (walk : Walk) → get b.world.walks number ≡ Some walk → walk.stale ≡ false → at_ends walk.call walk.at ≡ true → IsBesides b number walk result
+
+pub returns-in_default-clause-needed : goal.returns-in_default-clause-needed
+returns-in_default-clause-needed c = λ slot lent turned walk is fresh ends.
+    absurd (cc (sym (no_walk c.self.inside c.args.client (ap (λ xs. seat_at xs c.args.client) (sym c.deref.ensures.value) ∙ c.in_default.ensures.none)) ∙ ap (λ (b : Book). get b.world.walks c.args.client) c.self.view_is ∙ is))
+
+pub returns-then-not-is_at_ends-clause-needed : goal.returns-then-not-is_at_ends-clause-needed
+returns-then-not-is_at_ends-clause-needed c = λ slot lent turned walk is fresh ends.
+    let at = at_place c.self.inside.seats.items c.deref.result.now c.args.client c.in-Some.place c.index-seat.result.now c.deref.ensures.value c.in-Some.ensures.some c.index-seat.ensures in
+    let here : c.index-seat.result.now.walk ≡ Some walk =
+    sym (walk_here c.self.inside c.self.invariant c.args.client c.in-Some.place c.index-seat.result.now at c.in-Some.ensures.some.0) ∙ ap (λ (b : Book). get b.world.walks c.args.client) c.self.view_is ∙ is in
+    absurd (cc (sym c.if-not-is_at_ends.true ∙ c.is_at_ends.ensures ∙ ap (λ (o : Option Walk). option_map_or (λ (v : Walk). at_ends v.call v.at) o false) here ∙ ends))
+
+pub returns-clause-within : goal.returns-clause-within
+returns-clause-within c =
+    let at = at_place c.self.inside.seats.items c.deref.result.now c.args.client c.in-Some.place c.index-seat.result.now c.deref.ensures.value c.in-Some.ensures.some c.index-seat.ensures in
+    subst (λ (b : Book). IfSome c.slot_besides.result (λ slot. slot < length b.inodes)) c.self.view_is
+    (besides_within c.self.inside c.self.invariant c.args.client c.in-Some.place c.index-seat.result.now at c.in-Some.ensures.some.0 c.in-Some-call.call.now c.found-found.result c.slot_besides.result
+    (c.slot_besides.ensures ∙ ap (λ k. needs.slot_besides c.self.inside.table.places k c.in-Some-call.call.now c.found-found.result) c.spare.ensures))
+
+pub returns-clause-needed : goal.returns-clause-needed
+returns-clause-needed c = λ slot lent turned walk is fresh ends.
+    let at = at_place c.self.inside.seats.items c.deref.result.now c.args.client c.in-Some.place c.index-seat.result.now c.deref.ensures.value c.in-Some.ensures.some c.index-seat.ensures in
+    let under_way : get (world_of c.self.inside).walks c.args.client ≡ Some walk = ap (λ (b : Book). get b.world.walks c.args.client) c.self.view_is ∙ is in
+    let here : c.index-seat.result.now.walk ≡ Some walk =
+    sym (walk_here c.self.inside c.self.invariant c.args.client c.in-Some.place c.index-seat.result.now at c.in-Some.ensures.some.0) ∙ under_way in
+    let call : c.in-Some-call.call.now ≡ walk.call = same_Some c.in-Some-call.call.now walk.call (sym (ap (option_map (λ (k : Bor Call). k.now)) c.in-Some-call.is) ∙ c.call.ensures ∙ ap (option_map (λ (v : Walk). v.call)) here) in
+    subst (λ (b : Book). IsBesides b c.args.client walk c.slot_besides.result) c.self.view_is
+    (besides_is c.self.inside c.self.invariant c.args.client c.in-Some.place c.index-seat.result.now at c.in-Some.ensures.some.0 c.args.here.now slot
+    (lent ∙ ap (λ (b : Book). slot_of b slot) (sym c.self.view_is)) (subst (λ (b : Book). IsInTurn b c.args.client slot) (sym c.self.view_is) turned) walk under_way fresh ends
+    c.found-found.result (c.found-found.ensures (shown (world_of c.self.inside)) (spares_of c.self.inside.seats.items) c.self.invariant.table ∙ ap (λ k. found_at c.self.inside.table.facts (nat_le c.self.inside.room (len (shown (world_of c.self.inside)).nodes)) c.args.here.now c.args.here.now k) call)
+    c.slot_besides.result
+    (c.slot_besides.ensures ∙ ap (λ k. needs.slot_besides c.self.inside.table.places k c.in-Some-call.call.now c.found-found.result) c.spare.ensures
+    ∙ ap (λ k. needs.slot_besides c.self.inside.table.places c.index-seat.result.now.spare k c.found-found.result) call))

@@ -1,0 +1,115 @@
+//! Which slots the steps of a client's walk need, so that whoever makes them can lend these.
+
+ghost use Rattle.std.specs.Prelude.{◌≡◌, ◌<◌, ◌≤◌, ℕ, List, [], length, true, false, Some, None, IfSome, IfNone};
+ghost use Rattle.std.specs.List.{AllByRecursion};
+ghost use Rattle.ll_rights.specs.Map.{get};
+ghost use Rattle.ll_seq.specs.State.{root};
+ghost use Rattle.ll_walks.specs.Walk.{Leg, Walk, at_ends};
+ghost use Rattle.ll_journal.specs.Needs as needs;
+
+use crate::found::found;
+use crate::journal::{Journal, place_of};
+use crate::slots::Slots;
+use crate::stop::{may_make, other_node};
+use ll_answer::Found;
+use ll_held::Held;
+use ll_inodes::Inodes;
+use ll_seq::Call;
+
+const ROOT: u64 = 1;
+
+/// The slot, besides those of directories, that the call may need where its walk ends.
+fn slot_besides(table: &Inodes, spare: u64, call: &Call, found: &Found) -> Option<u64>
+    ensures { result ≡ needs.slot_besides table.now.places spare call.now found.now }
+{
+    if may_make(call, found) {
+        return Some(spare);
+    }
+    table.slot(other_node(call, found))
+}
+
+impl Journal {
+    ghost use Rattle.ll_inodes.specs.InodeTable.{AreDistinct};
+    ghost use Rattle.ll_journal.specs.Book.{has_mark, inode_in, slot_of};
+    ghost use Rattle.ll_journal.specs.Needs.{IsBesides};
+    ghost use Rattle.ll_journal.specs.Steps.{IsInTurn, leg_in_turn};
+    ghost use Rattle.ll_journal.specs.WalkEnds.{AreEnough, is_lent};
+
+    /// The slot of the root, to which a walk's first descent goes.
+    pub fn root_slot(&self) -> u64
+        ensures root { inode_in self.now result ≡ root }
+        ensures within { result < length self.now.inodes }
+    {
+        let Some(slot) = self.table.slot(ROOT) else {
+            unreachable!()
+        };
+        slot
+    }
+
+    /// The slot of the directory where the leg in turn of the client's walk stands.
+    pub fn turn_slot(&self, client: u64) -> Option<u64>
+        ensures some { IfSome result (λ slot. (leg : Leg) × (leg_in_turn self.now.world client ≡ Some leg) × (inode_in self.now slot ≡ leg.here)) }
+        ensures within { IfSome result (λ slot. slot < length self.now.inodes) }
+        ensures none { IfNone result (leg_in_turn self.now.world client ≡ None) }
+    {
+        let Some(place) = place_of(&self.seats, client) else {
+            return None;
+        };
+        let Some(here) = self.seats[place].here() else {
+            return None;
+        };
+        self.table.slot(here)
+    }
+
+    /// The slots of the directories where the client's walk stands, also where it is stale.
+    pub fn stands_in(&self, client: u64) -> Slots
+        ensures marked { (inode : ℕ) → is_lent self.now result inode ≡ has_mark self.now.world inode client }
+        ensures distinct { AreDistinct result }
+        ensures within { AllByRecursion (λ slot. slot < length self.now.inodes) result }
+        ensures few { length result ≤ 3 }
+    {
+        match place_of(&self.seats, client) {
+            None => Slots::new(),
+            Some(place) => self.seats[place].slots(&self.table),
+        }
+    }
+
+    /// The slot besides, where the client's walk is at its ends and its leg in turn stands here.
+    fn slot_at_ends(&self, client: u64, here: &Held) -> Option<u64>
+        ensures within { IfSome result (λ slot. slot < length self.now.inodes) }
+        ensures needed { (slot : ℕ) → here.now ≡ slot_of self.now slot → IsInTurn self.now client slot
+            → (walk : Walk) → get self.now.world.walks client ≡ Some walk → walk.stale ≡ false → at_ends walk.call walk.at ≡ true
+            → IsBesides self.now client walk result }
+    {
+        let Some(place) = place_of(&self.seats, client) else {
+            return None;
+        };
+        let seat = &self.seats[place];
+        if !seat.is_at_ends() {
+            return None;
+        }
+        let Some(call) = seat.call() else {
+            unreachable!()
+        };
+        let found = found(&self.table, self.room, here, here, call);
+        slot_besides(&self.table, seat.spare(), call, &found)
+    }
+
+    /// All the slots that a commit of the client's walk may need, seen from that of the directory where its leg in turn
+    /// stands.
+    pub fn end_slots(&self, client: u64, slot: u64, here: &Held) -> Slots
+        requires { here.now ≡ slot_of self.now slot }
+        ensures enough { IsInTurn self.now client slot → (walk : Walk) → get self.now.world.walks client ≡ Some walk → walk.stale ≡ false
+            → AreEnough self.now client walk result }
+        ensures distinct { AreDistinct result }
+        ensures within { AllByRecursion (λ slot. slot < length self.now.inodes) result }
+        ensures few { length result ≤ 4 }
+    {
+        let mut slots = self.stands_in(client);
+        let Some(other) = self.slot_at_ends(client, here) else {
+            return slots;
+        };
+        slots.add(other);
+        slots
+    }
+}

@@ -1,0 +1,7 @@
+pub mod Trading
+pub mod ContentsKept
+pub mod Going
+pub mod Adding
+pub mod LentContents
+pub mod DirectMakes
+pub mod WalkMakes

@@ -1,0 +1,50 @@
+-- What lies in the slots, and how it is tied to the journal. No public contract cites it. own
+use Rattle.std.specs.Prelude.{◌≡◌, ℕ, ◌≤◌, List, map, length, slice_index_or}
+use Rattle.std.specs.List.{range_with_len}
+use Rattle.ll_held.specs.declared.held.Held.{Held}
+use Rattle.ll_held.specs.Lent.{vacant}
+use Rattle.ll_journal.specs.Book.{Book, slot_of}
+use Rattle.ll_walks.specs.Sound.{IsSound}
+use Rattle.ll_journal.specs.declared.outcome.Outcome as journal
+use Rattle.ll_journal.specs.declared.outcome.Outcome.TheVariants as told
+use Rattle.ll_journal.specs.declared.outcome.Ending.{Ending}
+use Rattle.ll_journal.specs.declared.outcome.Ending.TheVariants as ending
+use Rattle.ll_journal.specs.declared.direct.Answer.{Answer}
+use Rattle.ll_journal.specs.declared.direct.Answer.TheVariants as answer
+use Rattle.ll_rights.specs.declared.errno.Errno.TheVariants.{HistoryFull, NoMemory}
+use Rattle.ll_steps.specs.declared.outcome.Outcome.{Outcome}
+use Rattle.ll_steps.specs.declared.outcome.Outcome.TheVariants.{NotNow, Stands, Forked, Restarted, Replied, Refused}
+
+abbrev pub held_at : List Held → ℕ → Held
+held_at slots k = slice_index_or slots k vacant
+
+-- of each slot what has to lie in it
+abbrev pub accounts_of : Book → List Held
+accounts_of b = map (slot_of b) (range_with_len 0 (length b.inodes))
+
+pub record IsKept (b : Book) (slots : List Held) : Type 0 where
+  pub accounts : slots ≡ accounts_of b
+  pub sound : IsSound b.world
+  pub within : length b.world.history ≤ b.world.limit
+
+-- what the journal tells of a step
+abbrev pub told_as : journal.Outcome → Outcome
+told_as told.NotNow = NotNow
+told_as told.Astray = NotNow
+told_as (told.Stands inode) = Stands inode
+told_as told.Forked = Forked
+told_as told.Restarted = Restarted
+
+-- what it tells of a call without a walk, whose entry would have this number
+abbrev pub answered_as : ℕ → Answer → Outcome
+answered_as number answer.Replied = Replied number
+answered_as number answer.HistoryFull = Refused HistoryFull
+answered_as number answer.NoMemory = Refused NoMemory
+
+-- what it tells of a commit
+abbrev pub ended_as : ℕ → Ending → Outcome
+ended_as number ending.NotNow = NotNow
+ended_as number ending.Astray = NotNow
+ended_as number ending.Replied = Replied number
+ended_as number ending.HistoryFull = Refused HistoryFull
+ended_as number ending.NoMemory = Refused NoMemory

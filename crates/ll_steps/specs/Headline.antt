@@ -1,0 +1,51 @@
+-- What is promised of every list of steps, whoever makes them and in whatever order. own
+use Rattle.std.specs.Prelude.{◌≡◌, ℕ, ◌≤◌, List, [], ◌∷◌, ◌++◌, length}
+use Rattle.ll_laws.specs.NoGain.{GainsNothing}
+use Rattle.ll_laws.specs.Withheld.{Withholds}
+use Rattle.ll_seq.specs.declared.reply.Entry.{Entry}
+use Rattle.ll_seq.specs.State.{start}
+use Rattle.ll_seq.specs.History.{IsLegal}
+use Rattle.ll_walks.specs.declared.step.Step.{Step}
+use Rattle.ll_walks.specs.World.{World}
+use Rattle.ll_walks.specs.Growing.{Came}
+use Rattle.ll_walks.specs.Walks.{AreValid, AreApart, AreFew, GateIsHeld}
+use Rattle.ll_steps.specs.declared.outcome.Outcome.{Outcome}
+use Rattle.ll_steps.specs.Makes.{Makes, Adds}
+
+-- What holds of every world: of its history, of the walks that are under way, and between any two points of the history
+pub record IsLawful (w : World) : Type 0 where
+  pub legal : IsLegal (start w.rules w.room) w.history
+  pub within : length w.history ≤ w.limit
+  -- what a walk has found is so in the tree as it is shown, unless it is stale
+  pub valid : AreValid w
+  -- no directory has two marks
+  pub apart : AreApart w
+  -- no walk starts more than four times
+  pub few : AreFew w
+  -- who needs the gate holds it, and is never stale
+  pub gate : GateIsHeld w
+  -- reach never grows under a layer, and withheld bytes stay withheld
+  pub no_gain : (early late rest : List Entry) → w.history ≡ early ++ late ++ rest → GainsNothing w.rules w.room early late
+  pub withheld : (early late rest : List Entry) → w.history ≡ early ++ late ++ rest → Withholds w.rules w.room early late
+
+-- the same tree, with these entries more
+pub record Grows (w w' : World) (added : List Entry) : Type 0 where
+  pub came : Came w w' added
+  pub rules : w'.rules ≡ w.rules
+  pub room : w'.room ≡ w.room
+  pub limit : w'.limit ≡ w.limit
+
+-- Each step has its outcome, and adds what the outcome tells of to the history: these entries, in their order, and no other
+abbrev pub Runs : World → List Step → List Outcome → List Entry → World → Type 0
+Runs w [] [] added w' = (added ≡ []) × (w' ≡ w)
+Runs w [] (outcome ∷ outcomes) added w' = ⊥
+Runs w (step' ∷ steps) [] added w' = ⊥
+Runs w (step' ∷ steps) (outcome ∷ outcomes) added w' =
+    (v : World) × (its others : List Entry) × (added ≡ its ++ others)
+    × Makes w step' outcome v × Adds w step' outcome its × Grows w v its × Runs v steps outcomes others w'
+
+pub record IsHeadline (w : World) (steps : List Step) (outcomes : List Outcome) (w' : World) : Type 0 where
+  pub added : List Entry
+  pub runs : Runs w steps outcomes added w'
+  pub grows : Grows w w' added
+  pub lawful : IsLawful w'

@@ -1,0 +1,85 @@
+//! The calls that don't walk, and the coming of clients.
+
+ghost use Rattle.std.specs.Prelude.{◌≡◌, ◌≢◌, length, IfOk, IfErr, OnErr};
+ghost use Rattle.ll_steps.specs.Contents.{answered_as};
+ghost use Rattle.ll_walks.specs.World as world;
+
+use crate::outcome::Outcome;
+use crate::world::World;
+use ll_journal::{Answer, Unmade};
+use ll_rights::Errno;
+use ll_seq::Call;
+
+/// What comes of a call without a walk, where the history's next entry has this number.
+fn answered(number: u64, answer: Answer) -> Outcome
+    ensures { result ≡ answered_as number answer }
+{
+    match answer {
+        Answer::Replied => Outcome::Replied(number),
+        Answer::HistoryFull => Outcome::Refused(Errno::HistoryFull),
+        Answer::NoMemory => Outcome::Refused(Errno::NoMemory),
+    }
+}
+
+/// The descriptor that the call is made on.
+fn descriptor_of(call: &Call) -> Option<u64>
+    ensures { result ≡ world.descriptor_of call.now }
+{
+    match call {
+        Call::Read(fd, ..) | Call::Write(fd, ..) | Call::Ftruncate(fd, _) | Call::Close(fd) => Some(*fd),
+        _ => None,
+    }
+}
+
+impl World {
+    ghost use Rattle.ll_walks.specs.declared.step.Step.TheVariants as steps;
+    ghost use Rattle.ll_steps.specs.Makes.{Makes};
+
+    /// A new client.
+    pub(crate) fn join(&mut self) -> Outcome
+        ensures { Makes self.old steps.Join result self.new }
+    {
+        match self.journal.connect() {
+            Ok(number) => Outcome::Joined(number),
+            Err(errno) => Outcome::Refused(errno),
+        }
+    }
+
+    /// The client's call for itself alone, which comes back where it isn't made.
+    pub(crate) fn client_step(&mut self, client: u64, call: Call) -> Result<Outcome, Call>
+        ensures makes { IfOk result (λ outcome. Makes self.old (steps.ClientStep client call) outcome self.new) }
+        ensures made { IfOk result (λ outcome. outcome ≢ Outcome.NotNow) }
+        ensures not_now { OnErr result (Makes self.old (steps.ClientStep client call) Outcome.NotNow self.old) }
+        ensures back { IfErr result (λ back. back ≡ call) }
+        ensures same { OnErr result (self.new ≡ self.old) }
+    {
+        let number = self.journal.entries().len() as u64;
+        match self.journal.client_step(client, call) {
+            Ok(answer) => Ok(answered(number, answer)),
+            Err(call) => Err(call),
+        }
+    }
+
+    /// The client's call on a descriptor, which comes back where it isn't made.
+    pub(crate) fn fd_commit(&mut self, client: u64, call: Call) -> Result<Outcome, Call>
+        ensures makes { IfOk result (λ outcome. Makes self.old (steps.FdCommit client call) outcome self.new) }
+        ensures made { IfOk result (λ outcome. outcome ≢ Outcome.NotNow) }
+        ensures not_now { OnErr result (Makes self.old (steps.FdCommit client call) Outcome.NotNow self.old) }
+        ensures back { IfErr result (λ back. back ≡ call) }
+        ensures same { OnErr result (self.new ≡ self.old) }
+    {
+        let Some(fd) = descriptor_of(&call) else {
+            return Err(call);
+        };
+        let Some(slot) = self.journal.file_slot(client, fd) else {
+            return Err(call);
+        };
+        let number = self.journal.entries().len() as u64;
+        let file = &mut self.slots[slot as usize];
+        match self.journal.fd_commit(client, call, slot, file) {
+            Ok(answer) => Ok(answered(number, answer)),
+            Err(Unmade::NotNow(call)) => Err(call),
+            Err(Unmade::Astray(_)) => unreachable!(),
+        }
+    }
+}

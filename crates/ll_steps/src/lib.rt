@@ -1,0 +1,12 @@
+//! A tree that many clients share, whose steps are made one after the other: any list of them.
+#![tactic(auto)]
+
+mod direct;
+mod outcome;
+mod slots;
+mod step;
+mod walk;
+mod world;
+
+pub use outcome::Outcome;
+pub use world::World;

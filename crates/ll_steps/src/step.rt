@@ -1,0 +1,63 @@
+//! Any step, and any list of them.
+
+ghost use Rattle.std.specs.Prelude.{◌≡◌, OnErr, IfOk};
+ghost use Rattle.ll_steps.specs.Headline.{IsHeadline, IsLawful};
+ghost use Rattle.ll_steps.specs.Makes.{Makes};
+
+use crate::outcome::Outcome;
+use crate::world::World;
+use ll_seq::Call;
+use ll_walks::Step;
+use std::alloc::AllocError;
+
+/// Of a call that came back.
+fn or_not_now(made: Result<Outcome, Call>) -> Outcome
+    ensures made { IfOk made (λ outcome. result ≡ outcome) }
+    ensures back { OnErr made (result ≡ Outcome.NotNow) }
+{
+    match made {
+        Ok(outcome) => outcome,
+        Err(_) => Outcome::NotNow,
+    }
+}
+
+impl World {
+    /// What holds of it, whatever was done before. Takes no memory.
+    fn by_law(&self)
+        ensures { IsLawful self.now }
+    {
+        let _journal = &self.journal;
+    }
+
+    /// One step. Where it isn't enabled nothing has changed.
+    pub fn step(&mut self, step: Step) -> Outcome
+        ensures makes { Makes self.old step result self.new }
+        ensures lawful { IsLawful self.new }
+    {
+        let outcome = match step {
+            Step::Join => self.join(),
+            Step::Begin(client, call) => or_not_now(self.begin(client, call)),
+            Step::Descend(client) => self.descend(client),
+            Step::Fork(client) => self.fork(client),
+            Step::Commit(client) => self.commit(client),
+            Step::Restart(client) => self.restart(client),
+            Step::FdCommit(client, call) => or_not_now(self.fd_commit(client, call)),
+            Step::ClientStep(client, call) => or_not_now(self.client_step(client, call)),
+        };
+        self.by_law();
+        outcome
+    }
+
+    /// All these steps, in their order. Room for the outcomes is taken first. Errors: there is none, and no step was made.
+    pub fn run(&mut self, steps: Vec<Step>) -> Result<Vec<Outcome>, AllocError>
+        ensures ran { IfOk result (λ outcomes. IsHeadline self.old steps.items outcomes.items self.new) }
+        ensures not_run { OnErr result (self.new ≡ self.old) }
+    {
+        let mut outcomes = Vec::with_capacity(self.alloc, steps.len())?;
+        for step in steps {
+            outcomes.push_reserved(self.step(step));
+        }
+        self.by_law();
+        Ok(outcomes)
+    }
+}

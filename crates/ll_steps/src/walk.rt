@@ -1,0 +1,201 @@
+//! The steps of a walk.
+
+ghost use Rattle.std.specs.Prelude.{◌≡◌, ◌≢◌, ℕ, ◌<◌, ◌≤◌, true, false, Some, IfOk, IfErr, OnErr, length};
+ghost use Rattle.std.specs.List.{AllByRecursion};
+ghost use Rattle.ll_rights.specs.Map.{get};
+ghost use Rattle.ll_inodes.specs.InodeTable.{AreDistinct};
+ghost use Rattle.ll_walks.specs.Walk as walks;
+ghost use Rattle.ll_journal.specs.Book.{has_mark};
+ghost use Rattle.ll_journal.specs.WalkEnds.{AreEnough, is_lent};
+ghost use Rattle.ll_walks.specs.declared.step.Step.TheVariants as steps;
+ghost use Rattle.ll_steps.specs.Contents.{IsKept, ended_as, told_as};
+ghost use Rattle.ll_journal.specs.Steps.{IsNext, is_at_top};
+ghost use Rattle.ll_steps.specs.Makes.{Makes};
+
+use crate::outcome::Outcome;
+use crate::slots::{trade, vacant};
+use crate::world::World;
+use ll_held::Held;
+use ll_journal::{Ending, Journal, Outcome as Told, Place};
+use ll_rights::Errno;
+use ll_seq::Call;
+use std::alloc::Global;
+
+/// The same, where enough was lent.
+fn told(outcome: Told) -> Outcome
+    requires { outcome ≢ Told.Astray }
+    ensures { result ≡ told_as outcome }
+{
+    match outcome {
+        Told::NotNow => Outcome::NotNow,
+        Told::Stands(inode) => Outcome::Stands(inode),
+        Told::Forked => Outcome::Forked,
+        Told::Restarted => Outcome::Restarted,
+        Told::Astray => unreachable!(),
+    }
+}
+
+/// What comes of a commit that was lent enough, where the history's next entry has this number.
+fn ended(number: u64, ending: Ending) -> Outcome
+    requires { ending ≢ Ending.Astray }
+    ensures { result ≡ ended_as number ending }
+{
+    match ending {
+        Ending::NotNow => Outcome::NotNow,
+        Ending::Replied => Outcome::Replied(number),
+        Ending::HistoryFull => Outcome::Refused(Errno::HistoryFull),
+        Ending::NoMemory => Outcome::Refused(Errno::NoMemory),
+        Ending::Astray => unreachable!(),
+    }
+}
+
+/// The client's walk goes down from the directory in the one slot to that in the other.
+fn descend_between(
+    journal: &mut Journal,
+    slots: &mut [Held],
+    vacant: Held,
+    client: u64,
+    from: u64,
+    to: u64,
+) -> Outcome
+    requires kept { IsKept journal.old slots.old }
+    requires next { IsNext journal.old client from to }
+    requires here { from < length slots.old }
+    requires there { to < length slots.old }
+    requires other { from ≢ to }
+    ensures makes { Makes journal.old.world (steps.Descend client) result journal.new.world }
+    ensures kept { IsKept journal.new slots.new }
+{
+    let mut next = std::mem::replace(&mut slots[to as usize], vacant);
+    let here = &mut slots[from as usize];
+    let outcome = journal.descend(client, from, here, to, &mut next);
+    slots[to as usize] = next;
+    told(outcome)
+}
+
+/// The client's walk is answered, with these slots.
+fn commit_with(
+    journal: &mut Journal,
+    slots: &mut [Held],
+    alloc: Global,
+    client: u64,
+    numbers: &[u64],
+) -> Outcome
+    requires kept { IsKept journal.old slots.old }
+    requires few { length numbers.now ≤ 4 }
+    requires there { AllByRecursion (λ number. number < length slots.old) numbers.now }
+    requires distinct { AreDistinct numbers.now }
+    requires enough { (walk : walks.Walk) → get journal.old.world.walks client ≡ Some walk → walk.stale ≡ false
+        → AreEnough journal.old client walk numbers.now }
+    ensures makes { Makes journal.old.world (steps.Commit client) result journal.new.world }
+    ensures kept { IsKept journal.new slots.new }
+{
+    let number = journal.entries().len() as u64;
+    let mut held = [
+        vacant(alloc),
+        vacant(alloc),
+        vacant(alloc),
+        vacant(alloc),
+    ];
+    let lent = &mut held[..numbers.len()];
+    trade(slots, numbers, lent);
+    let ending = journal.commit(client, numbers, lent);
+    trade(slots, numbers, lent);
+    ended(number, ending)
+}
+
+/// The client's stale walk starts again, with these slots.
+fn restart_with(
+    journal: &mut Journal,
+    slots: &mut [Held],
+    alloc: Global,
+    client: u64,
+    numbers: &[u64],
+) -> Outcome
+    requires kept { IsKept journal.old slots.old }
+    requires few { length numbers.now ≤ 3 }
+    requires there { AllByRecursion (λ number. number < length slots.old) numbers.now }
+    requires distinct { AreDistinct numbers.now }
+    requires marked { (inode : ℕ) → is_lent journal.old numbers.now inode ≡ has_mark journal.old.world inode client }
+    ensures makes { Makes journal.old.world (steps.Restart client) result journal.new.world }
+    ensures kept { IsKept journal.new slots.new }
+{
+    let mut held = [vacant(alloc), vacant(alloc), vacant(alloc)];
+    let lent = &mut held[..numbers.len()];
+    trade(slots, numbers, lent);
+    let outcome = journal.restart(client, numbers, lent);
+    trade(slots, numbers, lent);
+    told(outcome)
+}
+
+impl World {
+    /// The client's call sets out, or comes back where it may not.
+    pub(crate) fn begin(&mut self, client: u64, call: Call) -> Result<Outcome, Call>
+        ensures makes { IfOk result (λ outcome. Makes self.old (steps.Begin client call) outcome self.new) }
+        ensures begun { IfOk result (λ outcome. outcome ≡ Outcome.Begun) }
+        ensures not_now { OnErr result (Makes self.old (steps.Begin client call) Outcome.NotNow self.old) }
+        ensures back { IfErr result (λ back. back ≡ call) }
+        ensures same { OnErr result (self.new ≡ self.old) }
+    {
+        self.journal.begin(client, call)?;
+        Ok(Outcome::Begun)
+    }
+
+    /// The client's walk, which is above the root, goes to it.
+    fn enter(&mut self, client: u64) -> Outcome
+        requires { is_at_top self.old client ≡ true }
+        ensures { Makes self.old (steps.Descend client) result self.new }
+    {
+        let slot = self.journal.root_slot();
+        let root = &mut self.slots[slot as usize];
+        told(self.journal.enter(client, slot, root))
+    }
+
+    /// The client's walk goes one directory further.
+    pub(crate) fn descend(&mut self, client: u64) -> Outcome
+        ensures { Makes self.old (steps.Descend client) result self.new }
+    {
+        if self.journal.place(client) == Place::Above {
+            return self.enter(client);
+        }
+        let Some(from) = self.journal.turn_slot(client) else {
+            return Outcome::NotNow;
+        };
+        let Some(to) = self.journal.next_slot(client, from, &self.slots[from as usize]) else {
+            return Outcome::NotNow;
+        };
+        if from == to {
+            return Outcome::NotNow;
+        }
+        let vacant = vacant(self.alloc);
+        descend_between(&mut self.journal, &mut self.slots, vacant, client, from, to)
+    }
+
+    /// The client's walk leaves what is common to both paths.
+    pub(crate) fn fork(&mut self, client: u64) -> Outcome
+        ensures { Makes self.old (steps.Fork client) result self.new }
+    {
+        told(self.journal.fork(client))
+    }
+
+    /// The client's walk is answered.
+    pub(crate) fn commit(&mut self, client: u64) -> Outcome
+        ensures { Makes self.old (steps.Commit client) result self.new }
+    {
+        let Some(slot) = self.journal.turn_slot(client) else {
+            return Outcome::NotNow;
+        };
+        let slots = self.journal.end_slots(client, slot, &self.slots[slot as usize]);
+        let numbers = slots.as_slice();
+        commit_with(&mut self.journal, &mut self.slots, self.alloc, client, numbers)
+    }
+
+    /// The client's stale walk starts again.
+    pub(crate) fn restart(&mut self, client: u64) -> Outcome
+        ensures { Makes self.old (steps.Restart client) result self.new }
+    {
+        let slots = self.journal.stands_in(client);
+        let numbers = slots.as_slice();
+        restart_with(&mut self.journal, &mut self.slots, self.alloc, client, numbers)
+    }
+}

@@ -1,0 +1,68 @@
+//! The tree with its walks.
+
+ghost use Rattle.std.specs.Prelude.{◌≡◌, ◌≤◌, IfOk};
+ghost use Rattle.ll_rights.specs.declared.limits.TheConstants.{HISTORY_ENTRIES, TREE_NODES};
+
+use crate::slots::new_slots;
+use ll_held::Held;
+use ll_journal::{Journal, Place};
+use ll_rights::limits::{HISTORY_ENTRIES, TREE_NODES};
+use ll_seq::{Entry, Rules};
+use std::alloc::{AllocError, Global};
+use std::marker::Model;
+
+/// A tree that clients share, and what is under way in it. Contracts see it as ll_walks' world.
+#[derive(Drop)]
+pub struct World {
+    pub(crate) alloc: Global,
+    pub(crate) journal: Journal,
+    pub(crate) slots: Vec<Held>,
+}
+
+impl Model for World {
+    ghost use Rattle.ll_walks.specs.World as world;
+    ghost use Rattle.ll_journal.specs.SeatCodes.{coded_world};
+
+    ghost Value = { world.World };
+
+    ghost coded = { coded_world };
+
+    ghost use Rattle.ll_steps.specs.Contents.{IsKept};
+
+    ghost view = { λ w. w.journal.world };
+
+    ghost invariant = { λ w. IsKept w.journal w.slots.items };
+}
+
+impl World {
+    ghost use Rattle.ll_walks.specs.World.{new_world};
+    ghost use Rattle.ll_journal.specs.WalkPlaces.{place_in};
+
+    /// A tree of the root alone, in which so many nodes may live, without a client. Room is taken for so many entries of
+    /// the history.
+    pub fn new(
+        alloc: Global,
+        rules: Rules,
+        nodes: usize,
+        history: usize,
+    ) -> Result<World, AllocError>
+        requires some { 1 ≤ nodes }
+        requires most { nodes ≤ TREE_NODES }
+        requires entry { 1 ≤ history }
+        requires entries { history ≤ HISTORY_ENTRIES }
+        ensures { IfOk result (λ w. w ≡ new_world rules nodes history) }
+    {
+        Ok(World {
+            alloc,
+            journal: Journal::new(alloc, rules, nodes, history)?,
+            slots: new_slots(alloc, nodes)?,
+        })
+    }
+
+    /// Where the client's walk is.
+    pub fn place(&self, client: u64) -> Place
+        ensures { result ≡ place_in self.now client }
+    {
+        self.journal.place(client)
+    }
+}
