@@ -1,5 +1,8 @@
 //! Elements of SVG, written.
 
+ghost use Rattle.std.specs.Prelude.{IfOk, string_bytes};
+ghost use Rattle.ll_picture.specs.Pictures.{IsWhole};
+
 use std::alloc::{AllocError, Global};
 use std::fmt;
 use std::fmt::Display;
@@ -187,7 +190,9 @@ impl Canvas {
     }
 
     /// The picture's whole text.
-    pub fn finish(mut self) -> Result<String, AllocError> {
+    pub fn finish(mut self) -> Result<String, AllocError>
+        ensures { IfOk result (λ text. IsWhole (string_bytes text)) }
+    {
         self.text.push_str("</svg>\n")?;
         Ok(self.text)
     }

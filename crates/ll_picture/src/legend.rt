@@ -72,10 +72,12 @@ fn draw_sign(canvas: &mut Canvas, sign: Sign, at: Point) -> Result<(), AllocErro
 /// Where the legend ends that begins at this height, in a picture of this width.
 pub fn legend_end(top: f64, width: f64) -> f64 {
     let mut place = Point::new(MARGIN, top);
+    let mut last = top;
     for _ in SIGNS {
+        last = place.y;
         place = next_place(place, width);
     }
-    place.y + HEIGHT
+    last + HEIGHT
 }
 
 /// The signs, each with its meaning.

@@ -2,13 +2,19 @@
 #![tactic(auto)]
 
 mod canvas;
+mod course;
+mod drawing;
+mod fault;
 mod head;
 mod legend;
 mod picture;
+mod replay;
 mod scene;
+mod seat;
 mod sheet;
 mod style;
+mod told;
 mod track;
 
-pub use picture::picture_of;
-pub use scene::{Answer, Branch, Column, Event, Moment, Row, Scene};
+pub use drawing::draw;
+pub use fault::PictureFault;

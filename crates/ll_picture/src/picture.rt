@@ -1,5 +1,8 @@
 //! The whole picture.
 
+ghost use Rattle.std.specs.Prelude.{IfOk, string_bytes};
+ghost use Rattle.ll_picture.specs.Pictures.{IsWhole};
+
 use crate::canvas::{Canvas, Point};
 use crate::head::write_head;
 use crate::legend::{draw_legend, legend_end};
@@ -10,7 +13,9 @@ use crate::track::draw_row;
 use std::alloc::{AllocError, Global};
 
 /// The picture of a scene, as SVG.
-pub fn picture_of(alloc: Global, scene: &Scene) -> Result<String, AllocError> {
+pub fn picture_of(alloc: Global, scene: &Scene) -> Result<String, AllocError>
+    ensures { IfOk result (λ text. IsWhole (string_bytes text)) }
+{
     let sheet = Sheet::new(alloc, scene)?;
     let legend = sheet.bottom + 24.0;
     let height = legend_end(legend, sheet.width);
