@@ -1,0 +1,199 @@
+//! Elements of SVG, written.
+
+ghost use Rattle.std.specs.Prelude.{IfOk, string_bytes};
+ghost use Rattle.ll_picture.specs.Pictures.{IsWhole};
+
+use std::alloc::{AllocError, Global};
+use std::fmt;
+use std::fmt::Display;
+use std::num::nearest_usize_to_f64;
+
+/// How wide a character is, in pixels, of the usual writing and of the small one.
+pub const USUAL: f64 = 6.4;
+
+pub const SMALL: f64 = 5.6;
+
+/// How wide a text is, of characters of this width.
+pub fn width_of(text: &str, width: f64) -> f64 {
+    nearest_usize_to_f64(text.chars().count()) * width
+}
+
+/// A text of at most so many characters: where it has more, the first of them and a sign that it goes on.
+#[derive(Drop)]
+pub struct Cut<'a> {
+    text: &'a str,
+    goes_on: bool,
+}
+
+impl<'a> Cut<'a> {
+    pub fn new(text: &'a str, most: usize) -> Cut<'a> {
+        match text.char_indices().nth(most) {
+            Some((end, _)) => Cut {
+                text: &text[..end],
+                goes_on: true,
+            },
+            None => Cut {
+                text,
+                goes_on: false,
+            },
+        }
+    }
+}
+
+// What has a meaning between tags is spelled out, and what may not stand there becomes a question mark.
+impl Display for Cut<'_> {
+    fn fmt<W: fmt::Write>(&self, f: &mut fmt::Formatter<W>) -> fmt::Result {
+        for c in self.text.chars() {
+            match c {
+                '&' => f.write_str("&amp;")?,
+                '<' => f.write_str("&lt;")?,
+                '>' => f.write_str("&gt;")?,
+                ' '..='~' | '\u{a0}'..='\u{d7ff}' => f.write_char(c)?,
+                _ => f.write_char('?')?,
+            }
+        }
+        if self.goes_on {
+            f.write_str("…")?;
+        }
+        Ok(())
+    }
+}
+
+/// A point, in pixels from the left and from the top.
+#[derive(Clone, Copy)]
+pub struct Point {
+    pub x: f64,
+    pub y: f64,
+}
+
+impl Point {
+    pub fn new(x: f64, y: f64) -> Point {
+        Point { x, y }
+    }
+
+    /// The point so much further to the right and further down.
+    pub fn by(self, right: f64, down: f64) -> Point {
+        Point::new(self.x + right, self.y + down)
+    }
+}
+
+impl Display for Point {
+    fn fmt<W: fmt::Write>(&self, f: &mut fmt::Formatter<W>) -> fmt::Result {
+        let Point { x, y } = *self;
+        write!(f, "{x:.1} {y:.1}")
+    }
+}
+
+/// A picture's text as it grows. The class of an element names its style.
+#[derive(Drop)]
+pub struct Canvas {
+    text: String,
+}
+
+impl Canvas {
+    /// An empty picture of this size.
+    pub fn new(alloc: Global, width: f64, height: f64) -> Result<Canvas, AllocError> {
+        let mut text = String::new(alloc);
+        writeln!(
+            text,
+            "<svg xmlns='http://www.w3.org/2000/svg' width='{width:.0}' height='{height:.0}' viewBox='0 0 {width:.0} {height:.0}'>"
+        )?;
+        Ok(Canvas { text })
+    }
+
+    /// Elements that are spelled already.
+    pub fn add(&mut self, elements: &str) -> Result<(), AllocError> {
+        self.text.push_str(elements)
+    }
+
+    /// What comes now, up to the end of the group, has this colour.
+    pub fn begin_group(&mut self, color: &str) -> Result<(), AllocError> {
+        writeln!(self.text, "<g color='{color}'>")
+    }
+
+    pub fn end_group(&mut self) -> Result<(), AllocError> {
+        self.text.push_str("</g>\n")
+    }
+
+    /// A box with this upper left corner.
+    pub fn rect(
+        &mut self,
+        class: &str,
+        corner: Point,
+        width: f64,
+        height: f64,
+    ) -> Result<(), AllocError> {
+        let Point { x, y } = corner;
+        writeln!(
+            self.text,
+            "<rect class='{class}' x='{x:.1}' y='{y:.1}' width='{width:.1}' height='{height:.1}' rx='3'/>"
+        )
+    }
+
+    pub fn circle(&mut self, class: &str, middle: Point, radius: f64) -> Result<(), AllocError> {
+        let Point { x, y } = middle;
+        writeln!(
+            self.text,
+            "<circle class='{class}' cx='{x:.1}' cy='{y:.1}' r='{radius:.1}'/>"
+        )
+    }
+
+    pub fn line(&mut self, class: &str, from: Point, to: Point) -> Result<(), AllocError> {
+        writeln!(self.text, "<path class='{class}' d='M{from} L{to}'/>")
+    }
+
+    pub fn diamond(&mut self, class: &str, middle: Point, radius: f64) -> Result<(), AllocError> {
+        let top = middle.by(0.0, -radius);
+        let right = middle.by(radius, 0.0);
+        let bottom = middle.by(0.0, radius);
+        let left = middle.by(-radius, 0.0);
+        writeln!(
+            self.text,
+            "<path class='{class}' d='M{top} L{right} L{bottom} L{left} Z'/>"
+        )
+    }
+
+    pub fn cross(&mut self, class: &str, middle: Point, radius: f64) -> Result<(), AllocError> {
+        self.line(
+            class,
+            middle.by(-radius, -radius),
+            middle.by(radius, radius),
+        )?;
+        self.line(
+            class,
+            middle.by(-radius, radius),
+            middle.by(radius, -radius),
+        )
+    }
+
+    /// Words from the point on.
+    pub fn write(&mut self, class: &str, from: Point, words: Cut<'_>) -> Result<(), AllocError> {
+        let Point { x, y } = from;
+        writeln!(
+            self.text,
+            "<text class='{class}' x='{x:.1}' y='{y:.1}'>{words}</text>"
+        )
+    }
+
+    /// Words that rise to the right, on a line that is so far below the one that goes through the point.
+    pub fn write_rising(
+        &mut self,
+        class: &str,
+        from: Point,
+        below: f64,
+        words: Cut<'_>,
+    ) -> Result<(), AllocError> {
+        writeln!(
+            self.text,
+            "<text class='{class}' transform='translate({from}) rotate(-55)' y='{below:.1}'>{words}</text>"
+        )
+    }
+
+    /// The picture's whole text.
+    pub fn finish(mut self) -> Result<String, AllocError>
+        ensures { IfOk result (λ text. IsWhole (string_bytes text)) }
+    {
+        self.text.push_str("</svg>\n")?;
+        Ok(self.text)
+    }
+}
