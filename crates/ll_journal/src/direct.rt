@@ -126,6 +126,7 @@ pub(crate) fn enter(
 }
 
 impl Journal {
+    ghost use Rattle.ll_rights.specs.Map.{len};
     ghost use Rattle.ll_journal.specs.Book.{Spares};
     ghost use Rattle.ll_journal.specs.Direct.{Answers, LeavesSlots, TakesMemory, TakesSpare};
 
@@ -134,6 +135,20 @@ impl Journal {
         ensures { result.now ≡ self.now.world.history }
     {
         self.history.entries()
+    }
+
+    /// The history of all calls.
+    pub fn history(&self) -> &History
+        ensures { result.now ≡ record { entries = self.now.world.history; limit = self.now.world.limit } }
+    {
+        &self.history
+    }
+
+    /// How many clients there are. They have the numbers from 1 on.
+    pub fn clients(&self) -> u64
+        ensures { result ≡ len (world.shown self.now.world).clients }
+    {
+        self.seats.len() as u64
     }
 
     /// A new client, which gets the next number. Errors: HistoryFull, EMFILE where as many clients were made as a tree

@@ -5,3 +5,4 @@ pub mod Adding
 pub mod LentContents
 pub mod DirectMakes
 pub mod WalkMakes
+pub mod Nearing

@@ -1,3 +1,5 @@
 pub mod Makes
 pub mod Headline
+pub mod Left
+pub mod Calling
 pub mod Contents

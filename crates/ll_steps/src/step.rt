@@ -23,7 +23,7 @@ fn or_not_now(made: Result<Outcome, Call>) -> Outcome
 
 impl World {
     /// What holds of it, whatever was done before. Takes no memory.
-    fn by_law(&self)
+    pub(crate) fn by_law(&self)
         ensures { IsLawful self.now }
     {
         let _journal = &self.journal;

@@ -6,8 +6,7 @@ ghost use Rattle.ll_rights.specs.declared.limits.TheConstants.{HISTORY_ENTRIES, 
 use crate::slots::new_slots;
 use ll_held::Held;
 use ll_journal::{Journal, Place};
-use ll_rights::limits::{HISTORY_ENTRIES, TREE_NODES};
-use ll_seq::{Entry, Rules};
+use ll_seq::{History, Rules};
 use std::alloc::{AllocError, Global};
 use std::marker::Model;
 
@@ -35,7 +34,8 @@ impl Model for World {
 }
 
 impl World {
-    ghost use Rattle.ll_walks.specs.World.{new_world};
+    ghost use Rattle.ll_rights.specs.Map.{len};
+    ghost use Rattle.ll_walks.specs.World.{new_world, shown};
     ghost use Rattle.ll_journal.specs.WalkPlaces.{place_in};
 
     /// A tree of the root alone, in which so many nodes may live, without a client. Room is taken for so many entries of
@@ -57,6 +57,20 @@ impl World {
             journal: Journal::new(alloc, rules, nodes, history)?,
             slots: new_slots(alloc, nodes)?,
         })
+    }
+
+    /// The history of all calls.
+    pub fn history(&self) -> &History
+        ensures { result.now ≡ record { entries = self.now.history; limit = self.now.limit } }
+    {
+        self.journal.history()
+    }
+
+    /// How many clients there are. They have the numbers from 1 on.
+    pub fn clients(&self) -> u64
+        ensures { result ≡ len (shown self.now).clients }
+    {
+        self.journal.clients()
     }
 
     /// Where the client's walk is.

@@ -1,0 +1,28 @@
+-- How many steps a walk may still make before its answer, while nobody else makes any. No public contract cites it. own
+use Rattle.std.specs.Prelude.{ℕ, ◌+◌, ◌-◌, ◌*◌, length}
+use Rattle.std.specs.Option.{option_map_or}
+use Rattle.ll_rights.specs.Map.{get}
+use Rattle.ll_path.specs.Path.{parent}
+use Rattle.ll_seq.specs.declared.call.Call.{Call}
+use Rattle.ll_seq.specs.Call.{first_path, second_path}
+use Rattle.ll_walks.specs.Walk.{Walk, Position, Above, Down, Split, trunk_path}
+use Rattle.ll_walks.specs.World.{World}
+
+-- past the fork, and the fork itself
+abbrev pub most_past : Call → ℕ
+most_past call = length (parent (first_path call)) + length (parent (second_path call)) + 1
+
+-- in one start
+abbrev pub most_steps : Call → ℕ
+most_steps call = length (trunk_path call) + most_past call + 1
+
+abbrev pub way_left : Call → Position → ℕ
+way_left call Above = most_steps call
+way_left call (Down trunk) = length trunk.ahead + most_past call
+way_left call (Split trunk old new) = length old.ahead + length new.ahead
+
+abbrev pub walk_left : Walk → ℕ
+walk_left walk = (4 - walk.starts) * (most_steps walk.call + 1) + way_left walk.call walk.at
+
+abbrev pub steps_left : World → ℕ → ℕ
+steps_left w client = option_map_or walk_left (get w.walks client) 0
