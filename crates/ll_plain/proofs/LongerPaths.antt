@@ -40,9 +40,6 @@ module _ (s : State) (name : Name) where
   chain_onward None i f g e same = refl
   chain_onward (Some j) i f g e same = ap (λ (l : List ℕ). i ∷ l) (same j)
 
-  alone_one : (i : ℕ) (o : Option ℕ) → i ∷ option_map_or (λ j. j ∷ []) o [] ≡ i ∷ alone o
-  alone_one i o = refl
-
   pub chain_push : (path : Path) (i : ℕ) → chain_from s (path ++ name ∷ []) i ≡ chain_from s path i ++ alone (beneath (end_from s path i))
   chain_push [] i = refl
   chain_push (n ∷ path) i = chain_onward (child s i n) i (chain_from s (path ++ name ∷ [])) (chain_from s path) (end_from s path) (chain_push path)

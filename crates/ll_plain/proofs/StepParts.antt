@@ -28,9 +28,6 @@ pub first_stays : {A : Type 0} (xs ys : List A) (x : A) → slice_get xs 0 ≡ S
 first_stays [] ys x e = absurd cc
 first_stays (y ∷ xs) ys x e = e
 
-pub first_after : {A : Type 0} (xs ys : List A) (x : A) → xs ≡ [] → slice_get ys 0 ≡ Some x → slice_get (xs ++ ys) 0 ≡ Some x
-first_after xs ys x free e = ap (λ zs. slice_get (zs ++ ys) 0) free ∙ e
-
 pub both_free : {A : Type 0} (xs ys : List A) → xs ≡ [] → ys ≡ [] → xs ++ ys ≡ []
 both_free xs ys e f = ap (λ zs. zs ++ ys) e ∙ f
 

@@ -1,7 +1,7 @@
 -- Which texts spell a path.
-use Rattle.std.proofs.Common.{◌≡◌, ◌==◌, ℕ, suc, ◌<◌, ◌≤◌, Bool, true, false, ◌&&◌, List, [], ◌∷◌, length, drop, nat_le, Some, slice_get, refl, ap, arith, inl, inr}
+use Rattle.std.proofs.Common.{◌≡◌, ◌==◌, ℕ, suc, ◌<◌, ◌≤◌, Bool, true, false, ◌&&◌, List, [], ◌∷◌, length, drop, nat_le, refl, ap, arith, inl, inr}
 use Rattle.std.specs.List.{AllByRecursion, list_all}
-use Rattle.std.proofs.lemmas.Bool.{and_parts, cases_Bool, eqb-true, ne_eqb}
+use Rattle.std.proofs.lemmas.Bool.{and_parts, cases_Bool, eqb-true}
 use Rattle.std.proofs.lemmas.Bool.Decides.{nat_tests}
 use Rattle.ll_rights.specs.declared.errno.Errno.{Errno}
 use Rattle.ll_path.specs.Word.{IsVisible, IsWord}
@@ -30,10 +30,6 @@ no_refusals : (errnos : List Errno) → (length errnos == 0) ≡ true → errnos
 no_refusals [] e = refl
 no_refusals (errno ∷ errnos) e = absurd (omega (arith, eqb-true (suc (length errnos)) 0 e))
 
-some_refusal : (errnos : List Errno) (errno : Errno) → slice_get errnos 0 ≡ Some errno → (length errnos == 0) ≡ false
-some_refusal [] errno e = absurd cc
-some_refusal (first ∷ errnos) errno e = ne_eqb (suc (length errnos)) 0 (λ same. omega (arith, same))
-
 slash_first : (text rest : List ℕ) → text ≡ 47 ∷ rest → 0 < length text
 slash_first text rest e = omega (arith, ap length e)
 
@@ -52,10 +48,3 @@ is_path-no_word text other = elim (cases_Bool (is_path text)) [
   | inl spelled ↦ absurd (other (word_of_path text spelled))
   | inr differs ↦ differs
 ]
-
-pub is_path-refused : (text : List ℕ) (errno : Errno) → slice_get (text_refusals text) 0 ≡ Some errno → is_path text ≡ false
-is_path-refused text errno e = rw (some_refusal (text_refusals text) errno e) (and_false (list_all is_visible text))
-  where
-    and_false : (b : Bool) → (b && false) ≡ false
-    and_false true = refl
-    and_false false = refl

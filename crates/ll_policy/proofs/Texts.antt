@@ -21,15 +21,6 @@ bytes_eq-other a b other = elim (cases_Bool (bytes_eq a b)) [
 
 -- ---- kinds
 
-pub is_kind-text : (kind : Kind) → is_kind (kind_text kind) ≡ true
-is_kind-text Reg = refl
-is_kind-text Dir = refl
-is_kind-text Sym = refl
-is_kind-text Fifo = refl
-is_kind-text Sock = refl
-is_kind-text Char = refl
-is_kind-text Block = refl
-
 no_kind : (text : List ℕ) (kinds : List Kind) → ((kind : Kind) → text ≢ kind_text kind) → list_any (λ kind. bytes_eq text (kind_text kind)) kinds ≡ false
 no_kind text [] other = refl
 no_kind text (kind ∷ kinds) other = rw (bytes_eq-other text (kind_text kind) (other kind)) (no_kind text kinds other)

@@ -1,15 +1,11 @@
 -- What is written, part after part.
-use Rattle.std.proofs.Common.{◌≡◌, ℕ, ◌+◌, ◌<◌, ◌≤◌, List, [], ◌++◌, length, take, drop, Option, None, Some, refl, sym, ap, ◌∙◌, append_assoc, subst, get_or}
-use Rattle.std.specs.Io.KnownBytes.{Appends, Keeps}
+use Rattle.std.proofs.Common.{◌≡◌, ℕ, ◌+◌, ◌<◌, ◌≤◌, List, [], ◌++◌, length, take, drop, Option, sym, ap, ◌∙◌, append_assoc, subst, get_or}
+use Rattle.std.specs.Io.KnownBytes.{Appends}
 use Rattle.std.specs.List.{flat_map}
 use Rattle.std.proofs.lemmas.List.{append-nil, take_all, take_more, take-append-drop, flat_map_more}
 use Rattle.std.proofs.lemmas.Grind.{flat_map-append}
 use Rattle.ll_wire.specs.Writing.{AppendsFront}
 use Rattle.ll_wire.proofs.WrittenText.{appends-more, appends-none}
-
-pub keeps-same : (old : Option (List ℕ)) → Keeps old old
-keeps-same None = tt
-keeps-same (Some x) = refl
 
 -- Of these items' lines, after the head, so many are told: what was written, and the text that waits
 pub record IsWaiting {A : Type 0} (head : List ℕ) (line : A → List ℕ) (items : List A) (done : ℕ) (old new : Option (List ℕ)) (text : List ℕ) : Type 0 where
