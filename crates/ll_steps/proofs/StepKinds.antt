@@ -1,5 +1,5 @@
 -- Which outcomes a walk's steps have, and what leads to its answer.
-use Rattle.std.specs.Prelude.{◌≡◌, ◌≢◌, ◌⊎◌, ℕ, ◌<◌, Bool, true, false, cond, not, ◌&&◌, ◌||◌, ◌==◌, Option, Some, None, unwrap_or, option_map, option_and_then, refl}
+use Rattle.std.specs.Prelude.{◌≡◌, ◌≢◌, ℕ, Bool, true, false, cond, not, ◌&&◌, ◌||◌, ◌==◌, Option, Some, None, unwrap_or, option_map, option_and_then, refl}
 use Rattle.std.proofs.Common.{sym, ap, subst, ◌∙◌, inl, inr}
 use Rattle.ll_rights.specs.Map.{get}
 use Rattle.ll_seq.specs.declared.call.Call.{Call}
@@ -7,16 +7,13 @@ use Rattle.ll_seq.specs.State.{root}
 use Rattle.ll_walks.specs.declared.step.Step.{Step}
 use Rattle.ll_walks.specs.declared.step.Step.TheVariants.{Begin, Descend, Fork, Restart, FdCommit, ClientStep}
 use Rattle.ll_walks.specs.Walk.{Walk, Leg, Position, further, turn, forked, is_above}
-use Rattle.ll_walks.specs.Walks.{AreFew}
 use Rattle.ll_walks.specs.World as world
 use Rattle.ll_walks.specs.World.{World, shown, domain_of, is_marked, may_hold, with_walk, entered, enter, stood, stand, descend, fork, restarted, restart, walking, advance}
 use Rattle.ll_steps.specs.declared.outcome.Outcome.{Outcome}
 use Rattle.ll_steps.specs.declared.outcome.Outcome.TheVariants as outcome
-use Rattle.ll_steps.specs.Calling.{Waits, GoesOn, IsStuck, Leads, Calls, alone, walks, waits}
-use Rattle.ll_steps.specs.Left.{steps_left}
+use Rattle.ll_steps.specs.Calling.{Waits, Leads, Calls, alone, walks, waits}
 use Rattle.ll_steps.specs.Makes.{Makes}
 use Rattle.ll_steps.proofs.Adding.{unchanged}
-use Rattle.ll_steps.proofs.Nearing.{after_fork, after_descent, after_restart}
 
 abbrev may_fork : world.Outcome → Bool
 may_fork world.NotNow = true

@@ -1,10 +1,8 @@
-use Rattle.std.proofs.Common.{◌≡◌, ◌≢◌, ◌∙◌, true, false, ◌<◌, inl, inr, refl, subst, sym, ap}
+use Rattle.std.proofs.Common.{◌≡◌, ◌∙◌, inl, inr, subst}
 use Rattle.ll_walks.specs.World.{World, Stands, advance}
 use Rattle.ll_walks.specs.declared.step.Step.TheVariants.{Fork, Descend, Restart}
-use Rattle.ll_steps.specs.Calling.{GoesOn, IsStuck, Waits}
-use Rattle.ll_steps.specs.Left.{steps_left}
+use Rattle.ll_steps.specs.Calling.{Waits}
 use Rattle.ll_steps.specs.Makes.{Makes}
-use Rattle.ll_steps.specs.declared.outcome.Outcome.TheVariants.{Restarted}
 use Rattle.ll_steps.proofs.Nearing.{after_fork, after_descent, after_restart}
 use Rattle.ll_steps.proofs.StepKinds.{forks, stands, restarts, waits_so}
 use Rattle.ll_steps.proofs.world.World.go_on.Goals as goal

@@ -1,7 +1,7 @@
-use Rattle.std.proofs.Common.{◌≡◌, ◌∙◌, ◌<◌, true, refl, subst, sym}
+use Rattle.std.proofs.Common.{◌∙◌, ◌<◌, refl, subst, sym}
 use Rattle.ll_walks.specs.World.{World}
 use Rattle.ll_walks.specs.declared.step.Step.TheVariants.{Commit}
-use Rattle.ll_steps.specs.Calling.{Leads, answered, goes_on, waits, GoesOn, IsStuck, Waits}
+use Rattle.ll_steps.specs.Calling.{Leads, answered, goes_on, waits, GoesOn, IsStuck}
 use Rattle.ll_steps.specs.Left.{steps_left}
 use Rattle.ll_steps.specs.declared.outcome.Outcome.TheVariants.{NotNow}
 use Rattle.ll_steps.proofs.StepKinds.{waits_so}

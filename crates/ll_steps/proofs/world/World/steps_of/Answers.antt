@@ -1,4 +1,4 @@
-use Rattle.std.proofs.Common.{◌≡◌, ◌∙◌, subst, sym}
+use Rattle.std.proofs.Common.{subst, sym}
 use Rattle.ll_walks.specs.World.{World}
 use Rattle.ll_steps.specs.Calling.{Calls, on_file}
 use Rattle.ll_steps.specs.declared.outcome.Outcome.{Outcome}
