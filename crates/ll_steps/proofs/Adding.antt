@@ -1,12 +1,9 @@
 -- What each outcome tells of the history, and what holds of every world.
-use Rattle.std.specs.Prelude.{◌≡◌, ◌≢◌, ◌⊎◌, ℕ, zero, suc, ◌+◌, ◌<◌, ◌≤◌, Bool, true, false, List, [], ◌∷◌, ◌++◌, length, take, Option, Some, None, slice_get, Result, Ok, Err, IfOk, OnErr, refl}
+use Rattle.std.specs.Prelude.{◌≡◌, ◌≢◌, ◌⊎◌, ℕ, ◌+◌, ◌<◌, ◌≤◌, false, List, [], ◌∷◌, ◌++◌, length, take, Some, slice_get, Result, Ok, Err, IfOk, OnErr, refl}
 use Rattle.std.proofs.Common.{sym, ap, subst, ◌∙◌, inl, inr, arith, append_assoc, get_or}
 use Rattle.std.proofs.lemmas.List.{append-nil, length-append, take_more, take_all}
-use Rattle.std.proofs.lemmas.Option.{slice_get_past}
-use Rattle.ll_laws.proofs.Chains.{same_Some}
 use Rattle.ll_laws.proofs.Gain.{no_gain}
 use Rattle.ll_laws.proofs.Withholding.{bytes_are_withheld}
-use Rattle.ll_rights.specs.declared.errno.Errno.{Errno}
 use Rattle.ll_rights.specs.declared.errno.Errno.TheVariants.{HistoryFull, NoMemory}
 use Rattle.ll_rights.specs.Errno.{errno_number}
 use Rattle.ll_seq.specs.declared.call.Call.{Call}
@@ -26,7 +23,7 @@ use Rattle.ll_walks.specs.World as world
 use Rattle.ll_walks.specs.World.{World, advance, is_full, shown, next_number}
 use Rattle.ll_steps.specs.declared.outcome.Outcome.{Outcome}
 use Rattle.ll_steps.specs.declared.outcome.Outcome.TheVariants as outcome
-use Rattle.ll_steps.specs.Makes.{Makes, Adds, Starves, IsUntold, called, starved}
+use Rattle.ll_steps.specs.Makes.{Makes, Adds, IsUntold, starved}
 use Rattle.ll_steps.specs.Headline.{Grows, IsLawful, IsHeadline, Runs}
 use Rattle.ll_steps.proofs.Going.{Went, went, still, entry_of}
 

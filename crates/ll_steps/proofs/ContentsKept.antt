@@ -1,8 +1,8 @@
 -- What has to lie in the slots, before and after a step.
-use Rattle.std.specs.Prelude.{◌≡◌, ◌≢◌, ℕ, zero, suc, ◌+◌, ◌-◌, ◌<◌, ◌≤◌, ◌⊎◌, List, [], ◌∷◌, map, length, replicate, slice_set, slice_index_or, cond, ◌==◌, Result, Ok, Err, OnOk, OnErr, refl}
+use Rattle.std.specs.Prelude.{◌≡◌, ◌≢◌, ℕ, zero, suc, ◌+◌, ◌-◌, ◌<◌, ◌≤◌, List, [], ◌∷◌, map, length, replicate, slice_index_or, cond, ◌==◌, Result, Ok, Err, OnOk, OnErr, refl}
 use Rattle.std.specs.List.{range_with_len}
-use Rattle.std.proofs.Common.{sym, ap, subst, ◌∙◌, arith, inl, inr}
-use Rattle.std.proofs.lemmas.List.{get_or-set_same, get_or-set_other, get_or-replicate, length-replicate, length-set}
+use Rattle.std.proofs.Common.{sym, ap, subst, ◌∙◌, arith}
+use Rattle.std.proofs.lemmas.List.{length-replicate}
 use Rattle.std.proofs.lemmas.List.FromFn.{get_or-map-range_with_len, length-map-range_with_len, fill_by_all}
 use Rattle.ll_rights.specs.declared.kind.Kind.TheVariants.{Dir}
 use Rattle.ll_rights.specs.declared.limits.TheConstants.{TREE_CLIENTS}
@@ -11,7 +11,6 @@ use Rattle.ll_seq.specs.declared.rules.Rules.{Rules}
 use Rattle.ll_seq.specs.State.{root}
 use Rattle.ll_held.specs.declared.held.Held.{Held}
 use Rattle.ll_held.specs.Lent.{vacant, filled}
-use Rattle.ll_inodes.specs.InodeTable.{NotIn}
 use Rattle.ll_seq.specs.declared.call.Call.{Call}
 use Rattle.ll_walks.specs.declared.step.Step.{Step}
 use Rattle.ll_walks.specs.declared.step.Step.TheVariants.{Begin}

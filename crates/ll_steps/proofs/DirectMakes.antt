@@ -1,5 +1,5 @@
 -- What comes of calls that don't walk, and of the coming of clients.
-use Rattle.std.specs.Prelude.{◌≡◌, ◌≢◌, ◌⊎◌, ℕ, ◌<◌, ◌≤◌, Bool, true, false, cond, not, ◌&&◌, List, [], ◌∷◌, length, slice_set, Option, Some, None, is_some, unwrap_or, Result, Ok, Err, IfOk, IfErr, OnOk, OnErr, refl}
+use Rattle.std.specs.Prelude.{◌≡◌, ◌≢◌, ℕ, ◌<◌, ◌≤◌, Bool, true, false, cond, not, ◌&&◌, List, [], ◌∷◌, length, slice_set, Option, Some, None, is_some, unwrap_or, Result, Ok, Err, IfOk, OnErr, refl}
 use Rattle.std.specs.Option.{option_map_or}
 use Rattle.std.proofs.Common.{sym, ap, subst, ◌∙◌, inl, inr}
 use Rattle.ll_laws.proofs.Chains.{same_Some}
@@ -29,7 +29,7 @@ use Rattle.ll_journal.specs.declared.direct.Answer.TheVariants as answer
 use Rattle.ll_journal.specs.declared.open_file.Unmade.{Unmade}
 use Rattle.ll_journal.specs.declared.open_file.Unmade.TheVariants as unmade
 use Rattle.ll_steps.specs.Contents.{accounts_of, answered_as, IsKept}
-use Rattle.ll_steps.specs.Makes.{Makes, Starves, IsUntold, called, starved, succeeds}
+use Rattle.ll_steps.specs.Makes.{Makes, called, starved, succeeds}
 use Rattle.ll_steps.specs.declared.outcome.Outcome.TheVariants as outcome
 use Rattle.ll_steps.proofs.Adding.{replied_makes, full_told}
 use Rattle.ll_steps.proofs.ContentsKept.{kept_on, kept_alone, kept_same, same_accounts}
@@ -44,15 +44,18 @@ join_keeps b b' slots (Err errno) h joined same spares = kept_same b b' slots h 
 pub join_refused : (w : World) (errno : Errno) → (errno ≢ NoMemory → advance w Join ≡ (world.Replied (Refused errno), w)) → (errno ≡ NoMemory → (after : World) × (advance w Join ≡ (world.Joined (next_number w), after)))
     → Makes w Join (outcome.Refused errno) w
 join_refused w errno refused starves = elim (wants_memory errno) [
-  | inl memory ↦ inr (memory, record {
-    client = next_number w;
-    call = call.Connect;
-    is = refl;
-    takes = refl;
-    not_close = λ number e. cc e;
-    would = ap (λ (p : world.Outcome × World). succeeds p.0) (starves memory).1;
-    left = refl;
-  })
+  | inl memory ↦ inr (
+    memory,
+    record {
+      client = next_number w;
+      call = call.Connect;
+      is = refl;
+      takes = refl;
+      not_close = λ number e. cc e;
+      would = ap (λ (p : world.Outcome × World). succeeds p.0) (starves memory).1;
+      left = refl;
+    },
+  )
   | inr other ↦ inl (inr refl, refused other)
 ]
 
@@ -71,15 +74,18 @@ pub answer_makes : (b b' : Book) (step' : Step) (client : ℕ) (c : Call) (a : A
     → (a ≡ answer.NoMemory → MayTake c) → Answers b step' a b' → Makes b.world step' (answered_as (length b.world.history) a) b'.world
 answer_makes b b' step' client c answer.Replied other is same takes d = replied_makes b.world b'.world step' d.1 d.0 other d.2
 answer_makes b b' step' client c answer.HistoryFull other is same takes d = inl (full_told b.world b'.world step' d.0, d.0)
-answer_makes b b' step' client c answer.NoMemory other is same takes d = inr (refl, record {
-  client = client;
-  call = c;
-  is = is;
-  takes = (takes refl).0;
-  not_close = (takes refl).1;
-  would = ap (λ (p : world.Outcome × World). succeeds p.0) d.1.replied ∙ ap not d.1.granted;
-  left = ap (λ (b : Book). b.world) d.0 ∙ sym same;
-})
+answer_makes b b' step' client c answer.NoMemory other is same takes d = inr (
+  refl,
+  record {
+    client = client;
+    call = c;
+    is = is;
+    takes = (takes refl).0;
+    not_close = (takes refl).1;
+    would = ap (λ (p : world.Outcome × World). succeeds p.0) d.1.replied ∙ ap not d.1.granted;
+    left = ap (λ (b : Book). b.world) d.0 ∙ sym same;
+  },
+)
 
 pub answer_keeps : (b b' : Book) (slots new : List Held) (step' : Step) (a : Answer) → IsKept b slots → Answers b step' a b' → new ≡ accounts_of b' → IsKept b' new
 answer_keeps b b' slots new step' answer.Replied h d e = kept_on b b' slots new step' (world.Replied d.1) h d.2 e

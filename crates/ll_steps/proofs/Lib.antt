@@ -6,3 +6,4 @@ pub mod LentContents
 pub mod DirectMakes
 pub mod WalkMakes
 pub mod Nearing
+pub mod StepKinds

@@ -1,8 +1,8 @@
 -- Each step of a walk brings it nearer to its answer.
-use Rattle.std.specs.Prelude.{◌≡◌, ℕ, zero, suc, ◌+◌, ◌-◌, ◌*◌, ◌<◌, ◌≤◌, Bool, true, false, cond, not, ◌&&◌, ◌||◌, ◌==◌, List, [], ◌∷◌, length, drop, Option, Some, None, unwrap_or, option_map, option_and_then, ⊤, refl}
+use Rattle.std.specs.Prelude.{◌≡◌, ℕ, ◌+◌, ◌-◌, ◌*◌, ◌<◌, ◌≤◌, Bool, true, false, cond, not, ◌&&◌, ◌||◌, ◌==◌, List, [], ◌∷◌, length, Option, Some, None, unwrap_or, option_map, option_and_then, ⊤, refl}
 use Rattle.std.specs.Option.{option_map_or}
 use Rattle.std.specs.Ordering.{nat_cmp}
-use Rattle.std.specs.Cmp.{nat_cmp_total, unsigned_tied}
+use Rattle.std.specs.Cmp.{nat_cmp_total}
 use Rattle.std.specs.FinMap.{nat_cmp-IsAntisymmetric}
 use Rattle.std.proofs.Common.{sym, ap, subst, ◌∙◌, arith}
 use Rattle.std.proofs.lemmas.List.{length-drop}
@@ -14,12 +14,11 @@ use Rattle.ll_seq.specs.Call.{first_path, second_path}
 use Rattle.ll_seq.specs.State.{State, Name, root}
 use Rattle.ll_rules.specs.Layer.{Layer}
 use Rattle.ll_laws.proofs.Chains.{same_Some}
-use Rattle.ll_walks.specs.declared.step.Step.{Step}
 use Rattle.ll_walks.specs.declared.step.Step.TheVariants.{Descend, Fork, Restart}
 use Rattle.ll_walks.specs.Walk.{Walk, Leg, Position, Above, Down, Split, further, further_by, turn, with_turn, forked, is_above, has_two_paths, toward, directory_under, leg_below, trunk_path, first_leg}
 use Rattle.ll_walks.specs.Walks.{AreFew}
 use Rattle.ll_walks.specs.World.{World, Outcome, NotNow, Begun, Stands, Forked, Restarted, Replied, Joined, shown, domain_of, is_marked, may_hold, with_walk, entered, enter, stood, stand, descend, fork, restarted, restart, walking, advance}
-use Rattle.ll_steps.specs.Left.{most_past, most_steps, way_left, walk_left, steps_left}
+use Rattle.ll_steps.specs.Left.{most_steps, way_left, walk_left, steps_left}
 
 here : (m : Map nat_cmp Walk) (number : ℕ) (walk : Walk) → get (insert m number walk) number ≡ Some walk
 here m number walk = get-insert_same nat_cmp_total nat_cmp-IsAntisymmetric m number walk

@@ -19,14 +19,14 @@ use Rattle.ll_seq.specs.State.{root}
 use Rattle.ll_seq.specs.Step.{client_of}
 use Rattle.ll_seq.proofs.Parted.{or_left, or_right}
 use Rattle.ll_walks.specs.declared.step.Step.{Step}
-use Rattle.ll_walks.specs.declared.step.Step.TheVariants.{Descend, Commit, Restart}
+use Rattle.ll_walks.specs.declared.step.Step.TheVariants.{Descend, Commit}
 use Rattle.ll_walks.specs.Walk.{Walk, Leg, Position, Above, Down, Split, further, turn, legs, marks, is_above, is_blocked, at_ends, has_two_paths}
 use Rattle.ll_walks.specs.World.{World, Outcome, NotNow, Stands, Replied, advance, shown, is_marked_by_other, is_walked, last_nodes, domain_of, is_marked, stood, stand, enter, descend}
 use Rattle.ll_walks.proofs.Tests.{not_true}
 use Rattle.ll_walks.proofs.Worlds.{found}
 use Rattle.ll_walks.specs.Sound.{IsSound}
 use Rattle.ll_journal.specs.Book.{Book, Spares, inode_in, slot_of, has_mark}
-use Rattle.ll_journal.specs.Steps.{Does, GoesDown, IsNext, IsInTurn, IsAstrayAt, IsAstrayAtTop, IsAstrayBelow, is_at_top, is_going, leg_in_turn}
+use Rattle.ll_journal.specs.Steps.{Does, GoesDown, IsNext, IsInTurn, IsAstrayAt, IsAstrayAtTop, IsAstrayBelow, is_at_top, leg_in_turn}
 use Rattle.ll_journal.specs.WalkEnds.{AreEnough, Ends, IsAstrayAtEnd, MayTakeMemory, is_lent}
 use Rattle.ll_journal.specs.declared.outcome.Ending.{Ending}
 use Rattle.ll_journal.specs.declared.outcome.Ending.TheVariants as ending
@@ -204,15 +204,18 @@ ending_makes b b' number ending.NoMemory h near takes d =
     let s = d.0 in
     let t = takes refl in
     let one : t.0 ≡ s.walk = same_Some t.0 s.walk (sym t.1 ∙ s.is) in
-    inr (refl, record {
-      client = number;
-      call = s.walk.call;
-      is = ap (option_map (λ (walk : Walk). (number, walk.call))) s.is;
-      takes = ap (λ (v : Walk). spares_memory v.call) (sym one) ∙ t.2;
-      not_close = not_closing (client_of (shown b.world) number) s.walk.call (h.valid number s.walk s.is).0.walked;
-      would = ap (λ (p : Outcome × World). succeeds p.0) (commit_replies b.world number s.walk s.is s.may s.room) ∙ ap not s.granted;
-      left = d.1;
-    })
+    inr (
+      refl,
+      record {
+        client = number;
+        call = s.walk.call;
+        is = ap (option_map (λ (walk : Walk). (number, walk.call))) s.is;
+        takes = ap (λ (v : Walk). spares_memory v.call) (sym one) ∙ t.2;
+        not_close = not_closing (client_of (shown b.world) number) s.walk.call (h.valid number s.walk s.is).0.walked;
+        would = ap (λ (p : Outcome × World). succeeds p.0) (commit_replies b.world number s.walk s.is s.may s.room) ∙ ap not s.granted;
+        left = d.1;
+      },
+    )
 
 pub ending_keeps : (b b' : Book) (slots new : List Held) (number : ℕ) (e : Ending) → IsKept b slots → e ≢ ending.Astray → Ends b number e b' → new ≡ accounts_of b' → IsKept b' new
 ending_keeps b b' slots new number ending.NotNow h near d e = kept_on b b' slots new (Commit number) NotNow h d e

@@ -1,5 +1,5 @@
 -- What is promised of every list of steps, whoever makes them and in whatever order. own
-use Rattle.std.specs.Prelude.{◌≡◌, ℕ, ◌≤◌, List, [], ◌∷◌, ◌++◌, length}
+use Rattle.std.specs.Prelude.{◌≡◌, ◌≤◌, List, [], ◌∷◌, ◌++◌, length}
 use Rattle.ll_laws.specs.NoGain.{GainsNothing}
 use Rattle.ll_laws.specs.Withheld.{Withholds}
 use Rattle.ll_seq.specs.declared.reply.Entry.{Entry}

@@ -26,7 +26,9 @@ fn descriptor_of(call: &Call) -> Option<u64>
     ensures { result ≡ world.descriptor_of call.now }
 {
     match call {
-        Call::Read(fd, ..) | Call::Write(fd, ..) | Call::Ftruncate(fd, _) | Call::Close(fd) => Some(*fd),
+        Call::Read(fd, ..) | Call::Write(fd, ..) | Call::Ftruncate(fd, _) | Call::Close(fd) => Some(
+            *fd,
+        ),
         _ => None,
     }
 }

@@ -2,6 +2,7 @@
 #![tactic(auto)]
 
 mod direct;
+mod make;
 mod outcome;
 mod slots;
 mod step;

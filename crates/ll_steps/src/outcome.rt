@@ -1,5 +1,7 @@
 //! What comes of a step.
 
+ghost use Rattle.std.specs.Prelude.{◌≡◌, ◌≢◌, true, false};
+
 use ll_rights::Errno;
 
 /// What comes of a step, or of all steps of a call.
@@ -19,4 +21,17 @@ pub enum Outcome {
     Replied(u64),
     /// What no entry tells: HistoryFull, NoMemory, and EMFILE where no more clients may come.
     Refused(Errno),
+}
+
+impl Outcome {
+    /// Whether the step was enabled.
+    pub fn was_enabled(self) -> bool
+        ensures yes { result ≡ true → self ≢ Outcome.NotNow }
+        ensures no { result ≡ false → self ≡ Outcome.NotNow }
+    {
+        match self {
+            Outcome::NotNow => false,
+            _ => true,
+        }
+    }
 }

@@ -91,12 +91,7 @@ fn commit_with(
     ensures kept { IsKept journal.new slots.new }
 {
     let number = journal.entries().len() as u64;
-    let mut held = [
-        vacant(alloc),
-        vacant(alloc),
-        vacant(alloc),
-        vacant(alloc),
-    ];
+    let mut held = [vacant(alloc), vacant(alloc), vacant(alloc), vacant(alloc)];
     let lent = &mut held[..numbers.len()];
     trade(slots, numbers, lent);
     let ending = journal.commit(client, numbers, lent);
@@ -161,7 +156,10 @@ impl World {
         let Some(from) = self.journal.turn_slot(client) else {
             return Outcome::NotNow;
         };
-        let Some(to) = self.journal.next_slot(client, from, &self.slots[from as usize]) else {
+        let Some(to) = self
+            .journal
+            .next_slot(client, from, &self.slots[from as usize])
+        else {
             return Outcome::NotNow;
         };
         if from == to {
@@ -185,9 +183,17 @@ impl World {
         let Some(slot) = self.journal.turn_slot(client) else {
             return Outcome::NotNow;
         };
-        let slots = self.journal.end_slots(client, slot, &self.slots[slot as usize]);
+        let slots = self
+            .journal
+            .end_slots(client, slot, &self.slots[slot as usize]);
         let numbers = slots.as_slice();
-        commit_with(&mut self.journal, &mut self.slots, self.alloc, client, numbers)
+        commit_with(
+            &mut self.journal,
+            &mut self.slots,
+            self.alloc,
+            client,
+            numbers,
+        )
     }
 
     /// The client's stale walk starts again.
@@ -196,6 +202,12 @@ impl World {
     {
         let slots = self.journal.stands_in(client);
         let numbers = slots.as_slice();
-        restart_with(&mut self.journal, &mut self.slots, self.alloc, client, numbers)
+        restart_with(
+            &mut self.journal,
+            &mut self.slots,
+            self.alloc,
+            client,
+            numbers,
+        )
     }
 }

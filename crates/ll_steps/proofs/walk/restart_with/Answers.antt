@@ -1,10 +1,6 @@
-use Rattle.std.proofs.Common.{◌≡◌, ◌<◌, ℕ, List, length, ap, sym, subst, ◌∙◌}
+use Rattle.std.proofs.Common.{◌<◌, sym, subst, ◌∙◌}
 use Rattle.std.specs.List.{AllByRecursion}
-use Rattle.ll_seq.specs.declared.reply.Entry.{Entry}
 use Rattle.ll_walks.specs.declared.step.Step.TheVariants.{Restart}
-use Rattle.ll_steps.specs.Contents.{held_at}
-use Rattle.ll_steps.specs.Makes.{Makes}
-use Rattle.ll_steps.specs.declared.outcome.Outcome.{Outcome}
 use Rattle.ll_steps.proofs.LentContents.{lent_in}
 use Rattle.ll_steps.proofs.WalkMakes.{near_start, told_keeps, traded}
 use Rattle.ll_steps.proofs.walk.restart_with.Goals as goal

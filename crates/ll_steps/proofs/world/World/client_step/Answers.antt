@@ -1,7 +1,7 @@
-use Rattle.std.proofs.Common.{◌≡◌, ◌<◌, List, length, Result, Ok, IfOk, refl, ap, sym, subst, ◌∙◌, rules}
+use Rattle.std.proofs.Common.{List, length, Result, Ok, IfOk, refl, ap, sym, subst, ◌∙◌}
 use Rattle.ll_seq.specs.declared.call.Call.{Call}
 use Rattle.ll_seq.specs.declared.reply.Entry.{Entry}
-use Rattle.ll_walks.specs.World.{World, NotNow, advance}
+use Rattle.ll_walks.specs.World.{World}
 use Rattle.ll_walks.specs.declared.step.Step.TheVariants.{ClientStep}
 use Rattle.ll_steps.specs.Contents.{answered_as}
 use Rattle.ll_steps.specs.Makes.{Makes}

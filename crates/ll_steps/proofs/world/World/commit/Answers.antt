@@ -1,5 +1,4 @@
-use Rattle.std.proofs.Common.{rules, ◌≡◌, ◌<◌, length, ap, subst, sym, ◌∙◌}
-use Rattle.ll_walks.specs.World.{World, NotNow, advance}
+use Rattle.std.proofs.Common.{rules, ◌<◌, length}
 use Rattle.ll_steps.proofs.LentContents.{bound_of, bounds_again, at_index}
 use Rattle.ll_steps.proofs.world.World.commit.Goals as goal
 

@@ -1,4 +1,4 @@
-use Rattle.std.proofs.Common.{rules, ◌≡◌, ◌<◌, length, true, ap, subst, sym}
+use Rattle.std.proofs.Common.{rules, ◌≡◌, ◌<◌, length, true, subst, sym}
 use Rattle.ll_walks.specs.World.{World}
 use Rattle.ll_journal.specs.Steps.{is_at_top}
 use Rattle.ll_walks.specs.declared.step.Step.TheVariants.{Descend}

@@ -1,4 +1,4 @@
-use Rattle.std.proofs.Common.{◌≡◌, Err, ap, sym, subst}
+use Rattle.std.proofs.Common.{Err, ap, sym, subst}
 use Rattle.ll_walks.specs.World.{World}
 use Rattle.ll_walks.specs.declared.step.Step.TheVariants.{Join}
 use Rattle.ll_steps.specs.Makes.{Makes}
