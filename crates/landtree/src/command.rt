@@ -21,7 +21,7 @@ fn nodes_option<'a>(alloc: Global) -> Arg<'a>
         .help("How many nodes may live in the tree, the root counted")
 }
 
-fn abi_option<'a>(alloc: Global) -> Arg<'a>
+fn abi_option<'a>(alloc: Global, help: &'a str) -> Arg<'a>
     ensures rule { rule_of result ≡ abi }
     ensures local { result.global ≡ false }
 {
@@ -29,9 +29,7 @@ fn abi_option<'a>(alloc: Global) -> Arg<'a>
         .long("abi")
         .value_name("A")
         .value_parser(value_parser!(u64).range(1..=3))
-        .help(
-            "The level of Landlock's ABI, whose rights a ruleset may handle (3; not beside a policy)",
-        )
+        .help(help)
 }
 
 fn history_option<'a>(alloc: Global) -> Arg<'a>
@@ -93,7 +91,10 @@ fn run_command<'a>(alloc: Global) -> Result<Command<'a>, AllocError>
         .about("Runs a script: a command a line in, a reply a line out")
         .arg(script_argument(alloc))?
         .arg(nodes_option(alloc))?
-        .arg(abi_option(alloc))?;
+        .arg(abi_option(
+            alloc,
+            "The level of Landlock's ABI, whose rights a ruleset may handle (3; not beside a policy)",
+        ))?;
     let by_policy = by_level
         .arg(policy_option(alloc))?
         .arg(profile_option(alloc))?;
@@ -129,7 +130,10 @@ fn schedule_command<'a>(alloc: Global) -> Result<Command<'a>, AllocError>
         .arg(file_argument(alloc, "The schedule's file, or `-` for standard input"))?;
     let schedule = of_file
         .arg(nodes_option(alloc))?
-        .arg(abi_option(alloc))?
+        .arg(abi_option(
+            alloc,
+            "The level of Landlock's ABI, whose rights a ruleset may handle (3)",
+        ))?
         .arg(history_option(alloc))?;
     Ok(schedule)
 }
