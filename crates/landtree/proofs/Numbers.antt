@@ -79,9 +79,9 @@ together path n most level policy profile save =
     option_and_then (λ p. option_and_then (λ k. option_map (λ m. record { script = p; nodes = k; level = level; history = m; policy = policy; profile = profile; save = save }) most) n) path
 
 -- the same of a schedule
-abbrev pub together_scheduled : Option Text → Option ℕ → Option ℕ → Option ℕ → Option ScheduleOrder
-together_scheduled path n most level =
-    option_and_then (λ p. option_and_then (λ k. option_map (λ m. record { file = p; nodes = k; level = level; history = m }) most) n) path
+abbrev pub together_scheduled : Option Text → Option ℕ → Option ℕ → Option ℕ → Option Text → Option ScheduleOrder
+together_scheduled path n most level picture =
+    option_and_then (λ p. option_and_then (λ k. option_map (λ m. record { file = p; nodes = k; level = level; history = m; picture = picture }) most) n) path
 
 module _ (f : Found) where
   abbrev pub level_by : Option ℕ
@@ -103,15 +103,18 @@ module _ (f : Found) where
       ∙ ap (λ (k : Option ℕ). order_by script k most) (g ∙ ap (option_and_then (number_in node_numbers)) (one_text-rows f (codes "nodes")))
       ∙ ap (λ (m : Option ℕ). order_by script count m) (h ∙ ap (option_and_then (number_in history_numbers)) (one_text-rows f (codes "history")))
 
-  pub as_scheduled : (path : Option Text) (n most level : Option ℕ) → path ≡ first_value f (codes "FILE") → n ≡ option_and_then (number_in node_numbers) (one_text f (codes "nodes"))
-      → most ≡ option_and_then (number_in history_numbers) (one_text f (codes "history")) → level ≡ level_by → together_scheduled path n most level ≡ schedule_order (rows_of f)
-  as_scheduled path n most level e g h i =
+  pub as_scheduled : (path : Option Text) (n most level : Option ℕ) (picture : Option Text) → path ≡ first_value f (codes "FILE") → n ≡ option_and_then (number_in node_numbers) (one_text f (codes "nodes"))
+      → most ≡ option_and_then (number_in history_numbers) (one_text f (codes "history")) → level ≡ level_by → picture ≡ first_value f (codes "picture")
+      → together_scheduled path n most level picture ≡ schedule_order (rows_of f)
+  as_scheduled path n most level picture e g h i j =
       let file = first_of (codes "FILE") (rows_of f) in
       let count = option_and_then (number_in node_numbers) (one_of (codes "nodes") (rows_of f)) in
-      ap (λ (l : Option ℕ). together_scheduled path n most l) i
-      ∙ ap (λ (p : Option Text). together_scheduled p n most level_by) (e ∙ first_value-rows f (codes "FILE"))
-      ∙ ap (λ (k : Option ℕ). together_scheduled file k most level_by) (g ∙ ap (option_and_then (number_in node_numbers)) (one_text-rows f (codes "nodes")))
-      ∙ ap (λ (m : Option ℕ). together_scheduled file count m level_by) (h ∙ ap (option_and_then (number_in history_numbers)) (one_text-rows f (codes "history")))
+      let drawn = text_by (codes "picture") in
+      ap (λ (l : Option ℕ). together_scheduled path n most l picture) i
+      ∙ ap (λ (q : Option Text). together_scheduled path n most level_by q) (j ∙ first_value-rows f (codes "picture"))
+      ∙ ap (λ (p : Option Text). together_scheduled p n most level_by drawn) (e ∙ first_value-rows f (codes "FILE"))
+      ∙ ap (λ (k : Option ℕ). together_scheduled file k most level_by drawn) (g ∙ ap (option_and_then (number_in node_numbers)) (one_text-rows f (codes "nodes")))
+      ∙ ap (λ (m : Option ℕ). together_scheduled file count m level_by drawn) (h ∙ ap (option_and_then (number_in history_numbers)) (one_text-rows f (codes "history")))
 
   pub with_parts : (path : Option Text) (n most level : Option ℕ) (policy profile save : Option Text) → level ≡ level_by → policy ≡ first_value f (codes "policy")
       → profile ≡ first_value f (codes "profile") → save ≡ first_value f (codes "save") → together path n most level policy profile save ≡ order_by path n most
@@ -127,5 +130,6 @@ pub whole : (p : Option Text) (n m l : Option ℕ) (q r s : Option Text) (path :
     → is_some (together p n m l q r s) ≡ true
 whole p n m l q r s path nodes most e f g = rw (e, f, g) refl
 
-pub whole_schedule : (p : Option Text) (n m l : Option ℕ) (path : Text) (nodes most : ℕ) → p ≡ Some path → n ≡ Some nodes → m ≡ Some most → is_some (together_scheduled p n m l) ≡ true
-whole_schedule p n m l path nodes most e f g = rw (e, f, g) refl
+pub whole_schedule : (p : Option Text) (n m l : Option ℕ) (q : Option Text) (path : Text) (nodes most : ℕ) → p ≡ Some path → n ≡ Some nodes → m ≡ Some most
+    → is_some (together_scheduled p n m l q) ≡ true
+whole_schedule p n m l q path nodes most e f g = rw (e, f, g) refl

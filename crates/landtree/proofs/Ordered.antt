@@ -87,6 +87,9 @@ profile_built = filled (valued (codes "profile"))
 abbrev save_built : Rule
 save_built = filled (valued (codes "save"))
 
+abbrev picture_built : Rule
+picture_built = filled (valued (codes "picture"))
+
 abbrev help_built : Rule
 help_built = filled help_rule
 
@@ -105,7 +108,7 @@ audit_built = record audit.top { rules = file_built ∷ help_built ∷ []; disab
 
 abbrev schedule_built : Shape
 schedule_built = record schedule.top {
-  rules = file_built ∷ nodes_built ∷ abi_built ∷ history_built ∷ help_built ∷ [];
+  rules = file_built ∷ nodes_built ∷ abi_built ∷ history_built ∷ picture_built ∷ help_built ∷ [];
   disable_help_subcommand = true;
   is_built = true;
 }
@@ -132,6 +135,10 @@ profile_keeps again (v ∷ vs) rows e g = good_values (codes "profile") _ Comman
 save_keeps : Keeps Good save_built
 save_keeps again [] rows e g = absurd cc
 save_keeps again (v ∷ vs) rows e g = good_values (codes "save") _ CommandLine v vs _ (λ same. no_option same, λ same. no_option same) (good_without (codes "save") rows g)
+
+picture_keeps : Keeps Good picture_built
+picture_keeps again [] rows e g = absurd cc
+picture_keeps again (v ∷ vs) rows e g = good_values (codes "picture") _ CommandLine v vs _ (λ same. no_option same, λ same. no_option same) (good_without (codes "picture") rows g)
 
 file_keeps : Keeps Good file_built
 file_keeps again [] rows e g = absurd cc
@@ -181,7 +188,7 @@ audit_keeps : (p : Rule → Bool) (a : Rule) → find p audit_built.rules ≡ So
 audit_keeps p a e = found_there (Keeps Good) p audit_built.rules a (file_keeps, (help_keeps, tt)) e
 
 schedule_keeps : (p : Rule → Bool) (a : Rule) → find p schedule_built.rules ≡ Some a → Keeps Good a
-schedule_keeps p a e = found_there (Keeps Good) p schedule_built.rules a (file_keeps, (nodes_keep, (abi_keeps, (history_keeps, (help_keeps, tt))))) e
+schedule_keeps p a e = found_there (Keeps Good) p schedule_built.rules a (file_keeps, (nodes_keep, (abi_keeps, (history_keeps, (picture_keeps, (help_keeps, tt)))))) e
 
 -- ---- the defaults
 
@@ -264,9 +271,11 @@ schedule_finished rows g =
     let numbered = with_default (with_default rows file_built) nodes_built in
     let levelled = with_default numbered abi_built in
     let limited = with_default levelled history_built in
-    unchanged WithBoth limited (has_row help_built.id limited)
+    let drawn = with_default limited picture_built in
+    unchanged WithBoth drawn (has_row help_built.id drawn)
+    (unchanged WithBoth limited (has_row picture_built.id limited)
     (history_given levelled
-    (unchanged WithNodes numbered (has_row abi_built.id numbered) (nodes_given _ (unchanged Good rows (has_row (codes "FILE") rows) g))))
+    (unchanged WithNodes numbered (has_row abi_built.id numbered) (nodes_given _ (unchanged Good rows (has_row (codes "FILE") rows) g)))))
 
 -- ---- what is read of the rows
 
@@ -348,7 +357,7 @@ schedule_wanted rest e =
     (λ r is. let f = found_good _ rows r is good in let fits = f.0.3.0 f.1 in (f.0.0, f.0.1, f.0.2, fits.0, fits.1)) in
     let history_row = number_read history_numbers (find (λ r. bytes_eq r.id (codes "history")) rows) (found_any _ rows all.1)
     (λ r is. let f = found_good _ rows r is good in let fits = f.0.3.1 f.1 in (f.0.0, f.0.1, f.0.2, fits.0, fits.1)) in
-    whole_schedule _ _ _ _ path.0 nodes_row.0 history_row.0 path.1 nodes_row.1 history_row.1
+    whole_schedule _ _ _ _ _ path.0 nodes_row.0 history_row.0 path.1 nodes_row.1 history_row.1
 
 is_some-map : {A B : Type 0} (f : A → B) (o : Option A) → is_some o ≡ true → is_some (option_map f o) ≡ true
 is_some-map f None e = e

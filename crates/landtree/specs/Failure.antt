@@ -13,6 +13,8 @@ use Rattle.ll_saved.specs.declared.auditing.AuditFailure.{AuditFailure}
 use Rattle.ll_saved.specs.declared.auditing.AuditFailure.TheVariants as audit
 use Rattle.ll_saved.specs.declared.saving.SaveFault.{SaveFault}
 use Rattle.ll_saved.specs.declared.saving.SaveFault.TheVariants as saving
+use Rattle.ll_picture.specs.declared.fault.PictureFault.{PictureFault}
+use Rattle.ll_picture.specs.declared.fault.PictureFault.TheVariants as drawing
 use Rattle.ll_saved.specs.declared.verdict.Verdict.TheVariants.{Legal, Illegal, BadLine}
 use Rattle.landtree.specs.declared.failure.Failure.{Failure}
 use Rattle.landtree.specs.declared.failure.Failure.TheVariants.{CommandLine, Policy, Opening, File, Output, NoMemory}
@@ -54,6 +56,11 @@ abbrev pub failure_by_saving : SaveFault → Failure
 failure_by_saving saving.Write = File
 failure_by_saving saving.NoMemory = NoMemory
 
+-- the same of what keeps a schedule's picture from being drawn
+abbrev pub failure_by_drawing : PictureFault → Failure
+failure_by_drawing drawing.Write = File
+failure_by_drawing drawing.NoMemory = NoMemory
+
 -- the same of what ends an audit
 abbrev pub failure_at : AuditFailure → Failure
 failure_at audit.Read = File
@@ -88,13 +95,13 @@ EndsRun (Ok (Judged verdict)) = ⊥
 EndsRun (Err CommandLine) = ⊥
 EndsRun (Err failure) = ⊤
 
--- what saving may fail for: its file or memory
+-- what saving a history or drawing a picture may fail for: its file or memory
 abbrev pub IsOfSaving : Failure → Type 0
 IsOfSaving File = ⊤
 IsOfSaving NoMemory = ⊤
 IsOfSaving failure = ⊥
 
--- what an audit or a schedule may fail for: its file, its output or memory
+-- what an audit or a schedule may fail for: its file, or that of the schedule's picture; its output; memory
 abbrev pub IsOfDevices : Failure → Type 0
 IsOfDevices File = ⊤
 IsOfDevices Output = ⊤

@@ -55,7 +55,7 @@ abbrev pub audit : App
 audit = with_rule (new_app (codes "audit")) file
 
 abbrev pub schedule : App
-schedule = fold with_rule (new_app (codes "schedule")) (file ∷ nodes ∷ abi ∷ history ∷ [])
+schedule = fold with_rule (new_app (codes "schedule")) (file ∷ nodes ∷ abi ∷ history ∷ valued (codes "picture") ∷ [])
 
 abbrev pub landtree : App
 landtree =
@@ -78,6 +78,7 @@ pub record ScheduleOrder : Type 0 where
   pub nodes : ℕ
   pub level : Option ℕ
   pub history : ℕ
+  pub picture : Option Text
 
 -- What the words want: a run, an audit of a file, or a schedule
 pub data Order : Type 0 where
@@ -99,7 +100,14 @@ order_in o =
     }
 
 abbrev pub scheduled_in : ScheduleOptions → ScheduleOrder
-scheduled_in o = record { file = o.file.now; nodes = o.nodes; level = o.level; history = o.history }
+scheduled_in o =
+    record {
+      file = o.file.now;
+      nodes = o.nodes;
+      level = o.level;
+      history = o.history;
+      picture = option_map (λ t. t.now) o.picture;
+    }
 
 abbrev pub ordered_in : Options → Order
 ordered_in (Run o) = to_run (order_in o)
@@ -138,6 +146,7 @@ schedule_order rows =
       nodes = n;
       level = number_of (codes "abi") levels rows;
       history = most;
+      picture = first_of (codes "picture") rows;
     })
     (number_of (codes "history") history_numbers rows))
     (number_of (codes "nodes") node_numbers rows))

@@ -74,6 +74,16 @@ fn save_option<'a>(alloc: Global) -> Arg<'a>
         .help("The file that the history is written to at the end")
 }
 
+fn picture_option<'a>(alloc: Global) -> Arg<'a>
+    ensures rule { rule_of result ≡ valued (codes "picture") }
+    ensures local { result.global ≡ false }
+{
+    Arg::new(alloc, "picture")
+        .long("picture")
+        .value_name("OUT")
+        .help("The file that the schedule's picture is drawn into at the end, as SVG")
+}
+
 fn script_argument<'a>(alloc: Global) -> Arg<'a>
     ensures rule { rule_of result ≡ script }
     ensures local { result.global ≡ false }
@@ -134,7 +144,8 @@ fn schedule_command<'a>(alloc: Global) -> Result<Command<'a>, AllocError>
             alloc,
             "The level of Landlock's ABI, whose rights a ruleset may handle (3)",
         ))?
-        .arg(history_option(alloc))?;
+        .arg(history_option(alloc))?
+        .arg(picture_option(alloc))?;
     Ok(schedule)
 }
 

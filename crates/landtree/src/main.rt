@@ -26,7 +26,7 @@ ghost use Rattle.landtree.specs.Policy.{MayFail};
 ghost use Rattle.ll_session.specs.Run.{MayEnd};
 
 use failure::Failure;
-use input::InputFile;
+use input::{InputFile, read_text};
 use ll_saved::Verdict;
 use ll_seq::History;
 use ll_session::Setup;
@@ -34,10 +34,10 @@ use ll_wire::Header;
 use options::{Options, RunOptions, ScheduleOptions};
 use outcome::Outcome;
 use policy::{setup_by, setup_of};
-use program::{audit, header_of, perform, perform_schedule, save_history};
+use program::{audit, draw_schedule, header_of, perform, perform_schedule, save_history};
 use shown::Shown;
 use std::fs::File;
-use std::io::IsTerminal;
+use std::io::{IsTerminal, Read};
 use std::process::ExitCode;
 use std::{env, io};
 
@@ -143,21 +143,58 @@ fn audit_file(rt: &HostRuntime, file: &str) -> Result<Verdict, Failure>
     }
 }
 
+// Draws a schedule into the file of this name.
+fn draw_at(
+    rt: &HostRuntime,
+    options: &ScheduleOptions,
+    schedule: &[u8],
+    path: &str,
+) -> Result<(), Failure>
+    ensures { IfErr result IsOfSaving }
+{
+    match File::create(rt, path) {
+        Ok(mut file) => draw_schedule(rt.alloc(), setup_by(options), schedule, &mut file),
+        Err(_) => Err(Failure::File),
+    }
+}
+
+// Does what a schedule asks for, which is read whole first, and draws it into the file of this name.
+fn schedule_and_draw<R: Read>(
+    rt: &HostRuntime,
+    options: &ScheduleOptions,
+    schedule: &mut R,
+    path: &str,
+) -> Result<(), Failure>
+    ensures { IfErr result IsOfDevices }
+{
+    let text = read_text(rt.alloc(), schedule)?;
+    let mut lines = text.as_slice();
+    perform_schedule(rt.alloc(), setup_by(options), &mut lines, &mut rt.stdout())?;
+    draw_at(rt, options, text.as_slice(), path)
+}
+
+// Does what a schedule asks for, and draws it if a file is named.
+fn schedule_lines<R: Read>(
+    rt: &HostRuntime,
+    options: &ScheduleOptions,
+    schedule: &mut R,
+) -> Result<(), Failure>
+    ensures { IfErr result IsOfDevices }
+{
+    match options.picture {
+        Some(path) => schedule_and_draw(rt, options, schedule, path),
+        None => perform_schedule(rt.alloc(), setup_by(options), schedule, &mut rt.stdout()),
+    }
+}
+
 // Does what the schedule in this file asks for.
 fn schedule_file(rt: &HostRuntime, options: &ScheduleOptions) -> Result<(), Failure>
     ensures { IfErr result IsOfDevices }
 {
-    let setup = setup_by(options);
-    let mut out = rt.stdout();
     if options.file == "-" {
-        perform_schedule(rt.alloc(), setup, &mut rt.stdin(), &mut out)
+        schedule_lines(rt, options, &mut rt.stdin())
     } else {
-        perform_schedule(
-            rt.alloc(),
-            setup,
-            &mut InputFile::new(rt, options.file),
-            &mut out,
-        )
+        schedule_lines(rt, options, &mut InputFile::new(rt, options.file))
     }
 }
 

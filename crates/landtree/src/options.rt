@@ -81,13 +81,15 @@ impl<'a> RunOptions<'a> {
 }
 
 /// The schedule that is wanted: in this file, or in standard input where it is `-`, over a tree in which so many nodes
-/// may live, at this level. Its history has at most so many entries.
+/// may live, at this level. Its history has at most so many entries, and its picture is drawn into a file, if one is
+/// named.
 #[derive(Drop)]
 pub struct ScheduleOptions<'a> {
     pub file: &'a str,
     pub nodes: usize,
     pub level: Option<Abi>,
     pub history: usize,
+    pub picture: Option<&'a str>,
     ghost some: { 1 ≤ nodes },
     ghost most: { nodes ≤ TREE_NODES },
     ghost some_entries: { 1 ≤ history },
@@ -112,11 +114,13 @@ impl<'a> ScheduleOptions<'a> {
             return None;
         }
         let level = RunOptions::level_of(schedule);
+        let picture = schedule.get_str("picture");
         Some(ScheduleOptions {
             file,
             nodes,
             level,
             history,
+            picture,
         })
     }
 }

@@ -8,6 +8,7 @@ ghost use Rattle.ll_session.specs.Transcript.{AreOthers};
 ghost use Rattle.landtree.specs.Policy.{ByLevel, ByPlan, IsSetup, IsWorldSetup, Lacks, profile_of};
 
 use crate::failure::Failure;
+use crate::input::read_text;
 use crate::options::{RunOptions, ScheduleOptions};
 use ll_policy::{Policy, PolicyFault};
 use ll_rights::Abi;
@@ -15,20 +16,7 @@ use ll_schedule::WorldSetup;
 use ll_seq::{Call, Rules};
 use ll_session::Setup;
 use std::alloc::Global;
-use std::io::{ErrorKind, Read};
-
-// The whole text of a policy's file.
-fn read_text<R: Read>(alloc: Global, file: &mut R) -> Result<Vec<u8>, Failure>
-    ensures text { IfOk result (λ text. IfSome (R.remaining file.old) (λ told. text.items ≡ told)) }
-    ensures failure { IfErr result (λ failure. (failure ≡ Failure.File) ⊎ (failure ≡ Failure.NoMemory)) }
-{
-    let mut text = Vec::new(alloc);
-    match file.read_to_end(&mut text) {
-        Ok(_) => Ok(text),
-        Err(error) if error.kind() == ErrorKind::OutOfMemory => Err(Failure::NoMemory),
-        Err(_) => Err(Failure::File),
-    }
-}
+use std::io::Read;
 
 // The policy that a text gives.
 fn policy_of(alloc: Global, text: &[u8]) -> Result<Policy, Failure>

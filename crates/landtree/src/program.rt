@@ -4,6 +4,7 @@ ghost use Rattle.std.specs.Prelude.{◌≡◌, ◌≤◌, ℕ, List, [], OnOk, O
 ghost use Rattle.std.specs.Io.KnownBytes.{Appends};
 ghost use Rattle.std.specs.List.{All};
 ghost use Rattle.ll_rights.specs.declared.limits.TheConstants.{TREE_NODES};
+ghost use Rattle.ll_picture.specs.Pictures.{IsWhole};
 ghost use Rattle.ll_saved.specs.Saved.{Judges, saved_text, verdict_line};
 ghost use Rattle.ll_schedule.specs.Told.{IsBegun, IsTold};
 ghost use Rattle.ll_session.specs.declared.fault.RunFault.{RunFault};
@@ -14,6 +15,7 @@ ghost use Rattle.landtree.specs.Failure.{failure_of, IsOfDevices, IsOfSaving};
 ghost use Rattle.landtree.specs.Policy.{header_of};
 
 use crate::failure::Failure;
+use ll_picture::draw;
 use ll_saved::{Progress, Verdict, run_audit, save};
 use ll_schedule::{WorldSetup, run_schedule};
 use ll_seq::History;
@@ -60,6 +62,30 @@ pub fn perform_schedule<R: Read, W: Write>(
     match run_schedule(alloc, setup, schedule, out) {
         Ok(()) => Ok(()),
         Err(fault) => Err(Failure::of_session(fault)),
+    }
+}
+
+/// Draws what the lines of a schedule ask for, in a tree that is set up so.
+pub fn draw_schedule<W: Write>(
+    alloc: Global,
+    setup: WorldSetup,
+    schedule: &[u8],
+    file: &mut W,
+) -> Result<(), Failure>
+    ensures drawn { OnOk result ((text : List ℕ) × IsWhole text
+        × Appends (W.contents file.old) (W.contents file.new) text) }
+    ensures failure { IfErr result IsOfSaving }
+{
+    match draw(
+        alloc,
+        setup.rules,
+        setup.nodes,
+        setup.history,
+        schedule,
+        file,
+    ) {
+        Ok(()) => Ok(()),
+        Err(fault) => Err(Failure::of_drawing(fault)),
     }
 }
 
