@@ -9,8 +9,8 @@ use Rattle.ll_session.specs.declared.fault.RunFault.{RunFault}
 use Rattle.ll_session.specs.declared.fault.RunFault.TheVariants as run
 use Rattle.ll_session.specs.declared.fault.SessionFault.{SessionFault}
 use Rattle.ll_session.specs.declared.fault.SessionFault.TheVariants as session
-use Rattle.ll_saved.specs.declared.auditing.AuditFailure.{AuditFailure}
-use Rattle.ll_saved.specs.declared.auditing.AuditFailure.TheVariants as audit
+use Rattle.ll_saved.specs.declared.auditing.FileAuditFault.{FileAuditFault}
+use Rattle.ll_saved.specs.declared.auditing.FileAuditFault.TheVariants as audit
 use Rattle.ll_saved.specs.declared.saving.SaveFault.{SaveFault}
 use Rattle.ll_saved.specs.declared.saving.SaveFault.TheVariants as saving
 use Rattle.ll_picture.specs.declared.fault.PictureFault.{PictureFault}
@@ -18,8 +18,8 @@ use Rattle.ll_picture.specs.declared.fault.PictureFault.TheVariants as drawing
 use Rattle.ll_saved.specs.declared.verdict.Verdict.TheVariants.{Legal, Illegal, BadLine}
 use Rattle.landtree.specs.declared.failure.Failure.{Failure}
 use Rattle.landtree.specs.declared.failure.Failure.TheVariants.{CommandLine, Policy, Opening, File, Output, NoMemory}
-use Rattle.landtree.specs.declared.outcome.Outcome.{Outcome}
-use Rattle.landtree.specs.declared.outcome.Outcome.TheVariants.{Done, Judged}
+use Rattle.landtree.specs.declared.conclusion.Conclusion.{Conclusion}
+use Rattle.landtree.specs.declared.conclusion.Conclusion.TheVariants.{Done, Judged}
 
 abbrev pub failure_in_session : SessionFault → Failure
 failure_in_session session.Read = File
@@ -62,21 +62,21 @@ failure_by_drawing drawing.Write = File
 failure_by_drawing drawing.NoMemory = NoMemory
 
 -- the same of what ends an audit
-abbrev pub failure_at : AuditFailure → Failure
+abbrev pub failure_at : FileAuditFault → Failure
 failure_at audit.Read = File
 failure_at audit.Write = Output
 failure_at audit.NoMemory = NoMemory
 
 -- the status where the program doesn't fail: 3 only for a history that isn't found legal
-abbrev pub status_by : Outcome → ℕ
+abbrev pub status_by : Conclusion → ℕ
 status_by Done = 0
 status_by (Judged (Legal entries)) = 0
 status_by (Judged (Illegal entry)) = 3
 status_by (Judged (BadLine line)) = 3
 
 -- the status at the program's end
-abbrev pub status_at : Result Outcome Failure → ℕ
-status_at (Ok outcome) = status_by outcome
+abbrev pub status_at : Result Conclusion Failure → ℕ
+status_at (Ok conclusion) = status_by conclusion
 status_at (Err failure) = status_of failure
 
 -- the line on standard error; which fault of a policy is told in it, no definition says
@@ -89,7 +89,7 @@ line_of Output = Some (codes "landtree: output")
 line_of NoMemory = Some (codes "landtree: no memory")
 
 -- a run may end so: done, or by any failure but a wrong command line
-abbrev pub EndsRun : Result Outcome Failure → Type 0
+abbrev pub EndsRun : Result Conclusion Failure → Type 0
 EndsRun (Ok Done) = ⊤
 EndsRun (Ok (Judged verdict)) = ⊥
 EndsRun (Err CommandLine) = ⊥
@@ -109,13 +109,13 @@ IsOfDevices NoMemory = ⊤
 IsOfDevices failure = ⊥
 
 -- an audit may end so: with an answer, or failing
-abbrev pub EndsAudit : Result Outcome Failure → Type 0
+abbrev pub EndsAudit : Result Conclusion Failure → Type 0
 EndsAudit (Ok Done) = ⊥
 EndsAudit (Ok (Judged verdict)) = ⊤
 EndsAudit (Err failure) = IsOfDevices failure
 
 -- a schedule may end so: done, or failing
-abbrev pub EndsSchedule : Result Outcome Failure → Type 0
+abbrev pub EndsSchedule : Result Conclusion Failure → Type 0
 EndsSchedule (Ok Done) = ⊤
 EndsSchedule (Ok (Judged verdict)) = ⊥
 EndsSchedule (Err failure) = IsOfDevices failure

@@ -7,7 +7,7 @@ ghost use Rattle.landtree.specs.Failure.{failure_at, failure_by, failure_by_draw
 use clap::error::ErrorKind;
 use ll_picture::PictureFault;
 use ll_policy::PolicyFault;
-use ll_saved::{AuditFailure, SaveFault};
+use ll_saved::{FileAuditFault, SaveFault};
 use ll_session::{RunFault, SessionFault};
 use std::fmt;
 use std::fmt::Display;
@@ -93,13 +93,13 @@ impl Failure {
     }
 
     /// What ends an audit, for the program: its input is a file.
-    pub fn of_audit(failure: AuditFailure) -> Failure
+    pub fn of_audit(failure: FileAuditFault) -> Failure
         ensures { result ≡ failure_at failure }
     {
         match failure {
-            AuditFailure::Read => Failure::File,
-            AuditFailure::Write => Failure::Output,
-            AuditFailure::NoMemory => Failure::NoMemory,
+            FileAuditFault::Read => Failure::File,
+            FileAuditFault::Write => Failure::Output,
+            FileAuditFault::NoMemory => Failure::NoMemory,
         }
     }
 

@@ -2,10 +2,10 @@
 #![tactic(auto)]
 
 mod command;
+mod conclusion;
 mod failure;
 mod input;
 mod options;
-mod outcome;
 mod policy;
 mod program;
 mod shown;
@@ -25,6 +25,7 @@ ghost use Rattle.landtree.specs.Options.{EndsWell};
 ghost use Rattle.landtree.specs.Policy.{MayFail};
 ghost use Rattle.ll_session.specs.Run.{MayEnd};
 
+use conclusion::Conclusion;
 use failure::Failure;
 use input::{InputFile, read_text};
 use ll_saved::Verdict;
@@ -32,7 +33,6 @@ use ll_seq::History;
 use ll_session::Setup;
 use ll_wire::Header;
 use options::{Options, RunOptions, ScheduleOptions};
-use outcome::Outcome;
 use policy::{setup_by, setup_of};
 use program::{audit, draw_schedule, header_of, perform, perform_schedule, save_history};
 use shown::Shown;
@@ -50,14 +50,14 @@ fn words_of(rt: &HostRuntime) -> Result<Vec<String>, Failure> {
 }
 
 // Where the words ask for no run: clap's help and version are texts to print.
-fn told(rt: &HostRuntime, error: &clap::Error) -> Result<Outcome, Failure>
+fn told(rt: &HostRuntime, error: &clap::Error) -> Result<Conclusion, Failure>
     ensures failure { IfSome (failure_by (kind_of error.now)) (λ failure. result ≡ Err failure) }
     ensures text { IfNone (failure_by (kind_of error.now)) (IfErr result (λ failure. failure ≡ Failure.Output)) }
 {
     match Failure::of_words(error) {
         Some(failure) => Err(failure),
         None => match error.print(rt) {
-            Ok(()) => Ok(Outcome::Done),
+            Ok(()) => Ok(Conclusion::Done),
             Err(_) => Err(Failure::Output),
         },
     }
@@ -199,7 +199,7 @@ fn schedule_file(rt: &HostRuntime, options: &ScheduleOptions) -> Result<(), Fail
 }
 
 // Does what is wanted.
-fn carry_out(rt: &HostRuntime, options: &Options) -> Result<Outcome, Failure>
+fn carry_out(rt: &HostRuntime, options: &Options) -> Result<Conclusion, Failure>
     ensures unfit { (order : RunOrder) → ordered_in options.now ≡ to_run order → fits order ≡ false
         → result ≡ Err Failure.CommandLine }
     ensures run { (order : RunOrder) → ordered_in options.now ≡ to_run order → fits order ≡ true
@@ -210,18 +210,18 @@ fn carry_out(rt: &HostRuntime, options: &Options) -> Result<Outcome, Failure>
     match options {
         Options::Run(run) if run.fit() => {
             run_options(rt, run)?;
-            Ok(Outcome::Done)
+            Ok(Conclusion::Done)
         }
         Options::Run(_) => Err(Failure::CommandLine),
         Options::Schedule(schedule) => {
             schedule_file(rt, schedule)?;
-            Ok(Outcome::Done)
+            Ok(Conclusion::Done)
         }
-        Options::Audit(file) => Ok(Outcome::Judged(audit_file(rt, file)?)),
+        Options::Audit(file) => Ok(Conclusion::Judged(audit_file(rt, file)?)),
     }
 }
 
-fn run_words(rt: &HostRuntime, words: &[&str]) -> Result<Outcome, Failure>
+fn run_words(rt: &HostRuntime, words: &[&str]) -> Result<Conclusion, Failure>
     ensures ok { OnOk result (EndsWell (fault_of landtree (map (λ w. w.now) words.now))) }
     ensures mistake { (EndsWell (fault_of landtree (map (λ w. w.now) words.now)) → ⊥)
         → (result ≡ Err Failure.CommandLine) ⊎ (result ≡ Err Failure.NoMemory) }
@@ -243,7 +243,7 @@ fn run_words(rt: &HostRuntime, words: &[&str]) -> Result<Outcome, Failure>
     }
 }
 
-fn run_program(rt: &HostRuntime) -> Result<Outcome, Failure> {
+fn run_program(rt: &HostRuntime) -> Result<Conclusion, Failure> {
     let words = words_of(rt)?;
     let Ok(words) = words
         .iter()
@@ -256,11 +256,11 @@ fn run_program(rt: &HostRuntime) -> Result<Outcome, Failure> {
 }
 
 // Says why the program fails, where it does. The status that it ends with.
-fn concluded(rt: &HostRuntime, ended: Result<Outcome, Failure>) -> ExitCode
+fn concluded(rt: &HostRuntime, ended: Result<Conclusion, Failure>) -> ExitCode
     ensures { exit_status result ≡ status_at ended }
 {
     match ended {
-        Ok(outcome) => ExitCode::from(outcome.status()),
+        Ok(conclusion) => ExitCode::from(conclusion.status()),
         Err(failure) => {
             let _ = eprintln!(rt; "{failure}");
             ExitCode::from(failure.status())

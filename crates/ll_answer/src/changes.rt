@@ -6,12 +6,13 @@ ghost use Rattle.ll_path.specs.Path.{is_root, last_name};
 ghost use Rattle.ll_seq.specs.Call.{path_of};
 ghost use Rattle.ll_seq.specs.Stages.{way_to};
 ghost use Rattle.ll_seq.specs.State.{State};
-ghost use Rattle.ll_answer.specs.Effect.{IsPlace};
+ghost use Rattle.ll_answer.specs.Effect.{IsPlace, descriptor_of};
 ghost use Rattle.ll_answer.specs.Found.{Stands};
 
 use crate::found::Spot;
 use ll_path::Target;
 use ll_rights::{Access, Kind};
+use ll_seq::Descriptor;
 
 /// A name in a directory.
 #[derive(Clone, Copy)]
@@ -30,6 +31,20 @@ pub struct Opening<'a> {
     pub reads: bool,
     pub writes: bool,
     pub kept: Option<u64>,
+}
+
+impl Opening<'_> {
+    /// The descriptor, of a file of this inode.
+    pub fn descriptor(&self, inode: u64) -> Descriptor
+        ensures { result ≡ descriptor_of self.now inode }
+    {
+        Descriptor {
+            inode,
+            reads: self.reads,
+            writes: self.writes,
+            kept: self.kept,
+        }
+    }
 }
 
 /// A rule that a ruleset of the caller's gets, on the inode of a node of this kind.

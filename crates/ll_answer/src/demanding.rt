@@ -1,6 +1,6 @@
 //! What each call asks of the layers.
 
-ghost use Rattle.std.specs.Prelude.{◌≡◌, List, [], ◌∷◌, ◌++◌};
+ghost use Rattle.std.specs.Prelude.{List, [], ◌∷◌, ◌++◌};
 ghost use Rattle.ll_rights.specs.Kind.{make_right};
 ghost use Rattle.ll_decide.specs.Demands.{AreAsks, AreMoves, ask_on};
 ghost use Rattle.ll_decide.specs.Verdict.{Ask, Move};

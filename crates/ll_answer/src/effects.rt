@@ -1,9 +1,8 @@
 //! What an allowed call answers and changes.
 
-ghost use Rattle.std.specs.Prelude.{◌≡◌, ◌≢◌, ℕ, [], ◌∷◌, Option, Some, None, true, false, length, option_map, option_to_list, unwrap_or};
+ghost use Rattle.std.specs.Prelude.{◌≡◌, ℕ, [], ◌∷◌, Option, Some, None, true, false, length, option_map, option_to_list, unwrap_or};
 ghost use Rattle.ll_decide.specs.Judge.{AreGranted};
 ghost use Rattle.ll_path.specs.Path.{Path};
-ghost use Rattle.ll_path.specs.declared.target.Target as word;
 ghost use Rattle.ll_seq.specs.Asked.{kept_at};
 ghost use Rattle.ll_seq.specs.Call.{first_path, second_path, path_of};
 ghost use Rattle.ll_seq.specs.declared.call.Call as call_of;
@@ -19,7 +18,7 @@ ghost use Rattle.ll_answer.specs.Demanded.{chains, path_on};
 ghost use Rattle.ll_answer.specs.Effect.{Fits, FitsRename, Holds, after, told, dentry_at};
 ghost use Rattle.ll_answer.specs.Lean.{adds_nothing, is_lean, is_short, spares_memory};
 ghost use Rattle.ll_answer.specs.Near.{AreNear, IsNear, changed_inodes, makes, may_make, told_inodes};
-ghost use Rattle.ll_answer.specs.Passed.{IsFree, Passed, has_path};
+ghost use Rattle.ll_answer.specs.Passed.{IsFree, has_path};
 
 use crate::changes::{Answer, At, Change, Effect, Opening, Rule};
 use crate::found::Found;

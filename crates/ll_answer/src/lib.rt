@@ -20,4 +20,5 @@ pub use demanding::demands_of;
 pub use effects::effect_of;
 pub use found::{Found, Spot, There};
 pub use later::refused_after;
+pub use refusals::no_directory;
 pub use targets::{Targets, targets_of};

@@ -3,8 +3,9 @@
 ghost use Rattle.std.specs.Prelude.{◌≡◌, List, [], ◌++◌, slice_get};
 ghost use Rattle.ll_rights.specs.Errno.{refuse};
 ghost use Rattle.ll_rights.specs.declared.errno.Errno.{Errno};
+ghost use Rattle.ll_seq.specs.Stages as stages;
 
-use ll_rights::Errno;
+use ll_rights::{Errno, Kind};
 
 /// The refusal, where the test says so.
 pub(crate) fn refuse(test: bool, errno: Errno) -> Option<Errno>
@@ -21,5 +22,17 @@ pub(crate) fn first(one: Option<Errno>, other: Option<Errno>) -> Option<Errno>
     match one {
         Some(errno) => Some(errno),
         None => other,
+    }
+}
+
+/// Why a node of this kind is no directory. Where there is none, it is missing.
+pub fn no_directory(kind: Option<Kind>) -> Option<Errno>
+    ensures { result ≡ slice_get (stages.no_directory kind) 0 }
+{
+    match kind {
+        None => Some(Errno::ENOENT),
+        Some(Kind::Dir) => None,
+        Some(Kind::Sym) => Some(Errno::ELOOP),
+        Some(_) => Some(Errno::ENOTDIR),
     }
 }

@@ -3,7 +3,6 @@
 ghost use Rattle.std.specs.Prelude.{◌≡◌, ◌<◌, ℕ, List, length, slice_get, Some, None, IfSome, IfNone, OnOk, OnErr};
 ghost use Rattle.ll_seq.specs.declared.client.ClientRecord as record_of;
 ghost use Rattle.ll_answer.specs.declared.changes.Change.TheVariants as change;
-ghost use Rattle.ll_answer.specs.Effect.{descriptor_of};
 ghost use Rattle.ll_inodes.specs.InodeTable.{NotIn};
 ghost use Rattle.ll_changes.specs.Enacting.{Enacts, MayEnact};
 
@@ -11,7 +10,7 @@ use ll_answer::{At, Opening};
 use ll_held::{Held, clear, fill, name, take_name};
 use ll_inodes::Inodes;
 use ll_rights::Kind;
-use ll_seq::{ClientRecord, Descriptor};
+use ll_seq::ClientRecord;
 use std::alloc::{AllocError, Global};
 
 /// Where the slot stands among these.
@@ -54,17 +53,6 @@ pub(crate) fn make(
     Ok(())
 }
 
-fn descriptor(opening: &Opening<'_>, inode: u64) -> Descriptor
-    ensures { result ≡ descriptor_of opening.now inode }
-{
-    Descriptor {
-        inode,
-        reads: opening.reads,
-        writes: opening.writes,
-        kept: opening.kept,
-    }
-}
-
 /// Makes the file and opens it, or does neither. Errors: memory ran out, and nothing has changed.
 pub(crate) fn open_new(
     alloc: Global,
@@ -82,7 +70,7 @@ pub(crate) fn open_new(
     let inode = table.next();
     client
         .descriptors
-        .insert(opening.number, descriptor(opening, inode))?;
+        .insert(opening.number, opening.descriptor(inode))?;
     if let Err(error) = make(alloc, spare, table, slots, lent, &opening.at, Kind::Reg) {
         client.descriptors.remove(opening.number);
         return Err(error);
@@ -108,7 +96,7 @@ pub(crate) fn open_there(
     }
     client
         .descriptors
-        .insert(opening.number, descriptor(opening, inode))?;
+        .insert(opening.number, opening.descriptor(inode))?;
     table.open(inode);
     if opening.is_emptied {
         clear(lent, inode);

@@ -6,7 +6,7 @@ ghost use Rattle.ll_rights.specs.Access.{holds};
 ghost use Rattle.ll_rules.specs.Layer.{Layer};
 ghost use Rattle.ll_decide.specs.Demands.{AreAsks, AreMoves, lacking, gaining};
 ghost use Rattle.ll_decide.specs.Judge.{AreGranted, grants_along, grants_by};
-ghost use Rattle.ll_decide.specs.Search.{is_in, fails, of_right, of_layer, of_all, layers_of, by_masks};
+ghost use Rattle.ll_decide.specs.Search.{is_in, fails, of_right, of_layer, of_all, by_masks};
 ghost use Rattle.ll_decide.specs.Verdict.{Ask, Move, verdict};
 ghost use Rattle.ll_decide.specs.declared.demands.On as asked_on;
 ghost use Rattle.ll_decide.specs.declared.denial.Place as told_at;

@@ -16,11 +16,9 @@ ghost use Rattle.ll_inodes.specs.InodeTable.{ArePlaced, IsTable, without_inode};
 
 use ll_rights::Kind;
 use ll_rights::limits::TREE_CLIENTS;
-use ll_seq::{Descriptor, Fact, NumberMap};
+use ll_seq::{Descriptor, Fact, NumberMap, ROOT};
 use std::alloc::{AllocError, Global};
 use std::marker::Model;
-
-const ROOT: u64 = 1;
 
 /// The slot of each inode, what is counted of each node, the vacant slots, and the next inode. Contracts see them as
 /// they are.

@@ -30,8 +30,8 @@ use Rattle.ll_walks.specs.Sound.{IsSound}
 use Rattle.ll_held.specs.declared.held.Held.{Held}
 use Rattle.ll_held.specs.Lent.{vacant}
 use Rattle.ll_inodes.specs.InodeTable.{Table, IsTable, NotIn, without_inode}
-use Rattle.ll_journal.specs.declared.direct.Answer.{Answer}
-use Rattle.ll_journal.specs.declared.direct.Answer.TheVariants as answers
+use Rattle.ll_journal.specs.declared.direct.Made.{Made}
+use Rattle.ll_journal.specs.declared.direct.Made.TheVariants as answers
 use Rattle.ll_journal.specs.declared.files.BytesCall.{BytesCall}
 use Rattle.ll_journal.specs.declared.files.BytesCall.TheVariants as onto
 use Rattle.ll_journal.specs.declared.files.FileCall.{FileCall}
@@ -190,7 +190,7 @@ module _ (j : Inside) (h : IsKept j) (number place : ℕ) (seat : Seat) (at : sl
 -- ---- the whole step
 
 -- what it is to show
-pub record FileStepped (b : Book) (number : ℕ) (call : Call) (slot : ℕ) (answer : Answer) (file : Held) (k : Inside) : Type 0 where
+pub record FileStepped (b : Book) (number : ℕ) (call : Call) (slot : ℕ) (answer : Made) (file : Held) (k : Inside) : Type 0 where
   pub kept : IsKept k
   pub does : Answers b (FdCommit number call) answer (book_of k)
   pub lent : file ≡ slot_of (book_of k) slot
@@ -200,16 +200,16 @@ pub record FileStepped (b : Book) (number : ℕ) (call : Call) (slot : ℕ) (ans
 same_spares : (b b' : Book) (slots : List ℕ) → b' ≡ b → Spares b b' slots
 same_spares b b' slots e = subst (λ x. Spares b x slots) (sym e) (record { limit = refl; size = refl; slots = λ j out. refl })
 
-replied_so : (b b' : Book) (number : ℕ) (call : Call) (answer : Answer) (reply : Reply) → answer ≡ answers.Replied → is_full b.world ≡ false → advance b.world (FdCommit number call) ≡ (Replied reply, b'.world) → Answers b (FdCommit number call) answer b'
+replied_so : (b b' : Book) (number : ℕ) (call : Call) (answer : Made) (reply : Reply) → answer ≡ answers.Replied → is_full b.world ≡ false → advance b.world (FdCommit number call) ≡ (Replied reply, b'.world) → Answers b (FdCommit number call) answer b'
 replied_so b b' number call answer reply is room e = subst (λ a. Answers b (FdCommit number call) a b') (sym is) (room, reply, e)
 
-starved_so : (b b' : Book) (number : ℕ) (call : Call) (answer : Answer) → answer ≡ answers.NoMemory → b' ≡ b → Starves b.world (FdCommit number call) → Answers b (FdCommit number call) answer b'
+starved_so : (b b' : Book) (number : ℕ) (call : Call) (answer : Made) → answer ≡ answers.NoMemory → b' ≡ b → Starves b.world (FdCommit number call) → Answers b (FdCommit number call) answer b'
 starved_so b b' number call answer is e starves = subst (λ a. Answers b (FdCommit number call) a b') (sym is) (e, starves)
 
 module _ (j k : Inside) (h : IsKept j) (number : ℕ) (call : Call) (place : ℕ) (old : Seat) (at : slice_get j.seats.items place ≡ Some old) (numbered : number ≡ suc place)
     (fd : ℕ) (what : FileCall) (is_call : call ≡ on_file what fd) (d : Descriptor) (idle : old.walk ≡ None) (holds : get old.client.descriptors fd ≡ Some d)
     (slot : ℕ) (file : Held) (lent : file ≡ slot_of (book_of j) slot) (same : d.inode ≡ file.inode) (room_left : is_full (world_of j) ≡ false)
-    (rules : k.rules ≡ j.rules) (room : k.room ≡ j.room) (gate : k.gate ≡ j.gate) (answer : Answer) (file' : Held) where
+    (rules : k.rules ≡ j.rules) (room : k.room ≡ j.room) (gate : k.gate ≡ j.gate) (answer : Made) (file' : Held) where
   abbrev before : State
   before = shown (world_of j)
 
@@ -491,7 +491,7 @@ module _ (j k : Inside) (h : IsKept j) (number : ℕ) (call : Call) (place : ℕ
 module _ (j k : Inside) (h : IsKept j) (number : ℕ) (call : Call) (place : ℕ) (old : Seat) (at : slice_get j.seats.items place ≡ Some old) (numbered : number ≡ suc place)
     (fd : ℕ) (d : Descriptor) (idle : old.walk ≡ None) (holds : get old.client.descriptors fd ≡ Some d)
     (slot : ℕ) (file : Held) (lent : file ≡ slot_of (book_of j) slot) (same : d.inode ≡ file.inode) (room_left : is_full (world_of j) ≡ false)
-    (rules : k.rules ≡ j.rules) (room : k.room ≡ j.room) (gate : k.gate ≡ j.gate) (answer : Answer) (file' : Held) (new : Seat) (seats : k.seats.items ≡ slice_set j.seats.items place new) where
+    (rules : k.rules ≡ j.rules) (room : k.room ≡ j.room) (gate : k.gate ≡ j.gate) (answer : Made) (file' : Held) (new : Seat) (seats : k.seats.items ≡ slice_set j.seats.items place new) where
   pub served : (what : FileCall) → call ≡ on_file what fd → (told : Result Reply AllocError) → IfOk told (λ reply. Serves fd d what old j.table file reply new k.table file') → OnErr told ((new ≡ old) × (k.table ≡ j.table) × (file' ≡ file))
       → OnErr told (IsFreeOn d (on_file what)) → IfOk told (λ reply. (answer ≡ answers.Replied) × (k.history ≡ entered j number call reply)) → OnErr told ((answer ≡ answers.NoMemory) × (k.history ≡ j.history)) → FileStepped (book_of j) number call slot answer file' k
   served files.Close is_call (Ok reply) serves err free ok bad =
@@ -504,7 +504,7 @@ module _ (j k : Inside) (h : IsKept j) (number : ℕ) (call : Call) (place : ℕ
       unmade j k h number call place old at numbered fd what is_call d idle holds slot file lent same room_left rules room gate answer file'
       (seats ∙ ap (slice_set j.seats.items place) err.0 ∙ set_again j.seats.items place old at) err.1 bad.1 err.2 bad.0 free
 
-pub over_file_stepped : (b b' : Book) (number : ℕ) (call : Call) (slot : ℕ) (answer : Answer) (file : Held) (k : Inside) → b ≡ b' → FileStepped b number call slot answer file k → FileStepped b' number call slot answer file k
+pub over_file_stepped : (b b' : Book) (number : ℕ) (call : Call) (slot : ℕ) (answer : Made) (file : Held) (k : Inside) → b ≡ b' → FileStepped b number call slot answer file k → FileStepped b' number call slot answer file k
 over_file_stepped b b' number call slot answer file k e h = subst (λ (b : Book). FileStepped b number call slot answer file k) e h
 
 pub over_file_not_now : (b b' : Book) (number : ℕ) (call : Call) → b ≡ b' → advance b.world (FdCommit number call) ≡ (NotNow, b.world) → advance b'.world (FdCommit number call) ≡ (NotNow, b'.world)

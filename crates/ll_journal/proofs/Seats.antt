@@ -18,9 +18,9 @@ use Rattle.ll_journal.specs.declared.seat.Stage.TheVariants as stage
 use Rattle.ll_journal.specs.declared.seat.Turn.{Turn}
 use Rattle.ll_journal.specs.declared.seat.Turn.TheVariants as turns
 use Rattle.ll_journal.specs.declared.seat.Seat.TheInside.{Inside}
-use Rattle.ll_journal.specs.declared.place.Place.TheVariants as place
+use Rattle.ll_journal.specs.declared.station.Station.TheVariants as station
 use Rattle.ll_journal.specs.Book as book
-use Rattle.ll_journal.specs.WalkPlaces.{place_at, place_of}
+use Rattle.ll_journal.specs.Stations.{station_at, station_of}
 use Rattle.ll_journal.specs.Seated.{granted, depth_of, last_of, leg_of, position_at, seat_of, Fits, FitSplit, FitAt, AreShort, StandsAt, turn_at, next_in, here_in, entered, lower, gone_down, split}
 
 -- ---- the root
@@ -412,8 +412,8 @@ none_ahead path depth found d e is = none_mapped found ∙ sym (some_left path d
 
 module _ (seat : Inside) (call : Call) (is : seat.call ≡ Some call) (fresh : seat.is_stale ≡ false) where
   -- by the stage
-  pub place_is : (now : Stage) → seat.stage ≡ now → place_of (seat_of seat).walk ≡ place_at call (position_at now seat call)
-  place_is now e =
-      ap (λ (o : Option Call). place_of (option_map (λ k. record { call = k; starts = seat.starts; stale = seat.is_stale; at = position_at seat.stage seat k }) o)) is
-      ∙ ap (λ b. cond b place.Stale (place_at call (position_at seat.stage seat call))) fresh
-      ∙ ap (λ n. place_at call (position_at n seat call)) e
+  pub station_is : (now : Stage) → seat.stage ≡ now → station_of (seat_of seat).walk ≡ station_at call (position_at now seat call)
+  station_is now e =
+      ap (λ (o : Option Call). station_of (option_map (λ k. record { call = k; starts = seat.starts; stale = seat.is_stale; at = position_at seat.stage seat k }) o)) is
+      ∙ ap (λ b. cond b station.Stale (station_at call (position_at seat.stage seat call))) fresh
+      ∙ ap (λ n. station_at call (position_at n seat call)) e

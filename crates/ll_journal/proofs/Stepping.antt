@@ -32,8 +32,8 @@ use Rattle.ll_journal.specs.declared.alone.Own.{Own}
 use Rattle.ll_journal.specs.declared.alone.Own.TheVariants as owns
 use Rattle.ll_journal.specs.declared.alone.RecordCall.{RecordCall}
 use Rattle.ll_journal.specs.declared.alone.RecordCall.TheVariants as asked
-use Rattle.ll_journal.specs.declared.direct.Answer.{Answer}
-use Rattle.ll_journal.specs.declared.direct.Answer.TheVariants as answers
+use Rattle.ll_journal.specs.declared.direct.Made.{Made}
+use Rattle.ll_journal.specs.declared.direct.Made.TheVariants as answers
 use Rattle.ll_journal.specs.declared.journal.Journal.TheInside.{Inside}
 use Rattle.ll_journal.specs.Book.{Seat, Book, Spares}
 use Rattle.ll_journal.specs.Direct.{Answers, LeavesSlots, TakesMemory}
@@ -140,10 +140,10 @@ seated_put s seats place number old new at numbered seated q = by (insert_cases 
 same_spares : (b b' : Book) → b' ≡ b → Spares b b' []
 same_spares b b' e = subst (λ x. Spares b x []) (sym e) (record { limit = refl; size = refl; slots = λ j out. refl })
 
-replied_so : (b b' : Book) (number : ℕ) (call : Call) (answer : Answer) (reply : Reply) → answer ≡ answers.Replied → is_full b.world ≡ false → advance b.world (ClientStep number call) ≡ (Replied reply, b'.world) → Answers b (ClientStep number call) answer b'
+replied_so : (b b' : Book) (number : ℕ) (call : Call) (answer : Made) (reply : Reply) → answer ≡ answers.Replied → is_full b.world ≡ false → advance b.world (ClientStep number call) ≡ (Replied reply, b'.world) → Answers b (ClientStep number call) answer b'
 replied_so b b' number call answer reply is room e = subst (λ a. Answers b (ClientStep number call) a b') (sym is) (room, reply, e)
 
-starved_so : (b b' : Book) (number : ℕ) (call : Call) (answer : Answer) → answer ≡ answers.NoMemory → b' ≡ b → Starves b.world (ClientStep number call) → Answers b (ClientStep number call) answer b'
+starved_so : (b b' : Book) (number : ℕ) (call : Call) (answer : Made) → answer ≡ answers.NoMemory → b' ≡ b → Starves b.world (ClientStep number call) → Answers b (ClientStep number call) answer b'
 starved_so b b' number call answer is e starves = subst (λ a. Answers b (ClientStep number call) a b') (sym is) (e, starves)
 
 -- with the same items nothing has changed
@@ -175,14 +175,14 @@ set_again (z ∷ seats) (suc place) seat at = ap (λ xs. z ∷ xs) (set_again se
 -- ---- a call on the client's record
 
 -- what the whole step is to show
-pub record Stepped (b : Book) (number : ℕ) (call : Call) (answer : Answer) (k : Inside) : Type 0 where
+pub record Stepped (b : Book) (number : ℕ) (call : Call) (answer : Made) (k : Inside) : Type 0 where
   pub kept : IsKept k
   pub does : Answers b (ClientStep number call) answer (book_of k)
   pub spares : Spares b (book_of k) []
   pub calm : answer ≡ answers.NoMemory → TakesMemory call
   pub rest : LeavesSlots call b (book_of k)
 
-replied_calm : (answer : Answer) (call : Call) → answer ≡ answers.Replied → answer ≡ answers.NoMemory → TakesMemory call
+replied_calm : (answer : Made) (call : Call) → answer ≡ answers.Replied → answer ≡ answers.NoMemory → TakesMemory call
 replied_calm answer call is starved = absurd (cc (sym is ∙ starved))
 
 -- what a call on the record takes memory for
@@ -195,7 +195,7 @@ abbrev pub entered : Inside → ℕ → Call → Reply → Log
 entered j number call reply = record j.history { entries = j.history.entries ++ record { client = number; call = call; reply = reply } ∷ [] }
 
 module _ (j k : Inside) (h : IsKept j) (number : ℕ) (call : Call) (place : ℕ) (old : Seat) (at : slice_get j.seats.items place ≡ Some old) (numbered : number ≡ suc place)
-    (idle : old.walk ≡ None) (room_left : is_full (world_of j) ≡ false) (answer : Answer)
+    (idle : old.walk ≡ None) (room_left : is_full (world_of j) ≡ false) (answer : Made)
     (rules : k.rules ≡ j.rules) (room : k.room ≡ j.room) (gate : k.gate ≡ j.gate) where
   abbrev before : State
   before = shown (world_of j)
@@ -367,7 +367,7 @@ module _ (j k : Inside) (h : IsKept j) (number : ℕ) (call : Call) (place : ℕ
 
 -- ---- as the code finds it
 
-pub over_stepped : (b b' : Book) (number : ℕ) (call : Call) (answer : Answer) (k : Inside) → b ≡ b' → Stepped b number call answer k → Stepped b' number call answer k
+pub over_stepped : (b b' : Book) (number : ℕ) (call : Call) (answer : Made) (k : Inside) → b ≡ b' → Stepped b number call answer k → Stepped b' number call answer k
 over_stepped b b' number call answer k e h = subst (λ (b : Book). Stepped b number call answer k) e h
 
 pub over_not_now : (b b' : Book) (number : ℕ) (call : Call) → b ≡ b' → advance b.world (ClientStep number call) ≡ (NotNow, b.world) → advance b'.world (ClientStep number call) ≡ (NotNow, b'.world)

@@ -15,8 +15,8 @@ use Rattle.ll_walks.specs.declared.step.Step.TheVariants as steps
 use Rattle.ll_walks.specs.World.{World, advance, shown, descriptor_of, is_full}
 use Rattle.ll_walks.specs.declared.step.Step.{Step}
 use Rattle.ll_inodes.specs.InodeTable.{without_inode}
-use Rattle.ll_journal.specs.declared.direct.Answer.{Answer}
-use Rattle.ll_journal.specs.declared.direct.Answer.TheVariants as answer
+use Rattle.ll_journal.specs.declared.direct.Made.{Made}
+use Rattle.ll_journal.specs.declared.direct.Made.TheVariants as answer
 use Rattle.ll_journal.specs.declared.open_file.Unmade.{Unmade}
 use Rattle.ll_journal.specs.declared.open_file.Unmade.TheVariants as unmade
 use Rattle.ll_journal.specs.Book.{Book, inode_in}
@@ -24,7 +24,7 @@ use Rattle.ll_journal.specs.Starving.{Starves}
 
 -- The outcome is that of the step, and so is the world after. A full history takes no entry, and where memory runs out,
 -- for a call that nothing refuses, the step isn't made
-abbrev pub Answers : Book → Step → Answer → Book → Type 0
+abbrev pub Answers : Book → Step → Made → Book → Type 0
 Answers b step' answer.Replied b' =
     (is_full b.world ≡ false) × (reply : Reply) × (advance b.world step' ≡ (world.Replied reply, b'.world))
 Answers b step' answer.HistoryFull b' =

@@ -1,6 +1,6 @@
 pub mod Book
 pub mod Steps
-pub mod WalkPlaces
+pub mod Stations
 pub mod Direct
 pub mod Own
 pub mod SeatCodes

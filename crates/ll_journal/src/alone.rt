@@ -1,10 +1,10 @@
 //! A client's calls for itself alone: those that need no node, as they concern its record, or are refused early.
 
-ghost use Rattle.std.specs.Prelude.{◌≡◌, ◌≢◌, ◌<◌, None, Some, true, false, slice_get, length, is_some, IfOk, OnErr, option_map, if◌then◌else◌};
+ghost use Rattle.std.specs.Prelude.{◌≡◌, ◌≢◌, ◌<◌, None, Some, slice_get, IfOk, OnErr, option_map, if◌then◌else◌};
 ghost use Rattle.ll_rights.specs.Map.{has};
 ghost use Rattle.ll_walks.specs.World as world;
 ghost use Rattle.ll_seq.specs.declared.reply.Reply.TheVariants as replies;
-ghost use Rattle.ll_journal.specs.Own.{Asks, IsOwn, Comes, IsFreeOwn};
+ghost use Rattle.ll_journal.specs.Own.{IsOwn, Comes, IsFreeOwn};
 
 use ll_answer::refused_early;
 use ll_rights::{Abi, Access, Errno};

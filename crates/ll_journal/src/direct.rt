@@ -18,7 +18,7 @@ use std::alloc::{AllocError, Global};
 
 /// What comes of a call that doesn't walk.
 #[derive(Clone, Copy, Debug, PartialEq, Eq)]
-pub enum Answer {
+pub enum Made {
     /// The history's last entry has the reply.
     Replied,
     /// The history takes no more entry. Nothing has changed.
@@ -101,13 +101,13 @@ pub(crate) fn enter(
     client: u64,
     call: Call,
     told: Result<Reply, AllocError>,
-) -> Answer
+) -> Made
     requires { length history.old.entries < history.old.limit }
-    ensures ok { IfOk told (λ reply. (result ≡ Answer.Replied)
+    ensures ok { IfOk told (λ reply. (result ≡ Made.Replied)
         × (history.new ≡ record history.old {
           entries = history.old.entries ++ record { client = client; call = call; reply = reply } ∷ [];
         })) }
-    ensures err { OnErr told ((result ≡ Answer.NoMemory) × (history.new ≡ history.old)) }
+    ensures err { OnErr told ((result ≡ Made.NoMemory) × (history.new ≡ history.old)) }
 {
     match told {
         Ok(reply) => {
@@ -116,11 +116,11 @@ pub(crate) fn enter(
                 call,
                 reply,
             });
-            Answer::Replied
+            Made::Replied
         }
         Err(_) => {
             drop(call);
-            Answer::NoMemory
+            Made::NoMemory
         }
     }
 }
@@ -184,14 +184,14 @@ impl Journal {
 
     /// The client's call for itself alone is made and answered, or comes back where it is none, or the client isn't
     /// there or has a walk under way. Only ruleset, confine and spawn take memory.
-    pub fn client_step(&mut self, client: u64, call: Call) -> Result<Answer, Call>
+    pub fn client_step(&mut self, client: u64, call: Call) -> Result<Made, Call>
         ensures does { IfOk result (λ answer. Answers self.old (steps.ClientStep client call) answer self.new) }
         ensures not_now { OnErr result
             (world.advance self.old.world (steps.ClientStep client call) ≡ (world.NotNow, self.old.world)) }
         ensures back { IfErr result (λ back. back ≡ call) }
         ensures same { OnErr result (self.new ≡ self.old) }
         ensures spares { Spares self.old self.new [] }
-        ensures calm { result ≡ Ok Answer.NoMemory → TakesMemory call }
+        ensures calm { result ≡ Ok Made.NoMemory → TakesMemory call }
         ensures rest { LeavesSlots call self.old self.new }
     {
         let Some(place) = place_of(&self.seats, client) else {
@@ -202,7 +202,7 @@ impl Journal {
         };
         if self.history.is_full() {
             drop(call);
-            return Ok(Answer::HistoryFull);
+            return Ok(Made::HistoryFull);
         }
         let (alloc, rules) = (self.alloc, self.rules);
         match own {

@@ -1,24 +1,19 @@
 //! What a walk finds where it ends.
 
-ghost use Rattle.std.specs.Prelude.{◌≡◌, ◌&&◌, ◌||◌, ℕ, List, not, true, false, [], ◌∷◌, map, None, Some, is_none, slice_get, option_map, option_and_then, nat_le, if◌then◌else◌};
-ghost use Rattle.std.specs.Option.{option_map_or};
+ghost use Rattle.std.specs.Prelude.{◌≡◌, ℕ, List, false, [], None, Some, nat_le};
 ghost use Rattle.ll_rights.specs.Map.{len};
-ghost use Rattle.ll_path.specs.Path as paths;
 ghost use Rattle.ll_seq.specs.Call.{first_path, path_of, second_path};
-ghost use Rattle.ll_seq.specs.Stages as stages;
 ghost use Rattle.ll_seq.specs.State.{State};
 ghost use Rattle.ll_inodes.specs.InodeTable.{IsTable};
 ghost use Rattle.ll_journal.specs.Looks.{blocked_at, crowded_at, found_at, last_in, spot_at, there_at};
 
-use ll_answer::{Found, Spot, Targets, There, targets_of};
+use ll_answer::{Found, Spot, Targets, There, no_directory, targets_of};
 use ll_held::Held;
 use ll_inodes::Inodes;
 use ll_path::Target;
+use ll_rights::Errno;
 use ll_rights::limits::{DIRECTORY_ENTRIES, NODE_NAMES};
-use ll_rights::{Errno, Kind};
-use ll_seq::Call;
-
-const ROOT: u64 = 1;
+use ll_seq::{Call, ROOT};
 
 /// The node of this inode, if it is there.
 fn there(table: &Inodes, inode: u64) -> Option<There>
@@ -105,18 +100,6 @@ pub(crate) fn found(table: &Inodes, room: usize, first: &Held, second: &Held, ca
         first,
         second,
         is_full: room <= table.living(),
-    }
-}
-
-/// Why a node of this kind is no directory. Where there is none, it is missing.
-fn no_directory(kind: Option<Kind>) -> Option<Errno>
-    ensures { result ≡ slice_get (stages.no_directory kind) 0 }
-{
-    match kind {
-        None => Some(Errno::ENOENT),
-        Some(Kind::Dir) => None,
-        Some(Kind::Sym) => Some(Errno::ELOOP),
-        Some(_) => Some(Errno::ENOTDIR),
     }
 }
 

@@ -1,7 +1,6 @@
 //! The journal.
 
-ghost use Rattle.std.specs.Prelude.{◌≡◌, ◌+◌, ◌<◌, ◌≤◌, suc, [], ◌∷◌, length, replicate, None, IfOk, IfErr, IfSome, IfNone, OnOk, OnErr, ◌≢◌, ℕ, List, map, ◌==◌, ◌&&◌, is_some, false, if◌then◌else◌, Some};
-ghost use Rattle.std.specs.List.{range_with_len};
+ghost use Rattle.std.specs.Prelude.{◌≡◌, ◌<◌, ◌≤◌, suc, [], ◌∷◌, length, None, IfOk, IfErr, IfSome, IfNone, OnOk, OnErr, ◌≢◌, map, ◌==◌, ◌&&◌, is_some, false, if◌then◌else◌, Some};
 ghost use Rattle.ll_rights.specs.declared.limits.TheConstants.{HISTORY_ENTRIES, TREE_CLIENTS, TREE_NODES};
 ghost use Rattle.std.specs.Option.{option_map_or};
 ghost use Rattle.ll_seq.specs.State.{root};
@@ -11,17 +10,15 @@ ghost use Rattle.ll_journal.specs.Kept.{seat_at};
 
 use crate::look::{Look, directory_below, look_again, look_at_root, look_down};
 use crate::outcome::Outcome;
-use crate::place::Place;
 use crate::seat::Seat;
+use crate::station::Station;
 use crate::walked::{is_free, next_gate};
 use ll_held::{Held, unmark};
 use ll_inodes::Inodes;
 use ll_rights::limits::TREE_CLIENTS;
-use ll_seq::{Call, History, Rules};
+use ll_seq::{Call, History, ROOT, Rules};
 use std::alloc::{AllocError, Global};
 use std::marker::Model;
-
-const ROOT: u64 = 1;
 
 /// The history of all calls, and what is under way. Contracts see it as a book: the world, which inode lies in each
 /// slot, and the vacant slots.
@@ -97,8 +94,8 @@ fn may_fork(seat: &Seat) -> bool
 }
 
 impl Journal {
-    ghost use Rattle.ll_journal.specs.Book.{Spares, inode_in, new_book, slot_of};
-    ghost use Rattle.ll_journal.specs.WalkPlaces.{place_in};
+    ghost use Rattle.ll_journal.specs.Book.{Spares, new_book, slot_of};
+    ghost use Rattle.ll_journal.specs.Stations.{station_in};
     ghost use Rattle.ll_journal.specs.Steps.{Does, GoesDown, IsAstrayAt, IsAstrayAtTop, IsAstrayBelow, IsNext};
     ghost use Rattle.ll_walks.specs.World.{Begun, NotNow, advance};
     ghost use Rattle.ll_walks.specs.declared.step.Step.TheVariants.{Begin, Descend, Fork, Restart};
@@ -213,12 +210,12 @@ impl Journal {
     }
 
     /// Where the client's walk is.
-    pub fn place(&self, client: u64) -> Place
-        ensures { result ≡ place_in self.now.world client }
+    pub fn station(&self, client: u64) -> Station
+        ensures { result ≡ station_in self.now.world client }
     {
         match place_of(&self.seats, client) {
-            None => Place::Idle,
-            Some(place) => self.seats[place].place(),
+            None => Station::Idle,
+            Some(place) => self.seats[place].station(),
         }
     }
 

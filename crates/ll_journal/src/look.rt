@@ -8,8 +8,7 @@ ghost use Rattle.ll_journal.specs.Seated.{next_in};
 use crate::seat::Seat;
 use ll_held::Held;
 use ll_inodes::Inodes;
-
-const ROOT: u64 = 1;
+use ll_seq::ROOT;
 
 /// What is found: the step may be made; or not now; or it is lent other slots than it names.
 #[derive(Clone, Copy, Debug, PartialEq, Eq)]

@@ -1,6 +1,6 @@
 //! Which slots the steps of a client's walk need, so that whoever makes them can lend these.
 
-ghost use Rattle.std.specs.Prelude.{◌≡◌, ◌<◌, ◌≤◌, ℕ, List, [], length, true, false, Some, None, IfSome, IfNone};
+ghost use Rattle.std.specs.Prelude.{◌≡◌, ◌<◌, ◌≤◌, ℕ, length, false, Some, None, IfSome, IfNone};
 ghost use Rattle.std.specs.List.{AllByRecursion};
 ghost use Rattle.ll_rights.specs.Map.{get};
 ghost use Rattle.ll_seq.specs.State.{root};
@@ -14,9 +14,7 @@ use crate::stop::{may_make, other_node};
 use ll_answer::Found;
 use ll_held::Held;
 use ll_inodes::Inodes;
-use ll_seq::Call;
-
-const ROOT: u64 = 1;
+use ll_seq::{Call, ROOT};
 
 /// The slot, besides those of directories, that the call may need where its walk ends.
 fn slot_besides(table: &Inodes, spare: u64, call: &Call, found: &Found) -> Option<u64>

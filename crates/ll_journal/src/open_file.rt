@@ -6,7 +6,7 @@ ghost use Rattle.ll_rights.specs.Map.{get};
 ghost use Rattle.ll_seq.specs.declared.client.Descriptor as record_of;
 ghost use Rattle.ll_journal.specs.Files.{IsFreeOn, LetsGo, Serves, on_file};
 
-use crate::direct::{Answer, enter};
+use crate::direct::{Made, enter};
 use crate::files::{FileCall, answer, file_call};
 use crate::journal::{Journal, place_of};
 use crate::seat::Seat;
@@ -78,7 +78,6 @@ fn serve(
 }
 
 impl Journal {
-    ghost use Rattle.ll_walks.specs.World as world;
     ghost use Rattle.ll_walks.specs.declared.step.Step.TheVariants as steps;
     ghost use Rattle.ll_journal.specs.Book.{Spares, inode_in, slot_of};
     ghost use Rattle.ll_journal.specs.Direct.{Answers, ComesBack, IsOpen, LeavesSlot};
@@ -92,14 +91,14 @@ impl Journal {
         call: Call,
         slot: u64,
         file: &mut Held,
-    ) -> Result<Answer, Unmade>
+    ) -> Result<Made, Unmade>
         requires { file.old ≡ slot_of self.old slot }
         ensures does { IfOk result (λ answer. Answers self.old (steps.FdCommit client call) answer self.new) }
         ensures back { IfErr result (ComesBack self.old client call slot) }
         ensures same { OnErr result ((self.new ≡ self.old) × (file.new ≡ file.old)) }
         ensures lent { file.new ≡ slot_of self.new slot }
         ensures spares { Spares self.old self.new (slot ∷ []) }
-        ensures calm { result ≡ Ok Answer.NoMemory → (number : ℕ) → call ≢ Call.Close number }
+        ensures calm { result ≡ Ok Made.NoMemory → (number : ℕ) → call ≢ Call.Close number }
         ensures rest { LeavesSlot call slot self.old self.new }
     {
         let Some(place) = place_of(&self.seats, client) else {
@@ -116,7 +115,7 @@ impl Journal {
         }
         if self.history.is_full() {
             drop(call);
-            return Ok(Answer::HistoryFull);
+            return Ok(Made::HistoryFull);
         }
         let (alloc, table) = (self.alloc, &mut self.table);
         let seat = &mut self.seats[place];

@@ -1,44 +1,39 @@
 //! Clients, each with its walk.
 
-ghost use Rattle.std.specs.Prelude.{◌≡◌, ℕ, List, Option, is_ok, ◌&&◌, ◌||◌, ◌==◌, ◌<◌, ◌≤◌, not, false, true, length, [], ◌∷◌, ◌++◌, None, Some, is_none, is_some, if◌then◌else◌, IfOk, OnOk, OnErr, IfSome, IfNone, IsSome, option_map};
+ghost use Rattle.std.specs.Prelude.{◌≡◌, ℕ, List, Option, is_ok, ◌&&◌, ◌||◌, ◌==◌, ◌<◌, ◌≤◌, not, false, true, length, [], ◌∷◌, ◌++◌, None, Some, is_none, is_some, if◌then◌else◌, IfOk, OnErr, IfSome, IfNone, IsSome, option_map};
 ghost use Rattle.std.specs.List.{list_any};
 ghost use Rattle.std.specs.Option.{option_map_or};
-ghost use Rattle.ll_answer.specs.Effect.{with_rule_of};
 ghost use Rattle.ll_answer.specs.Lean.{spares_memory};
 ghost use Rattle.ll_decide.specs.Masks.{AreMasks};
-ghost use Rattle.ll_rights.specs.Map.{get, insert, remove};
+ghost use Rattle.ll_rights.specs.Map.{remove};
 ghost use Rattle.ll_rights.specs.declared.limits.TheConstants.{PATH_NAMES};
-ghost use Rattle.ll_rules.specs.Rules.{rule_limit, rule_refusals};
 ghost use Rattle.ll_seq.specs.Effects.{child_of};
-ghost use Rattle.ll_seq.specs.Stages.{ruleset_at};
-ghost use Rattle.ll_seq.specs.State.{State, new_client, root};
+ghost use Rattle.ll_seq.specs.State.{State, root};
 ghost use Rattle.ll_walks.specs.Commits.{first_end, second_end};
 ghost use Rattle.ll_walks.specs.Walk as walks;
 ghost use Rattle.ll_walks.specs.World.{is_alone, is_walked, overtaken};
 ghost use Rattle.ll_journal.specs.Looks as looks;
-ghost use Rattle.ll_journal.specs.WalkPlaces.{place_of};
+ghost use Rattle.ll_journal.specs.Stations.{station_of};
 ghost use Rattle.ll_journal.specs.Needs.{slots_in};
 ghost use Rattle.ll_journal.specs.Performed.{IsAtEnd, Performs, IsFreeAtEnd};
 ghost use Rattle.ll_journal.specs.Seated.{turn_at};
 
 use crate::alone::{Own, RecordCall, answer, asked_of};
 use crate::perform::perform;
-use crate::place::Place;
 use crate::slots::Slots;
+use crate::station::Station;
 use crate::walked::walks;
 use crate::way::{first_name, has_two_paths, know_ways, second_name, trunk_name};
-use ll_answer::{Found, Rule};
+use ll_answer::Found;
 use ll_decide::Masks;
 use ll_held::Held;
 use ll_inodes::Inodes;
 use ll_rights::Abi;
 use ll_rights::limits::PATH_NAMES;
 use ll_rules::Domain;
-use ll_seq::{Call, ClientRecord, Descriptor, NumberMap, Reply, Rules};
+use ll_seq::{Call, ClientRecord, Descriptor, NumberMap, ROOT, Reply, Rules};
 use std::alloc::{AllocError, Global};
 use std::marker::Model;
-
-const ROOT: u64 = 1;
 
 /// On its fourth start a walk takes the gate.
 const LAST_START: u64 = 4;
@@ -178,28 +173,28 @@ fn turn_of(stage: Stage, call: &Call, first: &Leg) -> Turn
 }
 
 /// On what is common to its paths, and perhaps at the end of that.
-fn trunk_place(call: &Call, is_ended: bool) -> Place
-    ensures { result ≡ (if is_ended then if walks.has_two_paths call.now then Place.Fork else Place.End else Place.Trunk) }
+fn trunk_station(call: &Call, is_ended: bool) -> Station
+    ensures { result ≡ (if is_ended then if walks.has_two_paths call.now then Station.Fork else Station.End else Station.Trunk) }
 {
     if !is_ended {
-        Place::Trunk
+        Station::Trunk
     } else if has_two_paths(call) {
-        Place::Fork
+        Station::Fork
     } else {
-        Place::End
+        Station::End
     }
 }
 
 /// Past the fork, with branches that are perhaps at their ends.
-fn split_place(is_first_ended: bool, is_second_ended: bool) -> Place
-    ensures { result ≡ (if is_first_ended then if is_second_ended then Place.End else Place.Second else Place.First) }
+fn split_station(is_first_ended: bool, is_second_ended: bool) -> Station
+    ensures { result ≡ (if is_first_ended then if is_second_ended then Station.End else Station.Second else Station.First) }
 {
     if !is_first_ended {
-        Place::First
+        Station::First
     } else if is_second_ended {
-        Place::End
+        Station::End
     } else {
-        Place::Second
+        Station::Second
     }
 }
 
@@ -476,19 +471,19 @@ impl Seat {
     }
 
     /// Where the walk is.
-    pub(crate) fn place(&self) -> Place
-        ensures { result ≡ place_of self.now.walk }
+    pub(crate) fn station(&self) -> Station
+        ensures { result ≡ station_of self.now.walk }
     {
         let Some(call) = &self.call else {
-            return Place::Idle;
+            return Station::Idle;
         };
         if self.is_stale {
-            return Place::Stale;
+            return Station::Stale;
         }
         match self.stage {
-            Stage::Above => Place::Above,
-            Stage::Down => trunk_place(call, trunk_name(call, self.trunk.depth()).is_none()),
-            Stage::Split => split_place(
+            Stage::Above => Station::Above,
+            Stage::Down => trunk_station(call, trunk_name(call, self.trunk.depth()).is_none()),
+            Stage::Split => split_station(
                 first_name(call, self.first.depth()).is_none(),
                 second_name(call, self.second.depth()).is_none(),
             ),
@@ -639,36 +634,11 @@ impl Seat {
         }
     }
 
-    /// The client's record.
-    pub(crate) fn client(&self) -> &ClientRecord
-        ensures { result.now ≡ self.now.client }
-    {
-        &self.client
-    }
-
     /// The slot that is kept for what it makes.
     pub(crate) fn spare(&self) -> u64
         ensures { result ≡ self.now.spare }
     {
         self.spare
-    }
-
-    /// The slot that is kept for what it makes is another now.
-    pub(crate) fn set_spare(&mut self, spare: u64)
-        ensures { self.new ≡ record self.old { spare = spare } }
-    {
-        self.spare = spare;
-    }
-
-    /// The client has this file open under a number that was free. Errors: memory ran out, and nothing has changed.
-    pub(crate) fn open(&mut self, number: u64, file: Descriptor) -> Result<(), AllocError>
-        requires { get self.old.client.descriptors number ≡ None }
-        ensures ok { OnOk result (self.new ≡ record self.old {
-          client = record self.old.client { descriptors = insert self.old.client.descriptors number file };
-        }) }
-        ensures err { OnErr result (self.new ≡ self.old) }
-    {
-        self.client.descriptors.insert(number, file)
     }
 
     /// The client's descriptor of this number is free.
@@ -678,24 +648,6 @@ impl Seat {
         } }
     {
         self.client.descriptors.remove(number);
-    }
-
-    /// The client's ruleset has this rule too, which nothing else refuses. Errors: memory ran out, and nothing has changed.
-    pub(crate) fn allow(&mut self, rule: &Rule) -> Result<(), AllocError>
-        requires number { rule.now.number < length self.old.client.rulesets }
-        requires free { rule_refusals (ruleset_at self.old.client rule.now.number) rule.now.kind rule.now.rights.0
-            ++ rule_limit (ruleset_at self.old.client rule.now.number) rule.now.inode ≡ [] }
-        ensures ok { OnOk result (self.new ≡ record self.old { client = with_rule_of self.old.client rule.now }) }
-        ensures err { OnErr result (self.new ≡ self.old) }
-    {
-        let rulesets = &mut self.client.rulesets;
-        if rulesets
-            .allow(rule.number, rule.inode, rule.kind, rule.rights)
-            .is_err()
-        {
-            return Err(AllocError);
-        }
-        Ok(())
     }
 
     /// The call of the client's walk, which has ended, is decided and made; the reply. Errors: memory ran out, and

@@ -1,10 +1,8 @@
 //! Whether a walk may be answered, and for what: seen from what is lent.
 
-ghost use Rattle.std.specs.Prelude.{◌≡◌, ◌==◌, ◌||◌, ◌&&◌, ℕ, Bool, List, true, not, map, nat_le, slice_index_or};
+ghost use Rattle.std.specs.Prelude.{◌≡◌, ◌==◌, ◌||◌, ◌&&◌, ℕ, Bool, List, true, not, nat_le, slice_index_or};
 ghost use Rattle.std.specs.List.{list_all};
 ghost use Rattle.ll_answer.specs.Near as near;
-ghost use Rattle.ll_answer.specs.declared.found.Spot as spot_of;
-ghost use Rattle.ll_answer.specs.declared.found.There as there_of;
 ghost use Rattle.ll_inodes.specs.InodeTable.{IsTable};
 ghost use Rattle.ll_path.specs.Path as paths;
 ghost use Rattle.ll_path.specs.Path.{Path};

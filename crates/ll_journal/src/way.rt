@@ -1,6 +1,6 @@
 //! The way of a call: the names that its walk takes.
 
-ghost use Rattle.std.specs.Prelude.{◌≡◌, ◌≤◌, ◌==◌, Bool, None, Some, length, slice_get, option_map, is_some};
+ghost use Rattle.std.specs.Prelude.{◌≡◌, ◌≤◌, ◌==◌, None, Some, length, slice_get, option_map};
 ghost use Rattle.ll_path.specs.Name.{same_name};
 ghost use Rattle.ll_path.specs.Path.{parent};
 ghost use Rattle.ll_rights.specs.declared.limits.TheConstants.{PATH_NAMES};

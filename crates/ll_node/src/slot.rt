@@ -1,6 +1,6 @@
 //! One node behind its lock.
 
-ghost use Rattle.std.specs.Prelude.{◌≡◌, ◌+◌, ◌≤◌, ℕ, List, [], ◌∷◌, Some, false, OnOk, OnErr, IfOk, IfErr, IsTrue, length, map, take, drop};
+ghost use Rattle.std.specs.Prelude.{◌≡◌, ◌+◌, ◌≤◌, ℕ, List, [], ◌∷◌, Some, false, OnOk, OnErr, IfOk, IfErr, IsTrue, map, take, drop};
 ghost use Rattle.ll_rights.specs.Kind.{is_dir};
 ghost use Rattle.ll_rights.specs.Map.{empty, get, insert, remove, entries};
 ghost use Rattle.ll_path.specs.Name.{IsName};
@@ -70,7 +70,7 @@ fn ends_too_late(offset: u64, len: u64) -> bool
 }
 
 impl Slot {
-    ghost use Rattle.ll_node.specs.Slot.{new_slot, len_of, replaced, renamed, written};
+    ghost use Rattle.ll_node.specs.Slot.{new_slot, len_of, renamed, written};
     ghost use Rattle.ll_node.specs.Refusals.{insert_refusals, missing, rename_refusals, write_refusals, len_refusals};
 
     /// A new node, empty and unmarked. Takes no memory.

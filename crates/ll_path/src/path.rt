@@ -2,7 +2,6 @@
 
 ghost use Rattle.std.specs.Prelude.{◌≡◌, ◌<◌, ◌≤◌, ◌+◌, ◌^◌, ℕ, nat_lt, List, [], ◌∷◌, ◌++◌, All, length, sum_by, Option, Some, slice_get, IfSome, IfNone, IfOk, IfErr};
 ghost use Rattle.std.specs.List.{join_with_byte, list_any};
-ghost use Rattle.ll_rights.specs.Errno.{refuse};
 ghost use Rattle.ll_path.specs.Word.{IsVisible, IsWord};
 ghost use Rattle.ll_path.specs.Name.{IsName, same_name};
 ghost use Rattle.ll_path.specs.Path.{names_in, is_no_name, is_long_name, text_refusals, path_text, is_root, parent, last_name, is_beneath, common};

@@ -1,6 +1,6 @@
 //! Words of command lines.
 
-ghost use Rattle.std.specs.Prelude.{◌≡◌, ◌≤◌, ℕ, List, All, IfOk, IfErr, IsTrue, ◌↔◌, string_bytes};
+ghost use Rattle.std.specs.Prelude.{◌≡◌, ℕ, List, All, IfOk, IfErr, IsTrue, ◌↔◌, string_bytes};
 ghost use Rattle.ll_path.specs.Word.{IsVisible, IsWord};
 
 use std::marker::Model;

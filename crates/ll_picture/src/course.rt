@@ -2,7 +2,7 @@
 
 use crate::scene::Branch;
 use ll_answer::{Targets, targets_of};
-use ll_journal::Place;
+use ll_journal::Station;
 use ll_path::{Names, Target};
 use ll_seq::Call;
 use std::alloc::{AllocError, Global};
@@ -120,16 +120,16 @@ impl Course {
     pub fn descend(
         &mut self,
         alloc: Global,
-        from: Place,
+        from: Station,
         inode: u64,
     ) -> Result<(Branch, String), AllocError> {
         match from {
-            Place::Above => Ok((Branch::Trunk, String::from_str(alloc, "/")?)),
-            Place::First => Ok((
+            Station::Above => Ok((Branch::Trunk, String::from_str(alloc, "/")?)),
+            Station::First => Ok((
                 Branch::First,
                 name_or_number(alloc, self.go_first(), inode)?,
             )),
-            Place::Second => Ok((
+            Station::Second => Ok((
                 Branch::Second,
                 name_or_number(alloc, self.go_second(), inode)?,
             )),

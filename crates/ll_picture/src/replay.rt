@@ -4,7 +4,7 @@ use crate::course::Course;
 use crate::scene::{Column, Row, Scene};
 use crate::seat::Seat;
 use crate::told::{answer_in, outcome_words, refusal_words};
-use ll_journal::Place;
+use ll_journal::Station;
 use ll_seq::Call;
 use ll_steps::{Outcome, World};
 use ll_walks::Step;
@@ -74,7 +74,7 @@ impl Replay {
     }
 
     // What came of a step, or of all steps of a call, but for one that begins a walk.
-    fn tell(&mut self, client: u64, from: Place, outcome: Outcome) -> Result<(), AllocError> {
+    fn tell(&mut self, client: u64, from: Station, outcome: Outcome) -> Result<(), AllocError> {
         let column = self.columns.len();
         let answer = answer_in(self.alloc, &self.world, outcome)?;
         match (self.seats.get_mut(row_of(client)), answer) {
@@ -87,7 +87,7 @@ impl Replay {
     fn tell_step(
         &mut self,
         client: u64,
-        from: Place,
+        from: Station,
         outcome: Outcome,
         course: Option<Course>,
     ) -> Result<(), AllocError> {
@@ -101,14 +101,14 @@ impl Replay {
     fn take_step(&mut self, step: Step) -> Result<(u64, Outcome), AllocError> {
         let client = client_of(&step, self.world.clients().saturating_add(1));
         let course = course_of(self.alloc, &step);
-        let from = self.world.place(client);
+        let from = self.world.station(client);
         let outcome = self.world.step(step);
         self.tell_step(client, from, outcome, course?)?;
         Ok((client, outcome))
     }
 
     // A call's steps were made up to one that can't be made now.
-    fn leave(&mut self, client: u64, at: Place, course: Course) -> Result<(), AllocError> {
+    fn leave(&mut self, client: u64, at: Station, course: Course) -> Result<(), AllocError> {
         self.begin(client, course)?;
         match self.seats.get_mut(row_of(client)) {
             Some(seat) => seat.leave(self.alloc, self.columns.len(), at),
@@ -119,10 +119,10 @@ impl Replay {
     // Makes all steps of a call.
     fn take_call(&mut self, client: u64, call: Call) -> Result<(u64, Outcome), AllocError> {
         let course = Course::new(self.alloc, &call);
-        let from = self.world.place(client);
+        let from = self.world.station(client);
         let outcome = self.world.make(client, call);
-        let at = self.world.place(client);
-        if from == Place::Idle && at != Place::Idle {
+        let at = self.world.station(client);
+        if from == Station::Idle && at != Station::Idle {
             self.leave(client, at, course?)?;
         } else {
             self.tell(client, from, outcome)?;
@@ -136,7 +136,7 @@ impl Replay {
         let mut client = 0u64;
         for seat in self.seats.iter_mut() {
             client = client.saturating_add(1);
-            seat.see(column, self.world.place(client), mover)?;
+            seat.see(column, self.world.station(client), mover)?;
         }
         Ok(())
     }

@@ -10,7 +10,7 @@ pub enum Branch {
 
 /// What a call is answered, in short.
 #[derive(Drop)]
-pub struct Answer {
+pub struct Caption {
     pub text: String,
     pub is_refusal: bool,
 }
@@ -33,9 +33,9 @@ pub enum Event {
     /// Its walk holds the move gate.
     GateTaken,
     /// Its walk ends.
-    Answered(Answer),
+    Answered(Caption),
     /// A call is made at once.
-    Made(Answer),
+    Made(Caption),
     /// The step can't be made now.
     NotNow,
 }

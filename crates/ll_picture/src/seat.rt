@@ -1,8 +1,8 @@
 //! Clients of a schedule.
 
 use crate::course::Course;
-use crate::scene::{Answer, Branch, Event, Moment};
-use ll_journal::Place;
+use crate::scene::{Branch, Caption, Event, Moment};
+use ll_journal::Station;
 use ll_steps::Outcome;
 use std::alloc::{AllocError, Global};
 
@@ -42,9 +42,9 @@ impl Seat {
         Ok(())
     }
 
-    fn takes_gate(&self, from: Place) -> bool {
+    fn takes_gate(&self, from: Station) -> bool {
         match &self.course {
-            Some(course) => from == Place::Above && course.enters_by_gate(),
+            Some(course) => from == Station::Above && course.enters_by_gate(),
             None => false,
         }
     }
@@ -53,7 +53,7 @@ impl Seat {
         &mut self,
         alloc: Global,
         column: usize,
-        from: Place,
+        from: Station,
         inode: u64,
     ) -> Result<(), AllocError> {
         if self.takes_gate(from) {
@@ -78,7 +78,7 @@ impl Seat {
         &mut self,
         alloc: Global,
         column: usize,
-        from: Place,
+        from: Station,
         outcome: Outcome,
     ) -> Result<(), AllocError> {
         match outcome {
@@ -90,23 +90,28 @@ impl Seat {
     }
 
     /// A call of the client, whose walk was at a place, is answered.
-    pub fn answer(&mut self, column: usize, from: Place, answer: Answer) -> Result<(), AllocError> {
+    pub fn answer(
+        &mut self,
+        column: usize,
+        from: Station,
+        answer: Caption,
+    ) -> Result<(), AllocError> {
         self.course = None;
         self.note(
             column,
             match from {
-                Place::Idle => Event::Made(answer),
+                Station::Idle => Event::Made(answer),
                 _ => Event::Answered(answer),
             },
         )
     }
 
     /// All steps of a call were made, up to one that can't be made now: the walk is left at a place.
-    pub fn leave(&mut self, alloc: Global, column: usize, at: Place) -> Result<(), AllocError> {
+    pub fn leave(&mut self, alloc: Global, column: usize, at: Station) -> Result<(), AllocError> {
         if let Some(course) = &mut self.course {
             course.lose();
         }
-        if at != Place::Above {
+        if at != Station::Above {
             let name = String::from_str(alloc, "…")?;
             self.note(column, Event::Stands(Branch::Trunk, name))?;
         }
@@ -114,9 +119,9 @@ impl Seat {
     }
 
     // Whether the walk, which is at this place, has just become stale.
-    fn becomes_stale(&mut self, at: Place) -> bool {
+    fn becomes_stale(&mut self, at: Station) -> bool {
         match &mut self.course {
-            Some(course) if at == Place::Stale && !course.is_stale => {
+            Some(course) if at == Station::Stale && !course.is_stale => {
                 course.is_stale = true;
                 true
             }
@@ -125,7 +130,7 @@ impl Seat {
     }
 
     /// Where the walk is. If it has become stale, that was by the client of the row.
-    pub fn see(&mut self, column: usize, at: Place, mover: usize) -> Result<(), AllocError> {
+    pub fn see(&mut self, column: usize, at: Station, mover: usize) -> Result<(), AllocError> {
         if self.becomes_stale(at) {
             self.note(column, Event::Overtaken(mover))?;
         }

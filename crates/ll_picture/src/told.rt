@@ -1,6 +1,6 @@
 //! What is told of outcomes.
 
-use crate::scene::Answer;
+use crate::scene::Caption;
 use ll_rights::Errno;
 use ll_seq::Reply;
 use ll_steps::{Outcome, World};
@@ -74,8 +74,8 @@ fn short_of(alloc: Global, reply: &Reply) -> Result<String, AllocError> {
     }
 }
 
-fn answer_by(alloc: Global, reply: &Reply) -> Result<Answer, AllocError> {
-    Ok(Answer {
+fn answer_by(alloc: Global, reply: &Reply) -> Result<Caption, AllocError> {
+    Ok(Caption {
         text: short_of(alloc, reply)?,
         is_refusal: matches!(reply, Reply::Refused(_) | Reply::Denied(_)),
     })
@@ -86,7 +86,7 @@ pub fn answer_in(
     alloc: Global,
     world: &World,
     outcome: Outcome,
-) -> Result<Option<Answer>, AllocError> {
+) -> Result<Option<Caption>, AllocError> {
     match outcome {
         Outcome::Replied(number) => match reply_in(world, number) {
             Some(reply) => Ok(Some(answer_by(alloc, reply)?)),

@@ -1,7 +1,7 @@
 //! The row of a client.
 
 use crate::canvas::{Canvas, Cut, Point, SMALL};
-use crate::scene::{Answer, Branch, Event, Row};
+use crate::scene::{Branch, Caption, Event, Row};
 use crate::sheet::{MARGIN, STEP, Sheet};
 use crate::style::color_of;
 use std::alloc::{AllocError, Global};
@@ -178,7 +178,7 @@ impl<'a> Pen<'a> {
     }
 
     // What a call is answered, beside its point.
-    fn tell(&self, canvas: &mut Canvas, x: f64, answer: &Answer) -> Result<(), AllocError> {
+    fn tell(&self, canvas: &mut Canvas, x: f64, answer: &Caption) -> Result<(), AllocError> {
         let class = if answer.is_refusal {
             "reply refusal"
         } else {
@@ -204,7 +204,7 @@ impl<'a> Pen<'a> {
         }
     }
 
-    fn answer(&mut self, canvas: &mut Canvas, x: f64, answer: &Answer) -> Result<(), AllocError> {
+    fn answer(&mut self, canvas: &mut Canvas, x: f64, answer: &Caption) -> Result<(), AllocError> {
         let lowest = Point::new(x, self.lowest);
         self.end(canvas, x)?;
         self.draw_gate(canvas, x)?;

@@ -1,14 +1,13 @@
 //! Calls on descriptors.
 
-ghost use Rattle.std.specs.Prelude.{◌≡◌, ◌+◌, ◌<◌, ◌≤◌, ◌^◌, ◌||◌, [], Some, true, OnOk, OnErr, IfOk, IfErr, take, drop, length, nat_lt, slice_get};
-ghost use Rattle.ll_rights.specs.Map.{get, has, remove};
+ghost use Rattle.std.specs.Prelude.{◌≡◌, ◌+◌, ◌<◌, ◌≤◌, ◌||◌, [], Some, true, IfOk, IfErr, take, drop, slice_get};
+ghost use Rattle.ll_rights.specs.Map.{get, has};
 ghost use Rattle.ll_rights.specs.declared.errno.Errno.{Errno};
 ghost use Rattle.ll_seq.specs.State.{bytes_of};
 ghost use Rattle.ll_seq.specs.Stages.{without, is_too_long};
 ghost use Rattle.ll_seq.specs.Step.{client_of};
 ghost use Rattle.ll_plain.specs.Outcomes.{Comes, Steps};
 ghost use Rattle.ll_seq.specs.declared.call.Call.TheVariants as calls;
-ghost use Rattle.ll_seq.specs.declared.client.ClientRecord as record_of;
 
 use crate::Plain;
 use ll_decide::{Cause, Denial, Place};

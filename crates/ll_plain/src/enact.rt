@@ -6,25 +6,14 @@ ghost use Rattle.ll_seq.specs.Effects.{status_of, with_client};
 ghost use Rattle.ll_seq.specs.Reach.{HasName};
 ghost use Rattle.ll_seq.specs.Stages.{lowest_free};
 ghost use Rattle.ll_seq.specs.Step.{client_of};
-ghost use Rattle.ll_answer.specs.Effect.{Fits, FitsRule, HasRoom, after, descriptor_of, told, with_opening, with_rule_of};
+ghost use Rattle.ll_answer.specs.Effect.{Fits, FitsRule, HasRoom, after, told, with_opening, with_rule_of};
 ghost use Rattle.ll_answer.specs.Lean.{adds_nothing, is_short};
 
 use crate::Plain;
 use ll_answer::{Answer, Change, Opening, Rule};
 use ll_rights::Kind;
-use ll_seq::{Descriptor, Reply, Status};
+use ll_seq::{Reply, Status};
 use std::alloc::AllocError;
-
-fn descriptor(opening: &Opening<'_>, inode: u64) -> Descriptor
-    ensures { result ≡ descriptor_of opening.now inode }
-{
-    Descriptor {
-        inode,
-        reads: opening.reads,
-        writes: opening.writes,
-        kept: opening.kept,
-    }
-}
 
 impl Plain {
     fn status(&self, inode: u64, kind: Kind) -> Status
@@ -66,7 +55,7 @@ impl Plain {
     {
         let inode = self.next;
         self.add(&opening.at, Kind::Reg)?;
-        if let Err(error) = self.take(client, descriptor(opening, inode)) {
+        if let Err(error) = self.take(client, opening.descriptor(inode)) {
             self.take_name(&opening.at, inode);
             self.next -= 1;
             return Err(error);
@@ -89,7 +78,7 @@ impl Plain {
     {
         // What has a name has a node, by what the tables keep.
         let _ = &self.nodes;
-        let _ = self.take(client, descriptor(opening, inode))?;
+        let _ = self.take(client, opening.descriptor(inode))?;
         if opening.is_emptied {
             self.empty(inode);
         }

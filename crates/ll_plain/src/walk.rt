@@ -11,10 +11,10 @@ ghost use Rattle.ll_seq.specs.Stages as stages;
 ghost use Rattle.ll_plain.specs.Walking.{IsWalk, IsPathWalk};
 
 use crate::Plain;
-use ll_answer::{Spot, There};
+use ll_answer::{Spot, There, no_directory};
 use ll_decide::Masks;
 use ll_path::{Names, Path};
-use ll_rights::{Errno, Kind};
+use ll_rights::Errno;
 use ll_rules::Domain;
 use ll_seq::ROOT;
 
@@ -37,18 +37,6 @@ pub struct PathWalk {
     pub parent: Masks,
     /// What each layer grants on the path.
     pub itself: Masks,
-}
-
-/// Why a node of this kind is no directory. Where there is none, it is missing.
-fn no_directory(kind: Option<Kind>) -> Option<Errno>
-    ensures { result ≡ slice_get (stages.no_directory kind) 0 }
-{
-    match kind {
-        None => Some(Errno::ENOENT),
-        Some(Kind::Dir) => None,
-        Some(Kind::Sym) => Some(Errno::ELOOP),
-        Some(_) => Some(Errno::ENOTDIR),
-    }
 }
 
 /// The first of two refusals.

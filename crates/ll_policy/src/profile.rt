@@ -2,7 +2,6 @@
 
 ghost use Rattle.std.specs.Prelude.{bytes_eq, ◌≡◌, [], ◌∷◌, ◌++◌, ℕ, flat_map, map, OnOk, IfOk, string_bytes};
 ghost use Rattle.std.specs.List.{enumerate_from};
-ghost use Rattle.toml.specs.Data.{Members};
 ghost use Rattle.toml.specs.View.{table_view, items_view};
 ghost use Rattle.ll_policy.specs.Answers.{Reads};
 ghost use Rattle.ll_policy.specs.Calls.{IsRule, IsLayer, IsProfile, Joined};

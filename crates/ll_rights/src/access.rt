@@ -1,6 +1,6 @@
 //! Sets of rights.
 
-ghost use Rattle.std.specs.Prelude.{⊤, ◌≡◌, ◌≢◌, ◌<◌, ◌≤◌, ◌==◌, ◌^◌, ℕ, [], ◌∷◌, map, codes, nat_le, ◌&&◌, ◌||◌, bit_and, bit_or, string_bytes, IfOk, IfSome, IfNone};
+ghost use Rattle.std.specs.Prelude.{⊤, ◌≡◌, ◌≢◌, ◌<◌, ◌≤◌, ◌==◌, ◌^◌, ℕ, [], ◌∷◌, map, codes, nat_le, ◌&&◌, ◌||◌, bit_or, string_bytes, IfOk, IfSome, IfNone};
 ghost use Rattle.std.specs.List.{join_with_byte, slice_split, list_all};
 ghost use Rattle.std.specs.Char.{digit_char};
 ghost use Rattle.std.specs.Int.Digits.{digits_of};

@@ -1,6 +1,6 @@
 //! Layers.
 
-ghost use Rattle.std.specs.Prelude.{◌≡◌, ℕ, unwrap_or, OnOk, OnErr};
+ghost use Rattle.std.specs.Prelude.{◌≡◌, unwrap_or, OnOk, OnErr};
 ghost use Rattle.ll_rights.specs.Map.{get, has, len};
 ghost use Rattle.ll_rules.specs.Layer.{has_rule, restricts};
 ghost use Rattle.ll_rules.specs.Rules.{new_ruleset, with_rule};

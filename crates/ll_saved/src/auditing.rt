@@ -17,7 +17,7 @@ use thiserror::Error;
 
 /// Why an audit gives no answer.
 #[derive(Clone, Copy, Debug, PartialEq, Eq, Error)]
-pub enum AuditFailure {
+pub enum FileAuditFault {
     #[error("the history can't be read")]
     Read,
     #[error("the answer can't be written")]
@@ -27,16 +27,16 @@ pub enum AuditFailure {
 }
 
 // The whole file.
-fn read_file<R: Read>(alloc: Global, reader: &mut R) -> Result<Vec<u8>, AuditFailure>
+fn read_file<R: Read>(alloc: Global, reader: &mut R) -> Result<Vec<u8>, FileAuditFault>
     ensures bytes { IfOk result (λ bytes. IfSome (R.remaining reader.old) (λ told. bytes.items ≡ told)) }
     ensures end { OnOk result (IsAtEnd (R.remaining reader.new)) }
-    ensures failure { IfErr result (λ failure. failure ≢ AuditFailure.Write) }
+    ensures failure { IfErr result (λ failure. failure ≢ FileAuditFault.Write) }
 {
     let mut bytes = Vec::new(alloc);
     match reader.read_to_end(&mut bytes) {
         Ok(_) => Ok(bytes),
-        Err(error) if error.kind() == ErrorKind::OutOfMemory => Err(AuditFailure::NoMemory),
-        Err(_) => Err(AuditFailure::Read),
+        Err(error) if error.kind() == ErrorKind::OutOfMemory => Err(FileAuditFault::NoMemory),
+        Err(_) => Err(FileAuditFault::Read),
     }
 }
 
@@ -45,19 +45,19 @@ fn write_verdict<W: Write>(
     alloc: Global,
     verdict: Verdict,
     writer: &mut W,
-) -> Result<(), AuditFailure>
+) -> Result<(), FileAuditFault>
     ensures ok { OnOk result (Appends (W.contents writer.old) (W.contents writer.new) (verdict_line verdict)) }
-    ensures silent { IfErr result (λ failure. failure ≢ AuditFailure.Write
+    ensures silent { IfErr result (λ failure. failure ≢ FileAuditFault.Write
         → Keeps (W.contents writer.old) (W.contents writer.new)) }
-    ensures begun { result ≡ Err AuditFailure.Write
+    ensures begun { result ≡ Err FileAuditFault.Write
         → AppendsFront (W.contents writer.old) (W.contents writer.new) (verdict_line verdict) }
 {
     let Ok(line) = verdict.text(alloc) else {
-        return Err(AuditFailure::NoMemory);
+        return Err(FileAuditFault::NoMemory);
     };
     match write_whole(writer, line.as_str()) {
         Ok(()) => Ok(()),
-        Err(_) => Err(AuditFailure::Write),
+        Err(_) => Err(FileAuditFault::Write),
     }
 }
 
@@ -67,7 +67,7 @@ pub fn run_audit<R: Read, W: Write, P: Progress>(
     reader: &mut R,
     writer: &mut W,
     progress: &mut P,
-) -> Result<Verdict, AuditFailure>
+) -> Result<Verdict, FileAuditFault>
     ensures end { OnOk result (IsAtEnd (R.remaining reader.new)) }
     ensures verdict { IfOk result (λ verdict.
         IfSome (R.remaining reader.old) (λ bytes. Judges (pieces bytes) verdict)) }
@@ -75,9 +75,9 @@ pub fn run_audit<R: Read, W: Write, P: Progress>(
         Appends (W.contents writer.old) (W.contents writer.new) (verdict_line verdict)) }
 
     // Only a failed write leaves anything written: a beginning of the answer.
-    ensures silent { IfErr result (λ failure. failure ≢ AuditFailure.Write
+    ensures silent { IfErr result (λ failure. failure ≢ FileAuditFault.Write
         → Keeps (W.contents writer.old) (W.contents writer.new)) }
-    ensures begun { result ≡ Err AuditFailure.Write → (verdict : verdicts.Verdict)
+    ensures begun { result ≡ Err FileAuditFault.Write → (verdict : verdicts.Verdict)
         × IfSome (R.remaining reader.old) (λ bytes. Judges (pieces bytes) verdict)
         × AppendsFront (W.contents writer.old) (W.contents writer.new) (verdict_line verdict) }
 {
@@ -86,7 +86,7 @@ pub fn run_audit<R: Read, W: Write, P: Progress>(
         Err(failure) => return Err(failure),
     };
     let Ok(verdict) = judge(alloc, bytes.as_slice(), progress) else {
-        return Err(AuditFailure::NoMemory);
+        return Err(FileAuditFault::NoMemory);
     };
     match write_verdict(alloc, verdict, writer) {
         Ok(()) => Ok(verdict),

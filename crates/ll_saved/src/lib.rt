@@ -10,7 +10,7 @@ mod reading;
 mod saving;
 mod verdict;
 
-pub use auditing::{AuditFailure, run_audit};
+pub use auditing::{FileAuditFault, run_audit};
 pub use judging::judge;
 pub use progress::{Progress, Untold};
 pub use reading::{ReadFault, Saved};

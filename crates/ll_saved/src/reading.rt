@@ -57,10 +57,7 @@ fn take(told: &mut Vec<Entry>, alloc: Global, line: &[u8]) -> Result<(), ReadFau
         → (k ≡ length told.old.items + 2) × ((e : entries.Entry) → SpellsEntry line.now e → ⊥)) }
     ensures starved { IfErr result (λ fault. fault ≡ ReadFault.NoMemory → (e : entries.Entry) × SpellsEntry line.now e) }
 {
-    let entry = match entry_of(alloc, line, told.len() + 2) {
-        Ok(entry) => entry,
-        Err(fault) => return Err(fault),
-    };
+    let entry = entry_of(alloc, line, told.len() + 2)?;
     match told.push(entry) {
         Ok(()) => Ok(()),
         Err(refused) => {

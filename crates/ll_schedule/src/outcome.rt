@@ -1,6 +1,6 @@
 //! Lines of outcomes.
 
-ghost use Rattle.std.specs.Prelude.{◌≡◌, ℕ, [], ◌∷◌, IfErr, IfOk, codes, decimal, string_bytes};
+ghost use Rattle.std.specs.Prelude.{◌≡◌, [], ◌∷◌, IfErr, IfOk, decimal, string_bytes};
 ghost use Rattle.ll_seq.specs.declared.reply.Reply.{Reply};
 ghost use Rattle.ll_steps.specs.declared.outcome.Outcome.{Outcome};
 ghost use Rattle.ll_wire.specs.Grammar.{IsReply, line_of};

@@ -52,7 +52,6 @@ pub struct Schedule {
 
 impl Schedule {
     ghost use Rattle.ll_seq.specs.declared.reply.Reply.{Reply};
-    ghost use Rattle.ll_walks.specs.World as worlds;
 
     /// Before the first line.
     pub fn open(alloc: Global, setup: WorldSetup) -> Result<Schedule, AllocError>

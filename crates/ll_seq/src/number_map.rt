@@ -16,7 +16,7 @@ pub struct NumberMap<V> {
 }
 
 impl<V> Model for NumberMap<V> {
-    ghost use Rattle.std.specs.Prelude.{ℕ, IsTrue};
+    ghost use Rattle.std.specs.Prelude.{IsTrue};
     ghost use Rattle.std.specs.Ordering.{nat_cmp};
     ghost use Rattle.std.specs.Coded.{coded_ℕ};
     ghost use Rattle.std.specs.FinMap.Entries.{is_sorted};

@@ -14,10 +14,10 @@ use Rattle.ll_session.specs.declared.setup.Setup.{Setup}
 use Rattle.ll_session.specs.declared.tree.SessionTree.{SessionTree}
 use Rattle.ll_session.specs.Transcript.{Session, starved}
 use Rattle.ll_session.specs.Opening.{Coming, Connects, Comes, Loads, Opens, made, unconnected, unmade, begun, refused, fresh}
-use Rattle.ll_session.specs.declared.answer.Answer.{Answer}
-use Rattle.ll_session.specs.declared.answer.Refusal.{Refusal}
-use Rattle.ll_session.specs.declared.answer.Refusal.TheVariants.{AtCall, AtConnect}
-use Rattle.ll_session.specs.Progress.{StandsAt, answer_in, coming_in, written}
+use Rattle.ll_session.specs.declared.receipt.Receipt.{Receipt}
+use Rattle.ll_session.specs.declared.receipt.Refusal.{Refusal}
+use Rattle.ll_session.specs.declared.receipt.Refusal.TheVariants.{AtCall, AtConnect}
+use Rattle.ll_session.specs.Progress.{StandsAt, receipt_of, coming_in, written}
 use Rattle.ll_session.proofs.SessionPlaces.{after_first, how_many}
 
 pub loads_some : (s : Session) (loader : Option (Vec Call Global)) (calls : Vec Call Global) (list : List Call) (end : Coming) → loader ≡ Some calls → list ≡ calls.items
@@ -80,10 +80,10 @@ stands_fresh setup tree plain history clients = record {
 }
 
 -- who isn't connected, or makes not all calls, is refused
-pub at_either : (s t : Session) (calls : List Call) (tree : SessionTree) (answer : Answer) (refusal : Refusal) → answer ≡ answer_in refusal → Comes s calls (coming_in tree refusal t)
+pub at_either : (s t : Session) (calls : List Call) (tree : SessionTree) (answer : Receipt) (refusal : Refusal) → answer ≡ receipt_of refusal → Comes s calls (coming_in tree refusal t)
     → Comes s calls (unconnected (written tree answer) t) ⊎ Comes s calls (unmade (written tree answer) t)
-at_either s t calls tree answer (AtConnect errno) same comes = inl (subst (λ (a : Answer). Comes s calls (unconnected (written tree a) t)) (sym same) comes)
-at_either s t calls tree answer (AtCall told) same comes = inr (subst (λ (a : Answer). Comes s calls (unmade (written tree a) t)) (sym same) comes)
+at_either s t calls tree answer (AtConnect errno) same comes = inl (subst (λ (a : Receipt). Comes s calls (unconnected (written tree a) t)) (sym same) comes)
+at_either s t calls tree answer (AtCall told) same comes = inr (subst (λ (a : Receipt). Comes s calls (unmade (written tree a) t)) (sym same) comes)
 
 -- how many clients there are
 pub how_many_stand : (s : Session) (tree : SessionTree) → StandsAt tree s → tree.clients ≡ length s.clients

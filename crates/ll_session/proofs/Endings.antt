@@ -2,7 +2,7 @@
 use Rattle.std.proofs.Common.{◌≡◌, ℕ, List, [], Option, None, Some, refl, sym, subst, ◌∙◌, inl, inr}
 use Rattle.std.specs.Prelude.{IfSome, OnErr, Result, Ok, Err}
 use Rattle.std.specs.Io.KnownBytes.{Appends}
-use Rattle.ll_session.specs.declared.answer.Answer.{Answer}
+use Rattle.ll_session.specs.declared.receipt.Receipt.{Receipt}
 use Rattle.ll_session.specs.declared.tree.SessionTree.{SessionTree}
 use Rattle.ll_wire.specs.Grammar.{reply_line}
 use Rattle.ll_rights.specs.declared.errno.Errno.TheVariants.{NoMemory}
@@ -30,7 +30,7 @@ on_err (Err fault) p = p
 pub of_begun : (P : OpenSession → Type 0) (o : Opened) (session : OpenSession) → o ≡ opened.Begun session → IfBegun o P → P session
 of_begun P o session is h = subst (λ (x : Opened). IfBegun x P) is h
 
-pub of_refused : (P : SessionTree → Answer → Type 0) (o : Opened) (tree : SessionTree) (answer : Answer) → o ≡ opened.Refused tree answer → IfRefused o P → P tree answer
+pub of_refused : (P : SessionTree → Receipt → Type 0) (o : Opened) (tree : SessionTree) (answer : Receipt) → o ≡ opened.Refused tree answer → IfRefused o P → P tree answer
 of_refused P o tree answer is h = subst (λ (x : Opened). IfRefused x P) is h
 
 -- a session that is opened, and all of the input is read and answered

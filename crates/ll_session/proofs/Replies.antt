@@ -21,8 +21,8 @@ use Rattle.ll_plain.specs.Refusal.{is_refusal}
 use Rattle.ll_wire.specs.Entries.{IsEntry}
 use Rattle.ll_wire.specs.Grammar.{IsReply, SpellsCommand}
 use Rattle.ll_wire.specs.Reads.{ReadsBy, holds_text}
-use Rattle.ll_session.specs.declared.answer.Answer.{Answer}
-use Rattle.ll_session.specs.declared.answer.Answer.TheVariants.{Apart, Entered}
+use Rattle.ll_session.specs.declared.receipt.Receipt.{Receipt}
+use Rattle.ll_session.specs.declared.receipt.Receipt.TheVariants.{Apart, Entered}
 use Rattle.ll_session.specs.declared.tree.SessionTree.{SessionTree}
 use Rattle.ll_session.specs.Transcript.{Session, IsFull, Called, as_written, brought, next, answered, full, starved, calls, unread, bad}
 use Rattle.ll_session.specs.Progress.{StandsAt, AnswersLine, last_reply, placed, told_by, written}
@@ -31,7 +31,7 @@ use Rattle.ll_session.proofs.Cuts.{long}
 use Rattle.ll_session.proofs.SessionPlaces.{how_many, in_place, no_place, with_brought}
 
 -- the call is answered so, and this tree is left
-abbrev pub CalledBy : Session → ℕ → Call → Answer → SessionTree → Type 0
+abbrev pub CalledBy : Session → ℕ → Call → Receipt → SessionTree → Type 0
 CalledBy s n call answer left = (t : Session) × Called s n call (told_by left answer) t × StandsAt left t
 
 -- the piece is answered, and this tree is left
@@ -187,7 +187,7 @@ placed_refusal clients (Refused errno) is = refl
 placed_refusal clients (Denied denial) is = refl
 placed_refusal clients _ is = absurd cc
 
-pub called_at : (s : Session) (before after : SessionTree) (place : ℕ) (call : Call) (answer : Answer) → StandsAt before s → 1 ≤ place → place ≤ before.clients
+pub called_at : (s : Session) (before after : SessionTree) (place : ℕ) (call : Call) (answer : Receipt) → StandsAt before s → 1 ≤ place → place ≤ before.clients
     → CalledBy s (before.before + place) call answer after → CalledAt s place call (written after answer) after
 called_at s before after place call answer stands first last c =
     (before.before + place, told_by after answer, c.0, caller s before place stands first last, c.1, as_placed s c.0 (before.before + place) call (told_by after answer) after c.1 c.2, c.2)

@@ -14,10 +14,10 @@ use Rattle.ll_session.specs.declared.fault.SessionFault.TheVariants as fault
 use Rattle.ll_session.specs.declared.fault.RunFault.{RunFault}
 use Rattle.ll_session.specs.declared.fault.RunFault.TheVariants as run
 use Rattle.ll_session.specs.declared.setup.Setup.{Setup}
-use Rattle.ll_session.specs.declared.answer.Answer.{Answer}
-use Rattle.ll_session.specs.declared.answer.Answer.TheVariants.{Apart, Entered}
-use Rattle.ll_session.specs.declared.answer.Refusal.{Refusal}
-use Rattle.ll_session.specs.declared.answer.Refusal.TheVariants.{AtCall, AtConnect}
+use Rattle.ll_session.specs.declared.receipt.Receipt.{Receipt}
+use Rattle.ll_session.specs.declared.receipt.Receipt.TheVariants.{Apart, Entered}
+use Rattle.ll_session.specs.declared.receipt.Refusal.{Refusal}
+use Rattle.ll_session.specs.declared.receipt.Refusal.TheVariants.{AtCall, AtConnect}
 use Rattle.ll_session.specs.declared.tree.SessionTree.{SessionTree}
 use Rattle.ll_session.specs.declared.session.OpenSession.{OpenSession}
 use Rattle.ll_session.specs.declared.session.Opened.{Opened}
@@ -32,7 +32,7 @@ IfBegun (Begun session) P = P session
 IfBegun (Refused tree answer) P = ⊤
 
 -- this of the tree and the answer where it is refused
-abbrev pub IfRefused : Opened → (SessionTree → Answer → Type 0) → Type 0
+abbrev pub IfRefused : Opened → (SessionTree → Receipt → Type 0) → Type 0
 IfRefused (Begun session) P = ⊤
 IfRefused (Refused tree answer) P = P tree answer
 
@@ -42,16 +42,16 @@ OpensBadly setup run.Opening = Opens setup stopped
 OpensBadly setup (run.Session of) = of ≡ fault.NoMemory
 
 -- how what kept a client from its calls is answered
-abbrev pub answer_in : Refusal → Answer
-answer_in (AtConnect errno) = Apart errno
-answer_in (AtCall answer) = answer
+abbrev pub receipt_of : Refusal → Receipt
+receipt_of (AtConnect errno) = Apart errno
+receipt_of (AtCall answer) = answer
 
 -- the reply of the last entry
 abbrev pub last_reply : List Entry → Reply
 last_reply entries = option_map_or (λ entry. entry.reply) (slice_get entries (length entries - 1)) replies.Done
 
 -- the reply to a call that is answered so
-abbrev pub told_by : SessionTree → Answer → Reply
+abbrev pub told_by : SessionTree → Receipt → Reply
 told_by tree Entered = last_reply tree.history.entries
 told_by tree (Apart errno) = replies.Refused errno
 
@@ -61,7 +61,7 @@ placed clients (replies.Spawned number) = replies.Spawned clients
 placed clients reply = reply
 
 -- the same as it is written
-abbrev pub written : SessionTree → Answer → Reply
+abbrev pub written : SessionTree → Receipt → Reply
 written tree answer = placed tree.clients (told_by tree answer)
 
 -- how the coming of a client ends that this kept from its calls

@@ -1,12 +1,12 @@
 //! Sessions: scripts of command lines, run over a tree that clients share, from a reader to a writer.
 #![tactic(auto)]
 
-mod answer;
 mod fault;
 mod laws;
 mod line;
 mod line_reader;
 mod output;
+mod receipt;
 mod run;
 mod session;
 mod setup;

@@ -1,6 +1,6 @@
 //! Reading lines.
 
-ghost use Rattle.std.specs.Prelude.{◌≡◌, ◌≢◌, ◌<◌, ◌≤◌, ◌+◌, ◌∷◌, [], ℕ, List, true, false, Ok, IfOk, IfErr, OnOk, MatchOption, Err};
+ghost use Rattle.std.specs.Prelude.{◌≡◌, ◌≢◌, ◌<◌, ◌≤◌, ◌+◌, [], ℕ, List, true, false, Ok, IfOk, IfErr, OnOk, MatchOption, Err};
 ghost use Rattle.ll_session.specs.Cutting.{Counts, Cuts, Gives, IsLeft, Reading, most_left, most_reads};
 ghost use Rattle.ll_session.specs.declared.fault.SessionFault.{SessionFault};
 

@@ -6,8 +6,8 @@ ghost use Rattle.ll_wire.specs.Grammar.{IsReply, reply_line};
 ghost use Rattle.ll_wire.specs.Writing.{AppendsFront};
 ghost use Rattle.ll_session.specs.Progress.{IsOfWriting, written};
 
-use crate::answer::Answer;
 use crate::fault::SessionFault;
+use crate::receipt::Receipt;
 use crate::tree::SessionTree;
 use ll_wire::write_whole;
 use std::alloc::Global;
@@ -17,7 +17,7 @@ use std::io::Write;
 pub fn write_answer<W: Write>(
     alloc: Global,
     tree: &SessionTree,
-    answer: Answer,
+    answer: Receipt,
     writer: &mut W,
 ) -> Result<(), SessionFault>
     requires { IsReply (written tree.now answer) }

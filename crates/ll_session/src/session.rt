@@ -2,10 +2,10 @@
 
 ghost use Rattle.std.specs.Prelude.{◌≡◌, ◌<◌, ◌≤◌, ◌+◌, ◌-◌, ◌^◌, ℕ, List, OnOk, OnErr, IfErr, IfOk};
 
-use crate::answer::{Answer, Refusal};
 use crate::fault::{RunFault, SessionFault};
 use crate::line::Line;
 use crate::output::write_answer;
+use crate::receipt::{Receipt, Refusal};
 use crate::setup::Setup;
 use crate::tree::SessionTree;
 use ll_plain::Plain;
@@ -29,7 +29,7 @@ pub struct OpenSession {
 pub enum Opened {
     Begun(OpenSession),
     /// The tree, and how the connect or the profile's call is answered that is refused.
-    Refused(SessionTree, Answer),
+    Refused(SessionTree, Receipt),
 }
 
 impl OpenSession {
@@ -70,7 +70,7 @@ impl OpenSession {
         match tree.load(setup.loader) {
             Ok(()) => {}
             Err(Refusal::AtConnect(errno)) => {
-                return Ok(Opened::Refused(tree, Answer::Apart(errno)));
+                return Ok(Opened::Refused(tree, Receipt::Apart(errno)));
             }
             Err(Refusal::AtCall(_)) => return Err(RunFault::Opening),
         }
@@ -86,7 +86,7 @@ impl OpenSession {
     }
 
     // Makes the call that the line spells. How the line is answered, whether it spells one or not.
-    fn reply(&mut self) -> Answer
+    fn reply(&mut self) -> Receipt
         requires room { used self.old.tree < 2 ^ 64 - 1 }
         ensures answers { (s : Session) (piece : List ℕ) → Holds self.old.line piece → StandsAt self.old.tree s
             → (t : Session) × AnswersLine s piece (written self.new.tree result) t × StandsAt self.new.tree t }
@@ -95,11 +95,11 @@ impl OpenSession {
         ensures numbers { used self.new.tree ≤ used self.old.tree + 2 }
     {
         let Some(bytes) = self.line.bytes() else {
-            return Answer::Apart(Errno::BadLine);
+            return Receipt::Apart(Errno::BadLine);
         };
         match read_command(self.alloc, bytes, self.tree.clients) {
             Ok((place, call)) => self.tree.call_at(place, call),
-            Err(errno) => Answer::Apart(errno),
+            Err(errno) => Receipt::Apart(errno),
         }
     }
 

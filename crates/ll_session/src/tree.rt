@@ -10,7 +10,7 @@ ghost use Rattle.ll_wire.specs.Entries.{IsEntry};
 ghost use Rattle.ll_wire.proofs.OneProof.{spelled_props};
 ghost use Rattle.ll_wire.specs.Grammar.{IsReply, reply_line};
 
-use crate::answer::{Answer, Refusal, count_brought, is_refused, wants_memory};
+use crate::receipt::{Receipt, Refusal, count_brought, is_refused, wants_memory};
 use ll_plain::Plain;
 use ll_rights::Errno;
 use ll_seq::{Call, Entry, History, Reply};
@@ -33,7 +33,7 @@ pub struct SessionTree {
 impl SessionTree {
     ghost use Rattle.ll_session.specs.Transcript.{Session, AreOthers, Called, as_written};
     ghost use Rattle.ll_session.specs.Opening.{Connects, Comes, Loads, Makes, Stops, joined, made};
-    ghost use Rattle.ll_session.specs.Progress.{used, StandsAt, StaysSound, answer_in, coming_in, told_by, written};
+    ghost use Rattle.ll_session.specs.Progress.{used, StandsAt, StaysSound, receipt_of, coming_in, told_by, written};
 
     /// A fresh tree, to which nobody has connected, with an empty history.
     pub fn new(plain: Plain, history: History) -> SessionTree
@@ -66,33 +66,33 @@ impl SessionTree {
     }
 
     // Whether a call is refused, or denied, that is answered so.
-    fn is_refused(&self, answer: Answer) -> bool
+    fn is_refused(&self, answer: Receipt) -> bool
         ensures { result ≡ is_refusal (told_by self.now answer) }
     {
         match (answer, self.last_reply()) {
-            (Answer::Apart(_), _) => true,
-            (Answer::Entered, Some(reply)) => is_refused(reply),
-            (Answer::Entered, None) => false,
+            (Receipt::Apart(_), _) => true,
+            (Receipt::Entered, Some(reply)) => is_refused(reply),
+            (Receipt::Entered, None) => false,
         }
     }
 
     /// The reply's line of a call that is answered so. It names clients by their places.
-    pub fn text_of(&self, alloc: Global, answer: Answer) -> Result<String, AllocError>
+    pub fn text_of(&self, alloc: Global, answer: Receipt) -> Result<String, AllocError>
         requires { IsReply (written self.now answer) }
         ensures { IfOk result (λ text. string_bytes text ≡ reply_line (written self.now answer)) }
     {
         match (answer, self.last_reply()) {
-            (Answer::Apart(errno), _) => reply_text(alloc, &Reply::Refused(errno)),
-            (Answer::Entered, Some(Reply::Spawned(_))) => {
+            (Receipt::Apart(errno), _) => reply_text(alloc, &Reply::Refused(errno)),
+            (Receipt::Entered, Some(Reply::Spawned(_))) => {
                 reply_text(alloc, &Reply::Spawned(self.clients))
             }
-            (Answer::Entered, Some(reply)) => reply_text(alloc, reply),
-            (Answer::Entered, None) => reply_text(alloc, &Reply::Done),
+            (Receipt::Entered, Some(reply)) => reply_text(alloc, reply),
+            (Receipt::Entered, None) => reply_text(alloc, &Reply::Done),
         }
     }
 
     /// Makes the call of the client with this number. With its reply it becomes an entry.
-    pub fn call(&mut self, client: u64, call: Call) -> Answer
+    pub fn call(&mut self, client: u64, call: Call) -> Receipt
         requires first { 1 ≤ client }
         requires last { client ≤ self.old.before + self.old.clients }
         requires call { is_connect call ≡ false }
@@ -107,13 +107,13 @@ impl SessionTree {
     {
         if self.history.is_full() {
             drop(call);
-            return Answer::Apart(Errno::HistoryFull);
+            return Receipt::Apart(Errno::HistoryFull);
         }
         let fresh = self.before + self.clients + 1;
         let reply = self.plain.apply(client, &call, fresh);
         if wants_memory(&reply) {
             drop(call);
-            return Answer::Apart(Errno::NoMemory);
+            return Receipt::Apart(Errno::NoMemory);
         }
         is_spelled(&call);
         is_entered(&reply);
@@ -123,11 +123,11 @@ impl SessionTree {
             call,
             reply,
         });
-        Answer::Entered
+        Receipt::Entered
     }
 
     /// Makes the call of the session's client at this place.
-    pub fn call_at(&mut self, place: u64, call: Call) -> Answer
+    pub fn call_at(&mut self, place: u64, call: Call) -> Receipt
         requires first { 1 ≤ place }
         requires last { place ≤ self.old.clients }
         requires call { is_connect call ≡ false }
@@ -176,7 +176,7 @@ impl SessionTree {
     }
 
     // Makes the calls of a client in turn, up to the first that is refused.
-    fn make(&mut self, client: u64, calls: Vec<Call>) -> Result<(), Answer>
+    fn make(&mut self, client: u64, calls: Vec<Call>) -> Result<(), Receipt>
         requires before { self.old.before ≡ 0 }
         requires first { 1 ≤ client }
         requires last { client ≤ self.old.clients }
@@ -209,7 +209,7 @@ impl SessionTree {
             → (t : Session) × Comes s calls.items (made t) × StandsAt self.new t) }
         ensures err { IfErr result (λ refusal. (s : Session) → StandsAt self.old s
             → (t : Session) × Comes s calls.items (coming_in self.new refusal t) × StandsAt self.new t) }
-        ensures spelled { IfErr result (λ refusal. IsReply (written self.new (answer_in refusal))) }
+        ensures spelled { IfErr result (λ refusal. IsReply (written self.new (receipt_of refusal))) }
         ensures before { self.new.before ≡ 0 }
         ensures clients { OnOk result (self.old.clients < self.new.clients) }
         ensures numbers { used self.new ≤ used self.old + 2 ^ 60 }
@@ -237,7 +237,7 @@ impl SessionTree {
             → (t : Session) × Loads s loader (made t) × StandsAt self.new t) }
         ensures err { IfErr result (λ refusal. (s : Session) → StandsAt self.old s
             → (t : Session) × Loads s loader (coming_in self.new refusal t) × StandsAt self.new t) }
-        ensures spelled { IfErr result (λ refusal. IsReply (written self.new (answer_in refusal))) }
+        ensures spelled { IfErr result (λ refusal. IsReply (written self.new (receipt_of refusal))) }
         ensures before { self.new.before ≡ 0 }
         ensures numbers { used self.new ≤ used self.old + 2 ^ 60 }
     {

@@ -24,8 +24,8 @@ use Rattle.ll_walks.specs.World.{World, advance, shown, is_full, is_idle, is_on_
 use Rattle.ll_walks.proofs.Tests.{both}
 use Rattle.ll_journal.specs.Book.{Book, Spares, inode_in, slot_of}
 use Rattle.ll_journal.specs.Direct.{Answers, ComesBack, IsOpen, TakesMemory}
-use Rattle.ll_journal.specs.declared.direct.Answer.{Answer}
-use Rattle.ll_journal.specs.declared.direct.Answer.TheVariants as answer
+use Rattle.ll_journal.specs.declared.direct.Made.{Made}
+use Rattle.ll_journal.specs.declared.direct.Made.TheVariants as answer
 use Rattle.ll_journal.specs.declared.open_file.Unmade.{Unmade}
 use Rattle.ll_journal.specs.declared.open_file.Unmade.TheVariants as unmade
 use Rattle.ll_steps.specs.Contents.{accounts_of, answered_as, IsKept}
@@ -70,7 +70,7 @@ takes_so c (inl (rights, e)) = (ap spares_memory e, λ number f. cc (sym e ∙ f
 takes_so c (inr (inl (layer, e))) = (ap spares_memory e, λ number f. cc (sym e ∙ f))
 takes_so c (inr (inr e)) = (ap spares_memory e, λ number f. cc (sym e ∙ f))
 
-pub answer_makes : (b b' : Book) (step' : Step) (client : ℕ) (c : Call) (a : Answer) → step' ≢ Join → called b.world step' ≡ Some (client, c) → starved b.world step' ≡ b.world
+pub answer_makes : (b b' : Book) (step' : Step) (client : ℕ) (c : Call) (a : Made) → step' ≢ Join → called b.world step' ≡ Some (client, c) → starved b.world step' ≡ b.world
     → (a ≡ answer.NoMemory → MayTake c) → Answers b step' a b' → Makes b.world step' (answered_as (length b.world.history) a) b'.world
 answer_makes b b' step' client c answer.Replied other is same takes d = replied_makes b.world b'.world step' d.1 d.0 other d.2
 answer_makes b b' step' client c answer.HistoryFull other is same takes d = inl (full_told b.world b'.world step' d.0, d.0)
@@ -87,7 +87,7 @@ answer_makes b b' step' client c answer.NoMemory other is same takes d = inr (
   },
 )
 
-pub answer_keeps : (b b' : Book) (slots new : List Held) (step' : Step) (a : Answer) → IsKept b slots → Answers b step' a b' → new ≡ accounts_of b' → IsKept b' new
+pub answer_keeps : (b b' : Book) (slots new : List Held) (step' : Step) (a : Made) → IsKept b slots → Answers b step' a b' → new ≡ accounts_of b' → IsKept b' new
 answer_keeps b b' slots new step' answer.Replied h d e = kept_on b b' slots new step' (world.Replied d.1) h d.2 e
 answer_keeps b b' slots new step' answer.HistoryFull h d e = kept_on b b' slots new step' (world.Replied (Refused HistoryFull)) h d.0 e
 answer_keeps b b' slots new step' answer.NoMemory h d e = record {
@@ -96,14 +96,14 @@ answer_keeps b b' slots new step' answer.NoMemory h d e = record {
   within = subst (λ (b : Book). length b.world.history ≤ b.world.limit) (sym d.0) h.within;
 }
 
-pub answered_made : (number : ℕ) (a : Answer) → answered_as number a ≢ outcome.NotNow
+pub answered_made : (number : ℕ) (a : Made) → answered_as number a ≢ outcome.NotNow
 answered_made number answer.Replied e = cc e
 answered_made number answer.HistoryFull e = cc e
 answered_made number answer.NoMemory e = cc e
 
 -- ---- a call for the client alone
 
-pub alone_keeps : (b b' : Book) (slots : List Held) (client : ℕ) (c : Call) (r : Result Answer Call) → IsKept b slots → IfOk r (λ a. Answers b (ClientStep client c) a b') → OnErr r (b' ≡ b) → Spares b b' [] → IsKept b' slots
+pub alone_keeps : (b b' : Book) (slots : List Held) (client : ℕ) (c : Call) (r : Result Made Call) → IsKept b slots → IfOk r (λ a. Answers b (ClientStep client c) a b') → OnErr r (b' ≡ b) → Spares b b' [] → IsKept b' slots
 alone_keeps b b' slots client c (Ok a) h does same spares = answer_keeps b b' slots slots (ClientStep client c) a h does (h.accounts ∙ same_accounts b b' spares)
 alone_keeps b b' slots client c (Err back) h does same spares = kept_same b b' slots h same
 
@@ -174,7 +174,7 @@ file_near b client c back slot fd file e opened there comes =
     let held : file ≡ astray.file = same_Some file astray.file (sym opened.holds ∙ (λ i. get (caller i).descriptors (one i)) ∙ astray.is_open.holds) in
     astray.elsewhere (there ∙ ap (λ (f : Descriptor). f.inode) held)
 
-pub file_keeps : (b b' : Book) (slots : List Held) (client : ℕ) (c : Call) (slot : ℕ) (file : Held) (r : Result Answer Unmade) (F : Type 0) → IsKept b slots → slot < length b.inodes → IfOk r (λ a. Answers b (FdCommit client c) a b')
+pub file_keeps : (b b' : Book) (slots : List Held) (client : ℕ) (c : Call) (slot : ℕ) (file : Held) (r : Result Made Unmade) (F : Type 0) → IsKept b slots → slot < length b.inodes → IfOk r (λ a. Answers b (FdCommit client c) a b')
     → OnErr r ((b' ≡ b) × F) → file ≡ slot_of b' slot → Spares b b' (slot ∷ []) → IsKept b' (slice_set slots slot file)
 file_keeps b b' slots client c slot file (Ok a) F h there does same lent spares = answer_keeps b b' slots (slice_set slots slot file) (FdCommit client c) a h does (put_one b b' slots slot file h.accounts there spares lent)
 file_keeps b b' slots client c slot file (Err back) F h there does same lent spares = record {

@@ -32,8 +32,8 @@ use Rattle.ll_journal.specs.declared.outcome.Ending.{Ending}
 use Rattle.ll_journal.specs.declared.outcome.Ending.TheVariants as ending
 use Rattle.ll_journal.specs.declared.outcome.Outcome as told
 use Rattle.ll_journal.specs.declared.outcome.Outcome.TheVariants as tells
-use Rattle.ll_journal.specs.WalkPlaces.{place_at, place_of, place_in}
-use Rattle.ll_journal.specs.declared.place.Place.TheVariants as place
+use Rattle.ll_journal.specs.Stations.{station_at, station_of, station_in}
+use Rattle.ll_journal.specs.declared.station.Station.TheVariants as station
 use Rattle.ll_journal.proofs.Advancing.{descend_none, descend_stale, commit_none, commit_not_now, commit_replies}
 use Rattle.ll_journal.proofs.Ended.{gives_up}
 use Rattle.ll_steps.specs.Contents.{held_at, accounts_of, ended_as, IsKept}
@@ -44,29 +44,29 @@ use Rattle.ll_steps.proofs.LentContents.{put_back}
 
 -- ---- above the root
 
-above_place : (call : Call) (at : Position) → place_at call at ≡ place.Above → is_above at ≡ true
-above_place call Above e = refl
-above_place call (Down trunk) e = by (is_root trunk.ahead) (has_two_paths call) e
+above_station : (call : Call) (at : Position) → station_at call at ≡ station.Above → is_above at ≡ true
+above_station call Above e = refl
+above_station call (Down trunk) e = by (is_root trunk.ahead) (has_two_paths call) e
   where
-    by : (a b : Bool) → cond a (cond b place.Fork place.End) place.Trunk ≡ place.Above → false ≡ true
+    by : (a b : Bool) → cond a (cond b station.Fork station.End) station.Trunk ≡ station.Above → false ≡ true
     by true true f = absurd (cc f)
     by true false f = absurd (cc f)
     by false b f = absurd (cc f)
-above_place call (Split trunk old new) e = by (is_root old.ahead) (is_root new.ahead) e
+above_station call (Split trunk old new) e = by (is_root old.ahead) (is_root new.ahead) e
   where
-    by : (a b : Bool) → cond a (cond b place.End place.Second) place.First ≡ place.Above → false ≡ true
+    by : (a b : Bool) → cond a (cond b station.End station.Second) station.First ≡ station.Above → false ≡ true
     by true true f = absurd (cc f)
     by true false f = absurd (cc f)
     by false b f = absurd (cc f)
 
-pub at_top : (w : World) (number : ℕ) → place_in w number ≡ place.Above → is_at_top w number ≡ true
+pub at_top : (w : World) (number : ℕ) → station_in w number ≡ station.Above → is_at_top w number ≡ true
 at_top w number e = by (get w.walks number) e
   where
-    by : (o : Option Walk) → place_of o ≡ place.Above → option_map_or (λ (walk : Walk). is_above walk.at) o false ≡ true
+    by : (o : Option Walk) → station_of o ≡ station.Above → option_map_or (λ (walk : Walk). is_above walk.at) o false ≡ true
     by None f = absurd (cc f)
-    by (Some walk) f = elim walk.stale as (λ b. cond b place.Stale (place_at walk.call walk.at) ≡ place.Above → is_above walk.at ≡ true) [
+    by (Some walk) f = elim walk.stale as (λ b. cond b station.Stale (station_at walk.call walk.at) ≡ station.Above → is_above walk.at ≡ true) [
       | true ↦ λ g. absurd (cc g)
-      | false ↦ above_place walk.call walk.at
+      | false ↦ above_station walk.call walk.at
     ] f
 
 pub near_top : (b : Book) (number slot : ℕ) → is_at_top b.world number ≡ true → inode_in b slot ≡ root → IsAstrayAtTop b number slot → ⊥
@@ -102,7 +102,7 @@ turn_marked walk leg e = by walk.at e
 -- ---- descents that aren't enabled
 
 -- no leg stands, and the walk isn't above the root, or there is none
-pub nowhere : (w : World) (number : ℕ) → place_in w number ≢ place.Above → leg_in_turn w number ≡ None → advance w (Descend number) ≡ (NotNow, w)
+pub nowhere : (w : World) (number : ℕ) → station_in w number ≢ station.Above → leg_in_turn w number ≡ None → advance w (Descend number) ≡ (NotNow, w)
 nowhere w number low none = by (get w.walks number) refl
   where
     by : (o : Option Walk) → get w.walks number ≡ o → advance w (Descend number) ≡ (NotNow, w)
@@ -111,7 +111,7 @@ nowhere w number low none = by (get w.walks number) refl
       | true ↦ descend_stale w number walk is
       | false ↦ λ fresh. absurd (low (
           let above : walk.at ≡ Above = no_turn walk.at (sym (ap (option_and_then (λ (v : Walk). turn v.at)) is) ∙ none) in
-          ap place_of is ∙ ap (λ b. cond b place.Stale (place_at walk.call walk.at)) fresh ∙ ap (place_at walk.call) above))
+          ap station_of is ∙ ap (λ b. cond b station.Stale (station_at walk.call walk.at)) fresh ∙ ap (station_at walk.call) above))
     ] refl
 
 module _ (w : World) (number : ℕ) (walk : Walk) (is : get w.walks number ≡ Some walk) (fresh : walk.stale ≡ false) (leg : Leg) (in_turn : turn walk.at ≡ Some leg) where

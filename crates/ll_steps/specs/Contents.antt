@@ -9,8 +9,8 @@ use Rattle.ll_journal.specs.declared.outcome.Outcome as journal
 use Rattle.ll_journal.specs.declared.outcome.Outcome.TheVariants as told
 use Rattle.ll_journal.specs.declared.outcome.Ending.{Ending}
 use Rattle.ll_journal.specs.declared.outcome.Ending.TheVariants as ending
-use Rattle.ll_journal.specs.declared.direct.Answer.{Answer}
-use Rattle.ll_journal.specs.declared.direct.Answer.TheVariants as answer
+use Rattle.ll_journal.specs.declared.direct.Made.{Made}
+use Rattle.ll_journal.specs.declared.direct.Made.TheVariants as answer
 use Rattle.ll_rights.specs.declared.errno.Errno.TheVariants.{HistoryFull, NoMemory}
 use Rattle.ll_steps.specs.declared.outcome.Outcome.{Outcome}
 use Rattle.ll_steps.specs.declared.outcome.Outcome.TheVariants.{NotNow, Stands, Forked, Restarted, Replied, Refused}
@@ -36,7 +36,7 @@ told_as told.Forked = Forked
 told_as told.Restarted = Restarted
 
 -- what it tells of a call without a walk, whose entry would have this number
-abbrev pub answered_as : ℕ → Answer → Outcome
+abbrev pub answered_as : ℕ → Made → Outcome
 answered_as number answer.Replied = Replied number
 answered_as number answer.HistoryFull = Refused HistoryFull
 answered_as number answer.NoMemory = Refused NoMemory

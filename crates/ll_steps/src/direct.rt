@@ -1,23 +1,23 @@
 //! The calls that don't walk, and the coming of clients.
 
-ghost use Rattle.std.specs.Prelude.{◌≡◌, ◌≢◌, length, IfOk, IfErr, OnErr};
+ghost use Rattle.std.specs.Prelude.{◌≡◌, ◌≢◌, IfOk, IfErr, OnErr};
 ghost use Rattle.ll_steps.specs.Contents.{answered_as};
 ghost use Rattle.ll_walks.specs.World as world;
 
 use crate::outcome::Outcome;
 use crate::world::World;
-use ll_journal::{Answer, Unmade};
+use ll_journal::{Made, Unmade};
 use ll_rights::Errno;
 use ll_seq::Call;
 
 /// What comes of a call without a walk, where the history's next entry has this number.
-fn answered(number: u64, answer: Answer) -> Outcome
+fn answered(number: u64, answer: Made) -> Outcome
     ensures { result ≡ answered_as number answer }
 {
     match answer {
-        Answer::Replied => Outcome::Replied(number),
-        Answer::HistoryFull => Outcome::Refused(Errno::HistoryFull),
-        Answer::NoMemory => Outcome::Refused(Errno::NoMemory),
+        Made::Replied => Outcome::Replied(number),
+        Made::HistoryFull => Outcome::Refused(Errno::HistoryFull),
+        Made::NoMemory => Outcome::Refused(Errno::NoMemory),
     }
 }
 

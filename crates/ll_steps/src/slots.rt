@@ -13,9 +13,8 @@ use ll_held::Held;
 use ll_node::Slot;
 use ll_rights::Kind;
 use ll_rights::limits::TREE_CLIENTS;
+use ll_seq::ROOT;
 use std::alloc::{AllocError, Global};
-
-const ROOT: u64 = 1;
 
 /// What lies in a vacant slot. Takes no memory.
 pub(crate) fn vacant(alloc: Global) -> Held

@@ -16,7 +16,7 @@ use crate::outcome::Outcome;
 use crate::slots::{trade, vacant};
 use crate::world::World;
 use ll_held::Held;
-use ll_journal::{Ending, Journal, Outcome as Told, Place};
+use ll_journal::{Ending, Journal, Outcome as Told, Station};
 use ll_rights::Errno;
 use ll_seq::Call;
 use std::alloc::Global;
@@ -150,7 +150,7 @@ impl World {
     pub(crate) fn descend(&mut self, client: u64) -> Outcome
         ensures { Makes self.old (steps.Descend client) result self.new }
     {
-        if self.journal.place(client) == Place::Above {
+        if self.journal.station(client) == Station::Above {
             return self.enter(client);
         }
         let Some(from) = self.journal.turn_slot(client) else {
@@ -162,6 +162,7 @@ impl World {
         else {
             return Outcome::NotNow;
         };
+        // No directory has its own slot as a child's; this is what lets both be taken out at once.
         if from == to {
             return Outcome::NotNow;
         }

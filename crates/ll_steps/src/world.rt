@@ -5,7 +5,7 @@ ghost use Rattle.ll_rights.specs.declared.limits.TheConstants.{HISTORY_ENTRIES, 
 
 use crate::slots::new_slots;
 use ll_held::Held;
-use ll_journal::{Journal, Place};
+use ll_journal::{Journal, Station};
 use ll_seq::{History, Rules};
 use std::alloc::{AllocError, Global};
 use std::marker::Model;
@@ -36,7 +36,7 @@ impl Model for World {
 impl World {
     ghost use Rattle.ll_rights.specs.Map.{len};
     ghost use Rattle.ll_walks.specs.World.{new_world, shown};
-    ghost use Rattle.ll_journal.specs.WalkPlaces.{place_in};
+    ghost use Rattle.ll_journal.specs.Stations.{station_in};
 
     /// A tree of the root alone, in which so many nodes may live, without a client. Room is taken for so many entries of
     /// the history.
@@ -74,9 +74,9 @@ impl World {
     }
 
     /// Where the client's walk is.
-    pub fn place(&self, client: u64) -> Place
-        ensures { result ≡ place_in self.now client }
+    pub fn station(&self, client: u64) -> Station
+        ensures { result ≡ station_in self.now client }
     {
-        self.journal.place(client)
+        self.journal.station(client)
     }
 }

@@ -1,7 +1,7 @@
 //! A journal, by hand, as far as a step is lent no slot: two clients would rename, and the first of them holds the gate.
 
 use crate::calls::target;
-use ll_journal::{Answer, Journal, Outcome, Place};
+use ll_journal::{Journal, Made, Outcome, Station};
 use ll_rights::Abi;
 use ll_seq::{Call, Reply, Rules};
 use std::alloc::Global;
@@ -14,7 +14,7 @@ const RULES: Rules = Rules {
 /// Whether the client's call on itself is answered, and the journal's last entry tells so.
 fn spawns(journal: &mut Journal, client: u64) -> bool {
     let answered = journal.client_step(client, Call::Spawn);
-    let is_answered = matches!(answered, Ok(Answer::Replied));
+    let is_answered = matches!(answered, Ok(Made::Replied));
     drop(answered);
     match journal.entries().last() {
         Some(entry) => is_answered && matches!(entry.reply, Reply::Spawned(2)),
@@ -41,7 +41,7 @@ fn begins(journal: &mut Journal, alloc: Global) -> bool {
         && spawns(journal, 1)
         && renames(journal, alloc, 1)
         && !renames(journal, alloc, 2)
-        && journal.place(1) == Place::Above
+        && journal.station(1) == Station::Above
         && journal.fork(1) == Outcome::NotNow
 }
 

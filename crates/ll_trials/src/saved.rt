@@ -5,7 +5,7 @@ ghost use Rattle.std.specs.Prelude.{◌≡◌};
 use crate::fuse::{Sink, Source};
 use ll_audit::audit;
 use ll_rights::Abi;
-use ll_saved::{AuditFailure, SaveFault, Untold, Verdict, run_audit, save};
+use ll_saved::{FileAuditFault, SaveFault, Untold, Verdict, run_audit, save};
 use ll_seq::{Call, Entry, History, Reply, Rules};
 use ll_wire::{Header, Version};
 use std::alloc::Global;
@@ -262,7 +262,7 @@ fn saving_stops_at_a_failed_write(rt: HostRuntime) {
 }
 
 /// Audits the history by devices that take so many calls before they fail.
-fn audited(alloc: Global, reads: usize, writes: usize) -> (Result<Verdict, AuditFailure>, Sink) {
+fn audited(alloc: Global, reads: usize, writes: usize) -> (Result<Verdict, FileAuditFault>, Sink) {
     let mut reader = Source {
         rest: SAVED,
         calls: reads,
@@ -278,7 +278,7 @@ fn stops_reading(alloc: Global, reads: usize) -> bool {
     if reads > SAVED.len() {
         return ended == Ok(Verdict::Legal(1)) && writer.held.as_slice() == ANSWER;
     }
-    ended == Err(AuditFailure::Read) && writer.held.is_empty()
+    ended == Err(FileAuditFault::Read) && writer.held.is_empty()
 }
 
 /// Whether the write after so many fails and ends the audit, and what came before it is right.
@@ -287,7 +287,7 @@ fn stops_answering(alloc: Global, writes: usize) -> bool {
     if writes >= ANSWER.len() {
         return ended == Ok(Verdict::Legal(1)) && writer.held.as_slice() == ANSWER;
     }
-    ended == Err(AuditFailure::Write) && writer.held.as_slice() == &ANSWER[..writes]
+    ended == Err(FileAuditFault::Write) && writer.held.as_slice() == &ANSWER[..writes]
 }
 
 #[test]

@@ -2,7 +2,7 @@
 
 ghost use Rattle.std.specs.Prelude.{◌≡◌, ◌≤◌, ◌∷◌, true, map, codes};
 ghost use Rattle.ll_wire.specs.Grammar.{mode_text, SpellsTarget, SpellsCommand};
-ghost use Rattle.ll_wire.specs.Parts.{Reads, ReadsCall, SpellsOneTarget, SpellsTwoTargets, SpellsCall, SpellsTokens};
+ghost use Rattle.ll_wire.specs.Parts.{Reads, ReadsCall, SpellsOneTarget, SpellsTwoTargets, SpellsTokens};
 ghost use Rattle.ll_wire.specs.Reads.{ReadsBy, holds_text, Finds};
 
 use crate::bytes::data_of;

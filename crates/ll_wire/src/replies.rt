@@ -1,6 +1,6 @@
 //! Reading replies.
 
-ghost use Rattle.std.specs.Prelude.{◌≡◌, ◌<◌, ◌^◌, ◌==◌, ◌∷◌, [], true, false, map, codes, decimal, IfOk, MatchBool};
+ghost use Rattle.std.specs.Prelude.{◌≡◌, ◌<◌, ◌==◌, ◌∷◌, true, false, map, codes, IfOk, MatchBool};
 ghost use Rattle.std.specs.List.{slice_split};
 ghost use Rattle.ll_seq.specs.Listed.{AreListed};
 ghost use Rattle.ll_seq.specs.declared.reply.Reply.{Reply};

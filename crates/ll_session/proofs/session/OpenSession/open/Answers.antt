@@ -1,7 +1,7 @@
 use Rattle.std.proofs.Common.{refl, sym, subst, inl, inr}
 use Rattle.ll_rights.specs.declared.errno.Errno.{Errno}
 use Rattle.ll_seq.specs.declared.reply.Reply.TheVariants.{Refused}
-use Rattle.ll_session.specs.declared.answer.Refusal.{Refusal}
+use Rattle.ll_session.specs.declared.receipt.Refusal.{Refusal}
 use Rattle.ll_session.specs.Opening.{Loads, fresh, unconnected}
 use Rattle.ll_session.specs.Progress.{coming_in}
 use Rattle.ll_session.proofs.Coming.{at_either, opened}

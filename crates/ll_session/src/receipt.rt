@@ -5,14 +5,14 @@ ghost use Rattle.ll_rights.specs.declared.errno.Errno.{Errno};
 ghost use Rattle.ll_seq.specs.declared.reply.Reply.{Reply};
 ghost use Rattle.ll_plain.specs.Refusal.{is_refusal};
 ghost use Rattle.ll_session.specs.Transcript.{brought};
-ghost use Rattle.ll_session.specs.Progress.{answer_in};
+ghost use Rattle.ll_session.specs.Progress.{receipt_of};
 
 use ll_rights::Errno;
 use ll_seq::Reply;
 
 /// How a call is answered.
 #[derive(Clone, Copy)]
-pub enum Answer {
+pub enum Receipt {
     /// By the reply of the history's last entry.
     Entered,
     /// By a refusal that stands in no history.
@@ -25,16 +25,16 @@ pub enum Refusal {
     /// Its connect is refused.
     AtConnect(Errno),
     /// One of its calls is.
-    AtCall(Answer),
+    AtCall(Receipt),
 }
 
 impl Refusal {
     /// How the connect or the call is answered.
-    pub fn answer(self) -> Answer
-        ensures { result ≡ answer_in self }
+    pub fn answer(self) -> Receipt
+        ensures { result ≡ receipt_of self }
     {
         match self {
-            Refusal::AtConnect(errno) => Answer::Apart(errno),
+            Refusal::AtConnect(errno) => Receipt::Apart(errno),
             Refusal::AtCall(answer) => answer,
         }
     }

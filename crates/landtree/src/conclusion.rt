@@ -6,21 +6,21 @@ ghost use Rattle.landtree.specs.Failure.{status_by};
 use ll_saved::Verdict;
 
 #[derive(Clone, Copy, Debug)]
-pub enum Outcome {
+pub enum Conclusion {
     /// A script is run to its end, or a text of clap's is printed.
     Done,
     /// A history is judged.
     Judged(Verdict),
 }
 
-impl Outcome {
+impl Conclusion {
     /// The program's exit status.
     pub fn status(self) -> u8
         ensures { result ≡ status_by self }
     {
         match self {
-            Outcome::Done | Outcome::Judged(Verdict::Legal(_)) => 0,
-            Outcome::Judged(Verdict::Illegal(_) | Verdict::BadLine(_)) => 3,
+            Conclusion::Done | Conclusion::Judged(Verdict::Legal(_)) => 0,
+            Conclusion::Judged(Verdict::Illegal(_) | Verdict::BadLine(_)) => 3,
         }
     }
 }

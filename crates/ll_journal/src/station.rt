@@ -2,7 +2,7 @@
 
 /// Where a client's walk is, as far as it can be told without a look at a directory.
 #[derive(Clone, Copy, Debug, PartialEq, Eq)]
-pub enum Place {
+pub enum Station {
     /// No walk is under way.
     Idle,
     /// A directory on its way was moved: it has to start again.
