@@ -6,15 +6,15 @@ use Rattle.ll_decide.specs.declared.denial.Denial.{Denial}
 use Rattle.ll_decide.specs.declared.demands.Demands.{Demands}
 use Rattle.ll_decide.specs.Judge.{grants_along}
 use Rattle.ll_decide.specs.Verdict.{verdict}
-use Rattle.ll_seq.specs.Asked.{call_denials, grants, asked, moved}
+use Rattle.ll_seq.specs.Asked.{call_denials, grants}
+use Rattle.ll_seq.specs.CallParts.{asked, moved, done, existence_refusals, kind_refusals, limit_refusals}
 use Rattle.ll_seq.specs.Call.{first_path, second_path}
 use Rattle.ll_seq.specs.declared.call.Call.{Call}
 use Rattle.ll_seq.specs.declared.call.Call.TheVariants.{Make, Open, Read, Write, Ftruncate, Close, Truncate, ReadDir, Stat, Exec, Unlink, Rmdir, Rename, RenameNoreplace, Exchange, Link, Ruleset, Allow, Confine, Spawn, Connect}
 use Rattle.ll_seq.specs.declared.client.ClientRecord.{ClientRecord}
 use Rattle.ll_seq.specs.declared.reply.Reply.{Reply}
 use Rattle.ll_seq.specs.declared.reply.Reply.TheVariants.{Refused, Denied}
-use Rattle.ll_seq.specs.Effects.{done}
-use Rattle.ll_seq.specs.Stages.{text_refusals, number_refusals, relation_refusals, walk_refusals, existence_refusals, kind_refusals, limit_refusals}
+use Rattle.ll_seq.specs.Stages.{text_refusals, number_refusals, relation_refusals, walk_refusals}
 use Rattle.ll_seq.specs.State.{State}
 use Rattle.ll_seq.specs.Step.{step, first_or, refusals, client_of}
 use Rattle.ll_answer.proofs.Asking.{verdict_same}

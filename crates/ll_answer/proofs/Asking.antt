@@ -16,7 +16,8 @@ use Rattle.ll_decide.proofs.Mapped.{verdict-map}
 use Rattle.ll_decide.specs.Demands.{AreAsks, AreMoves, ask_on}
 use Rattle.ll_decide.specs.Judge.{grants_along}
 use Rattle.ll_decide.specs.Verdict.{Ask, Move, when, verdict}
-use Rattle.ll_seq.specs.Asked.{grants, ask, asked, moved, opening_asked, parents_differ, leaves, enters, refers, goes}
+use Rattle.ll_seq.specs.Asked.{grants, ask, opening_asked, parents_differ, leaves, enters, refers, goes}
+use Rattle.ll_seq.specs.CallParts.{asked, moved}
 use Rattle.ll_seq.specs.Call.{reads, writes, first_path, second_path}
 use Rattle.ll_seq.specs.declared.call.Call.{Call}
 use Rattle.ll_seq.specs.declared.call.Mode.{Mode}

@@ -11,7 +11,8 @@ use Rattle.ll_seq.specs.Call.{first_of, second_of, first_path, second_path, targ
 use Rattle.ll_seq.specs.declared.call.Call.{Call}
 use Rattle.ll_seq.specs.declared.call.Call.TheVariants.{Make, Open, Read, Write, Ftruncate, Close, Truncate, ReadDir, Stat, Exec, Unlink, Rmdir, Rename, RenameNoreplace, Exchange, Link, Ruleset, Allow, Confine, Spawn, Connect}
 use Rattle.ll_seq.specs.declared.client.ClientRecord.{ClientRecord}
-use Rattle.ll_seq.specs.Stages.{in_the_way, way_to, missing, present, text_refusals, number_refusals, relation_refusals, walk_refusals, existence_refusals}
+use Rattle.ll_seq.specs.Stages.{in_the_way, way_to, missing, present, text_refusals, number_refusals, relation_refusals, walk_refusals}
+use Rattle.ll_seq.specs.CallParts.{existence_refusals}
 use Rattle.ll_seq.specs.State.{State, root}
 use Rattle.ll_seq.specs.Tree.{named}
 use Rattle.ll_answer.specs.declared.found.Found.{Found}

@@ -10,7 +10,7 @@ use Rattle.ll_decide.specs.declared.demands.On.TheVariants.{Itself, Other, Paren
 use Rattle.ll_decide.specs.declared.demands.Way.{Way}
 use Rattle.ll_decide.specs.Demands.{AreAsks, AreMoves, ask_on, move_on}
 use Rattle.ll_decide.specs.Verdict.{Ask, Move, when}
-use Rattle.ll_seq.specs.Asked.{asked, moved}
+use Rattle.ll_seq.specs.CallParts.{asked, moved}
 use Rattle.ll_seq.specs.Call.{reads, writes, first_path, second_path}
 use Rattle.ll_seq.specs.declared.call.Call.{Call}
 use Rattle.ll_seq.specs.declared.call.Mode.{Mode}

@@ -4,6 +4,7 @@ ghost use Rattle.std.specs.Prelude.{◌≡◌, ◌++◌, None, true, slice_get};
 ghost use Rattle.ll_rights.specs.Errno.{refuse};
 ghost use Rattle.ll_path.specs.Path.{is_root};
 ghost use Rattle.ll_seq.specs.Call.{path_of, first_path, second_path};
+ghost use Rattle.ll_seq.specs.CallParts.{existence_refusals};
 ghost use Rattle.ll_seq.specs.Stages as stages;
 ghost use Rattle.ll_seq.specs.State.{State};
 ghost use Rattle.ll_answer.specs.Found.{AreFacts, Stands};
@@ -143,7 +144,7 @@ fn walk_refusal(call: &Call, found: &Found) -> Option<Errno>
 
 fn existence_refusal(call: &Call, old: &Spot, new: &Spot) -> Option<Errno>
     ensures { (s : State) → Stands s (first_path call.now) old.now → Stands s (second_path call.now) new.now
-        → result ≡ slice_get (stages.existence_refusals s call.now (first_path call.now) (second_path call.now)) 0 }
+        → result ≡ slice_get (existence_refusals s call.now (first_path call.now) (second_path call.now)) 0 }
 {
     let missing = refuse(!old.exists(), Errno::ENOENT);
     let present = refuse(old.exists(), Errno::EEXIST);

@@ -6,7 +6,7 @@ ghost use Rattle.ll_path.specs.Path.{Path};
 ghost use Rattle.ll_rules.specs.Rules.{rule_refusals, rule_limit};
 ghost use Rattle.ll_seq.specs.Call.{first_path, second_path};
 ghost use Rattle.ll_seq.specs.Stages as stages;
-ghost use Rattle.ll_seq.specs.Stages.{kind_refusals, limit_refusals};
+ghost use Rattle.ll_seq.specs.CallParts.{kind_refusals, limit_refusals, not_to_open, not_to_truncate};
 ghost use Rattle.ll_seq.specs.State.{State};
 ghost use Rattle.ll_seq.specs.Tree.{named, inode_of};
 ghost use Rattle.ll_answer.specs.Found.{Stands};
@@ -19,7 +19,7 @@ use ll_rights::{Access, Errno, Kind};
 use ll_seq::{Call, ClientRecord};
 
 fn not_to_open(kind: Kind) -> Option<Errno>
-    ensures { result ≡ slice_get (stages.not_to_open kind) 0 }
+    ensures { result ≡ slice_get (not_to_open kind) 0 }
 {
     match kind {
         Kind::Reg => None,
@@ -30,7 +30,7 @@ fn not_to_open(kind: Kind) -> Option<Errno>
 }
 
 fn not_to_truncate(kind: Kind) -> Option<Errno>
-    ensures { result ≡ slice_get (stages.not_to_truncate kind) 0 }
+    ensures { result ≡ slice_get (not_to_truncate kind) 0 }
 {
     match kind {
         Kind::Reg => None,

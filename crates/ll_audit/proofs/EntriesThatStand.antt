@@ -9,7 +9,7 @@ use Rattle.ll_seq.specs.declared.reply.Entry.{Entry}
 use Rattle.ll_seq.specs.declared.reply.Reply.{Reply}
 use Rattle.ll_seq.specs.declared.reply.Reply.TheVariants.{Done, Spawned}
 use Rattle.ll_seq.specs.Call.{first_path, second_path}
-use Rattle.ll_seq.specs.Effects.{done}
+use Rattle.ll_seq.specs.CallParts.{done}
 use Rattle.ll_seq.specs.History.{is_connect, fresh_of, MayStand, after}
 use Rattle.ll_seq.specs.State.{State}
 use Rattle.ll_seq.specs.Step.{step, first_or, refusals, client_of}

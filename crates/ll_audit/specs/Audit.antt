@@ -1,6 +1,6 @@
 -- What an audit tells. own
 use Rattle.std.specs.Prelude.{◌≡◌, ℕ, ◌≤◌, ◌-◌, true, List, [], length, take, Some, slice_get}
-use Rattle.ll_plain.specs.Memory.{takes_memory}
+use Rattle.ll_seq.specs.Memory.{takes_memory}
 use Rattle.ll_seq.specs.declared.reply.Entry.{Entry}
 use Rattle.ll_seq.specs.History.{IsLegal, state_after}
 use Rattle.ll_seq.specs.State.{State}

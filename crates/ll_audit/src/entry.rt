@@ -2,7 +2,7 @@
 
 ghost use Rattle.std.specs.Prelude.{◌≡◌, ◌<◌, ◌≤◌, ◌+◌, ◌-◌, ◌^◌, ◌↔◌, ℕ, [], true, IsTrue, IfOk, OnErr};
 ghost use Rattle.ll_rights.specs.Map.{has};
-ghost use Rattle.ll_plain.specs.Memory.{takes_memory};
+ghost use Rattle.ll_seq.specs.Memory.{takes_memory};
 ghost use Rattle.ll_seq.specs.History.{is_connect, MayStand, after};
 ghost use Rattle.ll_seq.specs.Step.{client_of, refusals};
 

@@ -21,7 +21,8 @@ use Rattle.ll_seq.specs.Call.{path_of}
 use Rattle.ll_seq.specs.State.{Name, State, child, kind_of, bytes_of, empty_node}
 use Rattle.ll_seq.specs.Tree.{named, inode_of, directory_of, kind_or_file}
 use Rattle.ll_seq.specs.Step.{step, refusals, first_or, client_of}
-use Rattle.ll_seq.specs.Effects.{lives, let_go, with_name, with_node, without_name, with_moved, renamed, with_bytes, with_size, written, resized, overwritten, inode_at, dentry_of, with_client, with_opened, emptied, after_opening}
+use Rattle.ll_seq.specs.Effects.{lives, let_go, with_name, with_node, without_name, with_moved, renamed, with_bytes, with_size, written, resized, overwritten, inode_at, dentry_of, with_client, with_opened, emptied}
+use Rattle.ll_seq.specs.CallParts.{after_opening}
 use Rattle.ll_laws.proofs.Trees.{IsTree}
 use Rattle.ll_laws.proofs.Gain.{done_of, named_below}
 use Rattle.ll_changes.specs.Accounts.{names_map}

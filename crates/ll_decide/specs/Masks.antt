@@ -1,4 +1,5 @@
--- Masks: the sets of rights that a domain's layers grant on a chain of inodes from the root on. own
+-- Masks: the sets of rights that a domain's layers grant on a chain of inodes from the root on. Cited by contracts
+-- between crates alone. own
 use Rattle.std.specs.Prelude.{◌≡◌, ℕ, ◌^◌, ◌<◌, List, map}
 use Rattle.std.specs.List.{AllZip}
 use Rattle.ll_rights.specs.Access.{holds}

@@ -26,8 +26,9 @@ use Rattle.ll_seq.specs.declared.rules.Rules.{Rules}
 use Rattle.ll_seq.specs.Call.{path_of}
 use Rattle.ll_seq.specs.State.{State, start, root, child, kind_of, bytes_of, name_count, is_open, new_client}
 use Rattle.ll_seq.specs.Tree.{end_from, named, inode_of, kind_or_file}
-use Rattle.ll_seq.specs.Stages.{lowest_free, not_to_open}
-use Rattle.ll_seq.specs.Effects.{dentry_of, lives, let_go, with_client, with_node, with_bytes, with_name, with_moved, renamed, exchanged, with_opened, opened, emptied, inode_at, overwritten, child_of}
+use Rattle.ll_seq.specs.Stages.{lowest_free}
+use Rattle.ll_seq.specs.CallParts.{not_to_open, opened, exchanged}
+use Rattle.ll_seq.specs.Effects.{dentry_of, lives, let_go, with_client, with_node, with_bytes, with_name, with_moved, renamed, with_opened, emptied, inode_at, overwritten, child_of}
 use Rattle.ll_seq.specs.Step.{step, refusals, first_or, client_of}
 use Rattle.ll_seq.specs.Facts.{opens_in, open_count}
 use Rattle.ll_seq.specs.History.{state_after, after}

@@ -29,7 +29,8 @@ use Rattle.ll_seq.specs.declared.reply.Reply.TheVariants.{Done, Created, Spawned
 use Rattle.ll_seq.specs.Asked.{grants}
 use Rattle.ll_seq.specs.Effects.{with_client, child_of}
 use Rattle.ll_seq.specs.Fails.{Fails}
-use Rattle.ll_seq.specs.Stages.{ruleset_at, text_refusals, number_refusals, relation_refusals, walk_refusals, existence_refusals, kind_refusals, limit_refusals}
+use Rattle.ll_seq.specs.Stages.{ruleset_at, text_refusals, number_refusals, relation_refusals, walk_refusals}
+use Rattle.ll_seq.specs.CallParts.{existence_refusals, kind_refusals, limit_refusals}
 use Rattle.ll_seq.specs.Call.{first_path, second_path}
 use Rattle.ll_seq.specs.Asked.{call_denials}
 use Rattle.ll_walks.specs.World.{early_refusals}

@@ -17,8 +17,8 @@ use Rattle.ll_seq.specs.declared.reply.Reply.{Reply}
 use Rattle.ll_seq.specs.declared.reply.Reply.TheVariants as reply
 use Rattle.ll_seq.specs.Asked.{call_denials}
 use Rattle.ll_seq.specs.Call.{first_path, second_path}
-use Rattle.ll_seq.specs.Effects.{done}
-use Rattle.ll_seq.specs.Stages.{missing, existence_refusals, kind_refusals, limit_refusals}
+use Rattle.ll_seq.specs.CallParts.{done, existence_refusals, kind_refusals, limit_refusals}
+use Rattle.ll_seq.specs.Stages.{missing}
 use Rattle.ll_seq.specs.State.{State, kind_of, new_client}
 use Rattle.ll_seq.specs.Step.{client_of, first_or, refusals}
 use Rattle.ll_seq.specs.Tree.{named, ancestors}

@@ -19,8 +19,8 @@ use Rattle.ll_seq.specs.declared.node.Node.{Node}
 use Rattle.ll_seq.specs.State.{Name, dentry, dentry_cmp, State, child, root, kind_of, empty_node, name_count, is_open}
 use Rattle.ll_seq.specs.Tree.{end_from, named, inode_of}
 use Rattle.ll_seq.specs.Asked.{grants}
-use Rattle.ll_seq.specs.Effects.{dentry_of, lives, let_go, with_name, with_moved, with_node, without_name, with_bytes, with_client, exchanged}
-use Rattle.ll_seq.specs.Reach.{is_relevant}
+use Rattle.ll_seq.specs.Effects.{dentry_of, lives, let_go, with_name, with_moved, with_node, without_name, with_bytes, with_client}
+use Rattle.ll_seq.specs.CallParts.{exchanged, is_relevant}
 use Rattle.ll_seq.proofs.DentryOrder.{dentry_total, dentry_exact}
 use Rattle.ll_seq.proofs.CutChains.{end_append}
 use Rattle.ll_laws.proofs.Chains.{same_Some, NotFile}

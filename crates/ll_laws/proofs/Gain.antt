@@ -35,12 +35,13 @@ use Rattle.ll_seq.specs.declared.rules.Rules.{Rules}
 use Rattle.ll_seq.specs.Call.{path_of, first_path, second_path}
 use Rattle.ll_seq.specs.State.{Name, dentry, dentry_cmp, State, child, root, kind_of, start, empty_node, bytes_of}
 use Rattle.ll_seq.specs.Tree.{named, inode_of, ancestors, kind_or_file, kind_at}
-use Rattle.ll_seq.specs.Asked.{grants, parents_differ, goes, asked, moved, call_denials}
-use Rattle.ll_seq.specs.Stages.{lying, in_the_way, way_to, missing, present, number_refusals, relation_refusals, walk_refusals, existence_refusals, kind_refusals}
-use Rattle.ll_seq.specs.Effects.{done, dentry_of, let_go, with_moved, renamed, with_node, with_opened, emptied, with_bytes, with_client, overwritten, inode_at, exchanged}
+use Rattle.ll_seq.specs.Asked.{grants, parents_differ, goes, call_denials}
+use Rattle.ll_seq.specs.CallParts.{asked, moved, existence_refusals, kind_refusals, done, exchanged, is_relevant}
+use Rattle.ll_seq.specs.Stages.{lying, in_the_way, way_to, missing, present, number_refusals, relation_refusals, walk_refusals}
+use Rattle.ll_seq.specs.Effects.{dentry_of, let_go, with_moved, renamed, with_node, with_opened, emptied, with_bytes, with_client, overwritten, inode_at}
 use Rattle.ll_seq.specs.Step.{step, refusals, first_or, client_of}
 use Rattle.ll_seq.specs.History.{MayStand, IsLegal, state_after, after}
-use Rattle.ll_seq.specs.Reach.{InReach, is_relevant}
+use Rattle.ll_seq.specs.Reach.{InReach}
 use Rattle.ll_laws.specs.NoGain.{is_move, MovesUnder, NoGain}
 use Rattle.ll_laws.proofs.Chains.{NotFile, chain_front}
 use Rattle.ll_seq.proofs.Histories.{after_append, legal_late}

@@ -17,8 +17,9 @@ use Rattle.ll_seq.specs.declared.call.Call.TheVariants.{Open, Truncate}
 use Rattle.ll_seq.specs.Call.{reads, writes, path_of}
 use Rattle.ll_seq.specs.State.{State, root, kind_of}
 use Rattle.ll_seq.specs.Tree.{named}
-use Rattle.ll_seq.specs.Asked.{grants, asked, moved, call_denials}
-use Rattle.ll_seq.specs.Reach.{InReach, is_relevant}
+use Rattle.ll_seq.specs.Asked.{grants, call_denials}
+use Rattle.ll_seq.specs.CallParts.{asked, moved, is_relevant}
+use Rattle.ll_seq.specs.Reach.{InReach}
 use Rattle.ll_seq.proofs.Parted.{last}
 use Rattle.ll_laws.proofs.Relevant.{for_bytes}
 use Rattle.ll_laws.proofs.Trees.{IsTree}

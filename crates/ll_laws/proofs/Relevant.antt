@@ -9,7 +9,7 @@ use Rattle.ll_rights.specs.declared.kind.Kind.TheVariants.{Reg, Dir, Sym, Fifo, 
 use Rattle.ll_rights.specs.Right.{all_rights, read_file, write_file, truncate}
 use Rattle.ll_rights.specs.Access.{holds, all_set, file_set}
 use Rattle.ll_decide.proofs.Bits.{holds-and}
-use Rattle.ll_seq.specs.Reach.{is_relevant}
+use Rattle.ll_seq.specs.CallParts.{is_relevant}
 
 and_first : (a b : Bool) → (a && b) ≡ true → a ≡ true
 and_first true b e = refl

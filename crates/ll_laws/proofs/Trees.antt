@@ -10,7 +10,8 @@ use Rattle.ll_rules.specs.Layer.{Layer, restricts, has_rule, grants_on}
 use Rattle.ll_seq.specs.State.{Name, State, child, root, kind_of}
 use Rattle.ll_seq.specs.Tree.{end_from, chain_from, ancestors}
 use Rattle.ll_seq.specs.Asked.{grants}
-use Rattle.ll_seq.specs.Reach.{InReach, is_relevant}
+use Rattle.ll_seq.specs.Reach.{InReach}
+use Rattle.ll_seq.specs.CallParts.{is_relevant}
 use Rattle.ll_seq.proofs.CutChains.{end_append}
 use Rattle.ll_seq.proofs.Parted.{or_right, Last, last}
 use Rattle.ll_laws.proofs.Chains.{same_Some, NotFile, chain_front, chain_back, MoreEntries, before}

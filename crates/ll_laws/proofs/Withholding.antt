@@ -31,8 +31,9 @@ use Rattle.ll_seq.specs.Call.{path_of, first_path, second_path}
 use Rattle.ll_seq.specs.State.{State, empty_node, new_client, start, bytes_of}
 use Rattle.ll_seq.specs.Tree.{named, inode_of}
 use Rattle.ll_seq.specs.Asked.{call_denials}
-use Rattle.ll_seq.specs.Stages.{lowest_free, ruleset_at, text_refusals, number_refusals, relation_refusals, walk_refusals, existence_refusals, kind_refusals, limit_refusals}
-use Rattle.ll_seq.specs.Effects.{dentry_of, opened, with_opened, emptied, with_node, with_bytes, with_client, inode_at, overwritten, child_of}
+use Rattle.ll_seq.specs.Stages.{lowest_free, ruleset_at, text_refusals, number_refusals, relation_refusals, walk_refusals}
+use Rattle.ll_seq.specs.CallParts.{existence_refusals, kind_refusals, limit_refusals, opened}
+use Rattle.ll_seq.specs.Effects.{dentry_of, with_opened, emptied, with_node, with_bytes, with_client, inode_at, overwritten, child_of}
 use Rattle.ll_seq.specs.Step.{step, refusals, first_or, client_of}
 use Rattle.ll_seq.specs.History.{MayStand, IsLegal, state_after, after, is_connect, fresh_of}
 use Rattle.ll_seq.specs.Reach.{InReach}

@@ -1,6 +1,5 @@
 -- No layer reaches more of an inode than it did, while each move is made under the layer. own
-use Rattle.std.specs.Prelude.{◌≡◌, ℕ, Bool, true, false, List, [], ◌∷◌, ◌++◌, IsTrue, ⊤, Contains}
-use Rattle.ll_path.specs.declared.target.Target.{Target}
+use Rattle.std.specs.Prelude.{◌≡◌, ℕ, Bool, List, [], ◌∷◌, ◌++◌, length, nat_lt, IsTrue, ⊤, Contains}
 use Rattle.ll_rules.specs.Layer.{Layer}
 use Rattle.ll_seq.specs.declared.call.Call.{Call}
 use Rattle.ll_seq.specs.Call.{targets}
@@ -12,14 +11,9 @@ use Rattle.ll_seq.specs.Step.{client_of}
 use Rattle.ll_seq.specs.History.{IsLegal, state_after, after}
 use Rattle.ll_seq.specs.Reach.{InReach, HasName}
 
-abbrev pub are_two : List Target → Bool
-are_two [] = false
-are_two (target ∷ []) = false
-are_two (old ∷ (new ∷ more)) = true
-
 -- rename, rename_noreplace, exchange and link, the calls of two paths: a node that is there gets a name
 abbrev pub is_move : Call → Bool
-is_move call = are_two (targets call)
+is_move call = nat_lt 1 (length (targets call))
 
 -- each move that is done is made while the layer is in its client's domain
 abbrev pub MovesUnder : Layer → State → List Entry → Type 0
@@ -39,6 +33,9 @@ GainsNothing rules room early late =
     (right : ℕ) → InReach end layer inode right → InReach cut layer inode right
 
 -- so wherever a legal history is cut in two
+abbrev pub AtEachCut : (Rules → ℕ → List Entry → List Entry → Type 0) → Type 0
+AtEachCut Holds = (rules : Rules) (room : ℕ) (early late : List Entry) → IsLegal (start rules room) (early ++ late) →
+    Holds rules room early late
+
 abbrev pub NoGain : Type 0
-NoGain = (rules : Rules) (room : ℕ) (early late : List Entry) → IsLegal (start rules room) (early ++ late) →
-    GainsNothing rules room early late
+NoGain = AtEachCut GainsNothing

@@ -12,9 +12,9 @@ use Rattle.ll_seq.specs.declared.rules.Rules.{Rules}
 use Rattle.ll_seq.specs.State.{State, start}
 use Rattle.ll_seq.specs.Effects.{inode_at}
 use Rattle.ll_seq.specs.Step.{client_of}
-use Rattle.ll_seq.specs.History.{IsLegal, state_after, after}
+use Rattle.ll_seq.specs.History.{state_after, after}
 use Rattle.ll_seq.specs.Reach.{InReach, HasName}
-use Rattle.ll_laws.specs.NoGain.{MovesUnder}
+use Rattle.ll_laws.specs.NoGain.{MovesUnder, AtEachCut}
 
 -- no call but read is answered by bytes
 pub record ReadsFrom (s : State) (e : Entry) (inode : ℕ) : Type 0 where
@@ -62,7 +62,5 @@ Withholds rules room early late =
     get (client_of cut client).descriptors fd ≡ Some d → d.inode ≢ inode) →
     Withheld layer inode cut (IsConfined layer cut) cut late
 
--- so wherever a legal history is cut in two
 abbrev pub BytesAreWithheld : Type 0
-BytesAreWithheld = (rules : Rules) (room : ℕ) (early late : List Entry) → IsLegal (start rules room) (early ++ late) →
-    Withholds rules room early late
+BytesAreWithheld = AtEachCut Withholds

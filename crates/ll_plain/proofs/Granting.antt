@@ -16,7 +16,8 @@ use Rattle.ll_decide.specs.Masks.{IsMask}
 use Rattle.ll_decide.proofs.Bits.{holds-and, holds-or}
 use Rattle.ll_seq.specs.State.{State, kind_of, root}
 use Rattle.ll_seq.specs.Tree.{named}
-use Rattle.ll_seq.specs.Reach.{HasName, InReach, is_relevant}
+use Rattle.ll_seq.specs.Reach.{HasName, InReach}
+use Rattle.ll_seq.specs.CallParts.{is_relevant}
 use Rattle.ll_plain.specs.Reaching.{Found, Leads, is_ruled}
 use Rattle.ll_seq.proofs.CutChains.{end_append}
 use Rattle.ll_seq.proofs.Parted.{or_split, or_left, or_right, any_front, cut}

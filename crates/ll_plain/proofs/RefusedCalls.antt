@@ -7,7 +7,7 @@ use Rattle.ll_seq.specs.declared.call.Call.TheVariants.{Make, Open, Read, Write,
 use Rattle.ll_seq.specs.declared.reply.Reply.{Reply}
 use Rattle.ll_seq.specs.Call.{first_path, second_path}
 use Rattle.ll_seq.specs.State.{State}
-use Rattle.ll_seq.specs.Effects.{done}
+use Rattle.ll_seq.specs.CallParts.{done}
 use Rattle.ll_seq.specs.Step.{step, first_or, refusals, client_of}
 use Rattle.ll_plain.specs.Refusal.{is_refusal}
 

@@ -11,8 +11,8 @@ use Rattle.ll_seq.specs.declared.reply.Reply.TheVariants.{Refused, Denied}
 use Rattle.ll_seq.specs.Call.{first_path, second_path}
 use Rattle.ll_seq.specs.State.{State}
 use Rattle.ll_seq.specs.Asked.{call_denials}
-use Rattle.ll_seq.specs.Stages.{text_refusals, number_refusals, relation_refusals, walk_refusals, existence_refusals, kind_refusals, limit_refusals}
-use Rattle.ll_seq.specs.Effects.{done}
+use Rattle.ll_seq.specs.Stages.{text_refusals, number_refusals, relation_refusals, walk_refusals}
+use Rattle.ll_seq.specs.CallParts.{existence_refusals, kind_refusals, limit_refusals, done}
 use Rattle.ll_seq.specs.Step.{step, first_or, refusals, client_of}
 use Rattle.ll_plain.specs.Outcomes.{Comes, ComesBy, Steps}
 use Rattle.ll_seq.specs.Fails.{Fails}

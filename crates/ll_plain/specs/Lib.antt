@@ -1,4 +1,3 @@
-pub mod Memory
 pub mod Outcomes
 pub mod Reaching
 pub mod Refusal

@@ -18,7 +18,7 @@ ghost use Rattle.ll_seq.specs.History.{is_connect};
 ghost use Rattle.ll_seq.specs.State.{State, start};
 ghost use Rattle.ll_seq.specs.Step.{step, refusals, client_of, IsAnswer};
 ghost use Rattle.ll_seq.specs.declared.reply.Reply.{Reply};
-ghost use Rattle.ll_plain.specs.Memory.{takes_memory};
+ghost use Rattle.ll_seq.specs.Memory.{takes_memory};
 ghost use Rattle.ll_plain.specs.Outcomes.{ComesBy};
 ghost use Rattle.ll_plain.specs.Refusal.{is_refusal};
 

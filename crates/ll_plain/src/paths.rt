@@ -4,7 +4,7 @@ ghost use Rattle.std.specs.Prelude.{◌≡◌, ◌≢◌, ◌<◌, ◌-◌, ◌^
 ghost use Rattle.ll_rights.specs.Map.{has};
 ghost use Rattle.ll_rights.specs.declared.errno.Errno.{Errno};
 ghost use Rattle.ll_seq.specs.declared.reply.Reply.{Reply};
-ghost use Rattle.ll_plain.specs.Memory.{takes_memory};
+ghost use Rattle.ll_seq.specs.Memory.{takes_memory};
 ghost use Rattle.ll_plain.specs.Outcomes.{Comes};
 ghost use Rattle.ll_answer.specs.Passed.{has_path};
 

@@ -3,57 +3,37 @@ use Rattle.std.specs.Prelude.{ℕ, Bool, List, [], ◌∷◌, codes, if◌then�
 use Rattle.ll_rights.specs.declared.errno.Errno.{Errno}
 use Rattle.ll_rights.specs.declared.errno.Errno.TheVariants.{EACCES, EXDEV, ENOENT, EEXIST, ENOTDIR, EISDIR, ENOTEMPTY, EINVAL, EPERM, EBUSY, EBADF, EMFILE, ENOSPC, EMLINK, ENAMETOOLONG, EFBIG, ELOOP, ENXIO, E2BIG, ENOMSG, HistoryFull, NoMemory, BadLine, Stale}
 
+abbrev pub errno_row : Errno → ℕ × List ℕ
+errno_row EACCES = (1, codes "EACCES")
+errno_row EXDEV = (2, codes "EXDEV")
+errno_row ENOENT = (3, codes "ENOENT")
+errno_row EEXIST = (4, codes "EEXIST")
+errno_row ENOTDIR = (5, codes "ENOTDIR")
+errno_row EISDIR = (6, codes "EISDIR")
+errno_row ENOTEMPTY = (7, codes "ENOTEMPTY")
+errno_row EINVAL = (8, codes "EINVAL")
+errno_row EPERM = (9, codes "EPERM")
+errno_row EBUSY = (10, codes "EBUSY")
+errno_row EBADF = (11, codes "EBADF")
+errno_row EMFILE = (12, codes "EMFILE")
+errno_row ENOSPC = (13, codes "ENOSPC")
+errno_row EMLINK = (14, codes "EMLINK")
+errno_row ENAMETOOLONG = (15, codes "ENAMETOOLONG")
+errno_row EFBIG = (16, codes "EFBIG")
+errno_row ELOOP = (17, codes "ELOOP")
+errno_row ENXIO = (18, codes "ENXIO")
+errno_row E2BIG = (19, codes "E2BIG")
+errno_row ENOMSG = (20, codes "ENOMSG")
+errno_row HistoryFull = (21, codes "HistoryFull")
+errno_row NoMemory = (22, codes "NoMemory")
+errno_row BadLine = (23, codes "BadLine")
+errno_row Stale = (24, codes "Stale")
+
 abbrev pub errno_number : Errno → ℕ
-errno_number EACCES = 1
-errno_number EXDEV = 2
-errno_number ENOENT = 3
-errno_number EEXIST = 4
-errno_number ENOTDIR = 5
-errno_number EISDIR = 6
-errno_number ENOTEMPTY = 7
-errno_number EINVAL = 8
-errno_number EPERM = 9
-errno_number EBUSY = 10
-errno_number EBADF = 11
-errno_number EMFILE = 12
-errno_number ENOSPC = 13
-errno_number EMLINK = 14
-errno_number ENAMETOOLONG = 15
-errno_number EFBIG = 16
-errno_number ELOOP = 17
-errno_number ENXIO = 18
-errno_number E2BIG = 19
-errno_number ENOMSG = 20
-errno_number HistoryFull = 21
-errno_number NoMemory = 22
-errno_number BadLine = 23
-errno_number Stale = 24
+errno_number errno = (errno_row errno).0
 
 abbrev pub errno_text : Errno → List ℕ
-errno_text EACCES = codes "EACCES"
-errno_text EXDEV = codes "EXDEV"
-errno_text ENOENT = codes "ENOENT"
-errno_text EEXIST = codes "EEXIST"
-errno_text ENOTDIR = codes "ENOTDIR"
-errno_text EISDIR = codes "EISDIR"
-errno_text ENOTEMPTY = codes "ENOTEMPTY"
-errno_text EINVAL = codes "EINVAL"
-errno_text EPERM = codes "EPERM"
-errno_text EBUSY = codes "EBUSY"
-errno_text EBADF = codes "EBADF"
-errno_text EMFILE = codes "EMFILE"
-errno_text ENOSPC = codes "ENOSPC"
-errno_text EMLINK = codes "EMLINK"
-errno_text ENAMETOOLONG = codes "ENAMETOOLONG"
-errno_text EFBIG = codes "EFBIG"
-errno_text ELOOP = codes "ELOOP"
-errno_text ENXIO = codes "ENXIO"
-errno_text E2BIG = codes "E2BIG"
-errno_text ENOMSG = codes "ENOMSG"
-errno_text HistoryFull = codes "HistoryFull"
-errno_text NoMemory = codes "NoMemory"
-errno_text BadLine = codes "BadLine"
-errno_text Stale = codes "Stale"
+errno_text errno = (errno_row errno).1
 
 abbrev pub refuse : Bool → Errno → List Errno
 refuse b errno = if b then errno ∷ [] else []

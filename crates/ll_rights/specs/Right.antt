@@ -1,5 +1,6 @@
 -- The fifteen rights: the bits of ABI 3, in order. linux/landlock.h, "Filesystem flags"
-use Rattle.std.specs.Prelude.{ℕ, List, [], ◌∷◌, codes, slice_get, unwrap_or}
+use Rattle.std.specs.Prelude.{ℕ, List, [], ◌∷◌, map, codes, slice_get, unwrap_or}
+use Rattle.std.specs.List.{range_with_len}
 
 abbrev pub execute : ℕ
 execute = 0
@@ -47,13 +48,12 @@ abbrev pub truncate : ℕ
 truncate = 14
 
 abbrev pub all_rights : List ℕ
-all_rights = execute ∷ write_file ∷ read_file ∷ read_dir ∷ remove_dir ∷ remove_file ∷ make_char ∷ make_dir ∷ make_reg
-    ∷ make_sock ∷ make_fifo ∷ make_block ∷ make_sym ∷ refer ∷ truncate ∷ []
+all_rights = range_with_len 0 15
 
 abbrev pub right_names : List (List ℕ)
-right_names = codes "execute" ∷ codes "write_file" ∷ codes "read_file" ∷ codes "read_dir" ∷ codes "remove_dir"
-    ∷ codes "remove_file" ∷ codes "make_char" ∷ codes "make_dir" ∷ codes "make_reg" ∷ codes "make_sock"
-    ∷ codes "make_fifo" ∷ codes "make_block" ∷ codes "make_sym" ∷ codes "refer" ∷ codes "truncate" ∷ []
+right_names = map codes (
+    "execute" ∷ "write_file" ∷ "read_file" ∷ "read_dir" ∷ "remove_dir" ∷ "remove_file" ∷ "make_char" ∷ "make_dir"
+    ∷ "make_reg" ∷ "make_sock" ∷ "make_fifo" ∷ "make_block" ∷ "make_sym" ∷ "refer" ∷ "truncate" ∷ [])
 
 abbrev pub right_text : ℕ → List ℕ
 right_text right = unwrap_or (slice_get right_names right) []

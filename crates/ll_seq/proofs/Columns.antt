@@ -5,7 +5,8 @@ use Rattle.ll_seq.specs.declared.client.ClientRecord.{ClientRecord}
 use Rattle.ll_seq.specs.declared.call.Call.{Call}
 use Rattle.ll_seq.specs.declared.call.Call.TheVariants.{Make, Open, Read, Write, Ftruncate, Close, Truncate, ReadDir, Stat, Exec, Unlink, Rmdir, Rename, RenameNoreplace, Exchange, Link, Ruleset, Allow, Confine, Spawn, Connect}
 use Rattle.ll_seq.specs.State.{State}
-use Rattle.ll_seq.specs.Stages.{stages, number_refusals, relation_refusals, existence_refusals}
+use Rattle.ll_seq.specs.Stages.{stages, number_refusals, relation_refusals}
+use Rattle.ll_seq.specs.CallParts.{existence_refusals}
 
 module _ (s : State) (c : ClientRecord) (at new : Path) where
   -- the caller's numbers need neither tree nor path

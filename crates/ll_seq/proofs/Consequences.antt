@@ -36,9 +36,10 @@ use Rattle.ll_seq.specs.State.{State, dentry_cmp, child, root, bytes_of}
 use Rattle.ll_seq.specs.Call.{creates, is_exclusive, path_of, targets, first_path, second_path}
 use Rattle.ll_seq.specs.Tree.{named, inode_of, directory_of, kind_or_file, kind_at}
 use Rattle.ll_seq.specs.Asked.{call_denials}
-use Rattle.ll_seq.specs.Stages.{bad_text, text_refusals, number_refusals, relation_refusals, walk_refusals, existence_refusals, kind_refusals, limit_refusals, in_the_way, kind_of_child, no_directory, way_to, missing, present, without, no_space, lying, replace_refusals, crowds, has_many_names, not_to_open, not_to_truncate, has_names, is_too_long, ruleset_at, is_crowded, lowest_free}
-use Rattle.ll_seq.specs.Effects.{lives, let_go, without_name, with_moved, renamed, dentry_of, resized, overwritten, with_bytes, with_client, with_node, with_opened, emptied, after_opening, written, inode_at, child_of, done}
-use Rattle.ll_seq.specs.Step.{step, first_or, refusals, refusals_at, client_of, IsAnswer}
+use Rattle.ll_seq.specs.Stages.{bad_text, text_refusals, number_refusals, relation_refusals, walk_refusals, in_the_way, kind_of_child, no_directory, way_to, missing, present, without, no_space, lying, replace_refusals, crowds, has_many_names, has_names, is_too_long, ruleset_at, is_crowded, lowest_free}
+use Rattle.ll_seq.specs.CallParts.{existence_refusals, kind_refusals, limit_refusals, not_to_open, not_to_truncate, done, after_opening}
+use Rattle.ll_seq.specs.Effects.{lives, let_go, without_name, with_moved, renamed, dentry_of, resized, overwritten, with_bytes, with_client, with_node, with_opened, emptied, written, inode_at, child_of}
+use Rattle.ll_seq.specs.Step.{step, first_or, refusals, client_of, IsAnswer}
 use Rattle.ll_seq.proofs.Results.{wants_memory}
 
 -- ---- refusals
@@ -328,14 +329,16 @@ limit_fine s c (Confine rs) at new = if_refused (nat_le DOMAIN_LAYERS (length c.
 limit_fine s c Spawn at new = if_refused (nat_le TREE_CLIENTS (len s.clients)) EMFILE (omega arith, omega arith)
 limit_fine s c Connect at new = if_refused (nat_le TREE_CLIENTS (len s.clients)) EMFILE (omega arith, omega arith)
 
-all_refusals : (s : State) (c : ClientRecord) (call : Call) (at new : Path) → AllRefuse (refusals_at s c call at new)
-all_refusals s c call at new =
+all_refusals : (s : State) (c : ClientRecord) (call : Call) → AllRefuse (refusals s c call)
+all_refusals s c call =
+    let at = first_path call in
+    let new = second_path call in
     all_stages (text_refusals call) (number_refusals c call) (relation_refusals call at new) (walk_refusals s call) (existence_refusals s call at new) (call_denials s c call) (kind_refusals s c call at new) (limit_refusals s c call at new)
     (text_fine call) (number_fine c call) (relation_fine call at new) (walk_fine s call) (existence_fine s call at new) (kind_fine s c call at new) (limit_fine s c call at new)
 
 module _ (s : State) (number : ℕ) (call : Call) (fresh : ℕ) where
   all_refuse : AllRefuse (refusals s (client_of s number) call)
-  all_refuse = all_refusals s (client_of s number) call (first_path call) (second_path call)
+  all_refuse = all_refusals s (client_of s number) call
 
   abbrev done_now : Reply × State
   done_now = done s number (client_of s number) call (first_path call) (second_path call) fresh

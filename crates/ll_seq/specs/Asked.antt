@@ -1,4 +1,4 @@
--- What a call asks of each layer. `at` is a call's path, of two paths the old one; `new` is of two the new one
+-- What a call asks of each layer. `at` and `new` are a call's first path and its second
 use Rattle.std.specs.Prelude.{ℕ, Bool, not, List, [], ◌∷◌, ◌++◌, Option, is_some, ◌==◌, ◌&&◌, option_map, option_and_then, option_to_list}
 use Rattle.ll_rights.specs.Kind.{make_right, remove_right, relevant}
 use Rattle.ll_rights.specs.Map.{get}
@@ -84,19 +84,14 @@ module _ (s : State) where
     demanded Spawn = ([], [])
     demanded Connect = ([], [])
 
-  abbrev pub asked : Call → List (Ask Path)
-  asked call = (demanded (first_path call) (second_path call) call).0
-
-  abbrev pub moved : Call → List (Move Path)
-  moved call = (demanded (first_path call) (second_path call) call).1
-
   -- Layers decide as they are now, but ftruncate as they were at the opening. landlock.rst, "Truncating files"
   abbrev pub call_denials : ClientRecord → Call → List Denial
   call_denials c (Ftruncate fd size) =
       option_to_list (option_map
       (λ (layer : ℕ). record { cause = EACCES; layer = layer; right = right.truncate; place = At })
       (option_and_then (λ (d : Descriptor). d.kept) (get c.descriptors fd)))
-  call_denials c call = all_denials grants c.domain (asked call) (moved call)
+  call_denials c call =
+      let demand = demanded (first_path call) (second_path call) call in all_denials grants c.domain demand.0 demand.1
 
   -- what an opening keeps: the layer that would deny truncate
   abbrev pub kept_at : List Layer → Path → Option ℕ

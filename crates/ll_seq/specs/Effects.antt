@@ -78,10 +78,6 @@ module _ (s : State) where
   renamed old new inode None = with_moved old new inode
   renamed old new inode (Some replaced) = if inode == replaced then s else let_go (with_moved old new inode) replaced
 
-  -- renameat2(2), RENAME_EXCHANGE
-  abbrev pub exchanged : Path → Path → State
-  exchanged old new = with_name (with_name s (dentry_of new) (inode_of s old)) (dentry_of old) (inode_of s new)
-
   abbrev pub with_bytes : ℕ → List ℕ → State
   with_bytes inode bytes =
       option_map_or (λ (n : Node). record s { nodes = insert s.nodes inode (record n { bytes = bytes }) })
@@ -104,24 +100,15 @@ module _ (s : State) where
     links = if is_dir kind then 1 else name_count s inode;
   }
 
-  abbrev pub opened : ClientRecord → Mode → Path → ℕ → Descriptor
-  opened c mode path inode = record
-      { inode = inode; reads = reads mode.access; writes = writes mode.access; kept = kept_at s c.domain path }
-
   abbrev pub with_opened : ClientRecord → Mode → Path → ℕ → ClientRecord
-  with_opened c mode path inode = record c
-      { descriptors = insert c.descriptors (unwrap_or (lowest_free c.descriptors) 0) (opened c mode path inode) }
+  with_opened c mode path inode = record c {
+    descriptors = insert c.descriptors (unwrap_or (lowest_free c.descriptors) 0) (record
+        { inode = inode; reads = reads mode.access; writes = writes mode.access; kept = kept_at s c.domain path });
+  }
 
   -- open(2), O_TRUNC
   abbrev pub emptied : Mode → ℕ → State
   emptied mode inode = if mode.truncate then with_bytes inode [] else s
-
-  -- open(2), O_CREAT
-  abbrev pub after_opening : ℕ → ClientRecord → Mode → Path → State
-  after_opening number c mode path =
-      if is_none (named s path)
-      then with_client (with_node Reg (dentry_of path)) number (with_opened c mode path s.next)
-      else with_client (emptied mode (inode_of s path)) number (with_opened c mode path (inode_of s path))
 
   module _ (number : ℕ) (c : ClientRecord) (at new : Path) (fresh : ℕ) where
     abbrev pub here : ℕ
@@ -133,7 +120,13 @@ module _ (s : State) where
     -- the reply and the next state. number: the caller's. fresh: a spawned client's
     abbrev pub effect : Call → Reply × State
     effect (Make kind target) = (Done, with_node kind (dentry_of at))
-    effect (Open mode target) = (Opened (unwrap_or (lowest_free c.descriptors) 0), after_opening number c mode at)
+    -- open(2), O_CREAT
+    effect (Open mode target) = (
+      Opened (unwrap_or (lowest_free c.descriptors) 0),
+      if is_none (named s at)
+          then with_client (with_node Reg (dentry_of at)) number (with_opened c mode at s.next)
+          else with_client (emptied mode here) number (with_opened c mode at here),
+    )
     effect (Read fd offset count) = (Bytes (take count (drop offset (bytes_of s (inode_at c fd)))), s)
     effect (Write fd offset bytes) = (Wrote (length bytes), written (inode_at c fd) offset bytes)
     effect (Ftruncate fd size) = (Done, with_size (inode_at c fd) size)
@@ -146,7 +139,9 @@ module _ (s : State) where
     effect (Rmdir target) = (Done, without_name (dentry_of at) here)
     effect (Rename from into) = (Done, renamed (dentry_of at) (dentry_of new) here (named s new))
     effect (RenameNoreplace from into) = (Done, with_moved (dentry_of at) (dentry_of new) here)
-    effect (Exchange from into) = (Done, exchanged at new)
+    -- renameat2(2), RENAME_EXCHANGE
+    effect (Exchange from into) =
+        (Done, with_name (with_name s (dentry_of new) here) (dentry_of at) (inode_of s new))
     effect (Link from into) = (Done, with_name s (dentry_of new) here)
     effect (Ruleset rights) =
         (Created (length c.rulesets), with_own (record c { rulesets = c.rulesets ++ new_ruleset rights.0 ∷ [] }))
@@ -155,6 +150,3 @@ module _ (s : State) where
     effect (Confine rs) = (Done, with_own (record c { domain = c.domain ++ ruleset_at c rs ∷ [] }))
     effect Spawn = (Spawned fresh, with_client s fresh (child_of s.rules c))
     effect Connect = (Done, with_own new_client)
-
-  abbrev pub done : ℕ → ClientRecord → Call → Path → Path → ℕ → Reply × State
-  done number c call at new fresh = effect number c at new fresh call

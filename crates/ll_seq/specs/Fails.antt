@@ -1,4 +1,4 @@
--- Why what may be refused fails. own
+-- Why what may be refused fails. Cited by contracts between crates alone. own
 use Rattle.std.specs.Prelude.{◌≡◌, ◌⊎◌, List, [], Some, slice_get}
 use Rattle.ll_rights.specs.declared.errno.Errno.{Errno}
 use Rattle.ll_rights.specs.declared.errno.Errno.TheVariants.{NoMemory}

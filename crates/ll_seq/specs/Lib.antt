@@ -1,11 +1,13 @@
 pub mod Asked
 pub mod Call
+pub mod CallParts
 pub mod StateCodes
 pub mod Effects
 pub mod Facts
 pub mod Fails
 pub mod History
 pub mod Listed
+pub mod Memory
 pub mod Reach
 pub mod Stages
 pub mod State

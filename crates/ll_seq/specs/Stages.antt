@@ -1,6 +1,6 @@
 -- When a call is refused apart from policy. Each stage lists the refusals that hold, and the first of all decides. The
--- order is own. `at` is a call's path, of two paths the old one; `new` is of two the new one
-use Rattle.std.specs.Prelude.{ℕ, zero, suc, ◌+◌, Bool, true, false, not, ◌||◌, List, [], ◌∷◌, ◌++◌, length, Option, Some, None, nat_lt, nat_le, is_some, is_none, unwrap_or, slice_get, find, ◌==◌, ◌&&◌}
+-- order is own. `at` and `new` are a call's first path and its second
+use Rattle.std.specs.Prelude.{ℕ, zero, suc, ◌+◌, Bool, true, false, not, ◌||◌, List, [], ◌∷◌, ◌++◌, length, Option, Some, None, nat_lt, nat_le, is_some, is_none, unwrap_or, option_and_then, slice_get, find, ◌==◌, ◌&&◌}
 use Rattle.std.specs.List.{flat_map}
 use Rattle.std.specs.Option.{option_map_or}
 use Rattle.std.specs.Ordering.{nat_cmp}
@@ -45,10 +45,6 @@ no_ruleset c number = refuse (is_none (slice_get c.rulesets number)) EBADF
 abbrev pub ruleset_at : ClientRecord → ℕ → Layer
 ruleset_at c number = unwrap_or (slice_get c.rulesets number) (new_ruleset 0)
 
--- the root is neither made nor removed. rmdir(2)
-abbrev pub names_root : Path → List Errno
-names_root path = refuse (is_root path) EBUSY
-
 -- neither is the root, and none beneath the other. rename(2), link(2)
 abbrev pub lying : Path → Path → Errno → List Errno
 lying old new above =
@@ -61,25 +57,17 @@ no_directory (Some Dir) = []
 no_directory (Some Sym) = ELOOP ∷ []
 no_directory (Some _) = ENOTDIR ∷ []
 
--- open(2): EISDIR, ELOOP (O_NOFOLLOW), ENXIO
-abbrev pub not_to_open : Kind → List Errno
-not_to_open Reg = []
-not_to_open Dir = EISDIR ∷ []
-not_to_open Sym = ELOOP ∷ []
-not_to_open _ = ENXIO ∷ []
-
--- truncate(2): EISDIR, EINVAL
-abbrev pub not_to_truncate : Kind → List Errno
-not_to_truncate Reg = []
-not_to_truncate Dir = EISDIR ∷ []
-not_to_truncate Sym = ELOOP ∷ []
-not_to_truncate _ = EINVAL ∷ []
+-- open(2): EISDIR, ELOOP (O_NOFOLLOW), ENXIO; truncate(2): EISDIR, EINVAL
+abbrev pub no_file : Errno → Kind → List Errno
+no_file other Reg = []
+no_file other Dir = EISDIR ∷ []
+no_file other Sym = ELOOP ∷ []
+no_file other _ = other ∷ []
 
 -- truncate(2), write(2): EFBIG
 abbrev pub is_too_long : ℕ → Bool
 is_too_long size = nat_lt FILE_BYTES size
 
--- n numbers from k on
 unfoldable pub numbers_from : ℕ → ℕ → List ℕ
 numbers_from k zero = []
 numbers_from k (suc n) = k ∷ numbers_from (suc k) n
@@ -90,8 +78,7 @@ lowest_free descriptors = find (λ fd. not (has descriptors fd)) (numbers_from 0
 
 module _ (s : State) where
   abbrev pub kind_of_child : Option ℕ → Option Kind
-  kind_of_child None = None
-  kind_of_child (Some inode) = kind_of s inode
+  kind_of_child = option_and_then (kind_of s)
 
   -- what is in the way of each name from an inode on
   abbrev pub in_the_way : Path → ℕ → List Errno
@@ -154,12 +141,12 @@ module _ (s : State) where
     -- kinds; limits. opendir(3), unlink(2), rmdir(2), link(2), landlock_create_ruleset(2), landlock_add_rule(2),
     -- landlock_restrict_self(2)
     abbrev pub stages : Call → List Errno × List Errno × List Errno × List Errno × List Errno
-    stages (Make kind target) = ([], names_root at, present at, [], no_space (directory_of s at))
+    stages (Make kind target) = ([], refuse (is_root at) EBUSY, present at, [], no_space (directory_of s at))
     stages (Open mode target) = (
       [],
       [],
       when (not (creates mode.creation)) (missing at) ++ when (is_exclusive mode.creation) (present at),
-      when (is_some (named s at)) (not_to_open its_kind),
+      when (is_some (named s at)) (no_file ENXIO its_kind),
       refuse (is_none (lowest_free c.descriptors)) EMFILE
           ++ when (is_none (named s at)) (no_space (directory_of s at)),
     )
@@ -175,13 +162,18 @@ module _ (s : State) where
     stages (Ftruncate fd size) = (without c fd (λ d. d.writes) EINVAL, [], [], [], refuse (is_too_long size) EFBIG)
     stages (Close fd) = (refuse (is_none (get c.descriptors fd)) EBADF, [], [], [], [])
     stages (Truncate target size) =
-        ([], [], missing at, not_to_truncate its_kind, refuse (is_too_long size) EFBIG)
+        ([], [], missing at, no_file EINVAL its_kind, refuse (is_too_long size) EFBIG)
     stages (ReadDir target) = ([], [], missing at, refuse (not (is_dir its_kind)) ENOTDIR, [])
     stages (Stat target) = ([], [], missing at, [], [])
-    stages (Exec target) = ([], [], missing at, not_to_open its_kind, [])
-    stages (Unlink target) = ([], names_root at, missing at, refuse (is_dir its_kind) EISDIR, [])
-    stages (Rmdir target) =
-        ([], names_root at, missing at, refuse (not (is_dir its_kind)) ENOTDIR ++ refuse (has_names here) ENOTEMPTY, [])
+    stages (Exec target) = ([], [], missing at, no_file ENXIO its_kind, [])
+    stages (Unlink target) = ([], refuse (is_root at) EBUSY, missing at, refuse (is_dir its_kind) EISDIR, [])
+    stages (Rmdir target) = (
+      [],
+      refuse (is_root at) EBUSY,
+      missing at,
+      refuse (not (is_dir its_kind)) ENOTDIR ++ refuse (has_names here) ENOTEMPTY,
+      [],
+    )
     stages (Rename from into) =
         ([], lying at new ENOTEMPTY, missing at, option_map_or (replace_refusals here) (named s new) [], crowds at new)
     stages (RenameNoreplace from into) = ([], lying at new EEXIST, missing at ++ present new, [], crowds at new)
@@ -206,16 +198,7 @@ module _ (s : State) where
     stages Spawn = ([], [], [], [], many_clients)
     stages Connect = ([], [], [], [], many_clients)
 
-  -- a stage that looks at no tree, client or path is read off with any
-  abbrev pub existence_refusals : Call → Path → Path → List Errno
-  existence_refusals call at new = (stages new_client at new call).2
-
-  abbrev pub kind_refusals : ClientRecord → Call → Path → Path → List Errno
-  kind_refusals c call at new = (stages c at new call).3
-
-  abbrev pub limit_refusals : ClientRecord → Call → Path → Path → List Errno
-  limit_refusals c call at new = (stages c at new call).4
-
+-- a stage that looks at no tree, client or path is read off with any
 abbrev pub any_tree : State
 any_tree = start (record { abi = 1; copies = false }) 1
 

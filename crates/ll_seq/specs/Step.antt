@@ -7,28 +7,26 @@ use Rattle.ll_seq.specs.declared.client.ClientRecord.{ClientRecord}
 use Rattle.ll_seq.specs.declared.call.Call.{Call}
 use Rattle.ll_seq.specs.declared.reply.Reply.{Reply}
 use Rattle.ll_seq.specs.declared.reply.Reply.TheVariants.{Bytes, Listed, Refused, Denied}
-use Rattle.ll_path.specs.Path.{Path}
 use Rattle.ll_seq.specs.Call.{first_path, second_path}
 use Rattle.ll_seq.specs.Listed.{IsData, AreListed}
 use Rattle.ll_seq.specs.State.{State, new_client}
 use Rattle.ll_seq.specs.Asked.{call_denials}
-use Rattle.ll_seq.specs.Stages.{text_refusals, number_refusals, relation_refusals, walk_refusals, existence_refusals, kind_refusals, limit_refusals}
-use Rattle.ll_seq.specs.Effects.{done}
+use Rattle.ll_seq.specs.Stages.{text_refusals, number_refusals, relation_refusals, walk_refusals, stages}
+use Rattle.ll_seq.specs.Effects.{effect}
 
--- in the stages' order. at: the call's path, of two paths the old one; new: of two the new one
-abbrev pub refusals_at : State → ClientRecord → Call → Path → Path → List Reply
-refusals_at s c call at new =
+-- in the stages' order
+abbrev pub refusals : State → ClientRecord → Call → List Reply
+refusals s c call =
+    let at = first_path call in
+    let new = second_path call in
     map Refused (text_refusals call)
     ++ map Refused (number_refusals c call)
     ++ map Refused (relation_refusals call at new)
     ++ map Refused (walk_refusals s call)
-    ++ map Refused (existence_refusals s call at new)
+    ++ map Refused (stages s new_client at new call).2
     ++ map Denied (call_denials s c call)
-    ++ map Refused (kind_refusals s c call at new)
-    ++ map Refused (limit_refusals s c call at new)
-
-abbrev pub refusals : State → ClientRecord → Call → List Reply
-refusals s c call = refusals_at s c call (first_path call) (second_path call)
+    ++ map Refused (stages s c at new call).3
+    ++ map Refused (stages s c at new call).4
 
 abbrev pub client_of : State → ℕ → ClientRecord
 client_of s number = unwrap_or (get s.clients number) new_client
@@ -37,10 +35,9 @@ abbrev pub first_or : State → List Reply → Reply × State → Reply × State
 first_or s [] outcome = outcome
 first_or s (reply ∷ replies) outcome = (reply, s)
 
--- the reply and the next state. fresh: a spawned client's number
 abbrev pub step : State → ℕ → Call → ℕ → Reply × State
 step s number call fresh = first_or s (refusals s (client_of s number) call)
-    (done s number (client_of s number) call (first_path call) (second_path call) fresh)
+    (effect s number (client_of s number) (first_path call) (second_path call) fresh call)
 
 -- what policy refuses is a denial; others count entries and see what is no call
 abbrev pub IsAnswer : Reply → Type 0

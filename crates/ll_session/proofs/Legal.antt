@@ -12,7 +12,7 @@ use Rattle.ll_seq.specs.declared.reply.Entry.{Entry}
 use Rattle.ll_seq.specs.declared.reply.Reply.{Reply}
 use Rattle.ll_seq.specs.declared.reply.Reply.TheVariants.{Done, Opened, Bytes, Wrote, Listed, Found, Created, Spawned, Refused, Denied}
 use Rattle.ll_seq.specs.Call.{first_path, second_path}
-use Rattle.ll_seq.specs.Effects.{done}
+use Rattle.ll_seq.specs.CallParts.{done}
 use Rattle.ll_seq.specs.History.{is_connect, fresh_of, Log, MayStand, IsLegal}
 use Rattle.ll_seq.specs.State.{State, start}
 use Rattle.ll_seq.specs.Step.{step, first_or, refusals, client_of}

@@ -16,7 +16,7 @@ use Rattle.ll_seq.specs.declared.reply.Reply.TheVariants.{Done, Opened, Bytes, W
 use Rattle.ll_seq.specs.State.{State}
 use Rattle.ll_seq.specs.Stages.{numbers_from}
 use Rattle.ll_seq.specs.Step.{step, refusals, client_of}
-use Rattle.ll_plain.specs.Memory.{takes_memory}
+use Rattle.ll_seq.specs.Memory.{takes_memory}
 use Rattle.ll_plain.specs.Refusal.{is_refusal}
 use Rattle.ll_wire.specs.Entries.{IsEntry}
 use Rattle.ll_wire.specs.Grammar.{IsReply, SpellsCommand}

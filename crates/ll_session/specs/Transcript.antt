@@ -10,7 +10,7 @@ use Rattle.ll_rights.specs.Map.{has}
 use Rattle.ll_seq.specs.History.{is_connect}
 use Rattle.ll_seq.specs.State.{State}
 use Rattle.ll_seq.specs.Step.{step, refusals, client_of}
-use Rattle.ll_plain.specs.Memory.{takes_memory}
+use Rattle.ll_seq.specs.Memory.{takes_memory}
 use Rattle.ll_wire.specs.Grammar.{SpellsCommand, reply_line}
 use Rattle.ll_wire.specs.Reads.{holds_text}
 

@@ -22,7 +22,8 @@ use Rattle.ll_seq.specs.Call.{targets, first_of, second_of, first_path, second_p
 use Rattle.ll_seq.specs.State.{Name, State, child, root, kind_of}
 use Rattle.ll_seq.specs.Tree.{end_from, named}
 use Rattle.ll_seq.specs.Asked.{call_denials}
-use Rattle.ll_seq.specs.Stages.{text_refusals, number_refusals, relation_refusals, walk_refusals, existence_refusals, kind_refusals, limit_refusals, in_the_way, way_to, no_directory, kind_of_child}
+use Rattle.ll_seq.specs.Stages.{text_refusals, number_refusals, relation_refusals, walk_refusals, in_the_way, way_to, no_directory, kind_of_child}
+use Rattle.ll_seq.specs.CallParts.{existence_refusals, kind_refusals, limit_refusals}
 use Rattle.ll_seq.specs.Step.{step, first_or, client_of}
 use Rattle.ll_laws.proofs.Chains.{same_Some}
 use Rattle.ll_laws.proofs.Unrefused.{nil_left, nil_right, inode_is}

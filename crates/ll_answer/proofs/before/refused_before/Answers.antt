@@ -2,7 +2,8 @@ use Rattle.std.specs.Prelude.{◌++◌, slice_get}
 use Rattle.std.proofs.Common.{ap, sym, ◌∙◌}
 use Rattle.std.proofs.lemmas.List.{append_assoc}
 use Rattle.ll_seq.specs.Call.{first_path, second_path}
-use Rattle.ll_seq.specs.Stages.{text_refusals, number_refusals, relation_refusals, walk_refusals, existence_refusals}
+use Rattle.ll_seq.specs.Stages.{text_refusals, number_refusals, relation_refusals, walk_refusals}
+use Rattle.ll_seq.specs.CallParts.{existence_refusals}
 use Rattle.ll_answer.proofs.Walked.{first_stands, second_stands, all_passed, none_first}
 use Rattle.ll_answer.proofs.before.refused_before.Goals as goal
 

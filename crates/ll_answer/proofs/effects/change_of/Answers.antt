@@ -6,7 +6,8 @@ use Rattle.ll_rights.specs.Kind.{is_dir}
 use Rattle.ll_path.specs.Path.{is_root}
 use Rattle.ll_seq.specs.Call.{path_of, first_path, second_path}
 use Rattle.ll_seq.specs.declared.call.Call.TheVariants.{Make, Unlink, Rmdir, Rename, RenameNoreplace, Exchange, Link, Allow}
-use Rattle.ll_seq.specs.Effects.{done, renamed, with_moved, with_name}
+use Rattle.ll_seq.specs.Effects.{renamed, with_moved, with_name}
+use Rattle.ll_seq.specs.CallParts.{done}
 use Rattle.ll_seq.specs.Stages.{missing, present, has_names, way_to, replace_refusals}
 use Rattle.ll_seq.specs.Tree.{named, inode_of, kind_at}
 use Rattle.ll_answer.proofs.effects.change_of.Goals as goal

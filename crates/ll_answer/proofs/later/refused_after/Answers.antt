@@ -1,5 +1,5 @@
 use Rattle.ll_seq.specs.Call.{first_path, second_path}
-use Rattle.ll_seq.specs.Stages.{kind_refusals, limit_refusals}
+use Rattle.ll_seq.specs.CallParts.{kind_refusals, limit_refusals}
 use Rattle.ll_answer.proofs.later.refused_after.Goals as goal
 
 pub returns : goal.returns

@@ -3,7 +3,7 @@ use Rattle.std.proofs.lemmas.Bool.{leb-true, leb-false}
 use Rattle.ll_rights.specs.declared.errno.Errno.TheVariants.{NoMemory}
 use Rattle.ll_seq.specs.declared.reply.Reply.TheVariants.{Refused}
 use Rattle.ll_seq.specs.declared.reply.Entry.{Entry}
-use Rattle.ll_plain.specs.Memory.{takes_memory}
+use Rattle.ll_seq.specs.Memory.{takes_memory}
 use Rattle.ll_wire.specs.Grammar.{IsReply}
 use Rattle.ll_session.specs.Progress.{last_reply}
 use Rattle.ll_session.proofs.Starving.{not_false}

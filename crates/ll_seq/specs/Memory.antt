@@ -1,4 +1,4 @@
--- Which calls the plain tree may need memory for. own
+-- Which calls may need memory. own
 use Rattle.std.specs.Prelude.{Bool, true, false}
 use Rattle.ll_seq.specs.declared.call.Call.{Call}
 use Rattle.ll_seq.specs.declared.call.Call.TheVariants.{Make, Open, Read, Write, Ftruncate, Close, Truncate, ReadDir, Stat, Exec, Unlink, Rmdir, Rename, RenameNoreplace, Exchange, Link, Ruleset, Allow, Confine, Spawn, Connect}
