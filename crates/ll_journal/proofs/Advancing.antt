@@ -14,9 +14,10 @@ use Rattle.ll_seq.specs.declared.reply.Reply.{Reply}
 use Rattle.ll_seq.specs.declared.reply.Reply.TheVariants.{Done, Refused}
 use Rattle.ll_seq.specs.State.{Name, State, root}
 use Rattle.ll_seq.specs.Tree.{kind_or_file}
-use Rattle.ll_walks.specs.Walk.{Walk, Leg, Position, turn, further, forked, leg_below, directory_under, if_directory, is_blocked, is_blocked_by, at_ends, is_above}
-use Rattle.ll_walks.specs.World.{World, Outcome, NotNow, Stands, Forked, Restarted, Replied, Joined, advance, walking, shown, domain_of, next_number, reply_to, with_entry, with_walk, without_walk, with_stale, is_full, is_idle, is_marked, is_marked_by_other, last_nodes, may_hold, may_commit, entered, enter, stood, stand, descend, fork, committed, commit, restarted, restart, joined, replied, direct, moved_by}
+use Rattle.ll_walks.specs.Walk.{Walk, Leg, Position, turn, further, forked, leg_below, directory_under, is_blocked, at_ends, is_above}
+use Rattle.ll_walks.specs.World.{World, Outcome, NotNow, Stands, Forked, Restarted, Replied, Joined, advance, shown, domain_of, next_number, reply_to, with_walk, without_walk, is_full, is_idle, is_marked, is_marked_by_other, last_nodes, may_commit, enter, stand, descend, fork, commit, restart, joined, direct, moved_by}
 use Rattle.ll_walks.specs.declared.step.Step.TheVariants.{Join, Descend, Fork, Commit, Restart}
+use Rattle.ll_walks.proofs.Shapes.{committed, entered, if_directory, leg_is_blocked, may_hold, replied, restarted, stood, walking, with_entry, with_stale}
 use Rattle.ll_walks.proofs.Turns.{ended}
 use Rattle.ll_changes.specs.Accounts.{names_map}
 use Rattle.ll_changes.proofs.NameMaps.{get-names_map}
@@ -165,28 +166,28 @@ module _ (w : World) (number : ℕ) (walk : Walk) (is : get w.walks number ≡ S
     commit_replies room = commits ∙ ap (λ b. told (cond b (Refused HistoryFull, without_walk w number) (reply_to w number walk.call, with_entry (without_walk w number) number walk.call (reply_to w number walk.call)))) room
 
   -- the leg in turn can't go on
-  pub may_commit_blocked : walk.stale ≡ false → option_map_or (is_blocked (shown w)) (turn walk.at) false ≡ true → may_commit w number walk ≡ true
+  pub may_commit_blocked : walk.stale ≡ false → option_map_or (leg_is_blocked (shown w)) (turn walk.at) false ≡ true → may_commit w number walk ≡ true
   may_commit_blocked fresh blocked = λ i. not (fresh i) && (blocked i || (at_ends walk.call walk.at && not (list_any (is_marked_by_other w number) (last_nodes (shown w) walk.call))))
 
   -- each branch is at its end, and nobody else stands in a last node
   pub may_commit_at_ends : walk.stale ≡ false → at_ends walk.call walk.at ≡ true → list_any (is_marked_by_other w number) (last_nodes (shown w) walk.call) ≡ false → may_commit w number walk ≡ true
-  may_commit_at_ends fresh at free = by (option_map_or (is_blocked (shown w)) (turn walk.at) false) ∙ refl
+  may_commit_at_ends fresh at free = by (option_map_or (leg_is_blocked (shown w)) (turn walk.at) false) ∙ refl
     where
       by : (b : Bool) → (not walk.stale && (b || (at_ends walk.call walk.at && not (list_any (is_marked_by_other w number) (last_nodes (shown w) walk.call))))) ≡ true
       by true = ap (λ t. not t && true) fresh
       by false = λ i. not (fresh i) && (at i && not (free i))
 
   pub may_commit_stale : walk.stale ≡ true → may_commit w number walk ≡ false
-  may_commit_stale stale = ap (λ t. not t && (option_map_or (is_blocked (shown w)) (turn walk.at) false || (at_ends walk.call walk.at && not (list_any (is_marked_by_other w number) (last_nodes (shown w) walk.call))))) stale
+  may_commit_stale stale = ap (λ t. not t && (option_map_or (leg_is_blocked (shown w)) (turn walk.at) false || (at_ends walk.call walk.at && not (list_any (is_marked_by_other w number) (last_nodes (shown w) walk.call))))) stale
 
-  pub may_commit_on_the_way : option_map_or (is_blocked (shown w)) (turn walk.at) false ≡ false → at_ends walk.call walk.at ≡ false → may_commit w number walk ≡ false
+  pub may_commit_on_the_way : option_map_or (leg_is_blocked (shown w)) (turn walk.at) false ≡ false → at_ends walk.call walk.at ≡ false → may_commit w number walk ≡ false
   may_commit_on_the_way free at = (λ i. not walk.stale && (free i || (at i && not (list_any (is_marked_by_other w number) (last_nodes (shown w) walk.call))))) ∙ and_false (not walk.stale)
     where
       and_false : (b : Bool) → (b && false) ≡ false
       and_false true = refl
       and_false false = refl
 
-  pub may_commit_marked : option_map_or (is_blocked (shown w)) (turn walk.at) false ≡ false → list_any (is_marked_by_other w number) (last_nodes (shown w) walk.call) ≡ true → may_commit w number walk ≡ false
+  pub may_commit_marked : option_map_or (leg_is_blocked (shown w)) (turn walk.at) false ≡ false → list_any (is_marked_by_other w number) (last_nodes (shown w) walk.call) ≡ true → may_commit w number walk ≡ false
   may_commit_marked free marked = (λ i. not walk.stale && (free i || (at_ends walk.call walk.at && not (marked i)))) ∙ neither (not walk.stale) (at_ends walk.call walk.at)
     where
       neither : (a b : Bool) → (a && (b && false)) ≡ false
@@ -195,14 +196,14 @@ module _ (w : World) (number : ℕ) (walk : Walk) (is : get w.walks number ≡ S
       neither false b = refl
 
 -- whether a leg is blocked, by its next name
-pub blocked_at_end : (s : State) (leg : Leg) → leg.ahead ≡ [] → is_blocked s leg ≡ false
-blocked_at_end s leg e = ap (is_blocked_by s leg.here) e
+pub blocked_at_end : (s : State) (leg : Leg) → leg.ahead ≡ [] → leg_is_blocked s leg ≡ false
+blocked_at_end s leg e = ap (is_blocked s leg.here) e
 
-pub blocked_none : (s : State) (leg : Leg) (name : Name) (rest : Path) → leg.ahead ≡ name ∷ rest → directory_under s leg.here name ≡ None → is_blocked s leg ≡ true
-blocked_none s leg name rest e none = ap (is_blocked_by s leg.here) e ∙ ap is_none none
+pub blocked_none : (s : State) (leg : Leg) (name : Name) (rest : Path) → leg.ahead ≡ name ∷ rest → directory_under s leg.here name ≡ None → leg_is_blocked s leg ≡ true
+blocked_none s leg name rest e none = ap (is_blocked s leg.here) e ∙ ap is_none none
 
-pub blocked_some : (s : State) (leg : Leg) (name : Name) (rest : Path) (inode : ℕ) → leg.ahead ≡ name ∷ rest → directory_under s leg.here name ≡ Some inode → is_blocked s leg ≡ false
-blocked_some s leg name rest inode e there = ap (is_blocked_by s leg.here) e ∙ ap is_none there
+pub blocked_some : (s : State) (leg : Leg) (name : Name) (rest : Path) (inode : ℕ) → leg.ahead ≡ name ∷ rest → directory_under s leg.here name ≡ Some inode → leg_is_blocked s leg ≡ false
+blocked_some s leg name rest inode e there = ap (is_blocked s leg.here) e ∙ ap is_none there
 
 -- ---- a call without a walk
 

@@ -16,9 +16,10 @@ use Rattle.ll_seq.specs.Effects.{with_client}
 use Rattle.ll_seq.specs.Facts.{AreKept}
 use Rattle.ll_seq.specs.History.{Log}
 use Rattle.ll_seq.proofs.FactsKept.{kept_connect}
-use Rattle.ll_walks.specs.World.{World, Joined, Replied, advance, shown, is_full, next_number, reply_to, with_entry}
+use Rattle.ll_walks.specs.World.{World, Joined, Replied, advance, shown, is_full, next_number, reply_to}
 use Rattle.ll_walks.specs.declared.step.Step.TheVariants.{Join}
 use Rattle.ll_walks.specs.Sound.{IsSound}
+use Rattle.ll_walks.proofs.Shapes.{with_entry}
 use Rattle.ll_walks.proofs.OneCall.{unused}
 use Rattle.ll_journal.specs.declared.journal.Journal.TheInside.{Inside}
 use Rattle.ll_held.specs.declared.held.Held.{Held}

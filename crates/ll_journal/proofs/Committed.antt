@@ -23,9 +23,10 @@ use Rattle.ll_seq.specs.State.{State, bytes_of, kind_of, start}
 use Rattle.ll_seq.specs.Tree.{kind_or_file}
 use Rattle.ll_seq.specs.Step.{step}
 use Rattle.ll_walks.specs.Walk.{Walk, marks}
-use Rattle.ll_walks.specs.World.{World, Replied, advance, shown, is_full, may_commit, moved_by, map_values, next_number, overtaken, reply_to, with_entry, with_stale, without_walk, has_any}
+use Rattle.ll_walks.specs.World.{World, Replied, advance, shown, is_full, may_commit, moved_by, map_values, next_number, overtaken, reply_to, without_walk, has_any}
 use Rattle.ll_walks.specs.declared.step.Step.TheVariants.{Commit}
 use Rattle.ll_walks.specs.Sound.{IsSound}
+use Rattle.ll_walks.proofs.Shapes.{with_entry, with_stale}
 use Rattle.ll_journal.specs.declared.journal.Journal.TheInside.{Inside}
 use Rattle.ll_journal.specs.Book.{Seat, Book, Spares, mark_of, has_mark, slot_of}
 use Rattle.ll_journal.specs.WalkEnds.{LeavesFree, TakesName, would_make}

@@ -16,12 +16,13 @@ use Rattle.ll_seq.specs.State.{Name, State, child, kind_of, names_in, name_count
 use Rattle.ll_seq.specs.Tree.{kind_or_file}
 use Rattle.ll_seq.specs.Facts.{open_count}
 use Rattle.ll_laws.proofs.Chains.{same_Some}
-use Rattle.ll_walks.specs.Walk.{Walk, Leg, Position, Above, Down, Split, marks, legs, is_above, turn, with_turn, further, further_by, leg_below, if_directory}
+use Rattle.ll_walks.specs.Walk.{Walk, Leg, Position, Above, Down, Split, marks, legs, is_above, turn, with_turn, further, further_by, leg_below}
 use Rattle.ll_walks.specs.Walks.{IsRight, AreRight}
 use Rattle.ll_walks.specs.World as world
-use Rattle.ll_walks.specs.World.{World, Outcome, Stands, advance, shown, domain_of, descend, stand, stood, enter, is_marked}
+use Rattle.ll_walks.specs.World.{World, Outcome, Stands, advance, shown, domain_of, descend, stand, enter, is_marked}
 use Rattle.ll_walks.specs.declared.step.Step.TheVariants.{Descend}
 use Rattle.ll_walks.specs.Sound.{IsSound}
+use Rattle.ll_walks.proofs.Shapes.{if_directory, stood}
 use Rattle.ll_held.specs.declared.held.Held.{Held}
 use Rattle.ll_journal.specs.declared.journal.Journal.TheInside.{Inside}
 use Rattle.ll_journal.specs.declared.look.Look.{Look}

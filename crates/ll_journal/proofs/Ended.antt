@@ -13,9 +13,10 @@ use Rattle.ll_seq.specs.declared.call.Call.{Call}
 use Rattle.ll_seq.specs.declared.reply.Reply.{Reply}
 use Rattle.ll_seq.specs.declared.reply.Reply.TheVariants.{Refused}
 use Rattle.ll_walks.specs.Walk.{Walk, at_ends}
-use Rattle.ll_walks.specs.World.{World, Replied, advance, is_full, may_commit, moved_by, overtaken, reply_to, shown, with_entry, with_stale, without_walk}
+use Rattle.ll_walks.specs.World.{World, Replied, advance, is_full, may_commit, moved_by, overtaken, reply_to, shown, without_walk}
 use Rattle.ll_walks.specs.declared.step.Step.TheVariants.{Commit}
 use Rattle.ll_walks.specs.Sound.{IsSound}
+use Rattle.ll_walks.proofs.Shapes.{with_entry, with_stale}
 use Rattle.ll_walks.proofs.SoundSteps.{sound_ended}
 use Rattle.ll_walks.proofs.Worlds.{get-map_values}
 use Rattle.ll_journal.specs.declared.seat.Stage.{Stage}

@@ -11,9 +11,11 @@ use Rattle.ll_seq.specs.declared.client.ClientRecord.{ClientRecord}
 use Rattle.ll_laws.proofs.Chains.{same_Some}
 use Rattle.ll_walks.specs.Walk.{Walk, Position, Above, Down, Split, marks, is_above, first_leg, trunk_path, further, turn}
 use Rattle.ll_walks.specs.World as world
-use Rattle.ll_walks.specs.World.{World, Outcome, Stands, advance, shown, domain_of, descend, is_marked, may_hold}
+use Rattle.ll_walks.specs.World.{World, Outcome, Stands, advance, shown, domain_of, descend, is_marked}
 use Rattle.ll_walks.specs.declared.step.Step.TheVariants.{Descend}
 use Rattle.ll_walks.specs.Sound.{IsSound}
+use Rattle.ll_walks.proofs.Shapes as shapes
+use Rattle.ll_walks.proofs.Shapes.{may_hold}
 use Rattle.ll_held.specs.declared.held.Held.{Held}
 use Rattle.ll_journal.specs.declared.journal.Journal.TheInside.{Inside}
 use Rattle.ll_journal.specs.declared.look.Look.TheVariants.{NotNow, Astray, Go}
@@ -73,7 +75,7 @@ pub record GoesToRoot (j : Inside) (number : ℕ) (seat : Seat) (slot : Held) : 
   pub is : seat.walk ≡ Some walk
   pub top : is_above walk.at ≡ true
   pub here : slot.inode ≡ root
-  pub step : advance (world_of j) (Descend number) ≡ (Stands root, world.entered (world_of j) number walk)
+  pub step : advance (world_of j) (Descend number) ≡ (Stands root, shapes.entered (world_of j) number walk)
 
 module _ (j : Inside) (h : IsKept j) (number place : ℕ) (seat : Seat) (at : slice_get j.seats.items place ≡ Some seat) (numbered : number ≡ suc place)
     (k : ℕ) (slot : Held) (lent : slot ≡ slot_of (book_of j) k) where
@@ -105,8 +107,8 @@ module _ (j : Inside) (h : IsKept j) (number place : ℕ) (seat : Seat) (at : sl
       by false true true e f g l =
           ap (λ b. answer (cond b None (cond (is_above walk.at) (world.enter w number walk) (option_and_then (world.stand w number walk) (option_and_then (further (shown w) (domain_of w number)) (turn walk.at)))))) e
           ∙ ap (λ b. answer (cond b (world.enter w number walk) (option_and_then (world.stand w number walk) (option_and_then (further (shown w) (domain_of w number)) (turn walk.at))))) f
-          ∙ ap (λ b. answer (cond (b && gated walk) (Some (Stands root, world.entered w number walk)) None)) (sym (unmarked g))
-          ∙ ap (λ b. answer (cond b (Some (Stands root, world.entered w number walk)) None)) (none_left (is_none slot.node.mark && gated walk) l)
+          ∙ ap (λ b. answer (cond (b && gated walk) (Some (Stands root, shapes.entered w number walk)) None)) (sym (unmarked g))
+          ∙ ap (λ b. answer (cond b (Some (Stands root, shapes.entered w number walk)) None)) (none_left (is_none slot.node.mark && gated walk) l)
       by false true false e f g l = absurd (cc l)
       by false false t e f g l = absurd (cc l)
 
@@ -128,8 +130,8 @@ module _ (j : Inside) (h : IsKept j) (number place : ℕ) (seat : Seat) (at : sl
         step = found (Some walk) is
             ∙ ap (λ b. answer (cond b None (cond (is_above walk.at) (world.enter w number walk) (option_and_then (world.stand w number walk) (option_and_then (further (shown w) (domain_of w number)) (turn walk.at)))))) e
             ∙ ap (λ b. answer (cond b (world.enter w number walk) (option_and_then (world.stand w number walk) (option_and_then (further (shown w) (domain_of w number)) (turn walk.at))))) f
-            ∙ ap (λ b. answer (cond (b && gated walk) (Some (Stands root, world.entered w number walk)) None)) (sym (unmarked g))
-            ∙ ap (λ b. answer (cond b (Some (Stands root, world.entered w number walk)) None)) (all_there (is_none slot.node.mark && gated walk) l);
+            ∙ ap (λ b. answer (cond (b && gated walk) (Some (Stands root, shapes.entered w number walk)) None)) (sym (unmarked g))
+            ∙ ap (λ b. answer (cond b (Some (Stands root, shapes.entered w number walk)) None)) (all_there (is_none slot.node.mark && gated walk) l);
       }
       by false true false e f g l = absurd (cc l)
       by false false t e f g l = absurd (cc l)
@@ -179,7 +181,7 @@ module _ (j : Inside) (h : IsKept j) (number place : ℕ) (seat : Seat) (at : sl
     gate_now : gate ≡ cond (go.walk.starts == 4) (Some number) w.gate
     gate_now = gate_is ∙ ap (λ (o : Option Walk). cond (option_map_or (λ (walk : Walk). walk.starts == 4) o false) (Some number) j.gate) go.is
 
-    root_world : changed_world j place new gate ≡ world.entered w number go.walk
+    root_world : changed_world j place new gate ≡ shapes.entered w number go.walk
     root_world =
         world_put j h number place seat at numbered new low gate new_walk
         ∙ ap (λ g. record w { walks = insert w.walks number low; gate = g }) gate_now

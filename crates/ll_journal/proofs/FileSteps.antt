@@ -24,9 +24,10 @@ use Rattle.ll_seq.specs.Effects.{let_go, lives, with_bytes, with_client}
 use Rattle.ll_changes.proofs.Living.{let_go_gone, let_go_next}
 use Rattle.ll_changes.proofs.SlotAccounts.{content_of, bytes_put, bytes_other, let_go_other, let_go_living}
 use Rattle.ll_walks.specs.Walk.{Walk}
-use Rattle.ll_walks.specs.World.{World, NotNow, Replied, advance, shown, descriptor_of, is_idle, is_full, is_on_descriptor, next_number, reply_to, with_entry}
+use Rattle.ll_walks.specs.World.{World, NotNow, Replied, advance, shown, descriptor_of, is_idle, is_full, is_on_descriptor, next_number, reply_to}
 use Rattle.ll_walks.specs.declared.step.Step.TheVariants.{FdCommit}
 use Rattle.ll_walks.specs.Sound.{IsSound}
+use Rattle.ll_walks.proofs.Shapes.{with_entry}
 use Rattle.ll_held.specs.declared.held.Held.{Held}
 use Rattle.ll_held.specs.Lent.{vacant}
 use Rattle.ll_inodes.specs.InodeTable.{Table, IsTable, NotIn, without_inode}

@@ -11,10 +11,11 @@ use Rattle.ll_seq.specs.Step.{step, client_of}
 use Rattle.ll_seq.proofs.Parted.{or_left, or_right}
 use Rattle.ll_held.specs.declared.held.Held.{Held}
 use Rattle.ll_walks.specs.Walk.{Walk, Leg, Position, Above, Down, Split, turn, with_turn, forked, marks, legs, is_above}
-use Rattle.ll_walks.specs.World.{World, shown, next_number, reply_to, with_entry, with_walk, without_walk, with_stale, begun, entered, stood, restarted}
+use Rattle.ll_walks.specs.World.{World, shown, next_number, reply_to, with_walk, without_walk}
 use Rattle.ll_journal.specs.Book.{mark_of, held_of}
 use Rattle.ll_inodes.specs.InodeTable.{NotIn}
 use Rattle.ll_walks.specs.Sound.{IsSound}
+use Rattle.ll_walks.proofs.Shapes.{begun, entered, restarted, stood, with_entry, with_stale}
 use Rattle.ll_walks.proofs.Tests.{or_false}
 use Rattle.ll_walks.proofs.Turns.{ended}
 use Rattle.ll_journal.proofs.Shown.{shown_reply, shown_ended}

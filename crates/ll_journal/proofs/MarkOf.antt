@@ -17,10 +17,11 @@ use Rattle.ll_seq.proofs.Parted.{or_split}
 use Rattle.ll_seq.proofs.DentryRows.{found_of_row}
 use Rattle.ll_laws.proofs.Chains.{same_Some}
 use Rattle.ll_walks.specs.Walk.{Walk, Leg, Position, Above, Down, Split, has_two_paths, toward, turn, with_turn, forked, marks, legs}
-use Rattle.ll_walks.specs.World.{World, next_number, map_values, overtaken, with_stale, is_marked, is_marked_by_other}
+use Rattle.ll_walks.specs.World.{World, next_number, map_values, overtaken, is_marked, is_marked_by_other}
 use Rattle.ll_journal.specs.Book.{has_mark, marked_below, mark_of}
 use Rattle.ll_walks.specs.Walks.{AreApart}
 use Rattle.ll_walks.specs.Sound.{IsSound}
+use Rattle.ll_walks.proofs.Shapes.{with_stale}
 use Rattle.ll_walks.proofs.Worlds.{found, get-map_values}
 use Rattle.ll_walks.proofs.Tests.{both, or_false}
 use Rattle.ll_walks.proofs.Turns.{ended}

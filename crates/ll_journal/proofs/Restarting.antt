@@ -6,9 +6,10 @@ use Rattle.std.proofs.lemmas.Bool.{eqb-true, eq-eqb}
 use Rattle.ll_rights.specs.Map.{insert}
 use Rattle.ll_walks.specs.Walk.{Walk, Above, is_in, marks}
 use Rattle.ll_walks.specs.World as world
-use Rattle.ll_walks.specs.World.{World, Outcome, Restarted, advance, restart, restarted}
+use Rattle.ll_walks.specs.World.{World, Outcome, Restarted, advance, restart}
 use Rattle.ll_walks.specs.declared.step.Step.TheVariants.{Restart}
 use Rattle.ll_walks.specs.Sound.{IsSound}
+use Rattle.ll_walks.proofs.Shapes.{restarted}
 use Rattle.ll_held.specs.declared.held.Held.{Held}
 use Rattle.ll_journal.specs.declared.journal.Journal.TheInside.{Inside}
 use Rattle.ll_journal.specs.declared.look.Look.{Look}

@@ -9,7 +9,8 @@ use Rattle.ll_seq.specs.History.{fresh_of}
 use Rattle.ll_seq.proofs.Histories.{after_push}
 use Rattle.ll_laws.proofs.Gain.{done_of}
 use Rattle.ll_walks.specs.Walk.{Walk}
-use Rattle.ll_walks.specs.World.{World, shown, next_number, reply_to, with_entry}
+use Rattle.ll_walks.specs.World.{World, shown, next_number, reply_to}
+use Rattle.ll_walks.proofs.Shapes.{with_entry}
 use Rattle.ll_walks.proofs.OneCall.{step_again}
 use Rattle.ll_walks.proofs.Turns.{ended}
 

@@ -17,10 +17,11 @@ use Rattle.ll_seq.specs.History.{Log, state_after}
 use Rattle.ll_journal.specs.declared.journal.Journal.TheInside.{Inside}
 use Rattle.ll_seq.specs.Step.{client_of}
 use Rattle.ll_walks.specs.Walk.{Walk, Above, marks}
-use Rattle.ll_walks.specs.World.{World, Outcome, Begun, NotNow, advance, begun, is_idle, is_walked, takes_gate, shown, next_number}
+use Rattle.ll_walks.specs.World.{World, Outcome, Begun, NotNow, advance, is_idle, is_walked, takes_gate, shown, next_number}
 use Rattle.ll_walks.specs.declared.step.Step.{Step}
 use Rattle.ll_walks.specs.declared.step.Step.TheVariants.{Begin}
 use Rattle.ll_walks.specs.Sound.{IsSound}
+use Rattle.ll_walks.proofs.Shapes.{begun}
 use Rattle.ll_walks.proofs.SoundSteps.{sound_kept}
 use Rattle.ll_journal.specs.Book.{Seat, Book, Spares, inode_in, slot_of, has_mark, marked_below}
 use Rattle.ll_changes.specs.Accounts.{names_map}

@@ -24,9 +24,10 @@ use Rattle.ll_seq.specs.Facts.{AreKept}
 use Rattle.ll_seq.specs.History.{Log}
 use Rattle.ll_seq.proofs.FactsKept.{kept_client}
 use Rattle.ll_walks.specs.Walk.{Walk}
-use Rattle.ll_walks.specs.World.{World, NotNow, Replied, advance, shown, is_idle, is_alone, is_full, next_number, reply_to, with_entry}
+use Rattle.ll_walks.specs.World.{World, NotNow, Replied, advance, shown, is_idle, is_alone, is_full, next_number, reply_to}
 use Rattle.ll_walks.specs.declared.step.Step.TheVariants.{ClientStep}
 use Rattle.ll_walks.specs.Sound.{IsSound}
+use Rattle.ll_walks.proofs.Shapes.{with_entry}
 use Rattle.ll_walks.proofs.OneCall.{unused}
 use Rattle.ll_journal.specs.declared.alone.Own.{Own}
 use Rattle.ll_journal.specs.declared.alone.Own.TheVariants as owns

@@ -18,9 +18,10 @@ use Rattle.ll_laws.proofs.Trees.{IsTree}
 use Rattle.ll_answer.specs.Found.{AreFacts, IsSpot}
 use Rattle.ll_answer.specs.Near.{nodes_of, may_make}
 use Rattle.ll_answer.specs.declared.found.Found.{Found}
-use Rattle.ll_walks.specs.Walk.{Walk, Leg, Position, Above, Down, Split, at_ends, is_blocked, is_blocked_by, is_in, marks, turn}
+use Rattle.ll_walks.specs.Walk.{Walk, Leg, Position, Above, Down, Split, at_ends, is_blocked, is_in, marks, turn}
 use Rattle.ll_walks.specs.World.{World, shown, domain_of, is_marked_by_other, last_nodes, may_commit}
 use Rattle.ll_walks.specs.Commits.{first_end, second_end}
+use Rattle.ll_walks.proofs.Shapes.{leg_is_blocked}
 use Rattle.ll_walks.proofs.Tests.{both, second}
 use Rattle.ll_changes.specs.Accounts.{names_map}
 use Rattle.ll_held.specs.declared.held.Held.{Held}
@@ -45,11 +46,11 @@ use Rattle.ll_journal.proofs.Ruled.{room_stays}
 -- ---- where a walk stands
 
 -- a leg without names ahead isn't blocked
-not_blocked : (s : State) (o : Option Leg) → option_and_then (λ (leg : Leg). slice_get leg.ahead 0) o ≡ None → option_map_or (is_blocked s) o false ≡ false
+not_blocked : (s : State) (o : Option Leg) → option_and_then (λ (leg : Leg). slice_get leg.ahead 0) o ≡ None → option_map_or (leg_is_blocked s) o false ≡ false
 not_blocked s None none = refl
 not_blocked s (Some leg) none = by leg.ahead none
   where
-    by : (p : Path) → slice_get p 0 ≡ None → is_blocked_by s leg.here p ≡ false
+    by : (p : Path) → slice_get p 0 ≡ None → is_blocked s leg.here p ≡ false
     by [] e = refl
     by (name ∷ rest) e = absurd (cc e)
 
@@ -141,7 +142,7 @@ module _ (j : Inside) (h : IsKept j) (number place : ℕ) (seat : Seat) (at : sl
     here : get w.walks number ≡ Some walk
     here = walk_here j h number place seat at numbered ∙ is
 
-    free : option_map_or (is_blocked s) (turn walk.at) false ≡ false
+    free : option_map_or (leg_is_blocked s) (turn walk.at) false ≡ false
     free = not_blocked s (turn walk.at) (ap (option_and_then (λ (v : Walk). next_of v.at)) (sym is) ∙ last)
 
     ends_is : at_ends walk.call walk.at ≡ is_at_ends seat

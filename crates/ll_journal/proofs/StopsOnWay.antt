@@ -15,10 +15,11 @@ use Rattle.ll_seq.specs.Facts.{open_count}
 use Rattle.ll_seq.specs.Stages.{no_directory, kind_of_child}
 use Rattle.ll_seq.specs.State.{Name, State, kind_of, names_in, name_count}
 use Rattle.ll_laws.proofs.Chains.{same_Some}
-use Rattle.ll_walks.specs.Walk.{Walk, Leg, Position, Above, Down, Split, at_ends, has_two_paths, if_directory, is_blocked, is_blocked_by, marks, turn}
+use Rattle.ll_walks.specs.Walk.{Walk, Leg, Position, Above, Down, Split, at_ends, has_two_paths, is_blocked, marks, turn}
 use Rattle.ll_walks.specs.World as world
 use Rattle.ll_walks.specs.World.{World, advance, shown}
 use Rattle.ll_walks.specs.declared.step.Step.TheVariants.{Commit}
+use Rattle.ll_walks.proofs.Shapes.{if_directory, leg_is_blocked}
 use Rattle.ll_walks.proofs.Tests.{not_true}
 use Rattle.ll_changes.specs.Accounts.{names_map}
 use Rattle.ll_changes.proofs.NameMaps.{get-names_map}
@@ -127,9 +128,9 @@ module _ (s : State) where
       by (Some Char) = refl
       by (Some Block) = refl
 
-  blocked_by : (leg : Leg) (name : Name) (rest : Path) → leg.ahead ≡ name ∷ rest → is_blocked s leg ≡ is_some (slice_get (no_directory (kind_of_child s (get (names_map s leg.here) name))) 0)
+  blocked_by : (leg : Leg) (name : Name) (rest : Path) → leg.ahead ≡ name ∷ rest → leg_is_blocked s leg ≡ is_some (slice_get (no_directory (kind_of_child s (get (names_map s leg.here) name))) 0)
   blocked_by leg name rest ahead =
-      ap (is_blocked_by s leg.here) ahead
+      ap (is_blocked s leg.here) ahead
       ∙ ap (λ o. is_none (option_and_then (if_directory s) o)) (sym (get-names_map s leg.here name))
       ∙ blocked_if (get (names_map s leg.here) name)
 
@@ -166,8 +167,8 @@ module _ (j : Inside) (h : IsKept j) (number place : ℕ) (seat : Seat) (at : sl
   abbrev refusal : Option Errno
   refusal = slice_get (no_directory (kind_of_child s (get (names_map s way.leg.here) name))) 0
 
-  blocked : option_map_or (is_blocked s) (turn way.walk.at) false ≡ is_some refusal
-  blocked = ap (λ o. option_map_or (is_blocked s) o false) way.in_turn ∙ blocked_by s way.leg name way.rest way.ahead
+  blocked : option_map_or (leg_is_blocked s) (turn way.walk.at) false ≡ is_some refusal
+  blocked = ap (λ o. option_map_or (leg_is_blocked s) o false) way.in_turn ∙ blocked_by s way.leg name way.rest way.ahead
 
   stops_for : (o : Option Errno) → refusal ≡ o → IsStop (book_of j) number slots (stop_by o)
   stops_for None e =

@@ -89,7 +89,7 @@ adds w w' step' (outcome.Stands inode) m = ([], refl, subst (Went w step') m (we
 adds w w' step' outcome.Forked m = ([], refl, subst (Went w step') m (went w step'))
 adds w w' step' outcome.Restarted m = ([], refl, subst (Went w step') m (went w step'))
 adds w w' step' (outcome.Joined number) m =
-    let g = subst (Went w step') m (went w step') in (entry_of number Connect Done ∷ [], (g.1, refl), g.2)
+    let g = subst (Went w step') m (went w step') in (entry_of number Connect Done ∷ [], refl, g.2)
 adds w w' step' (outcome.Replied k) m = by (subst (Went w step') m.3 (went w step'))
   where
     old : (es : List Entry) → es ≡ w.history → slice_get es k ≡ Some m.1 → ⊥
@@ -98,7 +98,7 @@ adds w w' step' (outcome.Replied k) m = by (subst (Went w step') m.3 (went w ste
     by : Went w step' (world.Replied m.1.reply, w') → (its : List Entry) × Adds w step' (outcome.Replied k) its × Grows w w' its
     by (inl g) = absurd (old w'.history (g.1.came ∙ append-nil w.history) m.2)
     by (inr (inl g)) = absurd (old w'.history (ap (λ (v : World). v.history) g.1) m.2)
-    by (inr (inr g)) = (entry_of g.1.0 g.1.1 m.1.reply ∷ [], (entry_of g.1.0 g.1.1 m.1.reply, g.2, refl, m.0, ap (λ (p : world.Outcome × World). p.0) m.3), g.5)
+    by (inr (inr g)) = (entry_of g.1.0 g.1.1 m.1.reply ∷ [], (entry_of g.1.0 g.1.1 m.1.reply, g.2, refl), g.5)
 adds w w' step' (outcome.Refused errno) (inl m) = ([], refl, by (subst (Went w step') m.1 (went w step')) m.0)
   where
     by : Went w step' (world.Replied (Refused errno), w') → IsUntold w step' → Grows w w' []
@@ -118,8 +118,9 @@ lawful w h within = record {
   apart = h.apart;
   few = h.few;
   gate = h.gate;
-  no_gain = λ early late rest e. no_gain w.rules w.room early late (legal_early (start w.rules w.room) (early ++ late) rest (subst (IsLegal (start w.rules w.room)) e h.legal));
-  withheld = λ early late rest e. bytes_are_withheld w.rules w.room early late (legal_early (start w.rules w.room) (early ++ late) rest (subst (IsLegal (start w.rules w.room)) e h.legal));
+  between = λ early late rest e.
+      let legal = legal_early (start w.rules w.room) (early ++ late) rest (subst (IsLegal (start w.rules w.room)) e h.legal) in
+      (no_gain w.rules w.room early late legal, bytes_are_withheld w.rules w.room early late legal);
 }
 
 pub grows_on : (u v w : World) (first rest : List Entry) → Grows u v first → Grows v w rest → Grows u w (first ++ rest)

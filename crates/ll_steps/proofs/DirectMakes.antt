@@ -20,7 +20,8 @@ use Rattle.ll_walks.specs.declared.step.Step.{Step}
 use Rattle.ll_walks.specs.declared.step.Step.TheVariants.{Join, FdCommit, ClientStep}
 use Rattle.ll_walks.specs.Sound.{IsSound}
 use Rattle.ll_walks.specs.World as world
-use Rattle.ll_walks.specs.World.{World, advance, shown, is_full, is_idle, is_on_descriptor, descriptor_of, next_number, replied}
+use Rattle.ll_walks.specs.World.{World, advance, shown, is_full, is_idle, is_on_descriptor, descriptor_of, next_number}
+use Rattle.ll_walks.proofs.Shapes.{replied}
 use Rattle.ll_walks.proofs.Tests.{both}
 use Rattle.ll_journal.specs.Book.{Book, Spares, inode_in, slot_of}
 use Rattle.ll_journal.specs.Direct.{Answers, ComesBack, IsOpen, TakesMemory}

@@ -17,7 +17,8 @@ use Rattle.ll_laws.proofs.Chains.{same_Some}
 use Rattle.ll_walks.specs.declared.step.Step.TheVariants.{Descend, Fork, Restart}
 use Rattle.ll_walks.specs.Walk.{Walk, Leg, Position, Above, Down, Split, further, further_by, turn, with_turn, forked, is_above, has_two_paths, toward, directory_under, leg_below, trunk_path, first_leg}
 use Rattle.ll_walks.specs.Walks.{AreFew}
-use Rattle.ll_walks.specs.World.{World, Outcome, NotNow, Begun, Stands, Forked, Restarted, Replied, Joined, shown, domain_of, is_marked, may_hold, with_walk, entered, enter, stood, stand, descend, fork, restarted, restart, walking, advance}
+use Rattle.ll_walks.specs.World.{World, Outcome, NotNow, Begun, Stands, Forked, Restarted, Replied, Joined, shown, domain_of, is_marked, with_walk, enter, stand, descend, fork, restart, advance}
+use Rattle.ll_walks.proofs.Shapes.{entered, may_hold, restarted, stood, walking}
 use Rattle.ll_steps.specs.Left.{most_steps, way_left, walk_left, steps_left}
 
 here : (m : Map nat_cmp Walk) (number : ℕ) (walk : Walk) → get (insert m number walk) number ≡ Some walk

@@ -8,7 +8,8 @@ use Rattle.ll_walks.specs.declared.step.Step.{Step}
 use Rattle.ll_walks.specs.declared.step.Step.TheVariants.{Begin, Descend, Fork, Restart, FdCommit, ClientStep}
 use Rattle.ll_walks.specs.Walk.{Walk, Leg, Position, further, turn, forked, is_above}
 use Rattle.ll_walks.specs.World as world
-use Rattle.ll_walks.specs.World.{World, shown, domain_of, is_marked, may_hold, with_walk, entered, enter, stood, stand, descend, fork, restarted, restart, walking, advance}
+use Rattle.ll_walks.specs.World.{World, shown, domain_of, is_marked, with_walk, enter, stand, descend, fork, restart, advance}
+use Rattle.ll_walks.proofs.Shapes.{entered, may_hold, restarted, stood, walking}
 use Rattle.ll_steps.specs.declared.outcome.Outcome.{Outcome}
 use Rattle.ll_steps.specs.declared.outcome.Outcome.TheVariants as outcome
 use Rattle.ll_steps.specs.Calling.{Waits, Leads, Calls, alone, walks, waits}

@@ -20,11 +20,12 @@ use Rattle.ll_seq.specs.Step.{client_of}
 use Rattle.ll_seq.proofs.Parted.{or_left, or_right}
 use Rattle.ll_walks.specs.declared.step.Step.{Step}
 use Rattle.ll_walks.specs.declared.step.Step.TheVariants.{Descend, Commit}
-use Rattle.ll_walks.specs.Walk.{Walk, Leg, Position, Above, Down, Split, further, turn, legs, marks, is_above, is_blocked, at_ends, has_two_paths}
-use Rattle.ll_walks.specs.World.{World, Outcome, NotNow, Stands, Replied, advance, shown, is_marked_by_other, is_walked, last_nodes, domain_of, is_marked, stood, stand, enter, descend}
+use Rattle.ll_walks.specs.Walk.{Walk, Leg, Position, Above, Down, Split, further, turn, legs, marks, is_above, at_ends, has_two_paths}
+use Rattle.ll_walks.specs.World.{World, Outcome, NotNow, Stands, Replied, advance, shown, is_marked_by_other, is_walked, last_nodes, domain_of, is_marked, stand, enter, descend}
 use Rattle.ll_walks.proofs.Tests.{not_true}
 use Rattle.ll_walks.proofs.Worlds.{found}
 use Rattle.ll_walks.specs.Sound.{IsSound}
+use Rattle.ll_walks.proofs.Shapes.{leg_is_blocked, stood}
 use Rattle.ll_journal.specs.Book.{Book, Spares, inode_in, slot_of, has_mark}
 use Rattle.ll_journal.specs.Steps.{Does, GoesDown, IsNext, IsInTurn, IsAstrayAt, IsAstrayAtTop, IsAstrayBelow, is_at_top, leg_in_turn}
 use Rattle.ll_journal.specs.WalkEnds.{AreEnough, Ends, IsAstrayAtEnd, MayTakeMemory, is_lent}
@@ -182,7 +183,7 @@ commit_nowhere w number none = by (get w.walks number) refl
     by : (o : Option Walk) → get w.walks number ≡ o → advance w (Commit number) ≡ (NotNow, w)
     by None is = commit_none w number is
     by (Some walk) is = commit_not_now w number walk is
-        (ap (λ at. not walk.stale && (option_map_or (is_blocked (shown w)) (turn at) false || (at_ends walk.call at && not (list_any (is_marked_by_other w number) (last_nodes (shown w) walk.call)))))
+        (ap (λ at. not walk.stale && (option_map_or (leg_is_blocked (shown w)) (turn at) false || (at_ends walk.call at && not (list_any (is_marked_by_other w number) (last_nodes (shown w) walk.call)))))
         (no_turn walk.at (sym (ap (option_and_then (λ (v : Walk). turn v.at)) is) ∙ none)) ∙ and_false (not walk.stale))
 
 pub in_turn_there : (b : Book) (number slot : ℕ) (leg : Leg) → leg_in_turn b.world number ≡ Some leg → inode_in b slot ≡ leg.here → IsInTurn b number slot

@@ -25,8 +25,8 @@ pub record IsLawful (w : World) : Type 0 where
   -- who needs the gate holds it, and is never stale
   pub gate : GateIsHeld w
   -- reach never grows under a layer, and withheld bytes stay withheld
-  pub no_gain : (early late rest : List Entry) → w.history ≡ early ++ late ++ rest → GainsNothing w.rules w.room early late
-  pub withheld : (early late rest : List Entry) → w.history ≡ early ++ late ++ rest → Withholds w.rules w.room early late
+  pub between : (early late rest : List Entry) → w.history ≡ early ++ late ++ rest →
+      GainsNothing w.rules w.room early late × Withholds w.rules w.room early late
 
 -- the same tree, with these entries more
 pub record Grows (w w' : World) (added : List Entry) : Type 0 where
@@ -38,11 +38,10 @@ pub record Grows (w w' : World) (added : List Entry) : Type 0 where
 -- Each step has its outcome, and adds what the outcome tells of to the history: these entries, in their order, and no other
 abbrev pub Runs : World → List Step → List Outcome → List Entry → World → Type 0
 Runs w [] [] added w' = (added ≡ []) × (w' ≡ w)
-Runs w [] (outcome ∷ outcomes) added w' = ⊥
-Runs w (step' ∷ steps) [] added w' = ⊥
 Runs w (step' ∷ steps) (outcome ∷ outcomes) added w' =
     (v : World) × (its others : List Entry) × (added ≡ its ++ others)
     × Makes w step' outcome v × Adds w step' outcome its × Grows w v its × Runs v steps outcomes others w'
+Runs w steps outcomes added w' = ⊥
 
 pub record IsHeadline (w : World) (steps : List Step) (outcomes : List Outcome) (w' : World) : Type 0 where
   pub added : List Entry

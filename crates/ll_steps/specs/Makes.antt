@@ -19,36 +19,23 @@ use Rattle.ll_steps.specs.declared.outcome.Outcome.TheVariants as outcome
 -- the client and the call that an entry of this step is of
 abbrev pub called : World → Step → Option (ℕ × Call)
 called w Join = Some (next_number w, Connect)
-called w (Begin number call) = None
-called w (Descend number) = None
-called w (Fork number) = None
 called w (Commit number) = option_map (λ (walk : Walk). (number, walk.call)) (get w.walks number)
-called w (Restart number) = None
 called w (FdCommit number call) = Some (number, call)
 called w (ClientStep number call) = Some (number, call)
+called w step' = None
 
 -- ---- Want of memory
 
 -- answered, and by no refusal
 abbrev pub succeeds : world.Outcome → Bool
-succeeds world.NotNow = false
-succeeds world.Begun = false
-succeeds (world.Stands inode) = false
-succeeds world.Forked = false
-succeeds world.Restarted = false
 succeeds (world.Replied reply) = not (is_refusal reply)
 succeeds (world.Joined number) = true
+succeeds other = false
 
 -- what is left: a walk that was to be answered has ended, and nothing else has changed
 abbrev pub starved : World → Step → World
-starved w Join = w
-starved w (Begin number call) = w
-starved w (Descend number) = w
-starved w (Fork number) = w
 starved w (Commit number) = without_walk w number
-starved w (Restart number) = w
-starved w (FdCommit number call) = w
-starved w (ClientStep number call) = w
+starved w step' = w
 
 -- Memory ran out for a step that was to succeed, of a call that may take memory
 pub record Starves (w : World) (step' : Step) (w' : World) : Type 0 where
@@ -83,17 +70,10 @@ Makes w step' (outcome.Refused errno) w' =
 
 -- ---- Entries
 
--- What the step adds to the history: where an entry tells of the outcome, that one, of the step's client and call
+-- What the step adds to the history: where an entry tells of the outcome, that one, of the step's client and call. (Its
+-- number and its reply are above)
 abbrev pub Adds : World → Step → Outcome → List Entry → Type 0
-Adds w step' outcome.NotNow added = added ≡ []
-Adds w step' outcome.Begun added = added ≡ []
-Adds w step' (outcome.Stands inode) added = added ≡ []
-Adds w step' outcome.Forked added = added ≡ []
-Adds w step' outcome.Restarted added = added ≡ []
-Adds w step' (outcome.Joined number) added =
-    (called w step' ≡ Some (number, Connect))
-    × (added ≡ record { client = number; call = Connect; reply = reply.Done } ∷ [])
+Adds w step' (outcome.Joined number) added = added ≡ record { client = number; call = Connect; reply = reply.Done } ∷ []
 Adds w step' (outcome.Replied k) added =
     (entry : Entry) × (called w step' ≡ Some (entry.client, entry.call)) × (added ≡ entry ∷ [])
-    × (k ≡ length w.history) × ((advance w step').0 ≡ world.Replied entry.reply)
-Adds w step' (outcome.Refused errno) added = added ≡ []
+Adds w step' other added = added ≡ []

@@ -14,8 +14,9 @@ use Rattle.ll_seq.specs.Tree.{ancestors}
 use Rattle.ll_seq.proofs.Parted.{or_right, end_push, chain_push}
 use Rattle.ll_laws.proofs.Chains.{same_Some}
 use Rattle.ll_laws.proofs.Trees.{IsTree}
-use Rattle.ll_walks.specs.Walk.{Leg, is_in, rights_where, first_mask, mask_below, masks_below, first_leg, leg_below, if_directory, further_by, further, toward}
+use Rattle.ll_walks.specs.Walk.{Leg, is_in, rights_where, masks_below, first_leg, leg_below, further_by, further, toward}
 use Rattle.ll_walks.specs.Walks.{IsRight}
+use Rattle.ll_walks.proofs.Shapes.{first_mask, if_directory, mask_below}
 use Rattle.ll_walks.proofs.Tests.{is_in_filter}
 
 -- ---- masks

@@ -14,9 +14,10 @@ use Rattle.ll_seq.specs.declared.rules.Rules.{Rules}
 use Rattle.ll_seq.proofs.Parted.{or_right}
 use Rattle.ll_laws.proofs.Chains.{same_Some}
 use Rattle.ll_walks.specs.Walk.{Walk, Position, Above, Down, Split, trunk_path, first_leg, with_turn, forked, is_above, passes}
-use Rattle.ll_walks.specs.World.{World, new_world, world_after, shown, domain_of, takes_gate, moving, may_hold, map_values, overtaken, released, moved_by, reply_to}
+use Rattle.ll_walks.specs.World.{World, new_world, world_after, shown, domain_of, takes_gate, moving, map_values, overtaken, released, moved_by, reply_to}
 use Rattle.ll_walks.specs.declared.step.Step.{Step}
-use Rattle.ll_walks.specs.Walks.{needs_gate, StartsAreFew, GateHolderIsNeverStale}
+use Rattle.ll_walks.specs.Walks.{needs_gate, AfterSteps, AreFew, GateIsHeld}
+use Rattle.ll_walks.proofs.Shapes.{may_hold}
 use Rattle.ll_walks.proofs.Tests.{or_false, is_nil}
 use Rattle.ll_walks.proofs.Worlds.{was_other, moved_nothing}
 use Rattle.ll_walks.proofs.Turns.{Keeps, steps_kept}
@@ -187,10 +188,10 @@ gated = record {
 all_good : (rules : Rules) (room limit : ℕ) (steps : List Step) → Gated (world_after (new_world rules room limit) steps)
 all_good rules room limit steps = steps_kept Gated gated (new_world rules room limit) steps (λ c v e. absurd (cc (sym e ∙ get-empty Walk nat_cmp c)))
 
-pub starts_are_few : StartsAreFew
+pub starts_are_few : AfterSteps AreFew
 starts_are_few rules room limit steps = λ number walk is. (all_good rules room limit steps number walk is).few
 
-pub holder_is_never_stale : GateHolderIsNeverStale
+pub holder_is_never_stale : AfterSteps GateIsHeld
 holder_is_never_stale rules room limit steps = λ number walk is needs.
     let g = all_good rules room limit steps number walk is in
     (g.held needs, g.fresh needs)

@@ -13,13 +13,15 @@ use Rattle.ll_seq.specs.declared.reply.Reply.TheVariants.{Done}
 use Rattle.ll_seq.specs.declared.rules.Rules.{Rules}
 use Rattle.ll_seq.specs.State.{start}
 use Rattle.ll_seq.specs.History.{IsLegal}
+use Rattle.ll_laws.specs.NoGain.{GainsNothing}
+use Rattle.ll_laws.specs.Withheld.{Withholds}
 use Rattle.ll_laws.proofs.Gain.{no_gain}
 use Rattle.ll_laws.proofs.Withholding.{bytes_are_withheld}
 use Rattle.ll_walks.specs.Walk.{Walk}
 use Rattle.ll_walks.specs.World.{World, new_world, world_after, is_full, next_number, reply_to}
 use Rattle.ll_walks.specs.declared.step.Step.{Step}
 use Rattle.ll_walks.specs.Walks.{HistoryIsLegal}
-use Rattle.ll_walks.specs.Growing.{Came, HistoryGrows, NoGainBetween, WithheldBetween}
+use Rattle.ll_walks.specs.Growing.{Came, HistoryGrows, OfBoth}
 use Rattle.ll_walks.proofs.Turns.{Keeps, steps_kept}
 use Rattle.ll_walks.proofs.Worlds.{still_hold, all_hold}
 
@@ -103,10 +105,10 @@ module _ (rules : Rules) (room limit : ℕ) (early late : List Step) where
       subst (λ (p : Rules × (ℕ × List Entry)). IsLegal (start p.0 p.1.0) p.1.1) (λ i. ((g.rules ∙ first.rules) i, ((g.room ∙ first.room) i, came i)))
       (still_hold w late (all_hold rules room limit early)).legal
 
-pub no_gain_between : NoGainBetween
+pub no_gain_between : OfBoth GainsNothing
 no_gain_between rules room limit early late added came =
     no_gain rules room (world_after (new_world rules room limit) early).history added (whole rules room limit early late added came)
 
-pub withheld_between : WithheldBetween
+pub withheld_between : OfBoth Withholds
 withheld_between rules room limit early late added came =
     bytes_are_withheld rules room (world_after (new_world rules room limit) early).history added (whole rules room limit early late added came)

@@ -1,4 +1,5 @@
 pub mod Tests
+pub mod Shapes
 pub mod Undisturbed
 pub mod OneCall
 pub mod CarriedMasks

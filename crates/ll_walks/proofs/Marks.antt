@@ -16,7 +16,7 @@ use Rattle.ll_seq.proofs.Parted.{or_split}
 use Rattle.ll_laws.proofs.Chains.{same_Some}
 use Rattle.ll_walks.specs.Walk.{Walk, Leg, Position, Above, Down, Split, has_two_paths, trunk_path, first_leg, toward, with_turn, forked, marks, legs}
 use Rattle.ll_walks.specs.World.{World, new_world, shown, domain_of, takes_gate, map_values, overtaken, is_marked, moved_by, reply_to}
-use Rattle.ll_walks.specs.Walks.{MarksAreApart}
+use Rattle.ll_walks.specs.Walks.{AfterSteps, AreApart}
 use Rattle.ll_walks.proofs.Worlds.{found, was_other}
 use Rattle.ll_walks.proofs.Turns.{Keeps, steps_kept}
 
@@ -116,5 +116,5 @@ apart = record {
   joins = λ w h not_full answer. h;
 }
 
-pub marks_are_apart : MarksAreApart
+pub marks_are_apart : AfterSteps AreApart
 marks_are_apart rules room limit steps = λ c v e d u. steps_kept Apart apart (new_world rules room limit) steps (λ c d v u e. absurd (cc (sym e ∙ get-empty Walk nat_cmp c))) c d v u e

@@ -7,9 +7,10 @@ use Rattle.ll_rights.specs.Map.{get}
 use Rattle.ll_rights.proofs.Maps.{get-empty}
 use Rattle.ll_seq.specs.declared.rules.Rules.{Rules}
 use Rattle.ll_walks.specs.Walk.{Walk, marks}
-use Rattle.ll_walks.specs.World.{World, new_world, shown, advance, with_stale, without_walk}
+use Rattle.ll_walks.specs.World.{World, new_world, shown, advance, without_walk}
 use Rattle.ll_walks.specs.declared.step.Step.{Step}
 use Rattle.ll_walks.specs.Sound.{IsSound}
+use Rattle.ll_walks.proofs.Shapes.{with_stale}
 use Rattle.ll_walks.proofs.Turns.{advance_kept}
 use Rattle.ll_walks.proofs.Worlds.{Holds, starts, tree_of}
 use Rattle.ll_walks.proofs.Marks.{Apart, apart}

@@ -11,9 +11,10 @@ use Rattle.ll_seq.specs.State.{root}
 use Rattle.ll_seq.specs.Step.{client_of}
 use Rattle.ll_seq.specs.History.{is_connect}
 use Rattle.ll_walks.specs.Walk.{Walk, Leg, Position, further, turn, forked, is_above}
-use Rattle.ll_walks.specs.World.{World, Outcome, NotNow, Begun, Stands, Forked, Restarted, shown, domain_of, is_idle, is_walked, is_on_descriptor, is_alone, is_marked, is_full, may_hold, may_commit, takes_gate, next_number, reply_to, with_entry, with_walk, without_walk, with_stale, moved_by, joined, join, begun, begin, entered, enter, stood, stand, descend, fork, committed, commit, restarted, restart, replied, direct, advance, world_after}
+use Rattle.ll_walks.specs.World.{World, Outcome, NotNow, Begun, Stands, Forked, Restarted, shown, domain_of, is_idle, is_walked, is_on_descriptor, is_alone, is_marked, is_full, may_commit, takes_gate, next_number, reply_to, with_walk, without_walk, moved_by, joined, begin, enter, stand, descend, fork, commit, restart, direct, advance, world_after}
 use Rattle.ll_walks.specs.declared.step.Step.{Step}
 use Rattle.ll_walks.specs.declared.step.Step.TheVariants.{Join, Begin, Descend, Fork, Commit, Restart, FdCommit, ClientStep}
+use Rattle.ll_walks.proofs.Shapes.{begun, committed, entered, join, may_hold, replied, restarted, stood, with_entry, with_stale}
 use Rattle.ll_walks.proofs.Tests.{both, not_true}
 
 -- the world after a commit that is answered so

@@ -20,8 +20,9 @@ use Rattle.ll_seq.specs.Stages.{in_the_way, way_to, walk_refusals, no_directory,
 use Rattle.std.specs.List.{flat_map}
 use Rattle.ll_laws.proofs.Chains.{same_Some}
 use Rattle.ll_laws.proofs.Unrefused.{nil_left, nil_right}
-use Rattle.ll_walks.specs.Walk.{Leg, Position, Above, Down, Split, trunk_path, if_directory, is_blocked_by, is_blocked, turn}
+use Rattle.ll_walks.specs.Walk.{Leg, Position, Above, Down, Split, trunk_path, is_blocked, turn}
 use Rattle.ll_walks.specs.Walks.{IsRight, AreRight, AreOnPaths}
+use Rattle.ll_walks.proofs.Shapes.{if_directory, leg_is_blocked}
 
 -- ---- parts of a way
 
@@ -62,10 +63,10 @@ clear_directory s (Some i) e = by (kind_of s i) e
     by (Some Char) f = absurd (cc f)
     by (Some Block) f = absurd (cc f)
 
-leg_clear : (s : State) (domain : List Layer) (leg : Leg) → IsRight s domain leg → in_the_way s (leg.walked ++ leg.ahead) root ≡ [] → is_blocked s leg ≡ false
+leg_clear : (s : State) (domain : List Layer) (leg : Leg) → IsRight s domain leg → in_the_way s (leg.walked ++ leg.ahead) root ≡ [] → leg_is_blocked s leg ≡ false
 leg_clear s domain leg r w = by leg.ahead (way_rest s leg.walked leg.ahead root leg.here w r.names)
   where
-    by : (p : Path) → in_the_way s p leg.here ≡ [] → is_blocked_by s leg.here p ≡ false
+    by : (p : Path) → in_the_way s p leg.here ≡ [] → is_blocked s leg.here p ≡ false
     by [] v = refl
     by (name ∷ rest) v = clear_directory s (child s leg.here name) (nil_left (no_directory (kind_of_child s (child s leg.here name))) (option_map_or (in_the_way s rest) (child s leg.here name) []) v)
 
@@ -106,13 +107,13 @@ second_clear s [] e = refl
 second_clear s (t ∷ []) e = nil_left (way_to s t) [] e
 second_clear s (t ∷ (u ∷ ts)) e = nil_left (way_to s u) (flat_map (way_to s) ts) (nil_right (way_to s t) (flat_map (way_to s) (u ∷ ts)) e)
 
-pub not_blocked : (s : State) (domain : List Layer) (call : Call) (at : Position) → walk_refusals s call ≡ [] → AreOnPaths call at → AreRight s domain at → option_map_or (is_blocked s) (turn at) false ≡ false
+pub not_blocked : (s : State) (domain : List Layer) (call : Call) (at : Position) → walk_refusals s call ≡ [] → AreOnPaths call at → AreRight s domain at → option_map_or (leg_is_blocked s) (turn at) false ≡ false
 not_blocked s domain call Above clear on r = refl
 not_blocked s domain call (Down trunk) clear on r =
     let w = common_left (parent (first_path call)) (parent (second_path call)) in
     leg_clear s domain trunk r (ap (λ p. in_the_way s p root) on ∙ way_front s (trunk_path call) w.0 root (ap (λ p. in_the_way s p root) w.1 ∙ first_clear s (targets call) clear))
 not_blocked s domain call (Split trunk old new) clear on r =
-    elim (is_root old.ahead) as (λ b. is_blocked s (cond b new old) ≡ false) [
+    elim (is_root old.ahead) as (λ b. leg_is_blocked s (cond b new old) ≡ false) [
       | true ↦ leg_clear s domain new r.2 (ap (λ p. in_the_way s p root) on.2 ∙ second_clear s (targets call) clear)
       | false ↦ leg_clear s domain old r.1 (ap (λ p. in_the_way s p root) on.1 ∙ first_clear s (targets call) clear)
     ]

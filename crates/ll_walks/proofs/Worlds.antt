@@ -37,11 +37,12 @@ use Rattle.ll_laws.proofs.Chains.{same_Some}
 use Rattle.ll_laws.proofs.Unrefused.{nil_left, nil_map, neither}
 use Rattle.ll_laws.proofs.Trees.{IsTree}
 use Rattle.ll_laws.proofs.Gain.{done_of, passes, start_tree, after_tree}
-use Rattle.ll_walks.specs.Walk.{Walk, Leg, Position, Above, Down, Split, is_in, trunk_path, toward, legs, turn, with_turn, further, forked, is_blocked, at_ends, has_two_paths, marks, passes as walk_passes, first_leg}
+use Rattle.ll_walks.specs.Walk.{Walk, Leg, Position, Above, Down, Split, is_in, trunk_path, toward, legs, turn, with_turn, further, forked, at_ends, has_two_paths, marks, passes as walk_passes, first_leg}
 use Rattle.ll_walks.specs.World.{World, new_world, shown, is_done, early_refusals, takes_gate, domain_of, has_any, is_walked, is_idle, is_marked_by_other, may_commit, last_node, last_nodes, moving, moved_by, is_same_node, map_values, overtaken, released, next_number, reply_to, world_after}
 use Rattle.ll_walks.specs.declared.step.Step.{Step}
-use Rattle.ll_walks.specs.Walks.{AreRight, AreOnPaths, IsUnderWay, WalksAreValid}
+use Rattle.ll_walks.specs.Walks.{AreRight, AreOnPaths, IsUnderWay, AfterSteps, AreValid}
 use Rattle.ll_walks.specs.Sound.{AreNumbered}
+use Rattle.ll_walks.proofs.Shapes.{leg_is_blocked}
 use Rattle.ll_walks.proofs.Tests.{both, second, not_true, or_false, is_nil, none_of}
 use Rattle.ll_walks.proofs.OneCall.{stands, step_again, step_clients, other_client, unused, numbered}
 use Rattle.ll_walks.proofs.CarriedMasks.{first_right, toward_right, further_right, further_same}
@@ -318,7 +319,7 @@ module _ (w : World) (number : ℕ) (walk : Walk) (h : Holds w) (is : get w.walk
   unmarked : refusals (shown w) (client_of (shown w) number) walk.call ≡ [] → list_any (is_marked_by_other w number) (last_nodes (shown w) walk.call) ≡ false
   unmarked none =
       let free = not_blocked (shown w) (domain_of w number) walk.call walk.at (passes (shown w) (client_of (shown w) number) walk.call none).way (h.under_way number walk is).on_paths (h.right number walk is not_stale) in
-      let ends = second (option_map_or (is_blocked (shown w)) (turn walk.at) false) (at_ends walk.call walk.at && not (list_any (is_marked_by_other w number) (last_nodes (shown w) walk.call))) free (both (not walk.stale) _ may).1 in
+      let ends = second (option_map_or (leg_is_blocked (shown w)) (turn walk.at) false) (at_ends walk.call walk.at && not (list_any (is_marked_by_other w number) (last_nodes (shown w) walk.call))) free (both (not walk.stale) _ may).1 in
       not_true _ (both (at_ends walk.call walk.at) _ ends).1
 
   -- so what another walk marks isn't one
@@ -493,7 +494,7 @@ still_hold w steps h = steps_kept Holds holds_on w steps h
 pub all_hold : (rules : Rules) (room limit : ℕ) (steps : List Step) → Holds (world_after (new_world rules room limit) steps)
 all_hold rules room limit steps = still_hold (new_world rules room limit) steps (starts rules room limit)
 
-pub walks_are_valid : WalksAreValid
+pub walks_are_valid : AfterSteps AreValid
 walks_are_valid rules room limit steps =
     let h = all_hold rules room limit steps in
     λ number walk is. (h.under_way number walk is, h.right number walk is)

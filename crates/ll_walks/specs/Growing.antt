@@ -2,8 +2,6 @@
 use Rattle.std.specs.Prelude.{◌≡◌, ℕ, ◌≤◌, List, ◌++◌, length}
 use Rattle.ll_seq.specs.declared.reply.Entry.{Entry}
 use Rattle.ll_seq.specs.declared.rules.Rules.{Rules}
-use Rattle.ll_laws.specs.NoGain.{GainsNothing}
-use Rattle.ll_laws.specs.Withheld.{Withholds}
 use Rattle.ll_walks.specs.World.{World, new_world, world_after}
 use Rattle.ll_walks.specs.declared.step.Step.{Step}
 
@@ -26,11 +24,3 @@ OfBoth P =
     let w = world_after (new_world rules room limit) early in
     let v = world_after w late in
     (added : List Entry) → Came w v added → P rules room w.history added
-
--- no layer under which all moves between the two are made gains reach
-abbrev pub NoGainBetween : Type 0
-NoGainBetween = OfBoth GainsNothing
-
--- and bytes stay withheld
-abbrev pub WithheldBetween : Type 0
-WithheldBetween = OfBoth Withholds

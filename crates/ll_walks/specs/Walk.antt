@@ -31,19 +31,12 @@ Mask = List ℕ
 abbrev pub rights_where : (ℕ → Bool) → Mask
 rights_where test = filter test all_rights
 
--- above the root: what the layer doesn't restrict
-abbrev pub first_mask : Layer → Mask
-first_mask layer = rights_where (λ right. not (restricts layer right))
-
--- one directory further: besides, what the layer's rule on it holds
-abbrev pub mask_below : Layer → Mask → ℕ → Mask
-mask_below layer mask inode = rights_where (λ right. is_in mask right || has_rule layer right inode)
-
--- of each layer
+-- one directory further, of each layer: besides, what its rule on it holds
 abbrev pub masks_below : List Layer → List Mask → ℕ → List Mask
 masks_below [] masks inode = []
 masks_below (layer ∷ layers) [] inode = []
-masks_below (layer ∷ layers) (mask ∷ masks) inode = mask_below layer mask inode ∷ masks_below layers masks inode
+masks_below (layer ∷ layers) (mask ∷ masks) inode =
+    rights_where (λ right. is_in mask right || has_rule layer right inode) ∷ masks_below layers masks inode
 
 -- ---- Legs
 
@@ -56,14 +49,14 @@ pub record Leg : Type 0 where
   pub here : ℕ
   pub masks : List Mask
 
--- at the root, with this way to go
+-- At the root, with this way to go. Above the root there is what a layer doesn't restrict
 abbrev pub first_leg : List Layer → Path → Leg
 first_leg domain way = record {
   walked = [];
   ahead = way;
   chain = root ∷ [];
   here = root;
-  masks = masks_below domain (map first_mask domain) root;
+  masks = masks_below domain (map (λ layer. rights_where (λ right. not (restricts layer right))) domain) root;
 }
 
 -- in the directory that the next name names
@@ -76,12 +69,10 @@ leg_below domain leg name rest inode = record {
   masks = masks_below domain leg.masks inode;
 }
 
-abbrev pub if_directory : State → ℕ → Option ℕ
-if_directory s inode = if is_dir (kind_or_file s inode) then Some inode else None
-
 -- what the directory has under the name, if that is a directory
 abbrev pub directory_under : State → ℕ → Name → Option ℕ
-directory_under s directory name = option_and_then (if_directory s) (child s directory name)
+directory_under s directory name =
+    option_and_then (λ inode. if is_dir (kind_or_file s inode) then Some inode else None) (child s directory name)
 
 -- with these names left
 abbrev pub further_by : State → List Layer → Leg → Path → Option Leg
@@ -93,12 +84,9 @@ abbrev pub further : State → List Layer → Leg → Option Leg
 further s domain leg = further_by s domain leg leg.ahead
 
 -- a name is left, and names no directory
-abbrev pub is_blocked_by : State → ℕ → Path → Bool
-is_blocked_by s here [] = false
-is_blocked_by s here (name ∷ rest) = is_none (directory_under s here name)
-
-abbrev pub is_blocked : State → Leg → Bool
-is_blocked s leg = is_blocked_by s leg.here leg.ahead
+abbrev pub is_blocked : State → ℕ → Path → Bool
+is_blocked s here [] = false
+is_blocked s here (name ∷ rest) = is_none (directory_under s here name)
 
 -- ---- Where a walk is
 
@@ -138,12 +126,11 @@ toward leg path = record leg { ahead = drop (length leg.walked) (parent path) }
 
 -- past the fork, if it stands there: two paths, and no name left that is common to both
 abbrev pub forked : Call → Position → Option Position
-forked call Above = None
 forked call (Down trunk) =
     if has_two_paths call && is_root trunk.ahead
     then Some (Split trunk (toward trunk (first_path call)) (toward trunk (second_path call)))
     else None
-forked call (Split trunk old new) = None
+forked call at = None
 
 -- starts: how often the walk has begun at the top. stale: a directory on its way was moved
 pub record Walk : Type 0 where
@@ -162,5 +149,4 @@ passes walk inode = list_any (λ (leg : Leg). is_in leg.chain inode) (legs walk.
 
 abbrev pub is_above : Position → Bool
 is_above Above = true
-is_above (Down trunk) = false
-is_above (Split trunk old new) = false
+is_above at = false

@@ -63,22 +63,13 @@ abbrev pub AreValid : World → Type 0
 AreValid w = OfWalks w (λ number walk.
     IsUnderWay w number walk × (walk.stale ≡ false → AreRight (shown w) (domain_of w number) walk.at))
 
-abbrev pub WalksAreValid : Type 0
-WalksAreValid = AfterSteps AreValid
-
 -- a directory carries the mark of one walk at most
 abbrev pub AreApart : World → Type 0
 AreApart w = OfWalks w (λ c v. OfWalks w (λ d u.
     (inode : ℕ) → marks v inode ≡ true → marks u inode ≡ true → c ≡ d))
 
-abbrev pub MarksAreApart : Type 0
-MarksAreApart = AfterSteps AreApart
-
 abbrev pub AreFew : World → Type 0
 AreFew w = OfWalks w (λ number walk. walk.starts ≤ 4)
-
-abbrev pub StartsAreFew : Type 0
-StartsAreFew = AfterSteps AreFew
 
 -- one of the calls that take the gate, or on its fourth start and not above the root
 abbrev pub needs_gate : Walk → Bool
@@ -88,6 +79,3 @@ needs_gate walk = takes_gate walk.call || ((walk.starts == 4) && not (is_above w
 abbrev pub GateIsHeld : World → Type 0
 GateIsHeld w = OfWalks w (λ number walk.
     needs_gate walk ≡ true → (w.gate ≡ Some number) × (walk.stale ≡ false))
-
-abbrev pub GateHolderIsNeverStale : Type 0
-GateHolderIsNeverStale = AfterSteps GateIsHeld

@@ -63,29 +63,35 @@ abbrev pub has_any : {A : Type 0} → List A → Bool
 has_any [] = false
 has_any (x ∷ xs) = true
 
--- the descriptor that the call is made on
+-- the descriptor that the call is made on, and the paths whose nodes it moves
+abbrev pub concerns : Call → Option ℕ × List Path
+concerns (call.Make kind target) = (None, [])
+concerns (call.Open mode target) = (None, [])
+concerns (call.Read fd offset count) = (Some fd, [])
+concerns (call.Write fd offset bytes) = (Some fd, [])
+concerns (call.Ftruncate fd size) = (Some fd, [])
+concerns (call.Close fd) = (Some fd, [])
+concerns (call.Truncate target size) = (None, [])
+concerns (call.ReadDir target) = (None, [])
+concerns (call.Stat target) = (None, [])
+concerns (call.Exec target) = (None, [])
+concerns (call.Unlink target) = (None, [])
+concerns (call.Rmdir target) = (None, [])
+concerns (call.Rename from into) = (None, path_of from ∷ [])
+concerns (call.RenameNoreplace from into) = (None, path_of from ∷ [])
+concerns (call.Exchange from into) = (None, path_of from ∷ path_of into ∷ [])
+concerns (call.Link from into) = (None, [])
+concerns (call.Ruleset rights) = (None, [])
+concerns (call.Allow number target rights) = (None, [])
+concerns (call.Confine number) = (None, [])
+concerns call.Spawn = (None, [])
+concerns call.Connect = (None, [])
+
 abbrev pub descriptor_of : Call → Option ℕ
-descriptor_of (call.Make kind target) = None
-descriptor_of (call.Open mode target) = None
-descriptor_of (call.Read fd offset count) = Some fd
-descriptor_of (call.Write fd offset bytes) = Some fd
-descriptor_of (call.Ftruncate fd size) = Some fd
-descriptor_of (call.Close fd) = Some fd
-descriptor_of (call.Truncate target size) = None
-descriptor_of (call.ReadDir target) = None
-descriptor_of (call.Stat target) = None
-descriptor_of (call.Exec target) = None
-descriptor_of (call.Unlink target) = None
-descriptor_of (call.Rmdir target) = None
-descriptor_of (call.Rename from into) = None
-descriptor_of (call.RenameNoreplace from into) = None
-descriptor_of (call.Exchange from into) = None
-descriptor_of (call.Link from into) = None
-descriptor_of (call.Ruleset rights) = None
-descriptor_of (call.Allow number target rights) = None
-descriptor_of (call.Confine number) = None
-descriptor_of call.Spawn = None
-descriptor_of call.Connect = None
+descriptor_of call = (concerns call).0
+
+abbrev pub moving : Call → List Path
+moving call = (concerns call).1
 
 -- The refusals of the first three stages, which look neither at the tree nor at layers
 abbrev pub early_refusals : ClientRecord → Call → List Errno
@@ -114,34 +120,6 @@ abbrev pub is_marked_by_other : World → ℕ → ℕ → Bool
 is_marked_by_other w number inode =
     list_any (λ (e : ℕ × Walk). not (e.0 == number) && marks e.1 inode) (entries w.walks)
 
--- nobody else holds the gate
-abbrev pub may_hold : World → ℕ → Bool
-may_hold w number = option_map_or (λ holder. holder == number) w.gate true
-
--- the paths whose nodes the call moves
-abbrev pub moving : Call → List Path
-moving (call.Make kind target) = []
-moving (call.Open mode target) = []
-moving (call.Read fd offset count) = []
-moving (call.Write fd offset bytes) = []
-moving (call.Ftruncate fd size) = []
-moving (call.Close fd) = []
-moving (call.Truncate target size) = []
-moving (call.ReadDir target) = []
-moving (call.Stat target) = []
-moving (call.Exec target) = []
-moving (call.Unlink target) = []
-moving (call.Rmdir target) = []
-moving (call.Rename from into) = path_of from ∷ []
-moving (call.RenameNoreplace from into) = path_of from ∷ []
-moving (call.Exchange from into) = path_of from ∷ path_of into ∷ []
-moving (call.Link from into) = []
-moving (call.Ruleset rights) = []
-moving (call.Allow number target rights) = []
-moving (call.Confine number) = []
-moving call.Spawn = []
-moving call.Connect = []
-
 -- Of the calls that may move directories only one is under way at a time: it holds the gate from its beginning
 abbrev pub takes_gate : Call → Bool
 takes_gate call = has_any (moving call)
@@ -164,7 +142,7 @@ domain_of w number = (client_of (shown w) number).domain
 abbrev pub may_commit : World → ℕ → Walk → Bool
 may_commit w number walk =
     not walk.stale
-    && (option_map_or (is_blocked (shown w)) (turn walk.at) false
+    && (option_map_or (λ (leg : Leg). is_blocked (shown w) leg.here leg.ahead) (turn walk.at) false
     || (at_ends walk.call walk.at && not (list_any (is_marked_by_other w number) (last_nodes (shown w) walk.call))))
 
 -- ---- Answers
@@ -180,15 +158,12 @@ next_number w = len (shown w).clients + 1
 abbrev pub reply_to : World → ℕ → Call → Reply
 reply_to w number call = (step (shown w) number call (next_number w)).0
 
-abbrev pub with_entry : World → ℕ → Call → Reply → World
-with_entry w number call reply =
-    record w { history = w.history ++ record { client = number; call = call; reply = reply } ∷ [] }
-
 -- A full history takes no entry, and then the call isn't made
 abbrev pub answered : World → ℕ → Call → Reply × World
 answered w number call =
+    let answer = reply_to w number call in
     if is_full w then (reply.Refused HistoryFull, w)
-    else (reply_to w number call, with_entry w number call (reply_to w number call))
+    else (answer, record w { history = w.history ++ record { client = number; call = call; reply = answer } ∷ [] })
 
 -- ---- What a commit does to walks
 
@@ -225,9 +200,6 @@ moved_by s call reply =
 abbrev pub overtaken : List ℕ → Walk → Walk
 overtaken moved walk = record walk { stale = walk.stale || list_any (passes walk) moved }
 
-abbrev pub with_stale : List ℕ → World → World
-with_stale moved w = record w { walks = map_values (overtaken moved) w.walks }
-
 -- ---- The steps. Each is None where it isn't enabled, and the words above it say where it is
 
 -- the client is there, and no walk of it is under way
@@ -239,44 +211,41 @@ abbrev pub joined : World → Reply → World → Outcome × World
 joined w reply.Done next = (Joined (next_number w), next)
 joined w reply next = (Replied reply, w)
 
-abbrev pub join : World → Outcome × World
-join w = let r = answered w (next_number w) call.Connect in joined w r.0 r.1
-
--- above the root, with the gate if it is one of those calls
-abbrev pub begun : World → ℕ → Call → World
-begun w number call = record w {
-  walks = insert w.walks number (record { call = call; starts = 1; stale = false; at = Above });
-  gate = if takes_gate call then Some number else w.gate;
-}
-
--- Its client is idle, the call is one that walks, and nobody holds the gate if the call takes it
+-- Its client is idle, the call is one that walks, and nobody holds the gate if the call takes it. The walk starts above
+-- the root
 abbrev pub begin : World → ℕ → Call → Option (Outcome × World)
 begin w number call =
     if is_idle w number && is_walked (client_of (shown w) number) call && (not (takes_gate call) || is_none w.gate)
-    then Some (Begun, begun w number call)
+    then Some (
+      Begun,
+      record w {
+        walks = insert w.walks number (record { call = call; starts = 1; stale = false; at = Above });
+        gate = if takes_gate call then Some number else w.gate;
+      },
+    )
     else None
 
--- The first descent is to the root. On its fourth start the walk takes the gate, so that nothing on its way is moved
-abbrev pub entered : World → ℕ → Walk → World
-entered w number walk = record w {
-  walks = insert w.walks number (record walk { at = Down (first_leg (domain_of w number) (trunk_path walk.call)) });
-  gate = if walk.starts == 4 then Some number else w.gate;
-}
-
--- The root is unmarked, and on the fourth start nobody else holds the gate
+-- The first descent is to the root, if that is unmarked. On its fourth start the walk takes the gate, if nobody else
+-- holds it, so that nothing on its way is moved
 abbrev pub enter : World → ℕ → Walk → Option (Outcome × World)
 enter w number walk =
-    if not (is_marked w root) && (not (walk.starts == 4) || may_hold w number)
-    then Some (Stands root, entered w number walk)
+    let last = walk.starts == 4 in
+    if not (is_marked w root) && (not last || option_map_or (λ holder. holder == number) w.gate true)
+    then Some (
+      Stands root,
+      record w {
+        walks = insert w.walks number (record walk { at = Down (first_leg (domain_of w number) (trunk_path walk.call)) });
+        gate = if last then Some number else w.gate;
+      },
+    )
     else None
-
--- the leg in turn stands there now
-abbrev pub stood : World → ℕ → Walk → Leg → World
-stood w number walk leg = with_walk w number (record walk { at = with_turn walk.at leg })
 
 -- No walk stands there
 abbrev pub stand : World → ℕ → Walk → Leg → Option (Outcome × World)
-stand w number walk leg = if not (is_marked w leg.here) then Some (Stands leg.here, stood w number walk leg) else None
+stand w number walk leg =
+    if not (is_marked w leg.here)
+    then Some (Stands leg.here, with_walk w number (record walk { at = with_turn walk.at leg }))
+    else None
 
 -- The walk isn't stale, and is above the root, or its leg in turn has a next name that names a directory
 abbrev pub descend : World → ℕ → Walk → Option (Outcome × World)
@@ -291,42 +260,36 @@ fork w number walk =
     if walk.stale then None
     else option_map (λ at. (Forked, with_walk w number (record walk { at = at }))) (forked walk.call walk.at)
 
--- The walk has ended with its call's answer, and whoever it overtook is stale
-abbrev pub committed : World → ℕ → Walk → Outcome × World
-committed w number walk =
-    let r = answered (without_walk w number) number walk.call in
-    (Replied r.0, with_stale (moved_by (shown w) walk.call r.0) r.1)
-
+-- The walk ends with its call's answer, and whoever it overtook is stale
 abbrev pub commit : World → ℕ → Walk → Option (Outcome × World)
-commit w number walk = if may_commit w number walk then Some (committed w number walk) else None
+commit w number walk =
+    let r = answered (without_walk w number) number walk.call in
+    let moved = moved_by (shown w) walk.call r.0 in
+    if may_commit w number walk
+    then Some (Replied r.0, record r.1 { walks = map_values (overtaken moved) r.1.walks })
+    else None
 
--- above the root, so without marks, and not stale
-abbrev pub restarted : World → ℕ → Walk → World
-restarted w number walk = with_walk w number (record walk { starts = walk.starts + 1; stale = false; at = Above })
-
--- Only a stale walk starts again
+-- Only a stale walk starts again: above the root, so without marks
 abbrev pub restart : World → ℕ → Walk → Option (Outcome × World)
-restart w number walk = if walk.stale then Some (Restarted, restarted w number walk) else None
-
-abbrev pub replied : World → ℕ → Call → Outcome × World
-replied w number call = let r = answered w number call in (Replied r.0, r.1)
+restart w number walk =
+    if walk.stale
+    then Some (Restarted, with_walk w number (record walk { starts = walk.starts + 1; stale = false; at = Above }))
+    else None
 
 -- A call that doesn't walk: its client is idle, and it is one for this step
 abbrev pub direct : World → ℕ → Bool → Call → Option (Outcome × World)
-direct w number allowed call = if is_idle w number && allowed then Some (replied w number call) else None
-
--- a step of the client's walk
-abbrev pub walking : World → ℕ → (World → ℕ → Walk → Option (Outcome × World)) → Option (Outcome × World)
-walking w number f = option_and_then (f w number) (get w.walks number)
+direct w number allowed call =
+    let r = answered w number call in
+    if is_idle w number && allowed then Some (Replied r.0, r.1) else None
 
 -- what comes of the step, if it may be made
 abbrev pub enabled : World → Step → Option (Outcome × World)
-enabled w Join = Some (join w)
+enabled w Join = Some (let r = answered w (next_number w) call.Connect in joined w r.0 r.1)
 enabled w (Begin number call) = begin w number call
-enabled w (Descend number) = walking w number descend
-enabled w (Fork number) = walking w number fork
-enabled w (Commit number) = walking w number commit
-enabled w (Restart number) = walking w number restart
+enabled w (Descend number) = option_and_then (descend w number) (get w.walks number)
+enabled w (Fork number) = option_and_then (fork w number) (get w.walks number)
+enabled w (Commit number) = option_and_then (commit w number) (get w.walks number)
+enabled w (Restart number) = option_and_then (restart w number) (get w.walks number)
 enabled w (FdCommit number call) = direct w number (is_on_descriptor (client_of (shown w) number) call) call
 enabled w (ClientStep number call) = direct w number (is_alone (client_of (shown w) number) call) call
 

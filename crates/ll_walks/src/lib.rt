@@ -4,8 +4,10 @@
 mod step;
 
 ghost use Rattle.ll_walks.specs.Commits.{BlockedAreRefused, EndsAreReached};
-ghost use Rattle.ll_walks.specs.Growing.{HistoryGrows, NoGainBetween, WithheldBetween};
-ghost use Rattle.ll_walks.specs.Walks.{GateHolderIsNeverStale, HistoryIsLegal, MarksAreApart, StartsAreFew, WalksAreValid};
+ghost use Rattle.ll_laws.specs.NoGain.{GainsNothing};
+ghost use Rattle.ll_laws.specs.Withheld.{Withholds};
+ghost use Rattle.ll_walks.specs.Growing.{HistoryGrows, OfBoth};
+ghost use Rattle.ll_walks.specs.Walks.{AfterSteps, AreApart, AreFew, AreValid, GateIsHeld, HistoryIsLegal};
 
 pub use step::Step;
 
@@ -16,22 +18,22 @@ pub fn history_is_legal()
 
 /// What a walk has found, of which no directory was moved since, is so in the tree as it is shown.
 pub fn walks_are_valid()
-    ensures { WalksAreValid }
+    ensures { AfterSteps AreValid }
 {}
 
 /// No directory carries two marks.
 pub fn marks_are_apart()
-    ensures { MarksAreApart }
+    ensures { AfterSteps AreApart }
 {}
 
 /// No walk starts more than four times.
 pub fn starts_are_few()
-    ensures { StartsAreFew }
+    ensures { AfterSteps AreFew }
 {}
 
 /// Neither a call that takes the move gate nor a walk on its fourth start is overtaken.
 pub fn gate_holder_is_never_stale()
-    ensures { GateHolderIsNeverStale }
+    ensures { AfterSteps GateIsHeld }
 {}
 
 /// A walk at its ends stands in the directories of its call's last names.
@@ -51,10 +53,10 @@ pub fn history_grows()
 
 /// What `ll_laws::reach_never_grows` says of histories, between any two worlds.
 pub fn reach_never_grows()
-    ensures { NoGainBetween }
+    ensures { OfBoth GainsNothing }
 {}
 
 /// What `ll_laws::bytes_stay_withheld` says of histories, between any two worlds.
 pub fn bytes_stay_withheld()
-    ensures { WithheldBetween }
+    ensures { OfBoth Withholds }
 {}
