@@ -1,9 +1,8 @@
 //! Runs of schedules.
 
 ghost use Rattle.std.specs.Prelude.{◌≡◌, ◌≤◌, ℕ, List, [], length, IfSome, OnErr, OnOk, Option, Some, Err};
-ghost use Rattle.ll_session.specs.Cutting.{most_reads};
 ghost use Rattle.ll_session.specs.Reached.{HasBegun, Reached};
-ghost use Rattle.ll_session.specs.Run.{Writes};
+ghost use Rattle.ll_session.specs.Run.{Writes, most_reads};
 ghost use Rattle.ll_session.specs.declared.fault.SessionFault.{SessionFault};
 ghost use Rattle.ll_walks.specs.World.{World};
 ghost use Rattle.ll_schedule.specs.Tells.{Tells};

@@ -43,7 +43,7 @@ stands_after s tree left before stands alone less plain history behind clients =
 -- memory may run out before anyone has connected
 start_refused : (setup : Setup) → Connects (fresh setup) (Refused NoMemory) (fresh setup)
 unfolding empty checked entries get insert
-start_refused setup = (refl, starved (λ none. let some = setup.some_entries in omega (arith, none)) (refl, refl))
+start_refused setup = (refl, starved setup.some_entries refl refl)
 
 refused_by : (setup : Setup) (loader : Option (Vec Call Global)) → Loads (fresh setup) loader (unconnected (Refused NoMemory) (fresh setup))
     ⊎ ((loaded : Session) × Loads (fresh setup) loader (made loaded)

@@ -1,5 +1,5 @@
 -- A client that connects.
-use Rattle.std.proofs.Common.{◌≡◌, ◌≢◌, ◌⊎◌, ◌≤◌, ◌+◌, ℕ, suc, Bool, true, false, List, [], ◌∷◌, ◌++◌, length, map, Option, None, Some, is_some, refl, sym, ap, subst, ◌∙◌, inl, inr, arith}
+use Rattle.std.proofs.Common.{◌≡◌, ◌≢◌, ◌⊎◌, ◌<◌, ◌≤◌, ◌+◌, ℕ, suc, Bool, true, false, List, [], ◌∷◌, ◌++◌, length, map, Option, None, Some, is_some, refl, sym, ap, subst, ◌∙◌, inl, inr, arith}
 use Rattle.std.specs.Prelude.{unwrap_or, nat_le}
 use Rattle.std.proofs.lemmas.List.{append-nil}
 use Rattle.std.specs.Cmp.{nat_cmp_total}
@@ -94,7 +94,7 @@ next_number s tree stands = ap (λ n. n + 1) (ap length stands.clients ∙ how_m
 
 -- what is known of a client that has connected
 pub record Met (before after : SessionTree) : Type 0 where
-  pub room : before.history.limit ≤ length before.history.entries → ⊥
+  pub room : length before.history.entries < before.history.limit
   pub alone : before.before ≡ 0
   pub free : has before.plain.clients (before.clients + 1) ≡ false
   pub step : ◌≡◌ {A = Reply × State} (Done, after.plain) (step before.plain (before.clients + 1) Connect (before.clients + 1))
@@ -121,17 +121,17 @@ module _ (s : Session) (before : SessionTree) (stands : StandsAt before s) where
   pub no_connect_fits : before.history.limit ≤ length before.history.entries → has before.plain.clients (before.clients + 1) ≡ false → (t : Session) × Connects s (Refused HistoryFull) t
   no_connect_fits over free = (s, (vacant free, full (is_full s before stands over)))
 
-  pub no_connect_for_memory : (before.history.limit ≤ length before.history.entries → ⊥) → has before.plain.clients (before.clients + 1) ≡ false
+  pub no_connect_for_memory : length before.history.entries < before.history.limit → has before.plain.clients (before.clients + 1) ≡ false
       → refusals before.plain (client_of before.plain (before.clients + 1)) Connect ≡ [] → (t : Session) × Connects s (Refused NoMemory) t
   no_connect_for_memory room free none = (
     s,
     (
       vacant free,
-      starved (is_not_full s before stands room) (refl, ap (λ (z : State). refusals z (client_of z (following s)) Connect) stands.tree ∙ ap (λ n. refusals before.plain (client_of before.plain n) Connect) (sym named) ∙ none),
+      starved (is_not_full s before stands room) refl (ap (λ (z : State). refusals z (client_of z (following s)) Connect) stands.tree ∙ ap (λ n. refusals before.plain (client_of before.plain n) Connect) (sym named) ∙ none),
     ),
   )
 
-  pub no_connect_by_tree : (errno : Errno) (tree : State) → (before.history.limit ≤ length before.history.entries → ⊥) → has before.plain.clients (before.clients + 1) ≡ false
+  pub no_connect_by_tree : (errno : Errno) (tree : State) → length before.history.entries < before.history.limit → has before.plain.clients (before.clients + 1) ≡ false
       → ◌≡◌ {A = Reply × State} (Refused errno, tree) (step before.plain (before.clients + 1) Connect (before.clients + 1)) → (t : Session) × Connects s (Refused errno) t
   no_connect_by_tree errno tree room free is = (
     next s (following s) Connect (Refused errno) tree,

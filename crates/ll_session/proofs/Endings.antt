@@ -5,6 +5,7 @@ use Rattle.std.specs.Io.KnownBytes.{Appends}
 use Rattle.ll_session.specs.declared.receipt.Receipt.{Receipt}
 use Rattle.ll_session.specs.declared.tree.SessionTree.{SessionTree}
 use Rattle.ll_wire.specs.Grammar.{reply_line}
+use Rattle.ll_wire.specs.Pieces.{pieces}
 use Rattle.ll_rights.specs.declared.errno.Errno.TheVariants.{NoMemory}
 use Rattle.ll_seq.specs.declared.reply.Entry.{Entry}
 use Rattle.ll_seq.specs.declared.reply.Reply.{Reply}
@@ -13,11 +14,11 @@ use Rattle.ll_session.specs.declared.setup.Setup.{Setup}
 use Rattle.ll_session.specs.declared.session.OpenSession.{OpenSession}
 use Rattle.ll_session.specs.declared.session.Opened.{Opened}
 use Rattle.ll_session.specs.declared.session.Opened.TheVariants as opened
-use Rattle.ll_session.specs.Transcript.{Session}
+use Rattle.ll_session.specs.Transcript.{Session, Tells, Transcript}
 use Rattle.ll_session.specs.Opening.{begun, fresh, refused, Opens}
 use Rattle.ll_session.specs.Run.{Runs, Begins, Writes}
 use Rattle.ll_wire.specs.Writing.{AppendsFront}
-use Rattle.ll_session.specs.Progress.{IfBegun, IfRefused, ReachedBy, StandsAt, TellsLine}
+use Rattle.ll_session.specs.Progress.{IfBegun, IfRefused, ReachedBy, StandsAt}
 use Rattle.ll_session.specs.Reached.{IsWritten, HasBegun}
 use Rattle.ll_wire.proofs.WrittenText.{front-none}
 use Rattle.ll_session.proofs.Coming.{may_be_refused}
@@ -36,11 +37,11 @@ of_refused P o tree answer is h = subst (λ (x : Opened). IfRefused x P) is h
 -- a session that is opened, and all of the input is read and answered
 abbrev pub Whole : OpenSession → (remaining remaining' old new : Option (List ℕ)) → List Entry → Type 0
 Whole session remaining remaining' old new entries = (first : Session) (input : List ℕ) (old' : Option (List ℕ)) → remaining ≡ Some input
-    → ReachedBy session.tree first input input old' old → (remaining' ≡ Some []) × IsWritten TellsLine (λ last. entries ≡ last.entries) first input old' new
+    → ReachedBy session.tree first input input old' old → (remaining' ≡ Some []) × IsWritten Tells (λ last. entries ≡ last.entries) first input old' new
 
 abbrev pub Part : OpenSession → (remaining old new : Option (List ℕ)) → Type 0
 Part session remaining old new = (first : Session) (input : List ℕ) (old' : Option (List ℕ)) → remaining ≡ Some input
-    → ReachedBy session.tree first input input old' old → HasBegun TellsLine first input old' new
+    → ReachedBy session.tree first input input old' old → HasBegun Tells first input old' new
 
 -- the session that an opening began
 abbrev pub Begun : Setup → OpenSession → Type 0
@@ -51,17 +52,18 @@ pub runs : (setup : Setup) (remaining remaining' old new : Option (List ℕ)) (s
     → IfSome remaining (λ input. (left : List ℕ) × (remaining' ≡ Some left) × Writes old new (λ text. Runs setup input left text entries))
 runs setup None remaining' old new session entries b whole = tt
 runs setup (Some input) remaining' old new session entries b whole =
-    let w = whole b.0 input old refl (begins TellsLine (StandsAt session.tree) b.0 input old b.2) in
-    ([], w.0, (w.1.0, inl (b.0, w.1.1, b.1, refl, w.1.2, w.1.3), w.1.4))
+    let w = whole b.0 input old refl (begins Tells (StandsAt session.tree) b.0 input old b.2) in
+    ([], w.0, (w.1.0, (w.1.1, inl (b.0, b.1, refl, w.1.2), w.1.3), w.1.4))
 
-has_begun : (setup : Setup) (first : Session) (input : List ℕ) (old new : Option (List ℕ)) → Opens setup (begun first) → HasBegun TellsLine first input old new → Writes old new (Begins setup input)
-has_begun setup first input old new opens h = (h.6.0, inl (first, h.3, h.0, h.1, h.2, h.6.1, opens, h.4, h.5, h.6.2), h.6.3)
+has_begun : (setup : Setup) (first : Session) (input : List ℕ) (old new : Option (List ℕ)) → Opens setup (begun first) → HasBegun Tells first input old new → Writes old new (Begins setup input)
+has_begun setup first input old new opens h =
+    (h.6.0, (h.0, [], h.1, h.6.1, h.3, h.4, inl (first, opens, refl, subst (λ (text : List ℕ). Transcript Tells first h.0 text h.3) h.6.2 h.5)), h.6.3)
 
 pub run_stops : (setup : Setup) (remaining old new : Option (List ℕ)) (session : OpenSession) → Begun setup session
     → Part session remaining old new → IfSome remaining (λ input. Writes old new (Begins setup input))
 run_stops setup None old new session b part = tt
 run_stops setup (Some input) old new session b part =
-    has_begun setup b.0 input old new b.1 (part b.0 input old refl (begins TellsLine (StandsAt session.tree) b.0 input old b.2))
+    has_begun setup b.0 input old new b.1 (part b.0 input old refl (begins Tells (StandsAt session.tree) b.0 input old b.2))
 
 -- ---- runs whose opening is refused
 
@@ -72,12 +74,12 @@ Refuses setup reply tree = (last : Session) × Opens setup (refused reply last) 
 pub refusal : (setup : Setup) (remaining old new : Option (List ℕ)) (reply : Reply) (tree : SessionTree) (entries : List Entry) → Refuses setup reply tree → entries ≡ tree.history.entries
     → Appends old new (reply_line reply) → IfSome remaining (λ input. (left : List ℕ) × (remaining ≡ Some left) × Writes old new (λ text. Runs setup input left text entries))
 refusal setup None old new reply tree entries is same wrote = tt
-refusal setup (Some input) old new reply tree entries is same wrote = (input, refl, (reply_line reply, inr (reply, is.0, is.1, refl, refl, same ∙ sym is.2.entries), wrote))
+refusal setup (Some input) old new reply tree entries is same wrote = (input, refl, (reply_line reply, (is.0, inr (reply, is.1, refl, refl), same ∙ sym is.2.entries), wrote))
 
 pub refusal_stops : (setup : Setup) (remaining old new : Option (List ℕ)) (reply : Reply) (last : Session) → Opens setup (refused reply last) → AppendsFront old new (reply_line reply)
     → IfSome remaining (λ input. Writes old new (Begins setup input))
 refusal_stops setup None old new reply last is wrote = tt
-refusal_stops setup (Some input) old new reply last is wrote = (wrote.0, inr (inl (reply, last, wrote.1, is, wrote.2)), wrote.3)
+refusal_stops setup (Some input) old new reply last is wrote = (wrote.0, ([], [], pieces input, wrote.1, last, refl, inr (reply, is, refl, sym wrote.2)), wrote.3)
 
 pub not_opened : (setup : Setup) (remaining old : Option (List ℕ)) → IfSome remaining (λ input. Writes old old (Begins setup input))
 not_opened setup remaining old = refusal_stops setup remaining old old (Refused NoMemory) (fresh setup) (may_be_refused setup) (front-none old (reply_line (Refused NoMemory)))

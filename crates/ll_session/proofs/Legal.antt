@@ -24,9 +24,9 @@ use Rattle.ll_session.specs.declared.setup.Setup.{Setup}
 use Rattle.ll_session.specs.declared.tree.SessionTree.{SessionTree}
 use Rattle.ll_session.specs.Opening.{Comes, Loads, Makes, Opens, Stops, begun, following, fresh, joined, made, refused, unconnected, unmade}
 use Rattle.ll_session.specs.Progress.{AreThere, IsSound, StandsAt, StaysSound}
-use Rattle.ll_session.specs.Run.{Lines, IsRefusedLegally, RunsLegally}
+use Rattle.ll_session.specs.Run.{RunsLegally}
 use Rattle.ll_session.proofs.Replies.{CalledAt}
-use Rattle.ll_session.specs.Transcript.{Session, AreOthers, Called, Answers, answered, full, starved, calls, unread, bad, brought}
+use Rattle.ll_session.specs.Transcript.{Session, AreOthers, Called, Answers, Tells, Transcript, answered, full, starved, calls, unread, bad, brought}
 
 -- a call that has a spelling is no connect
 pub no_connect : (call : Call) → IsCall call → is_connect call ≡ false
@@ -134,12 +134,12 @@ module _ (empty : State) where
             (brought_there tree reply (λ number e. (told number e).1));
       }
   by_call s t client call reply other there (full filled) sound = sound
-  by_call s t client call reply other there (starved room may) sound = sound
+  by_call s t client call reply other there (starved room takes none) sound = sound
 
   stays : (s t : Session) (n k : ℕ) (call : Call) (reply : Reply) → Called s n call reply t → has s.tree.clients k ≡ true → has t.tree.clients k ≡ true
   stays s t n k call reply (answered answer tree fresh vacant free is) there = ap (λ (p : Reply × State). has p.1.clients k) is ∙ step-clients_stay s.tree n call fresh k there
   stays s t n k call reply (full filled) there = there
-  stays s t n k call reply (starved room may) there = there
+  stays s t n k call reply (starved room takes none) there = there
 
   -- a client that has come, where it had not
   abbrev Came : Session → ℕ → Session → Type 0
@@ -148,7 +148,7 @@ module _ (empty : State) where
   by_connect : (s t : Session) (n : ℕ) (call : Call) (reply : Reply) → call ≡ Connect → reply ≡ Done → has s.tree.clients n ≡ false → Called s n call reply t
       → IsSound empty s → Came s n t
   by_connect s t n call reply connects done vacant (full filled) sound = absurd cc
-  by_connect s t n call reply connects done vacant (starved room may) sound = absurd cc
+  by_connect s t n call reply connects done vacant (starved room takes none) sound = absurd cc
   by_connect s t n call given connects done vacant (answered reply tree fresh room free is) sound =
       let outcome : ◌≡◌ {A = Reply × State} (step s.tree n call (fresh_of reply)) (reply, tree) =
       ap (λ (p : Reply × State). step s.tree n call (fresh_of p.0)) is ∙ by_reply s.tree n call fresh ∙ sym is in
@@ -197,13 +197,13 @@ module _ (empty : State) where
       let came = by_connect s h.0 (following s) Connect Done refl refl h.1.0 h.1.1 sound in
       by_stops (following s) (joined s h.0) t list reply (recursion_from_All (λ call. is_connect call ≡ false) list others) came.1 h.2 came.0
 
-  by_answer : (s t : Session) (piece : List ℕ) (reply : Reply) → Answers (λ (z : Session). z.clients) Called s piece reply t → IsSound empty s → IsSound empty t
-  by_answer s t piece reply (calls n client call told written u spells at was same) sound =
+  by_answer : (s t : Session) (piece : List ℕ) (reply : Reply) → Answers s piece reply t → IsSound empty s → IsSound empty t
+  by_answer s t piece reply (calls n client call told u spells at was) sound =
       by_call s u client call told (no_connect call spells.is_call) (there_at s.tree s.clients (n - 1) client sound.there at) was sound
   by_answer s t piece reply (unread n client call spells at holds) sound = sound
   by_answer s t piece reply (bad none) sound = sound
 
-  by_lines : (s t : Session) (done : List (List ℕ)) (text : List ℕ) → Lines s done text t → IsSound empty s → IsSound empty t
+  by_lines : (s t : Session) (done : List (List ℕ)) (text : List ℕ) → Transcript Tells s done text t → IsSound empty s → IsSound empty t
   by_lines s t [] text h sound = subst (IsSound empty) (sym h.1) sound
   by_lines s t (piece ∷ done) text h sound = by_lines h.1 t done h.2 h.4 (by_answer s h.1 piece h.3.0 h.3.1 sound)
 
@@ -223,24 +223,24 @@ by_opening setup first h =
     let came = by_coming empty h.0 h.1 setup.profile.items setup.makes h.3 loaded in
     subst (IsSound empty) (sym h.4) (record { legal = came.legal; tree = came.tree; there = those_left h.1.tree (length h.0.clients) h.1.clients came.there })
 
-pub legally : RunsLegally
-legally setup first last done text opens lines =
-    let sound = by_lines (start setup.rules setup.nodes) first last done text lines (by_opening setup first opens) in
-    (sound.legal, sound.tree)
-
 by_refused_loader : (empty : State) (s t : Session) (loader : Option (Vec Call Global)) (reply : Reply) → IfSome loader (λ list. AreOthers list.items) → Loads s loader (unconnected reply t)
     → IsSound empty s → IsSound empty t
 by_refused_loader empty s t (Some list) reply others h sound = by_refusal empty s t list.items reply others (inl h) sound
 by_refused_loader empty s t None reply others h sound = absurd h
 
-pub refused_legally : IsRefusedLegally
-refused_legally setup reply last opens =
+by_refused_opening : (setup : Setup) (reply : Reply) (last : Session) → Opens setup (refused reply last) → IsSound (start setup.rules setup.nodes) last
+by_refused_opening setup reply last opens =
     let empty = start setup.rules setup.nodes in
     let begins : IsSound empty (fresh setup) = record { legal = tt; tree = refl; there = tt } in
     elim opens [
-      | inl h ↦ (by_refused_loader empty (fresh setup) last setup.loader reply setup.loads h begins).legal
-      | inr h ↦ (by_refusal empty h.0 last setup.profile.items reply setup.makes h.2 (by_loading empty (fresh setup) h.0 setup.loader setup.loads h.1 begins)).legal
+      | inl h ↦ by_refused_loader empty (fresh setup) last setup.loader reply setup.loads h begins
+      | inr h ↦ by_refusal empty h.0 last setup.profile.items reply setup.makes h.2 (by_loading empty (fresh setup) h.0 setup.loader setup.loads h.1 begins)
     ]
+
+pub legally : RunsLegally
+legally setup done left text last (inl h) =
+    let sound = by_lines (start setup.rules setup.nodes) h.0 last done text h.3 (by_opening setup h.0 h.1) in (sound.legal, sound.tree)
+legally setup done left text last (inr h) = let sound = by_refused_opening setup h.0 last h.1 in (sound.legal, sound.tree)
 
 -- ---- sessions under way
 
@@ -259,4 +259,4 @@ leaves_legally empty tree log t stands sound same = subst (IsLegal empty) (stand
 pub leaves_refused : (setup : Setup) (reply : Reply) (tree : SessionTree) (log : Log) → (last : Session) × Opens setup (refused reply last) × StandsAt tree last → log ≡ tree.history
     → IsLegal (start setup.rules setup.nodes) log.entries
 leaves_refused setup reply tree log is same =
-    subst (IsLegal (start setup.rules setup.nodes)) (is.2.entries ∙ sym (ap (λ (l : Log). l.entries) same)) (refused_legally setup reply is.0 is.1)
+    subst (IsLegal (start setup.rules setup.nodes)) (is.2.entries ∙ sym (ap (λ (l : Log). l.entries) same)) (by_refused_opening setup reply is.0 is.1).legal

@@ -24,8 +24,8 @@ use Rattle.ll_wire.specs.Reads.{ReadsBy, holds_text}
 use Rattle.ll_session.specs.declared.receipt.Receipt.{Receipt}
 use Rattle.ll_session.specs.declared.receipt.Receipt.TheVariants.{Apart, Entered}
 use Rattle.ll_session.specs.declared.tree.SessionTree.{SessionTree}
-use Rattle.ll_session.specs.Transcript.{Session, IsFull, Called, as_written, brought, next, answered, full, starved, calls, unread, bad}
-use Rattle.ll_session.specs.Progress.{StandsAt, AnswersLine, last_reply, placed, told_by, written}
+use Rattle.ll_session.specs.Transcript.{Session, Answers, Called, as_written, brought, next, answered, full, starved, calls, unread, bad}
+use Rattle.ll_session.specs.Progress.{StandsAt, last_reply, placed, told_by, written}
 use Rattle.ll_session.specs.Cutting.{Holds}
 use Rattle.ll_session.proofs.Cuts.{long}
 use Rattle.ll_session.proofs.SessionPlaces.{how_many, in_place, no_place, with_brought}
@@ -36,7 +36,7 @@ CalledBy s n call answer left = (t : Session) × Called s n call (told_by left a
 
 -- the piece is answered, and this tree is left
 abbrev pub Answered : Session → List ℕ → Reply → SessionTree → Type 0
-Answered s piece reply left = (t : Session) × AnswersLine s piece reply t × StandsAt left t
+Answered s piece reply left = (t : Session) × Answers s piece reply t × StandsAt left t
 
 -- the bytes spell a call of one of the first so many clients
 abbrev Spells : ℕ → List ℕ → ℕ × Call → Type 0
@@ -53,18 +53,18 @@ newest entries entry =
     ap (λ (i : ℕ). option_map_or (λ (e : Entry). e.reply) (slice_get (entries ++ entry ∷ []) i) Done) last ∙ ap (λ (o : Option Entry). option_map_or (λ (e : Entry). e.reply) o Done) (at_end entries entry)
 
 -- the session is full where its history is
-pub is_full : (s : Session) (tree : SessionTree) → StandsAt tree s → tree.history.limit ≤ length tree.history.entries → IsFull s
+pub is_full : (s : Session) (tree : SessionTree) → StandsAt tree s → tree.history.limit ≤ length tree.history.entries → s.limit ≤ length s.entries
 is_full s tree stands over = subst (λ (es : List Entry). s.limit ≤ length es) (sym stands.entries) (subst (λ (most : ℕ). most ≤ length tree.history.entries) (sym stands.limit) over)
 
-pub is_not_full : (s : Session) (tree : SessionTree) → StandsAt tree s → (tree.history.limit ≤ length tree.history.entries → ⊥) → IsFull s → ⊥
-is_not_full s tree stands room over = room (subst (λ (es : List Entry). tree.history.limit ≤ length es) stands.entries (subst (λ (most : ℕ). most ≤ length s.entries) stands.limit over))
+pub is_not_full : (s : Session) (tree : SessionTree) → StandsAt tree s → length tree.history.entries < tree.history.limit → length s.entries < s.limit
+is_not_full s tree stands room = subst (λ (es : List Entry). length es < s.limit) (sym stands.entries) (subst (λ (most : ℕ). length tree.history.entries < most) (sym stands.limit) room)
 
 pub call_fails_full : (s : Session) (tree : SessionTree) (n : ℕ) (call : Call) → StandsAt tree s → tree.history.limit ≤ length tree.history.entries → CalledBy s n call (Apart HistoryFull) tree
 call_fails_full s tree n call stands over = (s, full (is_full s tree stands over), stands)
 
 -- what is known of a call that has become an entry
 pub record Made (before after : SessionTree) (n : ℕ) (call : Call) (reply : Reply) : Type 0 where
-  pub room : before.history.limit ≤ length before.history.entries → ⊥
+  pub room : length before.history.entries < before.history.limit
   pub free : has before.plain.clients (before.before + before.clients + 1) ≡ false
   pub step : ◌≡◌ {A = Reply × State} (reply, after.plain) (step before.plain n call (before.before + before.clients + 1))
   pub before_stays : after.before ≡ before.before
@@ -110,10 +110,10 @@ stands_still s before after stands still = record {
 
 -- the tree found no memory
 pub call_starves : (s : Session) (before after : SessionTree) (n : ℕ) (call : Call) → StandsAt before s → Stays before after
-    → (before.history.limit ≤ length before.history.entries → ⊥) → takes_memory call ≡ true → refusals before.plain (client_of before.plain n) call ≡ []
+    → length before.history.entries < before.history.limit → takes_memory call ≡ true → refusals before.plain (client_of before.plain n) call ≡ []
     → CalledBy s n call (Apart NoMemory) after
 call_starves s before after n call stands still room takes none =
-    (s, starved (is_not_full s before stands room) (takes, ap (λ (z : State). refusals z (client_of z n) call) stands.tree ∙ none), stands_still s before after stands still)
+    (s, starved (is_not_full s before stands room) takes (ap (λ (z : State). refusals z (client_of z n) call) stands.tree ∙ none), stands_still s before after stands still)
 
 -- what holds of all entries and of one more
 pub all_more : (entries more : List Entry) (entry : Entry) → more ≡ entries ++ entry ∷ [] → All IsEntry entries → IsEntry entry → All IsEntry more
@@ -153,7 +153,7 @@ caller s left place stands first last = ap (λ l. slice_get l (place - 1)) stand
 -- a reply is written with the newest client's place
 pub as_placed : (s t : Session) (n : ℕ) (call : Call) (reply : Reply) (left : SessionTree) → Called s n call reply t → StandsAt left t → placed left.clients reply ≡ as_written s.clients reply
 as_placed s t n call reply left (full over) stands = refl
-as_placed s t n call reply left (starved room may) stands = refl
+as_placed s t n call reply left (starved room takes none) stands = refl
 as_placed s t n call given left (answered reply tree fresh room free is) stands = go reply (sym (ap length stands.clients ∙ how_many (left.before + 1) left.clients))
   where
     go : (r : Reply) → left.clients ≡ length (s.clients ++ brought r) → placed left.clients r ≡ as_written s.clients r
@@ -195,7 +195,7 @@ called_at s before after place call answer stands first last c =
 -- a line that spells a call gets that reply
 pub answered_by : (s : Session) (piece : List ℕ) (place clients : ℕ) (call : Call) (reply : Reply) (left : SessionTree) → Spells clients piece (place, call)
     → CalledAt s place call reply left → Answered s piece reply left
-answered_by s piece place clients call reply left is c = (c.2, calls place c.0 call c.1 reply c.2 is.0 c.3 c.4 c.5, c.6)
+answered_by s piece place clients call reply left is c = (c.2, subst (λ (r : Reply). Answers s piece r c.2) (sym c.5) (calls place c.0 call c.1 c.2 is.0 c.3 c.4), c.6)
 
 -- no client of the session makes a call by the piece
 pub spells_none : (s : Session) (piece : List ℕ) (left : SessionTree) → ((v : ℕ × Call) → Spells left.clients piece v → ⊥) → StandsAt left s → Answered s piece (Refused BadLine) left

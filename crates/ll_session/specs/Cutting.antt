@@ -1,10 +1,7 @@
--- How lines are cut from what a reader gives. own
+-- How lines are cut from what a reader gives. Cited by contracts between crates alone. own
 use Rattle.std.specs.Prelude.{◌≡◌, ℕ, ◌+◌, ◌-◌, ◌*◌, ◌<◌, ◌≤◌, Bool, true, false, List, [], ◌∷◌, ◌++◌, length, Option, Some, None}
 use Rattle.ll_wire.specs.Pieces.{pieces}
-
--- the most reads of one input
-abbrev pub most_reads : ℕ
-most_reads = 1000000000
+use Rattle.ll_session.specs.Run.{most_reads}
 
 -- The line that is being read: its bytes, or that they are over 16,384
 abbrev pub Holds : Option (List ℕ) → List ℕ → Type 0
@@ -31,7 +28,8 @@ Gives left None IsRest = (left ≡ []) × IsRest []
 
 -- Where there is a next line, it is the next piece; and what is left after it
 abbrev pub Cuts : List ℕ → Bool → Option (List ℕ) → (List ℕ → Type 0) → Type 0
-Cuts left true line IsRest = (piece rest : List ℕ) × (pieces left ≡ piece ∷ pieces rest) × Holds line piece × IsRest rest
+Cuts left true line IsRest =
+    (piece rest : List ℕ) × (pieces left ≡ piece ∷ pieces rest) × Holds line piece × IsRest rest
 Cuts left false line IsRest = (left ≡ []) × IsRest []
 
 -- how many bytes may come yet at most, and one more for each read that may

@@ -24,7 +24,7 @@ use Rattle.ll_session.specs.declared.session.Opened.{Opened}
 use Rattle.ll_session.specs.declared.session.Opened.TheVariants.{Begun, Refused}
 use Rattle.ll_session.specs.Opening.{Coming, unconnected, unmade, Opens, stopped}
 use Rattle.ll_session.specs.Reached.{Reached}
-use Rattle.ll_session.specs.Transcript.{Session, Called, Answers, Tells}
+use Rattle.ll_session.specs.Transcript.{Session, Tells}
 
 -- this of the session that the opening began
 abbrev pub IfBegun : Opened → (OpenSession → Type 0) → Type 0
@@ -96,17 +96,9 @@ StaysSound before after =
     (empty : State) (s : Session) → StandsAt before s → IsSound empty s
     → (t : Session) × StandsAt after t × IsSound empty t
 
--- the piece gives this line
-abbrev pub TellsLine : Session → List ℕ → List ℕ → Session → Type 0
-TellsLine = Tells (λ s. s.clients) Called
-
 -- so far a run has come that stands here
 abbrev pub ReachedBy : SessionTree → Session → (input left : List ℕ) → (old new : Option (List ℕ)) → Type 0
-ReachedBy tree = Reached TellsLine (StandsAt tree)
-
--- the piece gets this reply
-abbrev pub AnswersLine : Session → List ℕ → Reply → Session → Type 0
-AnswersLine = Answers (λ s. s.clients) Called
+ReachedBy tree = Reached Tells (StandsAt tree)
 
 -- what ends the answering of lines: a failed write, or want of memory
 abbrev pub IsOfWriting : SessionFault → Type 0

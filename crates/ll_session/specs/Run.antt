@@ -6,52 +6,45 @@ use Rattle.ll_seq.specs.declared.reply.Reply.{Reply}
 use Rattle.ll_seq.specs.State.{start}
 use Rattle.ll_seq.specs.History.{IsLegal, state_after}
 use Rattle.ll_wire.specs.Grammar.{reply_line}
+use Rattle.ll_wire.specs.Pieces.{pieces}
 use Rattle.ll_session.specs.declared.fault.RunFault.{RunFault}
 use Rattle.ll_session.specs.declared.fault.RunFault.TheVariants as run
 use Rattle.ll_session.specs.declared.setup.Setup.{Setup}
-use Rattle.ll_wire.specs.Pieces.{pieces}
-use Rattle.ll_session.specs.Transcript.{Session, Called, Tells, Transcript}
+use Rattle.ll_session.specs.Transcript.{Session, Tells, Transcript}
 use Rattle.ll_session.specs.Opening.{Opens, begun, refused, stopped}
 
-abbrev pub Lines : Session → List (List ℕ) → List ℕ → Session → Type 0
-Lines = Transcript (Tells (λ s. s.clients) Called)
+-- how many reads of one input may give bytes
+abbrev pub most_reads : ℕ
+most_reads = 1000000000
 
--- The fault may end a run of this setup: a refused opening call only where the opening can stop at one
+-- the fault may end a run of this setup
 abbrev pub MayEnd : Setup → RunFault → Type 0
 MayEnd setup run.Opening = Opens setup stopped
 MayEnd setup (run.Session fault) = ⊤
 
--- A run reads all and writes the transcript, or reads nothing and writes the refusal. It leaves these entries
+-- A run over these pieces writes their transcript and leaves none, or writes the refusal and leaves all. It ends there
+abbrev pub RunsOver : Setup → (done left : List (List ℕ)) → List ℕ → Session → Type 0
+RunsOver setup done left text last =
+    ((first : Session) × Opens setup (begun first) × (left ≡ []) × Transcript Tells first done text last)
+    ⊎ ((reply : Reply) × Opens setup (refused reply last) × (left ≡ done) × (text ≡ reply_line reply))
+
+-- a whole run leaves these entries
 abbrev pub Runs : Setup → (input left text : List ℕ) → List Entry → Type 0
 Runs setup input left text entries =
-    ((first last : Session) × Opens setup (begun first) × (left ≡ []) × Lines first (pieces input) text last
-    × (entries ≡ last.entries))
-    ⊎ ((reply : Reply) × (last : Session) × Opens setup (refused reply last) × (left ≡ input)
-    × (text ≡ reply_line reply) × (entries ≡ last.entries))
+    (last : Session) × RunsOver setup (pieces input) (pieces left) text last × (entries ≡ last.entries)
 
--- What a run that a fault ends has written: a beginning of the transcript of some first pieces, or of the refusal, or
--- nothing
+-- a run that a fault ends has written a beginning of what one over some first pieces writes
 abbrev pub Begins : Setup → (input text : List ℕ) → Type 0
 Begins setup input text =
-    ((first last : Session) × (done more : List (List ℕ)) × (whole back : List ℕ) × Opens setup (begun first)
-    × (pieces input ≡ done ++ more) × Lines first done whole last × (whole ≡ text ++ back))
-    ⊎ ((reply : Reply) × (last : Session) × (back : List ℕ) × Opens setup (refused reply last)
-    × (reply_line reply ≡ text ++ back))
-    ⊎ (Opens setup stopped × (text ≡ []))
+    (done left more : List (List ℕ)) × (back : List ℕ) × (last : Session) × (pieces input ≡ done ++ more)
+    × RunsOver setup done left (text ++ back) last
 
--- The entries of a run, line after line, are a legal history of its tree, and lead to the tree that it has then
+-- the entries of a run, line after line, are a legal history of its tree, and lead to the tree that it has then
 abbrev pub RunsLegally : Type 0
 RunsLegally =
-    (setup : Setup) (first last : Session) (done : List (List ℕ)) (text : List ℕ) → Opens setup (begun first)
-    → Lines first done text last →
+    (setup : Setup) (done left : List (List ℕ)) (text : List ℕ) (last : Session) → RunsOver setup done left text last →
     let empty = start setup.rules setup.nodes in
     IsLegal empty last.entries × (last.tree ≡ state_after empty last.entries)
-
--- So are those of a run whose opening is refused
-abbrev pub IsRefusedLegally : Type 0
-IsRefusedLegally =
-    (setup : Setup) (reply : Reply) (last : Session) → Opens setup (refused reply last)
-    → IsLegal (start setup.rules setup.nodes) last.entries
 
 -- What a writer that tells its bytes has gained is such a text
 abbrev pub Writes : (contents contents' : Option (List ℕ)) → (List ℕ → Type 0) → Type 0

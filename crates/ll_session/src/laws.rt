@@ -1,9 +1,8 @@
 //! What holds of every run.
 
-ghost use Rattle.ll_session.specs.Run.{IsRefusedLegally, RunsLegally};
+ghost use Rattle.ll_session.specs.Run.{RunsLegally};
 
 /// The entries of a run are a legal history of its tree, and lead to the tree that it has.
 pub fn runs_legally()
-    ensures runs { RunsLegally }
-    ensures refused { IsRefusedLegally }
+    ensures { RunsLegally }
 {}

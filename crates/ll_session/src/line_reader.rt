@@ -1,7 +1,8 @@
 //! Reading lines.
 
 ghost use Rattle.std.specs.Prelude.{◌≡◌, ◌≢◌, ◌<◌, ◌≤◌, ◌+◌, [], ℕ, List, true, false, Ok, IfOk, IfErr, OnOk, MatchOption, Err};
-ghost use Rattle.ll_session.specs.Cutting.{Counts, Cuts, Gives, IsLeft, Reading, most_left, most_reads};
+ghost use Rattle.ll_session.specs.Cutting.{Counts, Cuts, Gives, IsLeft, Reading, most_left};
+ghost use Rattle.ll_session.specs.Run.{most_reads};
 ghost use Rattle.ll_session.specs.declared.fault.SessionFault.{SessionFault};
 
 use crate::fault::SessionFault;
@@ -24,7 +25,8 @@ pub struct LineReader {
 
 impl Model for LineReader {
     ghost use Rattle.std.specs.Prelude.{◌≤◌, drop, take};
-    ghost use Rattle.ll_session.specs.Cutting.{Reading, most_reads};
+    ghost use Rattle.ll_session.specs.Cutting.{Reading};
+    ghost use Rattle.ll_session.specs.Run.{most_reads};
 
     ghost Value = { Reading };
 

@@ -6,10 +6,9 @@ ghost use Rattle.ll_seq.specs.State.{State, start};
 ghost use Rattle.ll_wire.specs.Entries.{IsEntry};
 ghost use Rattle.ll_session.specs.declared.fault.RunFault.{RunFault};
 ghost use Rattle.ll_session.specs.declared.fault.SessionFault.{SessionFault};
-ghost use Rattle.ll_session.specs.Cutting.{most_reads};
-ghost use Rattle.ll_session.specs.Transcript.{Session};
-ghost use Rattle.ll_session.specs.Run.{Runs, Begins, MayEnd, Writes};
-ghost use Rattle.ll_session.specs.Progress.{used, IsSound, ReachedBy, StandsAt, StaysSound, TellsLine};
+ghost use Rattle.ll_session.specs.Transcript.{Session, Tells};
+ghost use Rattle.ll_session.specs.Run.{Runs, Begins, MayEnd, Writes, most_reads};
+ghost use Rattle.ll_session.specs.Progress.{used, IsSound, ReachedBy, StandsAt, StaysSound};
 ghost use Rattle.ll_session.specs.Reached.{HasBegun, IsWritten};
 
 use crate::fault::{RunFault, SessionFault};
@@ -35,7 +34,7 @@ fn answer_all<R: Read, W: Write>(
     ensures err { OnErr result ((first : Session) (input : List ℕ) (old : Option (List ℕ))
         → R.remaining reader.old ≡ Some input
         → ReachedBy session.old.tree first input input old (W.contents writer.old)
-        → HasBegun TellsLine first input old (W.contents writer.new)) }
+        → HasBegun Tells first input old (W.contents writer.new)) }
     ensures sound { StaysSound session.old.tree session.new.tree }
     ensures long { result ≡ Err SessionFault.TooLong
         → (input : List ℕ) → R.remaining reader.old ≡ Some input → most_reads ≤ length input }
@@ -57,7 +56,7 @@ fn run_session<R: Read, W: Write>(
     ensures ok { IfOk result (λ history. (first : Session) (input : List ℕ) (old : Option (List ℕ))
         → R.remaining reader.old ≡ Some input
         → ReachedBy session.tree first input input old (W.contents writer.old)
-        → (R.remaining reader.new ≡ Some []) × IsWritten TellsLine (λ last. history.entries ≡ last.entries) first input
+        → (R.remaining reader.new ≡ Some []) × IsWritten Tells (λ last. history.entries ≡ last.entries) first input
         old (W.contents writer.new)) }
     ensures entries { IfOk result (λ history. All IsEntry history.entries) }
     ensures legal { IfOk result (λ history. (empty : State) (first : Session) → StandsAt session.tree first
@@ -65,7 +64,7 @@ fn run_session<R: Read, W: Write>(
     ensures err { OnErr result ((first : Session) (input : List ℕ) (old : Option (List ℕ))
         → R.remaining reader.old ≡ Some input
         → ReachedBy session.tree first input input old (W.contents writer.old)
-        → HasBegun TellsLine first input old (W.contents writer.new)) }
+        → HasBegun Tells first input old (W.contents writer.new)) }
     ensures long { result ≡ Err SessionFault.TooLong
         → (input : List ℕ) → R.remaining reader.old ≡ Some input → most_reads ≤ length input }
 {

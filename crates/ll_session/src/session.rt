@@ -35,10 +35,10 @@ pub enum Opened {
 impl OpenSession {
     ghost use Rattle.ll_wire.specs.Grammar.{IsReply};
     ghost use Rattle.ll_session.specs.declared.fault.SessionFault.{SessionFault};
-    ghost use Rattle.ll_session.specs.Transcript.{Session};
+    ghost use Rattle.ll_session.specs.Transcript.{Session, Answers, Tells};
     ghost use Rattle.ll_session.specs.Opening.{Opens, begun, fresh, refused};
     ghost use Rattle.ll_session.specs.Cutting.{Holds};
-    ghost use Rattle.ll_session.specs.Progress.{used, written, AnswersLine, IfBegun, IfRefused, IsOfWriting, OpensBadly, StandsAt, StaysSound, TellsLine};
+    ghost use Rattle.ll_session.specs.Progress.{used, written, IfBegun, IfRefused, IsOfWriting, OpensBadly, StandsAt, StaysSound};
     ghost use Rattle.ll_session.specs.Reached.{IsAnswered, IsStarted};
 
     // A fresh tree and an empty line.
@@ -89,7 +89,7 @@ impl OpenSession {
     fn reply(&mut self) -> Receipt
         requires room { used self.old.tree < 2 ^ 64 - 1 }
         ensures answers { (s : Session) (piece : List ℕ) → Holds self.old.line piece → StandsAt self.old.tree s
-            → (t : Session) × AnswersLine s piece (written self.new.tree result) t × StandsAt self.new.tree t }
+            → (t : Session) × Answers s piece (written self.new.tree result) t × StandsAt self.new.tree t }
         ensures spelled { IsReply (written self.new.tree result) }
         ensures sound { StaysSound self.old.tree self.new.tree }
         ensures numbers { used self.new.tree ≤ used self.old.tree + 2 }
@@ -107,9 +107,9 @@ impl OpenSession {
     pub fn answer<W: Write>(&mut self, writer: &mut W) -> Result<(), SessionFault>
         requires room { used self.old.tree < 2 ^ 64 - 1 }
         ensures ok { OnOk result ((s : Session) (piece : List ℕ) → Holds self.old.line piece → StandsAt self.old.tree s
-            → IsAnswered TellsLine (StandsAt self.new.tree) s piece (W.contents writer.old) (W.contents writer.new)) }
+            → IsAnswered Tells (StandsAt self.new.tree) s piece (W.contents writer.old) (W.contents writer.new)) }
         ensures err { OnErr result ((s : Session) (piece : List ℕ) → Holds self.old.line piece → StandsAt self.old.tree s
-            → IsStarted TellsLine s piece (W.contents writer.old) (W.contents writer.new)) }
+            → IsStarted Tells s piece (W.contents writer.old) (W.contents writer.new)) }
         ensures sound { StaysSound self.old.tree self.new.tree }
         ensures numbers { used self.new.tree ≤ used self.old.tree + 2 }
         ensures fault { IfErr result (λ fault. IsOfWriting fault) }

@@ -18,7 +18,7 @@ returns-then-wants_memory-clause-called c s stands =
     let starved : c.apply-reply.result ≡ Refused NoMemory = c.wants_memory.ensures.0 c.if-wants_memory.true in
     call_starves s c.args.self.now _ c.args.client c.args.call stands
     (record { plain = c.apply-reply.ensures.no_memory starved; before_stays = refl; clients = refl; entries = refl; limit = refl })
-    (λ over. let room = leb-false _ _ (sym c.is_full.ensures ∙ c.if-is_full.false) in omega (arith, over, room))
+    (leb-false _ _ (sym c.is_full.ensures ∙ c.if-is_full.false))
     (not_false (takes_memory c.args.call) (λ spares. c.apply-reply.ensures.memory spares starved))
     (c.apply-reply.ensures.starved starved)
 
@@ -37,7 +37,7 @@ invariant_of-self-2 c =
 
 pub returns-clause-called : goal.returns-clause-called
 returns-clause-called c s stands = call_enters s c.args.self.now _ c.args.client c.args.call c.apply-reply.result stands (record {
-  room = λ over. let room = leb-false _ _ (sym c.is_full.ensures ∙ c.if-is_full.false) in omega (arith, over, room);
+  room = leb-false _ _ (sym c.is_full.ensures ∙ c.if-is_full.false);
   free = c.args.self.now.free (c.args.self.now.before + c.args.self.now.clients + 1) (omega arith);
   step = c.apply-reply.ensures.step (λ starved. true≢false (sym (c.wants_memory.ensures.1 starved) ∙ c.if-wants_memory.false));
   before_stays = refl;

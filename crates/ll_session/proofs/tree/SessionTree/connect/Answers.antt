@@ -1,4 +1,4 @@
-use Rattle.std.proofs.Common.{◌≡◌, ◌≤◌, ◌∙◌, ◌+◌, length, ap, sym, subst, refl, arith, inl, inr}
+use Rattle.std.proofs.Common.{◌≡◌, ◌∙◌, ◌+◌, ap, sym, subst, refl, arith, inl, inr}
 use Rattle.std.proofs.lemmas.Bool.{cases_lt, leb-true, leb-false}
 use Rattle.ll_rights.specs.Map.{has}
 use Rattle.ll_rights.specs.declared.errno.Errno.TheVariants.{NoMemory}
@@ -20,7 +20,7 @@ returns-then-is_full-clause-err c s stands = (
 pub returns-in-Refused-clause-err : goal.returns-in-Refused-clause-err
 returns-in-Refused-clause-err c s stands =
     let vacant = c.args.self.now.free (c.args.self.now.clients + 1) (let alone = c.requires.before in omega arith) in
-    let room : c.args.self.now.history.limit ≤ length c.args.self.now.history.entries → ⊥ = λ over. (let some = leb-false _ _ (sym c.is_full.ensures ∙ c.if-is_full.false) in omega (arith, over, some)) in (
+    let room = leb-false _ _ (sym c.is_full.ensures ∙ c.if-is_full.false) in (
       elim (is_starved (Refused c.in-Refused.errno)) [
         | inl e ↦ subst (λ (r : Reply). (t : Session) × Connects s r t) (sym e) (no_connect_for_memory s c.args.self.now stands room vacant (c.in-Refused.ensures.starved e))
         | inr ne ↦ no_connect_by_tree s c.args.self.now stands c.in-Refused.errno c.apply.new.self room vacant (c.in-Refused.ensures.step ne)
@@ -45,7 +45,7 @@ invariant_of-self-2 c =
 
 pub returns-clause-ok : goal.returns-clause-ok
 returns-clause-ok c s stands = connected s c.args.self.now stands _ (record {
-  room = λ over. (let some = leb-false _ _ (sym c.is_full.ensures ∙ c.if-is_full.false) in omega (arith, over, some));
+  room = leb-false _ _ (sym c.is_full.ensures ∙ c.if-is_full.false);
   alone = c.requires.before;
   free = c.args.self.now.free (c.args.self.now.clients + 1) (let alone = c.requires.before in omega arith);
   step = c.in-Done.ensures.step (λ e. absurd (let both : Done ≡ Refused NoMemory = e in cc));
