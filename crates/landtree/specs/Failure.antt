@@ -31,7 +31,6 @@ abbrev pub failure_of : RunFault → Failure
 failure_of run.Opening = Opening
 failure_of (run.Session fault) = failure_in_session fault
 
--- the same of what is wrong with a policy
 abbrev pub failure_in : PolicyFault → Failure
 failure_in wrong.NoMemory = NoMemory
 failure_in fault = Policy fault
@@ -44,42 +43,38 @@ status_of File = 1
 status_of Output = 1
 status_of NoMemory = 4
 
--- the same of clap's error at the program's words; help and the version are no failure
+-- help and the version are no failure
 abbrev pub failure_by : ErrorKind → Option Failure
 failure_by DisplayHelp = None
 failure_by DisplayVersion = None
 failure_by kind.OutOfMemory = Some NoMemory
 failure_by _ = Some CommandLine
 
--- the same of what keeps a history from being saved
 abbrev pub failure_by_saving : SaveFault → Failure
 failure_by_saving saving.Write = File
 failure_by_saving saving.NoMemory = NoMemory
 
--- the same of what keeps a schedule's picture from being drawn
 abbrev pub failure_by_drawing : PictureFault → Failure
 failure_by_drawing drawing.Write = File
 failure_by_drawing drawing.NoMemory = NoMemory
 
--- the same of what ends an audit
 abbrev pub failure_at : FileAuditFault → Failure
 failure_at audit.Read = File
 failure_at audit.Write = Output
 failure_at audit.NoMemory = NoMemory
 
--- the status where the program doesn't fail: 3 only for a history that isn't found legal
+-- 3 only for a history that isn't found legal
 abbrev pub status_by : Conclusion → ℕ
 status_by Done = 0
 status_by (Judged (Legal entries)) = 0
 status_by (Judged (Illegal entry)) = 3
 status_by (Judged (BadLine line)) = 3
 
--- the status at the program's end
 abbrev pub status_at : Result Conclusion Failure → ℕ
 status_at (Ok conclusion) = status_by conclusion
 status_at (Err failure) = status_of failure
 
--- the line on standard error; which fault of a policy is told in it, no definition says
+-- the line on standard error; which fault of a policy it tells, no definition says
 abbrev pub line_of : Failure → Option (List ℕ)
 line_of CommandLine = Some (codes "landtree: command line")
 line_of (Policy fault) = None
@@ -88,33 +83,31 @@ line_of File = Some (codes "landtree: file")
 line_of Output = Some (codes "landtree: output")
 line_of NoMemory = Some (codes "landtree: no memory")
 
--- a run may end so: done, or by any failure but a wrong command line
+-- a run is done, or ends by any failure but a wrong command line
 abbrev pub EndsRun : Result Conclusion Failure → Type 0
 EndsRun (Ok Done) = ⊤
 EndsRun (Ok (Judged verdict)) = ⊥
 EndsRun (Err CommandLine) = ⊥
 EndsRun (Err failure) = ⊤
 
--- what saving a history or drawing a picture may fail for: its file or memory
+-- saving a history, drawing a picture: its file or memory
 abbrev pub IsOfSaving : Failure → Type 0
 IsOfSaving File = ⊤
 IsOfSaving NoMemory = ⊤
 IsOfSaving failure = ⊥
 
--- what an audit or a schedule may fail for: its file, or that of the schedule's picture; its output; memory
+-- an audit, a schedule: its file or its picture's, its output, memory
 abbrev pub IsOfDevices : Failure → Type 0
 IsOfDevices File = ⊤
 IsOfDevices Output = ⊤
 IsOfDevices NoMemory = ⊤
 IsOfDevices failure = ⊥
 
--- an audit may end so: with an answer, or failing
 abbrev pub EndsAudit : Result Conclusion Failure → Type 0
 EndsAudit (Ok Done) = ⊥
 EndsAudit (Ok (Judged verdict)) = ⊤
 EndsAudit (Err failure) = IsOfDevices failure
 
--- a schedule may end so: done, or failing
 abbrev pub EndsSchedule : Result Conclusion Failure → Type 0
 EndsSchedule (Ok Done) = ⊤
 EndsSchedule (Ok (Judged verdict)) = ⊥

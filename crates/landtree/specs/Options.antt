@@ -32,7 +32,7 @@ levels = Unsigned 1 3
 abbrev pub nodes : Rule
 nodes = record (valued (codes "nodes")) { parser = Some node_numbers; defaults = codes "1024" ∷ [] }
 
--- from 1 to 1,000,000, in the same way
+-- from 1 to 1,000,000
 abbrev pub history_numbers : ValueParser
 history_numbers = Unsigned 1 1000000
 
@@ -62,7 +62,6 @@ landtree =
     let top = on_top (λ s. record s { has_version = true; subcommand_required = true }) (new_app (codes "landtree")) in
     with_subcommand (with_subcommand (with_subcommand top run.top) audit.top) schedule.top
 
--- the run that is wanted
 pub record RunOrder : Type 0 where
   pub script : Text
   pub nodes : ℕ
@@ -72,7 +71,6 @@ pub record RunOrder : Type 0 where
   pub profile : Option Text
   pub save : Option Text
 
--- the schedule that is wanted
 pub record ScheduleOrder : Type 0 where
   pub file : Text
   pub nodes : ℕ
@@ -80,7 +78,6 @@ pub record ScheduleOrder : Type 0 where
   pub history : ℕ
   pub picture : Option Text
 
--- What the words want: a run, an audit of a file, or a schedule
 pub data Order : Type 0 where
   to_run : RunOrder → Order
   to_audit : Text → Order
@@ -118,11 +115,10 @@ ordered_in (Audit file) = to_audit file.now
 abbrev pub number_in : ValueParser → Text → Option ℕ
 number_in parser text = if accepts false parser text then Some (digits_value 10 (without_leading_plus text)) else None
 
--- the number of the option with this name
 abbrev pub number_of : Text → ValueParser → List Row → Option ℕ
 number_of name parser rows = option_and_then (number_in parser) (one_of name rows)
 
--- the run that the matches of `run` want
+-- what the matches of a subcommand want
 abbrev pub run_order : List Row → Option RunOrder
 run_order rows =
     option_and_then (λ path. option_and_then (λ n. option_map (λ most. record {
@@ -138,7 +134,6 @@ run_order rows =
     (number_of (codes "nodes") node_numbers rows))
     (first_of (codes "SCRIPT") rows)
 
--- the same of `schedule`
 abbrev pub schedule_order : List Row → Option ScheduleOrder
 schedule_order rows =
     option_and_then (λ path. option_and_then (λ n. option_map (λ most. record {
@@ -152,14 +147,12 @@ schedule_order rows =
     (number_of (codes "nodes") node_numbers rows))
     (first_of (codes "FILE") rows)
 
--- what the matches of the subcommand with this name want
 abbrev pub ordered : Text → List Row → Option Order
 ordered name rows =
     if bytes_eq name (codes "run") then option_map to_run (run_order rows)
     else if bytes_eq name (codes "schedule") then option_map to_schedule (schedule_order rows)
     else option_map to_audit (first_of (codes "FILE") rows)
 
--- the same of the subcommand that the words name
 abbrev pub ordered_by : List Text → Option Order
 ordered_by words = option_and_then (λ named. ordered named.0 named.1) (subcommand_of landtree words)
 

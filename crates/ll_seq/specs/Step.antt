@@ -35,6 +35,7 @@ abbrev pub first_or : State → List Reply → Reply × State → Reply × State
 first_or s [] outcome = outcome
 first_or s (reply ∷ replies) outcome = (reply, s)
 
+-- fresh: a spawned client's number
 abbrev pub step : State → ℕ → Call → ℕ → Reply × State
 step s number call fresh = first_or s (refusals s (client_of s number) call)
     (effect s number (client_of s number) (first_path call) (second_path call) fresh call)
