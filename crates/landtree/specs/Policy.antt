@@ -51,8 +51,8 @@ pub record IsWorldSetup (order : ScheduleOrder) (setup : WorldSetup) : Type 0 wh
   pub nodes : setup.nodes ≡ order.nodes
   pub history : setup.history ≡ order.history
 
--- Why there is no setup of a run: the first of what is wrong with the policy's text, a profile that a right policy hasn't, a file
--- that can't be read, want of memory
+-- Why there is no setup of a run: the first of what is wrong with the policy's text, a profile that a right policy
+-- hasn't, a file that can't be read, want of memory
 abbrev pub Lacks : RunOrder → List ℕ → Failure → Type 0
 Lacks order text (Policy fault) =
     ((IsUtf8 text → ⊥) × (fault ≡ NotToml))

@@ -106,7 +106,8 @@ makes (Allow rule) = false
 -- these are directories of the paths, or nodes that the call may change or tell of
 abbrev pub AreNear : Call → Found → List ℕ → Type 0
 AreNear call found inodes =
-    AllByRecursion (λ i. list_any (λ j. j == i) (found.first.directory ∷ found.second.directory ∷ nodes_of call found) ≡ true) inodes
+    AllByRecursion (λ i.
+    list_any (λ j. j == i) (found.first.directory ∷ found.second.directory ∷ nodes_of call found) ≡ true) inodes
 
 -- the effect touches no other node that is there, and makes one only where the call may
 pub record IsNear (call : Call) (found : Found) (effect : Effect) : Type 0 where

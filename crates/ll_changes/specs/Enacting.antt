@@ -1,4 +1,4 @@
--- A change that a client makes: what is given for it, and what comes of it. Cited by contracts between crates alone. own
+-- A change that a client makes: what is given for it, what comes of it. Cited by contracts between crates alone. own
 use Rattle.std.specs.Prelude.{◌≡◌, ◌⊎◌, ℕ, ◌+◌, ◌<◌, ◌≤◌, ◌^◌, ◌-◌, Bool, true, ◌==◌, List, [], ◌∷◌, ◌++◌, map, Option, Some, None, slice_get, slice_set, slice_index_or, length, if◌then◌else◌}
 use Rattle.std.specs.List.{AllByRecursion, list_any}
 use Rattle.ll_rights.specs.declared.limits.TheConstants.{TREE_CLIENTS}
@@ -23,9 +23,11 @@ pub record IsReached (s : State) : Type 0 where
   pub legal : IsLegal (start rules room) entries
   pub is : s ≡ state_after (start rules room) entries
 
--- a tree with its table, the record of the client that makes the change and the slot that is kept for what it makes, and the slots that it is lent
+-- a tree with its table, the record of the client that makes the change and the slot that is kept for what it makes,
+-- and the slots that it is lent
 pub record IsGiven
-    (s : State) (number : ℕ) (marks : ℕ → Option ℕ) (spares : List ℕ) (place : ℕ) (c : ClientRecord) (spare : ℕ) (table : Table) (slots : List ℕ) (lent : List Held) : Type 0 where
+    (s : State) (number : ℕ) (marks : ℕ → Option ℕ) (spares : List ℕ) (place : ℕ)
+    (c : ClientRecord) (spare : ℕ) (table : Table) (slots : List ℕ) (lent : List Held) : Type 0 where
   pub reached : IsReached s
   pub counted : IsTable s spares table
   pub kept : slice_get spares place ≡ Some spare
@@ -38,7 +40,8 @@ pub record IsGiven
 
 -- the slots are those of the nodes that the change touches, and of the spare where it makes one
 pub record Covers (inodes : List ℕ) (spare : ℕ) (slots : List ℕ) (change : Change) : Type 0 where
-  pub touched : AllByRecursion (λ i. list_any (λ k. slice_index_or inodes k 0 == i) slots ≡ true) (changed_inodes change)
+  pub touched :
+      AllByRecursion (λ i. list_any (λ k. slice_index_or inodes k 0 == i) slots ≡ true) (changed_inodes change)
   pub new : makes change ≡ true → list_any (λ k. k == spare) slots ≡ true
 
 -- A node was made: it lies in the client's spare slot, and the last of the free ones is the spare now
@@ -70,7 +73,8 @@ LeavesTable s t spares place spare' table table' slots =
 
 -- the tree after, its table and the client, and what lies in the slots then
 pub record IsMade
-    (s t : State) (number : ℕ) (marks : ℕ → Option ℕ) (spares : List ℕ) (place : ℕ) (c' : ClientRecord) (spare' : ℕ) (table table' : Table) (slots : List ℕ) (lent' : List Held) : Type 0 where
+    (s t : State) (number : ℕ) (marks : ℕ → Option ℕ) (spares : List ℕ) (place : ℕ)
+    (c' : ClientRecord) (spare' : ℕ) (table table' : Table) (slots : List ℕ) (lent' : List Held) : Type 0 where
   pub counted : IsTable t (slice_set spares place spare') table'
   pub next : table'.next ≤ table.next + 1
   pub clients : (q : ℕ) → get t.clients q ≡ (if q == number then Some c' else get s.clients q)
@@ -79,14 +83,17 @@ pub record IsMade
   pub freed : LeavesTable s t spares place spare' table table' slots
 
 -- so for each tree where it may be
-abbrev pub Enacts : Change → List ℕ → ClientRecord → ℕ → Table → List Held → ClientRecord → ℕ → Table → List Held → Type 0
+abbrev pub Enacts :
+    Change → List ℕ → ClientRecord → ℕ → Table → List Held → ClientRecord → ℕ → Table → List Held → Type 0
 Enacts change slots c spare table lent c' spare' table' lent' =
     (s : State) (number : ℕ) (marks : ℕ → Option ℕ) (spares : List ℕ) (place : ℕ)
-    → IsGiven s number marks spares place c spare table slots lent → Fits s c change → Covers table.inodes spare slots change
+    → IsGiven s number marks spares place c spare table slots lent → Fits s c change
+    → Covers table.inodes spare slots change
     → IsMade s (after s number c change) number marks spares place c' spare' table table' slots lent'
 
 -- there is such a tree
-pub record MayEnact (change : Change) (slots : List ℕ) (c : ClientRecord) (spare : ℕ) (table : Table) (lent : List Held) : Type 0 where
+pub record MayEnact
+    (change : Change) (slots : List ℕ) (c : ClientRecord) (spare : ℕ) (table : Table) (lent : List Held) : Type 0 where
   pub s : State
   pub number : ℕ
   pub marks : ℕ → Option ℕ

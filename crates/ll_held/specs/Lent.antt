@@ -23,17 +23,20 @@ unmarked number held = record held {
 -- the directory has the name for the inode
 abbrev pub named_in : ℕ → Name → ℕ → Held → Held
 named_in directory name inode held =
-    if held.inode == directory then record held { node = record held.node { names = insert held.node.names name inode } } else held
+    if held.inode == directory
+    then record held { node = record held.node { names = insert held.node.names name inode } } else held
 
 -- the directory hasn't the name
 abbrev pub unnamed_in : ℕ → Name → Held → Held
 unnamed_in directory name held =
-    if held.inode == directory then record held { node = record held.node { names = remove held.node.names name } } else held
+    if held.inode == directory then record held { node = record held.node { names = remove held.node.names name } }
+    else held
 
 -- the node has these bytes, cut or filled to this length
 abbrev pub resized_in : ℕ → ℕ → Held → Held
 resized_in inode size held =
-    if held.inode == inode then record held { node = record held.node { bytes = resized held.node.bytes size } } else held
+    if held.inode == inode then record held { node = record held.node { bytes = resized held.node.bytes size } }
+    else held
 
 abbrev pub emptied_in : ℕ → Held → Held
 emptied_in inode held = if held.inode == inode then record held { node = record held.node { bytes = [] } } else held

@@ -1,5 +1,5 @@
--- Which inode lies in which slot, what is counted of each, and which slots are vacant; and how this is tied to a tree. Cited by contracts between
--- crates alone. own
+-- Which inode lies in which slot, what is counted of each, and which slots are vacant; and how this is tied to a tree.
+-- Cited by contracts between crates alone. own
 use Rattle.std.specs.Prelude.{◌≡◌, ◌≢◌, ℕ, ◌+◌, ◌≤◌, ◌==◌, List, [], ◌∷◌, ◌++◌, map, length, Some, slice_get, if◌then◌else◌, ⊤}
 use Rattle.std.specs.List.{AllByRecursion}
 use Rattle.std.specs.Ordering.{nat_cmp}
@@ -9,8 +9,8 @@ use Rattle.ll_seq.specs.declared.facts.Fact.{Fact}
 use Rattle.ll_seq.specs.Facts.{AreKept}
 use Rattle.ll_seq.specs.State.{State}
 
--- facts: what is counted of each node. next: the inode of the next node. inodes: of each slot the inode that lies in it, 0 where it is vacant.
--- places: the slot of each inode. free: the vacant slots that are nobody's spare
+-- facts: what is counted of each node. next: the inode of the next node. inodes: of each slot the inode that lies in it,
+-- 0 where it is vacant. places: the slot of each inode. free: the vacant slots that are nobody's spare
 pub record Table : Type 0 where
   pub facts : Map nat_cmp Fact
   pub next : ℕ

@@ -1,5 +1,5 @@
--- What a commit finds where its walk has ended, of what it tells, and which directories it moves. No public contract cites
--- it. own
+-- What a commit finds where its walk has ended, of what it tells, and which directories it moves. No public contract
+-- cites it. own
 use Rattle.std.specs.Prelude.{◌≡◌, ℕ, List, ◌++◌, Some, None, option_to_list}
 use Rattle.std.specs.List.{AllByRecursion}
 use Rattle.ll_rights.specs.declared.kind.Kind.TheVariants.{Dir}

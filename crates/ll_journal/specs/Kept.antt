@@ -48,7 +48,8 @@ book_of j = record {
 
 -- each client of the tree has its seat, and no other number has one
 abbrev pub AreSeated : State → List Seat → Type 0
-AreSeated s seats = (number : ℕ) → get s.clients number ≡ option_map (λ (seat : Seat). seat.client) (seat_at seats number)
+AreSeated s seats =
+    (number : ℕ) → get s.clients number ≡ option_map (λ (seat : Seat). seat.client) (seat_at seats number)
 
 -- The table of inodes is that of the shown state. Each entry makes one node at most
 pub record IsKept (j : Inside) : Type 0 where

@@ -132,7 +132,8 @@ spot_at facts held path = record {
 -- why the leg in turn can't go on: what its next name stands for is no directory
 abbrev pub blocked_at : Map nat_cmp Fact → Option ℕ → Option Errno
 blocked_at facts found =
-    slice_get (no_directory (option_and_then (λ inode. option_map (λ (fact : Fact). fact.kind) (get facts inode)) found)) 0
+    slice_get
+    (no_directory (option_and_then (λ inode. option_map (λ (fact : Fact). fact.kind) (get facts inode)) found)) 0
 
 -- it is lent, and this inode lies in it
 pub record Lies (lent : List Held) (inode : ℕ) (held : Held) : Type 0 where
@@ -154,7 +155,8 @@ StopsBefore facts lent here name stop =
 
 -- a walk of another client stands in the node of the last name
 abbrev pub is_marked_at : (ℕ → Bool) → Path → Spot → Bool
-is_marked_at marked path spot = not (is_root path) && option_map_or (λ (there : There). marked there.inode) spot.there false
+is_marked_at marked path spot =
+    not (is_root path) && option_map_or (λ (there : There). marked there.inode) spot.there false
 
 abbrev pub is_marked_there : (ℕ → Bool) → Call → Found → Bool
 is_marked_there marked call found =
@@ -182,7 +184,8 @@ found_at facts full first second call = record {
 -- with both legs at their ends, in these directories
 abbrev pub StopsBetween : Map nat_cmp Fact → Bool → (ℕ → Bool) → List ℕ → List Held → ℕ → Call → ℕ → ℕ → Stop → Type 0
 StopsBetween facts full marked slots lent spare call first second stop =
-    ((a b : Held) × Lies lent first a × Lies lent second b × (stop ≡ stop_there marked slots lent spare call (found_at facts full a b call)))
+    ((a b : Held) × Lies lent first a × Lies lent second b
+    × (stop ≡ stop_there marked slots lent spare call (found_at facts full a b call)))
     ⊎ ((Misses first lent ⊎ Misses second lent) × (stop ≡ stops.Astray))
 
 abbrev pub StopsAtEnds : Map nat_cmp Fact → Bool → (ℕ → Bool) → List ℕ → List Held → Seat → Stop → Type 0
@@ -203,4 +206,5 @@ abbrev pub Stops : Map nat_cmp Fact → Bool → (ℕ → Bool) → List ℕ →
 Stops facts full marked slots lent seat stop =
     ((goes_on seat ≡ false) × (stop ≡ stops.NotNow))
     ⊎ ((goes_on seat ≡ true) × (is_all_lent lent seat ≡ false) × (stop ≡ stops.Astray))
-    ⊎ ((goes_on seat ≡ true) × (is_all_lent lent seat ≡ true) × StopsBy facts full marked slots lent seat (next_in seat) stop)
+    ⊎ ((goes_on seat ≡ true) × (is_all_lent lent seat ≡ true)
+    × StopsBy facts full marked slots lent seat (next_in seat) stop)

@@ -40,4 +40,5 @@ pub record IsBesides (b : Book) (number : ℕ) (walk : Walk) (o : Option ℕ) : 
   pub nodes :
       at_ends walk.call walk.at ≡ true → (inode : ℕ) → is_in (nodes_at_end (shown b.world) walk.call) inode ≡ true
       → (slot : ℕ) × (o ≡ Some slot) × (inode_in b slot ≡ inode)
-  pub spare : at_ends walk.call walk.at ≡ true → would_make (shown b.world) walk.call ≡ true → o ≡ Some (spare_of b number)
+  pub spare : at_ends walk.call walk.at ≡ true → would_make (shown b.world) walk.call ≡ true
+      → o ≡ Some (spare_of b number)

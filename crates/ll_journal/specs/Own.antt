@@ -47,7 +47,8 @@ IsFreeOwn abi c asked =
 
 -- the child of the client at the place has the last seat, and the last of the free slots; its descriptors are counted
 pub record Spawns
-    (rules : Rules) (place : ℕ) (seats : List Seat) (table : Table) (number : ℕ) (seats' : List Seat) (table' : Table) : Type 0 where
+    (rules : Rules) (place : ℕ) (seats : List Seat) (table : Table) (number : ℕ)
+    (seats' : List Seat) (table' : Table) : Type 0 where
   pub parent : Seat
   pub there : slice_get seats place ≡ Some parent
   pub numbered : number ≡ length seats + 1

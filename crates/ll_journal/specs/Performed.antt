@@ -21,9 +21,11 @@ use Rattle.ll_journal.specs.Decidings.{IsEndAt}
 abbrev pub lies_in : List ℕ → List ℕ → ℕ → Type 0
 lies_in inodes slots i = list_any (λ k. slice_index_or inodes k 0 == i) slots ≡ true
 
--- A tree where this was found for the call of the client, whose walk has ended, and where the slots that are lent are enough for it
+-- A tree where this was found for the call of the client, whose walk has ended, and where the slots that are lent are
+-- enough for it
 pub record IsAtEnd
-    (s : State) (number : ℕ) (marks : ℕ → Option ℕ) (spares : List ℕ) (place : ℕ) (c : ClientRecord) (spare : ℕ) (table : Table) (slots : List ℕ) (lent : List Held)
+    (s : State) (number : ℕ) (marks : ℕ → Option ℕ) (spares : List ℕ) (place : ℕ)
+    (c : ClientRecord) (spare : ℕ) (table : Table) (slots : List ℕ) (lent : List Held)
     (call : Call) (first second : List ℕ) (found : Found) : Type 0 where
   pub given : IsGiven s number marks spares place c spare table slots lent
   pub path : has_path call ≡ true
@@ -44,7 +46,8 @@ IsFreeAtEnd c spare table slots lent call first second found =
 
 -- the reply is the step's, and the tree after it is made
 pub record Performs
-    (s : State) (number : ℕ) (marks : ℕ → Option ℕ) (spares : List ℕ) (place : ℕ) (table : Table) (slots : List ℕ) (call : Call)
+    (s : State) (number : ℕ) (marks : ℕ → Option ℕ) (spares : List ℕ) (place : ℕ)
+    (table : Table) (slots : List ℕ) (call : Call)
     (reply : Reply) (c' : ClientRecord) (spare' : ℕ) (table' : Table) (lent' : List Held) : Type 0 where
   pub after : State
   pub steps : (fresh : ℕ) → ◌≡◌ {A = Reply × State} (step s number call fresh) (reply, after)

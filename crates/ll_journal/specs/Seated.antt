@@ -140,7 +140,8 @@ lower domain inode leg (name ∷ rest) = leg_below domain leg name rest inode
 -- the leg in turn has taken its next name
 abbrev pub gone_down : List Layer → ℕ → Walk → Walk
 gone_down domain inode walk =
-    option_map_or (λ (leg : Leg). record walk { at = with_turn walk.at (lower domain inode leg leg.ahead) }) (turn walk.at) walk
+    option_map_or (λ (leg : Leg). record walk { at = with_turn walk.at (lower domain inode leg leg.ahead) })
+    (turn walk.at) walk
 
 abbrev pub split : Walk → Walk
 split walk = record walk { at = unwrap_or (forked walk.call walk.at) walk.at }

@@ -39,8 +39,8 @@ abbrev pub IsAstrayAtTop : Book → ℕ → ℕ → Type 0
 IsAstrayAtTop b number slot =
     (is_going b.world number ≡ true) × (is_at_top b.world number ≡ true → inode_in b slot ≢ root)
 
--- The walk goes on. If its leg in turn stands in the directory of the first slot, there is a directory to go to, and the
--- second slot isn't that one's
+-- The walk goes on. If its leg in turn stands in the directory of the first slot, there is a directory to go to, and
+-- the second slot isn't that one's
 abbrev pub IsAstrayBelow : Book → ℕ → ℕ → ℕ → Type 0
 IsAstrayBelow b number from to =
     (is_going b.world number ≡ true)

@@ -51,8 +51,8 @@ Withheld layer inode cut Was s (e ∷ es) =
     InReach cut layer inode right.write_file ⊎ InReach cut layer inode right.truncate)
     × Withheld layer inode cut (Confined Was e) (after s e) es
 
--- Where each move after the cut is made under the layer, the bytes of an inode that no client under it has open then are
--- withheld from them, and from whom they spawn
+-- Where each move after the cut is made under the layer, the bytes of an inode that no client under it has open then
+-- are withheld from them, and from whom they spawn
 abbrev pub Withholds : Rules → ℕ → List Entry → List Entry → Type 0
 Withholds rules room early late =
     let cut = state_after (start rules room) early in

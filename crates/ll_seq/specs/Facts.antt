@@ -35,8 +35,8 @@ pub record IsUnused (s : State) (inode : ℕ) : Type 0 where
   pub links : name_count s inode ≡ 0
   pub opens : open_count s inode ≡ 0
 
--- The facts are those of the tree: of each node its counts, and of no other number any. Nothing stands for a number that is yet
--- to be given
+-- The facts are those of the tree: of each node its counts, and of no other number any. Nothing stands for a number
+-- that is yet to be given
 pub record AreKept (s : State) (facts : Map nat_cmp Fact) : Type 0 where
   pub told : (inode : ℕ) → get facts inode ≡ fact_of s inode
   pub unused : (inode : ℕ) → s.next ≤ inode → IsUnused s inode

@@ -30,10 +30,11 @@ pub data Leads (client : ℕ) : World → Outcome → World → Type 0 where
       → Leads client w o w'
   waits : (w : World) → Waits w (Commit client) → IsStuck w client → Leads client w outcome.NotNow w
 
--- A call on a descriptor, or for the client alone, is one step. Any other sets out, if it may, and then its walk is led on.
--- The outcome is that of the last step; a walk that waits stays under way
+-- A call on a descriptor, or for the client alone, is one step. Any other sets out, if it may, and then its walk is led
+-- on. The outcome is that of the last step; a walk that waits stays under way
 pub data Calls (w : World) (client : ℕ) (call : Call) : Outcome → World → Type 0 where
-  on_file : (w' : World) (o : Outcome) → Makes w (FdCommit client call) o w' → o ≢ outcome.NotNow → Calls w client call o w'
+  on_file : (w' : World) (o : Outcome) → Makes w (FdCommit client call) o w' → o ≢ outcome.NotNow
+      → Calls w client call o w'
   alone : (w' : World) (o : Outcome) → Waits w (FdCommit client call) → Makes w (ClientStep client call) o w'
       → o ≢ outcome.NotNow → Calls w client call o w'
   walks : (v w' : World) (o : Outcome) → Waits w (FdCommit client call) → Waits w (ClientStep client call)

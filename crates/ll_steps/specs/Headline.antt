@@ -35,7 +35,7 @@ pub record Grows (w w' : World) (added : List Entry) : Type 0 where
   pub room : w'.room ≡ w.room
   pub limit : w'.limit ≡ w.limit
 
--- Each step has its outcome, and adds what the outcome tells of to the history: these entries, in their order, and no other
+-- Each step has its outcome, and adds what the outcome tells of to the history: these entries, in order, and no other
 abbrev pub Runs : World → List Step → List Outcome → List Entry → World → Type 0
 Runs w [] [] added w' = (added ≡ []) × (w' ≡ w)
 Runs w (step' ∷ steps) (outcome ∷ outcomes) added w' =
