@@ -9,8 +9,8 @@ use Rattle.ll_seq.specs.declared.facts.Fact.{Fact}
 use Rattle.ll_seq.specs.Facts.{AreKept}
 use Rattle.ll_seq.specs.State.{State}
 
--- facts: what is counted of each node. next: the inode of the next node. inodes: of each slot the inode that lies in it,
--- 0 where it is vacant. places: the slot of each inode. free: the vacant slots that are nobody's spare
+-- facts: what is counted of each node. next: the inode of the next node. inodes: of each slot the inode that lies in
+-- it, 0 where it is vacant. places: the slot of each inode. free: the vacant slots that are nobody's spare
 pub record Table : Type 0 where
   pub facts : Map nat_cmp Fact
   pub next : ℕ
