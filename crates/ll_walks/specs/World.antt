@@ -234,7 +234,8 @@ enter w number walk =
     then Some (
       Stands root,
       record w {
-        walks = insert w.walks number (record walk { at = Down (first_leg (domain_of w number) (trunk_path walk.call)) });
+        walks =
+            insert w.walks number (record walk { at = Down (first_leg (domain_of w number) (trunk_path walk.call)) });
         gate = if last then Some number else w.gate;
       },
     )
