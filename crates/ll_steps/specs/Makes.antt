@@ -8,7 +8,7 @@ use Rattle.ll_seq.specs.declared.call.Call.TheVariants.{Close, Connect}
 use Rattle.ll_seq.specs.declared.reply.Entry.{Entry}
 use Rattle.ll_seq.specs.declared.reply.Reply.TheVariants as reply
 use Rattle.ll_walks.specs.declared.step.Step.{Step}
-use Rattle.ll_walks.specs.declared.step.Step.TheVariants.{Join, Begin, Descend, Fork, Commit, Restart, FdCommit, ClientStep}
+use Rattle.ll_walks.specs.declared.step.Step.TheVariants.{Join, Commit, FdCommit, ClientStep}
 use Rattle.ll_walks.specs.Walk.{Walk}
 use Rattle.ll_walks.specs.World as world
 use Rattle.ll_walks.specs.World.{World, advance, is_full, next_number, without_walk}
