@@ -1,5 +1,5 @@
 -- The first of several faults.
-use Rattle.std.proofs.Common.{◌≡◌, Bool, true, false, not, List, [], ◌∷◌, ◌++◌, Option, Some, None, slice_get, refl, ap, ◌∙◌, ◌⊎◌, inl, inr}
+use Rattle.std.proofs.Common.{◌≡◌, Bool, true, false, not, List, [], ◌∷◌, ◌++◌, Option, Some, None, slice_get, refl, sym, ap, ◌∙◌, subst, ◌⊎◌, inl, inr}
 use Rattle.std.specs.Prelude.{option_and_then}
 use Rattle.toml.specs.Data.{Data}
 use Rattle.ll_policy.specs.declared.fault.PolicyFault.{PolicyFault}
@@ -17,6 +17,16 @@ first (one ∷ ones) others fault e = e
 pub told_first : (ones others : List PolicyFault) (fault : PolicyFault) → Told ones fault → Told (ones ++ others) fault
 told_first ones others fault (inl memory) = inl memory
 told_first ones others fault (inr e) = inr (first ones others fault e)
+
+-- the first fault behind parts in which nothing is wrong
+pub told_after : (ones others : List PolicyFault) (fault : PolicyFault) → ones ≡ [] → Told others fault → Told (ones ++ others) fault
+told_after ones others fault none told = subst (λ (fs : List PolicyFault). Told (fs ++ others) fault) (sym none) told
+
+pub first_after : (ones others : List PolicyFault) (fault : PolicyFault) → ones ≡ [] → slice_get others 0 ≡ Some fault → slice_get (ones ++ others) 0 ≡ Some fault
+first_after ones others fault none e = subst (λ (fs : List PolicyFault). slice_get (fs ++ others) 0 ≡ Some fault) (sym none) e
+
+pub no_faults : (ones others : List PolicyFault) → ones ≡ [] → others ≡ [] → ones ++ others ≡ []
+no_faults ones others none nothing = λ i. none i ++ nothing i
 
 pub only_one : (faults : List PolicyFault) (fault : PolicyFault) → faults ≡ fault ∷ [] → slice_get faults 0 ≡ Some fault
 only_one faults fault e = ap (λ (fs : List PolicyFault). slice_get fs 0) e

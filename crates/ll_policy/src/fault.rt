@@ -6,44 +6,33 @@ ghost use Rattle.ll_policy.specs.declared.fault.PolicyFault.TheVariants.{NoMemor
 use std::alloc::{AllocError, AllocFailed};
 use thiserror::Error;
 
-/// Why a text gives no policy. The first fault is told.
+/// Why a text gives no policy. The first fault is told. It is shown by its name.
 #[derive(Clone, Copy, Debug, PartialEq, Eq, Error)]
+#[error("{:?}", self)]
 pub enum PolicyFault {
     /// The text is no TOML document.
-    #[error("NotToml")]
     NotToml,
     /// A table has a key that it may not have.
-    #[error("UnknownKey")]
     UnknownKey,
     /// A table lacks a key that it must have.
-    #[error("MissingKey")]
     MissingKey,
     /// A value is of another type than its key wants.
-    #[error("WrongType")]
     WrongType,
     /// The version is neither 1 nor 2.
-    #[error("BadVersion")]
     BadVersion,
     /// The ABI level is none from 1 to 3.
-    #[error("BadAbi")]
     BadAbi,
     /// A profile's name isn't 1 to 32 of `a` to `z`, `0` to `9` and `-`.
-    #[error("BadName")]
     BadName,
     /// A text spells no path.
-    #[error("BadPath")]
     BadPath,
     /// A text names no kind of node.
-    #[error("BadKind")]
     BadKind,
     /// A text spells no set of rights.
-    #[error("BadRights")]
     BadRights,
     /// A text spells no bytes, or too many, or its node is no regular file.
-    #[error("BadData")]
     BadData,
     /// There is no room for the policy. This says nothing of the text.
-    #[error("NoMemory")]
     NoMemory,
 }
 

@@ -276,6 +276,13 @@ reply_behind word reply body text e h =
     let whole = ap (λ (t : List ℕ). word ++ 32 ∷ t) e ∙ sym (two_tokens word (reply_tokens reply) (some_tokens reply)) in
     h ∙ ap (λ (x : List ℕ). x ++ 10 ∷ []) whole
 
+-- the same of a client's name and a call
+pub call_behind : (client : ℕ) (call : Call) (name body text : List ℕ) → name ≡ 64 ∷ decimal client → body ≡ join_with_byte 32 (call_tokens call)
+    → text ≡ line_of (name ∷ body ∷ []) → text ≡ line_of ((64 ∷ decimal client) ∷ call_tokens call)
+call_behind client call name body text n e h =
+    let whole = (λ i. n i ++ 32 ∷ e i) ∙ sym (two_tokens (64 ∷ decimal client) (call_tokens call) (few_tokens call).0) in
+    h ∙ ap (λ (x : List ℕ). x ++ 10 ∷ []) whole
+
 -- the call and the reply are written by themselves, and then joined
 pub entry_is : (e : Entry) (client call reply text : List ℕ) → client ≡ decimal e.client → call ≡ join_with_byte 32 (call_tokens e.call) → reply ≡ join_with_byte 32 (reply_tokens e.reply)
     → text ≡ line_of (client ∷ call ∷ codes "=" ∷ reply ∷ []) → text ≡ entry_line e

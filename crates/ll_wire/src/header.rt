@@ -88,10 +88,19 @@ fn level_of(token: &str) -> Option<Abi>
 fn version_of(number: &str, level: &[&str]) -> Option<Version>
     ensures { Finds (SpellsVersion number.now (map (λ t. t.now) level.now)) result }
 {
-    match level {
-        [] if number == "1" => Some(Version::One),
-        [word, abi] if *word == "abi" && number == "2" => Some(Version::Two(level_of(abi)?)),
-        [word, abi] if *word == "abi" && number == "3" => Some(Version::Three(level_of(abi)?)),
+    if level.is_empty() && number == "1" {
+        return Some(Version::One);
+    }
+    let [word, abi] = level else {
+        return None;
+    };
+    if *word != "abi" {
+        return None;
+    }
+    let abi = level_of(abi)?;
+    match number {
+        "2" => Some(Version::Two(abi)),
+        "3" => Some(Version::Three(abi)),
         _ => None,
     }
 }

@@ -7,7 +7,7 @@ ghost use Rattle.ll_wire.specs.Grammar.{line_of, mode_text, call_tokens, IsCall,
 use crate::bytes::data_text;
 use ll_decide::Denial;
 use ll_path::{Data, Name, Target};
-use ll_rights::Access;
+use ll_rights::{Access, Errno};
 use ll_seq::{AccessMode, Call, Creation, Mode, Reply, Status};
 use std::alloc::{AllocError, Global};
 
@@ -63,11 +63,17 @@ fn mode_text(alloc: Global, mode: Mode) -> Result<String, AllocError>
     Ok(text)
 }
 
+fn one_arg(alloc: Global, name: &str, arg: &str) -> Result<String, AllocError>
+    ensures { IfOk result (λ text. string_bytes text ≡ join_with_byte 32 (name.now ∷ arg.now ∷ [])) }
+{
+    spaced_text(alloc, name, &[arg])
+}
+
 fn number_text(alloc: Global, name: &str, number: u64) -> Result<String, AllocError>
     ensures { IfOk result (λ text. string_bytes text ≡ join_with_byte 32 (name.now ∷ decimal number ∷ [])) }
 {
     let number = number.to_string(alloc)?;
-    spaced_text(alloc, name, &[number.as_str()])
+    one_arg(alloc, name, number.as_str())
 }
 
 // A call's name and two tokens. They share a lifetime, since an array of references has one.
@@ -129,6 +135,13 @@ fn truncate_text(alloc: Global, target: &Target, size: u64) -> Result<String, Al
     two_args(alloc, "truncate", target.as_str(), size.as_str())
 }
 
+fn ruleset_text(alloc: Global, rights: Access) -> Result<String, AllocError>
+    ensures { IfOk result (λ text. string_bytes text ≡ join_with_byte 32 (call_tokens (Call.Ruleset rights))) }
+{
+    let rights = rights.text(alloc)?;
+    one_arg(alloc, "ruleset", rights.as_str())
+}
+
 fn allow_text(
     alloc: Global,
     number: u64,
@@ -159,26 +172,33 @@ pub(crate) fn call_text(alloc: Global, call: &Call) -> Result<String, AllocError
         Call::Ftruncate(fd, size) => ftruncate_text(alloc, *fd, *size),
         Call::Close(fd) => number_text(alloc, "close", *fd),
         Call::Truncate(target, size) => truncate_text(alloc, target, *size),
-        Call::ReadDir(target) => spaced_text(alloc, "list", &[target.as_str()]),
-        Call::Stat(target) => spaced_text(alloc, "stat", &[target.as_str()]),
-        Call::Exec(target) => spaced_text(alloc, "exec", &[target.as_str()]),
-        Call::Unlink(target) => spaced_text(alloc, "unlink", &[target.as_str()]),
-        Call::Rmdir(target) => spaced_text(alloc, "rmdir", &[target.as_str()]),
+        Call::ReadDir(target) => one_arg(alloc, "list", target.as_str()),
+        Call::Stat(target) => one_arg(alloc, "stat", target.as_str()),
+        Call::Exec(target) => one_arg(alloc, "exec", target.as_str()),
+        Call::Unlink(target) => one_arg(alloc, "unlink", target.as_str()),
+        Call::Rmdir(target) => one_arg(alloc, "rmdir", target.as_str()),
         Call::Rename(old, new) => two_args(alloc, "rename", old.as_str(), new.as_str()),
         Call::RenameNoreplace(old, new) => {
             two_args(alloc, "rename_noreplace", old.as_str(), new.as_str())
         }
         Call::Exchange(old, new) => two_args(alloc, "exchange", old.as_str(), new.as_str()),
         Call::Link(old, new) => two_args(alloc, "link", old.as_str(), new.as_str()),
-        Call::Ruleset(rights) => {
-            let rights = rights.text(alloc)?;
-            spaced_text(alloc, "ruleset", &[rights.as_str()])
-        }
+        Call::Ruleset(rights) => ruleset_text(alloc, *rights),
         Call::Allow(number, target, rights) => allow_text(alloc, *number, target, *rights),
         Call::Confine(number) => number_text(alloc, "confine", *number),
-        Call::Spawn => spaced_text(alloc, "spawn", &[]),
-        Call::Connect => spaced_text(alloc, "connect", &[]),
+        Call::Spawn => String::from_str(alloc, "spawn"),
+        Call::Connect => String::from_str(alloc, "connect"),
     }
+}
+
+// A client's name: `@` and its number.
+fn client_text(alloc: Global, client: u64) -> Result<String, AllocError>
+    ensures { IfOk result (λ text. string_bytes text ≡ 64 ∷ decimal client) }
+{
+    let number = client.to_string(alloc)?;
+    let mut text = String::from_str(alloc, "@")?;
+    text.push_str(number.as_str())?;
+    Ok(text)
 }
 
 /// The one spelling of a command.
@@ -191,18 +211,15 @@ pub fn command_text(alloc: Global, client: u64, call: &Call) -> Result<String, A
     if client == 1 {
         return ended(text);
     }
-    let client = client.to_string(alloc)?;
-    let mut line = String::from_str(alloc, "@")?;
-    line.push_str(client.as_str())?;
-    push_token(&mut line, text.as_str())?;
-    ended(line)
+    let client = client_text(alloc, client)?;
+    line_text(alloc, client.as_str(), &[text.as_str()])
 }
 
 fn bytes_text(alloc: Global, bytes: &Data) -> Result<String, AllocError>
     ensures { IfOk result (λ text. string_bytes text ≡ join_with_byte 32 (reply_tokens (Reply.Bytes bytes.now))) }
 {
     let bytes = data_text(alloc, bytes)?;
-    spaced_text(alloc, "data", &[bytes.as_str()])
+    one_arg(alloc, "data", bytes.as_str())
 }
 
 fn names_text(alloc: Global, names: &[Name]) -> Result<String, AllocError>
@@ -243,12 +260,19 @@ fn denial_text(alloc: Global, denial: &Denial) -> Result<String, AllocError>
     )
 }
 
+fn refusal_text(alloc: Global, errno: Errno) -> Result<String, AllocError>
+    ensures { IfOk result (λ text. string_bytes text ≡ join_with_byte 32 (reply_tokens (Reply.Refused errno))) }
+{
+    let number = errno.number().to_string(alloc)?;
+    two_args(alloc, "refused", number.as_str(), errno.text())
+}
+
 // The reply's line without its line feed.
 pub(crate) fn reply_body(alloc: Global, reply: &Reply) -> Result<String, AllocError>
     ensures { IfOk result (λ text. string_bytes text ≡ join_with_byte 32 (reply_tokens reply.now)) }
 {
     match reply {
-        Reply::Done => spaced_text(alloc, "ok", &[]),
+        Reply::Done => String::from_str(alloc, "ok"),
         Reply::Opened(number) => number_text(alloc, "fd", *number),
         Reply::Bytes(bytes) => bytes_text(alloc, bytes),
         Reply::Wrote(count) => number_text(alloc, "wrote", *count),
@@ -256,10 +280,7 @@ pub(crate) fn reply_body(alloc: Global, reply: &Reply) -> Result<String, AllocEr
         Reply::Found(status) => status_text(alloc, status),
         Reply::Created(number) => number_text(alloc, "ruleset", *number),
         Reply::Spawned(number) => number_text(alloc, "client", *number),
-        Reply::Refused(errno) => {
-            let number = errno.number().to_string(alloc)?;
-            spaced_text(alloc, "refused", &[number.as_str(), errno.text()])
-        }
+        Reply::Refused(errno) => refusal_text(alloc, *errno),
         Reply::Denied(denial) => denial_text(alloc, denial),
     }
 }
