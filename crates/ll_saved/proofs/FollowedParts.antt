@@ -1,13 +1,15 @@
 -- Histories that are followed part after part.
-use Rattle.std.proofs.Common.{◌≡◌, ℕ, ◌+◌, ◌-◌, ◌≤◌, List, [], ◌∷◌, ◌++◌, length, take, sym, ap, subst, ◌∙◌, append_assoc, arith}
+use Rattle.std.proofs.Common.{◌≡◌, ℕ, ◌+◌, ◌-◌, ◌<◌, ◌≤◌, List, [], ◌∷◌, ◌++◌, length, take, get_or, refl, sym, ap, subst, ◌∙◌, append_assoc, arith}
 use Rattle.std.proofs.Math.Seq.{take-append-add}
-use Rattle.std.proofs.lemmas.List.{length-append, take-append-le}
+use Rattle.std.proofs.lemmas.List.{get_or-append-add, get_or_append_left, length-append, take-append-le}
+use Rattle.std.proofs.lemmas.Option.{get_or_from_slice_get, slice_get_read, slice_get_within}
 use Rattle.ll_seq.specs.declared.reply.Entry.{Entry}
 use Rattle.ll_seq.specs.History.{IsLegal, state_after, after, fresh_of}
 use Rattle.ll_seq.specs.State.{State}
 use Rattle.ll_seq.proofs.Consequences.{step-next}
 use Rattle.ll_seq.proofs.Histories.{after_append, legal_join, legal_late}
-use Rattle.ll_audit.specs.Audit.{IsFirstIllegal}
+use Rattle.ll_seq.specs.Step.{client_of, refusals}
+use Rattle.ll_audit.specs.Audit.{IsFirstIllegal, Starves}
 
 -- each entry uses one inode number at most
 pub next_after : (s : State) (es : List Entry) → (state_after s es).next ≤ s.next + length es
@@ -74,4 +76,28 @@ module _ (s : State) (entries rest : List Entry) (t : State) (so_far : HasFollow
               (legal_join s so_far.done (take (k - 1) part) so_far.legal (subst (λ (z : State). IsLegal z (take (k - 1) part)) so_far.state bad.legal));
           illegal = λ legal. bad.illegal (subst (λ (z : State). IsLegal z (take k part)) (sym so_far.state)
               (legal_late s so_far.done (take k part) (subst (IsLegal s) (ap (λ (m : ℕ). take m entries) at ∙ up_to k last) legal)));
+        }
+
+    pub starves : Starves t part → Starves s entries
+    starves b =
+        let within : b.done < length part = slice_get_within part b.done b.entry b.next in
+        let all : length entries ≡ length so_far.done + length rest = ap length so_far.whole ∙ length-append so_far.done rest in
+        let left : length rest ≡ length part + length more = ap length cut ∙ length-append part more in
+        let whole : entries ≡ so_far.done ++ (part ++ more) = so_far.whole ∙ ap (λ (es : List Entry). so_far.done ++ es) cut in
+        let here : get_or entries (length so_far.done + b.done) b.entry ≡ b.entry
+        = ap (λ (es : List Entry). get_or es (length so_far.done + b.done) b.entry) whole
+        ∙ get_or-append-add so_far.done (part ++ more) b.done b.entry ∙ get_or_append_left part more b.entry b.done within
+        ∙ get_or_from_slice_get part b.done b.entry b.entry b.next in
+        let before = up_to b.done (omega (arith, within)) in
+        let same : state_after t (take b.done part) ≡ state_after s (take (length so_far.done + b.done) entries)
+        = ap (λ (z : State). state_after z (take b.done part)) so_far.state ∙ sym (after_append s so_far.done (take b.done part))
+        ∙ ap (state_after s) (sym before) in
+        record {
+          done = length so_far.done + b.done;
+          entry = b.entry;
+          next = slice_get_read entries (length entries) (length so_far.done + b.done) b.entry refl (omega (arith, within, all, left)) (sym here);
+          legal = subst (IsLegal s) (sym before)
+              (legal_join s so_far.done (take b.done part) so_far.legal (subst (λ (z : State). IsLegal z (take b.done part)) so_far.state b.legal));
+          takes = b.takes;
+          passes = subst (λ (z : State). refusals z (client_of z b.entry.client) b.entry.call ≡ []) same b.passes;
         }

@@ -2,7 +2,7 @@
 
 ghost use Rattle.std.specs.Prelude.{◌≡◌, ◌<◌, ◌+◌, ◌^◌, ℕ, length, OnOk, IfErr};
 ghost use Rattle.ll_seq.specs.History.{IsLegal};
-ghost use Rattle.ll_audit.specs.Audit.{IsFirstIllegal};
+ghost use Rattle.ll_audit.specs.Audit.{IsFirstIllegal, Starves};
 
 use crate::progress::Progress;
 use ll_audit::{AuditFault, follow};
@@ -22,6 +22,7 @@ pub fn follow_parts<P: Progress>(
     ensures legal { OnOk result (IsLegal tree.old entries.now) }
     ensures illegal { IfErr result (λ fault. (number : ℕ) → fault ≡ AuditFault.Illegal number
         → IsFirstIllegal tree.old entries.now number) }
+    ensures starved { IfErr result (λ fault. fault ≡ AuditFault.NoMemory → Starves tree.old entries.now) }
 {
     let mut rest = entries;
     while !rest.is_empty() {

@@ -1,6 +1,6 @@
 //! Histories, saved.
 
-ghost use Rattle.std.specs.Prelude.{◌≡◌, ◌≤◌, ◌++◌, ℕ, List, OnOk, OnErr, string_bytes};
+ghost use Rattle.std.specs.Prelude.{◌≡◌, ◌<◌, ◌≤◌, ◌++◌, ℕ, List, length, OnOk, OnErr, string_bytes};
 ghost use Rattle.std.specs.List.{All};
 ghost use Rattle.std.specs.Io.KnownBytes.{Appends};
 ghost use Rattle.ll_rights.specs.declared.limits.TheConstants.{TREE_NODES};
@@ -40,6 +40,7 @@ fn push_entry(alloc: Global, entry: &Entry, text: &mut String) -> Result<(), All
 fn write_block<W: Write>(text: &mut String, writer: &mut W) -> io::Result<()>
     ensures ok { OnOk result ((front : List ℕ) × (string_bytes text.old ≡ front ++ string_bytes text.new)
         × Appends (W.contents writer.old) (W.contents writer.new) front) }
+    ensures short { OnOk result (length (string_bytes text.new) < 65536) }
     ensures err { OnErr result
         (AppendsFront (W.contents writer.old) (W.contents writer.new) (string_bytes text.old)) }
 {
