@@ -1,10 +1,10 @@
 -- What lies in slots after a change that does the same to each: those that are lent, and the others.
-use Rattle.std.specs.Prelude.{◌≡◌, ◌≢◌, ℕ, zero, suc, true, false, cond, ◌||◌, ◌==◌, Bool, List, [], ◌∷◌, map, Option, Some, None, slice_get, slice_index_or, refl}
+use Rattle.std.specs.Prelude.{◌≡◌, ◌≢◌, ℕ, zero, suc, true, false, cond, ◌||◌, ◌==◌, List, [], ◌∷◌, map, Option, Some, slice_get, slice_index_or, refl}
 use Rattle.std.specs.List.{AllByRecursion, list_any}
 use Rattle.std.specs.Ordering.{nat_cmp}
 use Rattle.std.proofs.Common.{sym, subst, ap, ◌∙◌}
 use Rattle.std.proofs.lemmas.Bool.{eqb-true, eq-eqb}
-use Rattle.ll_rights.specs.Map.{Map, get}
+use Rattle.ll_rights.specs.Map.{Map}
 use Rattle.ll_laws.proofs.Chains.{same_Some}
 use Rattle.ll_seq.specs.State.{State}
 use Rattle.ll_held.specs.declared.held.Held.{Held}

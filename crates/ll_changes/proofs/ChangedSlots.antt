@@ -20,7 +20,7 @@ use Rattle.ll_answer.specs.Effect.{dentry_at, with_descriptor, with_opening, aft
 use Rattle.ll_walks.proofs.Undisturbed.{not_empty}
 use Rattle.ll_changes.specs.Accounts.{names_map}
 use Rattle.ll_inodes.specs.InodeTable.{NotIn}
-use Rattle.ll_changes.proofs.SlotAccounts.{content_of, unused_empty, make_new, make_named, make_other, bytes_other, let_go_other, let_go_living, unlink_named, unlink_living, unlink_other, move_within, move_after, move_from, move_into, move_other, exchange_other, link_other}
+use Rattle.ll_changes.proofs.SlotAccounts.{content_of, unused_empty, make_new, make_named, make_other, bytes_other, let_go_other, let_go_living, unlink_named, unlink_living, unlink_other, move_after, move_from, move_into, move_other, exchange_other, link_other}
 
 -- ---- the inodes that a change names are apart
 
@@ -76,12 +76,6 @@ module _ (s : State) (tree : IsTree s) where
     pub replaced_names : old.directory ≡ new.directory → new.name.now ≢ old.name.now
     replaced_names same names =
         fits.differ (same_Some inode replaced (sym fits.old.child ∙ (λ i. child s (same i) (sym names i)) ∙ fits.new.child))
-
-    -- as a lent slot takes the old name out, and puts the new one in
-    pub replaced_within : old.directory ≡ new.directory → content_of over new.directory ≡ record (content_of s new.directory) { names = insert (remove (names_map s new.directory) old.name.now) new.name.now inode }
-    replaced_within same =
-        let_go_other (with_moved s (dentry_at old) (dentry_at new) inode) replaced new.directory (λ e. replaced_apart_new (sym e))
-        ∙ move_within s (dentry_at old) (dentry_at new) inode same
 
     -- or the other way round
     pub replaced_after : old.directory ≡ new.directory → content_of over new.directory ≡ record (content_of s new.directory) { names = remove (insert (names_map s new.directory) new.name.now inode) old.name.now }

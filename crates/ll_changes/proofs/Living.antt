@@ -10,21 +10,17 @@ use Rattle.std.proofs.Common.{T, sym, subst, ap, ◌∙◌, inl, inr}
 use Rattle.std.proofs.lemmas.Bool.{eq-eqb}
 use Rattle.std.proofs.lemmas.List.{length-map}
 use Rattle.ll_rights.specs.declared.kind.Kind.{Kind}
-use Rattle.ll_rights.specs.declared.kind.Kind.TheVariants.{Reg}
 use Rattle.ll_rights.specs.Map.{Map, get, insert, remove, entries, len}
 use Rattle.ll_rights.proofs.Maps.{get-insert_same, get-insert_other, get-remove, get-remove_other, insert_cases}
 use Rattle.ll_seq.specs.declared.client.ClientRecord.{ClientRecord}
 use Rattle.ll_seq.specs.declared.dentries.Dentry.{Dentry}
-use Rattle.ll_seq.specs.declared.facts.Fact.{Fact}
 use Rattle.ll_seq.specs.declared.node.Node.{Node}
-use Rattle.ll_seq.specs.State.{State, kind_of, empty_node, names_in, name_count}
+use Rattle.ll_seq.specs.State.{State, kind_of, empty_node}
 use Rattle.ll_seq.specs.Effects.{lives, let_go, with_node, with_moved, with_bytes, with_client}
-use Rattle.ll_seq.specs.Facts.{AreKept, open_count}
 use Rattle.ll_answer.specs.declared.changes.Change.{Change}
 use Rattle.ll_answer.specs.declared.changes.Change.TheVariants.{Nothing, Make, Take, Name as Link, Move, Replace, Exchange, Resize, Open, Allow}
 use Rattle.ll_answer.specs.declared.changes.Opening.{Opening}
 use Rattle.ll_answer.specs.Effect.{dentry_at, with_descriptor, with_opening, after}
-use Rattle.ll_inodes.specs.InodeTable.{NotIn}
 
 -- ---- kinds
 
@@ -67,46 +63,12 @@ module _ (s : State) (inode : ℕ) where
 
 -- ---- after a change
 
--- the numbers of the nodes that may come or go
-abbrev pub opened_new : State → Option ℕ → List ℕ
-opened_new s None = s.next ∷ []
-opened_new s (Some inode) = []
-
-abbrev pub come_or_gone : State → Change → List ℕ
-come_or_gone s Nothing = []
-come_or_gone s (Make at kind) = s.next ∷ []
-come_or_gone s (Take at inode) = inode ∷ []
-come_or_gone s (Link at inode) = []
-come_or_gone s (Move old new inode) = []
-come_or_gone s (Replace old new inode replaced) = replaced ∷ []
-come_or_gone s (Exchange old new first second) = []
-come_or_gone s (Resize inode size) = []
-come_or_gone s (Open opening) = opened_new s opening.there
-come_or_gone s (Allow rule) = []
-
 module _ (s : State) (kind : Kind) (i : ℕ) where
   pub make_kind_other : (at : Dentry) → i ≢ s.next → kind_of (with_node s kind at) i ≡ kind_of s i
   make_kind_other at other = kind_from s (with_node s kind at) i (get-insert_other nat_cmp_total nat_cmp-IsAntisymmetric s.nodes s.next (empty_node kind) i other)
 
 pub make_kind : (s : State) (kind : Kind) (at : Dentry) → kind_of (with_node s kind at) s.next ≡ Some kind
 make_kind s kind at = ap (option_map (λ (n : Node). n.kind)) (get-insert_same nat_cmp_total nat_cmp-IsAntisymmetric s.nodes s.next (empty_node kind))
-
-open_kind : (s : State) (n : ℕ) (c : ClientRecord) (o : Opening) (there : Option ℕ) (i : ℕ) → NotIn i (opened_new s there) → kind_of (with_opening s n c o there) i ≡ kind_of s i
-open_kind s n c o None i away = make_kind_other s Reg i (dentry_at o.at) away.0
-open_kind s n c o (Some inode) i away = elim o.is_emptied as (λ b. kind_of (with_client (cond b (with_bytes s inode []) s) n (with_descriptor c o inode)) i ≡ kind_of s i) [ true ↦ bytes_kind s inode [] i | false ↦ refl ]
-
--- any other lives as it did
-pub after_kind : (s : State) (n : ℕ) (c : ClientRecord) (change : Change) (i : ℕ) → NotIn i (come_or_gone s change) → kind_of (after s n c change) i ≡ kind_of s i
-after_kind s n c Nothing i away = refl
-after_kind s n c (Make at kind) i away = make_kind_other s kind i (dentry_at at) away.0
-after_kind s n c (Take at inode) i away = let_go_kind (record s { entries = remove s.entries (dentry_at at) }) inode i away.0
-after_kind s n c (Link at inode) i away = refl
-after_kind s n c (Move old new inode) i away = refl
-after_kind s n c (Replace old new inode replaced) i away = let_go_kind (with_moved s (dentry_at old) (dentry_at new) inode) replaced i away.0
-after_kind s n c (Exchange old new first second) i away = refl
-after_kind s n c (Resize inode size) i away = bytes_kind s inode _ i
-after_kind s n c (Open opening) i away = open_kind s n c opening opening.there i away
-after_kind s n c (Allow rule) i away = refl
 
 abbrev pub next_opened : State → Option ℕ → ℕ
 next_opened s None = s.next + 1
@@ -171,10 +133,3 @@ same_len m n f g same =
     (subst T (sym (sorted_mapped nat_cmp f m.list)) m.sorted) (subst T (sym (sorted_mapped nat_cmp g n.list)) n.sorted)
     (λ q. find_mapped nat_cmp f q m.list ∙ same q ∙ sym (find_mapped nat_cmp g q n.list)))
     ∙ length_mapped nat_cmp g n.list
-
-pub facts_len : (s : State) (facts : Map nat_cmp Fact) → AreKept s facts → len facts ≡ len s.nodes
-facts_len s facts kept = same_len facts s.nodes (λ (f : Fact). f.kind) (λ (n : Node). n.kind) (λ q. ap (option_map (λ (f : Fact). f.kind)) (kept.told q) ∙ by q (kind_of s q))
-  where
-    by : (q : ℕ) (o : Option Kind) → option_map (λ (f : Fact). f.kind) (option_map (λ (kind : Kind). record { kind = kind; names = length (names_in s q); links = name_count s q; opens = open_count s q }) o) ≡ o
-    by q None = refl
-    by q (Some kind) = refl

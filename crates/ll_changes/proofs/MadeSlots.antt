@@ -210,10 +210,6 @@ module _ (s : State) (number : ℕ) (marks : ℕ → Option ℕ) (spares : List 
     pub few_nodes : len s.nodes < s.room
     few_nodes = leb-false s.room (len s.nodes) space.1
 
-    -- so a slot is free
-    pub free_slot : 0 < length table.free
-    free_slot = let sum = given.counted.count in let few = few_nodes in let clients = given.crowd in omega (arith, sum, few, clients)
-
     takes_name : insert_refusals (names_map s at.directory) at.name.now ≡ []
     takes_name =
         let absent : has (names_map s at.directory) at.name.now ≡ false = ap is_some (get-names_map s at.directory at.name.now ∙ fits.lacks.child) in

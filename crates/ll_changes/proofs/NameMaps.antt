@@ -1,6 +1,5 @@
 -- The map of the names in a directory, state by state: what it answers, and how it changes with the entries.
 use Rattle.std.specs.Prelude.{◌≡◌, ◌≢◌, ℕ, true, false, cond, T, ◌&&◌, ◌==◌, List, [], ◌∷◌, length, map, filter, Some, None, refl}
-use Rattle.std.specs.Option.{option_map_or}
 use Rattle.std.specs.Ordering.{nat_cmp, is_eq, is_lt, eq_by_cmp, ordering_then}
 use Rattle.std.specs.Cmp.{nat_cmp_total, tied_itself}
 use Rattle.std.specs.Cmp.Lexicographic.{slice_cmp, nat_list_cmp_total}
@@ -11,7 +10,7 @@ use Rattle.std.proofs.lemmas.List.{length-map}
 use Rattle.ll_rights.specs.MapCodes.{same_list_map}
 use Rattle.ll_rights.specs.Map.{empty, get, insert, remove, entries, len, from_sorted}
 use Rattle.ll_rights.proofs.Maps.{equal_at, get-empty, get-insert, get-remove, get-from_sorted, entries-from_sorted, same_map}
-use Rattle.ll_node.specs.Slot.{NameMap, renamed}
+use Rattle.ll_node.specs.Slot.{NameMap}
 use Rattle.ll_node.proofs.NameTable.{names_exact}
 use Rattle.ll_seq.specs.declared.dentries.Dentry.{Dentry}
 use Rattle.ll_seq.specs.State.{Name, State, dentry, dentry_cmp, child, names_in}
@@ -180,13 +179,6 @@ module _ (s t : State) (old new : Dentry) (inode : ℕ) (is : t.entries ≡ inse
   names_moved_after same two =
       names_moved_within same ∙ sym (remove-insert_other nat_list_cmp_total names_exact (names_map s new.directory) new.name old.name inode two)
 
-  -- as a lent slot renames
-  pub names_renamed : old.directory ≡ new.directory → child s old.directory old.name ≡ Some inode → names_map t new.directory ≡ renamed (names_map s new.directory) old.name new.name
-  names_renamed same there =
-      names_moved_within same
-      ∙ sym (ap (λ o. option_map_or (λ (i : ℕ). insert (remove (names_map s new.directory) old.name) new.name i) o (names_map s new.directory))
-      (get-names_map s new.directory old.name ∙ ap (λ d. child s d old.name) (sym same) ∙ there))
-
   -- out of a directory into another one
   pub names_moved_from : old.directory ≢ new.directory → names_map t old.directory ≡ remove (names_map s old.directory) old.name
   names_moved_from two = names_put_other (left s old) t new inode is old.directory two ∙ names_taken s (left s old) old refl
@@ -203,18 +195,5 @@ abbrev half : State → Dentry → ℕ → State
 half s new moved = record s { entries = insert s.entries new moved }
 
 module _ (s t : State) (old new : Dentry) (moved other : ℕ) (is : t.entries ≡ insert (insert s.entries new moved) old other) where
-  -- within a directory
-  pub names_exchanged_within : old.directory ≡ new.directory → names_map t old.directory ≡ insert (insert (names_map s old.directory) new.name moved) old.name other
-  names_exchanged_within same =
-      names_put (half s new moved) t old other is
-      ∙ ap (λ m. insert m old.name other) (subst (λ d. names_map (half s new moved) d ≡ insert (names_map s d) new.name moved) (sym same) (names_put s (half s new moved) new moved refl))
-
-  -- between two
-  pub names_exchanged_old : old.directory ≢ new.directory → names_map t old.directory ≡ insert (names_map s old.directory) old.name other
-  names_exchanged_old two = names_put (half s new moved) t old other is ∙ ap (λ m. insert m old.name other) (names_put_other s (half s new moved) new moved refl old.directory two)
-
-  pub names_exchanged_new : new.directory ≢ old.directory → names_map t new.directory ≡ insert (names_map s new.directory) new.name moved
-  names_exchanged_new two = names_put_other (half s new moved) t old other is new.directory two ∙ names_put s (half s new moved) new moved refl
-
   pub names_exchanged_other : (d : ℕ) → d ≢ old.directory → d ≢ new.directory → names_map t d ≡ names_map s d
   names_exchanged_other d a b = names_put_other (half s new moved) t old other is d a ∙ names_put_other s (half s new moved) new moved refl d b

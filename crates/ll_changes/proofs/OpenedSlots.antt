@@ -1,5 +1,5 @@
 -- A file is opened: one that is there, whose lent slot may be emptied, or one that was made.
-use Rattle.std.specs.Prelude.{◌≡◌, ◌≢◌, ℕ, zero, suc, ◌+◌, ◌≤◌, ◌==◌, Bool, true, false, cond, List, [], ◌∷◌, ◌++◌, map, length, nat_lt, Option, Some, None, is_some, is_none, option_map, slice_get, slice_set, refl}
+use Rattle.std.specs.Prelude.{◌≡◌, ◌≢◌, ℕ, zero, suc, ◌+◌, ◌==◌, Bool, true, false, cond, List, [], ◌∷◌, ◌++◌, map, length, nat_lt, Option, Some, None, is_some, is_none, option_map, slice_get, slice_set, refl}
 use Rattle.std.specs.List.{list_any}
 use Rattle.std.specs.Option.{option_map_or}
 use Rattle.std.specs.Ordering.{nat_cmp}
@@ -37,7 +37,7 @@ use Rattle.ll_changes.specs.Enacting.{IsGiven, Covers, IsMade, LeavesTable, MayE
 use Rattle.ll_changes.proofs.Accounted.{inode_at, account_held, account_inode, account_kept, not_here, told_by}
 use Rattle.ll_changes.proofs.Living.{bytes_kind, bytes_next, same_len, make_kind}
 use Rattle.ll_changes.proofs.MadeSlots.{tree, some_node, has_node}
-use Rattle.ll_changes.proofs.SlotAccounts.{content_of, bytes_put, bytes_other}
+use Rattle.ll_changes.proofs.SlotAccounts.{bytes_put, bytes_other}
 
 -- ---- other bytes leave the table that of the tree
 

@@ -1,5 +1,5 @@
 -- The names that are common to two ways, one after the other.
-use Rattle.std.specs.Prelude.{◌≡◌, ℕ, zero, suc, ◌≤◌, Bool, true, false, cond, List, [], ◌∷◌, length, Option, Some, None, slice_get, refl}
+use Rattle.std.specs.Prelude.{◌≡◌, ℕ, zero, suc, ◌≤◌, true, false, cond, List, [], ◌∷◌, length, Option, Some, None, slice_get, refl}
 use Rattle.std.proofs.Common.{sym, subst, ap, ◌∙◌, arith}
 use Rattle.ll_path.specs.Name.{same_name}
 use Rattle.ll_path.specs.Path.{Path, common, parent}
@@ -43,6 +43,3 @@ trunk_two ts t u one other found depth e is_one is_other is within =
     is ∙ ap (λ o. shared_name o other) is_one ∙ ap (shared_name (slice_get (parent (path_of t)) depth)) is_other
     ∙ shared_at (parent (path_of t)) (parent (path_of u)) depth (subst (λ us. depth ≤ length (common (parent (first_of us)) (parent (second_of us)))) (sym e) within)
     ∙ ap (λ us. slice_get (common (parent (first_of us)) (parent (second_of us))) depth) e
-
-pub both_named : (one other : Option Name) (x y : Name) (b : Bool) → one ≡ Some x → other ≡ Some y → b ≡ same_name x y → cond b (Some x) None ≡ shared_name one other
-both_named one other x y b e f is = ap (λ c. cond c (Some x) None) is ∙ ap (λ o. shared_name o (Some y)) (sym e) ∙ ap (shared_name one) (sym f)

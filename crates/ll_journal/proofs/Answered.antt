@@ -2,21 +2,20 @@
 use Rattle.std.specs.Prelude.{◌≡◌, ℕ, ◌+◌, ◌<◌, ◌≤◌, true, false, [], ◌∷◌, ◌++◌, length, None, nat_le, refl}
 use Rattle.std.proofs.Common.{sym, subst, ap, ◌∙◌, arith, length-append}
 use Rattle.std.proofs.lemmas.Bool.Decides.{nat_tests}
-use Rattle.ll_rights.specs.declared.errno.Errno.TheVariants.{EMFILE}
 use Rattle.ll_rights.specs.declared.limits.TheConstants.{HISTORY_ENTRIES, TREE_CLIENTS}
 use Rattle.ll_rights.specs.Map.{len}
 use Rattle.ll_seq.specs.declared.call.Call.{Call}
 use Rattle.ll_seq.specs.declared.call.Call.TheVariants.{Connect}
 use Rattle.ll_seq.specs.declared.client.ClientRecord.{ClientRecord}
 use Rattle.ll_seq.specs.declared.reply.Reply.{Reply}
-use Rattle.ll_seq.specs.declared.reply.Reply.TheVariants.{Done, Refused}
+use Rattle.ll_seq.specs.declared.reply.Reply.TheVariants.{Done}
 use Rattle.ll_seq.specs.State.{State, new_client}
 use Rattle.ll_seq.specs.Step.{step}
 use Rattle.ll_seq.specs.Effects.{with_client}
 use Rattle.ll_seq.specs.Facts.{AreKept}
 use Rattle.ll_seq.specs.History.{Log}
 use Rattle.ll_seq.proofs.FactsKept.{kept_connect}
-use Rattle.ll_walks.specs.World.{World, Joined, Replied, advance, shown, is_full, next_number, reply_to}
+use Rattle.ll_walks.specs.World.{World, Joined, advance, shown, is_full, next_number, reply_to}
 use Rattle.ll_walks.specs.declared.step.Step.TheVariants.{Join}
 use Rattle.ll_walks.specs.Sound.{IsSound}
 use Rattle.ll_walks.proofs.Shapes.{with_entry}
@@ -27,12 +26,12 @@ use Rattle.ll_journal.specs.Book.{Seat, Book, Spares, inode_in, held_of, mark_of
 use Rattle.ll_journal.specs.Direct.{TakesSpare}
 use Rattle.ll_journal.specs.Kept.{AreSeated, IsKept, walks_from, world_of, book_of, spares_of}
 use Rattle.ll_inodes.specs.InodeTable.{Table, IsTable}
-use Rattle.ll_journal.proofs.Advancing.{join_done, join_refused}
+use Rattle.ll_journal.proofs.Advancing.{join_done}
 use Rattle.ll_journal.proofs.NewClients.{clients_len, seated_more, walks_more, spares_more}
-use Rattle.ll_journal.proofs.ClientTables.{table_more, many_spares, one_free as free_slot}
+use Rattle.ll_journal.proofs.ClientTables.{table_more}
 use Rattle.ll_journal.proofs.HeldAfter.{held_answered}
 use Rattle.ll_journal.proofs.LentSlots.{slot_kept}
-use Rattle.ll_journal.proofs.OwnAnswers.{connect_refused, connect_done}
+use Rattle.ll_journal.proofs.OwnAnswers.{connect_done}
 use Rattle.ll_journal.proofs.Shown.{shown_answered}
 use Rattle.ll_changes.proofs.SlotAccounts.{content_of}
 use Rattle.ll_journal.proofs.Starting.{sound_after}
@@ -114,10 +113,6 @@ module _ (j k : Inside) (h : IsKept j) (number : ℕ) (call : Call) (reply : Rep
   pub takes_spare : k.table.inodes ≡ j.table.inodes → TakesSpare (book_of j) (book_of k)
   takes_spare inodes = record { slot = seat.spare; free = free; spares = ap spares_of seats ∙ spares_more j.seats.items seat; inodes = inodes }
 
--- a slot is free for one client more
-pub one_free : (j : Inside) → IsKept j → length j.seats.items < TREE_CLIENTS → 0 < length j.table.free
-one_free j h few = let many = many_spares j.seats.items in free_slot (shown (world_of j)) (spares_of j.seats.items) j.table h.table (omega (arith, many, few))
-
 -- ---- a connect
 
 pub few_clients : (n m : ℕ) → n ≡ m → m < TREE_CLIENTS → nat_le TREE_CLIENTS n ≡ false
@@ -172,12 +167,6 @@ module _ (j k : Inside) (h : IsKept j) (number spare : ℕ) (client : ClientReco
   connect_spares =
       spares_answered (book_of j) (book_of k) number Connect Done h.sound (connect_kept).sound after_world told (ap (λ (t : Table). t.inodes) table)
       (λ i. ap (λ s. content_of s i) after)
-
-pub connect_crowded : (j : Inside) → IsKept j → is_full (world_of j) ≡ false → TREE_CLIENTS ≤ length j.seats.items → advance (world_of j) Join ≡ (Replied (Refused EMFILE), world_of j)
-connect_crowded j h room many =
-    join_refused (world_of j) EMFILE room
-    (ap (λ (p : Reply × State). p.0) (connect_refused (shown (world_of j)) (next_number (world_of j)) (next_number (world_of j))
-    (many_clients (len (shown (world_of j)).clients) (length j.seats.items) (clients_len (shown (world_of j)) j.seats.items h.seated) many)))
 
 -- where a client more may come, the next one would
 pub connect_would : (j : Inside) (b : Book) → book_of j ≡ b → IsKept j → is_full (world_of j) ≡ false → length j.seats.items < TREE_CLIENTS → (after : World) × (advance b.world Join ≡ (Joined (next_number b.world), after))

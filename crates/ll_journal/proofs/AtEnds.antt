@@ -1,10 +1,10 @@
 -- What a commit finds: the directories where a walk stands at its ends, what they have under the last names, and the answer of a walk that can't go on.
-use Rattle.std.specs.Prelude.{◌≡◌, ◌≢◌, ℕ, ◌<◌, Bool, true, false, not, ◌&&◌, ◌||◌, ◌==◌, List, [], ◌∷◌, ◌++◌, map, length, Option, Some, None, nat_lt, nat_le, unwrap_or, slice_get, option_map, option_to_list, option_and_then, refl}
+use Rattle.std.specs.Prelude.{◌≡◌, ℕ, Bool, true, false, ◌||◌, List, [], ◌∷◌, ◌++◌, map, length, Option, Some, None, nat_lt, nat_le, unwrap_or, slice_get, option_map, option_and_then, refl}
 use Rattle.std.specs.Option.{option_map_or}
 use Rattle.std.specs.List.{list_any, flat_map}
 use Rattle.std.specs.Ordering.{nat_cmp}
-use Rattle.std.proofs.Common.{sym, subst, ap, ◌∙◌, arith}
-use Rattle.std.proofs.lemmas.List.{append-nil, length-append}
+use Rattle.std.proofs.Common.{sym, subst, ap, ◌∙◌}
+use Rattle.std.proofs.lemmas.List.{append-nil}
 use Rattle.std.proofs.lemmas.List.Folds.{list_any-append}
 use Rattle.ll_rights.specs.declared.kind.Kind.{Kind}
 use Rattle.ll_rights.specs.declared.kind.Kind.TheVariants.{Reg, Dir}
@@ -14,36 +14,31 @@ use Rattle.ll_rights.specs.Map.{Map, get}
 use Rattle.ll_path.specs.Path.{Path, parent, last_name, is_root}
 use Rattle.ll_path.specs.declared.target.Target.{Target}
 use Rattle.ll_rules.specs.Layer.{Layer}
-use Rattle.ll_decide.specs.Verdict.{when}
 use Rattle.ll_seq.specs.declared.call.Call.{Call}
 use Rattle.ll_seq.specs.declared.facts.Fact.{Fact}
 use Rattle.ll_seq.specs.declared.reply.Reply.TheVariants.{Refused}
 use Rattle.ll_seq.specs.Call.{path_of, targets, first_path, second_path}
-use Rattle.ll_seq.specs.State.{Name, State, child, root, dentry, kind_of, names_in, name_count}
+use Rattle.ll_seq.specs.State.{Name, State, child, root, kind_of, names_in, name_count}
 use Rattle.ll_seq.specs.Tree.{named, directory_of, chain_from, end_from, ancestors}
 use Rattle.ll_seq.specs.Asked.{grants}
 use Rattle.ll_seq.specs.Stages.{in_the_way, is_crowded, no_directory, kind_of_child}
-use Rattle.ll_seq.specs.Effects.{dentry_of}
 use Rattle.ll_seq.specs.Facts.{AreKept, fact_of, open_count}
 use Rattle.ll_seq.proofs.CutChains.{named-child}
 use Rattle.ll_seq.proofs.Parted.{chain_push}
 use Rattle.ll_laws.proofs.Chains.{same_Some}
 use Rattle.ll_laws.proofs.Unrefused.{parent_last}
-use Rattle.ll_laws.proofs.Trees.{IsTree, only_path}
-use Rattle.ll_laws.proofs.Gain.{named_below}
+use Rattle.ll_laws.proofs.Trees.{IsTree}
 use Rattle.ll_answer.specs.Found.{IsSpot, there_in}
 use Rattle.ll_answer.specs.declared.found.Spot.{Spot}
 use Rattle.ll_walks.specs.Walk.{Walk, Leg, Position, Above, Down, Split, rights_where, turn, at_ends}
-use Rattle.ll_walks.specs.World.{World, shown, domain_of, reply_to, last_node, last_nodes, is_marked_by_other}
+use Rattle.ll_walks.specs.World.{World, shown, domain_of, reply_to, last_node, last_nodes}
 use Rattle.ll_walks.specs.Walks.{IsRight, AreRight}
 use Rattle.ll_walks.specs.Sound.{IsSound}
 use Rattle.ll_walks.specs.Commits.{HasEnded, first_end, second_end}
 use Rattle.ll_walks.proofs.EndsReached.{ends_reached, blocked_refused}
 use Rattle.ll_walks.proofs.SoundSteps.{holds_of}
-use Rattle.ll_journal.specs.Book.{mark_of}
 use Rattle.ll_changes.specs.Accounts.{names_map}
 use Rattle.ll_changes.proofs.NameMaps.{get-names_map}
-use Rattle.ll_journal.proofs.MarkOf.{are_clients, is_marked_by_other_is}
 
 -- the leg is in the directory where the path's last name stands, or would
 pub record IsEnd (s : State) (domain : List Layer) (path : Path) (leg : Leg) : Type 0 where
@@ -123,30 +118,10 @@ chain_last s path d stands below = whole ∙ by (child s d (last_name path)) ref
     by None e = chain_missing s (parent path) (last_name path) root d stands e ∙ sym (append-nil (ancestors s (parent path))) ∙ ap (λ o. ancestors s (parent path) ++ option_map_or (λ (j : ℕ). j ∷ []) o []) (sym e)
     by (Some x) e = chain_push s (parent path) (last_name path) root d x stands e ∙ ap (λ o. ancestors s (parent path) ++ option_map_or (λ (j : ℕ). j ∷ []) o []) (sym e)
 
-longer : (p : Path) (n : Name) → p ++ n ∷ [] ≢ p
-longer p n e = let more = length-append p (n ∷ []) in let same = ap length e in absurd (omega arith)
-
 module _ (s : State) (tree : IsTree s) (domain : List Layer) (path : Path) (leg : Leg) (end : IsEnd s domain path leg) where
-  pub end_old : leg.here < s.next
-  end_old = named_below s tree (parent path) leg.here end.names
-
   -- the lent directory has under the last name what the path names
   pub end_look_up : is_root path ≡ false → get (names_map s leg.here) (last_name path) ≡ named s path
   end_look_up below = get-names_map s leg.here (last_name path) ∙ sym (named-child s path (parent path) (last_name path) leg.here (parent_last path below) end.names)
-
-  pub end_dentry : dentry_of s path ≡ dentry leg.here (last_name path)
-  end_dentry = ap (λ i. dentry i (last_name path)) (sym end.here)
-
-  -- the chain of the path is the leg's, and what it names
-  pub end_chain : is_root path ≡ false → ancestors s path ≡ leg.chain ++ option_map_or (λ (j : ℕ). j ∷ []) (named s path) []
-  end_chain below = chain_last s path leg.here end.names below ∙ ap (λ is. is ++ option_map_or (λ (j : ℕ). j ∷ []) (named s path) []) (sym end.chain)
-
-  -- what it names isn't the directory
-  pub end_away : is_root path ≡ false → (x : ℕ) → named s path ≡ Some x → x ≢ leg.here
-  end_away below x e same =
-      longer (parent path) (last_name path)
-      (sym (parent_last path below)
-      ∙ only_path s tree path (parent path) leg.here (λ k f. same_Some k Dir (sym f ∙ end.directory)) (e ∙ ap Some same) end.names)
 
   -- what is found there
   pub end_spot : (spot : Spot) → spot.way ≡ None → spot.directory ≡ leg.here → spot.is_crowded ≡ is_crowded s leg.here → spot.there ≡ option_map (there_in s) (named s path) → IsSpot s path spot
@@ -195,17 +170,3 @@ any_last s call f = over (targets call)
     over : (ts : List Target) → list_any f (flat_map (λ (t : Target). last_node s (path_of t)) ts) ≡ list_any (λ (t : Target). list_any f (last_node s (path_of t))) ts
     over [] = refl
     over (t ∷ ts) = list_any-append f (last_node s (path_of t)) (flat_map (λ (u : Target). last_node s (path_of u)) ts) ∙ ap (λ b. list_any f (last_node s (path_of t)) || b) (over ts)
-
--- the node under the last name carries another client's mark
-pub last_marked : (w : World) (number : ℕ) (path : Path) → IsSound w
-    → list_any (is_marked_by_other w number) (last_node (shown w) path) ≡ (not (is_root path) && option_map_or (λ node. option_map_or (λ n. not (n == number)) (mark_of w node) false) (named (shown w) path) false)
-last_marked w number path sound = by (is_root path) (named (shown w) path)
-  where
-    by : (b : Bool) (o : Option ℕ) → list_any (is_marked_by_other w number) (when (not b) (option_to_list o)) ≡ (not b && option_map_or (λ node. option_map_or (λ n. not (n == number)) (mark_of w node) false) o false)
-    by true o = refl
-    by false None = refl
-    by false (Some node) = only (is_marked_by_other w number node) ∙ is_marked_by_other_is w number node (are_clients w sound) sound.apart
-      where
-        only : (b : Bool) → (b || false) ≡ b
-        only true = refl
-        only false = refl

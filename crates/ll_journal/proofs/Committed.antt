@@ -1,20 +1,16 @@
 -- A walk is answered: the world after, what the journal keeps, and every slot's account.
-use Rattle.std.specs.Prelude.{◌≡◌, ◌≢◌, ℕ, zero, suc, ◌+◌, ◌≤◌, Bool, true, false, cond, ◌==◌, List, [], ◌∷◌, map, length, Option, Some, option_map, slice_get, slice_set, slice_index_or, refl, ◌⊎◌, ◌-◌, ◌<◌, ◌&&◌, ◌||◌, ◌++◌, None}
+use Rattle.std.specs.Prelude.{◌≡◌, ◌≢◌, ℕ, zero, suc, ◌+◌, ◌≤◌, Bool, true, false, cond, ◌==◌, List, [], ◌∷◌, map, length, Option, Some, option_map, slice_get, slice_set, slice_index_or, refl, ◌-◌, ◌&&◌, ◌++◌, None}
 use Rattle.std.proofs.Common.{sym, subst, ap, ◌∙◌, arith, length-append, inl, inr}
 use Rattle.std.proofs.lemmas.Bool.{eqb-true, eq-eqb}
 use Rattle.std.proofs.lemmas.List.{length-map, length-set}
 use Rattle.ll_rights.specs.declared.limits.TheConstants.{HISTORY_ENTRIES, TREE_CLIENTS}
-use Rattle.ll_rights.specs.Map.{get, Map, has}
+use Rattle.ll_rights.specs.Map.{get, has}
 use Rattle.ll_changes.specs.Accounts.{account, accounts, names_map}
 use Rattle.ll_held.specs.declared.held.Held.{Held}
 use Rattle.ll_held.specs.Lent.{vacant}
-use Rattle.ll_inodes.specs.InodeTable.{IsTable, Table, NotIn, without_inode}
-use Rattle.std.specs.Option.{option_map_or}
-use Rattle.std.specs.Ordering.{nat_cmp}
-use Rattle.ll_laws.proofs.Chains.{same_Some}
-use Rattle.ll_changes.specs.Enacting.{IsMade, LeavesTable}
+use Rattle.ll_inodes.specs.InodeTable.{IsTable, without_inode}
+use Rattle.ll_changes.specs.Enacting.{LeavesTable}
 use Rattle.ll_changes.proofs.GivenSlots.{put_again}
-use Rattle.ll_seq.specs.declared.call.Call.{Call}
 use Rattle.ll_seq.specs.declared.client.ClientRecord.{ClientRecord}
 use Rattle.ll_seq.specs.declared.reply.Reply.{Reply}
 use Rattle.ll_seq.specs.Call.{targets}
@@ -22,7 +18,7 @@ use Rattle.ll_seq.specs.History.{Log}
 use Rattle.ll_seq.specs.State.{State, bytes_of, kind_of, start}
 use Rattle.ll_seq.specs.Tree.{kind_or_file}
 use Rattle.ll_seq.specs.Step.{step}
-use Rattle.ll_walks.specs.Walk.{Walk, marks}
+use Rattle.ll_walks.specs.Walk.{Walk}
 use Rattle.ll_walks.specs.World.{World, Replied, advance, shown, is_full, may_commit, moved_by, map_values, next_number, overtaken, reply_to, without_walk, has_any}
 use Rattle.ll_walks.specs.declared.step.Step.TheVariants.{Commit}
 use Rattle.ll_walks.specs.Sound.{IsSound}
@@ -34,7 +30,7 @@ use Rattle.ll_journal.specs.Kept.{IsKept, AreSeated, seat_at, world_of, book_of,
 use Rattle.ll_journal.specs.Performed.{Performs}
 use Rattle.ll_journal.proofs.Begun.{set_same, set_other}
 use Rattle.ll_journal.proofs.Ended.{commit_equation}
-use Rattle.ll_journal.proofs.MarkOf.{are_clients, has_mark_stale, mark_same, AreClients}
+use Rattle.ll_journal.proofs.MarkOf.{are_clients, has_mark_stale, mark_same}
 use Rattle.ll_journal.proofs.MadeNodes.{has_let_go, would_have_made}
 use Rattle.ll_journal.proofs.Overtaking.{overtaken_seat, overtaken_seats, seated_overtaken, spares_overtaken, walks_overtaken}
 use Rattle.ll_journal.proofs.Ruled.{room_stays}

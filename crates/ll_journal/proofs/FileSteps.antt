@@ -10,7 +10,6 @@ use Rattle.ll_rights.specs.declared.kind.Kind.TheVariants.{Reg}
 use Rattle.ll_rights.specs.declared.limits.TheConstants.{TREE_CLIENTS}
 use Rattle.ll_rights.specs.Kind.{is_dir}
 use Rattle.ll_rights.specs.Map.{get, has}
-use Rattle.ll_laws.proofs.Chains.{same_Some}
 use Rattle.ll_laws.proofs.ClientChanges.{let_go_clients, with_bytes_clients}
 use Rattle.ll_seq.specs.declared.call.Call.{Call}
 use Rattle.ll_seq.specs.declared.call.Call.TheVariants.{Close}
@@ -527,8 +526,3 @@ module _ (j : Inside) (h : IsKept j) (number place : ℕ) (seat : Seat) (at : sl
   pub slot_none : (d : Descriptor) → get seat.client.descriptors fd ≡ Some d → (found : Option ℕ) → found ≡ get j.table.places d.inode → IfNone found ((file : Descriptor) → IsOpen (world_of j) number fd file → ⊥)
   slot_none d holds None is = let some = place_is j h number place seat at numbered fd d holds in absurd (cc (is ∙ some.1))
   slot_none d holds (Some slot) is = tt
-
-  pub none_held : get seat.client.descriptors fd ≡ None → (file : Descriptor) → IsOpen (world_of j) number fd file → ⊥
-  none_held none file held =
-      let mine = same_Some held.caller seat.client (sym held.there ∙ h.seated number ∙ ap (option_map (λ (s : Seat). s.client)) (ap (seat_at j.seats.items) numbered ∙ at)) in
-      absurd (cc (sym (ap (λ (c : ClientRecord). get c.descriptors fd) mine ∙ none) ∙ held.holds))

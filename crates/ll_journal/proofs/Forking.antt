@@ -71,9 +71,6 @@ module _ (j : Inside) (h : IsKept j) (number place : ℕ) (seat : Seat) (at : sl
   pub fork_goes : (b : Bool) → b ≡ (goes_on seat && at_fork seat.walk) → b ≡ true → Forks j number seat
   fork_goes b is e = subst Found (sym is ∙ e) forks
 
-  pub fork_may : (go : Forks j number seat) → at_fork seat.walk ≡ true
-  fork_may go = ap at_fork go.is ∙ ap is_some go.forked_is
-
   module _ (go : Forks j number seat) (new : Seat) (new_is : new ≡ record seat { walk = option_map split seat.walk }) where
     abbrev apart : Walk
     apart = record go.walk { at = go.next }

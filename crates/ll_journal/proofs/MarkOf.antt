@@ -1,5 +1,5 @@
 -- Whose mark a directory carries, and what a walk that comes, goes on or ends changes of it.
-use Rattle.std.specs.Prelude.{◌≡◌, ◌≢◌, ℕ, zero, suc, ◌+◌, ◌<◌, ◌≤◌, Bool, true, false, cond, not, ◌&&◌, ◌||◌, ◌==◌, List, [], ◌∷◌, Option, Some, None, is_some, option_map, slice_get, refl}
+use Rattle.std.specs.Prelude.{◌≡◌, ◌≢◌, ℕ, zero, suc, ◌+◌, ◌<◌, ◌≤◌, Bool, true, false, cond, ◌&&◌, ◌||◌, ◌==◌, List, [], ◌∷◌, Option, Some, None, is_some, option_map, slice_get, refl}
 use Rattle.std.specs.Option.{option_map_or}
 use Rattle.std.specs.List.{list_any}
 use Rattle.std.specs.Ordering.{nat_cmp}
@@ -11,28 +11,23 @@ use Rattle.ll_rights.specs.Map.{Map, get, insert, remove, entries}
 use Rattle.ll_rights.proofs.Maps.{get-insert_same, get-insert_other, get-remove_other, got_left}
 use Rattle.ll_path.specs.Path.{is_root}
 use Rattle.ll_seq.specs.declared.call.Call.{Call}
-use Rattle.ll_seq.specs.declared.reply.Reply.{Reply}
 use Rattle.ll_seq.specs.Call.{first_path, second_path}
 use Rattle.ll_seq.proofs.Parted.{or_split}
 use Rattle.ll_seq.proofs.DentryRows.{found_of_row}
 use Rattle.ll_laws.proofs.Chains.{same_Some}
 use Rattle.ll_walks.specs.Walk.{Walk, Leg, Position, Above, Down, Split, has_two_paths, toward, turn, with_turn, forked, marks, legs}
-use Rattle.ll_walks.specs.World.{World, next_number, map_values, overtaken, is_marked, is_marked_by_other}
+use Rattle.ll_walks.specs.World.{World, next_number, map_values, overtaken, is_marked}
 use Rattle.ll_journal.specs.Book.{has_mark, marked_below, mark_of}
 use Rattle.ll_walks.specs.Walks.{AreApart}
 use Rattle.ll_walks.specs.Sound.{IsSound}
 use Rattle.ll_walks.proofs.Shapes.{with_stale}
 use Rattle.ll_walks.proofs.Worlds.{found, get-map_values}
-use Rattle.ll_walks.proofs.Tests.{both, or_false}
-use Rattle.ll_walks.proofs.Turns.{ended}
+use Rattle.ll_walks.proofs.Tests.{or_false}
 
 -- ---- who has a mark
 
 pub has_mark_of : (w : World) (i n : ℕ) (walk : Walk) → get w.walks n ≡ Some walk → has_mark w i n ≡ marks walk i
 has_mark_of w i n walk is = ap (λ o. option_map_or (λ (v : Walk). marks v i) o false) is
-
-pub has_mark_none : (w : World) (i n : ℕ) → get w.walks n ≡ None → has_mark w i n ≡ false
-has_mark_none w i n none = ap (λ o. option_map_or (λ (v : Walk). marks v i) o false) none
 
 pub whose_mark : (w : World) (i n : ℕ) → has_mark w i n ≡ true → (walk : Walk) × (get w.walks n ≡ Some walk) × (marks walk i ≡ true)
 whose_mark w i n h =
@@ -166,35 +161,6 @@ is_marked_is w i known = by (mark_of w i) refl
         cc (sym (mark_free w i known e x.0) ∙ has_mark_of w i x.0 x.1 x.2 ∙ x.3))
     by (Some n) e = let walk = whose_mark w i n (mark_found w i n e) in found w.walks (λ (r : ℕ × Walk). marks r.1 i) n walk.0 walk.1 walk.2
 
--- by another walk, where the mark is another client's
-pub is_marked_by_other_is : (w : World) (number i : ℕ) → AreClients w → AreApart w → is_marked_by_other w number i ≡ option_map_or (λ n. not (n == number)) (mark_of w i) false
-is_marked_by_other_is w number i known apart = by (mark_of w i) refl
-  where
-    test : ℕ × Walk → Bool
-    test r = not (r.0 == number) && marks r.1 i
-
-    marking : is_marked_by_other w number i ≡ true → (n : ℕ) × (has_mark w i n ≡ true) × (not (n == number) ≡ true)
-    marking h =
-        let x = who_passes w.walks (λ (r : ℕ × Walk). not (r.0 == number) && marks r.1 i) h in
-        let parts = both (not (x.0 == number)) (marks x.1 i) x.3 in
-        (x.0, has_mark_of w i x.0 x.1 x.2 ∙ parts.1, parts.0)
-
-    by : (o : Option ℕ) → mark_of w i ≡ o → is_marked_by_other w number i ≡ option_map_or (λ n. not (n == number)) o false
-    by None e = or_false (is_marked_by_other w number i) (λ h. let x = marking h in cc (sym (mark_free w i known e x.0) ∙ x.1))
-    by (Some n) e = other (n == number) refl
-      where
-        walk : (v : Walk) × (get w.walks n ≡ Some v) × (marks v i ≡ true)
-        walk = whose_mark w i n (mark_found w i n e)
-
-        other : (b : Bool) → (n == number) ≡ b → is_marked_by_other w number i ≡ not b
-        other false f =
-            found w.walks (λ (r : ℕ × Walk). not (r.0 == number) && marks r.1 i) n walk.0 walk.1
-            (ap (λ b. not b && marks walk.0 i) f ∙ walk.2)
-        other true f = or_false (is_marked_by_other w number i) (λ h.
-            let x = marking h in
-            let same : x.0 ≡ n = one_has_it w i x.0 n apart x.1 (mark_found w i n e) in
-            cc (sym x.2 ∙ ap not (ap (λ m. m == number) same ∙ f)))
-
 -- ---- a walk that comes, or has other places
 
 module _ (w v : World) (number : ℕ) (walk : Walk) (is : v.walks ≡ insert w.walks number walk) where
@@ -274,10 +240,6 @@ leaves_removed w v number moved is i n =
     by false e =
         ap (λ o. option_map_or (λ (u : Walk). marks u i) o false)
         (get-remove_other nat_cmp_total nat_cmp-IsAntisymmetric w.walks number n (λ same. cc (sym e ∙ eq-eqb n number same)))
-
--- so does a commit
-pub ended_leaves : (w : World) (number : ℕ) (walk : Walk) (reply : Reply) → Leaves w (ended w number walk reply) number
-ended_leaves w number walk reply i n = leaves_removed w (ended w number walk reply) number _ refl i n
 
 -- ---- where a walk stands after a descent or a fork
 

@@ -70,10 +70,6 @@ len_from (seat ∷ seats) first =
     ∙ ap (λ o. cond (is_some o) (len (clients_from (first + 1) seats)) (len (clients_from (first + 1) seats) + 1)) (not_yet seats (first + 1) first (omega arith))
     ∙ (omega (arith, rest))
 
-same : (o : Option ClientRecord) → option_map (λ (c : ClientRecord). c) o ≡ o
-same None = refl
-same (Some c) = refl
-
 pub clients_len : (s : State) (seats : List Seat) → AreSeated s seats → len s.clients ≡ length seats
 clients_len s seats seated =
     same_len s.clients (clients_from 1 seats) (λ (c : ClientRecord). c) (λ (c : ClientRecord). c)

@@ -1,6 +1,6 @@
 -- What a commit does to the walks that go on: some of them are stale.
 use Rattle.std.specs.Prelude.{◌≡◌, ◌≢◌, ℕ, zero, suc, ◌+◌, ◌<◌, ◌≤◌, Bool, true, false, not, ◌&&◌, ◌||◌, ◌==◌, List, [], ◌∷◌, length, map, slice_get, slice_set, Option, Some, None, option_map, option_and_then, refl}
-use Rattle.std.specs.List.{AllByRecursion, list_any}
+use Rattle.std.specs.List.{list_any}
 use Rattle.std.specs.Option.{option_map_or}
 use Rattle.std.specs.Ordering.{nat_cmp}
 use Rattle.std.specs.Cmp.{nat_cmp_total}
@@ -162,10 +162,6 @@ module _ (moved : List ℕ) where
   pub spares_overtaken : (seats : List book.Seat) → map (λ (seat : book.Seat). seat.spare) (overtaken_seats seats) ≡ map (λ (seat : book.Seat). seat.spare) seats
   spares_overtaken [] = refl
   spares_overtaken (seat ∷ seats) = ap (λ ks. seat.spare ∷ ks) (spares_overtaken seats)
-
-  pub all_overtaken : (P : ℕ → Type 0) (seats : List book.Seat) → AllByRecursion (λ (seat : book.Seat). P seat.spare) seats → AllByRecursion (λ (seat : book.Seat). P seat.spare) (overtaken_seats seats)
-  all_overtaken P [] all = tt
-  all_overtaken P (seat ∷ seats) all = (all.0, all_overtaken P seats all.1)
 
   pub seated_overtaken : (s : State) (seats : List book.Seat) → AreSeated s seats → AreSeated s (overtaken_seats seats)
   seated_overtaken s seats seated number = seated number ∙ sym (ap (option_map (λ (seat : book.Seat). seat.client)) (seat_at-overtaken seats number) ∙ by (seat_at seats number))

@@ -59,9 +59,6 @@ module _ (s : State) (number fresh : ℕ) where
   connect_refusals : refusals s (client_of s number) Connect ≡ map Refused (refuse (nat_le TREE_CLIENTS (len s.clients)) EMFILE)
   connect_refusals = ap (λ ds. (map Denied ds ++ []) ++ map Refused (refuse (nat_le TREE_CLIENTS (len s.clients)) EMFILE)) (nothing_denied s (client_of s number).domain)
 
-  pub connect_refused : nat_le TREE_CLIENTS (len s.clients) ≡ true → step s number Connect fresh ≡ (Refused EMFILE, s)
-  connect_refused many = step_refused s number Connect fresh (Refused EMFILE) [] (connect_refusals ∙ ap (λ b. map Refused (refuse b EMFILE)) many)
-
   pub connect_done : nat_le TREE_CLIENTS (len s.clients) ≡ false → step s number Connect fresh ≡ (Done, with_client s number new_client)
   connect_done few = step_done s number Connect fresh (connect_refusals ∙ ap (λ b. map Refused (refuse b EMFILE)) few)
 

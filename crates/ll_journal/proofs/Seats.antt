@@ -21,7 +21,7 @@ use Rattle.ll_journal.specs.declared.seat.Seat.TheInside.{Inside}
 use Rattle.ll_journal.specs.declared.station.Station.TheVariants as station
 use Rattle.ll_journal.specs.Book as book
 use Rattle.ll_journal.specs.Stations.{station_at, station_of}
-use Rattle.ll_journal.specs.Seated.{granted, depth_of, last_of, leg_of, position_at, seat_of, Fits, FitSplit, FitAt, AreShort, StandsAt, turn_at, next_in, here_in, entered, lower, gone_down, split}
+use Rattle.ll_journal.specs.Seated.{granted, depth_of, last_of, leg_of, position_at, seat_of, Fits, FitSplit, FitAt, AreShort, StandsAt, turn_at, next_in, entered, lower, gone_down, split}
 
 -- ---- the root
 
@@ -118,10 +118,6 @@ module _ (seat : Inside) (call : Call) (is : seat.call ≡ Some call) (t : Turn)
   pub next_is : next_in (seat_of seat) ≡ option_and_then (λ (leg : Leg). slice_get leg.ahead 0) (leg_in t seat call)
   next_is = ap (λ (o : Option Call). next_in (record (seat_of seat) { walk = option_map (λ k. record { call = k; starts = seat.starts; stale = seat.is_stale; at = position_at seat.stage seat k }) o })) is
       ∙ ap (option_and_then (λ (leg : Leg). slice_get leg.ahead 0)) in_turn
-
-  here_is : here_in (seat_of seat) ≡ option_map (λ (leg : Leg). leg.here) (leg_in t seat call)
-  here_is = ap (λ (o : Option Call). here_in (record (seat_of seat) { walk = option_map (λ k. record { call = k; starts = seat.starts; stale = seat.is_stale; at = position_at seat.stage seat k }) o })) is
-      ∙ ap (option_map (λ (leg : Leg). leg.here)) in_turn
 
 -- ---- the leg in turn goes down
 

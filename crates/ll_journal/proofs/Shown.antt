@@ -8,11 +8,9 @@ use Rattle.ll_seq.specs.Step.{step, refusals, first_or, client_of}
 use Rattle.ll_seq.specs.History.{fresh_of}
 use Rattle.ll_seq.proofs.Histories.{after_push}
 use Rattle.ll_laws.proofs.Gain.{done_of}
-use Rattle.ll_walks.specs.Walk.{Walk}
 use Rattle.ll_walks.specs.World.{World, shown, next_number, reply_to}
 use Rattle.ll_walks.proofs.Shapes.{with_entry}
 use Rattle.ll_walks.proofs.OneCall.{step_again}
-use Rattle.ll_walks.proofs.Turns.{ended}
 
 -- with any reply
 pub shown_entry : (w : World) (number : ℕ) (call : Call) (reply : Reply) → shown (with_entry w number call reply) ≡ (step (shown w) number call (fresh_of reply)).1
@@ -29,10 +27,6 @@ shown_answered w v number call reply answer rules room history =
 
 pub shown_reply : (w : World) (number : ℕ) (call : Call) → shown (with_entry w number call (reply_to w number call)) ≡ (step (shown w) number call (next_number w)).1
 shown_reply w number call = shown_answered w (with_entry w number call (reply_to w number call)) number call (reply_to w number call) refl refl refl refl
-
--- after a commit
-pub shown_ended : (w : World) (number : ℕ) (walk : Walk) → shown (ended w number walk (reply_to w number walk.call)) ≡ (step (shown w) number walk.call (next_number w)).1
-shown_ended w number walk = shown_answered w (ended w number walk (reply_to w number walk.call)) number walk.call (reply_to w number walk.call) refl refl refl refl
 
 -- ---- a call that is refused, and one that isn't
 

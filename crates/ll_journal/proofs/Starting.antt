@@ -69,13 +69,6 @@ module _ (w : World) (seats : List Seat) (seated : AreSeated (shown w) seats) (w
   pub not_here : option_map_or (λ (seat : Seat). may seat call) (seat_at seats number) false ≡ false → advance w (Begin number call) ≡ (NotNow, w)
   not_here e = ap (λ b. answer (b && is_free w call)) (told_is ∙ e)
 
-  pub not_free : is_free w call ≡ false → advance w (Begin number call) ≡ (NotNow, w)
-  not_free e = ap (λ b. answer ((is_idle w number && is_walked (client_of (shown w) number) call) && b)) e ∙ by (is_idle w number && is_walked (client_of (shown w) number) call)
-    where
-      by : (b : Bool) → answer (b && false) ≡ (NotNow, w)
-      by true = refl
-      by false = refl
-
   pub begins : (seat : Seat) → seat_at seats number ≡ Some seat → may seat call ≡ true → is_free w call ≡ true → advance w (Begin number call) ≡ (Begun, begun w number call)
   begins seat at e free = ap (λ b. answer (b && is_free w call)) (told_is ∙ ap (λ o. option_map_or (λ (seat : Seat). may seat call) o false) at ∙ e) ∙ ap answer free
 

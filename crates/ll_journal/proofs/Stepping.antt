@@ -1,5 +1,5 @@
 -- A client's call for itself alone: what the step comes to, and what the journal keeps.
-use Rattle.std.specs.Prelude.{◌≡◌, ◌≢◌, ◌⊎◌, ℕ, zero, suc, ◌+◌, ◌<◌, ◌≤◌, Bool, true, false, not, ◌&&◌, List, [], ◌∷◌, ◌++◌, length, Option, Some, None, Result, Ok, Err, IfOk, IfNone, OnErr, is_none, is_some, option_map, option_and_then, unwrap_or, slice_get, slice_set, refl}
+use Rattle.std.specs.Prelude.{◌≡◌, ◌≢◌, ◌⊎◌, ℕ, zero, suc, ◌+◌, ◌<◌, ◌≤◌, Bool, true, false, not, ◌&&◌, List, [], ◌∷◌, ◌++◌, length, Option, Some, None, Result, Ok, Err, IfOk, OnErr, is_none, is_some, option_map, option_and_then, unwrap_or, slice_get, slice_set, refl}
 use Rattle.std.specs.declared.alloc.AllocError.{AllocError}
 use Rattle.std.specs.Option.{option_map_or}
 use Rattle.std.specs.Cmp.{nat_cmp_total}
@@ -82,9 +82,6 @@ module _ (j : Inside) (h : IsKept j) (number : ℕ) (call : Call) where
   may_not : option_map_or (λ (seat : Seat). may_ask seat call) (seat_at j.seats.items number) false ≡ false → advance w (ClientStep number call) ≡ (NotNow, w)
   may_not e = direct_not_now w number (is_alone (client_of (shown w) number) call) call (may_is ∙ e)
 
-  pub not_there : seat_at j.seats.items number ≡ None → advance w (ClientStep number call) ≡ (NotNow, w)
-  not_there none = may_not (ap (λ o. option_map_or (λ (seat : Seat). may_ask seat call) o false) none)
-
   module _ (place : ℕ) (seat : Seat) (at : slice_get j.seats.items place ≡ Some seat) (numbered : number ≡ suc place) where
     stands : seat_at j.seats.items number ≡ Some seat
     stands = ap (seat_at j.seats.items) numbered ∙ at
@@ -109,9 +106,6 @@ pub asks_alone : (c : ClientRecord) (call : Call) (what : RecordCall) → Asks c
 asks_alone c call (asked.Ruleset rights) is = ap (is_alone c) is
 asks_alone c call (asked.Confine number) is = ap (is_alone c) is
 asks_alone c call (asked.Refused errno) is = is.0
-
-pub spawn_alone : (c : ClientRecord) (call : Call) → call ≡ calls.Spawn → is_alone c call ≡ true
-spawn_alone c call is = ap (is_alone c) is
 
 -- ---- the seats
 
@@ -381,7 +375,3 @@ over_full b b' number call e h = subst (λ (b : Book). advance b.world (ClientSt
 pub own_alone : (c : ClientRecord) (call : Call) (own : Own) → IsOwn c call (Some own) → is_alone c call ≡ true
 own_alone c call owns.Spawn is = ap (is_alone c) is
 own_alone c call (owns.OnRecord what) is = asks_alone c call what is
-
-pub none_own : (o : Option Own) (t : Bool) → o ≡ None → IfNone o (t ≡ false) → t ≡ false
-none_own None t e h = h
-none_own (Some x) t e h = absurd (cc e)

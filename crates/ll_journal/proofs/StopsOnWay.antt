@@ -28,21 +28,17 @@ use Rattle.ll_journal.specs.declared.journal.Journal.TheInside.{Inside}
 use Rattle.ll_journal.specs.declared.stop.Stop.{Stop}
 use Rattle.ll_journal.specs.declared.stop.Stop.TheVariants as stops
 use Rattle.ll_journal.specs.Book.{Seat, slot_of}
-use Rattle.ll_journal.specs.Kept.{IsKept, seat_at, world_of, book_of}
+use Rattle.ll_journal.specs.Kept.{IsKept, world_of, book_of}
 use Rattle.ll_journal.specs.Looks.{Lies, StopsBefore, blocked_at, goes_on, is_all_lent, stop_by}
 use Rattle.ll_journal.specs.Seated.{here_in, next_in, next_of}
 use Rattle.ll_journal.specs.Stopped.{IsStop}
 use Rattle.ll_journal.proofs.Advancing.{commit_none, commit_not_now, may_commit_blocked, may_commit_on_the_way, may_commit_stale}
 use Rattle.ll_journal.proofs.AtEnds.{blocked_reply}
 use Rattle.ll_journal.proofs.Descending.{turn_stands}
-use Rattle.ll_journal.proofs.Entering as entering
 use Rattle.ll_journal.proofs.Entering.{walk_here}
 use Rattle.ll_journal.proofs.LentMarks.{all_marked, leg_some, lies_held, misses_not}
 
 -- ---- without a walk that goes on
-
-pub no_walk : (j : Inside) (number : ℕ) → seat_at j.seats.items number ≡ None → advance (world_of j) (Commit number) ≡ (world.NotNow, world_of j)
-no_walk j number none = commit_none (world_of j) number (entering.no_walk j number none)
 
 fresh_if : (b : Bool) → not b ≡ false → b ≡ true
 fresh_if true e = refl

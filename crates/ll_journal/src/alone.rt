@@ -12,7 +12,7 @@ use ll_seq::{Call, ClientRecord, Reply};
 use std::alloc::{AllocError, Global};
 
 /// A call on the client's record.
-#[derive(Clone, Copy, Debug, PartialEq, Eq)]
+#[derive(Clone, Copy)]
 pub(crate) enum RecordCall {
     /// A new ruleset that handles these rights.
     Ruleset(Access),
@@ -23,7 +23,7 @@ pub(crate) enum RecordCall {
 }
 
 /// A call for the client alone.
-#[derive(Clone, Copy, Debug, PartialEq, Eq)]
+#[derive(Clone, Copy)]
 pub(crate) enum Own {
     Spawn,
     OnRecord(RecordCall),

@@ -17,7 +17,7 @@ use ll_seq::{Call, ClientRecord, Entry, History, Reply, Rules};
 use std::alloc::{AllocError, Global};
 
 /// What comes of a call that doesn't walk.
-#[derive(Clone, Copy, Debug, PartialEq, Eq)]
+#[derive(Clone, Copy)]
 pub enum Made {
     /// The history's last entry has the reply.
     Replied,

@@ -11,7 +11,7 @@ use ll_inodes::Inodes;
 use ll_seq::ROOT;
 
 /// What is found: the step may be made; or not now; or it is lent other slots than it names.
-#[derive(Clone, Copy, Debug, PartialEq, Eq)]
+#[derive(Clone, Copy)]
 pub(crate) enum Look {
     NotNow,
     Astray,

@@ -1,7 +1,7 @@
 //! What comes of a step.
 
 /// What comes of a step of a client's walk.
-#[derive(Clone, Copy, Debug, PartialEq, Eq)]
+#[derive(Clone, Copy, PartialEq, Eq)]
 pub enum Outcome {
     /// The step isn't enabled.
     NotNow,
@@ -14,7 +14,7 @@ pub enum Outcome {
 }
 
 /// What comes of a commit.
-#[derive(Clone, Copy, Debug, PartialEq, Eq)]
+#[derive(Clone, Copy)]
 pub enum Ending {
     /// The step isn't enabled.
     NotNow,

@@ -46,7 +46,7 @@ struct Leg {
 }
 
 /// How far a walk has come: above the root, on its one branch, or past the fork.
-#[derive(Clone, Copy, Debug, PartialEq, Eq)]
+#[derive(Clone, Copy)]
 enum Stage {
     Above,
     Down,
@@ -54,7 +54,7 @@ enum Stage {
 }
 
 /// The leg in turn.
-#[derive(Clone, Copy, Debug, PartialEq, Eq)]
+#[derive(Clone, Copy)]
 enum Turn {
     No,
     Trunk,
@@ -620,12 +620,12 @@ impl Seat {
             → AreMasks result.second self.old.client.domain leg.chain }
         ensures rest { self.new ≡ record self.old { walk = None } }
     {
+        let Some(call) = self.call.take() else {
+            unreachable!()
+        };
         let (first, second) = match self.stage {
             Stage::Split => (self.first.masks.copy(), self.second.masks.copy()),
             _ => (self.trunk.masks.copy(), self.trunk.masks.copy()),
-        };
-        let Some(call) = self.call.take() else {
-            unreachable!()
         };
         Ended {
             call,

@@ -1,7 +1,7 @@
 //! Where a walk is.
 
 /// Where a client's walk is, as far as it can be told without a look at a directory.
-#[derive(Clone, Copy, Debug, PartialEq, Eq)]
+#[derive(Clone, Copy, PartialEq, Eq)]
 pub enum Station {
     /// No walk is under way.
     Idle,

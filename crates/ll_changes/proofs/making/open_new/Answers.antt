@@ -1,5 +1,3 @@
-use Rattle.std.specs.Prelude.{◌≡◌, true, false, refl}
-use Rattle.std.proofs.Common.{ap, ◌∙◌}
 use Rattle.ll_changes.proofs.OpenedSlots.{described, undescribed, may_make, covers_new, room_new, can_open, opened_new}
 use Rattle.ll_changes.proofs.making.open_new.Goals as goal
 

@@ -1,7 +1,4 @@
-use Rattle.std.specs.Prelude.{◌≡◌, true, false, refl}
-use Rattle.std.proofs.Common.{ap, ◌∙◌}
-use Rattle.ll_rights.specs.Map.{insert}
-use Rattle.ll_answer.specs.Effect.{descriptor_of, with_descriptor}
+use Rattle.std.specs.Prelude.{true, false, refl}
 use Rattle.ll_changes.proofs.OpenedSlots.{opened, described}
 use Rattle.ll_changes.proofs.making.open_there.Goals as goal
 

@@ -1,7 +1,9 @@
 use Rattle.std.specs.Prelude.{◌≡◌, None, slice_set, refl, [], map}
 use Rattle.std.specs.Vec.{with_item}
-use Rattle.std.proofs.Common.{ap, sym, subst, ◌∙◌, inl}
+use Rattle.std.proofs.Common.{◌<◌, length, rules, ap, sym, subst, ◌∙◌, inl}
+use Rattle.std.proofs.lemmas.Bool.{leb-false}
 use Rattle.ll_answer.specs.Found.{AreFacts}
+use Rattle.ll_answer.specs.Lean.{spares_memory}
 use Rattle.ll_seq.specs.declared.call.Call.{Call}
 use Rattle.ll_seq.specs.declared.reply.Reply.TheVariants.{Refused}
 use Rattle.ll_rights.specs.declared.errno.Errno.TheVariants.{HistoryFull}
@@ -10,6 +12,7 @@ use Rattle.ll_seq.specs.Step.{refusals, client_of}
 use Rattle.ll_walks.specs.Walk.{Walk}
 use Rattle.ll_walks.specs.World.{World, Replied, advance, is_full, moved_by, next_number, shown}
 use Rattle.ll_walks.specs.declared.step.Step.TheVariants.{Commit}
+use Rattle.ll_walks.proofs.Tests.{or_false}
 use Rattle.ll_journal.specs.declared.journal.Journal.TheInside.{Inside}
 use Rattle.ll_journal.specs.Book.{Book, Spares, mark_of, slot_of}
 use Rattle.ll_journal.specs.WalkEnds.{LeavesFree}
@@ -20,6 +23,7 @@ use Rattle.ll_journal.proofs.AtAnswers.{EndedSo, at_end, ended_so, seat_idle}
 use Rattle.ll_journal.proofs.Committed.{committed_kept, committed_lent, committed_rest, committed_spares, committed_step, spares_both}
 use Rattle.ll_journal.proofs.DecidedCalls.{no_zero}
 use Rattle.ll_journal.proofs.Ended.{commit_gives_up}
+use Rattle.ll_journal.proofs.EndedWalks.{place_within}
 use Rattle.ll_journal.proofs.Starved.{step_granted}
 use Rattle.ll_journal.proofs.Stepping.{book_unchanged, entered, set_again}
 use Rattle.ll_journal.proofs.journal.Journal.answer.Goals as goal
@@ -189,3 +193,39 @@ returns-clause-rest c =
     (ended_then c).world (ap is_full (ended_then c).world ∙ sym c.is_full-is_full.ensures ∙ c.if-is_full.false) c.index_mut-seat.result.now (ended_then c).at c.requires.numbered c.in-Ok.reply c.perform.new.self.client c.perform.new.self.spare c.perform.new.lent c.args.slots.now (performs c)
     c.perform.new.self refl refl (c.in-Ok.ensures.rest ∙ sym (idle_then c)) (moved_list c.moved_by.result) (moves c) c.overtake_moved.ensures (entry_is c) refl refl refl
     (ended_then c).inodes (ap (λ (b : Book). b.free) (c.self-2.view_is ∙ c.end_walk-walk.ensures.rest) ∙ ap (λ (b : Book). b.free) (sym c.self.view_is)) (ended_then c).spares)
+
+-- ---- what is plain
+
+pub end_walk-walk-requires-clause-walk : goal.end_walk-walk-requires-clause-walk
+end_walk-walk-requires-clause-walk c = (c.requires.reached.walk, c.requires.reached.ends.is)
+
+pub index_mut-seat-requires : goal.index_mut-seat-requires
+index_mut-seat-requires c =
+    let within : c.args.place < length c.self-2.inside.seats.items = place_within c.self-2.inside c.end_walk-walk.new.self c.self-2.view_is c.args.place
+    (subst (λ (b : Book). c.args.place < length b.spares) (sym c.end_walk-walk.ensures.rest) c.requires.place) in
+    search rules
+
+pub push-requires : goal.push-requires
+push-requires c =
+    leb-false c.self-2.inside.history.limit (length c.self-2.inside.history.entries)
+    (ap (λ (b : Book). is_full b.world) c.self-2.view_is ∙ ap is_full c.end_walk-walk.ensures.world ∙ ap (λ (b : Book). is_full b.world) (sym c.self.view_is) ∙ sym c.is_full-is_full.ensures ∙ c.if-is_full.false)
+
+pub returns-then-is_full-clause-lent : goal.returns-then-is_full-clause-lent
+returns-then-is_full-clause-lent c = c.end_walk-walk.ensures.lent c.args.slots.now c.requires.lent
+
+pub returns-then-is_full-clause-spares : goal.returns-then-is_full-clause-spares
+returns-then-is_full-clause-spares c = c.end_walk-walk.ensures.spares c.args.slots.now c.requires.reached.walk c.requires.reached.ends.is c.requires.reached.ends.marked
+
+pub returns-then-is_full-clause-rest : goal.returns-then-is_full-clause-rest
+returns-then-is_full-clause-rest c = inl c.end_walk-walk.ensures.rest
+
+pub returns-in_default-clause-calm : goal.returns-in_default-clause-calm
+returns-in_default-clause-calm c e =
+    let r = c.requires.reached in
+    (r.walk, r.ends.is, or_false (spares_memory r.walk.call) (λ h. cc (c.in_default.ensures.calm (ap spares_memory (c.end_walk-walk.ensures.call r.walk r.ends.is) ∙ h))))
+
+pub returns-clause-calm : goal.returns-clause-calm
+returns-clause-calm c e = absurd (cc e)
+
+pub returns-clause-not_astray : goal.returns-clause-not_astray
+returns-clause-not_astray c e = cc e

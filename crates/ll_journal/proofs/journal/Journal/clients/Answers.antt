@@ -1,4 +1,4 @@
-use Rattle.std.proofs.Common.{◌≡◌, length, sym, subst, ◌∙◌}
+use Rattle.std.proofs.Common.{◌≡◌, sym, subst, ◌∙◌}
 use Rattle.ll_rights.specs.Map.{len}
 use Rattle.ll_walks.specs.World.{shown}
 use Rattle.ll_journal.specs.Book.{Book}

@@ -1,4 +1,5 @@
 use Rattle.std.proofs.Common.{◌≡◌, ◌<◌, false, length, map, ap, sym, subst, ◌∙◌}
+use Rattle.std.proofs.lemmas.Bool.{leb-false}
 use Rattle.ll_rights.specs.declared.errno.Errno.TheVariants.{HistoryFull}
 use Rattle.ll_rights.specs.Map.{get}
 use Rattle.ll_seq.specs.declared.reply.Reply.TheVariants.{Refused}
@@ -69,3 +70,11 @@ returns-clause-spares c =
     (subst (λ (b : Book). Spares b (book_of (record c.self-2.inside { history = c.push.new.self })) c.args.slots.now) c.self-2.view_is
     (refused_spares c.self.inside c.self-2.inside c.self.invariant c.self-2.invariant c.args.client c.args.place c.requires.numbered (within c) c.args.slots.now
     c.end_walk-walk.new.lent (told c) c.args.errno (blocked c) (ended c) (room_left c) c.end_walk-walk.result.call (call_is c) c.push.new.self c.push.ensures))
+
+pub end_walk-walk-requires-clause-walk : goal.end_walk-walk-requires-clause-walk
+end_walk-walk-requires-clause-walk c = (c.requires.blocked.walk, c.requires.blocked.ends.is)
+
+pub push-requires : goal.push-requires
+push-requires c =
+    leb-false c.self-2.inside.history.limit (length c.self-2.inside.history.entries)
+    (ap (λ (b : Book). is_full b.world) c.self-2.view_is ∙ ap is_full c.end_walk-walk.ensures.world ∙ ap (λ (b : Book). is_full b.world) (sym c.self.view_is) ∙ sym c.is_full-is_full.ensures ∙ c.if-is_full.false)
