@@ -1,5 +1,6 @@
 -- Lines that tell a header and entries, one line after the other.
 use Rattle.std.proofs.Common.{◌≡◌, ℕ, true, List, [], ◌∷◌, ◌++◌, length, refl, sym, ap, subst, ◌∙◌, append_assoc, arith}
+use Rattle.std.specs.List.{AllZip}
 use Rattle.std.specs.Bool.{◌==◌}
 use Rattle.std.proofs.lemmas.Bool.{eqb-true}
 use Rattle.ll_seq.specs.declared.reply.Entry.{Entry}
@@ -7,7 +8,7 @@ use Rattle.ll_wire.specs.declared.header.Header.{Header}
 use Rattle.ll_wire.specs.Entries.{SpellsHeader, SpellsEntry}
 use Rattle.ll_saved.specs.declared.reading.ReadFault.{ReadFault}
 use Rattle.ll_saved.specs.declared.reading.ReadFault.TheVariants.{BadLine}
-use Rattle.ll_saved.specs.Saved.{Tell, SpellEach, IsFirstBad}
+use Rattle.ll_saved.specs.Saved.{Tell, IsFirstBad, no_header}
 
 pub empty : (bytes : List ℕ) → true ≡ (length bytes == 0) → bytes ≡ []
 empty [] e = refl
@@ -17,11 +18,19 @@ empty (b ∷ bytes) e = let none : length (b ∷ bytes) ≡ 0 = eqb-true (length
 pub told_at : (lines : List (List ℕ)) (n k : ℕ) → ◌≡◌ {A = ReadFault} (BadLine n) (BadLine k) → IsFirstBad lines n → IsFirstBad lines k
 told_at lines n k e bad = let same : n ≡ k = cc in subst (IsFirstBad lines) same bad
 
+-- no line is a header's
+pub no_line : (lines : List (List ℕ)) → lines ≡ [] → IsFirstBad lines 1
+no_line lines none = no_header (λ line more h is. absurd (let both : [] ≡ line ∷ more = sym none ∙ is in cc))
+
+pub first_is_bad : (lines : List (List ℕ)) (first : List ℕ) (rest : List (List ℕ)) → lines ≡ first ∷ rest → ((h : Header) → SpellsHeader first h → ⊥) → IsFirstBad lines 1
+first_is_bad lines first rest cut bad = no_header (λ line more h is spells.
+    let both : first ∷ rest ≡ line ∷ more = sym cut ∙ is in let same : line ≡ first = cc in bad h (subst (λ (x : List ℕ). SpellsHeader x h) same spells))
+
 pub tell_first : (line : List ℕ) (h : Header) (es : List Entry) → SpellsHeader line h → es ≡ [] → Tell (line ∷ []) h es
 tell_first line h es is none = subst (λ (x : List Entry). Tell (line ∷ []) h x) (sym none) (is, tt)
 
-each_more : (lines : List (List ℕ)) (es : List Entry) (line : List ℕ) (e : Entry) → SpellEach lines es → SpellsEntry line e
-    → SpellEach (lines ++ line ∷ []) (es ++ e ∷ [])
+each_more : (lines : List (List ℕ)) (es : List Entry) (line : List ℕ) (e : Entry) → AllZip SpellsEntry lines es → SpellsEntry line e
+    → AllZip SpellsEntry (lines ++ line ∷ []) (es ++ e ∷ [])
 each_more [] [] line e told is = (is, tt)
 each_more [] (d ∷ es) line e told is = absurd told
 each_more (first ∷ lines) [] line e told is = absurd told

@@ -1,6 +1,6 @@
 -- Saved histories, and what an audit answers for a file. own
-use Rattle.std.specs.Prelude.{◌≡◌, ⊤, ℕ, ◌+◌, List, [], ◌∷◌, ◌++◌, length, codes, decimal}
-use Rattle.std.specs.List.{flat_map}
+use Rattle.std.specs.Prelude.{◌≡◌, ℕ, ◌+◌, List, [], ◌∷◌, ◌++◌, length, codes, decimal}
+use Rattle.std.specs.List.{AllZip, flat_map}
 use Rattle.ll_seq.specs.declared.reply.Entry.{Entry}
 use Rattle.ll_seq.specs.State.{State, start}
 use Rattle.ll_seq.specs.History.{IsLegal}
@@ -15,23 +15,15 @@ use Rattle.ll_saved.specs.declared.verdict.Verdict.TheVariants.{Legal, Illegal, 
 abbrev pub saved_text : Header → List Entry → List ℕ
 saved_text h es = line_of (header_tokens h) ++ flat_map entry_line es
 
--- each line spells one of the entries, in order
-abbrev pub SpellEach : List (List ℕ) → List Entry → Type 0
-SpellEach [] [] = ⊤
-SpellEach [] (e ∷ es) = ⊥
-SpellEach (line ∷ lines) [] = ⊥
-SpellEach (line ∷ lines) (e ∷ es) = SpellsEntry line e × SpellEach lines es
-
 -- a header's line, and a line for each entry
 abbrev pub Tell : List (List ℕ) → Header → List Entry → Type 0
 Tell [] h es = ⊥
-Tell (line ∷ lines) h es = SpellsHeader line h × SpellEach lines es
+Tell (line ∷ lines) h es = SpellsHeader line h × AllZip SpellsEntry lines es
 
--- The number of the first line that is of no form, counted from 1. Without any line that is the header's
+-- the number of the first line that is of no form, from 1: the header's, whether it is there or not, or an entry's
 pub data IsFirstBad (lines : List (List ℕ)) : ℕ → Type 0 where
-  no_line : lines ≡ [] → IsFirstBad lines 1
-  no_header : (line : List ℕ) (more : List (List ℕ)) → lines ≡ line ∷ more
-      → ((h : Header) → SpellsHeader line h → ⊥) → IsFirstBad lines 1
+  no_header : ((line : List ℕ) (more : List (List ℕ)) (h : Header) → lines ≡ line ∷ more → SpellsHeader line h → ⊥)
+      → IsFirstBad lines 1
   no_entry : (h : Header) (es : List Entry) (front back : List (List ℕ)) (line : List ℕ)
       → lines ≡ front ++ line ∷ back → Tell front h es
       → ((e : Entry) → SpellsEntry line e → ⊥) → IsFirstBad lines (length es + 2)

@@ -1,20 +1,20 @@
 use Rattle.std.proofs.Common.{◌≡◌, ◌+◌, ◌++◌, ◌∷◌, [], ℕ, List, length, refl, sym, ap, subst, ◌∙◌, arith}
 use Rattle.std.proofs.lemmas.List.{length-append}
 use Rattle.ll_wire.specs.Pieces.{pieces}
-use Rattle.ll_saved.specs.Saved.{IsFirstBad, no_line, no_header, no_entry}
-use Rattle.ll_saved.proofs.Telling.{empty, told_at, tell_first, tell_more, tell_same, cut_on}
+use Rattle.ll_saved.specs.Saved.{IsFirstBad, no_entry}
+use Rattle.ll_saved.proofs.Telling.{empty, first_is_bad, no_line, told_at, tell_first, tell_more, tell_same, cut_on}
 use Rattle.ll_saved.proofs.reading.Saved.read.Goals as goal
 
 pub returns-then-is_empty-clause-bad : goal.returns-then-is_empty-clause-bad
 returns-then-is_empty-clause-bad c =
-    λ k is. told_at _ 1 k is (no_line (ap pieces (empty c.args.bytes.now c.if-is_empty.ensures)))
+    λ k is. told_at _ 1 k is (no_line _ (ap pieces (empty c.args.bytes.now c.if-is_empty.ensures)))
 
 pub returns-then-is_empty-clause-starved : goal.returns-then-is_empty-clause-starved
 returns-then-is_empty-clause-starved c is = absurd (cc)
 
 pub returns-in_default-clause-bad : goal.returns-in_default-clause-bad
 returns-in_default-clause-bad c =
-    λ k is. told_at _ 1 k is (no_header c.cut.result.0.now (pieces c.cut.result.1.now) c.cut.ensures.first c.in_default.ensures)
+    λ k is. told_at _ 1 k is (first_is_bad _ c.cut.result.0.now (pieces c.cut.result.1.now) c.cut.ensures.first c.in_default.ensures)
 
 pub loop-rest-init : goal.loop-rest-init
 loop-rest-init c =

@@ -1,7 +1,9 @@
-use Rattle.std.proofs.Common.{◌≡◌, ◌+◌, true≢false, refl, sym, ap, subst, ◌∙◌, arith}
+use Rattle.std.proofs.Common.{◌≡◌, ◌+◌, not, true≢false, refl, sym, ap, subst, ◌∙◌, arith}
 use Rattle.std.proofs.lemmas.Bool.{leb-true, leb-false}
 use Rattle.ll_rights.specs.declared.errno.Errno.TheVariants.{NoMemory}
 use Rattle.ll_seq.specs.declared.reply.Reply.TheVariants.{Refused}
+use Rattle.ll_rights.specs.Map.{has}
+use Rattle.ll_seq.specs.State.{State}
 use Rattle.ll_seq.specs.declared.reply.Entry.{Entry}
 use Rattle.ll_seq.specs.Memory.{takes_memory}
 use Rattle.ll_wire.specs.Grammar.{IsReply}
@@ -21,6 +23,20 @@ returns-then-wants_memory-clause-called c s stands =
     (leb-false _ _ (sym c.is_full.ensures ∙ c.if-is_full.false))
     (not_false (takes_memory c.args.call) (λ spares. c.apply-reply.ensures.memory spares starved))
     (c.apply-reply.ensures.starved starved)
+
+pub apply-reply-requires-clause-caller : goal.apply-reply-requires-clause-caller
+apply-reply-requires-clause-caller c = c.args.self.now.connected c.args.client c.requires.first c.requires.last ∙ sym (ap not c.requires.call)
+
+pub apply-reply-requires-clause-fresh : goal.apply-reply-requires-clause-fresh
+apply-reply-requires-clause-fresh c spawns = c.args.self.now.free (c.args.self.now.before + c.args.self.now.clients + 1) (omega arith)
+
+pub invariant_of-self : goal.invariant_of-self
+invariant_of-self c =
+    let same = c.apply-reply.ensures.no_memory (c.wants_memory.ensures.0 c.if-wants_memory.true) in record {
+      connected = λ number first most. ap (λ (z : State). has z.clients number) same ∙ c.args.self.now.connected number first most;
+      free = λ number more. ap (λ (z : State). has z.clients number) same ∙ c.args.self.now.free number more;
+      spelled = c.args.self.now.spelled;
+    }
 
 pub invariant_of-self-2 : goal.invariant_of-self-2
 invariant_of-self-2 c =
