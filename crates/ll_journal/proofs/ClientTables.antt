@@ -1,9 +1,8 @@
 -- The table of inodes, where clients come or change.
-use Rattle.std.specs.Prelude.{◌≡◌, ℕ, ◌<◌, [], ◌∷◌, ◌++◌, List, length}
+use Rattle.std.specs.Prelude.{◌≡◌, ℕ, [], ◌∷◌, ◌++◌, List, length}
 use Rattle.std.proofs.Common.{sym, subst, ap, ◌∙◌, arith, length-append}
 use Rattle.std.proofs.lemmas.List.{length-map}
 use Rattle.std.specs.List.{AllByRecursion}
-use Rattle.ll_rights.specs.declared.limits.TheConstants.{TREE_CLIENTS}
 use Rattle.ll_seq.specs.declared.client.ClientRecord.{ClientRecord}
 use Rattle.ll_seq.specs.State.{State}
 use Rattle.ll_seq.specs.Effects.{with_client}
@@ -50,7 +49,3 @@ module _ (s : State) (number : ℕ) (c : ClientRecord) (spares : List ℕ) (t : 
 
 pub many_spares : (seats : List Seat) → length (spares_of seats) ≡ length seats
 many_spares seats = length-map seats (λ (seat : Seat). seat.spare)
-
--- a slot is free for one client more
-pub one_free : (s : State) (spares : List ℕ) (t : Table) → IsTable s spares t → length spares < TREE_CLIENTS → 0 < length t.free
-one_free s spares t is few = let sum = is.count in let most = is.few in omega (arith, sum, most, few)

@@ -1,9 +1,17 @@
-use Rattle.std.proofs.Common.{◌≡◌, [], refl, ap, sym, subst, ◌∙◌}
+use Rattle.std.proofs.Common.{◌≡◌, [], false, refl, ap, sym, subst, ◌∙◌}
+use Rattle.std.specs.Option.{option_map_or}
 use Rattle.ll_journal.specs.Book.{Book, Seat}
+use Rattle.ll_journal.specs.Kept.{seat_at, world_of}
 use Rattle.ll_walks.specs.World.{Begun, NotNow, advance}
 use Rattle.ll_walks.specs.declared.step.Step.TheVariants.{Begin}
-use Rattle.ll_journal.proofs.Starting.{at_place, turned_down, idle_before, world_begun, sets_out, slots_kept, kept_by, over_begun, over_spares, sound_after, rest_kept, changed_world}
+use Rattle.ll_journal.proofs.Starting.{at_place, may, not_here, turned_down, idle_before, world_begun, sets_out, slots_kept, kept_by, over_begun, over_spares, sound_after, rest_kept, changed_world}
 use Rattle.ll_journal.proofs.journal.Journal.begin.Goals as goal
+
+pub returns-in_default-clause-not_now : goal.returns-in_default-clause-not_now
+returns-in_default-clause-not_now c =
+    subst (λ (b : Book). advance b.world (Begin c.args.client c.args.call) ≡ (NotNow, b.world)) c.self.view_is
+    (not_here (world_of c.self.inside) c.self.inside.seats.items c.self.invariant.seated refl c.args.client c.args.call
+    (ap (λ o. option_map_or (λ (seat : Seat). may seat c.args.call) o false) (ap (λ xs. seat_at xs c.args.client) (sym c.deref.ensures.value) ∙ c.in_default.ensures.none)))
 
 pub returns-then-not-may_begin-clause-not_now : goal.returns-then-not-may_begin-clause-not_now
 returns-then-not-may_begin-clause-not_now c =
