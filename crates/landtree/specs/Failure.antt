@@ -13,8 +13,6 @@ use Rattle.ll_saved.specs.declared.auditing.FileAuditFault.{FileAuditFault}
 use Rattle.ll_saved.specs.declared.auditing.FileAuditFault.TheVariants as audit
 use Rattle.ll_saved.specs.declared.saving.SaveFault.{SaveFault}
 use Rattle.ll_saved.specs.declared.saving.SaveFault.TheVariants as saving
-use Rattle.ll_picture.specs.declared.fault.PictureFault.{PictureFault}
-use Rattle.ll_picture.specs.declared.fault.PictureFault.TheVariants as drawing
 use Rattle.ll_saved.specs.declared.verdict.Verdict.TheVariants.{Legal, Illegal, BadLine}
 use Rattle.landtree.specs.declared.failure.Failure.{Failure}
 use Rattle.landtree.specs.declared.failure.Failure.TheVariants.{CommandLine, Policy, Opening, File, Output, NoMemory}
@@ -53,10 +51,6 @@ failure_by _ = Some CommandLine
 abbrev pub failure_by_saving : SaveFault → Failure
 failure_by_saving saving.Write = File
 failure_by_saving saving.NoMemory = NoMemory
-
-abbrev pub failure_by_drawing : PictureFault → Failure
-failure_by_drawing drawing.Write = File
-failure_by_drawing drawing.NoMemory = NoMemory
 
 abbrev pub failure_at : FileAuditFault → Failure
 failure_at audit.Read = File

@@ -2,10 +2,9 @@
 
 ghost use Rattle.std.specs.Prelude.{◌≡◌};
 ghost use Rattle.clap.specs.Words.{kind_of};
-ghost use Rattle.landtree.specs.Failure.{failure_at, failure_by, failure_by_drawing, failure_by_saving, failure_in, failure_in_session, failure_of, line_of, status_of};
+ghost use Rattle.landtree.specs.Failure.{failure_at, failure_by, failure_by_saving, failure_in, failure_in_session, failure_of, line_of, status_of};
 
 use clap::error::ErrorKind;
-use ll_picture::PictureFault;
 use ll_policy::PolicyFault;
 use ll_saved::{FileAuditFault, SaveFault};
 use ll_session::{RunFault, SessionFault};
@@ -79,16 +78,6 @@ impl Failure {
         match fault {
             SaveFault::Write => Failure::File,
             SaveFault::NoMemory => Failure::NoMemory,
-        }
-    }
-
-    /// What keeps a schedule's picture from being drawn, for the program.
-    pub fn of_drawing(fault: PictureFault) -> Failure
-        ensures { result ≡ failure_by_drawing fault }
-    {
-        match fault {
-            PictureFault::Write => Failure::File,
-            PictureFault::NoMemory => Failure::NoMemory,
         }
     }
 

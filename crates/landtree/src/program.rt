@@ -11,6 +11,7 @@ ghost use Rattle.ll_session.specs.declared.fault.RunFault.{RunFault};
 ghost use Rattle.ll_session.specs.Run.{Runs, Begins, MayEnd, Writes};
 ghost use Rattle.ll_wire.specs.Entries.{IsEntry};
 ghost use Rattle.ll_wire.specs.Pieces.{pieces};
+ghost use Rattle.ll_wire.specs.Writing.{AppendsFront};
 ghost use Rattle.landtree.specs.Failure.{failure_of, IsOfDevices, IsOfSaving};
 ghost use Rattle.landtree.specs.Policy.{header_of};
 
@@ -20,7 +21,7 @@ use ll_saved::{Progress, Verdict, run_audit, save};
 use ll_schedule::{WorldSetup, run_schedule};
 use ll_seq::History;
 use ll_session::{Setup, run_script};
-use ll_wire::{Header, Version};
+use ll_wire::{Header, Version, write_whole};
 use std::alloc::Global;
 use std::io::{Read, Write};
 
@@ -65,7 +66,8 @@ pub fn perform_schedule<R: Read, W: Write>(
     }
 }
 
-/// Draws what the lines of a schedule ask for, in a tree that is set up so.
+/// Draws what the lines of a schedule ask for, in a tree that is set up so. Want of memory is told before anything is
+/// written.
 pub fn draw_schedule<W: Write>(
     alloc: Global,
     setup: WorldSetup,
@@ -74,18 +76,17 @@ pub fn draw_schedule<W: Write>(
 ) -> Result<(), Failure>
     ensures drawn { OnOk result ((text : List ℕ) × IsWhole text
         × Appends (W.contents file.old) (W.contents file.new) text) }
+    ensures file { result ≡ Err Failure.File → (text : List ℕ) × IsWhole text
+        × AppendsFront (W.contents file.old) (W.contents file.new) text }
+    ensures memory { result ≡ Err Failure.NoMemory → W.contents file.new ≡ W.contents file.old }
     ensures failure { IfErr result IsOfSaving }
 {
-    match draw(
-        alloc,
-        setup.rules,
-        setup.nodes,
-        setup.history,
-        schedule,
-        file,
-    ) {
+    let Ok(picture) = draw(alloc, setup.rules, setup.nodes, setup.history, schedule) else {
+        return Err(Failure::NoMemory);
+    };
+    match write_whole(file, picture.as_str()) {
         Ok(()) => Ok(()),
-        Err(fault) => Err(Failure::of_drawing(fault)),
+        Err(_) => Err(Failure::File),
     }
 }
 

@@ -138,6 +138,7 @@ module _ (j : Inside) (h : IsKept j) (number : ℕ) (call : Call) where
         file = d;
         on = ap descriptor_of is_call ∙ on_number fd what;
         is_open = record { caller = seat.client; there = here; holds = holds };
+        idle = walk_at j.seats.items number ∙ ap (option_and_then (λ (s : Seat). s.walk)) stands ∙ idle;
         elsewhere = away;
       }
 

@@ -55,12 +55,13 @@ pub record IsOpen (w : World) (client number : ℕ) (file : Descriptor) : Type 0
   pub there : get (shown w).clients client ≡ Some caller
   pub holds : get caller.descriptors number ≡ Some file
 
--- the call is on a descriptor that the client has, of a file that doesn't lie in the slot
+-- the call is on a descriptor that the client has, of a file that doesn't lie in the slot, and no walk of it is under way
 pub record IsAstrayOn (b : Book) (client : ℕ) (call : Call) (slot : ℕ) : Type 0 where
   pub number : ℕ
   pub file : Descriptor
   pub on : descriptor_of call ≡ Some number
   pub is_open : IsOpen b.world client number file
+  pub idle : get b.world.walks client ≡ None
   pub elsewhere : inode_in b slot ≢ file.inode
 
 -- The call comes back: its step isn't enabled, or another slot was lent than the file's

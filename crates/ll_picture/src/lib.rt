@@ -4,7 +4,6 @@
 mod canvas;
 mod course;
 mod drawing;
-mod fault;
 mod head;
 mod legend;
 mod picture;
@@ -17,4 +16,3 @@ mod told;
 mod track;
 
 pub use drawing::draw;
-pub use fault::PictureFault;

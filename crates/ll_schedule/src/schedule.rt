@@ -1,8 +1,9 @@
 //! A schedule under way.
 
-ghost use Rattle.std.specs.Prelude.{◌≡◌, ◌≢◌, ℕ, List, IfErr, IfOk, OnErr, OnOk};
+ghost use Rattle.std.specs.Prelude.{◌≡◌, ℕ, List, IfErr, IfOk, OnErr, OnOk};
 ghost use Rattle.std.specs.Io.KnownBytes.{Appends};
 ghost use Rattle.ll_session.specs.Cutting.{Holds};
+ghost use Rattle.ll_session.specs.Progress.{IsOfWriting};
 ghost use Rattle.ll_session.specs.Reached.{IsAnswered, IsStarted};
 ghost use Rattle.ll_session.specs.declared.fault.SessionFault.{SessionFault};
 ghost use Rattle.ll_wire.specs.Grammar.{IsReply};
@@ -34,7 +35,7 @@ fn done(world: &mut World, line: ScheduleLine) -> Outcome
 fn write_line<W: Write>(writer: &mut W, line: &str) -> Result<(), SessionFault>
     ensures ok { OnOk result (Appends (W.contents writer.old) (W.contents writer.new) line.now) }
     ensures err { OnErr result (AppendsFront (W.contents writer.old) (W.contents writer.new) line.now) }
-    ensures fault { IfErr result (λ fault. fault ≢ SessionFault.TooLong) }
+    ensures fault { IfErr result (λ fault. fault ≡ SessionFault.Write) }
 {
     match write_whole(writer, line) {
         Ok(()) => Ok(()),
@@ -84,7 +85,7 @@ impl Schedule {
             (W.contents writer.new)) }
         ensures err { OnErr result ((piece : List ℕ) → Holds self.old.line piece
             → IsStarted Tells self.old.world piece (W.contents writer.old) (W.contents writer.new)) }
-        ensures fault { IfErr result (λ fault. fault ≢ SessionFault.TooLong) }
+        ensures fault { IfErr result (λ fault. IsOfWriting fault) }
     {
         let answer = self.outcome();
         let Ok(text) = answer_text(self.alloc, self.world.history().entries(), answer) else {
@@ -98,7 +99,7 @@ impl Schedule {
         ensures ok { OnOk result (Appends (W.contents writer.old) (W.contents writer.new) (last_line self.now.world)) }
         ensures err { OnErr result (AppendsFront (W.contents writer.old) (W.contents writer.new)
             (last_line self.now.world)) }
-        ensures fault { IfErr result (λ fault. fault ≢ SessionFault.TooLong) }
+        ensures fault { IfErr result (λ fault. IsOfWriting fault) }
     {
         let count = self.world.history().entries().len();
         let Ok(text) = Verdict::Legal(count).text(self.alloc) else {
