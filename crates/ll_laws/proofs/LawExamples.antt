@@ -9,7 +9,7 @@ use Rattle.ll_rights.specs.declared.kind.Kind.TheVariants.{Reg, Dir}
 use Rattle.ll_rights.specs.declared.access.Access.{Access}
 use Rattle.ll_rights.specs.Map.{empty, checked, get, has, insert, remove, entries}
 use Rattle.ll_rights.specs.Right.{read_file}
-use Rattle.ll_path.specs.Path.{names_in}
+use Rattle.ll_path.specs.Path.{path_of_text}
 use Rattle.ll_path.specs.declared.target.Target.{Target}
 use Rattle.ll_path.specs.declared.target.Target.TheVariants.{Good}
 use Rattle.ll_rules.specs.Layer.{Layer}
@@ -39,7 +39,7 @@ use Rattle.ll_laws.proofs.Trees.{IsTree}
 use Rattle.ll_laws.proofs.Withholding.{no_refusal, entry_clients, bytes_are_withheld}
 
 abbrev path : List ℕ → Target
-path text = Good (names_in text)
+path text = Good (path_of_text text)
 
 abbrev set : ℕ → Access
 set rights = record { 0 = rights }
@@ -199,7 +199,7 @@ confined = record { there = refl; under = (0, omega arith, refl) }
 
 has_name : HasName cut file
 unfolding empty checked get insert remove entries numbers_from
-has_name = (names_in (codes "/a/f"), refl)
+has_name = (path_of_text (codes "/a/f"), refl)
 
 under : MovesUnder layer cut late
 under =
@@ -208,7 +208,7 @@ under =
 
 reached : InReach end layer file read_file
 unfolding empty checked get insert remove entries numbers_from
-reached = record { path = names_in (codes "/b/g"); names = refl; relevant = refl; granted = refl }
+reached = record { path = path_of_text (codes "/b/g"); names = refl; relevant = refl; granted = refl }
 
 -- so the file was within the layer's reach before it was moved
 pub reached_before : InReach cut layer file read_file

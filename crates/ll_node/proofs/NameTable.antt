@@ -19,7 +19,7 @@ use Rattle.ll_rights.specs.MapCodes.{same_list_map}
 use Rattle.ll_rights.specs.Map.{get, insert, remove, entries}
 use Rattle.ll_rights.proofs.Maps.{get-from_sorted, get-insert, get-remove, entries-from_sorted, same_map}
 use Rattle.ll_path.specs.Name.{IsName}
-use Rattle.ll_node.specs.Rows.{rows_of, names_in, AreRows}
+use Rattle.ll_node.specs.Rows.{rows_of, names_kept, AreRows}
 
 pub names_exact : IsAntisymmetric (slice_cmp nat_cmp)
 names_exact = slice_cmp-IsAntisymmetric nat_cmp-IsAntisymmetric
@@ -54,34 +54,34 @@ module _ {Y : Type 0} where
   names-rows_of (e ∷ es) = ap (λ rest. string_bytes e.0 ∷ rest) (names-rows_of es)
 
   -- the table's texts are the map's names
-  pub names-names_in : (table : BTreeMap (String Y) ℕ) → AreRows table → map (λ (e : List ℕ × ℕ). e.0) (entries (names_in table)) ≡ map (λ (text : String Y). string_bytes text) (keys table)
-  names-names_in table rows = ap (map (λ (e : List ℕ × ℕ). e.0)) (entries-from_sorted (slice_cmp nat_cmp) (rows_of table.entries) rows.0) ∙ names-rows_of table.entries
+  pub names-names_kept : (table : BTreeMap (String Y) ℕ) → AreRows table → map (λ (e : List ℕ × ℕ). e.0) (entries (names_kept table)) ≡ map (λ (text : String Y). string_bytes text) (keys table)
+  names-names_kept table rows = ap (map (λ (e : List ℕ × ℕ). e.0)) (entries-from_sorted (slice_cmp nat_cmp) (rows_of table.entries) rows.0) ∙ names-rows_of table.entries
 
-  pub length-names_in : (table : BTreeMap (String Y) ℕ) → AreRows table → length (entries (names_in table)) ≡ length table.entries
-  length-names_in table rows = ap length (entries-from_sorted (slice_cmp nat_cmp) (rows_of table.entries) rows.0) ∙ length-map table.entries (λ (e : String Y × ℕ). (string_bytes e.0, e.1))
+  pub length-names_kept : (table : BTreeMap (String Y) ℕ) → AreRows table → length (entries (names_kept table)) ≡ length table.entries
+  length-names_kept table rows = ap length (entries-from_sorted (slice_cmp nat_cmp) (rows_of table.entries) rows.0) ∙ length-map table.entries (λ (e : String Y × ℕ). (string_bytes e.0, e.1))
 
   -- the map answers what the table finds
-  pub get-names_in : (table : BTreeMap (String Y) ℕ) (name : List ℕ) → AreRows table → get (names_in table) name ≡ get_by_text table name
-  get-names_in table name rows = get-from_sorted (slice_cmp nat_cmp) (rows_of table.entries) name rows.0 ∙ find-rows_of table.entries name
+  pub get-names_kept : (table : BTreeMap (String Y) ℕ) (name : List ℕ) → AreRows table → get (names_kept table) name ≡ get_by_text table name
+  get-names_kept table name rows = get-from_sorted (slice_cmp nat_cmp) (rows_of table.entries) name rows.0 ∙ find-rows_of table.entries name
 
   module _ (old new : BTreeMap (String Y) ℕ) (name : List ℕ) (old_rows : AreRows old) (new_rows : AreRows new) where
     answers : (w : Option ℕ) → UpdatesBy string_cmp (λ (text : String Y). slice_cmp nat_cmp name (string_bytes text)) old new w → (other : List ℕ)
-        → get (names_in new) other ≡ cond (eq_by_cmp (slice_cmp nat_cmp) other name) w (get (names_in old) other)
+        → get (names_kept new) other ≡ cond (eq_by_cmp (slice_cmp nat_cmp) other name) w (get (names_kept old) other)
     answers w updates other =
-        get-names_in new other new_rows ∙ btree_map_updates_text name old new w updates other
-        ∙ (λ i. cond (same-bytes name other i) w (sym (get-names_in old other old_rows) i))
+        get-names_kept new other new_rows ∙ btree_map_updates_text name old new w updates other
+        ∙ (λ i. cond (same-bytes name other i) w (sym (get-names_kept old other old_rows) i))
 
     -- a name put in the table is put in the map
-    pub names_in-insert : (inode : ℕ) → UpdatesBy string_cmp (λ (text : String Y). slice_cmp nat_cmp name (string_bytes text)) old new (Some inode) → names_in new ≡ insert (names_in old) name inode
-    names_in-insert inode updates =
-        same_list_map _ _ (same_map nat_list_cmp_total names_exact (names_in new) (insert (names_in old) name inode)
-        (λ other. answers (Some inode) updates other ∙ sym (get-insert nat_list_cmp_total names_exact (names_in old) name inode other)))
+    pub names_kept-insert : (inode : ℕ) → UpdatesBy string_cmp (λ (text : String Y). slice_cmp nat_cmp name (string_bytes text)) old new (Some inode) → names_kept new ≡ insert (names_kept old) name inode
+    names_kept-insert inode updates =
+        same_list_map _ _ (same_map nat_list_cmp_total names_exact (names_kept new) (insert (names_kept old) name inode)
+        (λ other. answers (Some inode) updates other ∙ sym (get-insert nat_list_cmp_total names_exact (names_kept old) name inode other)))
 
     -- and one taken out of it is taken out of the map
-    pub names_in-remove : UpdatesBy string_cmp (λ (text : String Y). slice_cmp nat_cmp name (string_bytes text)) old new None → names_in new ≡ remove (names_in old) name
-    names_in-remove updates =
-        same_list_map _ _ (same_map nat_list_cmp_total names_exact (names_in new) (remove (names_in old) name)
-        (λ other. answers None updates other ∙ sym (get-remove nat_list_cmp_total names_exact (names_in old) name other)))
+    pub names_kept-remove : UpdatesBy string_cmp (λ (text : String Y). slice_cmp nat_cmp name (string_bytes text)) old new None → names_kept new ≡ remove (names_kept old) name
+    names_kept-remove updates =
+        same_list_map _ _ (same_map nat_list_cmp_total names_exact (names_kept new) (remove (names_kept old) name)
+        (λ other. answers None updates other ∙ sym (get-remove nat_list_cmp_total names_exact (names_kept old) name other)))
 
   -- ---- the rows stay in order, and names
 

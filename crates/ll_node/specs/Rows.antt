@@ -12,8 +12,8 @@ module _ {Y : Type 0} where
   abbrev pub rows_of : List (String Y × ℕ) → List (List ℕ × ℕ)
   rows_of entries = map (λ (e : String Y × ℕ). (string_bytes e.0, e.1)) entries
 
-  abbrev pub names_in : BTreeMap (String Y) ℕ → NameMap
-  names_in table = from_sorted (rows_of table.entries)
+  abbrev pub names_kept : BTreeMap (String Y) ℕ → NameMap
+  names_kept table = from_sorted (rows_of table.entries)
 
   -- the bytes strictly rise, and each text is a name
   abbrev pub AreRows : BTreeMap (String Y) ℕ → Type 0

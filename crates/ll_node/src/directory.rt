@@ -26,9 +26,9 @@ impl Model for Directory {
 
     ghost coded = { coded_names };
 
-    ghost use Rattle.ll_node.specs.Rows.{names_in, AreRows};
+    ghost use Rattle.ll_node.specs.Rows.{names_kept, AreRows};
 
-    ghost view = { λ directory. names_in directory.rows };
+    ghost view = { λ directory. names_kept directory.rows };
 
     ghost invariant = { λ directory. AreRows directory.rows };
 }

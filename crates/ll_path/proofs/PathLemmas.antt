@@ -10,32 +10,32 @@ use Rattle.ll_rights.specs.declared.errno.Errno.TheVariants.{EINVAL, ENAMETOOLON
 use Rattle.ll_rights.specs.Errno.{refuse}
 use Rattle.ll_path.specs.Word.{IsVisible}
 use Rattle.ll_path.specs.Name.{IsName}
-use Rattle.ll_path.specs.Path.{Path, names_in, is_no_name, is_long_name, text_refusals, path_text, is_root, parent, last_name}
+use Rattle.ll_path.specs.Path.{Path, path_of_text, is_no_name, is_long_name, path_refusals, path_text, is_root, parent, last_name}
 use Rattle.ll_path.proofs.Splits.{cut_at_slashes}
 use Rattle.ll_path.proofs.NameLemmas.{all_names, parts_bytes}
 
 -- ---- texts that spell a path
 
-pub names_in-more : (b : ℕ) (rest : List ℕ) → names_in (47 ∷ b ∷ rest) ≡ cut_at_slashes (b ∷ rest)
-names_in-more b rest =
+pub path_of_text-more : (b : ℕ) (rest : List ℕ) → path_of_text (47 ∷ b ∷ rest) ≡ cut_at_slashes (b ∷ rest)
+path_of_text-more b rest =
     let long : nat_lt (suc (suc (length rest))) 2 ≡ false = grind (arith, nat_tests) in
     ap (λ (test : Bool). cond test [] (cut_at_slashes (b ∷ rest))) long
 
-pub names_in-cut : (rest : List ℕ) → (length rest == 0) ≡ false → names_in (47 ∷ rest) ≡ cut_at_slashes rest
-names_in-cut [] e = absurd cc
-names_in-cut (b ∷ rest) e = names_in-more b rest
+pub path_of_text-cut : (rest : List ℕ) → (length rest == 0) ≡ false → path_of_text (47 ∷ rest) ≡ cut_at_slashes rest
+path_of_text-cut [] e = absurd cc
+path_of_text-cut (b ∷ rest) e = path_of_text-more b rest
 
-pub join-names_in : (rest : List ℕ) → join_with_byte 47 (names_in (47 ∷ rest)) ≡ rest
-join-names_in [] = refl
-join-names_in (b ∷ rest) = ap (join_with_byte 47) (names_in-more b rest) ∙ join_with_byte-slice_split 47 (b ∷ rest)
+pub join-path_of_text : (rest : List ℕ) → join_with_byte 47 (path_of_text (47 ∷ rest)) ≡ rest
+join-path_of_text [] = refl
+join-path_of_text (b ∷ rest) = ap (join_with_byte 47) (path_of_text-more b rest) ∙ join_with_byte-slice_split 47 (b ∷ rest)
 
 -- what a text is that has no refusals
 pub record SpellsPath (text : List ℕ) : Type 0 where
   pub fits : length text ≤ 4095
   pub slash : text ≡ 47 ∷ drop 1 text
-  pub named : list_any is_no_name (names_in text) ≡ false
-  pub short : list_any is_long_name (names_in text) ≡ false
-  pub few : length (names_in text) ≤ 64
+  pub named : list_any is_no_name (path_of_text text) ≡ false
+  pub short : list_any is_long_name (path_of_text text) ≡ false
+  pub few : length (path_of_text text) ≤ 64
 
 nothing : (xs ys : List Errno) → xs ++ ys ≡ [] → (xs ≡ []) × (ys ≡ [])
 nothing [] ys e = (refl, e)
@@ -58,13 +58,13 @@ pub starts_elsewhere : (text : List ℕ) → ((rest : List ℕ) → text ≢ 47 
 starts_elsewhere [] h = refl
 starts_elsewhere (b ∷ text) h = ap (λ (test : Bool). test && true) (ne_eqb 47 b (λ e. h text (ap (λ (x : ℕ). x ∷ text) (sym e))))
 
-pub spells_path : (text : List ℕ) → text_refusals text ≡ [] → SpellsPath text
+pub spells_path : (text : List ℕ) → path_refusals text ≡ [] → SpellsPath text
 spells_path text e =
     let long = refuse (nat_lt 4095 (length text)) ENAMETOOLONG in
     let rootless = refuse (not (starts_with nat_eq text (codes "/"))) EINVAL in
-    let unnamed = refuse (list_any is_no_name (names_in text)) EINVAL in
-    let long_names = refuse (list_any is_long_name (names_in text)) ENAMETOOLONG in
-    let many = refuse (nat_lt 64 (length (names_in text))) ENAMETOOLONG in
+    let unnamed = refuse (list_any is_no_name (path_of_text text)) EINVAL in
+    let long_names = refuse (list_any is_long_name (path_of_text text)) ENAMETOOLONG in
+    let many = refuse (nat_lt 64 (length (path_of_text text))) ENAMETOOLONG in
     let four = nothing (((long ++ rootless) ++ unnamed) ++ long_names) many e in
     let three = nothing ((long ++ rootless) ++ unnamed) long_names four.0 in
     let two = nothing (long ++ rootless) unnamed three.0 in
@@ -74,32 +74,32 @@ spells_path text e =
       slash = begins text (not-false _ (unrefused _ EINVAL one.1));
       named = unrefused _ EINVAL two.1;
       short = unrefused _ ENAMETOOLONG three.1;
-      few = ltb-false 64 (length (names_in text)) (unrefused _ ENAMETOOLONG four.1);
+      few = ltb-false 64 (length (path_of_text text)) (unrefused _ ENAMETOOLONG four.1);
     }
 
 -- a path's text spells it
-pub path_text-names_in : (text : List ℕ) → text_refusals text ≡ [] → path_text (names_in text) ≡ text
-path_text-names_in text e =
+pub path_text-path_of_text : (text : List ℕ) → path_refusals text ≡ [] → path_text (path_of_text text) ≡ text
+path_text-path_of_text text e =
     let slash = (spells_path text e).slash in
-    ap (λ (t : List ℕ). path_text (names_in t)) slash ∙ ap (λ (rest : List ℕ). 47 ∷ rest) (join-names_in (drop 1 text)) ∙ sym slash
+    ap (λ (t : List ℕ). path_text (path_of_text t)) slash ∙ ap (λ (rest : List ℕ). 47 ∷ rest) (join-path_of_text (drop 1 text)) ∙ sym slash
 
-pub join-names_in_text : (text : List ℕ) → text_refusals text ≡ [] → join_with_byte 47 (names_in text) ≡ drop 1 text
-join-names_in_text text e = ap (λ (t : List ℕ). join_with_byte 47 (names_in t)) (spells_path text e).slash ∙ join-names_in (drop 1 text)
+pub join-path_of_whole_text : (text : List ℕ) → path_refusals text ≡ [] → join_with_byte 47 (path_of_text text) ≡ drop 1 text
+join-path_of_whole_text text e = ap (λ (t : List ℕ). join_with_byte 47 (path_of_text t)) (spells_path text e).slash ∙ join-path_of_text (drop 1 text)
 
-name_bytes : (rest : List ℕ) → AllByRecursion IsVisible rest → AllByRecursion (AllByRecursion (λ b. IsVisible b × (b ≢ 47))) (names_in (47 ∷ rest))
+name_bytes : (rest : List ℕ) → AllByRecursion IsVisible rest → AllByRecursion (AllByRecursion (λ b. IsVisible b × (b ≢ 47))) (path_of_text (47 ∷ rest))
 name_bytes [] h = tt
-name_bytes (b ∷ rest) h = rw (names_in-more b rest) (parts_bytes (b ∷ rest) h)
+name_bytes (b ∷ rest) h = rw (path_of_text-more b rest) (parts_bytes (b ∷ rest) h)
 
 rest_visible : (text rest : List ℕ) → AllByRecursion IsVisible text → text ≡ 47 ∷ rest → AllByRecursion IsVisible rest
 rest_visible [] rest h e = absurd cc
 rest_visible (b ∷ text) rest h e = let same : text ≡ rest = cc in subst (AllByRecursion IsVisible) same h.1
 
 -- a path's names are names
-pub names_in-names : (text : List ℕ) → AllByRecursion IsVisible text → text_refusals text ≡ [] → All IsName (names_in text)
-names_in-names text visible e =
+pub path_of_text-names : (text : List ℕ) → AllByRecursion IsVisible text → path_refusals text ≡ [] → All IsName (path_of_text text)
+path_of_text-names text visible e =
     let spells = spells_path text e in
     let bytes = name_bytes (drop 1 text) (rest_visible text (drop 1 text) visible spells.slash) in
-    All-from_recursion IsName (names_in text) (all_names (names_in text) (subst (λ (t : List ℕ). AllByRecursion (AllByRecursion (λ b. IsVisible b × (b ≢ 47))) (names_in t)) (sym spells.slash) bytes) spells.named spells.short)
+    All-from_recursion IsName (path_of_text text) (all_names (path_of_text text) (subst (λ (t : List ℕ). AllByRecursion (AllByRecursion (λ b. IsVisible b × (b ≢ 47))) (path_of_text t)) (sym spells.slash) bytes) spells.named spells.short)
 
 -- ---- a path and its parent
 

@@ -11,12 +11,12 @@ use Rattle.ll_rights.specs.declared.errno.Errno.{Errno}
 use Rattle.ll_path.specs.declared.target.BadPath.{BadPath}
 use Rattle.ll_path.specs.declared.target.Target.{Target}
 use Rattle.ll_path.specs.declared.target.Target.TheVariants.{Good, Bad}
-use Rattle.ll_path.specs.Path.{text_refusals, path_text}
+use Rattle.ll_path.specs.Path.{path_refusals, path_text}
 use Rattle.ll_path.specs.Target.{IsTarget, target_text}
-use Rattle.ll_path.proofs.PathLemmas.{path_text-names_in}
+use Rattle.ll_path.proofs.PathLemmas.{path_text-path_of_text}
 
 pub target_of_text : (text : List ℕ) (target : Target) → IsTarget text target → target_text target ≡ text
-target_of_text text (Good path) h = ap path_text h.1 ∙ path_text-names_in text h.0
+target_of_text text (Good path) h = ap path_text h.1 ∙ path_text-path_of_text text h.0
 target_of_text text (Bad bad) h = h.0
 
 -- a refusal is known by its place among the refusals
@@ -24,12 +24,12 @@ errno_coded : Coded Errno
 errno_coded = coded_via coded_ℕ (tag_of the_type) (tag_one the_type (search rules))
 
 abbrev Refused : List ℕ × Errno → Type 0
-Refused b = slice_get (text_refusals b.0) 0 ≡ Some b.1
+Refused b = slice_get (path_refusals b.0) 0 ≡ Some b.1
 
 refused_once : (b : List ℕ × Errno) → IsProp (Refused b)
 refused_once b = hlevel (props, errno_coded)
 
-not_both : (text : List ℕ) (errno : Errno) → text_refusals text ≡ [] → slice_get (text_refusals text) 0 ≡ Some errno → ⊥
+not_both : (text : List ℕ) (errno : Errno) → path_refusals text ≡ [] → slice_get (path_refusals text) 0 ≡ Some errno → ⊥
 not_both text errno e h = none-some errno (sym (ap (λ (errnos : List Errno). slice_get errnos 0) e) ∙ h)
 
 same_bad : (one two : BadPath) → one.word ≡ two.word → one.errno ≡ two.errno → one ≡ two

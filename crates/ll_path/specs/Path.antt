@@ -11,8 +11,8 @@ abbrev pub Path : Type 0
 Path = List (List ℕ)
 
 -- what stands between a text's slashes (47). `/` has no name
-abbrev pub names_in : List ℕ → Path
-names_in text = if nat_lt (length text) 2 then [] else slice_split (λ b. b == 47) (drop 1 text)
+abbrev pub path_of_text : List ℕ → Path
+path_of_text text = if nat_lt (length text) 2 then [] else slice_split (λ b. b == 47) (drop 1 text)
 
 -- empty, or one of the two that this profile leaves out
 abbrev pub is_no_name : List ℕ → Bool
@@ -23,13 +23,13 @@ abbrev pub is_long_name : List ℕ → Bool
 is_long_name name = nat_lt 255 (length name)
 
 -- Why a word is no path: the first is given. With its final NUL a path has at most PATH_MAX, 4,096 bytes
-abbrev pub text_refusals : List ℕ → List Errno
-text_refusals text =
+abbrev pub path_refusals : List ℕ → List Errno
+path_refusals text =
     refuse (nat_lt 4095 (length text)) ENAMETOOLONG
     ++ refuse (not (starts_with nat_eq text (codes "/"))) EINVAL
-    ++ refuse (list_any is_no_name (names_in text)) EINVAL
-    ++ refuse (list_any is_long_name (names_in text)) ENAMETOOLONG
-    ++ refuse (nat_lt 64 (length (names_in text))) ENAMETOOLONG
+    ++ refuse (list_any is_no_name (path_of_text text)) EINVAL
+    ++ refuse (list_any is_long_name (path_of_text text)) ENAMETOOLONG
+    ++ refuse (nat_lt 64 (length (path_of_text text))) ENAMETOOLONG
 
 abbrev pub path_text : Path → List ℕ
 path_text path = 47 ∷ join_with_byte 47 path

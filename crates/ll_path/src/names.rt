@@ -3,7 +3,7 @@
 ghost use Rattle.std.specs.Prelude.{◌≡◌, ◌==◌, ℕ, List, [], ◌∷◌, Option, Some, None};
 ghost use Rattle.std.specs.List.{slice_split};
 ghost use Rattle.std.specs.Iterator.{YieldsFirstRef, item_count};
-ghost use Rattle.ll_path.specs.Path.{names_in};
+ghost use Rattle.ll_path.specs.Path.{path_of_text};
 
 use std::marker::Model;
 
@@ -39,7 +39,7 @@ impl<'a> Names<'a> {
 
     // The names of a path, of which this is all that follows its first slash.
     pub(crate) fn after_slash(text: &'a str) -> Names<'a>
-        ensures { result ≡ names_in (47 ∷ text.now) }
+        ensures { result ≡ path_of_text (47 ∷ text.now) }
     {
         if text.is_empty() {
             Names::none()

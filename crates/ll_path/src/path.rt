@@ -4,7 +4,7 @@ ghost use Rattle.std.specs.Prelude.{◌≡◌, ◌<◌, ◌≤◌, ◌+◌, ◌^
 ghost use Rattle.std.specs.List.{join_with_byte, list_any};
 ghost use Rattle.ll_path.specs.Word.{IsVisible, IsWord};
 ghost use Rattle.ll_path.specs.Name.{IsName, same_name};
-ghost use Rattle.ll_path.specs.Path.{names_in, is_no_name, is_long_name, text_refusals, path_text, is_root, parent, last_name, is_beneath, common};
+ghost use Rattle.ll_path.specs.Path.{path_of_text, is_no_name, is_long_name, path_refusals, path_text, is_root, parent, last_name, is_beneath, common};
 
 use crate::names::Names;
 use crate::word::Word;
@@ -20,13 +20,13 @@ pub struct Path {
 
 impl Model for Path {
     ghost use Rattle.std.specs.Prelude.{◌≡◌, ℕ, List, []};
-    ghost use Rattle.ll_path.specs.Path.{names_in, text_refusals};
+    ghost use Rattle.ll_path.specs.Path.{path_of_text, path_refusals};
 
     ghost Value = { List (List ℕ) };
 
-    ghost view = { λ path. names_in path.word };
+    ghost view = { λ path. path_of_text path.word };
 
-    ghost invariant = { λ path. text_refusals path.word ≡ [] };
+    ghost invariant = { λ path. path_refusals path.word ≡ [] };
 }
 
 fn is_same(this: &str, other: &str) -> bool
@@ -61,7 +61,7 @@ fn has_many_names(mut names: Names<'_>) -> bool
 
 // Why a text spells no path.
 fn refusal(text: &str) -> Option<Errno>
-    ensures { result ≡ slice_get (text_refusals text.now) 0 }
+    ensures { result ≡ slice_get (path_refusals text.now) 0 }
 {
     if text.len() > 4095 {
         return Some(Errno::ENAMETOOLONG);
@@ -97,8 +97,8 @@ impl Path {
     /// The path that a word spells. A word that spells none comes back with the reason. Takes no
     /// memory.
     pub fn parse(word: Word) -> Result<Path, (Word, Errno)>
-        ensures ok { IfOk result (λ path. (text_refusals word ≡ []) × (path ≡ names_in word)) }
-        ensures err { IfErr result (λ e. (e.0 ≡ word) × (slice_get (text_refusals word) 0 ≡ Some e.1)) }
+        ensures ok { IfOk result (λ path. (path_refusals word ≡ []) × (path ≡ path_of_text word)) }
+        ensures err { IfErr result (λ e. (e.0 ≡ word) × (slice_get (path_refusals word) 0 ≡ Some e.1)) }
     {
         match refusal(word.as_str()) {
             None => Ok(Path { word }),
@@ -109,7 +109,7 @@ impl Path {
     // The names with a slash between any two.
     fn joined(&self) -> &str
         ensures text { result.now ≡ join_with_byte 47 self.now }
-        ensures names { self.now ≡ names_in (47 ∷ result.now) }
+        ensures names { self.now ≡ path_of_text (47 ∷ result.now) }
         ensures visible { All (λ b. IsVisible b) result.now }
         ensures each { All IsName self.now }
         ensures few { length self.now ≤ 64 }
@@ -197,7 +197,7 @@ impl Path {
     pub fn as_str(&self) -> &str
         ensures text { result.now ≡ path_text self.now }
         ensures word { IsWord result.now }
-        ensures path { (text_refusals result.now ≡ []) × (self.now ≡ names_in result.now) }
+        ensures path { (path_refusals result.now ≡ []) × (self.now ≡ path_of_text result.now) }
     {
         self.word.as_str()
     }

@@ -1,7 +1,7 @@
 //! What stands in a call where a path is wanted.
 
 ghost use Rattle.std.specs.Prelude.{◌≡◌, Some, slice_get};
-ghost use Rattle.ll_path.specs.Path.{text_refusals};
+ghost use Rattle.ll_path.specs.Path.{path_refusals};
 ghost use Rattle.ll_path.specs.Word.{IsWord};
 
 use crate::path::Path;
@@ -13,7 +13,7 @@ use ll_rights::Errno;
 pub struct BadPath {
     pub word: Word,
     pub errno: Errno,
-    ghost refused: { slice_get (text_refusals word) 0 ≡ Some errno },
+    ghost refused: { slice_get (path_refusals word) 0 ≡ Some errno },
 }
 
 /// The path that a word spells, or the word where it spells none. So a call knows each of its

@@ -5,7 +5,7 @@ use Rattle.std.proofs.lemmas.Bool.{and_parts, cases_Bool, eqb-true}
 use Rattle.std.proofs.lemmas.Bool.Decides.{nat_tests}
 use Rattle.ll_rights.specs.declared.errno.Errno.{Errno}
 use Rattle.ll_path.specs.Word.{IsVisible, IsWord}
-use Rattle.ll_path.specs.Path.{text_refusals}
+use Rattle.ll_path.specs.Path.{path_refusals}
 use Rattle.ll_path.proofs.PathLemmas.{spells_path}
 use Rattle.ll_policy.specs.Value.{is_path}
 
@@ -35,12 +35,12 @@ slash_first text rest e = omega (arith, ap length e)
 
 word_of_path : (text : List ℕ) → is_path text ≡ true → IsWord text
 word_of_path text e =
-    let parts = and_parts (list_all is_visible text) (length (text_refusals text) == 0) e in
-    let spells = spells_path text (no_refusals (text_refusals text) parts.1) in
+    let parts = and_parts (list_all is_visible text) (length (path_refusals text) == 0) e in
+    let spells = spells_path text (no_refusals (path_refusals text) parts.1) in
     let fits : length text ≤ 4095 = spells.fits in
     (slash_first text (drop 1 text) spells.slash, omega arith, all_visible text parts.0)
 
-pub is_path-spelled : (text : List ℕ) → IsWord text → text_refusals text ≡ [] → is_path text ≡ true
+pub is_path-spelled : (text : List ℕ) → IsWord text → path_refusals text ≡ [] → is_path text ≡ true
 is_path-spelled text word none = rw (all_tested text word.2, none) refl
 
 pub is_path-no_word : (text : List ℕ) → (IsWord text → ⊥) → is_path text ≡ false

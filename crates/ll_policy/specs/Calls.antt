@@ -8,7 +8,7 @@ use Rattle.ll_rights.specs.declared.kind.Kind.{Kind}
 use Rattle.ll_rights.specs.Kind.{kind_text}
 use Rattle.ll_rights.specs.declared.access.Access.{Access}
 use Rattle.ll_rights.specs.Access.{access_text}
-use Rattle.ll_path.specs.Path.{names_in}
+use Rattle.ll_path.specs.Path.{path_of_text}
 use Rattle.ll_path.specs.declared.target.Target.{Target}
 use Rattle.ll_path.specs.declared.target.Target.TheVariants.{Good}
 use Rattle.ll_seq.specs.declared.call.AccessMode.TheVariants as ways
@@ -20,7 +20,7 @@ use Rattle.ll_policy.specs.Table.{text_at, tables_at}
 
 -- the path that a text spells
 abbrev pub path_to : List ℕ → Target
-path_to text = Good (names_in text)
+path_to text = Good (path_of_text text)
 
 -- each item gives a list, and these lists in order, joined, are the whole
 abbrev pub Joined : {A B : Type 0} → (A → List B → Type 0) → List A → List B → Type 0

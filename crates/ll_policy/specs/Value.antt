@@ -4,7 +4,7 @@ use Rattle.std.specs.List.{list_any, list_all}
 use Rattle.ll_rights.specs.declared.kind.Kind.TheVariants.{Reg, Dir, Sym, Fifo, Sock, Char, Block}
 use Rattle.ll_rights.specs.Kind.{kind_text}
 use Rattle.ll_rights.specs.Access.{access_text}
-use Rattle.ll_path.specs.Path.{text_refusals}
+use Rattle.ll_path.specs.Path.{path_refusals}
 
 -- there are two versions of the format
 abbrev pub is_version : ℤ → Bool
@@ -18,7 +18,7 @@ is_level (negsuc n) = false
 
 -- a text that spells a path: printed characters of ASCII, which no refusal of a path's text meets
 abbrev pub is_path : List ℕ → Bool
-is_path text = list_all (λ b. nat_le 0x21 b && nat_le b 0x7e) text && (length (text_refusals text) == 0)
+is_path text = list_all (λ b. nat_le 0x21 b && nat_le b 0x7e) text && (length (path_refusals text) == 0)
 
 -- a kind's name
 abbrev pub is_kind : List ℕ → Bool

@@ -21,13 +21,13 @@ pub(crate) struct PathText {
 impl Model for PathText {
     ghost use Rattle.std.specs.Prelude.{◌≡◌, ℕ, List, []};
     ghost use Rattle.ll_path.specs.Word.{IsWord};
-    ghost use Rattle.ll_path.specs.Path.{path_text, text_refusals};
+    ghost use Rattle.ll_path.specs.Path.{path_text, path_refusals};
 
     ghost Value = { List ℕ };
 
     ghost view = { λ kept. path_text kept.path };
 
-    ghost invariant = { λ kept. IsWord (path_text kept.path) × (text_refusals (path_text kept.path) ≡ []) };
+    ghost invariant = { λ kept. IsWord (path_text kept.path) × (path_refusals (path_text kept.path) ≡ []) };
 }
 
 impl PathText {

@@ -15,7 +15,7 @@ use Rattle.std.proofs.Math.Nat.{pow-le-pow_right}
 use Rattle.std.proofs.lemmas.List.Elements.{All-from_recursion}
 use Rattle.std.proofs.lemmas.List.Splits.{slice_split_none, slice_split_at, length-slice_split, join_with_byte-slice_split}
 use Rattle.ll_rights.specs.Right.{right_names, right_text, all_rights}
-use Rattle.ll_rights.specs.Access.{holds, names_among, names_in, access_text}
+use Rattle.ll_rights.specs.Access.{holds, names_among, set_names, access_text}
 
 -- ---- each name
 
@@ -146,8 +146,8 @@ pub record ReadSoFar (parts : List (List ℕ)) (k set : ℕ) : Type 0 where
   pub next : ℕ
   pub in_range : next ≤ 15
   pub below : set < 2 ^ next
-  pub names : names_in set ≡ take k parts
-  pub rest : (other : ℕ) → parts ≡ names_in other → names_among (rights_from next (15 - next)) other ≡ drop k parts
+  pub names : set_names set ≡ take k parts
+  pub rest : (other : ℕ) → parts ≡ set_names other → names_among (rights_from next (15 - next)) other ≡ drop k parts
 
 pub read_none : (parts : List (List ℕ)) → ReadSoFar parts 0 0
 read_none parts = record { next = 0; in_range = omega arith; below = omega arith; names = none_above 0 15 0 0 (omega arith) (omega arith); rest = λ other same. sym same }
@@ -162,7 +162,7 @@ pub read_more : (parts : List (List ℕ)) (k set : ℕ) (part : List ℕ) (right
 read_more parts k set part right only so_far within at same known is below =
     let under : set < 2 ^ right = omega arith in
     let joined : bit_or set only ≡ set + 2 ^ right = ap (bit_or set) is ∙ or_comm set (2 ^ right) ∙ ap (λ n. bit_or n set) (omega arith) ∙ or_shifted 1 right set under ∙ omega arith in
-    let pushed : names_in (set + 2 ^ right) ≡ take k parts ++ part ∷ [] = names_push 0 15 set right under (omega arith) (omega arith) ∙ rw (so_far.names, same) refl in
+    let pushed : set_names (set + 2 ^ right) ≡ take k parts ++ part ∷ [] = names_push 0 15 set right under (omega arith) (omega arith) ∙ rw (so_far.names, same) refl in
     record {
       next = right + 1;
       in_range = omega arith;
@@ -176,19 +176,19 @@ read_more parts k set part right only so_far within at same known is below =
     }
 
 pub read_no_name : (parts : List (List ℕ)) (k set : ℕ) (part : List ℕ) → ReadSoFar parts k set → k < length parts → part ≡ get_or parts k part
-    → ((right : ℕ) → right < 15 → part ≢ right_text right) → (other : ℕ) → parts ≢ names_in other
+    → ((right : ℕ) → right < 15 → part ≢ right_text right) → (other : ℕ) → parts ≢ set_names other
 read_no_name parts k set part so_far within at unknown other names =
     let found = is_name so_far.next (15 - so_far.next) other part (drop (k + 1) parts) (so_far.rest other names ∙ part_at parts k part within at) in
     unknown found.0 (omega (arith, found.1, so_far.in_range)) found.2
 
 pub read_too_low : (parts : List (List ℕ)) (k set : ℕ) (part : List ℕ) (right only : ℕ) → ReadSoFar parts k set → k < length parts → part ≡ get_or parts k part
-    → part ≡ right_text right → right < 15 → only ≡ 2 ^ right → only ≤ set → (other : ℕ) → parts ≢ names_in other
+    → part ≡ right_text right → right < 15 → only ≡ 2 ^ right → only ≤ set → (other : ℕ) → parts ≢ set_names other
 read_too_low parts k set part right only so_far within at same known is above other names =
     let left = so_far.rest other names ∙ part_at parts k part within at in
     let found = next_name so_far.next (15 - so_far.next) other part (drop (k + 1) parts) right left (omega (arith, so_far.in_range)) known same in
     omega (arith, so_far.below, pow-le-pow_right {n = 2} (omega arith) {i = so_far.next} {j = right} found.from)
 
-pub read_all : (parts : List (List ℕ)) (k set : ℕ) → ReadSoFar parts k set → length parts ≤ k → (set < 2 ^ 15) × (parts ≡ names_in set)
+pub read_all : (parts : List (List ℕ)) (k set : ℕ) → ReadSoFar parts k set → length parts ≤ k → (set < 2 ^ 15) × (parts ≡ set_names set)
 read_all parts k set so_far all =
     (omega (arith, so_far.below, pow-le-pow_right {n = 2} (omega arith) {i = so_far.next} {j = 15} so_far.in_range), sym (so_far.names ∙ take_all k parts all))
 
@@ -211,7 +211,7 @@ below_again first (suc count) set small names = elim (cases_Bool (holds set firs
       ])
 ]
 
-some_names : (set : ℕ) → 0 < set → set < 2 ^ 15 → names_in set ≢ []
+some_names : (set : ℕ) → 0 < set → set < 2 ^ 15 → set_names set ≢ []
 some_names set some small names = omega (arith, below_again 0 15 set small names)
 
 known_from : (k first count : ℕ) → first + count ≤ 15 → AllByRecursion (λ right. right < 15) (take k (rights_from first count))
@@ -226,7 +226,7 @@ plain_names (right ∷ rights) set known = elim (cases_Bool (holds set right)) [
   | inr missing ↦ rw (names_no right rights set missing) (plain_names rights set known.1)
 ]
 
-plain_in : (set : ℕ) → AllByRecursion IsPlain (names_in set)
+plain_in : (set : ℕ) → AllByRecursion IsPlain (set_names set)
 plain_in set = plain_names all_rights set (known_from 15 0 15 (omega arith))
 
 split_join : (part : List ℕ) (parts : List (List ℕ)) → AllByRecursion IsPlain (part ∷ parts) → slice_split (λ b. b == 44) (join_with_byte 44 (part ∷ parts)) ≡ part ∷ parts
@@ -254,7 +254,7 @@ pub text_none : access_text 0 ≡ codes "none"
 unfolding access_text
 text_none = refl
 
-pub text_names : (set : ℕ) → 0 < set → set < 2 ^ 15 → access_text set ≡ join_with_byte 44 (names_in set)
+pub text_names : (set : ℕ) → 0 < set → set < 2 ^ 15 → access_text set ≡ join_with_byte 44 (set_names set)
 unfolding access_text
 text_names set some small =
     let not_none : eqb set 0 ≡ false = ne_eqb set 0 (λ z. omega arith) in
@@ -269,20 +269,20 @@ text_number set large =
     rw (not_none, unknown) refl
 
 -- the parts of a text are no empty list, so their set isn't empty
-pub text_from_names : (text : List ℕ) (set : ℕ) → set < 2 ^ 15 → slice_split (λ b. b == 44) text ≡ names_in set → text ≡ access_text set
+pub text_from_names : (text : List ℕ) (set : ℕ) → set < 2 ^ 15 → slice_split (λ b. b == 44) text ≡ set_names set → text ≡ access_text set
 text_from_names text set small parts = elim (cases_lt 0 set) [
   | inl some ↦ sym (text_names set some small ∙ rw (← parts) (join_with_byte-slice_split 44 text))
   | inr le ↦ (
-      let none : names_in set ≡ [] = none_above 0 15 set 0 (omega arith) (omega arith) in
+      let none : set_names set ≡ [] = none_above 0 15 set 0 (omega arith) (omega arith) in
       let long : length (slice_split (λ b. b == 44) text) ≡ 0 = ap length (parts ∙ none) in
       absurd (omega (arith, length-slice_split (λ b. b == 44) text)))
 ]
 
-pub parts_of_text : (set : ℕ) → 0 < set → set < 2 ^ 15 → slice_split (λ b. b == 44) (access_text set) ≡ names_in set
-parts_of_text set some small = ap (slice_split (λ b. b == 44)) (text_names set some small) ∙ split_again (names_in set) (some_names set some small) (plain_in set)
+pub parts_of_text : (set : ℕ) → 0 < set → set < 2 ^ 15 → slice_split (λ b. b == 44) (access_text set) ≡ set_names set
+parts_of_text set some small = ap (slice_split (λ b. b == 44)) (text_names set some small) ∙ split_again (set_names set) (some_names set some small) (plain_in set)
 
 pub letter_of_text : (set : ℕ) → 0 < set → set < 2 ^ 15 → 57 < get_or (access_text set) 0 0
-letter_of_text set some small = rw (text_names set some small) (first_letter (names_in set) (some_names set some small) (plain_in set))
+letter_of_text set some small = rw (text_names set some small) (first_letter (set_names set) (some_names set some small) (plain_in set))
 
 -- ---- writing names from left to right
 

@@ -25,12 +25,12 @@ known_set abi = if nat_lt abi 2 then 0x1fff else if nat_lt abi 3 then 0x3fff els
 unfoldable pub names_among : List ℕ → ℕ → List (List ℕ)
 names_among rights set = map right_text (filter (holds set) rights)
 
-abbrev pub names_in : ℕ → List (List ℕ)
-names_in set = names_among all_rights set
+abbrev pub set_names : ℕ → List (List ℕ)
+set_names set = names_among all_rights set
 
 -- own: `none`; the names, joined by commas (44); or with a bit that is no right's `0x` and digits in base 16, in lower
 -- case, with no leading zero
 unfoldable pub access_text : ℕ → List ℕ
 access_text set = if set == 0 then codes "none"
-    else if nat_lt set (2 ^ 15) then join_with_byte 44 (names_in set)
+    else if nat_lt set (2 ^ 15) then join_with_byte 44 (set_names set)
     else codes "0x" ++ map digit_char (digits_of 16 set)

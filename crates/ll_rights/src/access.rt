@@ -4,7 +4,7 @@ ghost use Rattle.std.specs.Prelude.{⊤, ◌≡◌, ◌≢◌, ◌<◌, ◌≤�
 ghost use Rattle.std.specs.List.{join_with_byte, slice_split, list_all};
 ghost use Rattle.std.specs.Char.{digit_char};
 ghost use Rattle.std.specs.Int.Digits.{digits_of};
-ghost use Rattle.ll_rights.specs.Access.{holds, is_within, known_set, names_in, access_text};
+ghost use Rattle.ll_rights.specs.Access.{holds, is_within, known_set, set_names, access_text};
 
 use crate::abi::Abi;
 use crate::right::Right;
@@ -130,7 +130,7 @@ impl Access {
 
     // the names of the rights, joined by commas
     fn names(self, alloc: Global) -> Result<String, AllocError>
-        ensures { IfOk result (λ text. string_bytes text ≡ join_with_byte 44 (names_in self.0)) }
+        ensures { IfOk result (λ text. string_bytes text ≡ join_with_byte 44 (set_names self.0)) }
     {
         let mut text = String::new(alloc);
         for right in Right::ALL {
@@ -146,8 +146,8 @@ impl Access {
 
     // each name's right stands above those of the names before it
     fn parse_names(text: &str) -> Option<Access>
-        ensures found { IfSome result (λ access. (access.0 < 2 ^ 15) × (slice_split (λ b. b == 44) text.now ≡ names_in access.0)) }
-        ensures none { IfNone result ((set : ℕ) → slice_split (λ b. b == 44) text.now ≢ names_in set) }
+        ensures found { IfSome result (λ access. (access.0 < 2 ^ 15) × (slice_split (λ b. b == 44) text.now ≡ set_names access.0)) }
+        ensures none { IfNone result ((set : ℕ) → slice_split (λ b. b == 44) text.now ≢ set_names set) }
     {
         let mut set = Access(0);
         for name in text.split(',') {

@@ -6,7 +6,7 @@ use Rattle.ll_rights.specs.declared.errno.Errno.TheVariants.{ENOENT, EEXIST, ENO
 use Rattle.ll_rights.specs.declared.access.Access.{Access}
 use Rattle.ll_rights.specs.Right as right
 use Rattle.ll_rights.specs.Map.{empty, checked, get, insert, remove, entries}
-use Rattle.ll_path.specs.Path.{names_in}
+use Rattle.ll_path.specs.Path.{path_of_text}
 use Rattle.ll_path.specs.declared.target.Target.{Target}
 use Rattle.ll_path.specs.declared.target.Target.TheVariants.{Good}
 use Rattle.ll_decide.specs.declared.denial.Cause.{Cause}
@@ -49,7 +49,7 @@ replies room calls = replies_from (connected room) calls
 
 -- for texts that do spell a path
 abbrev path : List ℕ → Target
-path text = Good (names_in text)
+path text = Good (path_of_text text)
 
 abbrev mode : AccessMode → Mode
 mode access = record { access = access; truncate = false; creation = Never }
@@ -306,7 +306,7 @@ pub a_refused_make_takes_no_number : named (state_after (connected 64) (
     ∷ Make Dir (path (codes "/a"))
     ∷ Make Reg (path (codes "/b"))
     ∷ []))
-    (names_in (codes "/b"))
+    (path_of_text (codes "/b"))
     ≡ Some 3
 unfolding empty checked get insert remove entries numbers_from
 a_refused_make_takes_no_number = refl

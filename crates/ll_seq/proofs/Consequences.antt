@@ -79,13 +79,13 @@ five a b c d e =
     (if_refused d ENAMETOOLONG (omega arith, omega arith)))
     (if_refused e ENAMETOOLONG (omega arith, omega arith))
 
-word_fine : (text : List ℕ) → AllFine (paths.text_refusals text)
+word_fine : (text : List ℕ) → AllFine (paths.path_refusals text)
 word_fine text =
-    five (nat_lt 4095 (length text)) (not (starts_with nat_eq text (codes "/"))) (list_any paths.is_no_name (paths.names_in text)) (list_any paths.is_long_name (paths.names_in text)) (nat_lt 64 (length (paths.names_in text)))
+    five (nat_lt 4095 (length text)) (not (starts_with nat_eq text (codes "/"))) (list_any paths.is_no_name (paths.path_of_text text)) (list_any paths.is_long_name (paths.path_of_text text)) (nat_lt 64 (length (paths.path_of_text text)))
 
 target_fine : (t : Target) → AllFine (bad_text t)
 target_fine (Good p) = tt
-target_fine (Bad word) = (first_fine (paths.text_refusals word.word) word.errno (word_fine word.word) word.refused, tt)
+target_fine (Bad word) = (first_fine (paths.path_refusals word.word) word.errno (word_fine word.word) word.refused, tt)
 
 step_fine : (k : Option Kind) → AllFine (no_directory k)
 step_fine None = ((omega arith, omega arith), tt)

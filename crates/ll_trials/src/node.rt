@@ -5,9 +5,9 @@ use ll_path::Name;
 use ll_rights::{Errno, Kind};
 use std::alloc::{AllocError, Global};
 
-/// What is asked of a slot.
+/// A call on a slot.
 #[derive(Clone, Copy)]
-enum Ask {
+enum SlotCall {
     Insert(&'static str, u64),
     Replace(&'static str, u64),
     Rename(&'static str, &'static str),
@@ -47,14 +47,14 @@ fn set_len(slot: &mut Slot, len: u64) -> Told {
     slot.set_len(len).map(|()| 0)
 }
 
-fn told(slot: &mut Slot, ask: Ask) -> Told {
-    match ask {
-        Ask::Insert(name, inode) => insert(slot, name, inode),
-        Ask::Replace(name, inode) => slot.replace(name, inode),
-        Ask::Rename(old, new) => rename(slot, old, new),
-        Ask::Remove(name) => slot.remove(name),
-        Ask::WriteAt(offset, bytes) => write_at(slot, offset, bytes),
-        Ask::SetLen(len) => set_len(slot, len),
+fn told(slot: &mut Slot, call: SlotCall) -> Told {
+    match call {
+        SlotCall::Insert(name, inode) => insert(slot, name, inode),
+        SlotCall::Replace(name, inode) => slot.replace(name, inode),
+        SlotCall::Rename(old, new) => rename(slot, old, new),
+        SlotCall::Remove(name) => slot.remove(name),
+        SlotCall::WriteAt(offset, bytes) => write_at(slot, offset, bytes),
+        SlotCall::SetLen(len) => set_len(slot, len),
     }
 }
 
@@ -76,38 +76,38 @@ fn has_bytes(slot: &Slot, want: &[u8]) -> Result<bool, AllocError> {
     Ok(read.as_slice() == want)
 }
 
-const DIRECTORY: &[(Ask, Told)] = &[
-    (Ask::Insert("b", 2), Ok(0)),
-    (Ask::Insert("ab", 3), Ok(0)),
-    (Ask::Insert("B", 4), Ok(0)),
-    (Ask::Insert("a", 5), Ok(0)),
-    (Ask::Insert("a", 9), Err(Errno::EEXIST)),
-    (Ask::Replace("a", 6), Ok(5)),
-    (Ask::Replace("a", 6), Ok(6)),
-    (Ask::Replace("c", 6), Err(Errno::ENOENT)),
-    (Ask::Rename("b", "a"), Err(Errno::EEXIST)),
-    (Ask::Rename("c", "a"), Err(Errno::ENOENT)),
-    (Ask::Rename("b", "A"), Ok(0)),
-    (Ask::Remove("ab"), Ok(3)),
-    (Ask::Remove("ab"), Err(Errno::ENOENT)),
+const DIRECTORY: &[(SlotCall, Told)] = &[
+    (SlotCall::Insert("b", 2), Ok(0)),
+    (SlotCall::Insert("ab", 3), Ok(0)),
+    (SlotCall::Insert("B", 4), Ok(0)),
+    (SlotCall::Insert("a", 5), Ok(0)),
+    (SlotCall::Insert("a", 9), Err(Errno::EEXIST)),
+    (SlotCall::Replace("a", 6), Ok(5)),
+    (SlotCall::Replace("a", 6), Ok(6)),
+    (SlotCall::Replace("c", 6), Err(Errno::ENOENT)),
+    (SlotCall::Rename("b", "a"), Err(Errno::EEXIST)),
+    (SlotCall::Rename("c", "a"), Err(Errno::ENOENT)),
+    (SlotCall::Rename("b", "A"), Ok(0)),
+    (SlotCall::Remove("ab"), Ok(3)),
+    (SlotCall::Remove("ab"), Err(Errno::ENOENT)),
 ];
 
-const FILE: &[(Ask, Told)] = &[
-    (Ask::SetLen(40), Ok(0)),
-    (Ask::SetLen(2), Ok(0)),
-    (Ask::WriteAt(0, b"hi"), Ok(0)),
-    (Ask::WriteAt(4, b"!"), Ok(0)),
-    (Ask::WriteAt(u64::MAX, b""), Ok(0)),
-    (Ask::WriteAt(65_536, b"x"), Err(Errno::EFBIG)),
-    (Ask::SetLen(65_537), Err(Errno::EFBIG)),
-    (Ask::Insert("a", 2), Err(Errno::EINVAL)),
-    (Ask::Remove("a"), Err(Errno::ENOENT)),
+const FILE: &[(SlotCall, Told)] = &[
+    (SlotCall::SetLen(40), Ok(0)),
+    (SlotCall::SetLen(2), Ok(0)),
+    (SlotCall::WriteAt(0, b"hi"), Ok(0)),
+    (SlotCall::WriteAt(4, b"!"), Ok(0)),
+    (SlotCall::WriteAt(u64::MAX, b""), Ok(0)),
+    (SlotCall::WriteAt(65_536, b"x"), Err(Errno::EFBIG)),
+    (SlotCall::SetLen(65_537), Err(Errno::EFBIG)),
+    (SlotCall::Insert("a", 2), Err(Errno::EINVAL)),
+    (SlotCall::Remove("a"), Err(Errno::ENOENT)),
 ];
 
-fn after(alloc: Global, kind: Kind, asks: &[(Ask, Told)]) -> Option<Slot> {
+fn after(alloc: Global, kind: Kind, calls: &[(SlotCall, Told)]) -> Option<Slot> {
     let mut slot = Slot::new(alloc, kind);
-    for (ask, want) in asks {
-        if told(&mut slot, *ask) != *want {
+    for (call, want) in calls {
+        if told(&mut slot, *call) != *want {
             return None;
         }
     }

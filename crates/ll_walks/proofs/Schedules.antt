@@ -4,7 +4,7 @@ use Rattle.std.specs.Option.{option_map_or}
 use Rattle.ll_rights.specs.declared.kind.Kind.TheVariants.{Reg, Dir}
 use Rattle.ll_rights.specs.declared.errno.Errno.TheVariants.{ENOENT, ENOTEMPTY, HistoryFull}
 use Rattle.ll_rights.specs.Map.{empty, checked, get, insert, remove, entries, from_sorted}
-use Rattle.ll_path.specs.Path.{names_in}
+use Rattle.ll_path.specs.Path.{path_of_text}
 use Rattle.ll_path.specs.declared.target.Target.{Target}
 use Rattle.ll_path.specs.declared.target.Target.TheVariants.{Good}
 use Rattle.ll_seq.specs.declared.call.AccessMode.{AccessMode}
@@ -56,7 +56,7 @@ lines w [] = ([], length w.history)
 lines w (l ∷ ls) = let r = line w l in let rest = lines r.1 ls in (r.0 ∷ rest.0, rest.1)
 
 abbrev path : List ℕ → Target
-path text = Good (names_in text)
+path text = Good (path_of_text text)
 
 abbrev mode : AccessMode → Mode
 mode access = record { access = access; truncate = false; creation = Never }

@@ -9,7 +9,7 @@ use Rattle.std.proofs.lemmas.Nat.{mod-pow-add}
 use Rattle.std.proofs.lemmas.Bool.{cases_lt, cases_Bool, ne_eqb, eqb-true, eqb-false, agree_below_at}
 use Rattle.std.proofs.lemmas.Slice.Eq.{bytes_eq-Decides}
 use Rattle.ll_rights.specs.Right.{right_names, right_text}
-use Rattle.ll_rights.specs.Access.{holds, names_among, names_in, access_text}
+use Rattle.ll_rights.specs.Access.{holds, names_among, set_names, access_text}
 use Rattle.ll_rights.proofs.RightNames.{names_yes, names_no, names_end, text_none, text_number, parts_of_text, letter_of_text}
 use Rattle.ll_rights.proofs.Hex.{reads_back}
 
@@ -63,7 +63,7 @@ set_of_names first (suc count) set fit small =
     not_one : (n : ℕ) → (n == 1) ≡ false → n ≢ 1
     not_one n e = eqb-false n 1 e
 
-set_of_own : (set : ℕ) → set < 2 ^ 15 → set_of (names_in set) ≡ set
+set_of_own : (set : ℕ) → set < 2 ^ 15 → set_of (set_names set) ≡ set
 set_of_own set small = omega (arith, set_of_names 0 15 set (omega arith) small)
 
 -- ---- the set whose text this is

@@ -14,7 +14,7 @@ use Rattle.ll_rights.specs.declared.kind.Kind.{Kind}
 use Rattle.ll_rights.specs.declared.kind.Kind.TheVariants as kinds
 use Rattle.ll_rights.specs.declared.errno.Errno.{Errno}
 use Rattle.ll_rights.specs.declared.errno.Errno.TheVariants as errnos
-use Rattle.ll_rights.specs.Access.{holds, names_among, names_in, access_text}
+use Rattle.ll_rights.specs.Access.{holds, names_among, set_names, access_text}
 use Rattle.ll_rights.specs.Errno.{errno_number, errno_text}
 use Rattle.ll_rights.specs.Kind.{kind_text}
 use Rattle.ll_rights.specs.Right.{right_text, all_rights}
@@ -114,7 +114,7 @@ rights_size : (set : ℕ) → set < 2 ^ 64 → length (access_text set) ≤ 300
 rights_size set h = elim (cases_lt 0 set) [
   | inr le ↦ (let none : set ≡ 0 = omega arith in rw (none, text_none) (omega arith))
   | inl some ↦ elim (cases_lt set 32768) [
-    | inl known ↦ rw (text_names set some known) (omega (arith, joined_size 44 (names_in set), among_size all_rights set, few_rights))
+    | inl known ↦ rw (text_names set some known) (omega (arith, joined_size 44 (set_names set), among_size all_rights set, few_rights))
     | inr unknown ↦ rw (text_number set unknown) (omega (arith, length-map (digits_of 16 set) digit_char, length-digits_of-le 16 16 set (omega arith) h))
   ]
 ]

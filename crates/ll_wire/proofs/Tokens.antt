@@ -17,7 +17,7 @@ use Rattle.ll_rights.specs.declared.kind.Kind.{Kind}
 use Rattle.ll_rights.specs.declared.kind.Kind.TheVariants as kinds
 use Rattle.ll_rights.specs.Kind.{kind_text}
 use Rattle.ll_rights.specs.Right.{right_text, all_rights}
-use Rattle.ll_rights.specs.Access.{holds, names_among, names_in, access_text}
+use Rattle.ll_rights.specs.Access.{holds, names_among, set_names, access_text}
 use Rattle.ll_rights.proofs.RightNames.{names_yes, names_no, names_end, text_none, text_names, text_number}
 use Rattle.ll_path.specs.Word.{IsVisible}
 use Rattle.ll_seq.specs.declared.call.AccessMode.{AccessMode}
@@ -142,7 +142,7 @@ rights_token : (set : ℕ) → IsToken (access_text set)
 rights_token set = elim (cases_lt 0 set) [
   | inr le ↦ (let none : set ≡ 0 = omega arith in rw (none, text_none) (visible_is (codes "none") refl))
   | inl some ↦ elim (cases_lt set 32768) [
-    | inl known ↦ rw (text_names set some known) (join_token (names_in set) (names_tokens all_rights set refl))
+    | inl known ↦ rw (text_names set some known) (join_token (set_names set) (names_tokens all_rights set refl))
     | inr unknown ↦ rw (text_number set unknown)
         (all_append IsVisible (codes "0x") (map digit_char (digits_of 16 set)) (visible_is (codes "0x") refl) (hex_token (digits_of 16 set) (all_below_base_digits_of 16 set (omega arith))))
   ]

@@ -4,7 +4,7 @@ use Rattle.std.specs.BTreeMap.{keys}
 use Rattle.ll_rights.specs.Map.{entries}
 use Rattle.ll_seq.specs.Listed.{AreListed}
 use Rattle.ll_node.specs.Slot.{NameMap}
-use Rattle.ll_node.proofs.NameTable.{names-names_in}
+use Rattle.ll_node.proofs.NameTable.{names-names_kept}
 use Rattle.ll_node.proofs.RisingNames.{keys_listed, listed_first}
 use Rattle.ll_node.proofs.directory.Directory.names.Goals as goal
 
@@ -18,7 +18,7 @@ pub loop-text-init : goal.loop-text-init
 loop-text-init c =
     ap (λ (told : List (List ℕ)). told ++ texts_told c.into_iter-text-iterator.result) c.new-listing.ensures
     ∙ ap texts_told (c.into_iter-text-iterator.ensures.into_iter_gives ∙ c.keys-text-items.ensures.rest)
-    ∙ sym (names-names_in c.self.inside.rows c.self.invariant)
+    ∙ sym (names-names_kept c.self.inside.rows c.self.invariant)
     ∙ ap names_told c.self.view_is
 
 -- the names so far and this one begin the table's, which are listed
@@ -29,6 +29,6 @@ push-requires c =
     ∙ sym (ap (λ (texts : List (String Global)). c.loop-text.listing ++ texts_told texts) c.in-Some.ensures.steps)
     ∙ c.loop-text.invariant
     ∙ sym (ap names_told c.self.view_is)
-    ∙ names-names_in c.self.inside.rows c.self.invariant in
+    ∙ names-names_kept c.self.inside.rows c.self.invariant in
     listed_first c.loop-text.listing c.in_ok-from_text.field-0 (texts_told c.next.new.self)
     (subst AreListed (sym begins) (keys_listed c.self.inside.rows c.keys-text-items.ensures.ordered c.self.invariant))

@@ -3,8 +3,8 @@ use Rattle.std.specs.Option.{option_map_or}
 use Rattle.std.proofs.Common.{sym, ap, ◌∙◌, rules}
 use Rattle.ll_rights.specs.Map.{get, insert}
 use Rattle.ll_node.specs.Slot.{NameMap, replaced}
-use Rattle.ll_node.specs.Rows.{names_in}
-use Rattle.ll_node.proofs.NameTable.{get-names_in, names_in-insert, AreRows-same_keys}
+use Rattle.ll_node.specs.Rows.{names_kept}
+use Rattle.ll_node.proofs.NameTable.{get-names_kept, names_kept-insert, AreRows-same_keys}
 use Rattle.ll_node.proofs.directory.Directory.replace.Goals as goal
 
 replaced_there : (names : NameMap) (name : List ℕ) (inode old : ℕ) → Some old ≡ get names name → insert names name inode ≡ replaced names name inode
@@ -16,14 +16,14 @@ replaced_missing names name inode missing = ap (λ o. option_map_or (λ (_ : ℕ
 pub returns-in_err-place-clause-found : goal.returns-in_err-place-clause-found
 returns-in_err-place-clause-found c =
     c.from_residual.ensures ∙ c.in_err-place.ensures.value
-    ∙ sym (get-names_in c.self.inside.rows c.args.name.now c.self.invariant)
+    ∙ sym (get-names_kept c.self.inside.rows c.args.name.now c.self.invariant)
     ∙ ap (λ (names : NameMap). get names c.args.name.now) c.self.view_is
 
 pub returns-in_err-place-clause-now : goal.returns-in_err-place-clause-now
 returns-in_err-place-clause-now c =
-    ap names_in c.get_mut.follows.holds-at-none ∙ c.self.view_is
+    ap names_kept c.get_mut.follows.holds-at-none ∙ c.self.view_is
     ∙ replaced_missing c.args.self.now c.args.name.now c.args.inode
-    (c.in_err-place.ensures.value ∙ sym (get-names_in c.self.inside.rows c.args.name.now c.self.invariant) ∙ ap (λ (names : NameMap). get names c.args.name.now) c.self.view_is)
+    (c.in_err-place.ensures.value ∙ sym (get-names_kept c.self.inside.rows c.args.name.now c.self.invariant) ∙ ap (λ (names : NameMap). get names c.args.name.now) c.self.view_is)
 
 pub invariant_of-self-2 : goal.invariant_of-self-2
 invariant_of-self-2 c =
@@ -33,12 +33,12 @@ invariant_of-self-2 c =
 pub returns-clause-found : goal.returns-clause-found
 returns-clause-found c =
     c.in_ok-place.ensures.value
-    ∙ sym (get-names_in c.self.inside.rows c.args.name.now c.self.invariant)
+    ∙ sym (get-names_kept c.self.inside.rows c.args.name.now c.self.invariant)
     ∙ ap (λ (names : NameMap). get names c.args.name.now) c.self.view_is
 
 pub returns-clause-now : goal.returns-clause-now
 returns-clause-now c =
     let wrote = c.get_mut.follows.holds c.args.inode in
-    names_in-insert c.self.inside.rows (c.get_mut.follows.lender c.args.inode) c.args.name.now c.self.invariant (invariant_of-self-2 c) c.args.inode (wrote.3 (search rules))
+    names_kept-insert c.self.inside.rows (c.get_mut.follows.lender c.args.inode) c.args.name.now c.self.invariant (invariant_of-self-2 c) c.args.inode (wrote.3 (search rules))
     ∙ ap (λ (names : NameMap). insert names c.args.name.now c.args.inode) c.self.view_is
     ∙ replaced_there c.args.self.now c.args.name.now c.args.inode c.in_ok-place.place.now (returns-clause-found c)

@@ -1,16 +1,16 @@
 use Rattle.std.proofs.Common.{◌≡◌, ◌==◌, ◌++◌, ◌∷◌, [], List, ℕ, false, None, length, sym, ◌∙◌}
 use Rattle.std.specs.Str.Pattern.{RFindsChar, SplitsAroundMatch}
-use Rattle.ll_path.specs.Path.{Path, names_in}
+use Rattle.ll_path.specs.Path.{Path, path_of_text}
 use Rattle.ll_path.proofs.Splits.{cut_at_slashes, rsplit_parts, rsplit_none}
-use Rattle.ll_path.proofs.PathLemmas.{names_in-cut, front_is_parent, end_is_last_name, end_is_name}
+use Rattle.ll_path.proofs.PathLemmas.{path_of_text-cut, front_is_parent, end_is_last_name, end_is_name}
 use Rattle.ll_path.proofs.path.Path.split_last.Goals as goal
 
 -- a path that is cut at its last slash, and one that has a single name
-at_slash : (path : Path) (joined front last : List ℕ) → path ≡ names_in (47 ∷ joined) → (length joined == 0) ≡ false → SplitsAroundMatch (RFindsChar 47) joined front last → path ≡ cut_at_slashes front ++ last ∷ []
-at_slash path joined front last e some h = e ∙ names_in-cut joined some ∙ rsplit_parts joined front last h
+at_slash : (path : Path) (joined front last : List ℕ) → path ≡ path_of_text (47 ∷ joined) → (length joined == 0) ≡ false → SplitsAroundMatch (RFindsChar 47) joined front last → path ≡ cut_at_slashes front ++ last ∷ []
+at_slash path joined front last e some h = e ∙ path_of_text-cut joined some ∙ rsplit_parts joined front last h
 
-single : (path : Path) (joined : List ℕ) → path ≡ names_in (47 ∷ joined) → (length joined == 0) ≡ false → RFindsChar 47 joined None → path ≡ joined ∷ []
-single path joined e some h = e ∙ names_in-cut joined some ∙ rsplit_none joined h
+single : (path : Path) (joined : List ℕ) → path ≡ path_of_text (47 ∷ joined) → (length joined == 0) ≡ false → RFindsChar 47 joined None → path ≡ joined ∷ []
+single path joined e some h = e ∙ path_of_text-cut joined some ∙ rsplit_none joined h
 
 pub returns-in-Some-clause-whole : goal.returns-in-Some-clause-whole
 returns-in-Some-clause-whole c =

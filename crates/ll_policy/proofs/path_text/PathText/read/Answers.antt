@@ -1,8 +1,8 @@
 use Rattle.std.proofs.Common.{◌≡◌, [], inr, sym, ap, ◌∙◌, subst}
 use Rattle.std.proofs.lemmas.Bool.{false≢true}
 use Rattle.ll_path.specs.Word.{IsWord}
-use Rattle.ll_path.specs.Path.{path_text, text_refusals}
-use Rattle.ll_path.proofs.PathLemmas.{path_text-names_in}
+use Rattle.ll_path.specs.Path.{path_text, path_refusals}
+use Rattle.ll_path.proofs.PathLemmas.{path_text-path_of_text}
 use Rattle.ll_policy.specs.declared.fault.PolicyFault.TheVariants.{BadPath}
 use Rattle.ll_policy.proofs.Firsts.{only_one, passed, failed}
 use Rattle.ll_policy.proofs.PathTests.{is_path-spelled, is_path-no_word}
@@ -16,16 +16,16 @@ returns-then-not-fits c = inr (only_one _ BadPath (failed _ BadPath (is_path-no_
 same_text : (c : In-Ok-parse) → path_text c.in-Ok-parse.path ≡ c.args.text.now
 same_text c =
     let read = c.in-Ok-parse.ensures.ok in
-    ap path_text read.1 ∙ path_text-names_in c.in-Ok.word read.0 ∙ c.in-Ok.ensures.ok.1 ∙ c.in_ok-from_str.ensures.ok
+    ap path_text read.1 ∙ path_text-path_of_text c.in-Ok.word read.0 ∙ c.in-Ok.ensures.ok.1 ∙ c.in_ok-from_str.ensures.ok
 
 is_word : (c : In-Ok-parse) → IsWord c.args.text.now
 is_word c = subst IsWord c.in_ok-from_str.ensures.ok c.in-Ok.ensures.ok.0
 
-unrefused : (c : In-Ok-parse) → text_refusals c.args.text.now ≡ []
-unrefused c = ap text_refusals (sym (c.in-Ok.ensures.ok.1 ∙ c.in_ok-from_str.ensures.ok)) ∙ c.in-Ok-parse.ensures.ok.0
+unrefused : (c : In-Ok-parse) → path_refusals c.args.text.now ≡ []
+unrefused c = ap path_refusals (sym (c.in-Ok.ensures.ok.1 ∙ c.in_ok-from_str.ensures.ok)) ∙ c.in-Ok-parse.ensures.ok.0
 
 pub invariant_of-result : goal.invariant_of-result
-invariant_of-result c = (subst IsWord (sym (same_text c)) (is_word c), ap text_refusals (same_text c) ∙ unrefused c)
+invariant_of-result c = (subst IsWord (sym (same_text c)) (is_word c), ap path_refusals (same_text c) ∙ unrefused c)
 
 pub returns-in-Ok-parse : goal.returns-in-Ok-parse
 returns-in-Ok-parse c = (passed _ BadPath (is_path-spelled c.args.text.now (is_word c) (unrefused c)), same_text c)

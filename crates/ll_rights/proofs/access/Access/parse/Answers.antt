@@ -6,7 +6,7 @@ use Rattle.std.specs.List.{slice_split}
 use Rattle.std.specs.Str.{bytes_eq}
 use Rattle.std.proofs.lemmas.Bool.{cases_lt, false≢true}
 use Rattle.std.proofs.lemmas.Slice.Eq.{bytes_eq-Decides}
-use Rattle.ll_rights.specs.Access.{names_in, access_text}
+use Rattle.ll_rights.specs.Access.{set_names, access_text}
 use Rattle.ll_rights.specs.declared.access.Access.{Access}
 use Rattle.ll_rights.proofs.RightNames.{text_none, text_number, text_from_names, parts_of_text, letter_of_text}
 use Rattle.ll_rights.proofs.access.Access.parse.Goals as goal
@@ -36,7 +36,7 @@ number_text : (text digits : List ℕ) → text ≡ codes "0x" ++ digits → (r 
 number_text text digits front None found = tt
 number_text text digits front (Some access) found = front ∙ ap (λ (ds : List ℕ). codes "0x" ++ ds) found.1 ∙ sym (text_number access.0 found.0)
 
-names_text : (text : List ℕ) (r : Option Access) → IfSome r (λ access. (access.0 < 2 ^ 15) × (slice_split (λ b. b == 44) text ≡ names_in access.0)) → IfSome r (λ access. text ≡ access_text access.0)
+names_text : (text : List ℕ) (r : Option Access) → IfSome r (λ access. (access.0 < 2 ^ 15) × (slice_split (λ b. b == 44) text ≡ set_names access.0)) → IfSome r (λ access. text ≡ access_text access.0)
 names_text text None found = tt
 names_text text (Some access) found = text_from_names text access.0 found.0 found.1
 
