@@ -51,8 +51,8 @@ fn unheld(caller: &ClientRecord, call: &Call, number: u64) -> Option<Own>
     refused(refused_early(caller, call))
 }
 
-/// What the call asks, if it is one for the client alone.
-pub(crate) fn asked_of(caller: &ClientRecord, call: &Call) -> Option<Own>
+/// The call as one for the client alone, if it is one.
+pub(crate) fn own_call(caller: &ClientRecord, call: &Call) -> Option<Own>
     ensures { IsOwn caller.now call.now result }
 {
     match call {

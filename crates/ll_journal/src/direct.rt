@@ -197,7 +197,7 @@ impl Journal {
         let Some(place) = place_of(&self.seats, client) else {
             return Err(call);
         };
-        let Some(own) = self.seats[place].asked_of(&call) else {
+        let Some(own) = self.seats[place].own_call(&call) else {
             return Err(call);
         };
         if self.history.is_full() {

@@ -18,7 +18,7 @@ ghost use Rattle.ll_journal.specs.Needs.{slots_in};
 ghost use Rattle.ll_journal.specs.Performed.{IsAtEnd, Performs, IsFreeAtEnd};
 ghost use Rattle.ll_journal.specs.Seated.{turn_at};
 
-use crate::alone::{Own, RecordCall, answer, asked_of};
+use crate::alone::{Own, RecordCall, answer, own_call};
 use crate::perform::perform;
 use crate::slots::Slots;
 use crate::station::Station;
@@ -296,14 +296,14 @@ impl Seat {
     }
 
     /// What the call asks for its client alone, if it is such a call, and no walk is under way.
-    pub(crate) fn asked_of(&self, call: &Call) -> Option<Own>
+    pub(crate) fn own_call(&self, call: &Call) -> Option<Own>
         ensures some { IfSome result (λ own. (self.now.walk ≡ None) × IsOwn self.now.client call.now (Some own)) }
         ensures none { IfNone result ((is_none self.now.walk && is_alone self.now.client call.now) ≡ false) }
     {
         if self.call.is_some() {
             return None;
         }
-        asked_of(&self.client, call)
+        own_call(&self.client, call)
     }
 
     /// The reply to a call on the client's record, after it has been made.

@@ -4,7 +4,7 @@ use Rattle.ll_seq.specs.Call.{targets}
 use Rattle.ll_seq.specs.History.{is_connect}
 use Rattle.ll_walks.specs.World.{has_any, is_on_descriptor}
 use Rattle.ll_journal.proofs.OwnCalls.{by_path}
-use Rattle.ll_journal.proofs.alone.asked_of.Goals as goal
+use Rattle.ll_journal.proofs.alone.own_call.Goals as goal
 
 pub returns-in-Rename : goal.returns-in-Rename
 returns-in-Rename c =
