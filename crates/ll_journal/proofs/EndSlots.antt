@@ -36,7 +36,7 @@ use Rattle.ll_journal.proofs.Descending.{living_one, living_placed, turn_stands}
 use Rattle.ll_journal.proofs.Gathering.{Gathers, all_more, gathers_slot, lent_already}
 use Rattle.ll_journal.proofs.LastSpots.{IsThere, first_last, last_first, makes_last, there_last}
 use Rattle.ll_journal.proofs.LentSlots.{slot_holds}
-use Rattle.ll_journal.proofs.Standing.{is_placed}
+use Rattle.ll_journal.proofs.StandingWalks.{is_placed}
 use Rattle.ll_journal.proofs.StopsAtLast.{root_end, spare_is}
 
 -- at its ends a walk's leg in turn is the second path's

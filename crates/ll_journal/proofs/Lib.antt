@@ -39,7 +39,7 @@ pub mod FileTables
 pub mod FileSteps
 pub mod LastSpots
 pub mod StopsAtLast
-pub mod Standing
+pub mod StandingWalks
 pub mod EndSlots
 pub mod Committed
 pub mod AtAnswers

@@ -55,7 +55,7 @@ pub record IsOpen (w : World) (client number : ℕ) (file : Descriptor) : Type 0
   pub there : get (shown w).clients client ≡ Some caller
   pub holds : get caller.descriptors number ≡ Some file
 
--- the call is on a descriptor that the client has, of a file that doesn't lie in the slot, and no walk of it is under way
+-- the call is on a descriptor that the client has, of a file that doesn't lie in the slot; no walk of it is under way
 pub record IsAstrayOn (b : Book) (client : ℕ) (call : Call) (slot : ℕ) : Type 0 where
   pub number : ℕ
   pub file : Descriptor

@@ -24,7 +24,7 @@ use Rattle.ll_session.specs.declared.tree.SessionTree.{SessionTree}
 use Rattle.ll_session.specs.Transcript.{Session, answered, full, starved, next}
 use Rattle.ll_session.specs.Opening.{Connects, following, joined}
 use Rattle.ll_session.specs.Progress.{StandsAt}
-use Rattle.ll_session.proofs.Starving.{is_starved}
+use Rattle.ll_session.proofs.StarvedPieces.{is_starved}
 use Rattle.ll_session.proofs.SessionPlaces.{how_many, one_more}
 use Rattle.ll_session.proofs.Replies.{is_full, is_not_full}
 

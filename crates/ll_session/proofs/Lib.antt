@@ -3,7 +3,7 @@ pub mod Coming
 pub mod Cuts
 pub mod Endings
 pub mod Legal
-pub mod Starving
+pub mod StarvedPieces
 pub mod Connecting
 pub mod SessionPlaces
 pub mod Replies

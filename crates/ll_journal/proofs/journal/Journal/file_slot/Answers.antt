@@ -5,7 +5,7 @@ use Rattle.ll_journal.specs.Book.{Book, inode_in}
 use Rattle.ll_journal.specs.Direct.{IsOpen}
 use Rattle.ll_journal.proofs.Starting.{at_place}
 use Rattle.ll_journal.proofs.FileSteps.{slot_there, slot_none}
-use Rattle.ll_journal.proofs.Standing.{is_placed}
+use Rattle.ll_journal.proofs.StandingWalks.{is_placed}
 use Rattle.ll_journal.proofs.journal.Journal.file_slot.Goals as goal
 
 pub returns-clause-some : goal.returns-clause-some

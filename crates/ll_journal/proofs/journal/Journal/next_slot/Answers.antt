@@ -4,7 +4,7 @@ use Rattle.ll_journal.specs.Kept.{seat_at}
 use Rattle.ll_journal.specs.Steps.{GoesDown, IsNext}
 use Rattle.ll_journal.proofs.Starting.{at_place}
 use Rattle.ll_journal.proofs.Looking.{nobody_next, next_none, next_found}
-use Rattle.ll_journal.proofs.Standing.{is_placed}
+use Rattle.ll_journal.proofs.StandingWalks.{is_placed}
 use Rattle.ll_journal.proofs.journal.Journal.next_slot.Goals as goal
 
 pub returns-in_default-clause-none : goal.returns-in_default-clause-none

@@ -2,7 +2,7 @@ use Rattle.std.specs.Prelude.{◌≡◌, ◌<◌, length, Some}
 use Rattle.std.proofs.Common.{sym, subst, ◌∙◌}
 use Rattle.ll_seq.specs.State.{root}
 use Rattle.ll_journal.specs.Book.{Book, inode_in}
-use Rattle.ll_journal.proofs.Standing.{is_placed, root_placed}
+use Rattle.ll_journal.proofs.StandingWalks.{is_placed, root_placed}
 use Rattle.ll_journal.proofs.journal.Journal.root_slot.Goals as goal
 
 pub unreachable-requires : goal.unreachable-requires

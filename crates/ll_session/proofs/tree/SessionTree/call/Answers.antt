@@ -8,7 +8,7 @@ use Rattle.ll_seq.specs.declared.reply.Entry.{Entry}
 use Rattle.ll_seq.specs.Memory.{takes_memory}
 use Rattle.ll_wire.specs.Grammar.{IsReply}
 use Rattle.ll_session.specs.Progress.{last_reply}
-use Rattle.ll_session.proofs.Starving.{not_false}
+use Rattle.ll_session.proofs.StarvedPieces.{not_false}
 use Rattle.ll_session.proofs.Replies.{all_more, call_enters, call_fails_full, call_starves, newest, nobody_after, there_after}
 use Rattle.ll_session.proofs.tree.SessionTree.call.Goals as goal
 
