@@ -7,8 +7,8 @@ use Rattle.ll_policy.specs.declared.fault.PolicyFault.{PolicyFault}
 use Rattle.ll_policy.specs.declared.fault.PolicyFault.TheVariants as wrong
 use Rattle.ll_session.specs.declared.fault.RunFault.{RunFault}
 use Rattle.ll_session.specs.declared.fault.RunFault.TheVariants as run
-use Rattle.ll_session.specs.declared.fault.SessionFault.{SessionFault}
-use Rattle.ll_session.specs.declared.fault.SessionFault.TheVariants as session
+use Rattle.ll_lines.specs.declared.fault.SessionFault.{SessionFault}
+use Rattle.ll_lines.specs.declared.fault.SessionFault.TheVariants as session
 use Rattle.ll_saved.specs.declared.auditing.FileAuditFault.{FileAuditFault}
 use Rattle.ll_saved.specs.declared.auditing.FileAuditFault.TheVariants as audit
 use Rattle.ll_saved.specs.declared.saving.SaveFault.{SaveFault}

@@ -5,9 +5,10 @@ ghost use Rattle.clap.specs.Words.{kind_of};
 ghost use Rattle.landtree.specs.Failure.{failure_at, failure_by, failure_by_saving, failure_in, failure_in_session, failure_of, line_of, status_of};
 
 use clap::error::ErrorKind;
+use ll_lines::SessionFault;
 use ll_policy::PolicyFault;
 use ll_saved::{FileAuditFault, SaveFault};
-use ll_session::{RunFault, SessionFault};
+use ll_session::RunFault;
 use std::fmt;
 use std::fmt::Display;
 

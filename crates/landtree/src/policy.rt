@@ -4,7 +4,7 @@ ghost use Rattle.std.specs.Prelude.{◌≡◌, ◌⊎◌, ℕ, List, Some, None,
 ghost use Rattle.toml.specs.Parse.{parse_document};
 ghost use Rattle.ll_policy.specs.Plan.{IsPlanOf};
 ghost use Rattle.landtree.specs.Options.{RunOrder, order_in, scheduled_in};
-ghost use Rattle.ll_session.specs.Transcript.{AreOthers};
+ghost use Rattle.ll_session.specs.Session.{AreOthers};
 ghost use Rattle.landtree.specs.Policy.{ByLevel, ByPlan, IsSetup, IsWorldSetup, Lacks, profile_of};
 
 use crate::failure::Failure;

@@ -4,11 +4,12 @@ ghost use Rattle.std.specs.Prelude.{◌≡◌, ◌≤◌, ℕ, List, [], OnOk, O
 ghost use Rattle.std.specs.Io.KnownBytes.{Appends};
 ghost use Rattle.std.specs.List.{All};
 ghost use Rattle.ll_rights.specs.declared.limits.TheConstants.{TREE_NODES};
+ghost use Rattle.ll_lines.specs.Transcript.{Writes};
 ghost use Rattle.ll_picture.specs.Pictures.{IsWhole};
 ghost use Rattle.ll_saved.specs.Saved.{Judges, saved_text, verdict_line};
 ghost use Rattle.ll_schedule.specs.Told.{IsBegun, IsTold};
 ghost use Rattle.ll_session.specs.declared.fault.RunFault.{RunFault};
-ghost use Rattle.ll_session.specs.Run.{Runs, Begins, MayEnd, Writes};
+ghost use Rattle.ll_session.specs.Run.{Runs, Begins, MayEnd};
 ghost use Rattle.ll_wire.specs.Entries.{IsEntry};
 ghost use Rattle.ll_wire.specs.Pieces.{pieces};
 ghost use Rattle.ll_wire.specs.Writing.{AppendsFront};

@@ -5,8 +5,8 @@ use Rattle.ll_rights.specs.declared.errno.Errno.{Errno}
 use Rattle.ll_rights.specs.declared.errno.Errno.TheVariants.{BadLine}
 use Rattle.ll_rights.specs.Map.{len}
 use Rattle.ll_seq.specs.declared.reply.Reply.TheVariants.{Refused}
-use Rattle.ll_session.proofs.Cuts.{long}
-use Rattle.ll_session.specs.Cutting.{Holds}
+use Rattle.ll_lines.proofs.Cuts.{long}
+use Rattle.ll_lines.specs.Cutting.{Holds}
 use Rattle.ll_steps.specs.declared.outcome.Outcome.{Outcome}
 use Rattle.ll_walks.specs.World.{World, shown}
 use Rattle.ll_wire.specs.Grammar.{reply_line}

@@ -40,6 +40,10 @@ abbrev pub Does : World → ScheduleLine → Outcome → World → Type 0
 Does w (lines.Step step) outcome w' = Makes w step outcome w'
 Does w (lines.Do client call) outcome w' = Calls w client call outcome w'
 
+-- it is this one
+abbrev pub IsWorld : (w v : World) → Type 0
+IsWorld w v = v ≡ w
+
 -- A piece that spells what a client who has come may do gives the line of its outcome, or, where it holds a word or
 -- bytes, want of memory to read them. Every other piece gives `refused 23 BadLine`, and changes nothing
 pub data Tells (w : World) (piece : List ℕ) : List ℕ → World → Type 0 where

@@ -1,16 +1,15 @@
 //! Runs of schedules.
 
 ghost use Rattle.std.specs.Prelude.{◌≡◌, ◌≤◌, ℕ, List, [], length, IfSome, OnErr, OnOk, Option, Some, Err};
-ghost use Rattle.ll_session.specs.Reached.{HasBegun, Reached};
-ghost use Rattle.ll_session.specs.Run.{Writes, most_reads};
-ghost use Rattle.ll_session.specs.declared.fault.SessionFault.{SessionFault};
-ghost use Rattle.ll_walks.specs.World.{World};
-ghost use Rattle.ll_schedule.specs.Tells.{Tells};
+ghost use Rattle.ll_lines.specs.declared.fault.SessionFault.{SessionFault};
+ghost use Rattle.ll_lines.specs.Reached.{AnswersAll, StartsAll};
+ghost use Rattle.ll_lines.specs.Transcript.{Writes, most_reads};
+ghost use Rattle.ll_schedule.specs.Tells.{IsWorld, Tells};
 ghost use Rattle.ll_schedule.specs.Told.{IsBegun, IsTold};
 
 use crate::schedule::Schedule;
 use crate::setup::WorldSetup;
-use ll_session::{LineReader, SessionFault};
+use ll_lines::{LineReader, SessionFault};
 use std::alloc::Global;
 use std::io::{Read, Write};
 
@@ -20,15 +19,10 @@ fn answer_all<R: Read, W: Write>(
     reader: &mut R,
     writer: &mut W,
 ) -> Result<(), SessionFault>
-    ensures ok { OnOk result ((first : World) (input : List ℕ) (old : Option (List ℕ))
-        → R.remaining reader.old ≡ Some input
-        → Reached Tells (λ w. w ≡ schedule.old.world) first input input old (W.contents writer.old)
-        → (R.remaining reader.new ≡ Some [])
-        × Reached Tells (λ w. w ≡ schedule.new.world) first input [] old (W.contents writer.new)) }
-    ensures err { OnErr result ((first : World) (input : List ℕ) (old : Option (List ℕ))
-        → R.remaining reader.old ≡ Some input
-        → Reached Tells (λ w. w ≡ schedule.old.world) first input input old (W.contents writer.old)
-        → HasBegun Tells first input old (W.contents writer.new)) }
+    ensures ok { OnOk result (AnswersAll Tells (IsWorld schedule.old.world) (IsWorld schedule.new.world)
+        (R.remaining reader.old) (R.remaining reader.new) (W.contents writer.old) (W.contents writer.new)) }
+    ensures err { OnErr result (StartsAll Tells (IsWorld schedule.old.world)
+        (R.remaining reader.old) (W.contents writer.old) (W.contents writer.new)) }
     ensures long { result ≡ Err SessionFault.TooLong
         → (input : List ℕ) → R.remaining reader.old ≡ Some input → most_reads ≤ length input }
 {

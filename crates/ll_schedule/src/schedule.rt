@@ -2,22 +2,20 @@
 
 ghost use Rattle.std.specs.Prelude.{◌≡◌, ℕ, List, IfErr, IfOk, OnErr, OnOk};
 ghost use Rattle.std.specs.Io.KnownBytes.{Appends};
-ghost use Rattle.ll_session.specs.Cutting.{Holds};
-ghost use Rattle.ll_session.specs.Progress.{IsOfWriting};
-ghost use Rattle.ll_session.specs.Reached.{IsAnswered, IsStarted};
-ghost use Rattle.ll_session.specs.declared.fault.SessionFault.{SessionFault};
+ghost use Rattle.ll_lines.specs.Cutting.{Holds};
+ghost use Rattle.ll_lines.specs.Reached.{AnswersLine, IsOfWriting, StartsLine};
 ghost use Rattle.ll_wire.specs.Grammar.{IsReply};
 ghost use Rattle.ll_wire.specs.Writing.{AppendsFront};
-ghost use Rattle.ll_schedule.specs.Tells.{Does, Tells, answer_line};
+ghost use Rattle.ll_schedule.specs.Tells.{Does, IsWorld, Tells, answer_line};
 ghost use Rattle.ll_schedule.specs.Told.{last_line, opened};
 
 use crate::outcome::answer_text;
 use crate::setup::WorldSetup;
+use ll_lines::{Line, SessionFault, write_line};
 use ll_rights::Errno;
 use ll_saved::Verdict;
-use ll_session::{Line, SessionFault};
 use ll_steps::{Outcome, World};
-use ll_wire::{ScheduleLine, read_schedule_line, write_whole};
+use ll_wire::{ScheduleLine, read_schedule_line};
 use std::alloc::{AllocError, Global};
 use std::io::Write;
 
@@ -28,18 +26,6 @@ fn done(world: &mut World, line: ScheduleLine) -> Outcome
     match line {
         ScheduleLine::Step(step) => world.step(step),
         ScheduleLine::Do(client, call) => world.make(client, call),
-    }
-}
-
-// Writes the text of a line.
-fn write_line<W: Write>(writer: &mut W, line: &str) -> Result<(), SessionFault>
-    ensures ok { OnOk result (Appends (W.contents writer.old) (W.contents writer.new) line.now) }
-    ensures err { OnErr result (AppendsFront (W.contents writer.old) (W.contents writer.new) line.now) }
-    ensures fault { IfErr result (λ fault. fault ≡ SessionFault.Write) }
-{
-    match write_whole(writer, line) {
-        Ok(()) => Ok(()),
-        Err(_) => Err(SessionFault::Write),
     }
 }
 
@@ -80,11 +66,10 @@ impl Schedule {
 
     /// Answers the line.
     pub fn answer<W: Write>(&mut self, writer: &mut W) -> Result<(), SessionFault>
-        ensures ok { OnOk result ((piece : List ℕ) → Holds self.old.line piece
-            → IsAnswered Tells (λ w. w ≡ self.new.world) self.old.world piece (W.contents writer.old)
-            (W.contents writer.new)) }
-        ensures err { OnErr result ((piece : List ℕ) → Holds self.old.line piece
-            → IsStarted Tells self.old.world piece (W.contents writer.old) (W.contents writer.new)) }
+        ensures ok { OnOk result (AnswersLine Tells (IsWorld self.old.world) (IsWorld self.new.world) self.old.line
+            (W.contents writer.old) (W.contents writer.new)) }
+        ensures err { OnErr result (StartsLine Tells (IsWorld self.old.world) self.old.line
+            (W.contents writer.old) (W.contents writer.new)) }
         ensures fault { IfErr result (λ fault. IsOfWriting fault) }
     {
         let answer = self.outcome();

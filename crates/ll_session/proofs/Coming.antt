@@ -12,7 +12,7 @@ use Rattle.ll_seq.specs.State.{start}
 use Rattle.ll_seq.specs.Stages.{numbers_from}
 use Rattle.ll_session.specs.declared.setup.Setup.{Setup}
 use Rattle.ll_session.specs.declared.tree.SessionTree.{SessionTree}
-use Rattle.ll_session.specs.Transcript.{Session, starved}
+use Rattle.ll_session.specs.Session.{Session, starved}
 use Rattle.ll_session.specs.Opening.{Coming, Connects, Comes, Loads, Opens, made, unconnected, unmade, begun, refused, fresh}
 use Rattle.ll_session.specs.declared.receipt.Receipt.{Receipt}
 use Rattle.ll_session.specs.declared.receipt.Refusal.{Refusal}

@@ -21,7 +21,7 @@ use Rattle.ll_seq.specs.State.{State, start, new_client}
 use Rattle.ll_seq.specs.Stages.{numbers_from}
 use Rattle.ll_seq.specs.Step.{step, refusals, client_of, first_or}
 use Rattle.ll_session.specs.declared.tree.SessionTree.{SessionTree}
-use Rattle.ll_session.specs.Transcript.{Session, answered, full, starved, next}
+use Rattle.ll_session.specs.Session.{Session, answered, full, starved, next}
 use Rattle.ll_session.specs.Opening.{Connects, following, joined}
 use Rattle.ll_session.specs.Progress.{StandsAt}
 use Rattle.ll_session.proofs.StarvedPieces.{is_starved}

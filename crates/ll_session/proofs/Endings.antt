@@ -1,6 +1,6 @@
 -- Whole runs.
 use Rattle.std.proofs.Common.{◌≡◌, ℕ, List, [], Option, None, Some, refl, sym, subst, ◌∙◌, inl, inr}
-use Rattle.std.specs.Prelude.{IfSome, OnErr, Result, Ok, Err}
+use Rattle.std.specs.Prelude.{IfSome}
 use Rattle.std.specs.Io.KnownBytes.{Appends}
 use Rattle.ll_session.specs.declared.receipt.Receipt.{Receipt}
 use Rattle.ll_session.specs.declared.tree.SessionTree.{SessionTree}
@@ -14,19 +14,15 @@ use Rattle.ll_session.specs.declared.setup.Setup.{Setup}
 use Rattle.ll_session.specs.declared.session.OpenSession.{OpenSession}
 use Rattle.ll_session.specs.declared.session.Opened.{Opened}
 use Rattle.ll_session.specs.declared.session.Opened.TheVariants as opened
-use Rattle.ll_session.specs.Transcript.{Session, Tells, Transcript}
+use Rattle.ll_lines.specs.Transcript.{Transcript, Writes}
+use Rattle.ll_session.specs.Session.{Session, Tells}
 use Rattle.ll_session.specs.Opening.{begun, fresh, refused, Opens}
-use Rattle.ll_session.specs.Run.{Runs, Begins, Writes}
+use Rattle.ll_session.specs.Run.{Runs, Begins}
 use Rattle.ll_wire.specs.Writing.{AppendsFront}
-use Rattle.ll_session.specs.Progress.{IfBegun, IfRefused, ReachedBy, StandsAt}
-use Rattle.ll_session.specs.Reached.{IsWritten, HasBegun}
+use Rattle.ll_session.specs.Progress.{IfBegun, IfRefused, StandsAt}
+use Rattle.ll_lines.specs.Reached.{AnswersAll, HasBegun, StartsAll}
 use Rattle.ll_wire.proofs.WrittenText.{front-none}
 use Rattle.ll_session.proofs.Coming.{may_be_refused}
-use Rattle.ll_session.proofs.Advance.{begins}
-
-pub on_err : {T E P : Type 0} → (r : Result T E) → P → OnErr r P
-on_err (Ok value) p = tt
-on_err (Err fault) p = p
 
 pub of_begun : (P : OpenSession → Type 0) (o : Opened) (session : OpenSession) → o ≡ opened.Begun session → IfBegun o P → P session
 of_begun P o session is h = subst (λ (x : Opened). IfBegun x P) is h
@@ -34,25 +30,18 @@ of_begun P o session is h = subst (λ (x : Opened). IfBegun x P) is h
 pub of_refused : (P : SessionTree → Receipt → Type 0) (o : Opened) (tree : SessionTree) (answer : Receipt) → o ≡ opened.Refused tree answer → IfRefused o P → P tree answer
 of_refused P o tree answer is h = subst (λ (x : Opened). IfRefused x P) is h
 
--- a session that is opened, and all of the input is read and answered
-abbrev pub Whole : OpenSession → (remaining remaining' old new : Option (List ℕ)) → List Entry → Type 0
-Whole session remaining remaining' old new entries = (first : Session) (input : List ℕ) (old' : Option (List ℕ)) → remaining ≡ Some input
-    → ReachedBy session.tree first input input old' old → (remaining' ≡ Some []) × IsWritten Tells (λ last. entries ≡ last.entries) first input old' new
-
-abbrev pub Part : OpenSession → (remaining old new : Option (List ℕ)) → Type 0
-Part session remaining old new = (first : Session) (input : List ℕ) (old' : Option (List ℕ)) → remaining ≡ Some input
-    → ReachedBy session.tree first input input old' old → HasBegun Tells first input old' new
-
 -- the session that an opening began
 abbrev pub Begun : Setup → OpenSession → Type 0
 Begun setup session = (first : Session) × Opens setup (begun first) × StandsAt session.tree first
 
-pub runs : (setup : Setup) (remaining remaining' old new : Option (List ℕ)) (session : OpenSession) (entries : List Entry) → Begun setup session
-    → Whole session remaining remaining' old new entries
-    → IfSome remaining (λ input. (left : List ℕ) × (remaining' ≡ Some left) × Writes old new (λ text. Runs setup input left text entries))
+pub runs : (setup : Setup) (remaining remaining' old new : Option (List ℕ)) (session : OpenSession) (entries : List Entry)
+    → Begun setup session
+    → AnswersAll Tells (StandsAt session.tree) (λ last. entries ≡ last.entries) remaining remaining' old new
+    → IfSome remaining (λ input.
+    (left : List ℕ) × (remaining' ≡ Some left) × Writes old new (λ text. Runs setup input left text entries))
 runs setup None remaining' old new session entries b whole = tt
 runs setup (Some input) remaining' old new session entries b whole =
-    let w = whole b.0 input old refl (begins Tells (StandsAt session.tree) b.0 input old b.2) in
+    let w = whole b.0 input b.2 refl in
     ([], w.0, (w.1.0, (w.1.1, inl (b.0, b.1, refl, w.1.2), w.1.3), w.1.4))
 
 has_begun : (setup : Setup) (first : Session) (input : List ℕ) (old new : Option (List ℕ)) → Opens setup (begun first) → HasBegun Tells first input old new → Writes old new (Begins setup input)
@@ -60,10 +49,10 @@ has_begun setup first input old new opens h =
     (h.6.0, (h.0, [], h.1, h.6.1, h.3, h.4, inl (first, opens, refl, subst (λ (text : List ℕ). Transcript Tells first h.0 text h.3) h.6.2 h.5)), h.6.3)
 
 pub run_stops : (setup : Setup) (remaining old new : Option (List ℕ)) (session : OpenSession) → Begun setup session
-    → Part session remaining old new → IfSome remaining (λ input. Writes old new (Begins setup input))
+    → StartsAll Tells (StandsAt session.tree) remaining old new
+    → IfSome remaining (λ input. Writes old new (Begins setup input))
 run_stops setup None old new session b part = tt
-run_stops setup (Some input) old new session b part =
-    has_begun setup b.0 input old new b.1 (part b.0 input old refl (begins Tells (StandsAt session.tree) b.0 input old b.2))
+run_stops setup (Some input) old new session b part = has_begun setup b.0 input old new b.1 (part b.0 input b.2 refl)
 
 -- ---- runs whose opening is refused
 

@@ -26,7 +26,8 @@ use Rattle.ll_session.specs.Opening.{Comes, Loads, Makes, Opens, Stops, begun, f
 use Rattle.ll_session.specs.Progress.{AreThere, IsSound, StandsAt, StaysSound}
 use Rattle.ll_session.specs.Run.{RunsLegally}
 use Rattle.ll_session.proofs.Replies.{CalledAt}
-use Rattle.ll_session.specs.Transcript.{Session, AreOthers, Called, Answers, Tells, Transcript, answered, full, starved, calls, unread, bad, brought}
+use Rattle.ll_lines.specs.Transcript.{Transcript}
+use Rattle.ll_session.specs.Session.{Session, AreOthers, Called, Answers, Tells, answered, full, starved, calls, unread, bad, brought}
 
 -- a call that has a spelling is no connect
 pub no_connect : (call : Call) → IsCall call → is_connect call ≡ false

@@ -24,10 +24,10 @@ use Rattle.ll_wire.specs.Reads.{ReadsBy, holds_text}
 use Rattle.ll_session.specs.declared.receipt.Receipt.{Receipt}
 use Rattle.ll_session.specs.declared.receipt.Receipt.TheVariants.{Apart, Entered}
 use Rattle.ll_session.specs.declared.tree.SessionTree.{SessionTree}
-use Rattle.ll_session.specs.Transcript.{Session, Answers, Called, as_written, brought, next, answered, full, starved, calls, unread, bad}
+use Rattle.ll_session.specs.Session.{Session, Answers, Called, as_written, brought, next, answered, full, starved, calls, unread, bad}
 use Rattle.ll_session.specs.Progress.{StandsAt, last_reply, placed, told_by, written}
-use Rattle.ll_session.specs.Cutting.{Holds}
-use Rattle.ll_session.proofs.Cuts.{long}
+use Rattle.ll_lines.specs.Cutting.{Holds}
+use Rattle.ll_lines.proofs.Cuts.{long}
 use Rattle.ll_session.proofs.SessionPlaces.{how_many, in_place, no_place, with_brought}
 
 -- the call is answered so, and this tree is left

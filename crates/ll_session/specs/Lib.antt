@@ -1,6 +1,4 @@
-pub mod Cutting
 pub mod Opening
 pub mod Progress
-pub mod Reached
 pub mod Run
-pub mod Transcript
+pub mod Session

@@ -10,7 +10,7 @@ use Rattle.ll_seq.specs.declared.reply.Reply.TheVariants.{Done}
 use Rattle.ll_seq.specs.State.{start}
 use Rattle.ll_plain.specs.Refusal.{is_refusal}
 use Rattle.ll_session.specs.declared.setup.Setup.{Setup}
-use Rattle.ll_session.specs.Transcript.{Session, Called}
+use Rattle.ll_session.specs.Session.{Session, Called}
 
 -- a fresh tree, to which nobody has connected
 abbrev pub fresh : Setup → Session

@@ -1,5 +1,5 @@
 -- How far a run has come. (Support of the functions below `run_script`: no public contract cites this file.)
-use Rattle.std.specs.Prelude.{⊤, ◌≡◌, ◌⊎◌, ℕ, ◌+◌, ◌-◌, true, List, length, Option, slice_get}
+use Rattle.std.specs.Prelude.{⊤, ◌≡◌, ℕ, ◌+◌, ◌-◌, true, List, length, slice_get}
 use Rattle.std.specs.List.{AllByRecursion}
 use Rattle.std.specs.Option.{option_map_or}
 use Rattle.ll_seq.specs.declared.reply.Entry.{Entry}
@@ -9,8 +9,7 @@ use Rattle.ll_rights.specs.Map.{has}
 use Rattle.ll_seq.specs.History.{IsLegal, state_after}
 use Rattle.ll_seq.specs.Stages.{numbers_from}
 use Rattle.ll_seq.specs.State.{State}
-use Rattle.ll_session.specs.declared.fault.SessionFault.{SessionFault}
-use Rattle.ll_session.specs.declared.fault.SessionFault.TheVariants as fault
+use Rattle.ll_lines.specs.declared.fault.SessionFault.TheVariants as fault
 use Rattle.ll_session.specs.declared.fault.RunFault.{RunFault}
 use Rattle.ll_session.specs.declared.fault.RunFault.TheVariants as run
 use Rattle.ll_session.specs.declared.setup.Setup.{Setup}
@@ -23,8 +22,7 @@ use Rattle.ll_session.specs.declared.session.OpenSession.{OpenSession}
 use Rattle.ll_session.specs.declared.session.Opened.{Opened}
 use Rattle.ll_session.specs.declared.session.Opened.TheVariants.{Begun, Refused}
 use Rattle.ll_session.specs.Opening.{Coming, unconnected, unmade, Opens, stopped}
-use Rattle.ll_session.specs.Reached.{Reached}
-use Rattle.ll_session.specs.Transcript.{Session, Tells}
+use Rattle.ll_session.specs.Session.{Session}
 
 -- this of the session that the opening began
 abbrev pub IfBegun : Opened → (OpenSession → Type 0) → Type 0
@@ -95,11 +93,3 @@ abbrev pub StaysSound : (before after : SessionTree) → Type 0
 StaysSound before after =
     (empty : State) (s : Session) → StandsAt before s → IsSound empty s
     → (t : Session) × StandsAt after t × IsSound empty t
-
--- so far a run has come that stands here
-abbrev pub ReachedBy : SessionTree → Session → (input left : List ℕ) → (old new : Option (List ℕ)) → Type 0
-ReachedBy tree = Reached Tells (StandsAt tree)
-
--- what ends the answering of lines: a failed write, or want of memory
-abbrev pub IsOfWriting : SessionFault → Type 0
-IsOfWriting of = (of ≡ fault.NoMemory) ⊎ (of ≡ fault.Write)

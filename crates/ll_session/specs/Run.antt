@@ -1,6 +1,5 @@
 -- A whole run of a script. own
-use Rattle.std.specs.Prelude.{⊤, ◌≡◌, ℕ, List, [], ◌++◌, Option, ◌⊎◌}
-use Rattle.std.specs.Io.KnownBytes.{Appends}
+use Rattle.std.specs.Prelude.{⊤, ◌≡◌, ℕ, List, [], ◌++◌, ◌⊎◌}
 use Rattle.ll_seq.specs.declared.reply.Entry.{Entry}
 use Rattle.ll_seq.specs.declared.reply.Reply.{Reply}
 use Rattle.ll_seq.specs.State.{start}
@@ -10,12 +9,9 @@ use Rattle.ll_wire.specs.Pieces.{pieces}
 use Rattle.ll_session.specs.declared.fault.RunFault.{RunFault}
 use Rattle.ll_session.specs.declared.fault.RunFault.TheVariants as run
 use Rattle.ll_session.specs.declared.setup.Setup.{Setup}
-use Rattle.ll_session.specs.Transcript.{Session, Tells, Transcript}
+use Rattle.ll_lines.specs.Transcript.{Transcript}
+use Rattle.ll_session.specs.Session.{Session, Tells}
 use Rattle.ll_session.specs.Opening.{Opens, begun, refused, stopped}
-
--- how many reads of one input may give bytes
-abbrev pub most_reads : ℕ
-most_reads = 1000000000
 
 -- the fault may end a run of this setup
 abbrev pub MayEnd : Setup → RunFault → Type 0
@@ -45,7 +41,3 @@ RunsLegally =
     (setup : Setup) (done left : List (List ℕ)) (text : List ℕ) (last : Session) → RunsOver setup done left text last →
     let empty = start setup.rules setup.nodes in
     IsLegal empty last.entries × (last.tree ≡ state_after empty last.entries)
-
--- What a writer that tells its bytes has gained is such a text
-abbrev pub Writes : (contents contents' : Option (List ℕ)) → (List ℕ → Type 0) → Type 0
-Writes contents contents' IsText = (text : List ℕ) × IsText text × Appends contents contents' text

@@ -2,20 +2,8 @@
 
 ghost use Rattle.std.specs.Prelude.{◌≡◌};
 
+use ll_lines::SessionFault;
 use thiserror::Error;
-
-/// Why a session ends before its input does.
-#[derive(Debug, Drop, Error)]
-pub enum SessionFault {
-    #[error("the input can't be read")]
-    Read,
-    #[error("the output can't be written")]
-    Write,
-    #[error("no memory for the session")]
-    NoMemory,
-    #[error("the input takes too many reads")]
-    TooLong,
-}
 
 /// Why a run ends without its whole transcript.
 #[derive(Debug, Drop, Error)]

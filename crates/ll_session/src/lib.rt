@@ -3,8 +3,6 @@
 
 mod fault;
 mod laws;
-mod line;
-mod line_reader;
 mod output;
 mod receipt;
 mod run;
@@ -12,9 +10,7 @@ mod session;
 mod setup;
 mod tree;
 
-pub use fault::{RunFault, SessionFault};
+pub use fault::RunFault;
 pub use laws::runs_legally;
-pub use line::Line;
-pub use line_reader::LineReader;
 pub use run::run_script;
 pub use setup::Setup;

@@ -1,15 +1,15 @@
-//! Writing.
+//! Writing a reply.
 
 ghost use Rattle.std.specs.Prelude.{IfErr, OnOk, OnErr};
 ghost use Rattle.std.specs.Io.KnownBytes.{Appends};
 ghost use Rattle.ll_wire.specs.Grammar.{IsReply, reply_line};
 ghost use Rattle.ll_wire.specs.Writing.{AppendsFront};
-ghost use Rattle.ll_session.specs.Progress.{IsOfWriting, written};
+ghost use Rattle.ll_lines.specs.Reached.{IsOfWriting};
+ghost use Rattle.ll_session.specs.Progress.{written};
 
-use crate::fault::SessionFault;
 use crate::receipt::Receipt;
 use crate::tree::SessionTree;
-use ll_wire::write_whole;
+use ll_lines::{SessionFault, write_line};
 use std::alloc::Global;
 use std::io::Write;
 
@@ -30,8 +30,5 @@ pub fn write_answer<W: Write>(
     let Ok(text) = tree.text_of(alloc, answer) else {
         return Err(SessionFault::NoMemory);
     };
-    match write_whole(writer, text.as_str()) {
-        Ok(()) => Ok(()),
-        Err(_) => Err(SessionFault::Write),
-    }
+    write_line(writer, text.as_str())
 }

@@ -5,17 +5,18 @@ ghost use Rattle.ll_seq.specs.History.{IsLegal};
 ghost use Rattle.ll_seq.specs.State.{State, start};
 ghost use Rattle.ll_wire.specs.Entries.{IsEntry};
 ghost use Rattle.ll_session.specs.declared.fault.RunFault.{RunFault};
-ghost use Rattle.ll_session.specs.declared.fault.SessionFault.{SessionFault};
-ghost use Rattle.ll_session.specs.Transcript.{Session, Tells};
-ghost use Rattle.ll_session.specs.Run.{Runs, Begins, MayEnd, Writes, most_reads};
-ghost use Rattle.ll_session.specs.Progress.{used, IsSound, ReachedBy, StandsAt, StaysSound};
-ghost use Rattle.ll_session.specs.Reached.{HasBegun, IsWritten};
+ghost use Rattle.ll_lines.specs.declared.fault.SessionFault.{SessionFault};
+ghost use Rattle.ll_session.specs.Session.{Session, Tells};
+ghost use Rattle.ll_lines.specs.Transcript.{Writes, most_reads};
+ghost use Rattle.ll_session.specs.Run.{Runs, Begins, MayEnd};
+ghost use Rattle.ll_lines.specs.Reached.{AnswersAll, StartsAll};
+ghost use Rattle.ll_session.specs.Progress.{used, IsSound, StandsAt, StaysSound};
 
-use crate::fault::{RunFault, SessionFault};
-use crate::line_reader::LineReader;
+use crate::fault::RunFault;
 use crate::output::write_answer;
 use crate::session::{OpenSession, Opened};
 use crate::setup::Setup;
+use ll_lines::{LineReader, SessionFault};
 use ll_seq::History;
 use std::alloc::Global;
 use std::io::{Read, Write};
@@ -27,14 +28,10 @@ fn answer_all<R: Read, W: Write>(
     writer: &mut W,
 ) -> Result<(), SessionFault>
     requires room { used session.old.tree ≤ 2 ^ 62 }
-    ensures ok { OnOk result ((first : Session) (input : List ℕ) (old : Option (List ℕ))
-        → R.remaining reader.old ≡ Some input
-        → ReachedBy session.old.tree first input input old (W.contents writer.old)
-        → (R.remaining reader.new ≡ Some []) × ReachedBy session.new.tree first input [] old (W.contents writer.new)) }
-    ensures err { OnErr result ((first : Session) (input : List ℕ) (old : Option (List ℕ))
-        → R.remaining reader.old ≡ Some input
-        → ReachedBy session.old.tree first input input old (W.contents writer.old)
-        → HasBegun Tells first input old (W.contents writer.new)) }
+    ensures ok { OnOk result (AnswersAll Tells (StandsAt session.old.tree) (StandsAt session.new.tree)
+        (R.remaining reader.old) (R.remaining reader.new) (W.contents writer.old) (W.contents writer.new)) }
+    ensures err { OnErr result (StartsAll Tells (StandsAt session.old.tree)
+        (R.remaining reader.old) (W.contents writer.old) (W.contents writer.new)) }
     ensures sound { StaysSound session.old.tree session.new.tree }
     ensures long { result ≡ Err SessionFault.TooLong
         → (input : List ℕ) → R.remaining reader.old ≡ Some input → most_reads ≤ length input }
@@ -53,18 +50,14 @@ fn run_session<R: Read, W: Write>(
     writer: &mut W,
 ) -> Result<History, SessionFault>
     requires room { used session.tree ≤ 2 ^ 62 }
-    ensures ok { IfOk result (λ history. (first : Session) (input : List ℕ) (old : Option (List ℕ))
-        → R.remaining reader.old ≡ Some input
-        → ReachedBy session.tree first input input old (W.contents writer.old)
-        → (R.remaining reader.new ≡ Some []) × IsWritten Tells (λ last. history.entries ≡ last.entries) first input
-        old (W.contents writer.new)) }
+    ensures ok { IfOk result (λ history.
+        AnswersAll Tells (StandsAt session.tree) (λ last. history.entries ≡ last.entries)
+        (R.remaining reader.old) (R.remaining reader.new) (W.contents writer.old) (W.contents writer.new)) }
     ensures entries { IfOk result (λ history. All IsEntry history.entries) }
     ensures legal { IfOk result (λ history. (empty : State) (first : Session) → StandsAt session.tree first
         → IsSound empty first → IsLegal empty history.entries) }
-    ensures err { OnErr result ((first : Session) (input : List ℕ) (old : Option (List ℕ))
-        → R.remaining reader.old ≡ Some input
-        → ReachedBy session.tree first input input old (W.contents writer.old)
-        → HasBegun Tells first input old (W.contents writer.new)) }
+    ensures err { OnErr result (StartsAll Tells (StandsAt session.tree)
+        (R.remaining reader.old) (W.contents writer.old) (W.contents writer.new)) }
     ensures long { result ≡ Err SessionFault.TooLong
         → (input : List ℕ) → R.remaining reader.old ≡ Some input → most_reads ≤ length input }
 {

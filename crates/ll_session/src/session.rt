@@ -2,12 +2,12 @@
 
 ghost use Rattle.std.specs.Prelude.{◌≡◌, ◌<◌, ◌≤◌, ◌+◌, ◌-◌, ◌^◌, ℕ, List, OnOk, OnErr, IfErr, IfOk};
 
-use crate::fault::{RunFault, SessionFault};
-use crate::line::Line;
+use crate::fault::RunFault;
 use crate::output::write_answer;
 use crate::receipt::{Receipt, Refusal};
 use crate::setup::Setup;
 use crate::tree::SessionTree;
+use ll_lines::{Line, SessionFault};
 use ll_plain::Plain;
 use ll_rights::Errno;
 use ll_seq::History;
@@ -34,12 +34,12 @@ pub enum Opened {
 
 impl OpenSession {
     ghost use Rattle.ll_wire.specs.Grammar.{IsReply};
-    ghost use Rattle.ll_session.specs.declared.fault.SessionFault.{SessionFault};
-    ghost use Rattle.ll_session.specs.Transcript.{Session, Answers, Tells};
+    ghost use Rattle.ll_lines.specs.declared.fault.SessionFault.{SessionFault};
+    ghost use Rattle.ll_session.specs.Session.{Session, Answers, Tells};
     ghost use Rattle.ll_session.specs.Opening.{Opens, begun, fresh, refused};
-    ghost use Rattle.ll_session.specs.Cutting.{Holds};
-    ghost use Rattle.ll_session.specs.Progress.{used, written, IfBegun, IfRefused, IsOfWriting, OpensBadly, StandsAt, StaysSound};
-    ghost use Rattle.ll_session.specs.Reached.{IsAnswered, IsStarted};
+    ghost use Rattle.ll_lines.specs.Cutting.{Holds};
+    ghost use Rattle.ll_lines.specs.Reached.{AnswersLine, IsOfWriting, StartsLine};
+    ghost use Rattle.ll_session.specs.Progress.{used, written, IfBegun, IfRefused, OpensBadly, StandsAt, StaysSound};
 
     // A fresh tree and an empty line.
     fn fresh(alloc: Global, setup: &Setup) -> Result<(SessionTree, Line), AllocError>
@@ -106,10 +106,10 @@ impl OpenSession {
     /// Answers the line.
     pub fn answer<W: Write>(&mut self, writer: &mut W) -> Result<(), SessionFault>
         requires room { used self.old.tree < 2 ^ 64 - 1 }
-        ensures ok { OnOk result ((s : Session) (piece : List ℕ) → Holds self.old.line piece → StandsAt self.old.tree s
-            → IsAnswered Tells (StandsAt self.new.tree) s piece (W.contents writer.old) (W.contents writer.new)) }
-        ensures err { OnErr result ((s : Session) (piece : List ℕ) → Holds self.old.line piece → StandsAt self.old.tree s
-            → IsStarted Tells s piece (W.contents writer.old) (W.contents writer.new)) }
+        ensures ok { OnOk result (AnswersLine Tells (StandsAt self.old.tree) (StandsAt self.new.tree) self.old.line
+            (W.contents writer.old) (W.contents writer.new)) }
+        ensures err { OnErr result (StartsLine Tells (StandsAt self.old.tree) self.old.line
+            (W.contents writer.old) (W.contents writer.new)) }
         ensures sound { StaysSound self.old.tree self.new.tree }
         ensures numbers { used self.new.tree ≤ used self.old.tree + 2 }
         ensures fault { IfErr result (λ fault. IsOfWriting fault) }

@@ -3,7 +3,7 @@
 ghost use Rattle.std.specs.Prelude.{◌≤◌, IfSome};
 ghost use Rattle.std.proofs.Props.{props};
 ghost use Rattle.ll_rights.specs.declared.limits.TheConstants.{HISTORY_ENTRIES, TREE_NODES};
-ghost use Rattle.ll_session.specs.Transcript.{AreOthers};
+ghost use Rattle.ll_session.specs.Session.{AreOthers};
 
 use ll_seq::{Call, Rules};
 

@@ -31,7 +31,7 @@ pub struct SessionTree {
 }
 
 impl SessionTree {
-    ghost use Rattle.ll_session.specs.Transcript.{Session, AreOthers, Called, as_written};
+    ghost use Rattle.ll_session.specs.Session.{Session, AreOthers, Called, as_written};
     ghost use Rattle.ll_session.specs.Opening.{Connects, Comes, Loads, Makes, Stops, joined, made};
     ghost use Rattle.ll_session.specs.Progress.{used, StandsAt, StaysSound, receipt_of, coming_in, told_by, written};
 

@@ -4,9 +4,10 @@
 //! small functions, each slow thing once, since that is quick to prove.
 
 use crate::fuse::{Sink, Source};
+use ll_lines::SessionFault;
 use ll_rights::Abi;
 use ll_seq::{History, Rules};
-use ll_session::{RunFault, SessionFault, Setup, run_script};
+use ll_session::{RunFault, Setup, run_script};
 use std::alloc::Global;
 
 fn setup(alloc: Global) -> Setup {

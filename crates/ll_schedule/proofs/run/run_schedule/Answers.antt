@@ -1,5 +1,5 @@
 use Rattle.std.proofs.lemmas.Result.{on_ok_weaker, on_err_weaker}
-use Rattle.ll_session.proofs.Endings.{on_err}
+use Rattle.ll_lines.proofs.Advance.{on_err}
 use Rattle.ll_schedule.proofs.Wholes.{all_told, last_stops, line_stops, nothing_told}
 use Rattle.ll_schedule.proofs.run.run_schedule.Goals as goal
 

@@ -1,8 +1,8 @@
-use Rattle.std.proofs.Common.{◌≡◌, ◌+◌, ◌*◌, ◌^◌, ◌≤◌, List, ℕ, Option, Some}
-use Rattle.ll_session.specs.Cutting.{Counts, IsLeft, most_left}
-use Rattle.ll_session.specs.Transcript.{Session}
-use Rattle.ll_session.specs.Progress.{used, ReachedBy, StaysSound}
-use Rattle.ll_session.proofs.LeftToRead.{unread}
+use Rattle.std.proofs.Common.{◌+◌, ◌*◌, ◌^◌, ◌≤◌}
+use Rattle.ll_lines.specs.Cutting.{Counts, most_left, unread}
+use Rattle.ll_lines.specs.Reached.{AnswersSome}
+use Rattle.ll_session.specs.Session.{Tells}
+use Rattle.ll_session.specs.Progress.{used, StandsAt, StaysSound}
 use Rattle.ll_session.proofs.run.answer_all.Given as goal
 
 -- each line takes a byte or a read, and two numbers
@@ -10,10 +10,9 @@ abbrev pub invariant-loop-session : goal.invariant-loop-session
 invariant-loop-session g l = record {
   numbers : used l.session.tree + 2 * most_left l.lines ≤ 2 ^ 62 + 2 * most_left unread;
   sound : StaysSound l.fn.session.tree l.session.tree;
-  reached : (first : Session) (input : List ℕ) (old : Option (List ℕ))
-      → g.R.Read.remaining l.fn.reader ≡ Some input
-      → ReachedBy l.fn.session.tree first input input old (g.W.Write.contents l.fn.writer)
-      → (left : List ℕ) × IsLeft l.lines (g.R.Read.remaining l.reader) left × ReachedBy l.session.tree first input left old (g.W.Write.contents l.writer);
+  some : AnswersSome Tells (StandsAt l.fn.session.tree) (StandsAt l.session.tree) l.lines
+      (g.R.Read.remaining l.fn.reader) (g.R.Read.remaining l.reader)
+      (g.W.Write.contents l.fn.writer) (g.W.Write.contents l.writer);
   counted : Counts unread l.lines (g.R.Read.remaining l.fn.reader) (g.R.Read.remaining l.reader);
 }
 

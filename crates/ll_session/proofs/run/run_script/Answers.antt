@@ -1,6 +1,7 @@
 use Rattle.std.proofs.Common.{ap}
 use Rattle.ll_session.specs.Progress.{written}
-use Rattle.ll_session.proofs.Endings.{Begun, Refuses, of_begun, of_refused, on_err, refusal, refusal_stops, runs, run_stops, not_opened}
+use Rattle.ll_lines.proofs.Advance.{on_err}
+use Rattle.ll_session.proofs.Endings.{Begun, Refuses, of_begun, of_refused, refusal, refusal_stops, runs, run_stops, not_opened}
 use Rattle.ll_session.proofs.Legal.{by_opening, leaves_refused}
 use Rattle.ll_session.proofs.run.run_script.Goals as goal
 

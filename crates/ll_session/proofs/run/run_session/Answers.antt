@@ -1,15 +1,12 @@
-use Rattle.std.proofs.Common.{ap, sym, ◌∙◌, refl}
-use Rattle.ll_session.specs.Progress.{StandsAt}
-use Rattle.ll_session.specs.Transcript.{Tells}
-use Rattle.ll_session.proofs.Advance.{whole}
+use Rattle.std.proofs.Common.{ap, sym, ◌∙◌}
 use Rattle.ll_session.proofs.Legal.{leaves_legally}
 use Rattle.ll_session.proofs.run.run_session.Goals as goal
 
 pub returns-clause-ok : goal.returns-clause-ok
-returns-clause-ok g c first input old e p =
-    let r = c.in_ok-answer_all.ensures.ok first input old e p in
-    let w = whole Tells (StandsAt c.answer_all.new.session.tree) first input _ old (g.W.Write.contents c.answer_all.new.writer) refl r.1 in
-    (r.0, (w.0, w.1, w.2, ap (λ h. h.entries) c.into_history.ensures.history ∙ sym w.3.entries, w.4))
+returns-clause-ok g c first input stands e =
+    let all = c.in_ok-answer_all.ensures.ok first input stands e in
+    let w = all.1 in
+    (all.0, (w.0, w.1, w.2, ap (λ h. h.entries) c.into_history.ensures.history ∙ sym w.3.entries, w.4))
 
 pub returns-clause-legal : goal.returns-clause-legal
 returns-clause-legal g c empty first stands sound =

@@ -1,5 +1,5 @@
 use Rattle.std.proofs.Common.{sym}
-use Rattle.ll_session.proofs.Cuts.{kept}
+use Rattle.ll_lines.proofs.Cuts.{kept}
 use Rattle.ll_schedule.proofs.Reading.{is_done, not_read, too_long}
 use Rattle.ll_schedule.proofs.schedule.Schedule.outcome.Goals as goal
 

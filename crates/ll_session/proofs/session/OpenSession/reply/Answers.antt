@@ -1,7 +1,7 @@
 use Rattle.std.proofs.Common.{List, ℕ, subst, sym}
 use Rattle.ll_wire.specs.Grammar.{SpellsCommand}
 use Rattle.ll_session.specs.Progress.{written}
-use Rattle.ll_session.proofs.Cuts.{kept}
+use Rattle.ll_lines.proofs.Cuts.{kept}
 use Rattle.ll_session.proofs.Replies.{answered_by, spells_none, too_long, not_read}
 use Rattle.ll_session.proofs.session.OpenSession.reply.Goals as goal
 

@@ -1,7 +1,7 @@
 use Rattle.std.proofs.Common.{◌≡◌, ◌∙◌, ◌+◌, ◌++◌, [], ap, refl, sym, drop, take}
 use Rattle.std.proofs.lemmas.List.{drop_all}
-use Rattle.ll_session.proofs.LeftToRead.{held_next}
-use Rattle.ll_session.proofs.line_reader.LineReader.next_byte.Goals as goal
+use Rattle.ll_lines.proofs.LeftToRead.{held_next}
+use Rattle.ll_lines.proofs.line_reader.LineReader.next_byte.Goals as goal
 
 pub returns-in-Some-clause-byte : goal.returns-in-Some-clause-byte
 returns-in-Some-clause-byte g c left is =

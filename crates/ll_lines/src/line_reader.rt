@@ -1,9 +1,9 @@
 //! Reading lines.
 
 ghost use Rattle.std.specs.Prelude.{◌≡◌, ◌≢◌, ◌<◌, ◌≤◌, ◌+◌, [], ℕ, List, true, false, Ok, IfOk, IfErr, OnOk, MatchOption, Err};
-ghost use Rattle.ll_session.specs.Cutting.{Counts, Cuts, Gives, IsLeft, Reading, most_left};
-ghost use Rattle.ll_session.specs.Run.{most_reads};
-ghost use Rattle.ll_session.specs.declared.fault.SessionFault.{SessionFault};
+ghost use Rattle.ll_lines.specs.Cutting.{Counts, Cuts, Gives, IsLeft, most_left, unread};
+ghost use Rattle.ll_lines.specs.Transcript.{most_reads};
+ghost use Rattle.ll_lines.specs.declared.fault.SessionFault.{SessionFault};
 
 use crate::fault::SessionFault;
 use crate::line::Line;
@@ -25,8 +25,8 @@ pub struct LineReader {
 
 impl Model for LineReader {
     ghost use Rattle.std.specs.Prelude.{◌≤◌, drop, take};
-    ghost use Rattle.ll_session.specs.Cutting.{Reading};
-    ghost use Rattle.ll_session.specs.Run.{most_reads};
+    ghost use Rattle.ll_lines.specs.Cutting.{Reading};
+    ghost use Rattle.ll_lines.specs.Transcript.{most_reads};
 
     ghost Value = { Reading };
 
@@ -42,7 +42,7 @@ impl Model for LineReader {
 impl LineReader {
     /// Nothing is read yet.
     pub fn new() -> Self
-        ensures { result ≡ record { bytes = []; reads = 0; is_ended = false } }
+        ensures { result ≡ unread }
     {
         LineReader {
             chunk: [0; 512],

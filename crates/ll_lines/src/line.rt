@@ -1,7 +1,7 @@
 //! The line that is being read.
 
 ghost use Rattle.std.specs.Prelude.{◌≡◌, [], ◌∷◌, ◌++◌, ◌↔◌, ℕ, List, OnOk, IfOk, IsTrue, Some, option_map};
-ghost use Rattle.ll_session.specs.Cutting.{Holds};
+ghost use Rattle.ll_lines.specs.Cutting.{Holds};
 
 use ll_wire::LINE_LIMIT;
 use std::alloc::{AllocError, Global};

@@ -1,8 +1,8 @@
 use Rattle.std.proofs.Common.{◌<◌, inr, arith}
-use Rattle.ll_session.specs.Cutting.{IsLeft, most_left}
-use Rattle.ll_session.proofs.Cuts.{byte_more, byte_last, no_byte}
-use Rattle.ll_session.proofs.LeftToRead.{counts_more}
-use Rattle.ll_session.proofs.line_reader.LineReader.read_line.Goals as goal
+use Rattle.ll_lines.specs.Cutting.{IsLeft, most_left}
+use Rattle.ll_lines.proofs.Cuts.{byte_more, byte_last, no_byte}
+use Rattle.ll_lines.proofs.LeftToRead.{counts_more}
+use Rattle.ll_lines.proofs.line_reader.LineReader.read_line.Goals as goal
 
 pub returns-then-byte-eq10-clause-line : goal.returns-then-byte-eq10-clause-line
 returns-then-byte-eq10-clause-line g c left is =

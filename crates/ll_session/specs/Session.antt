@@ -1,4 +1,4 @@
--- What is written for what is read, line by line. own
+-- A session between two lines, and the line that each piece gives. own
 use Rattle.std.specs.Prelude.{◌≡◌, ℕ, ◌+◌, ◌-◌, ◌<◌, ◌≤◌, true, false, List, [], ◌∷◌, ◌++◌, length, Some, None, slice_get}
 use Rattle.std.specs.List.{All}
 use Rattle.ll_rights.specs.declared.errno.Errno.TheVariants.{HistoryFull, NoMemory, BadLine}
@@ -66,11 +66,3 @@ pub data Answers (s : Session) (piece : List ℕ) : Reply → Session → Type 0
 -- the piece gets this line
 abbrev pub Tells : Session → List ℕ → List ℕ → Session → Type 0
 Tells s piece line t = (reply : Reply) × Answers s piece reply t × (line ≡ reply_line reply)
-
--- Each piece gives one line, in order. `Gives s piece line t`: the piece gives this line, and leaves t
-module _ {S : Type 0} (Gives : S → List ℕ → List ℕ → S → Type 0) where
-  abbrev pub Transcript : S → List (List ℕ) → List ℕ → S → Type 0
-  Transcript s [] text t = (text ≡ []) × (t ≡ s)
-  Transcript s (piece ∷ pieces) text t =
-      (line : List ℕ) × (mid : S) × (rest : List ℕ) × Gives s piece line mid × Transcript mid pieces rest t
-      × (text ≡ line ++ rest)

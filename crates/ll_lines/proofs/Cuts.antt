@@ -2,7 +2,7 @@
 use Rattle.std.proofs.Common.{◌≡◌, ◌∙◌, ◌↔◌, IsTrue, not, ℕ, ◌<◌, Bool, true, false, List, [], ◌∷◌, ◌++◌, append_assoc, length, Option, None, Some, ap, refl, subst, sym, arith}
 use Rattle.ll_wire.specs.Pieces.{pieces}
 use Rattle.ll_wire.proofs.CutStreams.{IsOpen, open-append, pieces-last, pieces-line}
-use Rattle.ll_session.specs.Cutting.{Cuts, Gives, Holds}
+use Rattle.ll_lines.specs.Cutting.{Cuts, Gives, Holds}
 
 -- what a line holds that isn't too long
 pub kept : (line : Option (List ℕ)) (bytes part : List ℕ) → line ≡ Some bytes → Holds line part → bytes ≡ part
@@ -59,11 +59,3 @@ module _ (IsRest IsNext : List ℕ → Type 0) (next : Option ℕ) (gives : (res
       let end = given None none h.1 h.5 in
       let all : left ≡ h.0 ++ [] = h.2 ∙ ap (λ x. h.0 ++ x) end.0 in
       (h.0, [], ap pieces all ∙ pieces-last h.0 (has_bytes line h.0 (λ e. absurd (let yes = is.1 e in cc)) h.4) h.3, h.4, end.1)
-
--- ---- a line that is read
-
-pub line_there : (left : List ℕ) (is_there : Bool) (line : Option (List ℕ)) (IsRest : List ℕ → Type 0) → is_there ≡ true → Cuts left is_there line IsRest → Cuts left true line IsRest
-line_there left is_there line IsRest is cut = subst (λ (b : Bool). Cuts left b line IsRest) is cut
-
-pub none_there : (left : List ℕ) (is_there : Bool) (line : Option (List ℕ)) (IsRest : List ℕ → Type 0) → is_there ≡ false → Cuts left is_there line IsRest → Cuts left false line IsRest
-none_there left is_there line IsRest is cut = subst (λ (b : Bool). Cuts left b line IsRest) is cut

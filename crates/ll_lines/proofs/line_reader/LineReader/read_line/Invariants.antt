@@ -1,7 +1,7 @@
 use Rattle.std.proofs.Common.{◌≡◌, ◌<◌, ◌≤◌, ◌++◌, ◌⊎◌, [], ℕ, List, Some}
 use Rattle.ll_wire.proofs.CutStreams.{IsOpen}
-use Rattle.ll_session.specs.Cutting.{Counts, Holds, IsLeft, most_left}
-use Rattle.ll_session.proofs.line_reader.LineReader.read_line.Given as goal
+use Rattle.ll_lines.specs.Cutting.{Counts, Holds, IsLeft, most_left}
+use Rattle.ll_lines.proofs.line_reader.LineReader.read_line.Given as goal
 
 abbrev pub invariant-loop-byte : goal.invariant-loop-byte
 invariant-loop-byte g l = record {

@@ -1,7 +1,7 @@
 -- How lines are cut from what a reader gives. Cited by contracts between crates alone. own
 use Rattle.std.specs.Prelude.{◌≡◌, ℕ, ◌+◌, ◌-◌, ◌*◌, ◌<◌, ◌≤◌, Bool, true, false, List, [], ◌∷◌, ◌++◌, length, Option, Some, None}
 use Rattle.ll_wire.specs.Pieces.{pieces}
-use Rattle.ll_session.specs.Run.{most_reads}
+use Rattle.ll_lines.specs.Transcript.{most_reads}
 
 -- The line that is being read: its bytes, or that they are over 16,384
 abbrev pub Holds : Option (List ℕ) → List ℕ → Type 0
@@ -13,6 +13,10 @@ pub record Reading : Type 0 where
   pub bytes : List ℕ
   pub reads : ℕ
   pub is_ended : Bool
+
+-- before the first read
+abbrev pub unread : Reading
+unread = record { bytes = []; reads = 0; is_ended = false }
 
 -- This is not yet given: what is read, and what the reader has left
 pub record IsLeft (r : Reading) (remaining : Option (List ℕ)) (left : List ℕ) : Type 0 where

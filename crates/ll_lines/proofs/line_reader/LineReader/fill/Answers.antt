@@ -1,7 +1,7 @@
 use Rattle.std.proofs.Common.{◌∙◌, ap, arith, sym}
-use Rattle.ll_session.proofs.LeftToRead.{counts_read, held_some}
-use Rattle.ll_session.proofs.line_reader.LineReader.fill.Goals as goal
-use Rattle.ll_session.proofs.line_reader.LineReader.fill.Goals.{then-self-via-then-self, then-self-via-else-self+then-self-2}
+use Rattle.ll_lines.proofs.LeftToRead.{counts_read, held_some}
+use Rattle.ll_lines.proofs.line_reader.LineReader.fill.Goals as goal
+use Rattle.ll_lines.proofs.line_reader.LineReader.fill.Goals.{then-self-via-then-self, then-self-via-else-self+then-self-2}
 
 pub returns-then-self-clause-some : goal.returns-then-self-clause-some
 returns-then-self-clause-some g c none = elim c.then-self.branch [
