@@ -1,4 +1,4 @@
-//! The limits of everything that has one, each told once: code and definitions cite these.
+//! The limits that several crates share: code and definitions cite these.
 
 /// Bytes of a word of a line. own
 pub const WORD_BYTES: usize = 8000;

@@ -198,7 +198,7 @@ module _ (s : State) where
     stages Spawn = ([], [], [], [], many_clients)
     stages Connect = ([], [], [], [], many_clients)
 
--- a stage that looks at no tree, client or path is read off with any
+-- these stages ignore the arguments that are filled with dummies here
 abbrev pub any_tree : State
 any_tree = start (record { abi = 1; copies = false }) 1
 

@@ -40,7 +40,7 @@ abbrev pub step : State → ℕ → Call → ℕ → Reply × State
 step s number call fresh = first_or s (refusals s (client_of s number) call)
     (effect s number (client_of s number) (first_path call) (second_path call) fresh call)
 
--- what policy refuses is a denial; others count entries and see what is no call
+-- EACCES and EXDEV come only as denials; HistoryFull, BadLine and Stale never come from a step
 abbrev pub IsAnswer : Reply → Type 0
 IsAnswer (Bytes bytes) = IsData bytes
 IsAnswer (Listed names) = AreListed names
