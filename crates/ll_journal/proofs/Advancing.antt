@@ -9,10 +9,10 @@ use Rattle.ll_seq.specs.declared.call.Call.{Call}
 use Rattle.ll_seq.specs.declared.call.Call.TheVariants.{Connect}
 use Rattle.ll_seq.specs.declared.reply.Reply.{Reply}
 use Rattle.ll_seq.specs.declared.reply.Reply.TheVariants.{Done, Refused}
-use Rattle.ll_walks.specs.Walk.{Walk, turn, further, is_blocked, at_ends, is_above}
+use Rattle.ll_walks.specs.Walk.{Walk, turn, further, at_ends, is_above}
 use Rattle.ll_walks.specs.World.{World, Outcome, NotNow, Replied, Joined, advance, shown, domain_of, next_number, reply_to, without_walk, is_full, is_idle, is_marked_by_other, last_nodes, may_commit, enter, stand, descend, commit, joined, direct, moved_by}
 use Rattle.ll_walks.specs.declared.step.Step.TheVariants.{Join, Descend, Commit}
-use Rattle.ll_walks.proofs.Shapes.{committed, entered, if_directory, leg_is_blocked, may_hold, replied, restarted, stood, walking, with_entry, with_stale}
+use Rattle.ll_walks.proofs.Shapes.{committed, leg_is_blocked, replied, walking, with_entry, with_stale}
 use Rattle.ll_walks.proofs.Turns.{ended}
 
 -- ---- a client without a walk

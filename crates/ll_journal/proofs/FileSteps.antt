@@ -201,8 +201,8 @@ pub record FileStepped (b : Book) (number : ℕ) (call : Call) (slot : ℕ) (ans
 same_spares : (b b' : Book) (slots : List ℕ) → b' ≡ b → Spares b b' slots
 same_spares b b' slots e = subst (λ x. Spares b x slots) (sym e) (record { limit = refl; size = refl; slots = λ j out. refl })
 
-replied_so : (b b' : Book) (number : ℕ) (call : Call) (answer : Made) (reply : Reply) → answer ≡ answers.Replied → is_full b.world ≡ false → advance b.world (FdCommit number call) ≡ (Replied reply, b'.world) → Answers b (FdCommit number call) answer b'
-replied_so b b' number call answer reply is room e = subst (λ a. Answers b (FdCommit number call) a b') (sym is) (room, reply, e)
+replied_so : (b b' : Book) (number : ℕ) (call : Call) (answer : Made) (reply : Reply) → answer ≡ answers.Replied reply → is_full b.world ≡ false → advance b.world (FdCommit number call) ≡ (Replied reply, b'.world) → Answers b (FdCommit number call) answer b'
+replied_so b b' number call answer reply is room e = subst (λ a. Answers b (FdCommit number call) a b') (sym is) (room, e)
 
 starved_so : (b b' : Book) (number : ℕ) (call : Call) (answer : Made) → answer ≡ answers.NoMemory → b' ≡ b → Starves b.world (FdCommit number call) → Answers b (FdCommit number call) answer b'
 starved_so b b' number call answer is e starves = subst (λ a. Answers b (FdCommit number call) a b') (sym is) (e, starves)
@@ -276,7 +276,7 @@ module _ (j k : Inside) (h : IsKept j) (number : ℕ) (call : Call) (place : ℕ
 
   module _ (asked : BytesCall) (on : call ≡ on_bytes asked fd) (seats : k.seats.items ≡ j.seats.items) (table : k.table ≡ j.table) (reply : Reply)
       (comes : ComesOn d (on_bytes asked) file.node.bytes reply file'.node.bytes) (others : file' ≡ record file { node = record file.node { bytes = file'.node.bytes } })
-      (history : k.history ≡ entered j number call reply) (is : answer ≡ answers.Replied) where
+      (history : k.history ≡ entered j number call reply) (is : answer ≡ answers.Replied reply) where
     abbrev bytes : List ℕ
     bytes = file'.node.bytes
 
@@ -326,7 +326,7 @@ module _ (j k : Inside) (h : IsKept j) (number : ℕ) (call : Call) (place : ℕ
   -- ---- closing
 
   module _ (on : call ≡ Close fd) (new : Seat) (seats : k.seats.items ≡ slice_set j.seats.items place new) (new_is : new ≡ record old { client = unopened old.client fd })
-      (lets : LetsGo d.inode j.table k.table file file') (reply : Reply) (done : reply ≡ replies.Done) (history : k.history ≡ entered j number call reply) (is : answer ≡ answers.Replied) where
+      (lets : LetsGo d.inode j.table k.table file file') (reply : Reply) (done : reply ≡ replies.Done) (history : k.history ≡ entered j number call reply) (is : answer ≡ answers.Replied reply) where
     abbrev without : State
     without = with_client before number (unopened old.client fd)
 
@@ -494,7 +494,7 @@ module _ (j k : Inside) (h : IsKept j) (number : ℕ) (call : Call) (place : ℕ
     (slot : ℕ) (file : Held) (lent : file ≡ slot_of (book_of j) slot) (same : d.inode ≡ file.inode) (room_left : is_full (world_of j) ≡ false)
     (rules : k.rules ≡ j.rules) (room : k.room ≡ j.room) (gate : k.gate ≡ j.gate) (answer : Made) (file' : Held) (new : Seat) (seats : k.seats.items ≡ slice_set j.seats.items place new) where
   pub served : (what : FileCall) → call ≡ on_file what fd → (told : Result Reply AllocError) → IfOk told (λ reply. Serves fd d what old j.table file reply new k.table file') → OnErr told ((new ≡ old) × (k.table ≡ j.table) × (file' ≡ file))
-      → OnErr told (IsFreeOn d (on_file what)) → IfOk told (λ reply. (answer ≡ answers.Replied) × (k.history ≡ entered j number call reply)) → OnErr told ((answer ≡ answers.NoMemory) × (k.history ≡ j.history)) → FileStepped (book_of j) number call slot answer file' k
+      → OnErr told (IsFreeOn d (on_file what)) → IfOk told (λ reply. (answer ≡ answers.Replied reply) × (k.history ≡ entered j number call reply)) → OnErr told ((answer ≡ answers.NoMemory) × (k.history ≡ j.history)) → FileStepped (book_of j) number call slot answer file' k
   served files.Close is_call (Ok reply) serves err free ok bad =
       closes j k h number call place old at numbered fd files.Close is_call d idle holds slot file lent same room_left rules room gate answer file'
       is_call new seats serves.1 (subst (λ i. LetsGo i j.table k.table file file') (sym same) serves.2) reply serves.0 ok.1 ok.0

@@ -10,6 +10,7 @@ pub mod Entering
 pub mod Forking
 pub mod Descending
 pub mod HeldAfter
+pub mod HeldReplies
 pub mod LentSlots
 pub mod ClientTables
 pub mod AtEnds

@@ -20,7 +20,8 @@ use Rattle.ll_seq.specs.Call.{first_path, second_path}
 use Rattle.ll_seq.specs.CallParts.{done, existence_refusals, kind_refusals, limit_refusals}
 use Rattle.ll_seq.specs.Stages.{missing}
 use Rattle.ll_seq.specs.State.{State, kind_of, new_client}
-use Rattle.ll_seq.specs.Step.{client_of, first_or, refusals}
+use Rattle.ll_seq.specs.Memory.{holds_memory}
+use Rattle.ll_seq.specs.Step.{client_of, first_or, refusals, step}
 use Rattle.ll_seq.specs.Tree.{named, ancestors}
 use Rattle.ll_laws.proofs.Unrefused.{nil_left, nil_right, nil_map, not_refused}
 use Rattle.ll_answer.specs.declared.changes.Answer.{Answer}
@@ -35,6 +36,7 @@ use Rattle.ll_answer.specs.declared.found.There.{There}
 use Rattle.ll_answer.specs.Decided.{IsDone, IsRefused}
 use Rattle.ll_answer.specs.Effect.{CanOpen, Fits, Holds, after, told}
 use Rattle.ll_answer.specs.Found.{there_in}
+use Rattle.ll_answer.specs.Lean.{spares_memory}
 use Rattle.ll_answer.specs.Near.{AreNear, IsNear, changed_inodes, inode_at, nodes_of, opened_inode, told_inodes}
 use Rattle.ll_held.specs.declared.held.Held.{Held}
 use Rattle.ll_inodes.specs.InodeTable.{Table}
@@ -43,6 +45,7 @@ use Rattle.ll_changes.proofs.GivenSlots.{given_tree, held_there, kind_there, mad
 use Rattle.ll_changes.proofs.StayingSlots.{directory_some, named_some}
 use Rattle.ll_walks.specs.Walk.{is_in}
 use Rattle.ll_journal.specs.Performed.{IsAtEnd, Performs, lies_in}
+use Rattle.ll_journal.proofs.HeldReplies.{held_free, held_takes}
 
 masks_long : (masks inodes : List ℕ) (domain : List Layer) → AreMasks masks domain inodes → length masks ≡ length domain
 masks_long masks inodes domain are = sym (AllZip-long (λ mask layer. IsMask mask layer inodes) masks domain are)
@@ -129,6 +132,16 @@ module _ {s : State} {number : ℕ} {marks : ℕ → Option ℕ} {spares : List 
     made = made_idle s number marks spares place c spare table slots lent end.given;
   }
 
+  -- a reply that holds bytes or names is no refusal
+  holding : (answer : Reply) → IsRefused s number asked answer → holds_memory answer ≡ true → holds_memory (step s number asked 0).0 ≡ true
+  holding answer same holds = ap (λ (o : Reply × State). holds_memory o.0) (sym (same 0)) ∙ holds
+
+  pub free_if_held : (answer : Reply) → IsRefused s number asked answer → holds_memory answer ≡ true → refusals s (client_of s number) asked ≡ []
+  free_if_held answer same holds = held_free s number asked 0 (holding answer same holds)
+
+  pub takes_if_held : (answer : Reply) → IsRefused s number asked answer → holds_memory answer ≡ true → spares_memory asked ≡ false
+  takes_if_held answer same holds = held_takes s number asked 0 (holding answer same holds)
+
   -- ---- which nodes are there
 
   held_some : (at : At) (x : ℕ) → Holds s at x → x ≢ 0
@@ -201,6 +214,10 @@ module _ {s : State} {number : ℕ} {marks : ℕ → Option ℕ} {spares : List 
     answered =
         ap (λ (o : Reply × State). o.0)
         (sym (ap (λ replies. first_or s replies (done s number (client_of s number) asked (first_path asked) (second_path asked) 0)) is.free) ∙ is.done 0)
+
+    pub takes_if_told : (answer : Reply) → answer ≡ told s effect.answer → holds_memory answer ≡ true → spares_memory asked ≡ false
+    takes_if_told answer tells_so holds =
+        held_takes s number asked 0 (ap (λ (o : Reply × State). holds_memory o.0) (is.done 0) ∙ ap holds_memory (sym tells_so) ∙ holds)
 
     -- the nodes that are told of are there
     pub told_some : AllByRecursion (λ i. i ≢ 0) (told_inodes effect.answer)

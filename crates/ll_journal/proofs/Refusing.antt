@@ -143,10 +143,9 @@ module _ (j i : Inside) (h : IsKept j) (mid : IsKept i) (number place : ℕ) (nu
       committed_kept j i refused_journal h mid number place blocked.walk blocked.ends.is blocked.ends.may ended room_then seat at numbered (Refused errno) seat.client seat.spare lent slots performs
       seat refl refl refl [] refl (seats_as_were i.seats.items place seat at) history refl refl refl
 
-  pub refused_does : Ends (book_of j) number Replied (book_of refused_journal)
+  pub refused_does : Ends (book_of j) number (Replied (Refused errno)) (book_of refused_journal)
   refused_does = (
     room_left,
-    Refused errno,
     committed_step j i refused_journal h mid number place blocked.walk blocked.ends.is blocked.ends.may ended room_then seat at numbered (Refused errno) seat.client seat.spare lent slots performs
         seat refl refl refl [] refl (seats_as_were i.seats.items place seat at) history refl refl refl,
   )

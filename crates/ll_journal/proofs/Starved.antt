@@ -1,5 +1,5 @@
 -- What nothing refuses is answered by no refusal, and want of memory is none.
-use Rattle.std.specs.Prelude.{◌≡◌, ◌≢◌, ℕ, Bool, true, false, List, [], ◌∷◌, ◌++◌, Result, Ok, Err, OnErr, refl}
+use Rattle.std.specs.Prelude.{◌≡◌, ◌≢◌, ℕ, Bool, true, false, List, [], ◌∷◌, ◌++◌, Result, Ok, Err, OnErr, is_ok, refl}
 use Rattle.std.specs.List.{AllByRecursion}
 use Rattle.std.proofs.Common.{ap, ◌∙◌, inl, inr}
 use Rattle.ll_rights.specs.declared.errno.Errno.{Errno}
@@ -53,6 +53,10 @@ when_err (Err e) f h = f h
 pub if_err : {A E P : Type 0} (r : Result A E) → P → OnErr r P
 if_err (Ok x) h = tt
 if_err (Err e) h = h
+
+pub never_err : {A E P : Type 0} (r : Result A E) → OnErr r P → (P → ⊥) → is_ok r ≡ true
+never_err (Ok x) h f = refl
+never_err (Err e) h f = absurd (f h)
 
 abbrev pub AreRefusals : List Errno → Type 0
 AreRefusals es = AllByRecursion (λ e. e ≢ NoMemory) es

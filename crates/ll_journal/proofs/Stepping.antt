@@ -135,8 +135,8 @@ seated_put s seats place number old new at numbered seated q = by (insert_cases 
 same_spares : (b b' : Book) → b' ≡ b → Spares b b' []
 same_spares b b' e = subst (λ x. Spares b x []) (sym e) (record { limit = refl; size = refl; slots = λ j out. refl })
 
-replied_so : (b b' : Book) (number : ℕ) (call : Call) (answer : Made) (reply : Reply) → answer ≡ answers.Replied → is_full b.world ≡ false → advance b.world (ClientStep number call) ≡ (Replied reply, b'.world) → Answers b (ClientStep number call) answer b'
-replied_so b b' number call answer reply is room e = subst (λ a. Answers b (ClientStep number call) a b') (sym is) (room, reply, e)
+replied_so : (b b' : Book) (number : ℕ) (call : Call) (answer : Made) (reply : Reply) → answer ≡ answers.Replied reply → is_full b.world ≡ false → advance b.world (ClientStep number call) ≡ (Replied reply, b'.world) → Answers b (ClientStep number call) answer b'
+replied_so b b' number call answer reply is room e = subst (λ a. Answers b (ClientStep number call) a b') (sym is) (room, e)
 
 starved_so : (b b' : Book) (number : ℕ) (call : Call) (answer : Made) → answer ≡ answers.NoMemory → b' ≡ b → Starves b.world (ClientStep number call) → Answers b (ClientStep number call) answer b'
 starved_so b b' number call answer is e starves = subst (λ a. Answers b (ClientStep number call) a b') (sym is) (e, starves)
@@ -177,8 +177,8 @@ pub record Stepped (b : Book) (number : ℕ) (call : Call) (answer : Made) (k : 
   pub calm : answer ≡ answers.NoMemory → TakesMemory call
   pub rest : LeavesSlots call b (book_of k)
 
-replied_calm : (answer : Made) (call : Call) → answer ≡ answers.Replied → answer ≡ answers.NoMemory → TakesMemory call
-replied_calm answer call is starved = absurd (cc (sym is ∙ starved))
+replied_calm : (answer : Made) (call : Call) (reply : Reply) → answer ≡ answers.Replied reply → answer ≡ answers.NoMemory → TakesMemory call
+replied_calm answer call reply is starved = absurd (cc (sym is ∙ starved))
 
 -- what a call on the record takes memory for
 record_calm : (s : State) (number : ℕ) (c : ClientRecord) → get s.clients number ≡ Some c → (call : Call) (what : RecordCall) → Asks c call what → refusals s c call ≡ [] → TakesMemory call
@@ -216,7 +216,7 @@ module _ (j k : Inside) (h : IsKept j) (number : ℕ) (call : Call) (place : ℕ
     slots_stay = λ i. record { world = world_of k; inodes = (table i).inodes; free = (table i).free; spares = spares_are i }
 
     module _ (alone : is_alone old.client call ≡ true) (reply : Reply) (comes_so : step before number call (next_number (world_of j)) ≡ (reply, with_client before number new.client)) (same : new.client.descriptors ≡ old.client.descriptors)
-        (history : k.history ≡ entered j number call reply) (is : answer ≡ answers.Replied) where
+        (history : k.history ≡ entered j number call reply) (is : answer ≡ answers.Replied reply) where
       told_so : reply ≡ reply_to (world_of j) number call
       told_so = sym (ap (λ (p : Reply × State). p.0) comes_so)
 
@@ -247,7 +247,7 @@ module _ (j k : Inside) (h : IsKept j) (number : ℕ) (call : Call) (place : ℕ
         kept = kept_so;
         does = replied_so (book_of j) (book_of k) number call answer reply is room_left advances;
         spares = spares_answered (book_of j) (book_of k) number call reply h.sound kept_so.sound world_so told_so (ap (λ (t : Table). t.inodes) table) (λ i. ap (λ s. content_of s i) after);
-        calm = replied_calm answer call is;
+        calm = replied_calm answer call reply is;
         rest = inl slots_stay;
       }
 
@@ -277,7 +277,7 @@ module _ (j k : Inside) (h : IsKept j) (number : ℕ) (call : Call) (place : ℕ
 
   pub on_record : (new : Seat) → k.seats.items ≡ slice_set j.seats.items place new → k.table ≡ j.table → new ≡ record old { client = new.client } → (what : RecordCall) → Asks old.client call what
       → (told : Result Reply AllocError) → IfOk told (λ reply. Comes j.rules.abi old.client what reply new.client) → new.client.descriptors ≡ old.client.descriptors → OnErr told (new ≡ old)
-      → OnErr told (IsFreeOwn j.rules.abi old.client what) → IfOk told (λ reply. (answer ≡ answers.Replied) × (k.history ≡ entered j number call reply)) → OnErr told ((answer ≡ answers.NoMemory) × (k.history ≡ j.history)) → Stepped (book_of j) number call answer k
+      → OnErr told (IsFreeOwn j.rules.abi old.client what) → IfOk told (λ reply. (answer ≡ answers.Replied reply) × (k.history ≡ entered j number call reply)) → OnErr told ((answer ≡ answers.NoMemory) × (k.history ≡ j.history)) → Stepped (book_of j) number call answer k
   on_record new seats table rest what asks (Ok reply) comes same err free ok bad =
       answered_so new seats table rest (asks_alone old.client call what asks) reply
       (comes call asks before number (next_number (world_of j)) (ap (λ (r : Rules). r.abi) rules_are) (there j h number call place old at numbered)) same ok.1 ok.0
@@ -296,7 +296,7 @@ module _ (j k : Inside) (h : IsKept j) (number : ℕ) (call : Call) (place : ℕ
     here : get before.clients number ≡ Some old.client
     here = there j h number call place old at numbered
 
-    crowded : TREE_CLIENTS ≤ length j.seats.items → (reply : Reply) → reply ≡ replies.Refused EMFILE → k.seats.items ≡ j.seats.items → k.table ≡ j.table → k.history ≡ entered j number call reply → answer ≡ answers.Replied → Stepped (book_of j) number call answer k
+    crowded : TREE_CLIENTS ≤ length j.seats.items → (reply : Reply) → reply ≡ replies.Refused EMFILE → k.seats.items ≡ j.seats.items → k.table ≡ j.table → k.history ≡ entered j number call reply → answer ≡ answers.Replied reply → Stepped (book_of j) number call answer k
     crowded many reply told seats table history is =
         answered_so old (seats ∙ sym (set_again j.seats.items place old at)) table refl alone_so reply
         (ap (λ c. step before number c (next_number (world_of j))) spawn
@@ -305,7 +305,7 @@ module _ (j k : Inside) (h : IsKept j) (number : ℕ) (call : Call) (place : ℕ
         refl history is
 
     module _ (few : length j.seats.items < TREE_CLIENTS) (born : ℕ) (reply : Reply) (told : reply ≡ replies.Spawned born) (spawns : Spawns j.rules place j.seats.items j.table born k.seats.items k.table)
-        (history : k.history ≡ entered j number call reply) (is : answer ≡ answers.Replied) where
+        (history : k.history ≡ entered j number call reply) (is : answer ≡ answers.Replied reply) where
       parent_is : spawns.parent ≡ old
       parent_is = same_Some spawns.parent old (sym spawns.there ∙ at)
 
@@ -345,13 +345,13 @@ module _ (j k : Inside) (h : IsKept j) (number : ℕ) (call : Call) (place : ℕ
         kept = kept_spawned;
         does = replied_so (book_of j) (book_of k) number call answer reply is room_left advances_so;
         spares = spares_answered (book_of j) (book_of k) number call reply h.sound kept_spawned.sound world_spawned told_is (ap (λ (t : Table). t.inodes) spawns.rest-is) (λ i. ap (λ s. content_of s i) after_spawn);
-        calm = replied_calm answer call is;
+        calm = replied_calm answer call reply is;
         rest = inr (spawn, takes_spare j k h number call reply told_is rules room gate history seat refl spawns.seats-are spawns.free-is after_spawn (ap (λ (t : Table). t.inodes) spawns.rest-is));
       }
 
     pub on_spawn : (told : Result Reply AllocError) → IfOk told (SpawnTells j.rules place j.seats.items j.table k.seats.items k.table)
         → OnErr told ((k.seats.items ≡ j.seats.items) × (k.table ≡ j.table)) → OnErr told (length j.seats.items < TREE_CLIENTS)
-        → IfOk told (λ reply. (answer ≡ answers.Replied) × (k.history ≡ entered j number call reply)) → OnErr told ((answer ≡ answers.NoMemory) × (k.history ≡ j.history)) → Stepped (book_of j) number call answer k
+        → IfOk told (λ reply. (answer ≡ answers.Replied reply) × (k.history ≡ entered j number call reply)) → OnErr told ((answer ≡ answers.NoMemory) × (k.history ≡ j.history)) → Stepped (book_of j) number call answer k
     on_spawn (Ok reply) (inl a) err few ok bad = crowded a.0 reply a.1 a.2 a.3 ok.1 ok.0
     on_spawn (Ok reply) (inr a) err few ok bad = one_more a.0 a.1 reply a.2 a.3 ok.1 ok.0
     on_spawn (Err e) tells err few ok bad =

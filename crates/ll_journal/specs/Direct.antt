@@ -7,7 +7,6 @@ use Rattle.ll_seq.specs.declared.call.Call.{Call}
 use Rattle.ll_seq.specs.declared.call.Call.TheVariants.{Ruleset, Confine, Spawn, Close}
 use Rattle.ll_seq.specs.declared.client.ClientRecord.{ClientRecord}
 use Rattle.ll_seq.specs.declared.client.Descriptor.{Descriptor}
-use Rattle.ll_seq.specs.declared.reply.Reply.{Reply}
 use Rattle.ll_seq.specs.declared.reply.Reply.TheVariants.{Refused}
 use Rattle.ll_seq.specs.State.{kind_of}
 use Rattle.ll_walks.specs.World as world
@@ -25,8 +24,8 @@ use Rattle.ll_journal.specs.Starving.{Starves}
 -- The outcome is that of the step, and so is the world after. A full history takes no entry, and where memory runs out,
 -- for a call that nothing refuses, the step isn't made
 abbrev pub Answers : Book → Step → Made → Book → Type 0
-Answers b step' answer.Replied b' =
-    (is_full b.world ≡ false) × (reply : Reply) × (advance b.world step' ≡ (world.Replied reply, b'.world))
+Answers b step' (answer.Replied reply) b' =
+    (is_full b.world ≡ false) × (advance b.world step' ≡ (world.Replied reply, b'.world))
 Answers b step' answer.HistoryFull b' =
     (advance b.world step' ≡ (world.Replied (Refused HistoryFull), b'.world)) × (b' ≡ b)
 Answers b step' answer.NoMemory b' = (b' ≡ b) × Starves b.world step'

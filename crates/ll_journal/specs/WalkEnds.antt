@@ -1,12 +1,11 @@
 -- What comes of a commit, and which slots it needs. own
-use Rattle.std.specs.Prelude.{◌≡◌, ◌⊎◌, ℕ, ◌-◌, Bool, true, false, List, [], map, is_none, Some, slice_index_or, ◌∷◌, ◌++◌, Option, slice_set}
+use Rattle.std.specs.Prelude.{◌≡◌, ◌⊎◌, ℕ, ◌-◌, Bool, true, false, List, [], map, is_none, Some, slice_index_or, ◌∷◌, ◌++◌, slice_set}
 use Rattle.ll_rights.specs.Map.{get, has}
 use Rattle.ll_rights.specs.declared.errno.Errno.TheVariants.{HistoryFull}
 use Rattle.ll_path.specs.declared.target.Target.{Target}
 use Rattle.ll_answer.specs.Lean.{spares_memory}
 use Rattle.ll_seq.specs.declared.call.Call.{Call}
 use Rattle.ll_seq.specs.declared.call.Call.TheVariants as call
-use Rattle.ll_seq.specs.declared.reply.Reply.{Reply}
 use Rattle.ll_seq.specs.declared.reply.Reply.TheVariants.{Refused}
 use Rattle.ll_seq.specs.Call.{path_of}
 use Rattle.ll_seq.specs.State.{State}
@@ -26,8 +25,8 @@ use Rattle.ll_journal.specs.Starving.{StarvesAtEnd}
 abbrev pub Ends : Book → ℕ → Ending → Book → Type 0
 Ends b number ending.NotNow b' = advance b.world (Commit number) ≡ (world.NotNow, b'.world)
 Ends b number ending.Astray b' = b' ≡ b
-Ends b number ending.Replied b' =
-    (is_full b.world ≡ false) × (reply : Reply) × (advance b.world (Commit number) ≡ (world.Replied reply, b'.world))
+Ends b number (ending.Replied reply) b' =
+    (is_full b.world ≡ false) × (advance b.world (Commit number) ≡ (world.Replied reply, b'.world))
 Ends b number ending.HistoryFull b' = advance b.world (Commit number) ≡ (world.Replied (Refused HistoryFull), b'.world)
 Ends b number ending.NoMemory b' = StarvesAtEnd b.world number × (b'.world ≡ without_walk b.world number)
 

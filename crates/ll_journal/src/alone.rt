@@ -6,6 +6,7 @@ ghost use Rattle.ll_walks.specs.World as world;
 ghost use Rattle.ll_seq.specs.declared.reply.Reply.TheVariants as replies;
 ghost use Rattle.ll_journal.specs.Own.{IsOwn, Comes, IsFreeOwn};
 
+use crate::pair::ReplyPair;
 use ll_answer::refused_early;
 use ll_rights::{Abi, Access, Errno};
 use ll_seq::{Call, ClientRecord, Reply};
@@ -81,14 +82,14 @@ pub(crate) fn own_call(caller: &ClientRecord, call: &Call) -> Option<Own>
 }
 
 /// The reply, unless memory ran out.
-pub(crate) fn refusal(errno: Errno) -> Result<Reply, AllocError>
+pub(crate) fn refusal(alloc: Global, errno: Errno) -> Result<ReplyPair, AllocError>
     ensures ok { IfOk result (λ reply. (errno ≢ Errno.NoMemory) × (reply ≡ replies.Refused errno)) }
     ensures err { OnErr result (errno ≡ Errno.NoMemory) }
 {
     if errno == Errno::NoMemory {
         return Err(AllocError);
     }
-    Ok(Reply::Refused(errno))
+    ReplyPair::new(alloc, Reply::Refused(errno))
 }
 
 /// A new ruleset, or its refusal.
@@ -97,20 +98,20 @@ fn create_ruleset(
     alloc: Global,
     abi: Abi,
     rights: Access,
-) -> Result<Reply, AllocError>
+) -> Result<ReplyPair, AllocError>
     ensures ok { IfOk result (λ reply. Comes abi client.old (RecordCall.Ruleset rights) reply client.new) }
     ensures descriptors { client.new.descriptors ≡ client.old.descriptors }
     ensures err { OnErr result (client.new ≡ client.old) }
     ensures starved { OnErr result (IsFreeOwn abi client.old (RecordCall.Ruleset rights)) }
 {
     match client.create_ruleset(alloc, abi, rights) {
-        Ok(number) => Ok(Reply::Created(number)),
-        Err(errno) => refusal(errno),
+        Ok(number) => ReplyPair::new(alloc, Reply::Created(number)),
+        Err(errno) => refusal(alloc, errno),
     }
 }
 
 /// The client is under one layer more, or the refusal.
-fn confine(client: &mut ClientRecord, number: u64) -> Result<Reply, AllocError>
+fn confine(client: &mut ClientRecord, alloc: Global, number: u64) -> Result<ReplyPair, AllocError>
     ensures ok { IfOk result (λ reply. (abi : Abi)
         → Comes abi client.old (RecordCall.Confine number) reply client.new) }
     ensures descriptors { client.new.descriptors ≡ client.old.descriptors }
@@ -118,11 +119,11 @@ fn confine(client: &mut ClientRecord, number: u64) -> Result<Reply, AllocError>
     ensures starved { OnErr result ((abi : Abi) → IsFreeOwn abi client.old (RecordCall.Confine number)) }
 {
     if client.rulesets.get(number).is_none() {
-        return Ok(Reply::Refused(Errno::EBADF));
+        return ReplyPair::new(alloc, Reply::Refused(Errno::EBADF));
     }
     match client.confine(number) {
-        Ok(()) => Ok(Reply::Done),
-        Err(errno) => refusal(errno),
+        Ok(()) => ReplyPair::new(alloc, Reply::Done),
+        Err(errno) => refusal(alloc, errno),
     }
 }
 
@@ -132,7 +133,7 @@ pub(crate) fn answer(
     alloc: Global,
     abi: Abi,
     asked: RecordCall,
-) -> Result<Reply, AllocError>
+) -> Result<ReplyPair, AllocError>
     ensures ok { IfOk result (λ reply. Comes abi client.old asked reply client.new) }
     ensures descriptors { client.new.descriptors ≡ client.old.descriptors }
     ensures err { OnErr result (client.new ≡ client.old) }
@@ -140,7 +141,7 @@ pub(crate) fn answer(
 {
     match asked {
         RecordCall::Ruleset(rights) => create_ruleset(client, alloc, abi, rights),
-        RecordCall::Confine(number) => confine(client, number),
-        RecordCall::Refused(errno) => Ok(Reply::Refused(errno)),
+        RecordCall::Confine(number) => confine(client, alloc, number),
+        RecordCall::Refused(errno) => ReplyPair::new(alloc, Reply::Refused(errno)),
     }
 }

@@ -1,6 +1,6 @@
 //! The commit of a walk: its call is answered.
 
-ghost use Rattle.std.specs.Prelude.{◌≡◌, ◌≢◌, ◌⊎◌, ◌<◌, ℕ, List, suc, true, length, map, Some};
+ghost use Rattle.std.specs.Prelude.{◌≡◌, ◌≢◌, ◌<◌, ℕ, List, suc, true, length, map, Some};
 ghost use Rattle.ll_rights.specs.Map.{get};
 ghost use Rattle.ll_walks.specs.Walk as walks;
 
@@ -81,7 +81,8 @@ impl Journal {
         ensures lent { lent.new ≡ map (slot_of self.new) slots.now }
         ensures spares { Spares self.old self.new slots.now }
         ensures rest { self.new ≡ record self.old { world = self.new.world } }
-        ensures told { (result ≡ Ending.Replied) ⊎ (result ≡ Ending.HistoryFull) }
+        ensures calm { result ≢ Ending.NoMemory }
+        ensures not_astray { result ≢ Ending.Astray }
     {
         let is_full = self.history.is_full();
         let walk = self.end_walk(place, client, lent);
@@ -94,7 +95,7 @@ impl Journal {
             call: walk.call,
             reply: Reply::Refused(errno),
         });
-        Ending::Replied
+        Ending::Replied(Reply::Refused(errno))
     }
 
     /// Each branch is at its end: the walk's call is decided and made.
@@ -126,17 +127,18 @@ impl Journal {
         }
         let alloc = self.alloc;
         let seat = &mut self.seats[place];
-        let Ok(reply) = seat.perform(alloc, &mut self.table, slots, lent, &walk, found) else {
+        let Ok(told) = seat.perform(alloc, &mut self.table, slots, lent, &walk, found) else {
             drop(walk);
             return Ending::NoMemory;
         };
+        let (reply, copy) = told.split();
         overtake_moved(&mut self.seats, moved_by(&walk.call, found, &reply));
         self.history.push(Entry {
             client,
             call: walk.call,
             reply,
         });
-        Ending::Replied
+        Ending::Replied(copy)
     }
 
     /// The client's walk is answered. What is lent lies in these slots: those of the directories where the walk stands,

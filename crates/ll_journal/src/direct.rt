@@ -9,6 +9,7 @@ ghost use Rattle.ll_rights.specs.declared.limits.TheConstants.{TREE_CLIENTS};
 
 use crate::alone::Own;
 use crate::journal::{Journal, place_of};
+use crate::pair::ReplyPair;
 use crate::seat::Seat;
 use ll_inodes::Inodes;
 use ll_rights::Errno;
@@ -17,10 +18,10 @@ use ll_seq::{Call, ClientRecord, Entry, History, Reply, Rules};
 use std::alloc::{AllocError, Global};
 
 /// What comes of a call that doesn't walk.
-#[derive(Clone, Copy)]
+#[derive(Drop)]
 pub enum Made {
-    /// The history's last entry has the reply.
-    Replied,
+    /// The reply is that of the history's last entry.
+    Replied(Reply),
     /// The history takes no more entry. Nothing has changed.
     HistoryFull,
     /// Memory ran out. Nothing has changed.
@@ -79,7 +80,7 @@ fn answer_spawn(
     alloc: Global,
     rules: Rules,
     place: usize,
-) -> Result<Reply, AllocError>
+) -> Result<ReplyPair, AllocError>
     requires place { place < length seats.old.items }
     requires free { length seats.old.items < TREE_CLIENTS → 0 < length table.old.free }
     ensures ok { IfOk result (SpawnTells rules place
@@ -89,10 +90,10 @@ fn answer_spawn(
     ensures few { OnErr result (length seats.old.items < TREE_CLIENTS) }
 {
     if TREE_CLIENTS <= seats.len() {
-        return Ok(Reply::Refused(Errno::EMFILE));
+        return ReplyPair::new(alloc, Reply::Refused(Errno::EMFILE));
     }
     let number = spawn(seats, table, alloc, rules, place)?;
-    Ok(Reply::Spawned(number))
+    ReplyPair::new(alloc, Reply::Spawned(number))
 }
 
 /// The call and its reply become the last entry, unless memory ran out.
@@ -100,23 +101,24 @@ pub(crate) fn enter(
     history: &mut History,
     client: u64,
     call: Call,
-    told: Result<Reply, AllocError>,
+    told: Result<ReplyPair, AllocError>,
 ) -> Made
     requires { length history.old.entries < history.old.limit }
-    ensures ok { IfOk told (λ reply. (result ≡ Made.Replied)
+    ensures ok { IfOk told (λ reply. (result ≡ Made.Replied reply)
         × (history.new ≡ record history.old {
           entries = history.old.entries ++ record { client = client; call = call; reply = reply } ∷ [];
         })) }
     ensures err { OnErr told ((result ≡ Made.NoMemory) × (history.new ≡ history.old)) }
 {
     match told {
-        Ok(reply) => {
+        Ok(told) => {
+            let (reply, copy) = told.split();
             history.push(Entry {
                 client,
                 call,
                 reply,
             });
-            Made::Replied
+            Made::Replied(copy)
         }
         Err(_) => {
             drop(call);

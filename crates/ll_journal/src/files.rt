@@ -6,6 +6,7 @@ ghost use Rattle.ll_seq.specs.declared.call.Call.TheVariants as calls;
 ghost use Rattle.ll_journal.specs.Files.{ComesOn, IsFreeOn, IsOn, on_bytes};
 
 use crate::alone::refusal;
+use crate::pair::ReplyPair;
 use ll_decide::{Cause, Denial, Place};
 use ll_held::Held;
 use ll_node::Slot;
@@ -13,7 +14,7 @@ use ll_path::Data;
 use ll_rights::limits::DATA_BYTES;
 use ll_rights::{Errno, Right};
 use ll_seq::{Call, Descriptor, Reply};
-use std::alloc::AllocError;
+use std::alloc::{AllocError, Global};
 
 const MOST_READ: u64 = DATA_BYTES as u64;
 
@@ -69,22 +70,34 @@ pub(crate) fn file_call(call: &Call) -> Option<(u64, FileCall<'_>)>
 }
 
 /// What a reading is answered. Errors: memory ran out.
-fn read(file: &Descriptor, offset: u64, count: u64, node: &Slot) -> Result<Reply, AllocError>
+fn read(
+    alloc: Global,
+    file: &Descriptor,
+    offset: u64,
+    count: u64,
+    node: &Slot,
+) -> Result<ReplyPair, AllocError>
     ensures ok { IfOk result (λ reply. ComesOn file.now (λ fd. calls.Read fd offset count) node.now.bytes reply node.now.bytes) }
     ensures starved { OnErr result (IsFreeOn file.now (λ fd. calls.Read fd offset count)) }
 {
     if MOST_READ < count {
-        return Ok(Reply::Refused(Errno::EINVAL));
+        return ReplyPair::new(alloc, Reply::Refused(Errno::EINVAL));
     }
     if !file.reads {
-        return Ok(Reply::Refused(Errno::EBADF));
+        return ReplyPair::new(alloc, Reply::Refused(Errno::EBADF));
     }
     let bytes = node.read_at(offset, count)?;
-    Ok(Reply::Bytes(bytes))
+    ReplyPair::new(alloc, Reply::Bytes(bytes))
 }
 
 /// The reply, after the bytes have come into the node's. Errors: memory ran out, and nothing has changed.
-fn write(file: &Descriptor, offset: u64, bytes: &Data, node: &mut Slot) -> Result<Reply, AllocError>
+fn write(
+    alloc: Global,
+    file: &Descriptor,
+    offset: u64,
+    bytes: &Data,
+    node: &mut Slot,
+) -> Result<ReplyPair, AllocError>
     requires { is_dir node.old.kind ≡ false }
     ensures ok { IfOk result (λ reply. ComesOn file.now (λ fd. calls.Write fd offset bytes.now) node.old.bytes reply node.new.bytes) }
     ensures rest { node.new ≡ record node.old { bytes = node.new.bytes } }
@@ -92,16 +105,21 @@ fn write(file: &Descriptor, offset: u64, bytes: &Data, node: &mut Slot) -> Resul
     ensures starved { OnErr result (IsFreeOn file.now (λ fd. calls.Write fd offset bytes.now)) }
 {
     if !file.writes {
-        return Ok(Reply::Refused(Errno::EBADF));
+        return ReplyPair::new(alloc, Reply::Refused(Errno::EBADF));
     }
     match node.write_at(offset, bytes.as_slice()) {
-        Ok(()) => Ok(Reply::Wrote(bytes.len() as u64)),
-        Err(errno) => refusal(errno),
+        Ok(()) => ReplyPair::new(alloc, Reply::Wrote(bytes.len() as u64)),
+        Err(errno) => refusal(alloc, errno),
     }
 }
 
 /// The reply, after the node's bytes have this length. Errors: memory ran out, and nothing has changed.
-fn resize(file: &Descriptor, size: u64, node: &mut Slot) -> Result<Reply, AllocError>
+fn resize(
+    alloc: Global,
+    file: &Descriptor,
+    size: u64,
+    node: &mut Slot,
+) -> Result<ReplyPair, AllocError>
     requires { is_dir node.old.kind ≡ false }
     ensures ok { IfOk result (λ reply. ComesOn file.now (λ fd. calls.Ftruncate fd size) node.old.bytes reply node.new.bytes) }
     ensures rest { node.new ≡ record node.old { bytes = node.new.bytes } }
@@ -109,28 +127,30 @@ fn resize(file: &Descriptor, size: u64, node: &mut Slot) -> Result<Reply, AllocE
     ensures starved { OnErr result (IsFreeOn file.now (λ fd. calls.Ftruncate fd size)) }
 {
     if !file.writes {
-        return Ok(Reply::Refused(Errno::EINVAL));
+        return ReplyPair::new(alloc, Reply::Refused(Errno::EINVAL));
     }
     if let Some(layer) = file.kept {
-        return Ok(Reply::Denied(Denial {
+        let denial = Denial {
             cause: Cause::EACCES,
             layer,
             right: Right::TRUNCATE,
             place: Place::At,
-        }));
+        };
+        return ReplyPair::new(alloc, Reply::Denied(denial));
     }
     match node.set_len(size) {
-        Ok(()) => Ok(Reply::Done),
-        Err(errno) => refusal(errno),
+        Ok(()) => ReplyPair::new(alloc, Reply::Done),
+        Err(errno) => refusal(alloc, errno),
     }
 }
 
 /// The reply, after the call has been made. Errors: memory ran out, and nothing has changed.
 pub(crate) fn answer(
+    alloc: Global,
     file: &Descriptor,
     asked: BytesCall<'_>,
     held: &mut Held,
-) -> Result<Reply, AllocError>
+) -> Result<ReplyPair, AllocError>
     requires { is_dir held.old.node.kind ≡ false }
     ensures ok { IfOk result (λ reply. ComesOn file.now (on_bytes asked.entry) held.old.node.bytes reply held.new.node.bytes) }
     ensures rest { held.new ≡ record held.old { node = record held.old.node { bytes = held.new.node.bytes } } }
@@ -138,8 +158,8 @@ pub(crate) fn answer(
     ensures starved { OnErr result (IsFreeOn file.now (on_bytes asked.entry)) }
 {
     match asked {
-        BytesCall::Read(offset, count) => read(file, offset, count, &held.node),
-        BytesCall::Write(offset, bytes) => write(file, offset, bytes, &mut held.node),
-        BytesCall::Resize(size) => resize(file, size, &mut held.node),
+        BytesCall::Read(offset, count) => read(alloc, file, offset, count, &held.node),
+        BytesCall::Write(offset, bytes) => write(alloc, file, offset, bytes, &mut held.node),
+        BytesCall::Resize(size) => resize(alloc, file, size, &mut held.node),
     }
 }

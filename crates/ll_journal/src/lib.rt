@@ -13,6 +13,7 @@ mod look;
 mod needs;
 mod open_file;
 mod outcome;
+mod pair;
 mod perform;
 mod seat;
 mod slots;

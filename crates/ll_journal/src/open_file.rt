@@ -9,6 +9,7 @@ ghost use Rattle.ll_journal.specs.Files.{IsFreeOn, LetsGo, Serves, on_file};
 use crate::direct::{Made, enter};
 use crate::files::{FileCall, answer, file_call};
 use crate::journal::{Journal, place_of};
+use crate::pair::ReplyPair;
 use crate::seat::Seat;
 use ll_held::Held;
 use ll_inodes::Inodes;
@@ -60,7 +61,7 @@ fn serve(
     held: Descriptor,
     asked: FileCall<'_>,
     file: &mut Held,
-) -> Result<Reply, AllocError>
+) -> Result<ReplyPair, AllocError>
     requires { is_dir file.old.node.kind ≡ false }
     ensures ok { IfOk result (λ reply. Serves number held asked.entry seat.old table.old file.old reply seat.new table.new file.new) }
     ensures err { OnErr result ((seat.new ≡ seat.old) × (table.new ≡ table.old) × (file.new ≡ file.old)) }
@@ -71,9 +72,9 @@ fn serve(
         FileCall::Close => {
             seat.close(number);
             let_go(table, alloc, file);
-            Ok(Reply::Done)
+            ReplyPair::new(alloc, Reply::Done)
         }
-        FileCall::OnBytes(asked) => answer(&held, asked, file),
+        FileCall::OnBytes(asked) => answer(alloc, &held, asked, file),
     }
 }
 

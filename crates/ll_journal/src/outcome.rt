@@ -1,5 +1,7 @@
 //! What comes of a step.
 
+use ll_seq::Reply;
+
 /// What comes of a step of a client's walk.
 #[derive(Clone, Copy, PartialEq, Eq)]
 pub enum Outcome {
@@ -14,14 +16,14 @@ pub enum Outcome {
 }
 
 /// What comes of a commit.
-#[derive(Clone, Copy)]
+#[derive(Drop)]
 pub enum Ending {
     /// The step isn't enabled.
     NotNow,
     /// Other slots were lent than the commit may need.
     Astray,
-    /// The walk has ended, and the history's last entry has the reply.
-    Replied,
+    /// The walk has ended. The reply is that of the history's last entry.
+    Replied(Reply),
     /// The walk has ended. The history takes no more entry, and nothing else has changed.
     HistoryFull,
     /// The walk has ended. Memory ran out, and nothing else has changed.

@@ -6,12 +6,13 @@ ghost use Rattle.ll_seq.specs.State.{State};
 ghost use Rattle.ll_journal.specs.Performed.{IsAtEnd, IsFreeAtEnd, Performs};
 
 use crate::decided::{decided, tell};
+use crate::pair::ReplyPair;
 use crate::seat::Ended;
 use ll_answer::Found;
 use ll_changes::enact;
 use ll_held::Held;
 use ll_inodes::Inodes;
-use ll_seq::{ClientRecord, Reply};
+use ll_seq::ClientRecord;
 use std::alloc::{AllocError, Global};
 
 /// The call of a walk that has ended is decided and made; the reply. Errors: memory ran out, and nothing has changed.
@@ -24,7 +25,7 @@ pub(crate) fn perform(
     lent: &mut [Held],
     walk: &Ended,
     found: &Found,
-) -> Result<Reply, AllocError>
+) -> Result<ReplyPair, AllocError>
     requires { (s : State) × (number : ℕ) × (marks : ℕ → Option ℕ) × (spares : List ℕ) × (place : ℕ)
         × IsAtEnd s number marks spares place client.old spare.old table.old slots.now lent.old walk.now.call walk.now.first walk.now.second found.now }
     ensures ok { IfOk result (λ reply. (s : State) (number : ℕ) (marks : ℕ → Option ℕ) (spares : List ℕ) (place : ℕ)
@@ -35,10 +36,11 @@ pub(crate) fn perform(
     ensures calm { spares_memory walk.now.call ≡ true → is_ok result ≡ true }
 {
     let effect = match decided(client, walk, found) {
-        Err(reply) => return Ok(reply),
+        Err(reply) => return ReplyPair::new(alloc, reply),
         Ok(effect) => effect,
     };
     let reply = tell(effect.answer, table, lent, alloc)?;
+    let told = ReplyPair::new(alloc, reply)?;
     enact(alloc, client, spare, table, slots, lent, &effect.change)?;
-    Ok(reply)
+    Ok(told)
 }

@@ -19,6 +19,7 @@ ghost use Rattle.ll_journal.specs.Performed.{IsAtEnd, Performs, IsFreeAtEnd};
 ghost use Rattle.ll_journal.specs.Seated.{turn_at};
 
 use crate::alone::{Own, RecordCall, answer, own_call};
+use crate::pair::ReplyPair;
 use crate::perform::perform;
 use crate::slots::Slots;
 use crate::station::Station;
@@ -31,7 +32,7 @@ use ll_inodes::Inodes;
 use ll_rights::Abi;
 use ll_rights::limits::PATH_NAMES;
 use ll_rules::Domain;
-use ll_seq::{Call, ClientRecord, Descriptor, NumberMap, ROOT, Reply, Rules};
+use ll_seq::{Call, ClientRecord, Descriptor, NumberMap, ROOT, Rules};
 use std::alloc::{AllocError, Global};
 use std::marker::Model;
 
@@ -312,7 +313,7 @@ impl Seat {
         alloc: Global,
         abi: Abi,
         asked: RecordCall,
-    ) -> Result<Reply, AllocError>
+    ) -> Result<ReplyPair, AllocError>
         requires { self.old.walk ≡ None }
         ensures ok { IfOk result (λ reply. Comes abi self.old.client asked reply self.new.client) }
         ensures descriptors { self.new.client.descriptors ≡ self.old.client.descriptors }
@@ -660,7 +661,7 @@ impl Seat {
         lent: &mut [Held],
         walk: &Ended,
         found: &Found,
-    ) -> Result<Reply, AllocError>
+    ) -> Result<ReplyPair, AllocError>
         requires idle { self.old.walk ≡ None }
         requires end { (s : State) × (number : ℕ) × (marks : ℕ → Option ℕ) × (spares : List ℕ) × (place : ℕ)
             × IsAtEnd s number marks spares place self.old.client self.old.spare table.old slots.now lent.old walk.now.call walk.now.first walk.now.second found.now }

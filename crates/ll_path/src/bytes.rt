@@ -2,7 +2,7 @@
 
 ghost use Rattle.std.specs.Prelude.{◌≡◌, ◌==◌, ◌≤◌, ◌<◌, ℕ, List, [], length, IfOk, IfErr};
 
-use std::alloc::Global;
+use std::alloc::{AllocError, Global};
 use std::marker::Model;
 
 /// At most 4,096 bytes of any kind. Contracts see the list of them.
@@ -39,6 +39,14 @@ impl Data {
         Data {
             bytes: Vec::new(alloc),
         }
+    }
+
+    /// The same bytes. Errors: memory ran out.
+    pub fn copy(&self) -> Result<Data, AllocError>
+        ensures { IfOk result (λ d. d ≡ self.now) }
+    {
+        let bytes = self.bytes.clone()?;
+        Ok(Data { bytes })
     }
 
     pub fn len(&self) -> usize

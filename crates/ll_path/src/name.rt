@@ -65,6 +65,14 @@ impl Name {
         Ok(Name { text })
     }
 
+    /// The same name. Errors: memory ran out.
+    pub fn copy(&self) -> Result<Name, AllocError>
+        ensures { IfOk result (λ name. name ≡ self.now) }
+    {
+        let text = self.text.clone()?;
+        Ok(Name { text })
+    }
+
     pub fn as_str(&self) -> &str
         ensures text { result.now ≡ self.now }
         ensures name { IsName self.now }

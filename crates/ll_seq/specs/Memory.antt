@@ -1,7 +1,9 @@
--- Which calls may need memory. own
+-- Which calls and replies may need memory. own
 use Rattle.std.specs.Prelude.{Bool, true, false}
 use Rattle.ll_seq.specs.declared.call.Call.{Call}
 use Rattle.ll_seq.specs.declared.call.Call.TheVariants.{Make, Open, Read, Write, Ftruncate, Close, Truncate, ReadDir, Stat, Exec, Unlink, Rmdir, Rename, RenameNoreplace, Exchange, Link, Ruleset, Allow, Confine, Spawn, Connect}
+use Rattle.ll_seq.specs.declared.reply.Reply.{Reply}
+use Rattle.ll_seq.specs.declared.reply.Reply.TheVariants.{Bytes, Listed}
 
 abbrev pub takes_memory : Call → Bool
 takes_memory (Make kind target) = true
@@ -25,3 +27,9 @@ takes_memory (Allow number target rights) = true
 takes_memory (Confine number) = true
 takes_memory Spawn = true
 takes_memory Connect = true
+
+-- it holds bytes or names, so a copy takes memory
+abbrev pub holds_memory : Reply → Bool
+holds_memory (Bytes bytes) = true
+holds_memory (Listed names) = true
+holds_memory _ = false

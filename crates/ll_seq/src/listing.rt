@@ -1,6 +1,6 @@
 //! Lists of names.
 
-ghost use Rattle.std.specs.Prelude.{◌≡◌, ◌↔◌, [], ◌∷◌, ◌++◌, IsTrue, OnOk, OnErr};
+ghost use Rattle.std.specs.Prelude.{◌≡◌, ◌↔◌, [], ◌∷◌, ◌++◌, IsTrue, IfOk, OnOk, OnErr};
 ghost use Rattle.ll_seq.specs.Listed.{AreListed};
 
 use ll_path::Name;
@@ -63,6 +63,17 @@ impl Listing {
     {
         self.names.push(name)?;
         Ok(())
+    }
+
+    /// The same names. Errors: memory ran out.
+    pub fn copy(&self, alloc: Global) -> Result<Listing, AllocError>
+        ensures { IfOk result (λ listing. listing ≡ self.now) }
+    {
+        let mut names = Vec::with_capacity(alloc, self.names.len())?;
+        for name in &self.names {
+            names.push_reserved(name.copy()?);
+        }
+        Ok(Listing { names })
     }
 
     /// Whether both tell the same names.

@@ -1,7 +1,8 @@
 //! Replies.
 
-ghost use Rattle.std.specs.Prelude.{◌≡◌, ◌≢◌, ◌<◌, ◌↔◌, ℕ, IsTrue, slice_index};
+ghost use Rattle.std.specs.Prelude.{◌≡◌, ◌≢◌, ◌<◌, ◌↔◌, ℕ, true, IsTrue, IfOk, OnErr, slice_index};
 ghost use Rattle.ll_rights.specs.declared.errno.Errno as errno_of;
+ghost use Rattle.ll_seq.specs.Memory.{holds_memory};
 ghost use Rattle.ll_seq.specs.Step.{IsAnswer};
 
 use crate::call::Call;
@@ -9,6 +10,7 @@ use crate::listing::Listing;
 use ll_decide::Denial;
 use ll_path::Data;
 use ll_rights::{Errno, Kind};
+use std::alloc::{AllocError, Global};
 
 /// What a node is. A directory's links are 1, another node's the number of its names.
 #[derive(Clone, Copy, Debug, PartialEq, Eq)]
@@ -59,6 +61,25 @@ impl Reply {
                 listing.names();
             }
             _ => {}
+        }
+    }
+
+    /// The same reply. Errors: memory ran out; only for one that holds bytes or names.
+    pub fn copy(&self, alloc: Global) -> Result<Reply, AllocError>
+        ensures ok { IfOk result (λ reply. reply ≡ self.now) }
+        ensures err { OnErr result (holds_memory self.now ≡ true) }
+    {
+        match self {
+            Reply::Done => Ok(Reply::Done),
+            Reply::Opened(number) => Ok(Reply::Opened(*number)),
+            Reply::Bytes(bytes) => Ok(Reply::Bytes(bytes.copy()?)),
+            Reply::Wrote(count) => Ok(Reply::Wrote(*count)),
+            Reply::Listed(listing) => Ok(Reply::Listed(listing.copy(alloc)?)),
+            Reply::Found(status) => Ok(Reply::Found(*status)),
+            Reply::Created(number) => Ok(Reply::Created(*number)),
+            Reply::Spawned(number) => Ok(Reply::Spawned(*number)),
+            Reply::Refused(errno) => Ok(Reply::Refused(*errno)),
+            Reply::Denied(denial) => Ok(Reply::Denied(*denial)),
         }
     }
 

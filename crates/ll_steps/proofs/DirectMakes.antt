@@ -73,7 +73,7 @@ takes_so c (inr (inr e)) = (ap spares_memory e, λ number f. cc (sym e ∙ f))
 
 pub answer_makes : (b b' : Book) (step' : Step) (client : ℕ) (c : Call) (a : Made) → step' ≢ Join → called b.world step' ≡ Some (client, c) → starved b.world step' ≡ b.world
     → (a ≡ answer.NoMemory → MayTake c) → Answers b step' a b' → Makes b.world step' (answered_as (length b.world.history) a) b'.world
-answer_makes b b' step' client c answer.Replied other is same takes d = replied_makes b.world b'.world step' d.1 d.0 other d.2
+answer_makes b b' step' client c (answer.Replied reply) other is same takes d = replied_makes b.world b'.world step' reply d.0 other d.1
 answer_makes b b' step' client c answer.HistoryFull other is same takes d = inl (full_told b.world b'.world step' d.0, d.0)
 answer_makes b b' step' client c answer.NoMemory other is same takes d = inr (
   refl,
@@ -89,7 +89,7 @@ answer_makes b b' step' client c answer.NoMemory other is same takes d = inr (
 )
 
 pub answer_keeps : (b b' : Book) (slots new : List Held) (step' : Step) (a : Made) → IsKept b slots → Answers b step' a b' → new ≡ accounts_of b' → IsKept b' new
-answer_keeps b b' slots new step' answer.Replied h d e = kept_on b b' slots new step' (world.Replied d.1) h d.2 e
+answer_keeps b b' slots new step' (answer.Replied reply) h d e = kept_on b b' slots new step' (world.Replied reply) h d.1 e
 answer_keeps b b' slots new step' answer.HistoryFull h d e = kept_on b b' slots new step' (world.Replied (Refused HistoryFull)) h d.0 e
 answer_keeps b b' slots new step' answer.NoMemory h d e = record {
   accounts = e;
@@ -98,7 +98,7 @@ answer_keeps b b' slots new step' answer.NoMemory h d e = record {
 }
 
 pub answered_made : (number : ℕ) (a : Made) → answered_as number a ≢ outcome.NotNow
-answered_made number answer.Replied e = cc e
+answered_made number (answer.Replied reply) e = cc e
 answered_made number answer.HistoryFull e = cc e
 answered_made number answer.NoMemory e = cc e
 

@@ -199,7 +199,7 @@ pub ending_makes : (b b' : Book) (number : ℕ) (e : Ending) → IsSound b.world
     → Makes b.world (Commit number) (ended_as (length b.world.history) e) b'.world
 ending_makes b b' number ending.NotNow h near takes d = d
 ending_makes b b' number ending.Astray h near takes d = absurd (near refl)
-ending_makes b b' number ending.Replied h near takes d = replied_makes b.world b'.world (Commit number) d.1 d.0 (λ f. cc f) d.2
+ending_makes b b' number (ending.Replied reply) h near takes d = replied_makes b.world b'.world (Commit number) reply d.0 (λ f. cc f) d.1
 ending_makes b b' number ending.HistoryFull h near takes d = inl (full_told b.world b'.world (Commit number) d, d)
 ending_makes b b' number ending.NoMemory h near takes d =
     let s = d.0 in
@@ -221,7 +221,7 @@ ending_makes b b' number ending.NoMemory h near takes d =
 pub ending_keeps : (b b' : Book) (slots new : List Held) (number : ℕ) (e : Ending) → IsKept b slots → e ≢ ending.Astray → Ends b number e b' → new ≡ accounts_of b' → IsKept b' new
 ending_keeps b b' slots new number ending.NotNow h near d e = kept_on b b' slots new (Commit number) NotNow h d e
 ending_keeps b b' slots new number ending.Astray h near d e = absurd (near refl)
-ending_keeps b b' slots new number ending.Replied h near d e = kept_on b b' slots new (Commit number) (Replied d.1) h d.2 e
+ending_keeps b b' slots new number (ending.Replied reply) h near d e = kept_on b b' slots new (Commit number) (Replied reply) h d.1 e
 ending_keeps b b' slots new number ending.HistoryFull h near d e = kept_on b b' slots new (Commit number) (Replied (Refused HistoryFull)) h d e
 ending_keeps b b' slots new number ending.NoMemory h near d e = record {
   accounts = e;

@@ -37,7 +37,7 @@ told_as told.Restarted = Restarted
 
 -- what it tells of a call without a walk, whose entry would have this number
 abbrev pub answered_as : ℕ → Made → Outcome
-answered_as number answer.Replied = Replied number
+answered_as number (answer.Replied reply) = Replied number
 answered_as number answer.HistoryFull = Refused HistoryFull
 answered_as number answer.NoMemory = Refused NoMemory
 
@@ -45,6 +45,6 @@ answered_as number answer.NoMemory = Refused NoMemory
 abbrev pub ended_as : ℕ → Ending → Outcome
 ended_as number ending.NotNow = NotNow
 ended_as number ending.Astray = NotNow
-ended_as number ending.Replied = Replied number
+ended_as number (ending.Replied reply) = Replied number
 ended_as number ending.HistoryFull = Refused HistoryFull
 ended_as number ending.NoMemory = Refused NoMemory

@@ -15,7 +15,7 @@ fn answered(number: u64, answer: Made) -> Outcome
     ensures { result ≡ answered_as number answer }
 {
     match answer {
-        Made::Replied => Outcome::Replied(number),
+        Made::Replied(_) => Outcome::Replied(number),
         Made::HistoryFull => Outcome::Refused(Errno::HistoryFull),
         Made::NoMemory => Outcome::Refused(Errno::NoMemory),
     }

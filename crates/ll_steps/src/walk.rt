@@ -42,7 +42,7 @@ fn ended(number: u64, ending: Ending) -> Outcome
 {
     match ending {
         Ending::NotNow => Outcome::NotNow,
-        Ending::Replied => Outcome::Replied(number),
+        Ending::Replied(_) => Outcome::Replied(number),
         Ending::HistoryFull => Outcome::Refused(Errno::HistoryFull),
         Ending::NoMemory => Outcome::Refused(Errno::NoMemory),
         Ending::Astray => unreachable!(),

@@ -5,6 +5,7 @@ use Rattle.std.proofs.lemmas.Bool.{leb-false}
 use Rattle.ll_answer.specs.Found.{AreFacts}
 use Rattle.ll_answer.specs.Lean.{spares_memory}
 use Rattle.ll_seq.specs.declared.call.Call.{Call}
+use Rattle.ll_seq.specs.declared.reply.Reply.{Reply}
 use Rattle.ll_seq.specs.declared.reply.Reply.TheVariants.{Refused}
 use Rattle.ll_rights.specs.declared.errno.Errno.TheVariants.{HistoryFull}
 use Rattle.ll_seq.specs.State.{State}
@@ -126,25 +127,28 @@ abbrev walk_then : goal.Joined-walk-2 → Walk
 walk_then c = (ended_then c).reached.walk
 
 performs : (c : goal.Joined-walk-2) → Performs (shown (world_of c.self-2.inside)) c.args.client (mark_of (world_of c.self-2.inside)) (spares_of c.self-2.inside.seats.items) c.args.place c.self-2.inside.table c.args.slots.now (walk_then c).call
-    c.in-Ok.reply c.perform.new.self.client c.perform.new.self.spare c.perform.new.table c.perform.new.lent
+    c.in-Ok.told c.perform.new.self.client c.perform.new.self.spare c.perform.new.table c.perform.new.lent
 performs c =
     subst (λ (call : Call). Performs (shown (world_of c.self-2.inside)) c.args.client (mark_of (world_of c.self-2.inside)) (spares_of c.self-2.inside.seats.items) c.args.place c.self-2.inside.table c.args.slots.now call
-    c.in-Ok.reply c.perform.new.self.client c.perform.new.self.spare c.perform.new.table c.perform.new.lent) (ended_then c).call_is
+    c.in-Ok.told c.perform.new.self.client c.perform.new.self.spare c.perform.new.table c.perform.new.lent) (ended_then c).call_is
     (c.in-Ok.ensures.ok (shown (world_of c.self-2.inside)) c.args.client (mark_of (world_of c.self-2.inside)) (spares_of c.self-2.inside.seats.items) c.args.place
     (at_end c.self.inside c.self-2.inside c.self.invariant c.self-2.invariant c.args.client c.args.place c.args.slots.now c.requires.distinct c.args.found.now (ended_then c).reached (ended_then c).world (ended_then c).inodes (ended_then c).spares
     c.end_walk-walk.result.call (ended_then c).call_is c.end_walk-walk.result.first c.end_walk-walk.result.second (ended_then c).first_masks (ended_then c).second_masks c.end_walk-walk.new.lent (ended_then c).told (ap is_full (ended_then c).world ∙ sym c.is_full-is_full.ensures ∙ c.if-is_full.false) c.index_mut-seat.result.now (ended_then c).at c.requires.numbered))
 
-moves : (c : goal.Joined-walk-2) → moved_list c.moved_by.result ≡ moved_by (shown (world_of c.self-2.inside)) (walk_then c).call c.in-Ok.reply
+moves : (c : goal.Joined-walk-2) → moved_list c.moved_by.result ≡ moved_by (shown (world_of c.self-2.inside)) (walk_then c).call c.in-Ok.told
 moves c =
     let r = (ended_then c).reached in
     let tree : shown (world_of c.self-2.inside) ≡ shown (world_of c.self.inside) = ap shown (ended_then c).world in
     c.moved_by.ensures (shown (world_of c.self-2.inside))
     (subst (λ (p : State × Call). AreFacts p.0 p.1 c.args.found.now) (λ i. (sym tree i, sym (ended_then c).call_is i)) r.facts) r.old.way r.new.way
     (no_zero (shown (world_of c.self-2.inside)) (spares_of c.self-2.inside.seats.items) c.self-2.inside.table c.self-2.invariant.table)
-    ∙ ap (λ (call : Call). moved_by (shown (world_of c.self-2.inside)) call c.in-Ok.reply) (ended_then c).call_is
+    ∙ ap (moved_by (shown (world_of c.self-2.inside)) c.end_walk-walk.result.call) c.split-reply.ensures.entry
+    ∙ ap (λ (call : Call). moved_by (shown (world_of c.self-2.inside)) call c.in-Ok.told) (ended_then c).call_is
 
-entry_is : (c : goal.Joined-walk-2) → c.push.new.self ≡ entered c.self-2.inside c.args.client (walk_then c).call c.in-Ok.reply
-entry_is c = c.push.ensures ∙ ap (λ (call : Call). entered c.self-2.inside c.args.client call c.in-Ok.reply) (ended_then c).call_is
+entry_is : (c : goal.Joined-walk-2) → c.push.new.self ≡ entered c.self-2.inside c.args.client (walk_then c).call c.in-Ok.told
+entry_is c =
+    c.push.ensures ∙ ap (entered c.self-2.inside c.args.client c.end_walk-walk.result.call) c.split-reply.ensures.entry
+    ∙ ap (λ (call : Call). entered c.self-2.inside c.args.client call c.in-Ok.told) (ended_then c).call_is
 
 idle_then : (c : goal.Joined-walk-2) → c.index_mut-seat.result.now.walk ≡ None
 idle_then c =
@@ -154,23 +158,23 @@ idle_then c =
 pub invariant_of-self-2 : goal.invariant_of-self-2
 invariant_of-self-2 c =
     committed_kept c.self.inside c.self-2.inside (after c) c.self.invariant c.self-2.invariant c.args.client c.args.place (walk_then c) (ended_then c).reached.ends.is (ended_then c).reached.ends.may
-    (ended_then c).world (ap is_full (ended_then c).world ∙ sym c.is_full-is_full.ensures ∙ c.if-is_full.false) c.index_mut-seat.result.now (ended_then c).at c.requires.numbered c.in-Ok.reply c.perform.new.self.client c.perform.new.self.spare c.perform.new.lent c.args.slots.now (performs c)
+    (ended_then c).world (ap is_full (ended_then c).world ∙ sym c.is_full-is_full.ensures ∙ c.if-is_full.false) c.index_mut-seat.result.now (ended_then c).at c.requires.numbered c.in-Ok.told c.perform.new.self.client c.perform.new.self.spare c.perform.new.lent c.args.slots.now (performs c)
     c.perform.new.self refl refl (c.in-Ok.ensures.rest ∙ sym (idle_then c)) (moved_list c.moved_by.result) (moves c) c.overtake_moved.ensures (entry_is c) refl refl refl
 
 pub returns-clause-does : goal.returns-clause-does
 returns-clause-does c = (
   ap (λ (b : Book). is_full b.world) (sym c.self.view_is) ∙ sym c.is_full-is_full.ensures ∙ c.if-is_full.false,
-  c.in-Ok.reply,
-  subst (λ (b : Book). advance b.world (Commit c.args.client) ≡ (Replied c.in-Ok.reply, world_of (after c))) c.self.view_is
+  subst (λ (p : Book × Reply). advance p.0.world (Commit c.args.client) ≡ (Replied p.1, world_of (after c)))
+      (λ i. (c.self.view_is i, sym c.split-reply.ensures.caller i))
       (committed_step c.self.inside c.self-2.inside (after c) c.self.invariant c.self-2.invariant c.args.client c.args.place (walk_then c) (ended_then c).reached.ends.is (ended_then c).reached.ends.may
-      (ended_then c).world (ap is_full (ended_then c).world ∙ sym c.is_full-is_full.ensures ∙ c.if-is_full.false) c.index_mut-seat.result.now (ended_then c).at c.requires.numbered c.in-Ok.reply c.perform.new.self.client c.perform.new.self.spare c.perform.new.lent c.args.slots.now (performs c)
+      (ended_then c).world (ap is_full (ended_then c).world ∙ sym c.is_full-is_full.ensures ∙ c.if-is_full.false) c.index_mut-seat.result.now (ended_then c).at c.requires.numbered c.in-Ok.told c.perform.new.self.client c.perform.new.self.spare c.perform.new.lent c.args.slots.now (performs c)
       c.perform.new.self refl refl (c.in-Ok.ensures.rest ∙ sym (idle_then c)) (moved_list c.moved_by.result) (moves c) c.overtake_moved.ensures (entry_is c) refl refl refl),
 )
 
 pub returns-clause-lent : goal.returns-clause-lent
 returns-clause-lent c =
     committed_lent c.self.inside c.self-2.inside (after c) c.self.invariant c.self-2.invariant c.args.client c.args.place (walk_then c) (ended_then c).reached.ends.is (ended_then c).reached.ends.may
-    (ended_then c).world (ap is_full (ended_then c).world ∙ sym c.is_full-is_full.ensures ∙ c.if-is_full.false) c.index_mut-seat.result.now (ended_then c).at c.requires.numbered c.in-Ok.reply c.perform.new.self.client c.perform.new.self.spare c.perform.new.lent c.args.slots.now (performs c)
+    (ended_then c).world (ap is_full (ended_then c).world ∙ sym c.is_full-is_full.ensures ∙ c.if-is_full.false) c.index_mut-seat.result.now (ended_then c).at c.requires.numbered c.in-Ok.told c.perform.new.self.client c.perform.new.self.spare c.perform.new.lent c.args.slots.now (performs c)
     c.perform.new.self refl refl (c.in-Ok.ensures.rest ∙ sym (idle_then c)) (moved_list c.moved_by.result) (moves c) c.overtake_moved.ensures (entry_is c) refl refl refl
 
 pub returns-clause-spares : goal.returns-clause-spares
@@ -179,7 +183,7 @@ returns-clause-spares c =
     spares_both c.args.self.now c.end_walk-walk.new.self (book_of (after c)) c.args.slots.now (c.end_walk-walk.ensures.spares c.args.slots.now r.walk r.ends.is r.ends.marked)
     (subst (λ (b : Book). Spares b (book_of (after c)) c.args.slots.now) c.self-2.view_is
     (committed_spares c.self.inside c.self-2.inside (after c) c.self.invariant c.self-2.invariant c.args.client c.args.place (walk_then c) (ended_then c).reached.ends.is (ended_then c).reached.ends.may
-    (ended_then c).world (ap is_full (ended_then c).world ∙ sym c.is_full-is_full.ensures ∙ c.if-is_full.false) c.index_mut-seat.result.now (ended_then c).at c.requires.numbered c.in-Ok.reply c.perform.new.self.client c.perform.new.self.spare c.perform.new.lent c.args.slots.now (performs c)
+    (ended_then c).world (ap is_full (ended_then c).world ∙ sym c.is_full-is_full.ensures ∙ c.if-is_full.false) c.index_mut-seat.result.now (ended_then c).at c.requires.numbered c.in-Ok.told c.perform.new.self.client c.perform.new.self.spare c.perform.new.lent c.args.slots.now (performs c)
     c.perform.new.self refl refl (c.in-Ok.ensures.rest ∙ sym (idle_then c)) (moved_list c.moved_by.result) (moves c) c.overtake_moved.ensures (entry_is c) refl refl refl))
 
 pub returns-in_default-clause-rest : goal.returns-in_default-clause-rest
@@ -190,7 +194,7 @@ pub returns-clause-rest : goal.returns-clause-rest
 returns-clause-rest c =
     subst (λ (b : Book). LeavesFree b c.args.client c.args.slots.now (book_of (after c))) c.self.view_is
     (committed_rest c.self.inside c.self-2.inside (after c) c.self.invariant c.self-2.invariant c.args.client c.args.place (walk_then c) (ended_then c).reached.ends.is (ended_then c).reached.ends.may
-    (ended_then c).world (ap is_full (ended_then c).world ∙ sym c.is_full-is_full.ensures ∙ c.if-is_full.false) c.index_mut-seat.result.now (ended_then c).at c.requires.numbered c.in-Ok.reply c.perform.new.self.client c.perform.new.self.spare c.perform.new.lent c.args.slots.now (performs c)
+    (ended_then c).world (ap is_full (ended_then c).world ∙ sym c.is_full-is_full.ensures ∙ c.if-is_full.false) c.index_mut-seat.result.now (ended_then c).at c.requires.numbered c.in-Ok.told c.perform.new.self.client c.perform.new.self.spare c.perform.new.lent c.args.slots.now (performs c)
     c.perform.new.self refl refl (c.in-Ok.ensures.rest ∙ sym (idle_then c)) (moved_list c.moved_by.result) (moves c) c.overtake_moved.ensures (entry_is c) refl refl refl
     (ended_then c).inodes (ap (λ (b : Book). b.free) (c.self-2.view_is ∙ c.end_walk-walk.ensures.rest) ∙ ap (λ (b : Book). b.free) (sym c.self.view_is)) (ended_then c).spares)
 

@@ -1,4 +1,4 @@
-use Rattle.std.proofs.Common.{◌≡◌, ◌<◌, length, ap, refl, sym, subst, ◌∙◌, inl, inr}
+use Rattle.std.proofs.Common.{◌≡◌, ◌<◌, length, ap, refl, sym, subst, ◌∙◌, inl}
 use Rattle.ll_walks.specs.World.{NotNow, advance}
 use Rattle.ll_walks.specs.declared.step.Step.TheVariants.{Commit}
 use Rattle.ll_journal.specs.Book.{Book}
@@ -46,10 +46,10 @@ pub returns-in-Blocked-clause-rest : goal.returns-in-Blocked-clause-rest
 returns-in-Blocked-clause-rest c = inl c.refuse.ensures.rest
 
 pub returns-in-Blocked-clause-astray : goal.returns-in-Blocked-clause-astray
-returns-in-Blocked-clause-astray c e = elim c.refuse.ensures.told [ inl is ↦ absurd (cc (sym is ∙ e)) | inr is ↦ absurd (cc (sym is ∙ e)) ]
+returns-in-Blocked-clause-astray c e = absurd (c.refuse.ensures.not_astray e)
 
 pub returns-in-Blocked-clause-calm : goal.returns-in-Blocked-clause-calm
-returns-in-Blocked-clause-calm c e = elim c.refuse.ensures.told [ inl is ↦ absurd (cc (sym is ∙ e)) | inr is ↦ absurd (cc (sym is ∙ e)) ]
+returns-in-Blocked-clause-calm c e = absurd (c.refuse.ensures.calm e)
 
 -- it is answered
 pub answer-requires-clause-place : goal.answer-requires-clause-place

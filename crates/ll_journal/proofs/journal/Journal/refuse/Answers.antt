@@ -54,7 +54,7 @@ invariant_of-self c =
 
 pub returns-clause-does : goal.returns-clause-does
 returns-clause-does c =
-    subst (λ (b : Book). Ends b c.args.client ending.Replied (book_of (record c.self-2.inside { history = c.push.new.self }))) c.self.view_is
+    subst (λ (b : Book). Ends b c.args.client (ending.Replied (Refused c.args.errno)) (book_of (record c.self-2.inside { history = c.push.new.self }))) c.self.view_is
     (refused_does c.self.inside c.self-2.inside c.self.invariant c.self-2.invariant c.args.client c.args.place c.requires.numbered (within c) c.args.slots.now
     c.end_walk-walk.new.lent (told c) c.args.errno (blocked c) (ended c) (room_left c) c.end_walk-walk.result.call (call_is c) c.push.new.self c.push.ensures)
 
