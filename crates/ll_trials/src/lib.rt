@@ -17,6 +17,7 @@
 //! | ll_wire | `read_command`, `reply_text` | `command_text`, `read_reply`: `wire`; entries and headers: `saved` |
 //! | ll_policy | | all of `Policy`: `policy` |
 //! | ll_audit, ll_saved | all but `audit` | `audit`; `save`, `run_audit` with devices that fail: `saved` |
+//! | ll_tie | | all: `tie` |
 //! | ll_journal | | `Journal::new`, `connect`, `client_step`; `begin`, which takes none: `journal` |
 //! | ll_lines | `Line::new` and `push` | |
 //! | ll_session | `run_script` | with devices that fail: `session` |
@@ -44,5 +45,7 @@ mod saved;
 mod seq;
 #[cfg(test)]
 mod session;
+#[cfg(test)]
+mod tie;
 #[cfg(test)]
 mod wire;

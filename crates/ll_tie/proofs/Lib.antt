@@ -1,0 +1,3 @@
+pub mod TieCalls
+pub mod TieSteps
+pub mod TwoSeats

@@ -1,0 +1,3 @@
+pub mod PassViews
+pub mod TieRule
+pub mod Views
