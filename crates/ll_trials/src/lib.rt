@@ -19,6 +19,7 @@
 //! | ll_audit, ll_saved | all but `audit` | `audit`; `save`, `run_audit` with devices that fail: `saved` |
 //! | ll_journal | | `Journal::new`, `connect`, `client_step`; `begin`, which takes none: `journal` |
 //! | ll_session | `run_script` | with devices that fail: `session` |
+//! | ll_steps | `World::new`, `step`, `make` | `World::run`: `steps` |
 //!
 //! ll_decide and ll_answer take no memory that may be missing.
 #![tactic(auto)]
@@ -43,5 +44,7 @@ mod saved;
 mod seq;
 #[cfg(test)]
 mod session;
+#[cfg(test)]
+mod steps;
 #[cfg(test)]
 mod wire;
