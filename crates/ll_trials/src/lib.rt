@@ -21,6 +21,7 @@
 //! | ll_journal | | `Journal::new`, `connect`, `client_step`; `begin`, which takes none: `journal` |
 //! | ll_lines | `Line::new` and `push` | |
 //! | ll_session | `run_script` | with devices that fail: `session` |
+//! | ll_steps | `World::new`, `step`, `make` | `World::run`: `steps` |
 //!
 //! ll_decide and ll_answer take no memory that may be missing.
 #![tactic(auto)]
@@ -45,6 +46,8 @@ mod saved;
 mod seq;
 #[cfg(test)]
 mod session;
+#[cfg(test)]
+mod steps;
 #[cfg(test)]
 mod tie;
 #[cfg(test)]
