@@ -18,6 +18,7 @@
 //! | ll_policy | | all of `Policy`: `policy` |
 //! | ll_audit, ll_saved | all but `audit` | `audit`; `save`, `run_audit` with devices that fail: `saved` |
 //! | ll_journal | | `Journal::new`, `connect`, `client_step`; `begin`, which takes none: `journal` |
+//! | ll_steps | `World::make`, `run` | `World::make` of `read` and `list`, whose replies are copied, and `Reply::copy`: `replies` |
 //! | ll_session | `run_script` | with devices that fail: `session` |
 //!
 //! ll_decide and ll_answer take no memory that may be missing.
@@ -35,6 +36,8 @@ mod node;
 mod plain;
 #[cfg(test)]
 mod policy;
+#[cfg(test)]
+mod replies;
 #[cfg(test)]
 mod rights;
 #[cfg(test)]
