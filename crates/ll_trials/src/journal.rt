@@ -11,10 +11,10 @@ const RULES: Rules = Rules {
     copies: true,
 };
 
-/// Whether the client's call on itself is answered, and the journal's last entry tells so.
+/// Whether the client's call on itself is answered, to the client and by the journal's last entry.
 fn spawns(journal: &mut Journal, client: u64) -> bool {
     let answered = journal.client_step(client, Call::Spawn);
-    let is_answered = matches!(answered, Ok(Made::Replied));
+    let is_answered = matches!(&answered, Ok(Made::Replied(Reply::Spawned(2))));
     drop(answered);
     match journal.entries().last() {
         Some(entry) => is_answered && matches!(entry.reply, Reply::Spawned(2)),
