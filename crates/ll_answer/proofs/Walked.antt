@@ -1,7 +1,8 @@
 -- A free way, and what has passed where no stage before policy refuses.
 use Rattle.std.specs.Prelude.{◌≡◌, ℕ, true, is_some, is_none, List, [], ◌∷◌, ◌++◌, Option, Some, None, slice_get, refl}
 use Rattle.std.specs.List.{flat_map}
-use Rattle.std.proofs.Common.{ap, subst, ◌∙◌}
+use Rattle.std.proofs.Common.{ap, subst, sym, ◌∙◌}
+use Rattle.std.proofs.lemmas.List.{append_assoc}
 use Rattle.ll_rights.specs.declared.errno.Errno.{Errno}
 use Rattle.ll_rights.specs.declared.errno.Errno.TheVariants.{ENOENT}
 use Rattle.ll_rights.specs.Errno.{refuse}
@@ -17,11 +18,8 @@ use Rattle.ll_seq.specs.State.{State, root}
 use Rattle.ll_seq.specs.Tree.{named}
 use Rattle.ll_answer.specs.declared.found.Found.{Found}
 use Rattle.ll_answer.specs.Found.{AreFacts, Stands}
-use Rattle.ll_answer.specs.Passed.{before_policy, Exist, IsThere, Passed, IsFree}
-
-pub none_first : {A : Type 0} (xs : List A) → slice_get xs 0 ≡ None → xs ≡ []
-none_first [] e = refl
-none_first (x ∷ xs) e = absurd cc
+use Rattle.ll_answer.specs.Passed.{before_policy, found_refusals, Exist, IsThere, Passed, IsFree}
+use Rattle.ll_seq.specs.Stages.{early_refusals}
 
 pub one_free : {A : Type 0} (xs ys : List A) → xs ++ ys ≡ [] → xs ≡ []
 one_free [] ys e = refl
@@ -109,3 +107,20 @@ passed_at s c call same found is = subst (λ (z : Call). Passed s c z found) is
 
 pub free_at : (s : State) (c : ClientRecord) (call same : Call) (found : Found) → call ≡ same → IsFree s c call found → IsFree s c same found
 free_at s c call same found is = subst (λ (z : Call). IsFree s c z found) is
+
+-- ---- early refusals, and those by what is found
+
+pub in_order : (s : State) (c : ClientRecord) (call : Call) → early_refusals c call ++ found_refusals s call ≡ before_policy s c call
+in_order s c call =
+    let text = text_refusals call in
+    let number = number_refusals c call in
+    let lying = relation_refusals call (first_path call) (second_path call) in
+    append_assoc (text ++ number) lying (found_refusals s call) ∙ append_assoc text number (lying ++ found_refusals s call)
+
+-- where no early stage refuses it
+pub after_early : (s : State) (c : ClientRecord) (call : Call) → early_refusals c call ≡ [] → before_policy s c call ≡ found_refusals s call
+after_early s c call e = sym (in_order s c call) ∙ ap (λ es. es ++ found_refusals s call) e
+
+pub first_kept : {A : Type 0} (xs ys : List A) (x : A) → slice_get xs 0 ≡ Some x → slice_get (xs ++ ys) 0 ≡ Some x
+first_kept [] ys x e = absurd (cc e)
+first_kept (y ∷ xs) ys x e = e

@@ -38,6 +38,10 @@ has_path (Confine number) = false
 has_path Spawn = false
 has_path Connect = false
 
+-- what refuses it by what is in its way, and what is there
+abbrev pub found_refusals : State → Call → List Errno
+found_refusals s call = walk_refusals s call ++ existence_refusals s call (first_path call) (second_path call)
+
 -- what refuses the call before policy is asked
 abbrev pub before_policy : State → ClientRecord → Call → List Errno
 before_policy s c call =

@@ -1,14 +1,16 @@
 //! What refuses a call before policy is asked.
 
-ghost use Rattle.std.specs.Prelude.{◌≡◌, ◌++◌, None, true, slice_get};
+ghost use Rattle.std.specs.Prelude.{◌≡◌, [], None, slice_get};
 ghost use Rattle.ll_rights.specs.Errno.{refuse};
 ghost use Rattle.ll_path.specs.Path.{is_root};
 ghost use Rattle.ll_seq.specs.Call.{path_of, first_path, second_path};
 ghost use Rattle.ll_seq.specs.CallParts.{existence_refusals};
 ghost use Rattle.ll_seq.specs.Stages as stages;
 ghost use Rattle.ll_seq.specs.State.{State};
+ghost use Rattle.ll_seq.specs.declared.client.ClientRecord as record_of;
 ghost use Rattle.ll_answer.specs.Found.{AreFacts, Stands};
-ghost use Rattle.ll_answer.specs.Passed.{Passed, before_policy, has_path};
+ghost use Rattle.ll_answer.specs.Passed.{Passed, found_refusals};
+ghost use Rattle.ll_seq.specs.Stages.{early_refusals};
 
 use crate::found::{Found, Spot};
 use crate::refusals::{first, refuse};
@@ -171,21 +173,19 @@ fn existence_refusal(call: &Call, old: &Spot, new: &Spot) -> Option<Errno>
 
 /// What refuses the call whatever the tree is: by its words, its numbers and how its paths lie.
 pub fn refused_early(caller: &ClientRecord, call: &Call) -> Option<Errno>
-    ensures { result ≡ slice_get (stages.text_refusals call.now ++ stages.number_refusals caller.now call.now
-        ++ stages.relation_refusals call.now (first_path call.now) (second_path call.now)) 0 }
+    ensures { result ≡ slice_get (early_refusals caller.now call.now) 0 }
 {
     let number = first(number_refusal(caller, call), relation_refusal(call));
     first(text_refusal(call), number)
 }
 
-/// What refuses the call before policy is asked.
-pub fn refused_before(caller: &ClientRecord, call: &Call, found: &Found) -> Option<Errno>
-    ensures refused { (s : State) → has_path call.now ≡ true → AreFacts s call.now found.now
-        → result ≡ slice_get (before_policy s caller.now call.now) 0 }
-    ensures passed { result ≡ None → (s : State) → has_path call.now ≡ true → AreFacts s call.now found.now
-        → Passed s caller.now call.now found.now }
+/// What refuses the call before policy is asked, where no early stage does: by what is in its way, and what is there.
+pub fn refused_found(call: &Call, found: &Found) -> Option<Errno>
+    ensures refused { (s : State) → AreFacts s call.now found.now
+        → result ≡ slice_get (found_refusals s call.now) 0 }
+    ensures passed { result ≡ None → (s : State) (c : record_of.ClientRecord) → early_refusals c call.now ≡ []
+        → AreFacts s call.now found.now → Passed s c call.now found.now }
 {
     let existence = existence_refusal(call, &found.first, &found.second);
-    let walk = first(walk_refusal(call, found), existence);
-    first(refused_early(caller, call), walk)
+    first(walk_refusal(call, found), existence)
 }

@@ -1,6 +1,6 @@
 //! A call, from what is found to what it does.
 
-ghost use Rattle.std.specs.Prelude.{◌≡◌, ℕ, true, length, IfOk, MatchResult};
+ghost use Rattle.std.specs.Prelude.{◌≡◌, ℕ, true, [], length, IfOk, MatchResult};
 ghost use Rattle.ll_decide.specs.Judge.{AreGranted};
 ghost use Rattle.ll_seq.specs.State.{State};
 ghost use Rattle.ll_seq.specs.Step.{client_of};
@@ -9,8 +9,9 @@ ghost use Rattle.ll_answer.specs.Demanded.{chains};
 ghost use Rattle.ll_answer.specs.Found.{AreFacts};
 ghost use Rattle.ll_answer.specs.Near.{IsNear};
 ghost use Rattle.ll_answer.specs.Passed.{has_path};
+ghost use Rattle.ll_seq.specs.Stages.{early_refusals};
 
-use crate::before::refused_before;
+use crate::before::{refused_early, refused_found};
 use crate::changes::Effect;
 use crate::demanding::demands_of;
 use crate::effects::effect_of;
@@ -34,7 +35,29 @@ pub fn decide<'a>(
         → MatchResult result (IsDone s n call.now) (IsRefused s n call.now) }
     ensures near { IfOk result (IsNear call.now found.now) }
 {
-    if let Some(errno) = refused_before(caller, call, found) {
+    if let Some(errno) = refused_early(caller, call) {
+        return Err(Reply::Refused(errno));
+    }
+    decide_passed(caller, call, found, granted)
+}
+
+/// The same of a call that no early stage refuses, as that of a walk.
+pub fn decide_passed<'a>(
+    caller: &ClientRecord,
+    call: &'a Call,
+    found: &Found,
+    granted: &Granted<'_>,
+) -> Result<Effect<'a>, Reply>
+    requires early { early_refusals caller.now call.now ≡ [] }
+    requires other { length granted.now.other.now ≡ length granted.now.itself.now }
+    requires parent { length granted.now.parent.now ≡ length granted.now.itself.now }
+    requires entered { length granted.now.entered.now ≡ length granted.now.itself.now }
+    ensures decided { (s : State) (n : ℕ) → client_of s n ≡ caller.now → has_path call.now ≡ true
+        → AreFacts s call.now found.now → AreGranted caller.now.domain (chains s call.now) granted.now
+        → MatchResult result (IsDone s n call.now) (IsRefused s n call.now) }
+    ensures near { IfOk result (IsNear call.now found.now) }
+{
+    if let Some(errno) = refused_found(call, found) {
         return Err(Reply::Refused(errno));
     }
     let demands = demands_of(call, found);

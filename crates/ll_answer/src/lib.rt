@@ -13,9 +13,9 @@ mod later;
 mod refusals;
 mod targets;
 
-pub use before::{refused_before, refused_early};
+pub use before::{refused_early, refused_found};
 pub use changes::{Answer, At, Change, Effect, Opening, Rule};
-pub use deciding::decide;
+pub use deciding::{decide, decide_passed};
 pub use demanding::demands_of;
 pub use effects::effect_of;
 pub use found::{Found, Spot, There};

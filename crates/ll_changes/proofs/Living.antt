@@ -1,4 +1,4 @@
--- Which nodes live after a change, what number the next one gets, and how many there are.
+-- Which nodes live after a change, and what number the next one gets.
 use Rattle.std.specs.Prelude.{◌≡◌, ◌≢◌, ℕ, ◌+◌, true, false, cond, ◌&&◌, List, [], ◌∷◌, map, length, Option, Some, None, option_map, refl}
 use Rattle.std.specs.declared.cmp.Ordering.{Ordering}
 use Rattle.std.specs.Option.{option_map_or}
@@ -102,34 +102,3 @@ after_next s n c (Exchange old new first second) = refl
 after_next s n c (Resize inode size) = bytes_next s inode _
 after_next s n c (Open opening) = open_next s n c opening opening.there
 after_next s n c (Allow rule) = refl
-
--- ---- as many facts as nodes
-
-module _ {K X Y : Type 0} (R : K → K → Ordering) (f : X → Y) where
-  abbrev mapped : List (K × X) → List (K × Y)
-  mapped es = map (λ (e : K × X). (e.0, f e.1)) es
-
-  below_mapped : (k : K) (es : List (K × X)) → below_all R k (mapped es) ≡ below_all R k es
-  below_mapped k [] = refl
-  below_mapped k (e ∷ es) = ap (λ b. is_lt (R k e.0) && b) (below_mapped k es)
-
-  sorted_mapped : (es : List (K × X)) → is_sorted R (mapped es) ≡ is_sorted R es
-  sorted_mapped [] = refl
-  sorted_mapped (e ∷ es) = (λ i. below_mapped e.0 es i && is_sorted R (mapped es)) ∙ ap (λ b. below_all R e.0 es && b) (sorted_mapped es)
-
-  find_mapped : (q : K) (es : List (K × X)) → find R q (mapped es) ≡ option_map f (find R q es)
-  find_mapped q [] = refl
-  find_mapped q (e ∷ es) = elim (eq_by_cmp R q e.0) as (λ b. cond b (Some (f e.1)) (find R q (mapped es)) ≡ option_map f (cond b (Some e.1) (find R q es))) [ true ↦ refl | false ↦ find_mapped q es ]
-
-  length_mapped : (es : List (K × X)) → length (mapped es) ≡ length es
-  length_mapped es = length-map es (λ (e : K × X). (e.0, f e.1))
-
--- maps that answer alike, by what is told of their values, have as many entries
-pub same_len : {X Y Z : Type 0} (m : Map nat_cmp X) (n : Map nat_cmp Y) (f : X → Z) (g : Y → Z) → ((q : ℕ) → option_map f (get m q) ≡ option_map g (get n q)) → len m ≡ len n
-unfolding get entries
-same_len m n f g same =
-    sym (length_mapped nat_cmp f m.list)
-    ∙ ap length (same_entries nat_cmp nat_cmp_total nat_cmp-IsAntisymmetric (mapped nat_cmp f m.list) (mapped nat_cmp g n.list)
-    (subst T (sym (sorted_mapped nat_cmp f m.list)) m.sorted) (subst T (sym (sorted_mapped nat_cmp g n.list)) n.sorted)
-    (λ q. find_mapped nat_cmp f q m.list ∙ same q ∙ sym (find_mapped nat_cmp g q n.list)))
-    ∙ length_mapped nat_cmp g n.list

@@ -35,7 +35,8 @@ use Rattle.ll_inodes.proofs.SlotLists.{same_or_not}
 use Rattle.ll_changes.specs.Accounts.{account, accounts}
 use Rattle.ll_changes.specs.Enacting.{IsGiven, Covers, IsMade, LeavesTable, MayEnact}
 use Rattle.ll_changes.proofs.Accounted.{inode_at, account_held, account_inode, account_kept, not_here, told_by}
-use Rattle.ll_changes.proofs.Living.{bytes_kind, bytes_next, same_len, make_kind}
+use Rattle.ll_rights.proofs.Sizes.{same_len}
+use Rattle.ll_changes.proofs.Living.{bytes_kind, bytes_next, make_kind}
 use Rattle.ll_changes.proofs.MadeSlots.{tree, some_node, has_node}
 use Rattle.ll_changes.proofs.SlotAccounts.{bytes_put, bytes_other}
 

@@ -43,11 +43,11 @@ all_less P (j ∷ ks) k all = let rest = all_less P ks k all.1 in ((all.0, rest.
 
 -- ---- slots that are not in a list
 
-in_neither : (k : ℕ) (js ks : List ℕ) → NotIn k (js ++ ks) → NotIn k js × NotIn k ks
+pub in_neither : (k : ℕ) (js ks : List ℕ) → NotIn k (js ++ ks) → NotIn k js × NotIn k ks
 in_neither k [] ks out = (tt, out)
 in_neither k (j ∷ js) ks out = let rest = in_neither k js ks out.1 in ((out.0, rest.0), rest.1)
 
-not_in_both : (k : ℕ) (js ks : List ℕ) → NotIn k js → NotIn k ks → NotIn k (js ++ ks)
+pub not_in_both : (k : ℕ) (js ks : List ℕ) → NotIn k js → NotIn k ks → NotIn k (js ++ ks)
 not_in_both k [] ks a b = b
 not_in_both k (j ∷ js) ks a b = (a.0, not_in_both k js ks a.1 b)
 

@@ -17,7 +17,7 @@ use Rattle.ll_seq.specs.State.{State, empty_node}
 use Rattle.ll_seq.specs.Effects.{with_node, lives, let_go}
 use Rattle.ll_seq.specs.Facts.{AreKept}
 use Rattle.ll_inodes.specs.InodeTable.{Table, IsTable, ArePlaced, AreDistinct, IsVacant, without_inode}
-use Rattle.ll_inodes.proofs.LivingNodes.{one_comes, one_goes}
+use Rattle.ll_rights.proofs.Sizes.{one_comes, one_goes}
 use Rattle.ll_inodes.proofs.SlotLists.{same_Some, same_or_not, set_same, set_other, all_set, all_more, all_less, distinct_lent, distinct_right, last_apart, not_free, no_spare, distinct_freed, taken_out, vacant_still, without_get, out_of, out_other, left_there, gone_from, without_nothing, vacant_without, without_none, without_one}
 
 -- what is found of a number that there is

@@ -1,5 +1,5 @@
 -- A walk that has ended where each branch is at its end: what its call is made with.
-use Rattle.std.specs.Prelude.{◌≡◌, ℕ, zero, suc, ◌+◌, ◌-◌, ◌<◌, ◌≤◌, ◌^◌, Bool, true, false, ◌&&◌, ◌||◌, ◌==◌, List, [], ◌∷◌, map, length, Option, Some, None, nat_le, slice_get, slice_index_or, unwrap_or, refl}
+use Rattle.std.specs.Prelude.{◌≡◌, ℕ, zero, suc, ◌+◌, ◌-◌, ◌<◌, ◌≤◌, ◌^◌, Bool, true, false, not, ◌&&◌, ◌||◌, ◌==◌, List, [], ◌∷◌, map, length, Option, Some, None, nat_le, slice_get, slice_index_or, unwrap_or, refl}
 use Rattle.std.specs.List.{list_any}
 use Rattle.std.proofs.Common.{sym, subst, ap, ◌∙◌, arith}
 use Rattle.std.proofs.lemmas.Bool.{eq-eqb}
@@ -24,8 +24,10 @@ use Rattle.ll_seq.specs.State.{State, kind_of, new_client}
 use Rattle.ll_seq.specs.Step.{client_of}
 use Rattle.ll_walks.specs.Commits.{first_end, second_end}
 use Rattle.ll_walks.specs.Walk.{Walk, Leg, Position, Above, Down, Split, is_in, marks}
-use Rattle.ll_walks.specs.World.{World, domain_of, has_any, is_full, shown, without_walk}
+use Rattle.ll_walks.specs.World.{World, domain_of, has_any, is_full, is_walked, shown, without_walk}
+use Rattle.ll_seq.specs.Stages.{early_refusals}
 use Rattle.ll_walks.proofs.SoundSteps.{marked_below}
+use Rattle.ll_walks.proofs.Tests.{both, is_nil, not_true}
 use Rattle.ll_journal.specs.declared.journal.Journal.TheInside.{Inside}
 use Rattle.ll_journal.specs.Book.{Seat, Book, inode_in, has_mark, mark_of, slot_of}
 use Rattle.ll_journal.specs.Decidings.{IsEndAt}
@@ -167,6 +169,14 @@ module _ (j i : Inside) (h : IsKept j) (mid : IsKept i) (number place : ℕ) (sl
       ∙ ap (λ n. slice_index_or (spares_of i.seats.items) n 0) less
       ∙ index_of (spares_of i.seats.items) place seat.spare (spare_at i.seats.items place seat at)
 
+  walked : is_walked seat.client r.walk.call ≡ true
+  walked =
+      ap (λ c. is_walked c r.walk.call) (sym (ap (λ s. client_of s number) (sym tree) ∙ ap (λ (o : Option ClientRecord). unwrap_or o new_client) client))
+      ∙ (h.sound.valid number r.walk r.ends.is).0.walked
+
+  early : early_refusals seat.client r.walk.call ≡ []
+  early = is_nil (early_refusals seat.client r.walk.call) (not_true _ (both (has_any (targets r.walk.call)) (not (has_any (early_refusals seat.client r.walk.call))) walked).1)
+
   path : has_path r.walk.call ≡ true
   path = names_path r.walk.call (left_true (has_any (targets r.walk.call)) _ ((h.sound.valid number r.walk r.ends.is).0.walked))
 
@@ -174,6 +184,7 @@ module _ (j i : Inside) (h : IsKept j) (mid : IsKept i) (number place : ℕ) (sl
   at_end = subst (λ c. IsAtEnd (shown (world_of i)) number (mark_of (world_of i)) (spares_of i.seats.items) place seat.client seat.spare i.table slots lent c first second found) (sym call_is) (record {
     given = given;
     path = path;
+    early = early;
     facts = subst (λ s. AreFacts s r.walk.call found) (sym tree) r.facts;
     old = end_at (first_path r.walk.call) found.first r.first first r.old first_masks;
     new = end_at (second_path r.walk.call) found.second r.second second r.new second_masks;

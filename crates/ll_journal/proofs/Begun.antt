@@ -15,7 +15,9 @@ use Rattle.ll_seq.specs.declared.call.Call.TheVariants.{Make, Open, Read, Write,
 use Rattle.ll_seq.specs.Call.{targets}
 use Rattle.ll_answer.specs.Passed.{has_path}
 use Rattle.ll_walks.specs.Walk.{Walk}
-use Rattle.ll_walks.specs.World.{has_any, early_refusals, is_walked}
+use Rattle.ll_walks.specs.World.{has_any, is_walked}
+use Rattle.ll_seq.specs.Stages.{early_refusals}
+use Rattle.ll_inodes.proofs.SlotLists.{set_same, set_other}
 use Rattle.ll_journal.specs.Book.{Seat}
 use Rattle.ll_journal.specs.Kept.{walks_from, seat_at}
 
@@ -89,18 +91,6 @@ found_at (seat ∷ seats) first (suc place) q e =
 pub walk_at : (seats : List Seat) (q : ℕ) → get (walks_from 1 seats) q ≡ walk_in (seat_at seats q)
 walk_at seats zero = not_yet seats 1 zero (omega arith)
 walk_at seats (suc place) = found_at seats 1 place (suc place) (omega arith)
-
-pub set_same : {A : Type 0} (xs : List A) (i : ℕ) (x y : A) → slice_get xs i ≡ Some x → slice_get (slice_set xs i y) i ≡ Some y
-set_same [] i x y e = absurd (cc e)
-set_same (z ∷ xs) zero x y e = refl
-set_same (z ∷ xs) (suc i) x y e = set_same xs i x y e
-
-pub set_other : {A : Type 0} (xs : List A) (i j : ℕ) (y : A) → i ≢ j → slice_get (slice_set xs i y) j ≡ slice_get xs j
-set_other [] i j y n = refl
-set_other (z ∷ xs) zero zero y n = absurd (n refl)
-set_other (z ∷ xs) zero (suc j) y n = refl
-set_other (z ∷ xs) (suc i) zero y n = refl
-set_other (z ∷ xs) (suc i) (suc j) y n = set_other xs i j y (λ e. n (ap suc e))
 
 -- another walk in the seat is another walk of its client
 pub walks_put : (seats : List Seat) (place : ℕ) (old seat : Seat) (walk : Walk) → slice_get seats place ≡ Some old → seat.walk ≡ Some walk

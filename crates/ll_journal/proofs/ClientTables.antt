@@ -10,7 +10,8 @@ use Rattle.ll_seq.specs.Facts.{AreKept}
 use Rattle.ll_inodes.specs.InodeTable.{Table, IsTable, IsVacant, AreDistinct}
 use Rattle.ll_journal.specs.Book.{Seat}
 use Rattle.ll_journal.specs.Kept.{spares_of}
-use Rattle.ll_journal.proofs.NewClients.{all_more, all_less, distinct_moved}
+use Rattle.ll_inodes.proofs.SlotLists.{all_more, all_less}
+use Rattle.ll_journal.proofs.NewClients.{distinct_moved}
 
 module _ (s : State) (number : ℕ) (c : ClientRecord) (spares : List ℕ) (t : Table) (is : IsTable s spares t) where
   -- a client's record is another

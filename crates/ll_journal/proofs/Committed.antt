@@ -28,7 +28,7 @@ use Rattle.ll_journal.specs.Book.{Seat, Book, Spares, mark_of, has_mark, slot_of
 use Rattle.ll_journal.specs.WalkEnds.{LeavesFree, TakesName, would_make}
 use Rattle.ll_journal.specs.Kept.{IsKept, AreSeated, seat_at, world_of, book_of, walks_from, spares_of}
 use Rattle.ll_journal.specs.Performed.{Performs}
-use Rattle.ll_journal.proofs.Begun.{set_same, set_other}
+use Rattle.ll_inodes.proofs.SlotLists.{set_same, set_other}
 use Rattle.ll_journal.proofs.Ended.{commit_equation}
 use Rattle.ll_journal.proofs.MarkOf.{are_clients, has_mark_stale, mark_same}
 use Rattle.ll_journal.proofs.MadeNodes.{has_let_go, would_have_made}

@@ -25,7 +25,8 @@ use Rattle.ll_journal.specs.Book as book
 use Rattle.ll_journal.specs.Kept.{seat_at, walks_from}
 use Rattle.ll_journal.specs.Seated.{is_at_ends, position_at, seat_of}
 use Rattle.ll_journal.proofs.Advancing.{commit_full, commit_replies}
-use Rattle.ll_journal.proofs.Begun.{set_other, set_same, walk_at}
+use Rattle.ll_inodes.proofs.SlotLists.{set_same, set_other}
+use Rattle.ll_journal.proofs.Begun.{walk_at}
 
 -- ---- whether its branches are at their ends
 

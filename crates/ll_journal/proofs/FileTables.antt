@@ -11,7 +11,7 @@ use Rattle.ll_seq.specs.Effects.{with_bytes}
 use Rattle.ll_seq.proofs.FactsKept.{kept_bytes}
 use Rattle.ll_changes.proofs.Living.{bytes_kind, bytes_next}
 use Rattle.ll_inodes.specs.InodeTable.{Table, IsTable, without_inode}
-use Rattle.ll_inodes.proofs.LivingNodes.{same_len}
+use Rattle.ll_rights.proofs.Sizes.{same_len}
 use Rattle.ll_walks.proofs.Tests.{or_false}
 
 -- ---- other bytes

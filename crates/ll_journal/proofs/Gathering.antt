@@ -11,6 +11,7 @@ use Rattle.ll_rights.specs.Map.{Map, get}
 use Rattle.ll_seq.proofs.Parted.{or_left, or_right}
 use Rattle.ll_inodes.specs.InodeTable.{ArePlaced, AreDistinct, NotIn}
 use Rattle.ll_walks.specs.Walk.{Leg, Position, Above, Down, Split, is_in, legs}
+use Rattle.ll_inodes.proofs.SlotLists.{all_more}
 use Rattle.ll_journal.specs.Book.{Book, inode_in}
 use Rattle.ll_journal.specs.Needs.{with_slot, with_slot_of, with_slots_of}
 use Rattle.ll_journal.specs.WalkEnds.{is_lent}
@@ -32,10 +33,6 @@ not_in_more (y ∷ ks) x k away other = (away.0, not_in_more ks x k away.1 other
 distinct_more : (ks : List ℕ) (k : ℕ) → AreDistinct ks → NotIn k ks → AreDistinct (ks ++ k ∷ [])
 distinct_more [] k each away = (tt, tt)
 distinct_more (x ∷ ks) k each away = (not_in_more ks x k each.0 (λ same. away.0 (sym same)), distinct_more ks k each.1 away.1)
-
-pub all_more : (P : ℕ → Type 0) (ks : List ℕ) (k : ℕ) → AllByRecursion P ks → P k → AllByRecursion P (ks ++ k ∷ [])
-all_more P [] k all one = (one, tt)
-all_more P (x ∷ ks) k all one = (all.0, all_more P ks k all.1 one)
 
 or_regroup : (a b c : Bool) → (a || (b || c)) ≡ ((a || b) || c)
 or_regroup true b c = refl

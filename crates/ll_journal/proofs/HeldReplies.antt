@@ -47,10 +47,10 @@ refusals_hold s c call =
     let numbers = both_hold _ _ text (refused_hold (number_refusals c call)) in
     let relation = both_hold _ _ numbers (refused_hold (relation_refusals call at new)) in
     let way = both_hold _ _ relation (refused_hold (walk_refusals s call)) in
-    let existence = both_hold _ _ way (refused_hold (stages s new_client at new call).2) in
+    let existence = both_hold _ _ way (refused_hold (stages s new_client at new call).existence) in
     let policy = both_hold _ _ existence (denied_hold (call_denials s c call)) in
-    let kinds = both_hold _ _ policy (refused_hold (stages s c at new call).3) in
-    both_hold _ _ kinds (refused_hold (stages s c at new call).4)
+    let kinds = both_hold _ _ policy (refused_hold (stages s c at new call).kinds) in
+    both_hold _ _ kinds (refused_hold (stages s c at new call).limits)
 
 first_held : (s : State) (replies : List Reply) (outcome : Reply × State) → HoldNothing replies → holds_memory (first_or s replies outcome).0 ≡ true → replies ≡ []
 first_held s [] outcome none holds = refl

@@ -48,3 +48,6 @@ pub mod StopMeans
 pub mod Refusing
 pub mod Starved
 pub mod MadeNodes
+pub mod NextSteps
+pub mod SettingOut
+pub mod LastNodes

@@ -17,7 +17,8 @@ use Rattle.ll_journal.specs.Book.{Seat}
 use Rattle.ll_inodes.specs.InodeTable.{NotIn}
 use Rattle.ll_journal.specs.Kept.{AreSeated, seat_at, walks_from}
 use Rattle.ll_inodes.specs.InodeTable.{AreDistinct}
-use Rattle.ll_changes.proofs.Living.{same_len}
+use Rattle.ll_rights.proofs.Sizes.{len-empty, len-insert, same_len}
+use Rattle.ll_inodes.proofs.SlotLists.{in_neither, not_in_both}
 
 -- ---- as many clients as seats
 
@@ -47,23 +48,8 @@ client_at : (seats : List Seat) (q : ℕ) → get (clients_from 1 seats) q ≡ c
 client_at seats zero = not_yet seats 1 zero (omega arith)
 client_at seats (suc place) = found_at seats 1 place (suc place) (omega arith)
 
-list_checked : (es : List (ℕ × ClientRecord)) (b : Bool) (e : is_sorted nat_cmp es ≡ b) (m : Map nat_cmp ClientRecord) → T b → (checked es b e m).list ≡ es
-unfolding checked
-list_checked es true e m h = refl
-list_checked es false e m h = absurd h
-
-len-insert : (m : Map nat_cmp ClientRecord) (k : ℕ) (x : ClientRecord) → len (insert m k x) ≡ cond (has m k) (len m) (len m + 1)
-unfolding get insert entries
-len-insert m k x =
-    ap length (list_checked (put nat_cmp k x m.list) (is_sorted nat_cmp (put nat_cmp k x m.list)) refl m (is_sorted-put nat_cmp nat_cmp_total k x m.list m.sorted))
-    ∙ length-put nat_cmp nat_cmp_total k x m.list m.sorted
-
-len-empty : len {X = ClientRecord} {R = nat_cmp} empty ≡ 0
-unfolding empty entries
-len-empty = refl
-
 len_from : (seats : List Seat) (first : ℕ) → len (clients_from first seats) ≡ length seats
-len_from [] first = len-empty
+len_from [] first = len-empty ClientRecord
 len_from (seat ∷ seats) first =
     let rest = len_from seats (first + 1) in
     len-insert (clients_from (first + 1) seats) first seat.client
@@ -113,22 +99,6 @@ walks_more (z ∷ seats) seat first none = ap (λ m. option_map_or (λ (walk : W
 pub spares_more : (seats : List Seat) (seat : Seat) → map (λ (s : Seat). s.spare) (seats ++ seat ∷ []) ≡ map (λ (s : Seat). s.spare) seats ++ seat.spare ∷ []
 spares_more [] seat = refl
 spares_more (z ∷ seats) seat = ap (λ ks. z.spare ∷ ks) (spares_more seats seat)
-
-pub all_more : {A : Type 0} (P : A → Type 0) (xs : List A) (x : A) → AllByRecursion P xs → P x → AllByRecursion P (xs ++ x ∷ [])
-all_more P [] x all one = (one, tt)
-all_more P (y ∷ xs) x all one = (all.0, all_more P xs x all.1 one)
-
-pub all_less : {A : Type 0} (P : A → Type 0) (xs : List A) (x : A) → AllByRecursion P (xs ++ x ∷ []) → AllByRecursion P xs × P x
-all_less P [] x all = (tt, all.0)
-all_less P (y ∷ xs) x all = let rest = all_less P xs x all.1 in ((all.0, rest.0), rest.1)
-
-in_neither : (k : ℕ) (xs ys : List ℕ) → NotIn k (xs ++ ys) → NotIn k xs × NotIn k ys
-in_neither k [] ys out = (tt, out)
-in_neither k (x ∷ xs) ys out = let rest = in_neither k xs ys out.1 in ((out.0, rest.0), rest.1)
-
-not_in_both : (k : ℕ) (xs ys : List ℕ) → NotIn k xs → NotIn k ys → NotIn k (xs ++ ys)
-not_in_both k [] ys a b = b
-not_in_both k (x ∷ xs) ys a b = (a.0, not_in_both k xs ys a.1 b)
 
 distinct_last : (x : ℕ) (ys : List ℕ) → NotIn x ys → AreDistinct ys → AreDistinct (ys ++ x ∷ [])
 distinct_last x [] out apart = (tt, tt)

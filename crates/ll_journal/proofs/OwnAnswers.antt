@@ -33,7 +33,7 @@ use Rattle.ll_seq.specs.Stages.{ruleset_at, text_refusals, number_refusals, rela
 use Rattle.ll_seq.specs.CallParts.{existence_refusals, kind_refusals, limit_refusals}
 use Rattle.ll_seq.specs.Call.{first_path, second_path}
 use Rattle.ll_seq.specs.Asked.{call_denials}
-use Rattle.ll_walks.specs.World.{early_refusals}
+use Rattle.ll_seq.specs.Stages.{early_refusals}
 use Rattle.ll_laws.proofs.Gain.{done_of}
 use Rattle.ll_seq.specs.State.{State, new_client}
 use Rattle.ll_seq.specs.Step.{step, refusals, client_of}

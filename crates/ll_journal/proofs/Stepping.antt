@@ -44,7 +44,8 @@ use Rattle.ll_inodes.specs.InodeTable.{Table, IsTable}
 use Rattle.ll_journal.specs.Own.{Asks, IsOwn, Comes, IsFreeOwn, Spawns, SpawnTells}
 use Rattle.ll_journal.proofs.Advancing.{direct_not_now, direct_full, direct_replies}
 use Rattle.ll_journal.proofs.Answered.{spares_answered, world_is, kept_answered, world_more, kept_more, takes_spare, few_clients, many_clients}
-use Rattle.ll_journal.proofs.Begun.{walk_at, set_same, set_other}
+use Rattle.ll_inodes.proofs.SlotLists.{set_same, set_other}
+use Rattle.ll_journal.proofs.Begun.{walk_at}
 use Rattle.ll_journal.proofs.NewClients.{clients_len}
 use Rattle.ll_journal.proofs.OwnAnswers.{early_not_free, spawn_free, spawn_refused, spawned}
 use Rattle.ll_journal.proofs.Ruled.{rules_stay}
@@ -69,7 +70,7 @@ module _ (j : Inside) (h : IsKept j) (number : ℕ) (call : Call) where
   abbrev told : Option ClientRecord → Option Walk → Bool
   told client walk = (is_some client && not (is_some walk)) && is_alone (unwrap_or client new_client) call
 
-  may_is : (is_idle w number && is_alone (client_of (shown w) number) call) ≡ option_map_or (λ (seat : Seat). may_ask seat call) (seat_at j.seats.items number) false
+  pub may_is : (is_idle w number && is_alone (client_of (shown w) number) call) ≡ option_map_or (λ (seat : Seat). may_ask seat call) (seat_at j.seats.items number) false
   may_is =
       ap (λ c. told c (get w.walks number)) (h.seated number)
       ∙ ap (told (option_map (λ (seat : Seat). seat.client) (seat_at j.seats.items number))) (walk_at j.seats.items number)
@@ -83,7 +84,7 @@ module _ (j : Inside) (h : IsKept j) (number : ℕ) (call : Call) where
   may_not e = direct_not_now w number (is_alone (client_of (shown w) number) call) call (may_is ∙ e)
 
   module _ (place : ℕ) (seat : Seat) (at : slice_get j.seats.items place ≡ Some seat) (numbered : number ≡ suc place) where
-    stands : seat_at j.seats.items number ≡ Some seat
+    pub stands : seat_at j.seats.items number ≡ Some seat
     stands = ap (seat_at j.seats.items) numbered ∙ at
 
     pub not_own : may_ask seat call ≡ false → advance w (ClientStep number call) ≡ (NotNow, w)

@@ -14,3 +14,5 @@ pub mod Kept
 pub mod Files
 pub mod Decidings
 pub mod Needs
+pub mod NextStep
+pub mod Starts

@@ -18,7 +18,7 @@ use Rattle.ll_seq.specs.declared.call.Call.{Call}
 use Rattle.ll_seq.specs.Call.{first_path, second_path}
 use Rattle.ll_seq.specs.Stages.{no_directory}
 use Rattle.ll_seq.specs.State.{Name, root}
-use Rattle.ll_walks.specs.Walk.{Walk, Leg, is_in, legs, is_above}
+use Rattle.ll_walks.specs.Walk.{Walk, Leg, has_two_paths, is_in, legs, is_above}
 use Rattle.ll_held.specs.declared.held.Held.{Held}
 use Rattle.ll_journal.specs.declared.look.Look.{Look}
 use Rattle.ll_journal.specs.declared.look.Look.TheVariants.{NotNow, Astray, Go}
@@ -62,6 +62,14 @@ look_for facts (Some name) from to = look_into facts (get from.node.names name) 
 abbrev pub look_from : Map nat_cmp Fact → Option ℕ → Option Name → Held → Held → Look
 look_from facts None next from to = Astray
 look_from facts (Some here) next from to = if from.inode == here then look_for facts next from to else Astray
+
+-- where the last name of the call's one path stands, or that of its second
+abbrev pub last_found : Call → Found → Spot
+last_found call found = if has_two_paths call then found.second else found.first
+
+-- with this for both paths: of a call with two the second's tells which node it may change or tell of
+abbrev pub found_last : Spot → Found
+found_last last = record { first = last; second = last; is_full = false }
 
 -- the inode lies in what is lent
 abbrev pub lends : List Held → ℕ → Bool

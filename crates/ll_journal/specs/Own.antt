@@ -14,7 +14,8 @@ use Rattle.ll_seq.specs.Facts.{AreKept}
 use Rattle.ll_inodes.specs.InodeTable.{Table}
 use Rattle.ll_seq.specs.declared.rules.Rules.{Rules}
 use Rattle.ll_seq.specs.Step.{step, refusals}
-use Rattle.ll_walks.specs.World.{is_alone, early_refusals}
+use Rattle.ll_walks.specs.World.{is_alone}
+use Rattle.ll_seq.specs.Stages.{early_refusals}
 use Rattle.ll_journal.specs.Book.{Seat}
 use Rattle.ll_journal.specs.declared.alone.Own.{Own}
 use Rattle.ll_journal.specs.declared.alone.Own.TheVariants.{Spawn, OnRecord}

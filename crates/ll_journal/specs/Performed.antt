@@ -15,6 +15,7 @@ use Rattle.ll_seq.specs.Call.{first_path, second_path}
 use Rattle.ll_seq.specs.State.{State}
 use Rattle.ll_seq.specs.Step.{step, refusals, client_of}
 use Rattle.ll_walks.specs.Walk.{is_in}
+use Rattle.ll_seq.specs.Stages.{early_refusals}
 use Rattle.ll_journal.specs.Decidings.{IsEndAt}
 
 -- the inode lies in one of the slots
@@ -29,6 +30,7 @@ pub record IsAtEnd
     (call : Call) (first second : List ℕ) (found : Found) : Type 0 where
   pub given : IsGiven s number marks spares place c spare table slots lent
   pub path : has_path call ≡ true
+  pub early : early_refusals c call ≡ []
   pub facts : AreFacts s call found
   pub old : IsEndAt s c.domain (first_path call) found.first first
   pub new : IsEndAt s c.domain (second_path call) found.second second

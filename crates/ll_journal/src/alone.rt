@@ -3,6 +3,7 @@
 ghost use Rattle.std.specs.Prelude.{◌≡◌, ◌≢◌, ◌<◌, None, Some, slice_get, IfOk, OnErr, option_map, if◌then◌else◌};
 ghost use Rattle.ll_rights.specs.Map.{has};
 ghost use Rattle.ll_walks.specs.World as world;
+ghost use Rattle.ll_seq.specs.Stages.{early_refusals};
 ghost use Rattle.ll_seq.specs.declared.reply.Reply.TheVariants as replies;
 ghost use Rattle.ll_journal.specs.Own.{IsOwn, Comes, IsFreeOwn};
 
@@ -40,11 +41,11 @@ fn refused(refusal: Option<Errno>) -> Option<Own>
     }
 }
 
-/// Of a call on a descriptor: refused early where the client hasn't it, and else not for the client alone.
+/// The early refusal if the client lacks the descriptor; else None.
 fn unheld(caller: &ClientRecord, call: &Call, number: u64) -> Option<Own>
     ensures { result ≡ (if has caller.now.descriptors number then None
         else option_map (λ errno. Own.OnRecord (RecordCall.Refused errno))
-        (slice_get (world.early_refusals caller.now call.now) 0)) }
+        (slice_get (early_refusals caller.now call.now) 0)) }
 {
     if caller.descriptors.has(number) {
         return None;

@@ -9,6 +9,7 @@ ghost use Rattle.ll_rights.specs.Kind.{is_dir};
 ghost use Rattle.ll_rights.specs.Map.{has};
 ghost use Rattle.ll_seq.specs.Call.{first_path, path_of, second_path};
 ghost use Rattle.ll_seq.specs.Effects.{status_of};
+ghost use Rattle.ll_seq.specs.Stages.{early_refusals};
 ghost use Rattle.ll_seq.specs.State.{State, bytes_of, kind_of, name_count, names_in};
 ghost use Rattle.ll_seq.specs.Step.{client_of};
 ghost use Rattle.ll_seq.specs.Tree.{ancestors, inode_of, kind_or_file, named};
@@ -26,7 +27,7 @@ ghost use Rattle.ll_journal.specs.Decidings.{HasContent, IsEndAt, Lends, moved_l
 
 use crate::ending::overtake;
 use crate::seat::{Ended, Seat};
-use ll_answer::{Answer, Effect, Found, Spot, Targets, decide, targets_of};
+use ll_answer::{Answer, Effect, Found, Spot, Targets, decide_passed, targets_of};
 use ll_decide::{Granted, Masks};
 use ll_held::{Held, find};
 use ll_inodes::Inodes;
@@ -96,6 +97,7 @@ pub(crate) fn decided<'a>(
     walk: &'a Ended,
     found: &Found,
 ) -> Result<Effect<'a>, Reply>
+    requires early { early_refusals caller.now walk.now.call ≡ [] }
     requires first { length walk.now.first ≡ length caller.now.domain }
     requires second { length walk.now.second ≡ length caller.now.domain }
     ensures decided { (s : State) (n : ℕ) → client_of s n ≡ caller.now → has_path walk.now.call ≡ true → AreFacts s walk.now.call found.now
@@ -112,7 +114,7 @@ pub(crate) fn decided<'a>(
         parent: &walk.first,
         entered: &walk.second,
     };
-    decide(caller, &walk.call, found, &granted)
+    decide_passed(caller, &walk.call, found, &granted)
 }
 
 /// The slot where the inode lies, if it is lent.

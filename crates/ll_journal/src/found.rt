@@ -90,6 +90,17 @@ fn spots(table: &Inodes, first: &Held, second: &Held, call: &Call) -> (Spot, Spo
     }
 }
 
+/// Where the last name of the call's one path, or of its second, stands in the directory.
+pub(crate) fn last_spot(table: &Inodes, here: &Held, call: &Call) -> Spot
+    ensures { result ≡ spot_at table.now.facts here.now (second_path call.now) }
+{
+    match targets_of(call) {
+        Targets::No => nowhere(table, here),
+        Targets::One(target) => spot(table, here, target),
+        Targets::Two(_, new) => spot(table, here, new),
+    }
+}
+
 /// What is found for the call, whose paths end in these directories, where so many nodes may live.
 pub(crate) fn found(table: &Inodes, room: usize, first: &Held, second: &Held, call: &Call) -> Found
     ensures { (s : State) (spares : List ℕ) → IsTable s spares table.now

@@ -1,10 +1,12 @@
 //! The journal.
 
-ghost use Rattle.std.specs.Prelude.{◌≡◌, ◌<◌, ◌≤◌, suc, [], ◌∷◌, length, None, IfOk, IfErr, IfSome, IfNone, OnOk, OnErr, ◌≢◌, map, ◌==◌, ◌&&◌, is_some, false, if◌then◌else◌, Some};
+ghost use Rattle.std.specs.Prelude.{◌≡◌, ◌<◌, ◌≤◌, suc, [], ◌∷◌, length, None, IfOk, IfErr, IfSome, IfNone, OnOk, OnErr, ◌≢◌, map, ◌==◌, ◌&&◌, is_none, is_some, false, if◌then◌else◌, Some};
 ghost use Rattle.ll_rights.specs.declared.limits.TheConstants.{HISTORY_ENTRIES, TREE_CLIENTS, TREE_NODES};
 ghost use Rattle.std.specs.Option.{option_map_or};
+ghost use Rattle.ll_seq.specs.Call.{targets};
 ghost use Rattle.ll_seq.specs.State.{root};
 ghost use Rattle.ll_walks.specs.Walk.{Walk, forked, marks};
+ghost use Rattle.ll_walks.specs.World.{has_any};
 ghost use Rattle.ll_journal.specs.Looks.{goes_on};
 ghost use Rattle.ll_journal.specs.Kept.{seat_at};
 
@@ -12,7 +14,7 @@ use crate::look::{Look, directory_below, look_again, look_at_root, look_down};
 use crate::outcome::Outcome;
 use crate::seat::Seat;
 use crate::station::Station;
-use crate::walked::{is_free, next_gate};
+use crate::walked::{is_free, names_path, next_gate};
 use ll_held::{Held, unmark};
 use ll_inodes::Inodes;
 use ll_rights::limits::TREE_CLIENTS;
@@ -93,12 +95,19 @@ fn may_fork(seat: &Seat) -> bool
     seat.goes_on() && seat.may_fork()
 }
 
+/// Whether it is idle, and the call names a path.
+fn may_set_out(seat: &Seat, call: &Call) -> bool
+    ensures { result ≡ (is_none seat.now.walk && has_any (targets call.now)) }
+{
+    seat.call().is_none() && names_path(call)
+}
+
 impl Journal {
     ghost use Rattle.ll_journal.specs.Book.{Spares, new_book, slot_of};
     ghost use Rattle.ll_journal.specs.Stations.{station_in};
     ghost use Rattle.ll_journal.specs.Steps.{Does, GoesDown, IsAstrayAt, IsAstrayAtTop, IsAstrayBelow, IsNext};
     ghost use Rattle.ll_walks.specs.World.{Begun, NotNow, advance};
-    ghost use Rattle.ll_walks.specs.declared.step.Step.TheVariants.{Begin, Descend, Fork, Restart};
+    ghost use Rattle.ll_walks.specs.declared.step.Step.TheVariants.{Begin, ClientStep, Descend, Fork, Restart};
 
     /// A tree of the root alone, in which so many nodes may live, without a client. Room is reserved for so many
     /// entries of the history.
@@ -138,6 +147,25 @@ impl Journal {
             return Err(call);
         };
         if !self.seats[place].may_begin(&call) {
+            return Err(call);
+        }
+        self.set_out(client, call)
+    }
+
+    /// The same of a call that isn't one for the client alone.
+    pub(crate) fn set_out(&mut self, client: u64, call: Call) -> Result<(), Call>
+        requires { advance self.old.world (ClientStep client call) ≡ (NotNow, self.old.world) }
+        ensures begun { OnOk result (advance self.old.world (Begin client call) ≡ (Begun, self.new.world)) }
+        ensures not_now { OnErr result (advance self.old.world (Begin client call) ≡ (NotNow, self.old.world)) }
+        ensures back { IfErr result (λ back. back ≡ call) }
+        ensures same { OnErr result (self.new ≡ self.old) }
+        ensures spares { Spares self.old self.new [] }
+        ensures rest { self.new ≡ record self.old { world = self.new.world } }
+    {
+        let Some(place) = place_of(&self.seats, client) else {
+            return Err(call);
+        };
+        if !may_set_out(&self.seats[place], &call) {
             return Err(call);
         }
         if !is_free(self.gate, &call) {

@@ -5,25 +5,27 @@ ghost use Rattle.std.specs.List.{AllByRecursion};
 ghost use Rattle.ll_rights.specs.Map.{get};
 ghost use Rattle.ll_seq.specs.State.{root};
 ghost use Rattle.ll_walks.specs.Walk.{Leg, Walk};
+ghost use Rattle.ll_journal.specs.Looks.{found_last};
 ghost use Rattle.ll_journal.specs.Needs as needs;
 
-use crate::found::found;
+use crate::found::last_spot;
 use crate::journal::{Journal, place_of};
 use crate::slots::Slots;
-use crate::stop::{may_make, other_node};
-use ll_answer::Found;
+use crate::stop::{may_make_at, node_at};
+use ll_answer::Spot;
 use ll_held::Held;
 use ll_inodes::Inodes;
 use ll_seq::{Call, ROOT};
 
-/// The slot, besides those of directories, that the call may need where its walk ends.
-fn slot_besides(table: &Inodes, spare: u64, call: &Call, found: &Found) -> Option<u64>
-    ensures { result ≡ needs.slot_besides table.now.places spare call.now found.now }
+/// The slot, besides those of directories, that the call may need where its walk ends: its one path or its second has its
+/// last name here.
+fn slot_besides(table: &Inodes, spare: u64, call: &Call, last: &Spot) -> Option<u64>
+    ensures { result ≡ needs.slot_besides table.now.places spare call.now (found_last last.now) }
 {
-    if may_make(call, found) {
+    if may_make_at(call, last) {
         return Some(spare);
     }
-    table.slot(other_node(call, found))
+    table.slot(node_at(call, last))
 }
 
 impl Journal {
@@ -72,7 +74,7 @@ impl Journal {
         }
     }
 
-    /// The slot besides, where the client's walk is at its ends and its leg in turn stands here.
+    /// At the walk's ends: the one further slot that its commit needs, if any. Its leg in turn stands here.
     fn slot_at_ends(&self, client: u64, here: &Held) -> Option<u64>
         ensures within { IfSome result (λ slot. slot < length self.now.inodes) }
         ensures needed { (slot : ℕ) → here.now ≡ slot_of self.now slot → IsInTurn self.now client slot
@@ -89,8 +91,8 @@ impl Journal {
         let Some(call) = seat.call() else {
             unreachable!()
         };
-        let found = found(&self.table, self.room, here, here, call);
-        slot_besides(&self.table, seat.spare(), call, &found)
+        let last = last_spot(&self.table, here, call);
+        slot_besides(&self.table, seat.spare(), call, &last)
     }
 
     /// All the slots that a commit of the client's walk may need, and no others, seen from that of the directory where its

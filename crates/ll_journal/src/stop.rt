@@ -17,6 +17,7 @@ ghost use Rattle.ll_journal.specs.Looks as looks;
 use crate::ending::is_marked_by_other;
 use crate::found::{blocked, found};
 use crate::seat::{Seat, is_in, is_lent};
+use crate::way::has_two_paths;
 use ll_answer::{Found, Spot, Targets, targets_of};
 use ll_held::{Held, find};
 use ll_inodes::Inodes;
@@ -49,40 +50,67 @@ fn stop_before(table: &Inodes, lent: &[Held], here: u64, name: &str) -> Stop
     }
 }
 
-/// The node besides the directories of its paths that the call may change or tell of, or 0.
-pub(crate) fn other_node(call: &Call, found: &Found) -> u64
-    ensures first { result ≡ slice_index_or (near.nodes_of call.now found.now) 0 0 }
-    ensures alone { (p : ℕ → Bool) → p 0 ≡ true → list_all p (near.nodes_of call.now found.now) ≡ p result }
+/// The node that the call may change or tell of besides the directories of its paths, or 0, where its one path or its
+/// second has its last name here.
+pub(crate) fn node_at(call: &Call, last: &Spot) -> u64
+    ensures first { result ≡ slice_index_or (near.nodes_of call.now (looks.found_last last.now)) 0 0 }
+    ensures alone { (p : ℕ → Bool) → p 0 ≡ true → list_all p (near.nodes_of call.now (looks.found_last last.now)) ≡ p result }
 {
-    let spot = match call {
-        Call::Open(..) | Call::Truncate(..) | Call::ReadDir(_) => &found.first,
-        Call::Stat(_) | Call::Unlink(_) | Call::Rmdir(_) => &found.first,
-        Call::Rename(..) | Call::RenameNoreplace(..) => &found.second,
+    match call {
+        Call::Open(..) | Call::Truncate(..) | Call::ReadDir(_) => {}
+        Call::Stat(_) | Call::Unlink(_) | Call::Rmdir(_) => {}
+        Call::Rename(..) | Call::RenameNoreplace(..) => {}
         Call::Make(..) | Call::Exec(_) | Call::Exchange(..) | Call::Link(..) | Call::Allow(..) => {
             return 0;
         }
         Call::Read(..) | Call::Write(..) | Call::Ftruncate(..) | Call::Close(_) => return 0,
         Call::Ruleset(_) | Call::Confine(_) | Call::Spawn | Call::Connect => return 0,
-    };
-    match spot.there {
+    }
+    match last.there {
         None => 0,
         Some(there) => there.inode,
     }
 }
 
-/// Whether the call may make a node.
-pub(crate) fn may_make(call: &Call, found: &Found) -> bool
-    ensures { result ≡ near.may_make call.now found.now }
+/// Whether the call may make a node, where its one path or its second has its last name here.
+pub(crate) fn may_make_at(call: &Call, last: &Spot) -> bool
+    ensures { result ≡ near.may_make call.now (looks.found_last last.now) }
 {
     match call {
         Call::Make(..) => true,
-        Call::Open(..) => found.first.there.is_none(),
+        Call::Open(..) => last.there.is_none(),
         Call::Truncate(..) | Call::ReadDir(_) | Call::Stat(_) | Call::Exec(_) => false,
         Call::Unlink(_) | Call::Rmdir(_) | Call::Rename(..) | Call::RenameNoreplace(..) => false,
         Call::Exchange(..) | Call::Link(..) | Call::Allow(..) => false,
         Call::Read(..) | Call::Write(..) | Call::Ftruncate(..) | Call::Close(_) => false,
         Call::Ruleset(_) | Call::Confine(_) | Call::Spawn | Call::Connect => false,
     }
+}
+
+/// Where the last name of the call's one path stands, or that of its second.
+fn last_of<'a>(call: &Call, found: &'a Found) -> &'a Spot
+    ensures { result.now ≡ looks.last_found call.now found.now }
+{
+    if has_two_paths(call) {
+        &found.second
+    } else {
+        &found.first
+    }
+}
+
+/// The node besides the directories of its paths that the call may change or tell of, or 0.
+pub(crate) fn other_node(call: &Call, found: &Found) -> u64
+    ensures first { result ≡ slice_index_or (near.nodes_of call.now found.now) 0 0 }
+    ensures alone { (p : ℕ → Bool) → p 0 ≡ true → list_all p (near.nodes_of call.now found.now) ≡ p result }
+{
+    node_at(call, last_of(call, found))
+}
+
+/// Whether the call may make a node.
+fn may_make(call: &Call, found: &Found) -> bool
+    ensures { result ≡ near.may_make call.now found.now }
+{
+    may_make_at(call, last_of(call, found))
 }
 
 fn is_other_lent(lent: &[Held], call: &Call, found: &Found) -> bool

@@ -17,7 +17,7 @@ fn takes_gate(call: &Call) -> bool
     )
 }
 
-fn names_path(call: &Call) -> bool
+pub(crate) fn names_path(call: &Call) -> bool
     ensures { result ≡ world.has_any (targets call.now) }
 {
     match targets_of(call) {

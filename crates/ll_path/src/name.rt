@@ -1,13 +1,10 @@
 //! Names in a directory.
 
-ghost use Rattle.std.specs.Prelude.{◌≡◌, ◌≢◌, ℕ, List, All, IfOk, IfErr, IsTrue, ◌↔◌, string_bytes};
-ghost use Rattle.std.specs.Ordering.{nat_cmp};
-ghost use Rattle.std.specs.Cmp.Lexicographic.{slice_cmp};
+ghost use Rattle.std.specs.Prelude.{◌≡◌, ◌≢◌, ℕ, List, All, IfOk, IsTrue, ◌↔◌, string_bytes};
 ghost use Rattle.ll_path.specs.Word.{IsVisible};
 ghost use Rattle.ll_path.specs.Name.{IsName};
 
 use std::alloc::{AllocError, Global};
-use std::cmp::Ordering;
 use std::marker::Model;
 
 /// A name in a directory: 1 to 255 bytes from 0x21 to 0x7E without a slash, and neither `.` nor
@@ -44,18 +41,6 @@ impl Name {
         !text.is_empty() && text.len() <= 255 && is_visible_without_slash(text)
     }
 
-    /// The name of this text. A text that is no name comes back. Takes no memory.
-    pub fn new(text: String) -> Result<Name, String>
-        ensures ok { IfOk result (λ name. IsName (string_bytes text) × (name ≡ string_bytes text)) }
-        ensures err { IfErr result (λ back. (IsName (string_bytes text) → ⊥) × (back ≡ text)) }
-    {
-        if Name::fits(text.as_str()) {
-            Ok(Name { text })
-        } else {
-            Err(text)
-        }
-    }
-
     /// A name of its own with this text. Fails only for want of memory.
     pub fn from_text(alloc: Global, text: &str) -> Result<Name, AllocError>
         requires { IsName text.now }
@@ -78,12 +63,5 @@ impl Name {
         ensures name { IsName self.now }
     {
         self.text.as_str()
-    }
-
-    /// How this name lies to another by bytes: `Less` where this one comes first.
-    pub fn order(&self, name: &str) -> Ordering
-        ensures { result ≡ slice_cmp nat_cmp self.now name.now }
-    {
-        self.as_str().cmp(name)
     }
 }

@@ -1,27 +1,17 @@
--- A call in three parts: what refuses it before policy is asked, what policy denies, and what refuses it afterwards.
-use Rattle.std.specs.Prelude.{◌≡◌, ℕ, List, [], ◌∷◌, ◌++◌, map, Some, None, slice_get, refl}
+-- What a call comes to, by its three parts: what refuses it before policy is asked, what policy denies, and what refuses
+-- it afterwards.
+use Rattle.std.specs.Prelude.{◌≡◌, ℕ, List, [], ◌∷◌, ◌++◌, Some, None, slice_get, refl}
 use Rattle.std.proofs.Common.{ap, sym, ◌∙◌, inl, inr}
 use Rattle.ll_rights.specs.declared.errno.Errno.{Errno}
 use Rattle.ll_rights.specs.declared.errno.Errno.TheVariants.{NoMemory}
-use Rattle.ll_decide.specs.declared.denial.Denial.{Denial}
-use Rattle.ll_seq.specs.declared.client.ClientRecord.{ClientRecord}
 use Rattle.ll_seq.specs.declared.call.Call.{Call}
 use Rattle.ll_seq.specs.declared.reply.Reply.{Reply}
-use Rattle.ll_seq.specs.declared.reply.Reply.TheVariants.{Refused, Denied}
-use Rattle.ll_seq.specs.Call.{first_path, second_path}
-use Rattle.ll_seq.specs.State.{State}
-use Rattle.ll_seq.specs.Asked.{call_denials}
-use Rattle.ll_seq.specs.Stages.{text_refusals, number_refusals, relation_refusals, walk_refusals}
-use Rattle.ll_seq.specs.CallParts.{existence_refusals, kind_refusals, limit_refusals, done}
-use Rattle.ll_seq.specs.Step.{step, first_or, refusals, client_of}
-use Rattle.ll_plain.specs.Outcomes.{Comes, ComesBy, Steps}
+use Rattle.ll_seq.specs.declared.reply.Reply.TheVariants.{Refused}
 use Rattle.ll_seq.specs.Fails.{Fails}
-
--- ---- lists
-
-pub none_first : {A : Type 0} (xs : List A) → slice_get xs 0 ≡ None → xs ≡ []
-none_first [] e = refl
-none_first (x ∷ xs) e = absurd cc
+use Rattle.ll_seq.specs.State.{State}
+use Rattle.ll_seq.proofs.StepParts as parts
+use Rattle.ll_seq.proofs.StepParts.{early, policy, late, does_so}
+use Rattle.ll_plain.specs.Outcomes.{Comes, ComesBy, Steps}
 
 -- the first of a list is that of a longer one
 pub first_stays : {A : Type 0} (xs ys : List A) (x : A) → slice_get xs 0 ≡ Some x → slice_get (xs ++ ys) 0 ≡ Some x
@@ -31,100 +21,35 @@ first_stays (y ∷ xs) ys x e = e
 pub both_free : {A : Type 0} (xs ys : List A) → xs ≡ [] → ys ≡ [] → xs ++ ys ≡ []
 both_free xs ys e f = ap (λ zs. zs ++ ys) e ∙ f
 
--- ---- parts
-
-abbrev before : State → ClientRecord → Call → List Errno
-before s c call = text_refusals call ++ (number_refusals c call ++ (relation_refusals call (first_path call) (second_path call) ++ (walk_refusals s call ++ existence_refusals s call (first_path call) (second_path call))))
-
-abbrev afterwards : State → ClientRecord → Call → List Errno
-afterwards s c call = kind_refusals s c call (first_path call) (second_path call) ++ limit_refusals s c call (first_path call) (second_path call)
-
-abbrev parts : List Errno → List Denial → List Errno → List Reply
-parts b d a = map Refused b ++ (map Denied d ++ map Refused a)
-
-last : (k l : List Errno) → map Refused k ++ map Refused l ≡ map Refused (k ++ l)
-last [] l = refl
-last (x ∷ k) l = ap (λ z. Refused x ∷ z) (last k l)
-
-by_parts : (t n r w e : List Errno) (d : List Denial) (k l : List Errno) →
-    map Refused t ++ map Refused n ++ map Refused r ++ map Refused w ++ map Refused e ++ map Denied d ++ map Refused k ++ map Refused l
-    ≡ parts (t ++ (n ++ (r ++ (w ++ e)))) d (k ++ l)
-by_parts [] [] [] [] [] [] k l = last k l
-by_parts [] [] [] [] [] (x ∷ d) k l = ap (λ z. Denied x ∷ z) (by_parts [] [] [] [] [] d k l)
-by_parts [] [] [] [] (x ∷ e) d k l = ap (λ z. Refused x ∷ z) (by_parts [] [] [] [] e d k l)
-by_parts [] [] [] (x ∷ w) e d k l = ap (λ z. Refused x ∷ z) (by_parts [] [] [] w e d k l)
-by_parts [] [] (x ∷ r) w e d k l = ap (λ z. Refused x ∷ z) (by_parts [] [] r w e d k l)
-by_parts [] (x ∷ n) r w e d k l = ap (λ z. Refused x ∷ z) (by_parts [] n r w e d k l)
-by_parts (x ∷ t) n r w e d k l = ap (λ z. Refused x ∷ z) (by_parts t n r w e d k l)
-
 module _ (s : State) (n : ℕ) (call : Call) where
-  abbrev early : List Errno
-  early = before s (client_of s n) call
+  pub refused_before : (e : Errno) → slice_get (early s n call) 0 ≡ Some e → Comes s n call (Refused e) s
+  refused_before e h fresh = inl (parts.refused_early s n call e h fresh)
 
-  abbrev policy : List Denial
-  policy = call_denials s (client_of s n) call
+  module _ (free : early s n call ≡ []) (allowed : slice_get (policy s n call) 0 ≡ None) where
+    pub refused_after : (e : Errno) → slice_get (late s n call) 0 ≡ Some e → Comes s n call (Refused e) s
+    refused_after e h fresh = inl (parts.refused_late s n call free allowed e h fresh)
 
-  abbrev late : List Errno
-  late = afterwards s (client_of s n) call
+    module _ (fits : late s n call ≡ []) where
+      pub steps_done : (reply : Reply) (after : State) → ((fresh : ℕ) → ◌≡◌ {A = Reply × State} (reply, after) (does_so s n call fresh))
+          → Steps s n call reply after
+      steps_done reply after same fresh =
+          same fresh ∙ sym (parts.comes_to s n call fresh (parts.none_refused s n call free allowed fits))
 
-  -- what the call does
-  abbrev does_so : ℕ → Reply × State
-  does_so fresh = done s n (client_of s n) call (first_path call) (second_path call) fresh
+      pub does_by : (fresh : ℕ) (reply : Reply) (after : State) → ◌≡◌ {A = Reply × State} (reply, after) (does_so s n call fresh)
+          → ComesBy fresh s n call reply after
+      does_by fresh reply after same =
+          inl (same ∙ sym (parts.comes_to s n call fresh (parts.none_refused s n call free allowed fits)))
 
-  in_parts : refusals s (client_of s n) call ≡ parts early policy late
-  in_parts =
-      by_parts (text_refusals call) (number_refusals (client_of s n) call) (relation_refusals call (first_path call) (second_path call)) (walk_refusals s call) (existence_refusals s call (first_path call) (second_path call))
-      policy (kind_refusals s (client_of s n) call (first_path call) (second_path call)) (limit_refusals s (client_of s n) call (first_path call) (second_path call))
+      pub does : (reply : Reply) (after : State) → ((fresh : ℕ) → ◌≡◌ {A = Reply × State} (reply, after) (does_so s n call fresh))
+          → Comes s n call reply after
+      does reply after same fresh = does_by fresh reply after (same fresh)
 
-  step_in_parts : (fresh : ℕ) (b : List Errno) (d : List Denial) (a : List Errno) → early ≡ b → policy ≡ d → late ≡ a
-      → step s n call fresh ≡ first_or s (parts b d a) (does_so fresh)
-  step_in_parts fresh b d a eb ed ea = ap (λ rs. first_or s rs (does_so fresh)) (in_parts ∙ (λ i. parts (eb i) (ed i) (ea i)))
+      pub starves : (after : State) → after ≡ s → Comes s n call (Refused NoMemory) after
+      starves after same fresh = inr (refl, same, parts.none_refused s n call free allowed fits)
 
-  first_errno : (b : List Errno) (rest : List Reply) (o : Reply × State) (e : Errno) → slice_get b 0 ≡ Some e → first_or s (map Refused b ++ rest) o ≡ (Refused e, s)
-  first_errno [] rest o e h = absurd cc
-  first_errno (x ∷ b) rest o e h = let same : x ≡ e = cc in ap (λ (z : Errno). (Refused z, s)) same
-
-  first_denial : (d : List Denial) (rest : List Reply) (o : Reply × State) (x : Denial) → slice_get d 0 ≡ Some x → first_or s (map Denied d ++ rest) o ≡ (Denied x, s)
-  first_denial [] rest o x h = absurd cc
-  first_denial (y ∷ d) rest o x h = let same : y ≡ x = cc in ap (λ (z : Denial). (Denied z, s)) same
-
-  alone : (a : List Errno) (o : Reply × State) (e : Errno) → slice_get a 0 ≡ Some e → first_or s (map Refused a) o ≡ (Refused e, s)
-  alone [] o e h = absurd cc
-  alone (x ∷ a) o e h = let same : x ≡ e = cc in ap (λ (z : Errno). (Refused z, s)) same
-
-  pub steps_before : (e : Errno) → slice_get early 0 ≡ Some e → Steps s n call (Refused e) s
-  steps_before e h fresh = sym (step_in_parts fresh early policy late refl refl refl ∙ first_errno early (map Denied policy ++ map Refused late) _ e h)
-
-  pub refused_before : (e : Errno) → slice_get early 0 ≡ Some e → Comes s n call (Refused e) s
-  refused_before e h fresh = inl (steps_before e h fresh)
-
-  module _ (free : early ≡ []) where
-    pub steps_denied : (x : Denial) → slice_get policy 0 ≡ Some x → Steps s n call (Denied x) s
-    steps_denied x h fresh = sym (step_in_parts fresh [] policy late free refl refl ∙ first_denial policy (map Refused late) _ x h)
-
-    pub denied : (x : Denial) → slice_get policy 0 ≡ Some x → Comes s n call (Denied x) s
-    denied x h fresh = inl (steps_denied x h fresh)
-
-    module _ (allowed : slice_get policy 0 ≡ None) where
-      pub steps_after : (e : Errno) → slice_get late 0 ≡ Some e → Steps s n call (Refused e) s
-      steps_after e h fresh = sym (step_in_parts fresh [] [] late free (none_first policy allowed) refl ∙ alone late _ e h)
-
-      pub refused_after : (e : Errno) → slice_get late 0 ≡ Some e → Comes s n call (Refused e) s
-      refused_after e h fresh = inl (steps_after e h fresh)
-
-      pub steps_done : late ≡ [] → (reply : Reply) (after : State) → ((fresh : ℕ) → ◌≡◌ {A = Reply × State} (reply, after) (does_so fresh)) → Steps s n call reply after
-      steps_done fits reply after same fresh = same fresh ∙ sym (step_in_parts fresh [] [] [] free (none_first policy allowed) fits)
-
-      pub does_by : late ≡ [] → (fresh : ℕ) (reply : Reply) (after : State) → ◌≡◌ {A = Reply × State} (reply, after) (does_so fresh) → ComesBy fresh s n call reply after
-      does_by fits fresh reply after same = inl (same ∙ sym (step_in_parts fresh [] [] [] free (none_first policy allowed) fits))
-
-      pub does : late ≡ [] → (reply : Reply) (after : State) → ((fresh : ℕ) → ◌≡◌ {A = Reply × State} (reply, after) (does_so fresh)) → Comes s n call reply after
-      does fits reply after same fresh = does_by fits fresh reply after (same fresh)
-
-      pub starves : late ≡ [] → (after : State) → after ≡ s → Comes s n call (Refused NoMemory) after
-      starves fits after same fresh = inr (refl, same, in_parts ∙ (λ i. parts (free i) (none_first policy allowed i) (fits i)))
-
-      -- what is left to refuse it, or want of memory
-      pub fails : (e : Errno) (after : State) → Fails late e → after ≡ s → Comes s n call (Refused e) after
-      fails e after (inl first) same fresh = inl (ap (λ (z : State). (Refused e, z)) same ∙ sym (step_in_parts fresh [] [] late free (none_first policy allowed) refl ∙ alone late _ e first))
-      fails e after (inr starved) same fresh = inr (ap Refused starved.0, same, in_parts ∙ (λ i. parts (free i) (none_first policy allowed i) (starved.1 i)))
+    -- what is left to refuse it, or want of memory
+    pub fails : (e : Errno) (after : State) → Fails (late s n call) e → after ≡ s → Comes s n call (Refused e) after
+    fails e after (inl first) same fresh =
+        inl (ap (λ (z : State). (Refused e, z)) same ∙ parts.refused_late s n call free allowed e first fresh)
+    fails e after (inr starved) same fresh =
+        inr (ap Refused starved.0, same, parts.none_refused s n call free allowed starved.1)

@@ -35,7 +35,7 @@ module _ {K : Type 0} {R : K → K → Ordering} (o : IsTotalOrder R) (exact : I
   other q k n = elim (eq_by_cmp R q k) as (λ b. eq_by_cmp R q k ≡ b → b ≡ false) [ true ↦ λ e. absurd (n (exact q k (equal_at _ e))) | false ↦ λ e. refl ] refl
 
 module _ {K X : Type 0} {R : K → K → Ordering} where
-  list_checked : (es : List (K × X)) (b : Bool) (e : is_sorted R es ≡ b) (m : Map R X) → T b → (checked es b e m).list ≡ es
+  pub list_checked : (es : List (K × X)) (b : Bool) (e : is_sorted R es ≡ b) (m : Map R X) → T b → (checked es b e m).list ≡ es
   unfolding checked
   list_checked es true e m h = refl
   list_checked es false e m h = absurd h

@@ -1,7 +1,6 @@
 //! One right.
 
 ghost use Rattle.std.specs.Prelude.{◌≡◌, ◌≢◌, ◌<◌, ◌^◌, ℕ, IfSome, IfNone};
-ghost use Rattle.std.specs.Option.{SomeIff};
 ghost use Rattle.ll_rights.specs.Right.{right_text};
 
 use crate::access::Access;
@@ -112,17 +111,6 @@ impl Right {
         Right::REFER,
         Right::TRUNCATE,
     ];
-
-    /// The right of this number.
-    pub fn new(number: u8) -> Option<Right>
-        ensures { SomeIff result (number < 15) number }
-    {
-        if number < 15 {
-            Some(Right { number })
-        } else {
-            None
-        }
-    }
 
     pub fn number(self) -> u8
         ensures number { result ≡ self }

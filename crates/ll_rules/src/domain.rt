@@ -1,6 +1,6 @@
 //! Domains.
 
-ghost use Rattle.std.specs.Prelude.{◌≡◌, ◌≢◌, ◌≤◌, ◌↔◌, IsTrue, [], ◌∷◌, ◌++◌, length, slice_get, Some, Err, OnOk, OnErr, IfOk, IfErr};
+ghost use Rattle.std.specs.Prelude.{◌≡◌, ◌≢◌, ◌≤◌, [], ◌∷◌, ◌++◌, length, slice_get, Some, Err, OnOk, OnErr, IfOk, IfErr};
 ghost use Rattle.ll_rules.specs.Rules.{layer_limit};
 
 use crate::layer::Layer;
@@ -75,12 +75,6 @@ impl Domain {
         ensures most { result ≤ 16 }
     {
         self.layers.len()
-    }
-
-    pub fn is_empty(&self) -> bool
-        ensures { IsTrue result ↔ (self.now ≡ []) }
-    {
-        self.layers.is_empty()
     }
 
     /// The layers, the oldest first.

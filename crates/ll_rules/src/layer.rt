@@ -2,10 +2,9 @@
 
 ghost use Rattle.std.specs.Prelude.{◌≡◌, unwrap_or, OnOk, OnErr};
 ghost use Rattle.ll_rights.specs.Map.{get, has, len};
-ghost use Rattle.ll_rules.specs.Layer.{has_rule, restricts};
 ghost use Rattle.ll_rules.specs.Rules.{new_ruleset, with_rule};
 
-use ll_rights::{Access, Right};
+use ll_rights::Access;
 use std::alloc::{AllocError, Global};
 use std::collections::BTreeMap;
 use std::marker::Model;
@@ -69,20 +68,6 @@ impl Layer {
         ensures { result.0 ≡ unwrap_or (get self.now.rules inode) 0 }
     {
         self.rules.get(&inode).copied().unwrap_or(Access(0))
-    }
-
-    /// Whether the rule on the inode holds the right.
-    pub fn has_rule(&self, right: Right, inode: u64) -> bool
-        ensures { result ≡ has_rule self.now right inode }
-    {
-        self.rule(inode).holds(right)
-    }
-
-    /// Whether the layer restricts the right: what it handles, and refer.
-    pub fn restricts(&self, right: Right) -> bool
-        ensures { result ≡ restricts self.now right }
-    {
-        self.handled.holds(right) || right == Right::REFER
     }
 
     /// How many inodes have a rule.

@@ -10,7 +10,7 @@ use Rattle.ll_seq.specs.CallParts.{existence_refusals}
 
 module _ (s : State) (c : ClientRecord) (at new : Path) where
   -- the caller's numbers need neither tree nor path
-  pub numbers_of : (call : Call) → (stages s c at new call).0 ≡ number_refusals c call
+  pub numbers_of : (call : Call) → (stages s c at new call).numbers ≡ number_refusals c call
   numbers_of (Make kind target) = refl
   numbers_of (Open mode target) = refl
   numbers_of (Read fd offset count) = refl
@@ -34,7 +34,7 @@ module _ (s : State) (c : ClientRecord) (at new : Path) where
   numbers_of Connect = refl
 
   -- how the paths lie needs neither tree nor client
-  pub relation_of : (call : Call) → (stages s c at new call).1 ≡ relation_refusals call at new
+  pub relation_of : (call : Call) → (stages s c at new call).relation ≡ relation_refusals call at new
   relation_of (Make kind target) = refl
   relation_of (Open mode target) = refl
   relation_of (Read fd offset count) = refl
@@ -58,7 +58,7 @@ module _ (s : State) (c : ClientRecord) (at new : Path) where
   relation_of Connect = refl
 
   -- whether the last names are there needs no client
-  pub existence_of : (call : Call) → (stages s c at new call).2 ≡ existence_refusals s call at new
+  pub existence_of : (call : Call) → (stages s c at new call).existence ≡ existence_refusals s call at new
   existence_of (Make kind target) = refl
   existence_of (Open mode target) = refl
   existence_of (Read fd offset count) = refl

@@ -14,5 +14,6 @@ pub mod Results
 pub mod Rising
 pub mod DentryRows
 pub mod Searches
+pub mod StepParts
 pub mod OrderedTables
 pub mod Together

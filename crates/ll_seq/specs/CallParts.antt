@@ -33,13 +33,13 @@ is_relevant kind right = option_map_or (λ kind. holds (relevant kind) right) ki
 module _ (s : State) where
   -- looks at no client
   abbrev pub existence_refusals : Call → Path → Path → List Errno
-  existence_refusals call at new = (stages s new_client at new call).2
+  existence_refusals call at new = (stages s new_client at new call).existence
 
   abbrev pub kind_refusals : ClientRecord → Call → Path → Path → List Errno
-  kind_refusals c call at new = (stages s c at new call).3
+  kind_refusals c call at new = (stages s c at new call).kinds
 
   abbrev pub limit_refusals : ClientRecord → Call → Path → Path → List Errno
-  limit_refusals c call at new = (stages s c at new call).4
+  limit_refusals c call at new = (stages s c at new call).limits
 
   abbrev pub asked : Call → List (Ask Path)
   asked call = (demanded s (first_path call) (second_path call) call).0

@@ -22,9 +22,21 @@ use Rattle.ll_seq.specs.declared.client.ClientRecord.{ClientRecord}
 use Rattle.ll_seq.specs.declared.client.Descriptor.{Descriptor}
 use Rattle.ll_seq.specs.declared.call.Call.{Call}
 use Rattle.ll_seq.specs.declared.call.Call.TheVariants.{Make, Open, Read, Write, Ftruncate, Close, Truncate, ReadDir, Stat, Exec, Unlink, Rmdir, Rename, RenameNoreplace, Exchange, Link, Ruleset, Allow, Confine, Spawn, Connect}
-use Rattle.ll_seq.specs.Call.{creates, is_exclusive, path_of, targets}
+use Rattle.ll_seq.specs.Call.{creates, first_path, is_exclusive, path_of, second_path, targets}
 use Rattle.ll_seq.specs.State.{State, child, kind_of, names_in, name_count, new_client, root, start}
 use Rattle.ll_seq.specs.Tree.{named, inode_of, directory_of, kind_or_file, kind_at}
+
+-- What refuses a call, stage by stage: the caller's numbers; how the paths lie; (here stands the walk;) whether the last
+-- names are there; (here stands policy;) kinds; limits
+pub record Stages : Type 0 where
+  pub numbers : List Errno
+  pub relation : List Errno
+  pub existence : List Errno
+  pub kinds : List Errno
+  pub limits : List Errno
+
+abbrev pub nothing : Stages
+nothing = record { numbers = []; relation = []; existence = []; kinds = []; limits = [] }
 
 abbrev pub bad_text : Target → List Errno
 bad_text (Good path) = []
@@ -137,73 +149,99 @@ module _ (s : State) where
     abbrev pub its_kind : Kind
     its_kind = kind_at s at
 
-    -- The caller's numbers; how the paths lie; (here stands the walk;) whether the last names are there; (policy;)
-    -- kinds; limits. opendir(3), unlink(2), rmdir(2), link(2), landlock_create_ruleset(2), landlock_add_rule(2),
-    -- landlock_restrict_self(2)
-    abbrev pub stages : Call → List Errno × List Errno × List Errno × List Errno × List Errno
-    stages (Make kind target) = ([], refuse (is_root at) EBUSY, present at, [], no_space (directory_of s at))
-    stages (Open mode target) = (
-      [],
-      [],
-      when (not (creates mode.creation)) (missing at) ++ when (is_exclusive mode.creation) (present at),
-      when (is_some (named s at)) (no_file ENXIO its_kind),
-      refuse (is_none (lowest_free c.descriptors)) EMFILE
-          ++ when (is_none (named s at)) (no_space (directory_of s at)),
-    )
-    stages (Read fd offset count) =
-        (refuse (nat_lt DATA_BYTES count) EINVAL ++ without c fd (λ d. d.reads) EBADF, [], [], [], [])
-    stages (Write fd offset bytes) = (
-      without c fd (λ d. d.writes) EBADF,
-      [],
-      [],
-      [],
-      refuse (nat_lt 0 (length bytes) && is_too_long (offset + length bytes)) EFBIG,
-    )
-    stages (Ftruncate fd size) = (without c fd (λ d. d.writes) EINVAL, [], [], [], refuse (is_too_long size) EFBIG)
-    stages (Close fd) = (refuse (is_none (get c.descriptors fd)) EBADF, [], [], [], [])
-    stages (Truncate target size) =
-        ([], [], missing at, no_file EINVAL its_kind, refuse (is_too_long size) EFBIG)
-    stages (ReadDir target) = ([], [], missing at, refuse (not (is_dir its_kind)) ENOTDIR, [])
-    stages (Stat target) = ([], [], missing at, [], [])
-    stages (Exec target) = ([], [], missing at, no_file ENXIO its_kind, [])
-    stages (Unlink target) = ([], refuse (is_root at) EBUSY, missing at, refuse (is_dir its_kind) EISDIR, [])
-    stages (Rmdir target) = (
-      [],
-      refuse (is_root at) EBUSY,
-      missing at,
-      refuse (not (is_dir its_kind)) ENOTDIR ++ refuse (has_names here) ENOTEMPTY,
-      [],
-    )
-    stages (Rename from into) =
-        ([], lying at new ENOTEMPTY, missing at, option_map_or (replace_refusals here) (named s new) [], crowds at new)
-    stages (RenameNoreplace from into) = ([], lying at new EEXIST, missing at ++ present new, [], crowds at new)
-    stages (Exchange from into) = ([], lying at new EINVAL, missing at ++ missing new, [], [])
-    stages (Link from into) = (
-      [],
-      lying at new EEXIST,
-      missing at ++ present new,
-      refuse (is_dir its_kind) EPERM,
-      refuse (has_many_names here) EMLINK ++ refuse (is_crowded (directory_of s new)) ENOSPC,
-    )
-    stages (Ruleset rights) =
-        ([], [], [], create_refusals s.rules.abi rights.0, refuse (nat_le CLIENT_RULESETS (length c.rulesets)) EMFILE)
-    stages (Allow number target rights) = (
-      no_ruleset c number,
-      [],
-      missing at,
-      rule_refusals (ruleset_at c number) its_kind rights.0,
-      rule_limit (ruleset_at c number) here,
-    )
-    stages (Confine number) = (no_ruleset c number, [], [], [], layer_limit c.domain)
-    stages Spawn = ([], [], [], [], many_clients)
-    stages Connect = ([], [], [], [], many_clients)
+    -- A stage that isn't named refuses nothing. opendir(3), unlink(2), rmdir(2), link(2), landlock_create_ruleset(2),
+    -- landlock_add_rule(2), landlock_restrict_self(2)
+    abbrev pub stages : Call → Stages
+    stages (Make kind target) = record nothing {
+      relation = refuse (is_root at) EBUSY;
+      existence = present at;
+      limits = no_space (directory_of s at);
+    }
+    stages (Open mode target) = record nothing {
+      existence = when (not (creates mode.creation)) (missing at) ++ when (is_exclusive mode.creation) (present at);
+      kinds = when (is_some (named s at)) (no_file ENXIO its_kind);
+      limits = refuse (is_none (lowest_free c.descriptors)) EMFILE
+          ++ when (is_none (named s at)) (no_space (directory_of s at));
+    }
+    stages (Read fd offset count) = record nothing {
+      numbers = refuse (nat_lt DATA_BYTES count) EINVAL ++ without c fd (λ d. d.reads) EBADF;
+    }
+    stages (Write fd offset bytes) = record nothing {
+      numbers = without c fd (λ d. d.writes) EBADF;
+      limits = refuse (nat_lt 0 (length bytes) && is_too_long (offset + length bytes)) EFBIG;
+    }
+    stages (Ftruncate fd size) = record nothing {
+      numbers = without c fd (λ d. d.writes) EINVAL;
+      limits = refuse (is_too_long size) EFBIG;
+    }
+    stages (Close fd) = record nothing { numbers = refuse (is_none (get c.descriptors fd)) EBADF }
+    stages (Truncate target size) = record nothing {
+      existence = missing at;
+      kinds = no_file EINVAL its_kind;
+      limits = refuse (is_too_long size) EFBIG;
+    }
+    stages (ReadDir target) = record nothing {
+      existence = missing at;
+      kinds = refuse (not (is_dir its_kind)) ENOTDIR;
+    }
+    stages (Stat target) = record nothing { existence = missing at }
+    stages (Exec target) = record nothing { existence = missing at; kinds = no_file ENXIO its_kind }
+    stages (Unlink target) = record nothing {
+      relation = refuse (is_root at) EBUSY;
+      existence = missing at;
+      kinds = refuse (is_dir its_kind) EISDIR;
+    }
+    stages (Rmdir target) = record nothing {
+      relation = refuse (is_root at) EBUSY;
+      existence = missing at;
+      kinds = refuse (not (is_dir its_kind)) ENOTDIR ++ refuse (has_names here) ENOTEMPTY;
+    }
+    stages (Rename from into) = record nothing {
+      relation = lying at new ENOTEMPTY;
+      existence = missing at;
+      kinds = option_map_or (replace_refusals here) (named s new) [];
+      limits = crowds at new;
+    }
+    stages (RenameNoreplace from into) = record nothing {
+      relation = lying at new EEXIST;
+      existence = missing at ++ present new;
+      limits = crowds at new;
+    }
+    stages (Exchange from into) = record nothing {
+      relation = lying at new EINVAL;
+      existence = missing at ++ missing new;
+    }
+    stages (Link from into) = record nothing {
+      relation = lying at new EEXIST;
+      existence = missing at ++ present new;
+      kinds = refuse (is_dir its_kind) EPERM;
+      limits = refuse (has_many_names here) EMLINK ++ refuse (is_crowded (directory_of s new)) ENOSPC;
+    }
+    stages (Ruleset rights) = record nothing {
+      kinds = create_refusals s.rules.abi rights.0;
+      limits = refuse (nat_le CLIENT_RULESETS (length c.rulesets)) EMFILE;
+    }
+    stages (Allow number target rights) = record nothing {
+      numbers = no_ruleset c number;
+      existence = missing at;
+      kinds = rule_refusals (ruleset_at c number) its_kind rights.0;
+      limits = rule_limit (ruleset_at c number) here;
+    }
+    stages (Confine number) = record nothing { numbers = no_ruleset c number; limits = layer_limit c.domain }
+    stages Spawn = record nothing { limits = many_clients }
+    stages Connect = record nothing { limits = many_clients }
 
--- these stages ignore the arguments that are filled with dummies here
+-- These stages ignore the tree, the client and the paths that stand here
 abbrev pub any_tree : State
 any_tree = start (record { abi = 1; copies = false }) 1
 
 abbrev pub number_refusals : ClientRecord → Call → List Errno
-number_refusals c call = (stages any_tree c [] [] call).0
+number_refusals c call = (stages any_tree c [] [] call).numbers
 
 abbrev pub relation_refusals : Call → Path → Path → List Errno
-relation_refusals call at new = (stages any_tree new_client at new call).1
+relation_refusals call at new = (stages any_tree new_client at new call).relation
+
+-- the refusals of the first three stages, which look neither at the tree nor at layers
+abbrev pub early_refusals : ClientRecord → Call → List Errno
+early_refusals c call =
+    text_refusals call ++ number_refusals c call ++ relation_refusals call (first_path call) (second_path call)

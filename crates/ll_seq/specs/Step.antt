@@ -23,10 +23,10 @@ refusals s c call =
     ++ map Refused (number_refusals c call)
     ++ map Refused (relation_refusals call at new)
     ++ map Refused (walk_refusals s call)
-    ++ map Refused (stages s new_client at new call).2
+    ++ map Refused (stages s new_client at new call).existence
     ++ map Denied (call_denials s c call)
-    ++ map Refused (stages s c at new call).3
-    ++ map Refused (stages s c at new call).4
+    ++ map Refused (stages s c at new call).kinds
+    ++ map Refused (stages s c at new call).limits
 
 abbrev pub client_of : State → ℕ → ClientRecord
 client_of s number = unwrap_or (get s.clients number) new_client

@@ -40,13 +40,6 @@ impl History {
         Ok(History { entries, limit })
     }
 
-    pub fn limit(&self) -> usize
-        ensures limit { result ≡ self.now.limit }
-        ensures most { result ≤ HISTORY_ENTRIES }
-    {
-        self.limit
-    }
-
     /// Whether no entry more may be added.
     pub fn is_full(&self) -> bool
         ensures { result ≡ nat_le self.now.limit (length self.now.entries) }

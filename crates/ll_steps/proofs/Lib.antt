@@ -7,3 +7,4 @@ pub mod DirectMakes
 pub mod WalkMakes
 pub mod Nearing
 pub mod StepKinds
+pub mod NextSteps

@@ -119,7 +119,7 @@ module _ (w : World) (number : ℕ) (walk : Walk) (is : get w.walks number ≡ S
   abbrev done_or_not : Option (Outcome × World) → Outcome × World
   done_or_not o = unwrap_or o (NotNow, w)
 
-  goes_further : advance w (Descend number) ≡ done_or_not (option_and_then (stand w number walk) (further (shown w) (domain_of w number) leg))
+  pub goes_further : advance w (Descend number) ≡ done_or_not (option_and_then (stand w number walk) (further (shown w) (domain_of w number) leg))
   goes_further =
       ap (λ o. done_or_not (option_and_then (descend w number) o)) is
       ∙ (λ i. done_or_not (cond (fresh i) None (cond (turns walk.at leg in_turn i) (enter w number walk) (option_and_then (stand w number walk) (option_and_then (further (shown w) (domain_of w number)) (in_turn i))))))

@@ -1,5 +1,5 @@
 -- How many steps a walk may still make before its answer, while nobody else makes any. No public contract cites it. own
-use Rattle.std.specs.Prelude.{ℕ, ◌+◌, ◌-◌, ◌*◌, length}
+use Rattle.std.specs.Prelude.{ℕ, ◌+◌, ◌-◌, ◌*◌, ◌<◌, length, Option, Some, None}
 use Rattle.std.specs.Option.{option_map_or}
 use Rattle.ll_rights.specs.Map.{get}
 use Rattle.ll_path.specs.Path.{parent}
@@ -7,6 +7,9 @@ use Rattle.ll_seq.specs.declared.call.Call.{Call}
 use Rattle.ll_seq.specs.Call.{first_path, second_path}
 use Rattle.ll_walks.specs.Walk.{Walk, Position, Above, Down, Split, trunk_path}
 use Rattle.ll_walks.specs.World.{World}
+use Rattle.ll_walks.specs.declared.step.Step.TheVariants.{Commit}
+use Rattle.ll_steps.specs.Calling.{GoesOn, Leads, Waits}
+use Rattle.ll_steps.specs.declared.outcome.Outcome.{Outcome}
 
 -- past the fork, and the fork itself
 abbrev pub most_past : Call → ℕ
@@ -26,3 +29,9 @@ walk_left walk = (4 - walk.starts) * (most_steps walk.call + 1) + way_left walk.
 
 abbrev pub steps_left : World → ℕ → ℕ
 steps_left w client = option_map_or walk_left (get w.walks client) 0
+
+-- One step of a walk that is led: it goes on, nearer to its answer; or it is led no further, which comes of its call
+abbrev pub StepsOn : World → ℕ → Option Outcome → World → Type 0
+StepsOn w client None v =
+    Waits w (Commit client) × GoesOn w client v × (steps_left v client < steps_left w client)
+StepsOn w client (Some outcome) v = Leads client w outcome v

@@ -1,31 +1,72 @@
 //! All steps of a call.
 
-ghost use Rattle.std.specs.Prelude.{◌≡◌, ◌<◌, true, false};
-ghost use Rattle.ll_steps.specs.Calling.{Calls, GoesOn, IsStuck, Leads};
+ghost use Rattle.std.specs.Prelude.{◌≡◌, ◌≢◌, ◌<◌, length, IfNone, IfSome};
+ghost use Rattle.ll_journal.specs.Steps.{IsInTurn};
+ghost use Rattle.ll_steps.specs.Calling.{Calls, Leads};
+ghost use Rattle.ll_steps.specs.Contents.{IsKept};
 ghost use Rattle.ll_steps.specs.Headline.{IsLawful};
-ghost use Rattle.ll_steps.specs.Left.{steps_left};
+ghost use Rattle.ll_steps.specs.Left.{StepsOn};
 
 use crate::outcome::Outcome;
+use crate::walk::{commit_with, descend_between, enter_at, fork_in, restart_with};
 use crate::world::World;
+use ll_held::Held;
+use ll_journal::{Journal, Next};
 use ll_seq::Call;
+use std::alloc::Global;
+
+/// The slot of the directory where the leg in turn of the client's walk stands, or the root's where none stands.
+fn slot_in_turn(journal: &Journal, client: u64) -> u64
+    ensures turn { IsInTurn journal.now client result }
+    ensures within { result < length journal.now.inodes }
+{
+    match journal.turn_slot(client) {
+        Some(slot) => slot,
+        None => journal.root_slot(),
+    }
+}
+
+/// None where the step was made; else that its walk waits.
+fn unless_made(outcome: Outcome) -> Option<Outcome>
+    ensures made { IfNone result (outcome ≢ Outcome.NotNow) }
+    ensures waits { IfSome result (λ told. (told ≡ Outcome.NotNow) × (outcome ≡ Outcome.NotNow)) }
+{
+    if outcome.was_enabled() {
+        None
+    } else {
+        Some(Outcome::NotNow)
+    }
+}
+
+/// Makes the one step of the client's walk that comes next. None where the walk is to be led on; else what comes of its
+/// call, or that it waits.
+fn step_on(journal: &mut Journal, slots: &mut [Held], alloc: Global, client: u64) -> Option<Outcome>
+    requires { IsKept journal.old slots.old }
+    ensures steps { StepsOn journal.old.world client result journal.new.world }
+    ensures kept { IsKept journal.new slots.new }
+{
+    let from = slot_in_turn(journal, client);
+    let outcome = match journal.next_step(client, from, &slots[from as usize]) {
+        Next::Nothing => return Some(Outcome::NotNow),
+        Next::Commit(needed) => {
+            let outcome = commit_with(journal, slots, alloc, client, needed.as_slice());
+            return Some(outcome);
+        }
+        Next::Enter(slot) => enter_at(journal, slots, client, slot),
+        Next::Descend(to) => descend_between(journal, slots, alloc, client, from, to),
+        Next::Fork => fork_in(journal, slots, client),
+        Next::Restart(needed) => restart_with(journal, slots, alloc, client, needed.as_slice()),
+    };
+    unless_made(outcome)
+}
 
 impl World {
-    /// The first of a fork, a descent and a restart of the client's walk that is enabled. Whether there is one.
-    fn go_on(&mut self, client: u64) -> bool
-        ensures went { result ≡ true → GoesOn self.old client self.new }
-        ensures nearer { result ≡ true → steps_left self.new client < steps_left self.old client }
-        ensures stuck { result ≡ false → IsStuck self.old client }
-        ensures same { result ≡ false → self.new ≡ self.old }
+    /// Makes the one step of the client's walk that comes next. None where the walk is to be led on; else what comes of
+    /// its call, or that it waits.
+    fn go_on(&mut self, client: u64) -> Option<Outcome>
+        ensures { StepsOn self.old client result self.new }
     {
-        if self.fork(client).was_enabled() {
-            return true;
-        }
-        if self.descend(client).was_enabled() {
-            return true;
-        }
-        let outcome = self.restart(client);
-        self.by_law();
-        outcome.was_enabled()
+        step_on(&mut self.journal, &mut self.slots, self.alloc, client)
     }
 
     /// The client's walk is led to its answer, as far as it goes.
@@ -33,12 +74,8 @@ impl World {
         ensures { Leads client self.old result self.new }
     {
         'steps: loop {
-            let outcome = self.commit(client);
-            if outcome.was_enabled() {
+            if let Some(outcome) = self.go_on(client) {
                 return outcome;
-            }
-            if !self.go_on(client) {
-                return Outcome::NotNow;
             }
         }
     }

@@ -5,7 +5,8 @@ ghost use Rattle.std.specs.List.{AllByRecursion};
 ghost use Rattle.ll_rights.specs.Map.{get};
 ghost use Rattle.ll_inodes.specs.InodeTable.{AreDistinct};
 ghost use Rattle.ll_walks.specs.Walk as walks;
-ghost use Rattle.ll_journal.specs.Book.{has_mark};
+ghost use Rattle.ll_seq.specs.State.{root};
+ghost use Rattle.ll_journal.specs.Book.{has_mark, inode_in};
 ghost use Rattle.ll_journal.specs.WalkEnds.{AreEnough, is_lent};
 ghost use Rattle.ll_walks.specs.declared.step.Step.TheVariants as steps;
 ghost use Rattle.ll_steps.specs.Contents.{IsKept, ended_as, told_as};
@@ -49,11 +50,24 @@ fn ended(number: u64, ending: Ending) -> Outcome
     }
 }
 
+/// The client's walk, which is above the root, goes to it; it lies in this slot.
+pub(crate) fn enter_at(journal: &mut Journal, slots: &mut [Held], client: u64, slot: u64) -> Outcome
+    requires kept { IsKept journal.old slots.old }
+    requires top { is_at_top journal.old.world client ≡ true }
+    requires root { inode_in journal.old slot ≡ root }
+    requires there { slot < length slots.old }
+    ensures makes { Makes journal.old.world (steps.Descend client) result journal.new.world }
+    ensures kept { IsKept journal.new slots.new }
+{
+    let root = &mut slots[slot as usize];
+    told(journal.enter(client, slot, root))
+}
+
 /// The client's walk goes down from the directory in the one slot to that in the other.
-fn descend_between(
+pub(crate) fn descend_between(
     journal: &mut Journal,
     slots: &mut [Held],
-    vacant: Held,
+    alloc: Global,
     client: u64,
     from: u64,
     to: u64,
@@ -62,11 +76,14 @@ fn descend_between(
     requires next { IsNext journal.old client from to }
     requires here { from < length slots.old }
     requires there { to < length slots.old }
-    requires other { from ≢ to }
     ensures makes { Makes journal.old.world (steps.Descend client) result journal.new.world }
     ensures kept { IsKept journal.new slots.new }
 {
-    let mut next = std::mem::replace(&mut slots[to as usize], vacant);
+    // No directory has its own slot as a child's; this is what lets both be taken out at once.
+    if from == to {
+        return Outcome::NotNow;
+    }
+    let mut next = std::mem::replace(&mut slots[to as usize], vacant(alloc));
     let here = &mut slots[from as usize];
     let outcome = journal.descend(client, from, here, to, &mut next);
     slots[to as usize] = next;
@@ -74,7 +91,7 @@ fn descend_between(
 }
 
 /// The client's walk is answered, with these slots.
-fn commit_with(
+pub(crate) fn commit_with(
     journal: &mut Journal,
     slots: &mut [Held],
     alloc: Global,
@@ -99,8 +116,17 @@ fn commit_with(
     ended(number, ending)
 }
 
+/// The client's walk leaves what is common to both paths.
+pub(crate) fn fork_in(journal: &mut Journal, slots: &[Held], client: u64) -> Outcome
+    requires { IsKept journal.old slots.now }
+    ensures makes { Makes journal.old.world (steps.Fork client) result journal.new.world }
+    ensures kept { IsKept journal.new slots.now }
+{
+    told(journal.fork(client))
+}
+
 /// The client's stale walk starts again, with these slots.
-fn restart_with(
+pub(crate) fn restart_with(
     journal: &mut Journal,
     slots: &mut [Held],
     alloc: Global,
@@ -142,8 +168,7 @@ impl World {
         ensures { Makes self.old (steps.Descend client) result self.new }
     {
         let slot = self.journal.root_slot();
-        let root = &mut self.slots[slot as usize];
-        told(self.journal.enter(client, slot, root))
+        enter_at(&mut self.journal, &mut self.slots, client, slot)
     }
 
     /// The client's walk goes one directory further.
@@ -162,19 +187,21 @@ impl World {
         else {
             return Outcome::NotNow;
         };
-        // No directory has its own slot as a child's; this is what lets both be taken out at once.
-        if from == to {
-            return Outcome::NotNow;
-        }
-        let vacant = vacant(self.alloc);
-        descend_between(&mut self.journal, &mut self.slots, vacant, client, from, to)
+        descend_between(
+            &mut self.journal,
+            &mut self.slots,
+            self.alloc,
+            client,
+            from,
+            to,
+        )
     }
 
     /// The client's walk leaves what is common to both paths.
     pub(crate) fn fork(&mut self, client: u64) -> Outcome
         ensures { Makes self.old (steps.Fork client) result self.new }
     {
-        told(self.journal.fork(client))
+        fork_in(&mut self.journal, &self.slots, client)
     }
 
     /// The client's walk is answered.

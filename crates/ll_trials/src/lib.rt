@@ -9,7 +9,7 @@
 //! | library | by worked/ | here |
 //! |---|---|---|
 //! | ll_rights | | `Access::text`: `wire` |
-//! | ll_path | `Name::from_text`, `Word` and `Data` of lines | |
+//! | ll_path | `Name::from_text`, `Word` and `Data` of lines | `Path::common`, which takes none: `path` |
 //! | ll_rules | `Ruleset::create`, `allow`, `Domain::stack`, `copy` | `Ruleset::copy`: `seq` |
 //! | ll_seq | all but the counts of nodes, and histories | these: `seq`, `saved` |
 //! | ll_node | | all of `Slot`: `node` |
@@ -34,6 +34,8 @@ mod fuse;
 mod journal;
 #[cfg(test)]
 mod node;
+#[cfg(test)]
+mod path;
 #[cfg(test)]
 mod plain;
 #[cfg(test)]

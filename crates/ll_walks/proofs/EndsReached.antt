@@ -30,7 +30,8 @@ use Rattle.ll_laws.proofs.Unrefused.{nil_left, nil_right, inode_is}
 use Rattle.ll_laws.proofs.Trees.{IsTree}
 use Rattle.ll_laws.proofs.Gain.{done_of}
 use Rattle.ll_walks.specs.Walk.{Walk, Leg, Position, Above, Down, Split, has_two_paths, trunk_path, turn, at_ends}
-use Rattle.ll_walks.specs.World.{World, new_world, world_after, next_number, shown, reply_to, has_any, early_refusals, domain_of}
+use Rattle.ll_walks.specs.World.{World, new_world, world_after, next_number, shown, reply_to, has_any, domain_of}
+use Rattle.ll_seq.specs.Stages.{early_refusals}
 use Rattle.ll_walks.specs.Walks.{IsRight, AreRight, AreOnPaths}
 use Rattle.ll_walks.specs.Commits.{first_end, second_end, HasEnded, EndsAreReached, BlockedAreRefused}
 use Rattle.ll_walks.proofs.Tests.{both, not_true, is_nil}

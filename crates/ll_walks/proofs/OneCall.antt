@@ -8,6 +8,7 @@ use Rattle.std.proofs.Common.{sym, subst, ap, ◌∙◌, inl, inr, arith}
 use Rattle.ll_rights.specs.declared.kind.Kind.TheVariants.{Reg}
 use Rattle.ll_rights.specs.Map.{Map, checked, get, has, insert, entries, len}
 use Rattle.ll_rights.proofs.Maps.{insert_cases}
+use Rattle.ll_rights.proofs.Sizes.{len-insert}
 use Rattle.ll_seq.specs.declared.call.Call.{Call}
 use Rattle.ll_seq.specs.declared.call.Call.TheVariants.{Make, Open, Read, Write, Ftruncate, Close, Truncate, ReadDir, Stat, Exec, Unlink, Rmdir, Rename, RenameNoreplace, Exchange, Link, Ruleset, Allow, Confine, Spawn, Connect}
 use Rattle.ll_seq.specs.declared.client.ClientRecord.{ClientRecord}
@@ -123,17 +124,6 @@ other_client s t number fresh one c n f =
     ]
 
 -- ---- clients are numbered from 1 in the order in which they come
-
-list_checked : (es : List (ℕ × ClientRecord)) (b : Bool) (e : is_sorted nat_cmp es ≡ b) (m : Map nat_cmp ClientRecord) → T b → (checked es b e m).list ≡ es
-unfolding checked
-list_checked es true e m h = refl
-list_checked es false e m h = absurd h
-
-len-insert : (m : Map nat_cmp ClientRecord) (k : ℕ) (x : ClientRecord) → len (insert m k x) ≡ cond (has m k) (len m) (len m + 1)
-unfolding get insert entries
-len-insert m k x =
-    ap length (list_checked (put nat_cmp k x m.list) (is_sorted nat_cmp (put nat_cmp k x m.list)) refl m (is_sorted-put nat_cmp nat_cmp_total k x m.list m.sorted))
-    ∙ length-put nat_cmp nat_cmp_total k x m.list m.sorted
 
 pub unused : (s : State) → AreNumbered s → has s.clients (len s.clients + 1) ≡ false
 unused s h = by (has s.clients (len s.clients + 1)) refl

@@ -38,7 +38,8 @@ use Rattle.ll_laws.proofs.Unrefused.{nil_left, nil_map, neither}
 use Rattle.ll_laws.proofs.Trees.{IsTree}
 use Rattle.ll_laws.proofs.Gain.{done_of, passes, start_tree, after_tree}
 use Rattle.ll_walks.specs.Walk.{Walk, Leg, Position, Above, Down, Split, is_in, trunk_path, toward, legs, turn, with_turn, further, forked, at_ends, has_two_paths, marks, passes as walk_passes, first_leg}
-use Rattle.ll_walks.specs.World.{World, new_world, shown, is_done, early_refusals, takes_gate, domain_of, has_any, is_walked, is_idle, is_marked_by_other, may_commit, last_node, last_nodes, moving, moved_by, is_same_node, map_values, overtaken, released, next_number, reply_to, world_after}
+use Rattle.ll_walks.specs.World.{World, new_world, shown, is_done, takes_gate, domain_of, has_any, is_walked, is_idle, is_marked_by_other, may_commit, last_node, last_nodes, moving, moved_by, is_same_node, map_values, overtaken, released, next_number, reply_to, world_after}
+use Rattle.ll_seq.specs.Stages.{early_refusals}
 use Rattle.ll_walks.specs.declared.step.Step.{Step}
 use Rattle.ll_walks.specs.Walks.{AreRight, AreOnPaths, IsUnderWay, AfterSteps, AreValid}
 use Rattle.ll_walks.specs.Sound.{AreNumbered}

@@ -23,7 +23,7 @@ use Rattle.ll_seq.specs.declared.rules.Rules.{Rules}
 use Rattle.ll_seq.specs.Call.{path_of, targets, first_path, second_path}
 use Rattle.ll_seq.specs.State.{State, start, root}
 use Rattle.ll_seq.specs.Tree.{named, inode_of, kind_or_file}
-use Rattle.ll_seq.specs.Stages.{text_refusals, number_refusals, relation_refusals}
+use Rattle.ll_seq.specs.Stages.{early_refusals}
 use Rattle.ll_seq.specs.Step.{step, client_of}
 use Rattle.ll_seq.specs.History.{state_after, is_connect}
 use Rattle.ll_walks.specs.declared.step.Step.{Step}
@@ -92,11 +92,6 @@ descriptor_of call = (concerns call).0
 
 abbrev pub moving : Call → List Path
 moving call = (concerns call).1
-
--- The refusals of the first three stages, which look neither at the tree nor at layers
-abbrev pub early_refusals : ClientRecord → Call → List Errno
-early_refusals c call =
-    text_refusals call ++ number_refusals c call ++ relation_refusals call (first_path call) (second_path call)
 
 -- A call that names a path walks, unless an early stage refuses it
 abbrev pub is_walked : ClientRecord → Call → Bool

@@ -5,6 +5,9 @@ use Rattle.ll_journal.proofs.PerformedCalls.{client_is, first_long, second_long,
 use Rattle.ll_journal.proofs.Starved.{never_err, when_err}
 use Rattle.ll_journal.proofs.perform.perform.Goals as goal
 
+pub decided-requires-clause-early : goal.decided-requires-clause-early
+decided-requires-clause-early c = c.requires.5.early
+
 pub decided-requires-clause-first : goal.decided-requires-clause-first
 decided-requires-clause-first c = first_long c.requires.5
 

@@ -2,7 +2,7 @@ use Rattle.std.proofs.Common.{rules, ◌≡◌, ◌<◌, length, subst}
 use Rattle.ll_walks.specs.World.{World, NotNow, advance}
 use Rattle.ll_walks.specs.declared.step.Step.TheVariants.{Descend}
 use Rattle.ll_steps.proofs.LentContents.{bound_of, bound_again, at_index}
-use Rattle.ll_steps.proofs.WalkMakes.{no_further, no_loop}
+use Rattle.ll_steps.proofs.WalkMakes.{no_further}
 use Rattle.ll_steps.proofs.world.World.descend.Goals as goal
 
 pub index-requires : goal.index-requires
@@ -18,11 +18,6 @@ returns-in_default-next_slot c =
     let turned = c.in-Some.ensures.some in
     subst (λ (w : World). advance w (Descend c.args.client) ≡ (NotNow, w)) c.self.view_is
     (no_further c.self.inside.journal c.args.client c.in-Some.from turned.0 turned.1 turned.2 c.in_default-next_slot.ensures.none)
-
-pub returns-then-from-to : goal.returns-then-from-to
-returns-then-from-to c =
-    subst (λ (w : World). advance w (Descend c.args.client) ≡ (NotNow, w)) c.self.view_is
-    (no_loop c.self.inside.journal c.args.client c.in-Some.from c.in-Some-next_slot.to c.if-from-to.true c.in-Some-next_slot.ensures.some)
 
 pub descend_between-requires-clause-here : goal.descend_between-requires-clause-here
 descend_between-requires-clause-here c = bound_again c.self.inside.journal c.self.inside.slots.items c.deref_mut.result.now c.in-Some.from c.self.invariant.accounts c.deref_mut.ensures.value c.in-Some.ensures.within

@@ -1,0 +1,53 @@
+-- Which step of a client's walk comes next, and which slots it needs. own
+use Rattle.std.specs.Prelude.{◌≡◌, ◌⊎◌, ℕ, ◌<◌, ◌≤◌, true, false, List, length, Some, ⊤}
+use Rattle.std.specs.List.{AllByRecursion}
+use Rattle.ll_rights.specs.Map.{get}
+use Rattle.ll_seq.specs.State.{root}
+use Rattle.ll_inodes.specs.InodeTable.{AreDistinct}
+use Rattle.ll_walks.specs.Walk.{Walk, Leg, at_ends, is_blocked, turn}
+use Rattle.ll_walks.specs.World.{shown}
+use Rattle.ll_journal.specs.declared.next.Next.{Next}
+use Rattle.ll_journal.specs.declared.next.Next.TheVariants as next
+use Rattle.ll_journal.specs.declared.station.Station.TheVariants as station
+use Rattle.ll_journal.specs.Book.{Book, has_mark, inode_in}
+use Rattle.ll_journal.specs.Stations.{station_in}
+use Rattle.ll_journal.specs.Steps.{IsInTurn, IsNext}
+use Rattle.ll_journal.specs.WalkEnds.{AreEnough, IsNeeded, is_lent}
+
+-- The client's walk goes on, but its leg in turn can't, or each branch is at its end; and these are all the slots that
+-- its commit may need, and no others
+pub record IsAtStop (b : Book) (number : ℕ) (slots : List ℕ) : Type 0 where
+  pub walk : Walk
+  pub leg : Leg
+  pub is : get b.world.walks number ≡ Some walk
+  pub fresh : walk.stale ≡ false
+  pub in_turn : turn walk.at ≡ Some leg
+  pub stops : (is_blocked (shown b.world) leg.here leg.ahead ≡ true) ⊎ (at_ends walk.call walk.at ≡ true)
+  pub enough : AreEnough b number walk slots
+  pub only : AllByRecursion (IsNeeded b number walk) slots
+
+-- This step of the client's walk comes next, with these slots: one of the six at most, where its leg in turn stands in
+-- the slot's directory
+abbrev pub ComesNext : Book → ℕ → ℕ → Next → Type 0
+ComesNext b number slot next.Nothing = station_in b.world number ≡ station.Idle
+ComesNext b number slot (next.Restart slots) =
+    (station_in b.world number ≡ station.Stale) × ((inode : ℕ) → is_lent b slots inode ≡ has_mark b.world inode number)
+ComesNext b number slot (next.Enter to) = (station_in b.world number ≡ station.Above) × (inode_in b to ≡ root)
+ComesNext b number slot (next.Descend to) = IsNext b number slot to
+ComesNext b number slot next.Fork = station_in b.world number ≡ station.Fork
+ComesNext b number slot (next.Commit slots) = IsInTurn b number slot → IsAtStop b number slots
+
+-- the slots are there, each once, and at most so many
+pub record AreLendable (b : Book) (most : ℕ) (slots : List ℕ) : Type 0 where
+  pub distinct : AreDistinct slots
+  pub within : AllByRecursion (λ slot. slot < length b.inodes) slots
+  pub few : length slots ≤ most
+
+-- what the step needs can be lent
+abbrev pub CanBeLent : Book → Next → Type 0
+CanBeLent b next.Nothing = ⊤
+CanBeLent b (next.Restart slots) = AreLendable b 3 slots
+CanBeLent b (next.Enter to) = to < length b.inodes
+CanBeLent b (next.Descend to) = to < length b.inodes
+CanBeLent b next.Fork = ⊤
+CanBeLent b (next.Commit slots) = AreLendable b 4 slots
