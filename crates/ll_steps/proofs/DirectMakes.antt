@@ -17,7 +17,7 @@ use Rattle.ll_seq.specs.State.{new_client}
 use Rattle.ll_seq.specs.Step.{client_of}
 use Rattle.ll_seq.proofs.Results.{wants_memory}
 use Rattle.ll_walks.specs.declared.step.Step.{Step}
-use Rattle.ll_walks.specs.declared.step.Step.TheVariants.{Join, FdCommit, ClientStep}
+use Rattle.ll_walks.specs.declared.step.Step.TheVariants.{Join, Begin, FdCommit, ClientStep}
 use Rattle.ll_walks.specs.Sound.{IsSound}
 use Rattle.ll_walks.specs.World as world
 use Rattle.ll_walks.specs.World.{World, advance, shown, is_full, is_idle, is_on_descriptor, descriptor_of, next_number}
@@ -27,8 +27,12 @@ use Rattle.ll_journal.specs.Book.{Book, Spares, inode_in, slot_of}
 use Rattle.ll_journal.specs.Direct.{Answers, ComesBack, IsOpen, TakesMemory}
 use Rattle.ll_journal.specs.declared.direct.Made.{Made}
 use Rattle.ll_journal.specs.declared.direct.Made.TheVariants as answer
+use Rattle.ll_journal.specs.Starts.{Starts}
+use Rattle.ll_journal.specs.declared.start.Start.{Start}
+use Rattle.ll_journal.specs.declared.start.Start.TheVariants as start
 use Rattle.ll_journal.specs.declared.open_file.Unmade.{Unmade}
 use Rattle.ll_journal.specs.declared.open_file.Unmade.TheVariants as unmade
+use Rattle.ll_steps.specs.Calling.{Calls, Waits, alone, waits}
 use Rattle.ll_steps.specs.Contents.{accounts_of, answered_as, IsKept}
 use Rattle.ll_steps.specs.Makes.{Makes, called, starved, succeeds}
 use Rattle.ll_steps.specs.declared.outcome.Outcome.TheVariants as outcome
@@ -107,6 +111,30 @@ answered_made number answer.NoMemory e = cc e
 pub alone_keeps : (b b' : Book) (slots : List Held) (client : ℕ) (c : Call) (r : Result Made Call) → IsKept b slots → IfOk r (λ a. Answers b (ClientStep client c) a b') → OnErr r (b' ≡ b) → Spares b b' [] → IsKept b' slots
 alone_keeps b b' slots client c (Ok a) h does same spares = answer_keeps b b' slots slots (ClientStep client c) a h does (h.accounts ∙ same_accounts b b' spares)
 alone_keeps b b' slots client c (Err back) h does same spares = kept_same b b' slots h same
+
+-- ---- a call that is on no descriptor
+
+pub start_keeps : (b b' : Book) (slots : List Held) (client : ℕ) (c : Call) (s : Start) → IsKept b slots
+    → Starts b client c s b' → Spares b b' [] → IsKept b' slots
+start_keeps b b' slots client c (start.Made a) h d spares = alone_keeps b b' slots client c (Ok a) h d tt spares
+start_keeps b b' slots client c start.Begun h d spares = kept_alone b b' slots (Begin client c) world.Begun h d.1 spares
+start_keeps b b' slots client c (start.Back back) h d spares = kept_same b b' slots h d.1.0
+
+-- it is made at once
+pub made_calls : (b b' : Book) (client : ℕ) (c : Call) (a : Made) → (a ≡ answer.NoMemory → TakesMemory c)
+    → Answers b (ClientStep client c) a b' → Waits b.world (FdCommit client c)
+    → Calls b.world client c (answered_as (length b.world.history) a) b'.world
+made_calls b b' client c a takes d waits' =
+    let number : ℕ = length b.world.history in
+    alone b'.world (answered_as number a) waits'
+    (answer_makes b b' (ClientStep client c) client c a (λ e. cc e) refl refl (λ e. takes_so c (takes e)) d)
+    (answered_made number a)
+
+-- or may not set out
+pub back_calls : (b b' : Book) (client : ℕ) (c back : Call) → Starts b client c (start.Back back) b'
+    → Waits b.world (FdCommit client c) → Calls b.world client c outcome.NotNow b'.world
+back_calls b b' client c back d waits' =
+    subst (λ (v : Book). Calls b.world client c outcome.NotNow v.world) (sym d.1.0) (waits waits' d.1.1.0 d.1.1.1)
 
 -- ---- a call on a descriptor
 

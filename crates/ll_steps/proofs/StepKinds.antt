@@ -12,7 +12,7 @@ use Rattle.ll_walks.specs.World.{World, shown, domain_of, is_marked, with_walk, 
 use Rattle.ll_walks.proofs.Shapes.{entered, may_hold, restarted, stood, walking}
 use Rattle.ll_steps.specs.declared.outcome.Outcome.{Outcome}
 use Rattle.ll_steps.specs.declared.outcome.Outcome.TheVariants as outcome
-use Rattle.ll_steps.specs.Calling.{Waits, Leads, Calls, alone, walks, waits}
+use Rattle.ll_steps.specs.Calling.{Waits, Leads, Calls, walks}
 use Rattle.ll_steps.specs.Makes.{Makes}
 use Rattle.ll_steps.proofs.Adding.{unchanged}
 
@@ -123,22 +123,22 @@ waits_so w v step' o m e =
     let same : v ≡ w = unchanged w v step' a in
     (subst (λ (u : World). advance w step' ≡ (world.NotNow, u)) same a, same)
 
--- ---- all steps of a call, which came back where a step wasn't enabled
+-- ---- all steps of a call, which came back where it was on no descriptor
 
-module _ (w : World) (client : ℕ) (call : Call) (on_file_waits : Waits w (FdCommit client call)) (w1 : World) (call1 : Call) (same1 : w1 ≡ w) (back1 : call1 ≡ call) where
-  pub calls_alone : (v : World) (o : Outcome) → Makes w1 (ClientStep client call1) o v → o ≢ outcome.NotNow → Calls w client call o v
-  calls_alone v o m made = alone v o on_file_waits (subst (λ (p : World × Call). Makes p.0 (ClientStep client p.1) o v) (λ i. (same1 i, back1 i)) m) made
+module _ (w : World) (client : ℕ) (call : Call) (on_file_waits : Waits w (FdCommit client call)) (w1 : World) (call1 : Call)
+    (same : w1 ≡ w) (back : call1 ≡ call) where
+  waits_there : Waits w1 (FdCommit client call1)
+  waits_there =
+      subst (λ (p : World × Call). Waits p.0 (FdCommit client p.1)) (λ i. (sym same i, sym back i)) on_file_waits
 
-  module _ (alone_waits : Waits w1 (ClientStep client call1)) (w2 : World) (call2 : Call) (same2 : w2 ≡ w1) (back2 : call2 ≡ call1) where
-    waits_here : Waits w (ClientStep client call)
-    waits_here = subst (λ (p : World × Call). Waits p.0 (ClientStep client p.1)) (λ i. (same1 i, back1 i)) alone_waits
+  calls_here : (v : World) (o : Outcome) → Calls w1 client call1 o v → Calls w client call o v
+  calls_here v o = subst (λ (p : World × Call). Calls p.0 client p.1 o v) (λ i. (same i, back i))
 
-    pub calls_walk : (v v' : World) (begun o : Outcome) → Makes w2 (Begin client call2) begun v → begun ≡ outcome.Begun → Leads client v o v' → Calls w client call o v'
-    calls_walk v v' begun o m is leads =
-        walks v v' o on_file_waits waits_here
-        (subst (λ (p : World × (Call × Outcome)). Makes p.0 (Begin client p.1.0) p.1.1 v) (λ i. ((same2 ∙ same1) i, ((back2 ∙ back1) i, is i))) m) leads
+  pub calls_stop : (v : World) (o : Outcome) → (Waits w1 (FdCommit client call1) → Calls w1 client call1 o v)
+      → Calls w client call o v
+  calls_stop v o stops = calls_here v o (stops waits_there)
 
-    pub calls_wait : (v : World) → Waits w2 (Begin client call2) → v ≡ w2 → Calls w client call outcome.NotNow v
-    calls_wait v m same =
-        subst (λ (u : World). Calls w client call outcome.NotNow u) (sym (same ∙ same2 ∙ same1))
-        (waits on_file_waits waits_here (subst (λ (p : World × Call). Waits p.0 (Begin client p.1)) (λ i. ((same2 ∙ same1) i, (back2 ∙ back1) i)) m))
+  pub calls_walk : (v v' : World) (o : Outcome) → Waits w1 (ClientStep client call1)
+      → Makes w1 (Begin client call1) outcome.Begun v → Leads client v o v' → Calls w client call o v'
+  calls_walk v v' o alone_waits begins leads =
+      calls_here v' o (walks v v' o waits_there alone_waits begins leads)

@@ -1,12 +1,12 @@
 //! The calls that don't walk, and the coming of clients.
 
-ghost use Rattle.std.specs.Prelude.{◌≡◌, ◌≢◌, IfOk, IfErr, OnErr};
+ghost use Rattle.std.specs.Prelude.{◌≡◌, ◌≢◌, IfSome, IfNone, IfOk, IfErr, OnErr};
 ghost use Rattle.ll_steps.specs.Contents.{answered_as};
 ghost use Rattle.ll_walks.specs.World as world;
 
 use crate::outcome::Outcome;
 use crate::world::World;
-use ll_journal::{Made, Unmade};
+use ll_journal::{Made, Start, Unmade};
 use ll_rights::Errno;
 use ll_seq::Call;
 
@@ -35,6 +35,7 @@ fn descriptor_of(call: &Call) -> Option<u64>
 
 impl World {
     ghost use Rattle.ll_walks.specs.declared.step.Step.TheVariants as steps;
+    ghost use Rattle.ll_steps.specs.Calling.{Calls, Waits};
     ghost use Rattle.ll_steps.specs.Makes.{Makes};
 
     /// A new client.
@@ -59,6 +60,21 @@ impl World {
         match self.journal.client_step(client, call) {
             Ok(answer) => Ok(answered(number, answer)),
             Err(call) => Err(call),
+        }
+    }
+
+    /// What comes of the client's call, which is on no descriptor that it has. None where its walk is under way.
+    pub(crate) fn start(&mut self, client: u64, call: Call) -> Option<Outcome>
+        ensures stops { IfSome result (λ outcome.
+            Waits self.old (steps.FdCommit client call) → Calls self.old client call outcome self.new) }
+        ensures alone { IfNone result (Waits self.old (steps.ClientStep client call)) }
+        ensures begins { IfNone result (Makes self.old (steps.Begin client call) Outcome.Begun self.new) }
+    {
+        let number = self.journal.entries().len() as u64;
+        match self.journal.start(client, call) {
+            Start::Made(answer) => Some(answered(number, answer)),
+            Start::Begun => None,
+            Start::Back(_) => Some(Outcome::NotNow),
         }
     }
 

@@ -98,13 +98,9 @@ impl World {
             Ok(outcome) => return outcome,
             Err(call) => call,
         };
-        let call = match self.client_step(client, call) {
-            Ok(outcome) => return outcome,
-            Err(call) => call,
-        };
-        match self.begin(client, call) {
-            Ok(_) => self.lead(client),
-            Err(_) => Outcome::NotNow,
+        match self.start(client, call) {
+            Some(outcome) => outcome,
+            None => self.lead(client),
         }
     }
 }
