@@ -21,7 +21,9 @@ ghost use Rattle.ll_session.specs.Run.{MayEnd};
 use input::InputFile;
 use ll_options::{Options, RunOptions, ScheduleOptions};
 use ll_replay::{draw_schedule, perform_schedule, setup_by};
-use ll_runs::{Conclusion, Failure, Shown, audit, header_of, perform, read_text, save_history, setup_of};
+use ll_runs::{
+    Conclusion, Failure, Shown, audit, header_of, perform, read_text, save_history, setup_of,
+};
 use ll_saved::Verdict;
 use ll_seq::History;
 use ll_session::Setup;
