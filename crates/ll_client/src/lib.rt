@@ -1,0 +1,19 @@
+//! The tie between the journal's lock, the slots' locks and the clients: who may speak for what.
+#![tactic(auto)]
+
+mod account;
+mod client;
+mod desk;
+mod hand;
+mod left;
+mod locked;
+mod rider;
+mod shape;
+
+pub use account::{Account, Numbered};
+pub use client::Client;
+pub use desk::Desk;
+pub use left::{Leaving, Left};
+pub use locked::Locked;
+pub use rider::Rider;
+pub use shape::Shape;
