@@ -1,5 +1,5 @@
 -- What becomes of a client by a step, and what a walk's end is. own
-use Rattle.std.specs.Prelude.{◌≡◌, ℕ, ◌<◌, [], ◌∷◌, ◌++◌, Some, None, ⊥}
+use Rattle.std.specs.Prelude.{◌≡◌, ℕ, ◌<◌, List, [], ◌∷◌, ◌++◌, Some, None, ⊥}
 use Rattle.ll_seq.specs.declared.call.Call.{Call}
 use Rattle.ll_seq.specs.declared.reply.Reply.{Reply}
 use Rattle.ll_walks.specs.World as world
@@ -9,7 +9,8 @@ use Rattle.ll_journal.specs.Book.{Book}
 use Rattle.ll_journal.specs.declared.direct.Made.{Made}
 use Rattle.ll_journal.specs.declared.direct.Made.TheVariants as made
 use Rattle.ll_journal.specs.declared.outcome.Ending.TheVariants as ending
-use Rattle.ll_journal.specs.WalkEnds.{Ends}
+use Rattle.ll_journal.specs.Steps.{IsAstrayAt}
+use Rattle.ll_journal.specs.WalkEnds.{Ends, IsAstrayAtEnd}
 use Rattle.ll_client.specs.declared.left.Leaving.{Leaving}
 use Rattle.ll_client.specs.declared.left.Leaving.TheVariants.{Commit, Restart}
 use Rattle.ll_client.specs.declared.left.Left.{Left}
@@ -50,3 +51,8 @@ Leaves Restart b number (left.Answered reply) b' = ⊥
 Leaves Restart b number left.Again b' = advance b.world (steps.Restart number) ≡ (world.Restarted, b'.world)
 Leaves Restart b number left.HistoryFull b' = ⊥
 Leaves Restart b number left.NoMemory b' = ⊥
+
+-- the walk is to be left so, and the slots aren't enough
+abbrev pub IsAstray : Leaving → Book → ℕ → List ℕ → Type 0
+IsAstray Commit b number slots = IsAstrayAtEnd b number slots
+IsAstray Restart b number slots = IsAstrayAt b number slots

@@ -15,6 +15,7 @@ use ll_journal::Journal;
 use ll_tie::{Keeper, Pass, Tie};
 
 /// What a client's account is picked from.
+#[derive(Drop)]
 struct Known<'a> {
     number: u64,
     seen: u64,

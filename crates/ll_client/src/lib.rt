@@ -5,10 +5,12 @@ mod account;
 mod client;
 mod desk;
 mod hand;
+mod leave;
 mod left;
 mod locked;
 mod rider;
 mod shape;
+mod walk;
 
 pub use account::{Account, Numbered};
 pub use client::Client;
