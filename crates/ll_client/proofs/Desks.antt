@@ -1,5 +1,5 @@
 -- What lies behind the journal's lock after a step, and what the step's client gains.
-use Rattle.std.specs.Prelude.{◌≡◌, ◌≢◌, ◌⊎◌, ℕ, ◌+◌, ◌<◌, ◌≤◌, ◌==◌, Bool, true, false, cond, List, [], ◌∷◌, ◌++◌, length, Option, Some, None, is_some, nat_le, if◌then◌else◌, refl}
+use Rattle.std.specs.Prelude.{◌≡◌, ◌≢◌, ◌⊎◌, ℕ, ◌+◌, ◌<◌, ◌≤◌, ◌==◌, Bool, true, false, cond, List, [], ◌∷◌, ◌++◌, length, Option, Some, None, Result, Ok, Err, OnOk, OnErr, refl}
 use Rattle.std.specs.Ordering.{nat_cmp}
 use Rattle.std.proofs.Common.{sym, subst, ap, ◌∙◌, inl, inr, arith}
 use Rattle.std.proofs.lemmas.List.{append-nil, length-append}
@@ -165,3 +165,23 @@ desk_kept slots limit b b' c ks m n d s p all = record {
   slots_are = p.size ∙ d.slots_are;
   few = subst (λ k. k ≤ TREE_NODES + TREE_CLIENTS) (sym p.size) d.few;
 }
+
+-- ---- a walk that begins
+
+pub begin_steps : (b b' : Book) (c : ℕ) (call : Call) (r : Result (Unit {0}) Call) → IsSound b.world → length b.world.history ≤ b.world.limit
+    → OnOk r (advance b.world (Begin c call) ≡ (Begun, b'.world)) → OnErr r (b' ≡ b) → Steps b b' c
+begin_steps b b' c call (Ok o) h fits begun same = stepped b b' (Begin c call) Begun h fits begun
+begin_steps b b' c call (Err e) h fits begun same = stood b b' c h fits same
+
+pub begin_mine : (b b' : Book) (c seen : ℕ) (part : List Numbered) (doing : Option Call) (call : Call) (r : Result (Unit {0}) Call) → part ≡ part_of b.world c
+    → OnOk r (advance b.world (Begin c call) ≡ (Begun, b'.world)) → OnOk r (knows c (part_of b'.world c) seen (doing_of b'.world c) ≡ record (knows c part seen doing) { doing = Some call })
+begin_mine b b' c seen part doing call (Err e) is begun = tt
+begin_mine b b' c seen part doing call (Ok o) is begun =
+    let g = subst (Went b.world (Begin c call)) begun (went b.world (Begin c call)) in
+    λ i. knows c ((ap (part_from 0 c) (g.came ∙ append-nil b.world.history) ∙ sym is) i) seen (g.mine i)
+
+pub begin_still : (b b' : Book) (c seen : ℕ) (part : List Numbered) (doing : Option Call) (r : Result (Unit {0}) Call) → part ≡ part_of b.world c → doing ≡ doing_of b.world c
+    → OnErr r (b' ≡ b) → OnErr r (knows c (part_of b'.world c) seen (doing_of b'.world c) ≡ knows c part seen doing)
+begin_still b b' c seen part doing (Ok o) is did same = tt
+begin_still b b' c seen part doing (Err e) is did same =
+    λ i. knows c ((ap (λ (x : Book). part_of x.world c) same ∙ sym is) i) seen ((ap (λ (x : Book). doing_of x.world c) same ∙ sym did) i)

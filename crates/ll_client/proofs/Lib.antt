@@ -1,3 +1,4 @@
 pub mod Accounts
 pub mod Walked
 pub mod Desks
+pub mod Leavings
