@@ -1,5 +1,5 @@
 -- What comes of a walk that is left: of the tree, and of its client.
-use Rattle.std.specs.Prelude.{◌≡◌, ◌≢◌, ◌⊎◌, ℕ, ◌+◌, ◌<◌, ◌≤◌, Bool, true, false, cond, List, [], ◌∷◌, ◌++◌, length, Option, Some, None, nat_le, unwrap_or, option_and_then, refl}
+use Rattle.std.specs.Prelude.{◌≡◌, ◌≢◌, ◌⊎◌, ℕ, ◌+◌, ◌<◌, ◌≤◌, Bool, true, false, cond, List, [], ◌∷◌, ◌++◌, length, Option, Some, None, nat_le, unwrap_or, option_map, option_and_then, refl}
 use Rattle.std.specs.Cmp.{nat_cmp_total}
 use Rattle.std.specs.FinMap.{nat_cmp-IsAntisymmetric}
 use Rattle.std.proofs.Common.{sym, subst, ap, ◌∙◌, inl, inr, arith}
@@ -55,7 +55,7 @@ astray_ended ending.HistoryFull f = absurd (cc f)
 astray_ended ending.NoMemory f = absurd (cc f)
 
 -- a restart neither stands nor forks
-may_restart : world.Outcome → Bool
+abbrev may_restart : world.Outcome → Bool
 may_restart world.NotNow = true
 may_restart world.Restarted = true
 may_restart _ = false
@@ -93,22 +93,24 @@ astray_restarted tells.Forked f = absurd (cc f)
 
 -- ---- of the tree
 
+abbrev call_in : Option Walk → Option Call
+call_in = option_map (λ (walk : Walk). walk.call)
+
+none_doing : (w : World) (c : ℕ) → doing_of (without_walk w c) c ≡ None
+none_doing w c = ap call_in (gone w.walks c)
+
 given_up : (b b' : Book) (c : ℕ) (walk : Walk) → IsSound b.world → length b.world.history ≤ b.world.limit → get b.world.walks c ≡ Some walk
     → b'.world ≡ without_walk b.world c → Steps b b' c
 given_up b b' c walk h fits is e = record {
   moved = subst (λ (v : World). Moved b.world v c) (sym e) (record {
     parts = λ d other. refl;
-    doing = λ d other. ap (λ (o : Option Walk). call_in o) (get-remove_other nat_cmp_total nat_cmp-IsAntisymmetric b.world.walks c d other);
+    doing = λ d other. ap call_in (get-remove_other nat_cmp_total nat_cmp-IsAntisymmetric b.world.walks c d other);
     long = omega arith;
     clients = λ d there. there;
   });
   sound = subst IsSound (sym e) (gives_up b.world c walk h is);
   within = subst (λ (v : World). length v.history ≤ v.limit) (sym e) fits;
 }
-  where
-    call_in : Option Walk → Option Call
-    call_in None = None
-    call_in (Some walk) = Some walk.call
 
 pub left_steps : (how : Leaving) (b b' : Book) (c : ℕ) (l : Left) → IsSound b.world → length b.world.history ≤ b.world.limit → Leaves how b c l b' → Steps b b' c
 left_steps Commit b b' c left.NotNow h fits d = stepped b b' (steps.Commit c) world.NotNow h fits d
@@ -176,13 +178,6 @@ left_goes Commit b b' c seen limit part doing left.HistoryFull h fits is k d =
     λ i. knows c ((ap (part_from 0 c) (g.1.came ∙ append-nil b.world.history) ∙ sym k.part_is) i) (full i) (g.1.mine i)
 left_goes Commit b b' c seen limit part doing left.NoMemory h fits is k d =
     λ i. knows c ((ap (λ (w : World). part_of w c) d.1 ∙ sym k.part_is) i) seen ((ap (λ (w : World). doing_of w c) d.1 ∙ none_doing b.world c) i)
-  where
-    none_doing : (w : World) (c : ℕ) → doing_of (without_walk w c) c ≡ None
-    none_doing w c = ap (λ (o : Option Walk). call_in o) (gone w.walks c)
-      where
-        call_in : Option Walk → Option Call
-        call_in None = None
-        call_in (Some walk) = Some walk.call
 left_goes Restart b b' c seen limit part doing left.NotNow h fits is k d =
     let same : b'.world ≡ b.world = subst (Went b.world (steps.Restart c)) d (went b.world (steps.Restart c)) in
     λ i. knows c ((ap (λ w. part_of w c) same ∙ sym k.part_is) i) seen ((ap (λ w. doing_of w c) same ∙ sym k.doing_is) i)

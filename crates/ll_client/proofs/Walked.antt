@@ -85,12 +85,12 @@ Went w s (Replied reply, v) =
     ⊎ ((is_full w ≡ false) × (call : Call) × (asked w s ≡ Some call) × (reply ≡ reply_to w (client_in w s) call)
     × Grown w v (client_in w s) (doing_after w s) (entry_of (client_in w s) call reply ∷ []))
 Went w s (Joined number, v) =
-    (is_full w ≡ false) × (number ≡ next_number w) × (Done ≡ reply_to w number Connect)
+    (is_full w ≡ false) × (number ≡ client_in w s) × (Done ≡ reply_to w number Connect)
     × Grown w v number (doing_of w number) (entry_of number Connect Done ∷ [])
 
 -- ---- the walks
 
-call_in : Option Walk → Option Call
+abbrev call_in : Option Walk → Option Call
 call_in = option_map (λ (walk : Walk). walk.call)
 
 -- a walk of this call is put in
@@ -108,7 +108,7 @@ over_same moved (Some walk) = refl
 over_calls : (moved : List ℕ) (m : Map nat_cmp Walk) (d : ℕ) → call_in (get (map_values (overtaken moved) m) d) ≡ call_in (get m d)
 over_calls moved m d = ap call_in (get-map_values (overtaken moved) m d) ∙ over_same moved (get m d)
 
-gone : (m : Map nat_cmp Walk) (c : ℕ) → get (remove m c) c ≡ None
+pub gone : (m : Map nat_cmp Walk) (c : ℕ) → get (remove m c) c ≡ None
 gone m c = by (get (remove m c) c) refl
   where
     by : (o : Option Walk) → get (remove m c) c ≡ o → o ≡ None
@@ -186,8 +186,8 @@ commit_went : (w : World) (c : ℕ) (walk : Walk) → get w.walks c ≡ Some wal
 commit_went w c walk is = elim (may_commit w c walk) as (λ b. Went w (Commit c) (unwrap_or (cond b (Some (committed w c walk)) None) (NotNow, w))) [ true ↦ by (is_full w) refl | false ↦ refl ]
   where
     by : (b : Bool) → is_full w ≡ b → let r = either (without_walk w c) c walk.call b in Went w (Commit c) (Replied r.0, with_stale (moved_by (shown w) walk.call r.0) r.1)
-    by true e = inl (e, over w c _ w.history [] (sym (append-nil w.history)))
-    by false e = inr (inr (e, walk.call, ap call_in is, refl, over w c _ (w.history ++ entry_of c walk.call (reply_to w c walk.call) ∷ []) _ refl))
+    by true e = inl (e, over w c (moved_by (shown w) walk.call (Refused HistoryFull)) w.history [] (sym (append-nil w.history)))
+    by false e = inr (inr (e, walk.call, ap call_in is, refl, over w c (moved_by (shown w) walk.call (reply_to w c walk.call)) (w.history ++ entry_of c walk.call (reply_to w c walk.call) ∷ []) (entry_of c walk.call (reply_to w c walk.call) ∷ []) refl))
 
 -- ---- steps without a walk
 
@@ -198,7 +198,7 @@ direct_went : (w : World) (c : ℕ) (call : Call) (s : Step) (allowed : Bool) �
 direct_went w c call s allowed is mine none = elim (is_idle w c && allowed) as (λ b. (is_idle w c && allowed) ≡ b → Went w s (unwrap_or (cond b (Some (replied w c call)) None) (NotNow, w))) [ true ↦ λ e. by (idle e) (is_full w) refl | false ↦ λ e. refl ] refl
   where
     idle : (is_idle w c && allowed) ≡ true → doing_of w c ≡ None
-    idle e = none_walks (get w.walks c) (not_true _ (both _ _ (both (is_idle w c) allowed e).0).1)
+    idle e = none_walks (get w.walks c) (not_true (has w.walks c) (both (has (shown w).clients c) (not (has w.walks c)) (both (is_idle w c) allowed e).0).1)
 
     grown : (v : World) (added : List Entry) → Grown w v c None added → Grown w v (client_in w s) (doing_after w s) added
     grown v added g = subst (λ (p : ℕ × Option Call). Grown w v p.0 p.1 added) (λ i. (sym mine i, sym none i)) g
@@ -213,14 +213,14 @@ direct_went w c call s allowed is mine none = elim (is_idle w c && allowed) as (
           is,
           ap (λ n. reply_to w n call) (sym mine),
           subst (λ n. Grown w (with_entry w c call reply) (client_in w s) (doing_after w s) (entry_of n call reply ∷ [])) (sym mine)
-          (grown (with_entry w c call reply) (entry_of c call reply ∷ []) (plain w c None _ _ refl still)),
+          (grown (with_entry w c call reply) (entry_of c call reply ∷ []) (plain w c None (w.history ++ entry_of c call reply ∷ []) (entry_of c call reply ∷ []) refl still)),
         ))
 
 join_went : (w : World) → Went w Join (join w)
 join_went w = by (is_full w) refl
   where
     on_reply : (reply : Reply) → is_full w ≡ false → reply ≡ reply_to w (next_number w) Connect → Went w Join (joined w reply (with_entry w (next_number w) Connect reply))
-    on_reply Done e is = (e, refl, is, plain w (next_number w) (doing_of w (next_number w)) _ _ refl refl)
+    on_reply Done e is = (e, refl, is, plain w (next_number w) (doing_of w (next_number w)) (w.history ++ entry_of (next_number w) Connect Done ∷ []) (entry_of (next_number w) Connect Done ∷ []) refl refl)
     on_reply (Opened k) e is = inr (inl (refl, refl))
     on_reply (Bytes k) e is = inr (inl (refl, refl))
     on_reply (Wrote k) e is = inr (inl (refl, refl))
