@@ -2,3 +2,4 @@ pub mod Accounts
 pub mod Walked
 pub mod Desks
 pub mod Leavings
+pub mod Directs

@@ -1,8 +1,11 @@
 -- What becomes of the entries where passes are taken back and given out. No public contract cites it. own
-use Rattle.std.specs.Prelude.{◌≡◌, ℕ, ◌+◌, ◌*◌, List, [], ◌∷◌, None, ⊤}
+use Rattle.std.specs.Prelude.{◌≡◌, ℕ, ◌+◌, ◌*◌, List, [], ◌∷◌, None, ⊤, Result, Ok, Err}
 use Rattle.std.specs.Ordering.{nat_cmp}
 use Rattle.ll_rights.specs.Map.{Map, get}
 use Rattle.ll_inodes.specs.InodeTable.{NotIn}
+use Rattle.ll_seq.specs.declared.call.Call.{Call}
+use Rattle.ll_journal.specs.declared.direct.Made.{Made}
+use Rattle.ll_journal.specs.declared.direct.Made.TheVariants as made
 use Rattle.ll_journal.specs.declared.outcome.Ending.{Ending}
 use Rattle.ll_journal.specs.declared.outcome.Ending.TheVariants as ending
 use Rattle.ll_journal.specs.declared.outcome.Outcome.{Outcome}
@@ -55,3 +58,10 @@ seen_of left.NotNow seen entries = seen
 seen_of left.Astray seen entries = seen
 seen_of left.Again seen entries = seen
 seen_of left.NoMemory seen entries = seen
+
+-- the same of a call that doesn't walk
+abbrev pub seen_made : Result Made Call → ℕ → ℕ → ℕ
+seen_made (Ok (made.Replied reply)) seen entries = entries
+seen_made (Ok made.HistoryFull) seen entries = entries
+seen_made (Ok made.NoMemory) seen entries = seen
+seen_made (Err back) seen entries = seen

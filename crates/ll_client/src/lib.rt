@@ -4,6 +4,7 @@
 mod account;
 mod client;
 mod desk;
+mod direct;
 mod hand;
 mod leave;
 mod left;
