@@ -6,7 +6,7 @@ use Rattle.ll_seq.specs.declared.call.Call.{Call}
 use Rattle.ll_seq.specs.declared.reply.Reply.TheVariants.{Refused}
 use Rattle.ll_laws.proofs.Chains.{same_Some}
 use Rattle.ll_walks.specs.declared.step.Step.{Step}
-use Rattle.ll_walks.specs.declared.step.Step.TheVariants.{Join, ClientStep}
+use Rattle.ll_walks.specs.declared.step.Step.TheVariants.{Join}
 use Rattle.ll_walks.specs.World as world
 use Rattle.ll_walks.specs.World.{World, advance}
 use Rattle.ll_walks.specs.Sound.{IsSound}
@@ -19,19 +19,22 @@ use Rattle.ll_client.specs.Entries.{Knows, doing_of, knows, part_of}
 use Rattle.ll_client.specs.Gains.{Gains}
 use Rattle.ll_client.specs.Hands.{seen_made}
 use Rattle.ll_client.proofs.Accounts.{IsClient}
-use Rattle.ll_client.proofs.Walked.{Grown, Went, client_in, doing_after, entry_of, went}
+use Rattle.ll_client.proofs.Walked.{Grown, Went, asked, client_in, doing_after, entry_of, went}
 use Rattle.ll_client.proofs.Desks.{Steps, stepped, stood}
 use Rattle.ll_client.proofs.Leavings.{full_grown, full_is, room_grown, told_one}
 
-made_steps : (b b' : Book) (c : ℕ) (call : Call) (a : Made) → IsSound b.world → length b.world.history ≤ b.world.limit → Answers b (ClientStep c call) a b' → Steps b b' c
-made_steps b b' c call (made.Replied reply) h fits d = stepped b b' (ClientStep c call) (world.Replied reply) h fits d.1
-made_steps b b' c call made.HistoryFull h fits d = stood b b' c h fits d.1
-made_steps b b' c call made.NoMemory h fits d = stood b b' c h fits d.0
+-- a step of this client's, of a call that doesn't walk
+pub record IsDirect (w : World) (c : ℕ) (call : Call) (s : Step) : Type 0 where
+  pub mine : client_in w s ≡ c
+  pub asks : asked w s ≡ Some call
+  pub idle : doing_after w s ≡ None
+  pub other : s ≢ Join
 
-pub alone_steps : (b b' : Book) (c : ℕ) (call : Call) (r : Result Made Call) → IsSound b.world → length b.world.history ≤ b.world.limit
-    → IfOk r (λ a. Answers b (ClientStep c call) a b') → OnErr r (b' ≡ b) → Steps b b' c
-alone_steps b b' c call (Ok a) h fits does same = made_steps b b' c call a h fits does
-alone_steps b b' c call (Err e) h fits does same = stood b b' c h fits same
+made_steps : (b b' : Book) (c : ℕ) (call : Call) (s : Step) (a : Made) → IsDirect b.world c call s → IsSound b.world → length b.world.history ≤ b.world.limit
+    → Answers b s a b' → Steps b b' c
+made_steps b b' c call s (made.Replied reply) t h fits d = subst (Steps b b') t.mine (stepped b b' s (world.Replied reply) h fits d.1)
+made_steps b b' c call s made.HistoryFull t h fits d = stood b b' c h fits d.1
+made_steps b b' c call s made.NoMemory t h fits d = stood b b' c h fits d.0
 
 -- the world is the same, and the client knows of so many entries
 same_but : (b b' : Book) (c seen : ℕ) (part : List Numbered) (before : ℕ) (doing : Option Call) → IsClient b c part before doing → b' ≡ b
@@ -39,32 +42,39 @@ same_but : (b b' : Book) (c seen : ℕ) (part : List Numbered) (before : ℕ) (d
 same_but b b' c seen part before doing k e =
     λ i. knows c ((ap (λ (x : Book). part_of x.world c) e ∙ sym k.part_is) i) seen ((ap (λ (x : Book). doing_of x.world c) e ∙ sym k.doing_is) i)
 
-made_gains : (b b' : Book) (c seen limit : ℕ) (part : List Numbered) (doing : Option Call) (call : Call) (a : Made) → length b.world.history ≤ b.world.limit → b.world.limit ≡ limit
-    → IsClient b c part seen doing → Answers b (ClientStep c call) a b'
-    → Gains limit call (knows c part seen doing) a (knows c (part_of b'.world c) (seen_made (Ok a) seen (length b'.world.history)) (doing_of b'.world c))
-made_gains b b' c seen limit part doing call (made.Replied reply) fits is k d =
-    let g = room_grown b.world b'.world (ClientStep c call) reply (λ e. cc e) d.0 (subst (Went b.world (ClientStep c call)) d.1 (went b.world (ClientStep c call))) in
+made_gains : (E : Type 0) (b b' : Book) (c seen limit : ℕ) (part : List Numbered) (doing : Option Call) (call : Call) (s : Step) (a : Made) → IsDirect b.world c call s
+    → length b.world.history ≤ b.world.limit → b.world.limit ≡ limit → IsClient b c part seen doing → Answers b s a b'
+    → Gains limit call (knows c part seen doing) a (knows c (part_of b'.world c) (seen_made {E = E} (Ok a) seen (length b'.world.history)) (doing_of b'.world c))
+made_gains E b b' c seen limit part doing call s (made.Replied reply) t fits is k d =
+    let g = room_grown b.world b'.world s reply t.other d.0 (subst (Went b.world s) d.1 (went b.world s)) in
+    let same : g.0 ≡ call = same_Some g.0 call (sym g.1 ∙ t.asks) in
     told_one b b' c seen part doing call reply k
-    (subst (λ (x : Call). Grown b.world b'.world c None (entry_of c x reply ∷ [])) (same_Some g.0 call (sym g.1)) g.2)
-made_gains b b' c seen limit part doing call made.HistoryFull fits is k d =
-    let g = full_grown b.world b'.world (ClientStep c call) (λ e. cc e) (subst (Went b.world (ClientStep c call)) d.0 (went b.world (ClientStep c call))) in
-    let full = full_is b.world b'.world c limit None g.0 fits is g.1 in
+    (subst (λ (x : ℕ × (Option Call × Call)). Grown b.world b'.world x.0 x.1.0 (entry_of x.0 x.1.1 reply ∷ [])) (λ i. (t.mine i, (t.idle i, same i))) g.2)
+made_gains E b b' c seen limit part doing call s made.HistoryFull t fits is k d =
+    let g = full_grown b.world b'.world s t.other (subst (Went b.world s) d.0 (went b.world s)) in
+    let full = full_is b.world b'.world (client_in b.world s) limit (doing_after b.world s) g.0 fits is g.1 in
     same_but b b' c (length b'.world.history) part seen doing k d.1 ∙ ap (λ n. knows c part n doing) full
-made_gains b b' c seen limit part doing call made.NoMemory fits is k d = same_but b b' c seen part seen doing k d.0
+made_gains E b b' c seen limit part doing call s made.NoMemory t fits is k d = same_but b b' c seen part seen doing k d.0
 
-pub alone_gains : (b b' : Book) (c seen limit : ℕ) (part : List Numbered) (doing : Option Call) (call : Call) (r : Result Made Call) → length b.world.history ≤ b.world.limit → b.world.limit ≡ limit
-    → IsClient b c part seen doing → IfOk r (λ a. Answers b (ClientStep c call) a b')
-    → IfOk r (λ a. Gains limit call (knows c part seen doing) a (knows c (part_of b'.world c) (seen_made r seen (length b'.world.history)) (doing_of b'.world c)))
-alone_gains b b' c seen limit part doing call (Ok a) fits is k does = made_gains b b' c seen limit part doing call a fits is k does
-alone_gains b b' c seen limit part doing call (Err e) fits is k does = tt
+module _ {E : Type 0} where
+  pub direct_steps : (b b' : Book) (c : ℕ) (call : Call) (s : Step) (r : Result Made E) → IsDirect b.world c call s → IsSound b.world → length b.world.history ≤ b.world.limit
+      → IfOk r (λ a. Answers b s a b') → OnErr r (b' ≡ b) → Steps b b' c
+  direct_steps b b' c call s (Ok a) t h fits does same = made_steps b b' c call s a t h fits does
+  direct_steps b b' c call s (Err e) t h fits does same = stood b b' c h fits same
 
-pub alone_still : (b b' : Book) (c seen : ℕ) (part : List Numbered) (doing : Option Call) (r : Result Made Call) → IsClient b c part seen doing → OnErr r (b' ≡ b)
-    → OnErr r (knows c (part_of b'.world c) (seen_made r seen (length b'.world.history)) (doing_of b'.world c) ≡ knows c part seen doing)
-alone_still b b' c seen part doing (Ok a) k same = tt
-alone_still b b' c seen part doing (Err e) k same = same_but b b' c seen part seen doing k same
+  pub direct_gains : (b b' : Book) (c seen limit : ℕ) (part : List Numbered) (doing : Option Call) (call : Call) (s : Step) (r : Result Made E) → IsDirect b.world c call s
+      → length b.world.history ≤ b.world.limit → b.world.limit ≡ limit → IsClient b c part seen doing → IfOk r (λ a. Answers b s a b')
+      → IfOk r (λ a. Gains limit call (knows c part seen doing) a (knows c (part_of b'.world c) (seen_made r seen (length b'.world.history)) (doing_of b'.world c)))
+  direct_gains b b' c seen limit part doing call s (Ok a) t fits is k does = made_gains E b b' c seen limit part doing call s a t fits is k does
+  direct_gains b b' c seen limit part doing call s (Err e) t fits is k does = tt
 
-pub made_low : (r : Result Made Call) (seen before after : ℕ) → seen ≤ before → before ≤ after → seen_made r seen after ≤ after
-made_low (Ok (made.Replied reply)) seen before after low long = omega arith
-made_low (Ok made.HistoryFull) seen before after low long = omega arith
-made_low (Ok made.NoMemory) seen before after low long = omega (arith, low, long)
-made_low (Err e) seen before after low long = omega (arith, low, long)
+  pub direct_still : (b b' : Book) (c seen : ℕ) (part : List Numbered) (doing : Option Call) (r : Result Made E) → IsClient b c part seen doing → OnErr r (b' ≡ b)
+      → OnErr r (knows c (part_of b'.world c) (seen_made r seen (length b'.world.history)) (doing_of b'.world c) ≡ knows c part seen doing)
+  direct_still b b' c seen part doing (Ok a) k same = tt
+  direct_still b b' c seen part doing (Err e) k same = same_but b b' c seen part seen doing k same
+
+  pub direct_low : (r : Result Made E) (seen before after : ℕ) → seen ≤ before → before ≤ after → seen_made r seen after ≤ after
+  direct_low (Ok (made.Replied reply)) seen before after low long = omega arith
+  direct_low (Ok made.HistoryFull) seen before after low long = omega arith
+  direct_low (Ok made.NoMemory) seen before after low long = omega (arith, low, long)
+  direct_low (Err e) seen before after low long = omega (arith, low, long)

@@ -3,7 +3,6 @@ use Rattle.std.specs.Prelude.{◌≡◌, ℕ, ◌+◌, ◌*◌, List, [], ◌∷
 use Rattle.std.specs.Ordering.{nat_cmp}
 use Rattle.ll_rights.specs.Map.{Map, get}
 use Rattle.ll_inodes.specs.InodeTable.{NotIn}
-use Rattle.ll_seq.specs.declared.call.Call.{Call}
 use Rattle.ll_journal.specs.declared.direct.Made.{Made}
 use Rattle.ll_journal.specs.declared.direct.Made.TheVariants as made
 use Rattle.ll_journal.specs.declared.outcome.Ending.{Ending}
@@ -60,7 +59,7 @@ seen_of left.Again seen entries = seen
 seen_of left.NoMemory seen entries = seen
 
 -- the same of a call that doesn't walk
-abbrev pub seen_made : Result Made Call → ℕ → ℕ → ℕ
+abbrev pub seen_made : {E : Type 0} → Result Made E → ℕ → ℕ → ℕ
 seen_made (Ok (made.Replied reply)) seen entries = entries
 seen_made (Ok made.HistoryFull) seen entries = entries
 seen_made (Ok made.NoMemory) seen entries = seen
