@@ -41,13 +41,13 @@ part_push n c (x ∷ es) e =
     ap (λ (r : List Numbered). cond (x.client == c) (numbered (n + 1) x.call x.reply ∷ r) r) (part_push (n + 1) c es e)
     ∙ sym (cond_append (x.client == c) (numbered (n + 1) x.call x.reply) (part_from (n + 1) c es) last)
     ∙ ap (λ (k : ℕ). cond (x.client == c) (numbered (n + 1) x.call x.reply ∷ part_from (n + 1) c es) (part_from (n + 1) c es)
-      ++ cond (e.client == c) (numbered k e.call e.reply ∷ []) []) m
+    ++ cond (e.client == c) (numbered k e.call e.reply ∷ []) []) m
 
 pub part_mine : (es : List Entry) (e : Entry) → part_from 0 e.client (es ++ e ∷ []) ≡ part_from 0 e.client es ++ numbered (length es + 1) e.call e.reply ∷ []
 part_mine es e =
     part_push 0 e.client es e
     ∙ (let m : 0 + length es + 1 ≡ length es + 1 = omega arith in
-      λ i. part_from 0 e.client es ++ cond (eq-eqb e.client e.client refl i) (numbered (m i) e.call e.reply ∷ []) [])
+    λ i. part_from 0 e.client es ++ cond (eq-eqb e.client e.client refl i) (numbered (m i) e.call e.reply ∷ []) [])
 
 pub part_other : (es : List Entry) (e : Entry) (c : ℕ) → e.client ≢ c → part_from 0 c (es ++ e ∷ []) ≡ part_from 0 c es
 part_other es e c apart =

@@ -136,7 +136,7 @@ told_one b b' c seen part doing call reply k g =
     let e = entry_of c call reply in
     let more : length b'.world.history ≡ length b.world.history + 1 = ap length g.came ∙ length-append b.world.history (e ∷ []) in
     let new : part_of b'.world c ≡ part ++ numbered (length b'.world.history) call reply ∷ [] =
-        ap (part_from 0 c) g.came ∙ part_mine b.world.history e ∙ (λ i. sym k.part_is i ++ numbered (sym more i) call reply ∷ []) in
+    ap (part_from 0 c) g.came ∙ part_mine b.world.history e ∙ (λ i. sym k.part_is i ++ numbered (sym more i) call reply ∷ []) in
     ((let low = k.low in omega (arith, more, low)), λ i. knows c (new i) (length b'.world.history) (g.mine i))
 
 -- the history is full, and stays so

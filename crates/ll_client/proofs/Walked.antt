@@ -213,7 +213,7 @@ direct_went w c call s allowed is mine none = elim (is_idle w c && allowed) as (
           is,
           ap (λ n. reply_to w n call) (sym mine),
           subst (λ n. Grown w (with_entry w c call reply) (client_in w s) (doing_after w s) (entry_of n call reply ∷ [])) (sym mine)
-          (grown (with_entry w c call reply) (entry_of c call reply ∷ []) (plain w c None (w.history ++ entry_of c call reply ∷ []) (entry_of c call reply ∷ []) refl still)),
+              (grown (with_entry w c call reply) (entry_of c call reply ∷ []) (plain w c None (w.history ++ entry_of c call reply ∷ []) (entry_of c call reply ∷ []) refl still)),
         ))
 
 join_went : (w : World) → Went w Join (join w)

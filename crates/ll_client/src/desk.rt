@@ -29,3 +29,22 @@ impl<N: Shape> Model for Desk<N> {
 
     ghost invariant = { λ desk. IsDesk N.slots N.limit desk.journal desk.keeper };
 }
+
+impl<N: Shape> Desk<N> {
+    ghost use Rattle.std.specs.Prelude.{◌≤◌, length};
+    ghost use Rattle.ll_seq.specs.History.{IsLegal};
+    ghost use Rattle.ll_seq.specs.State.{start};
+    ghost use Rattle.ll_walks.specs.Walks.{AreApart, AreFew, AreValid, GateIsHeld};
+
+    /// What holds of it, whatever was done before. Takes no memory.
+    pub fn by_law(&self)
+        ensures legal { IsLegal (start self.now.world.rules self.now.world.room) self.now.world.history }
+        ensures within { length self.now.world.history ≤ self.now.world.limit }
+        ensures valid { AreValid self.now.world }
+        ensures apart { AreApart self.now.world }
+        ensures few { AreFew self.now.world }
+        ensures gate { GateIsHeld self.now.world }
+    {
+        let _journal = &self.journal;
+    }
+}

@@ -61,7 +61,9 @@ impl<N: Shape> Desk<N> {
         ensures still { OnErr result (me.new ≡ me.old) }
     {
         let Desk {
-            journal, keeper, ..
+            journal,
+            keeper,
+            ..
         } = self;
         let (number, seen) = (me.number, me.seen);
         take_client(tie, keeper, journal, number, seen, &mut me.pass);
@@ -90,14 +92,31 @@ impl<N: Shape> Desk<N> {
         ensures still { OnErr result (me.new ≡ me.old) }
     {
         let Desk {
-            journal, keeper, ..
+            journal,
+            keeper,
+            ..
         } = self;
         let (number, seen) = (me.number, me.seen);
-        take_slot(tie, keeper, journal, file.number, &file.held, &mut file.pass);
+        take_slot(
+            tie,
+            keeper,
+            journal,
+            file.number,
+            &file.held,
+            &mut file.pass,
+        );
         take_client(tie, keeper, journal, number, seen, &mut me.pass);
         let made = journal.fd_commit(number, call, file.number, &mut file.held);
         me.seen = seen_on_file(&made, seen, journal.entries().len() as u64);
-        put_slot(tie, keeper, journal, file.number, &file.held, &mut file.pass, number);
+        put_slot(
+            tie,
+            keeper,
+            journal,
+            file.number,
+            &file.held,
+            &mut file.pass,
+            number,
+        );
         me.pass = give_client(tie, keeper, journal, number, me.seen);
         made
     }

@@ -133,7 +133,10 @@ fn leave_by_2(
     ensures b { b.new ≡ slot_of journal.new k }
     ensures spares { Spares journal.old journal.new (j ∷ k ∷ []) }
 {
-    let mut lent = [mem::replace(a, vacant(alloc)), mem::replace(b, vacant(alloc))];
+    let mut lent = [
+        mem::replace(a, vacant(alloc)),
+        mem::replace(b, vacant(alloc)),
+    ];
     let left = leave_with(journal, client, leaving, &[j, k], &mut lent);
     mem::swap(a, &mut lent[0]);
     mem::swap(b, &mut lent[1]);
@@ -164,7 +167,11 @@ fn leave_by_3(
     ensures d { d.new ≡ slot_of journal.new l }
     ensures spares { Spares journal.old journal.new (j ∷ k ∷ l ∷ []) }
 {
-    let mut lent = [mem::replace(a, vacant(alloc)), mem::replace(b, vacant(alloc)), mem::replace(d, vacant(alloc))];
+    let mut lent = [
+        mem::replace(a, vacant(alloc)),
+        mem::replace(b, vacant(alloc)),
+        mem::replace(d, vacant(alloc)),
+    ];
     let left = leave_with(journal, client, leaving, &[j, k, l], &mut lent);
     mem::swap(a, &mut lent[0]);
     mem::swap(b, &mut lent[1]);
@@ -200,7 +207,12 @@ fn leave_by_4(
     ensures e { e.new ≡ slot_of journal.new m }
     ensures spares { Spares journal.old journal.new (j ∷ k ∷ l ∷ m ∷ []) }
 {
-    let mut lent = [mem::replace(a, vacant(alloc)), mem::replace(b, vacant(alloc)), mem::replace(d, vacant(alloc)), mem::replace(e, vacant(alloc))];
+    let mut lent = [
+        mem::replace(a, vacant(alloc)),
+        mem::replace(b, vacant(alloc)),
+        mem::replace(d, vacant(alloc)),
+        mem::replace(e, vacant(alloc)),
+    ];
     let left = leave_with(journal, client, leaving, &[j, k, l, m], &mut lent);
     mem::swap(a, &mut lent[0]);
     mem::swap(b, &mut lent[1]);
@@ -211,19 +223,16 @@ fn leave_by_4(
 
 impl<N: Shape> Desk<N> {
     /// The client's walk is left, which stands nowhere: no slot is lent. Only calls that add something take memory.
-    pub fn leave_0(
-        &mut self,
-        tie: &Tie<N, Account>,
-        me: &mut Rider<N>,
-        leaving: Leaving,
-    ) -> Left
+    pub fn leave_0(&mut self, tie: &Tie<N, Account>, me: &mut Rider<N>, leaving: Leaving) -> Left
         ensures leaves { Leaves leaving self.old me.old.number result self.new }
         ensures astray { result ≡ Left.Astray → IsAstray leaving self.old me.old.number [] }
         ensures spares { Spares self.old self.new [] }
         ensures mine { Goes N.limit me.old result me.new }
     {
         let Desk {
-            journal, keeper, ..
+            journal,
+            keeper,
+            ..
         } = self;
         let (number, seen) = (me.number, me.seen);
         take_client(tie, keeper, journal, number, seen, &mut me.pass);
@@ -290,7 +299,16 @@ impl<N: Shape> Desk<N> {
         take_slot(tie, keeper, journal, b.number, &b.held, &mut b.pass);
         take_slot(tie, keeper, journal, a.number, &a.held, &mut a.pass);
         take_client(tie, keeper, journal, number, seen, &mut me.pass);
-        let left = leave_by_2(journal, *alloc, number, leaving, a.number, &mut a.held, b.number, &mut b.held);
+        let left = leave_by_2(
+            journal,
+            *alloc,
+            number,
+            leaving,
+            a.number,
+            &mut a.held,
+            b.number,
+            &mut b.held,
+        );
         me.seen = seen_after(&left, seen, journal.entries().len() as u64);
         put_slot(tie, keeper, journal, a.number, &a.held, &mut a.pass, number);
         put_slot(tie, keeper, journal, b.number, &b.held, &mut b.pass, number);
@@ -329,7 +347,18 @@ impl<N: Shape> Desk<N> {
         take_slot(tie, keeper, journal, b.number, &b.held, &mut b.pass);
         take_slot(tie, keeper, journal, a.number, &a.held, &mut a.pass);
         take_client(tie, keeper, journal, number, seen, &mut me.pass);
-        let left = leave_by_3(journal, *alloc, number, leaving, a.number, &mut a.held, b.number, &mut b.held, d.number, &mut d.held);
+        let left = leave_by_3(
+            journal,
+            *alloc,
+            number,
+            leaving,
+            a.number,
+            &mut a.held,
+            b.number,
+            &mut b.held,
+            d.number,
+            &mut d.held,
+        );
         me.seen = seen_after(&left, seen, journal.entries().len() as u64);
         put_slot(tie, keeper, journal, a.number, &a.held, &mut a.pass, number);
         put_slot(tie, keeper, journal, b.number, &b.held, &mut b.pass, number);
@@ -373,7 +402,20 @@ impl<N: Shape> Desk<N> {
         take_slot(tie, keeper, journal, b.number, &b.held, &mut b.pass);
         take_slot(tie, keeper, journal, a.number, &a.held, &mut a.pass);
         take_client(tie, keeper, journal, number, seen, &mut me.pass);
-        let left = leave_by_4(journal, *alloc, number, leaving, a.number, &mut a.held, b.number, &mut b.held, d.number, &mut d.held, e.number, &mut e.held);
+        let left = leave_by_4(
+            journal,
+            *alloc,
+            number,
+            leaving,
+            a.number,
+            &mut a.held,
+            b.number,
+            &mut b.held,
+            d.number,
+            &mut d.held,
+            e.number,
+            &mut e.held,
+        );
         me.seen = seen_after(&left, seen, journal.entries().len() as u64);
         put_slot(tie, keeper, journal, a.number, &a.held, &mut a.pass, number);
         put_slot(tie, keeper, journal, b.number, &b.held, &mut b.pass, number);

@@ -35,7 +35,9 @@ impl<N: Shape> Desk<N> {
         ensures still { OnErr result (me.new ≡ me.old) }
     {
         let Desk {
-            journal, keeper, ..
+            journal,
+            keeper,
+            ..
         } = self;
         let (number, seen) = (me.number, me.seen);
         take_client(tie, keeper, journal, number, seen, &mut me.pass);
@@ -52,7 +54,9 @@ impl<N: Shape> Desk<N> {
         ensures mine { me.new ≡ me.old }
     {
         let Desk {
-            journal, keeper, ..
+            journal,
+            keeper,
+            ..
         } = self;
         let (number, seen) = (me.number, me.seen);
         take_client(tie, keeper, journal, number, seen, &mut me.pass);
@@ -76,13 +80,30 @@ impl<N: Shape> Desk<N> {
         ensures mine { me.new ≡ me.old }
     {
         let Desk {
-            journal, keeper, ..
+            journal,
+            keeper,
+            ..
         } = self;
         let (number, seen) = (me.number, me.seen);
-        take_slot(tie, keeper, journal, root.number, &root.held, &mut root.pass);
+        take_slot(
+            tie,
+            keeper,
+            journal,
+            root.number,
+            &root.held,
+            &mut root.pass,
+        );
         take_client(tie, keeper, journal, number, seen, &mut me.pass);
         let outcome = journal.enter(number, root.number, &mut root.held);
-        put_slot(tie, keeper, journal, root.number, &root.held, &mut root.pass, number);
+        put_slot(
+            tie,
+            keeper,
+            journal,
+            root.number,
+            &root.held,
+            &mut root.pass,
+            number,
+        );
         me.pass = give_client(tie, keeper, journal, number, seen);
         outcome
     }
@@ -106,15 +127,40 @@ impl<N: Shape> Desk<N> {
         ensures mine { me.new ≡ me.old }
     {
         let Desk {
-            journal, keeper, ..
+            journal,
+            keeper,
+            ..
         } = self;
         let (number, seen) = (me.number, me.seen);
         take_slot(tie, keeper, journal, to.number, &to.held, &mut to.pass);
-        take_slot(tie, keeper, journal, from.number, &from.held, &mut from.pass);
+        take_slot(
+            tie,
+            keeper,
+            journal,
+            from.number,
+            &from.held,
+            &mut from.pass,
+        );
         take_client(tie, keeper, journal, number, seen, &mut me.pass);
         let outcome = journal.descend(number, from.number, &mut from.held, to.number, &mut to.held);
-        put_slot(tie, keeper, journal, from.number, &from.held, &mut from.pass, number);
-        put_slot(tie, keeper, journal, to.number, &to.held, &mut to.pass, number);
+        put_slot(
+            tie,
+            keeper,
+            journal,
+            from.number,
+            &from.held,
+            &mut from.pass,
+            number,
+        );
+        put_slot(
+            tie,
+            keeper,
+            journal,
+            to.number,
+            &to.held,
+            &mut to.pass,
+            number,
+        );
         me.pass = give_client(tie, keeper, journal, number, seen);
         outcome
     }

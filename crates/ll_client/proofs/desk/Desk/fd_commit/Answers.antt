@@ -41,7 +41,7 @@ returns-clause-mine g c =
     let known = c.take_client.ensures in
     let k : IsClient c.self.inside.journal c.me.inside.number (part_in c.me.inside.pass) c.me.inside.seen (doing_in c.me.inside.pass) = record { there = known.there; few = known.few; part_is = known.part; low = known.seen; doing_is = known.doing } in
     let seen : seen_made c.fd_commit-made.result c.me.inside.seen (length c.fd_commit-made.new.self.world.history) ≡ c.seen_on_file-me-inside.result =
-        ap (λ (es : List Entry). seen_made c.fd_commit-made.result c.me.inside.seen (length es)) (sym c.entries.ensures) ∙ sym c.seen_on_file-me-inside.ensures in
+    ap (λ (es : List Entry). seen_made c.fd_commit-made.result c.me.inside.seen (length es)) (sym c.entries.ensures) ∙ sym c.seen_on_file-me-inside.ensures in
     subst (λ (x : Knows × Knows). IfOk c.fd_commit-made.result (λ a. Gains g.N.Shape.limit c.args.call x.0 a x.1))
     (λ i. (c.me.view_is i, knows c.me.inside.number (part_in (sym c.give_client.ensures.pass i)) (seen i) (doing_in (sym c.give_client.ensures.pass i))))
     (direct_gains c.self.inside.journal c.fd_commit-made.new.self c.me.inside.number c.me.inside.seen g.N.Shape.limit _ _ c.args.call (FdCommit c.me.inside.number c.args.call) c.fd_commit-made.result (record { mine = refl; asks = refl; idle = refl; other = λ e. cc e }) c.self.invariant.within c.self.invariant.limit_is k c.fd_commit-made.ensures.does)
@@ -51,7 +51,7 @@ returns-clause-still g c =
     let known = c.take_client.ensures in
     let k : IsClient c.self.inside.journal c.me.inside.number (part_in c.me.inside.pass) c.me.inside.seen (doing_in c.me.inside.pass) = record { there = known.there; few = known.few; part_is = known.part; low = known.seen; doing_is = known.doing } in
     let seen : seen_made c.fd_commit-made.result c.me.inside.seen (length c.fd_commit-made.new.self.world.history) ≡ c.seen_on_file-me-inside.result =
-        ap (λ (es : List Entry). seen_made c.fd_commit-made.result c.me.inside.seen (length es)) (sym c.entries.ensures) ∙ sym c.seen_on_file-me-inside.ensures in
+    ap (λ (es : List Entry). seen_made c.fd_commit-made.result c.me.inside.seen (length es)) (sym c.entries.ensures) ∙ sym c.seen_on_file-me-inside.ensures in
     subst (λ (x : Knows × Knows). OnErr c.fd_commit-made.result (x.1 ≡ x.0))
     (λ i. (c.me.view_is i, knows c.me.inside.number (part_in (sym c.give_client.ensures.pass i)) (seen i) (doing_in (sym c.give_client.ensures.pass i))))
     (direct_still c.self.inside.journal c.fd_commit-made.new.self c.me.inside.number c.me.inside.seen _ _ c.fd_commit-made.result k (when_err c.fd_commit-made.result (λ e. e.0) c.fd_commit-made.ensures.same))

@@ -40,7 +40,7 @@ returns-clause-mine g c =
     let known = c.take_client.ensures in
     let k : IsClient c.self.inside.journal c.me.inside.number (part_in c.me.inside.pass) c.me.inside.seen (doing_in c.me.inside.pass) = record { there = known.there; few = known.few; part_is = known.part; low = known.seen; doing_is = known.doing } in
     let seen : seen_of c.leave_by_1-left.result c.me.inside.seen (length c.leave_by_1-left.new.journal.world.history) ≡ c.seen_after-me-inside.result =
-        ap (λ (es : List Entry). seen_of c.leave_by_1-left.result c.me.inside.seen (length es)) (sym c.entries.ensures) ∙ sym c.seen_after-me-inside.ensures in
+    ap (λ (es : List Entry). seen_of c.leave_by_1-left.result c.me.inside.seen (length es)) (sym c.entries.ensures) ∙ sym c.seen_after-me-inside.ensures in
     subst (λ (x : Knows × Knows). Goes g.N.Shape.limit x.0 c.leave_by_1-left.result x.1)
     (λ i. (c.me.view_is i, knows c.me.inside.number (part_in (sym c.give_client.ensures.pass i)) (seen i) (doing_in (sym c.give_client.ensures.pass i))))
     (left_goes c.args.leaving c.self.inside.journal c.leave_by_1-left.new.journal c.me.inside.number c.me.inside.seen g.N.Shape.limit _ _ c.leave_by_1-left.result c.self.invariant.sound c.self.invariant.within c.self.invariant.limit_is k c.leave_by_1-left.ensures.leaves)
