@@ -9,6 +9,7 @@ mod hand;
 mod leave;
 mod left;
 mod locked;
+mod look;
 mod rider;
 mod shape;
 mod walk;
