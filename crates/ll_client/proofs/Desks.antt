@@ -1,0 +1,234 @@
+-- What lies behind the journal's lock after a step, and what the step's client gains.
+use Rattle.std.specs.Prelude.{◌≡◌, ◌≢◌, ◌⊎◌, ℕ, ◌+◌, ◌<◌, ◌≤◌, ◌==◌, Bool, true, false, cond, List, [], ◌∷◌, ◌++◌}
+use Rattle.std.specs.Prelude.{length, Option, Some, None, Result, Ok, Err, OnOk, OnErr, refl}
+use Rattle.std.specs.Ordering.{nat_cmp}
+use Rattle.std.proofs.Common.{sym, subst, ap, ◌∙◌, inl, inr, arith}
+use Rattle.std.proofs.lemmas.List.{append-nil, length-append}
+use Rattle.std.proofs.lemmas.Bool.{leb-false, leb-true, ne_eqb, eq-eqb}
+use Rattle.ll_rights.specs.declared.limits.TheConstants.{TREE_CLIENTS, TREE_NODES}
+use Rattle.ll_rights.specs.declared.errno.Errno.TheVariants.{HistoryFull}
+use Rattle.ll_rights.specs.Map.{Map, get, has}
+use Rattle.ll_seq.specs.declared.call.Call.{Call}
+use Rattle.ll_seq.specs.declared.reply.Entry.{Entry}
+use Rattle.ll_seq.specs.declared.reply.Reply.{Reply}
+use Rattle.ll_seq.specs.declared.reply.Reply.TheVariants as replies
+use Rattle.ll_walks.specs.declared.step.Step.{Step}
+use Rattle.ll_walks.specs.declared.step.Step.TheVariants.{Join, Begin, Descend, Fork, Commit, Restart, FdCommit}
+use Rattle.ll_walks.specs.declared.step.Step.TheVariants.{ClientStep}
+use Rattle.ll_walks.specs.World.{World, Outcome, NotNow, Begun, Stands, Forked, Restarted, Replied, Joined, shown}
+use Rattle.ll_walks.specs.World.{is_full, next_number, reply_to, advance, without_walk}
+use Rattle.ll_walks.specs.Sound.{IsSound}
+use Rattle.ll_walks.proofs.SoundSteps.{sound_kept}
+use Rattle.ll_journal.specs.Book.{Book, Spares}
+use Rattle.ll_journal.specs.Steps.{Does}
+use Rattle.ll_journal.specs.declared.outcome.Outcome as told
+use Rattle.ll_journal.specs.declared.outcome.Outcome.TheVariants as tells
+use Rattle.ll_client.specs.declared.account.Account.{Account}
+use Rattle.ll_client.specs.declared.account.Numbered.{Numbered}
+use Rattle.ll_client.specs.Entries.{AreAccounts, IsDesk, Knows, doing_of, knows, numbered, part_from, part_of}
+use Rattle.ll_client.proofs.Accounts.{IsClient, Moved}
+use Rattle.ll_client.proofs.Walked.{Grown, Went, asked, client_in, clients_none, clients_one, doing_after, entry_of}
+use Rattle.ll_client.proofs.Walked.{never_full, went}
+
+-- ---- parts of a history that is one entry longer
+
+cond_append : (b : Bool) (x : Numbered) (xs ys : List Numbered)
+    → cond b (x ∷ xs) xs ++ ys ≡ cond b (x ∷ (xs ++ ys)) (xs ++ ys)
+cond_append true x xs ys = refl
+cond_append false x xs ys = refl
+
+part_push : (n c : ℕ) (es : List Entry) (e : Entry)
+    → part_from n c (es ++ e ∷ []) ≡ part_from n c es
+    ++ cond (e.client == c) (numbered (n + length es + 1) e.call e.reply ∷ []) []
+part_push n c [] e = let m : n + 1 ≡ n + 0 + 1 = omega arith in
+    ap (λ (k : ℕ). cond (e.client == c) (numbered k e.call e.reply ∷ []) []) m
+part_push n c (x ∷ es) e =
+    let m : n + 1 + length es + 1 ≡ n + length (x ∷ es) + 1 = omega arith in
+    let last : List Numbered = cond (e.client == c) (numbered (n + 1 + length es + 1) e.call e.reply ∷ []) [] in
+    ap (λ (r : List Numbered). cond (x.client == c) (numbered (n + 1) x.call x.reply ∷ r) r) (part_push (n + 1) c es e)
+    ∙ sym (cond_append (x.client == c) (numbered (n + 1) x.call x.reply) (part_from (n + 1) c es) last)
+    ∙ ap (λ (k : ℕ). cond (x.client == c) (numbered (n + 1) x.call x.reply ∷ part_from (n + 1) c es)
+    (part_from (n + 1) c es)
+    ++ cond (e.client == c) (numbered k e.call e.reply ∷ []) []) m
+
+pub part_mine : (es : List Entry) (e : Entry)
+    → part_from 0 e.client (es ++ e ∷ []) ≡ part_from 0 e.client es ++ numbered (length es + 1) e.call e.reply ∷ []
+part_mine es e =
+    part_push 0 e.client es e
+    ∙ (let m : 0 + length es + 1 ≡ length es + 1 = omega arith in
+    λ i. part_from 0 e.client es ++ cond (eq-eqb e.client e.client refl i) (numbered (m i) e.call e.reply ∷ []) [])
+
+pub part_other : (es : List Entry) (e : Entry) (c : ℕ) → e.client ≢ c → part_from 0 c (es ++ e ∷ []) ≡ part_from 0 c es
+part_other es e c apart =
+    part_push 0 c es e ∙ ap (λ (b : Bool). part_from 0 c es
+    ++ cond b (numbered (0 + length es + 1) e.call e.reply ∷ []) []) (ne_eqb e.client c apart)
+    ∙ append-nil (part_from 0 c es)
+
+-- ---- a step, by what it adds
+
+module _ (w v : World) (c : ℕ) (doing : Option Call) where
+  pub moved_none : Grown w v c doing [] → Moved w v c
+  moved_none g =
+      let same : v.history ≡ w.history = g.came ∙ append-nil w.history in
+      record {
+        parts = λ d other. ap (part_from 0 d) same;
+        doing = g.others;
+        long = (let n = ap length same in omega (arith, n));
+        clients = clients_none w v c doing g;
+      }
+
+  pub moved_one : (call : Call) (reply : Reply) → reply ≡ reply_to w c call
+      → Grown w v c doing (entry_of c call reply ∷ []) → Moved w v c
+  moved_one call reply is g =
+      let e = entry_of c call reply in
+      record {
+        parts = λ d other. ap (part_from 0 d) g.came ∙ part_other w.history e d (λ s. other (sym s));
+        doing = g.others;
+        long = (let n = ap length g.came in let m = length-append w.history (e ∷ []) in omega (arith, n, m));
+        clients = clients_one w v c c doing call reply is g;
+      }
+
+same_moved : (w v : World) (c : ℕ) → v ≡ w → Moved w v c
+same_moved w v c e = subst (λ (u : World). Moved w u c) (sym e)
+    (record { parts = λ d other. refl; doing = λ d other. refl; long = omega arith; clients = λ d h. h })
+
+-- nothing else of the tree changes its limit
+pub record Steps (b b' : Book) (c : ℕ) : Type 0 where
+  pub moved : Moved b.world b'.world c
+  pub sound : IsSound b'.world
+  pub within : length b'.world.history ≤ b'.world.limit
+
+none_fits : (w v : World) → length w.history ≤ w.limit → v.limit ≡ w.limit → v.history ≡ w.history ++ []
+    → length v.history ≤ v.limit
+none_fits w v h limit came = subst (λ n. length v.history ≤ n) (sym limit)
+    (subst (λ es. length es ≤ w.limit) (sym (came ∙ append-nil w.history)) h)
+
+one_fits : (w v : World) (e : Entry) → is_full w ≡ false → v.limit ≡ w.limit → v.history ≡ w.history ++ e ∷ []
+    → length v.history ≤ v.limit
+one_fits w v e room limit came =
+    let few : length w.history < w.limit = leb-false w.limit (length w.history) room in
+    let size : length v.history ≡ length w.history + 1 = ap length came ∙ length-append w.history (e ∷ []) in
+    subst (λ n. length v.history ≤ n) (sym limit) (omega arith)
+
+abbrev Fits : World → Type 0
+Fits v = length v.history ≤ v.limit
+
+moved_fits : (w : World) (s : Step) (p : Outcome × World) → Fits w → Went w s p → Moved w p.1 (client_in w s) × Fits p.1
+moved_fits w s (NotNow, v) h g = (same_moved w v (client_in w s) g, subst Fits (sym g) h)
+moved_fits w s (Begun, v) h g = (moved_none w v _ _ g, none_fits w v h g.limit g.came)
+moved_fits w s (Stands inode, v) h g = (moved_none w v _ _ g, none_fits w v h g.limit g.came)
+moved_fits w s (Forked, v) h g = (moved_none w v _ _ g, none_fits w v h g.limit g.came)
+moved_fits w s (Restarted, v) h g = (moved_none w v _ _ g, none_fits w v h g.limit g.came)
+moved_fits w s (Replied reply, v) h (inl g) = (moved_none w v _ _ g.1, none_fits w v h g.1.limit g.1.came)
+moved_fits w s (Replied reply, v) h (inr (inl g)) = (same_moved w v (client_in w s) g.1, subst Fits (sym g.1) h)
+moved_fits w s (Replied reply, v) h (inr (inr g)) =
+    (moved_one w v _ _ g.1 reply g.3 g.4, one_fits w v _ g.0 g.4.limit g.4.came)
+moved_fits w s (Joined number, v) h g = (
+  subst (λ n. Moved w v n) g.1 (moved_one w v number _ _ replies.Done g.2 g.3),
+  one_fits w v _ g.0 g.3.limit g.3.came,
+)
+
+pub stepped : (b b' : Book) (s : Step) (p : Outcome) → IsSound b.world → length b.world.history ≤ b.world.limit
+    → advance b.world s ≡ (p, b'.world) → Steps b b' (client_in b.world s)
+stepped b b' s p h fits e =
+    let m = subst (λ (q : Outcome × World). Moved b.world q.1 (client_in b.world s) × Fits q.1) e
+    (moved_fits b.world s (advance b.world s) fits (went b.world s)) in
+    record {
+      moved = m.0;
+      sound = subst (λ (q : Outcome × World). IsSound q.1) e (sound_kept b.world s h);
+      within = m.1;
+    }
+
+pub stood : (b b' : Book) (c : ℕ) → IsSound b.world → length b.world.history ≤ b.world.limit → b' ≡ b → Steps b b' c
+stood b b' c h fits e = subst (λ (x : Book). Steps b x c) (sym e)
+    (record { moved = same_moved b.world b.world c refl; sound = h; within = fits })
+
+-- ---- steps of a walk that goes on: its client knows what it knew
+
+pub record GoesOn (b b' : Book) (c : ℕ) : Type 0 where
+  pub steps : Steps b b' c
+  pub history : b'.world.history ≡ b.world.history
+  pub doing : doing_of b'.world c ≡ doing_of b.world c
+
+same_goes : (b b' : Book) (c : ℕ) → IsSound b.world → length b.world.history ≤ b.world.limit → b' ≡ b → GoesOn b b' c
+same_goes b b' c h fits e =
+    record {
+      steps = stood b b' c h fits e;
+      history = ap (λ (x : Book). x.world.history) e;
+      doing = ap (λ (x : Book). doing_of x.world c) e;
+    }
+
+grown_goes : (b b' : Book) (s : Step) (p : Outcome) → IsSound b.world → length b.world.history ≤ b.world.limit
+    → advance b.world s ≡ (p, b'.world)
+    → doing_after b.world s ≡ doing_of b.world (client_in b.world s)
+    → Grown b.world b'.world (client_in b.world s) (doing_after b.world s) [] → GoesOn b b' (client_in b.world s)
+grown_goes b b' s p h fits e after g =
+    record { steps = stepped b b' s p h fits e; history = g.came ∙ append-nil b.world.history; doing = g.mine ∙ after }
+
+not_now : (b b' : Book) (s : Step) → IsSound b.world → length b.world.history ≤ b.world.limit
+    → advance b.world s ≡ (NotNow, b'.world) → GoesOn b b' (client_in b.world s)
+not_now b b' s h fits e =
+    let same : b'.world ≡ b.world = subst (Went b.world s) e (went b.world s) in
+    record {
+      steps = stepped b b' s NotNow h fits e;
+      history = ap (λ (x : World). x.history) same;
+      doing = ap (λ (x : World). doing_of x (client_in b.world s)) same;
+    }
+
+pub does_goes : (b b' : Book) (s : Step) (o : told.Outcome) → IsSound b.world → length b.world.history ≤ b.world.limit
+    → doing_after b.world s ≡ doing_of b.world (client_in b.world s) → Does b s o b' → GoesOn b b' (client_in b.world s)
+does_goes b b' s tells.NotNow h fits after d = not_now b b' s h fits d
+does_goes b b' s tells.Astray h fits after d = same_goes b b' (client_in b.world s) h fits d
+does_goes b b' s (tells.Stands inode) h fits after d =
+    grown_goes b b' s (Stands inode) h fits d after (subst (Went b.world s) d (went b.world s))
+does_goes b b' s tells.Forked h fits after d =
+    grown_goes b b' s Forked h fits d after (subst (Went b.world s) d (went b.world s))
+does_goes b b' s tells.Restarted h fits after d =
+    grown_goes b b' s Restarted h fits d after (subst (Went b.world s) d (went b.world s))
+
+-- the client is as it was
+pub knows_same : (b b' : Book) (c seen : ℕ) (part : List Numbered) (doing : Option Call) → GoesOn b b' c
+    → part ≡ part_of b.world c → doing ≡ doing_of b.world c
+    → knows c (part_of b'.world c) seen (doing_of b'.world c) ≡ knows c part seen doing
+knows_same b b' c seen part doing g part_is doing_is =
+    λ i. knows c ((ap (part_from 0 c) g.history ∙ sym part_is) i) seen ((g.doing ∙ sym doing_is) i)
+
+-- ---- the desk after a step
+
+pub desk_kept : (slots limit : ℕ) (b b' : Book) (c : ℕ) (ks : List ℕ) (m n : Map nat_cmp Account)
+    → IsDesk slots limit b m → Steps b b' c → Spares b b' ks → AreAccounts b' n
+    → IsDesk slots limit b' n
+desk_kept slots limit b b' c ks m n d s p all = record {
+  accounts = all;
+  sound = s.sound;
+  within = s.within;
+  limit_is = p.limit ∙ d.limit_is;
+  slots_are = p.size ∙ d.slots_are;
+  few = subst (λ k. k ≤ TREE_NODES + TREE_CLIENTS) (sym p.size) d.few;
+}
+
+-- ---- a walk that begins
+
+pub begin_steps : (b b' : Book) (c : ℕ) (call : Call) (r : Result (Unit {0}) Call) → IsSound b.world
+    → length b.world.history ≤ b.world.limit
+    → OnOk r (advance b.world (Begin c call) ≡ (Begun, b'.world)) → OnErr r (b' ≡ b) → Steps b b' c
+begin_steps b b' c call (Ok o) h fits begun same = stepped b b' (Begin c call) Begun h fits begun
+begin_steps b b' c call (Err e) h fits begun same = stood b b' c h fits same
+
+pub begin_mine : (b b' : Book) (c seen : ℕ) (part : List Numbered) (doing : Option Call) (call : Call)
+    (r : Result (Unit {0}) Call) → part ≡ part_of b.world c
+    → OnOk r (advance b.world (Begin c call) ≡ (Begun, b'.world))
+    → OnOk r (knows c (part_of b'.world c) seen (doing_of b'.world c)
+    ≡ record (knows c part seen doing) { doing = Some call })
+begin_mine b b' c seen part doing call (Err e) is begun = tt
+begin_mine b b' c seen part doing call (Ok o) is begun =
+    let g = subst (Went b.world (Begin c call)) begun (went b.world (Begin c call)) in
+    λ i. knows c ((ap (part_from 0 c) (g.came ∙ append-nil b.world.history) ∙ sym is) i) seen (g.mine i)
+
+pub begin_still : (b b' : Book) (c seen : ℕ) (part : List Numbered) (doing : Option Call) (r : Result (Unit {0}) Call)
+    → part ≡ part_of b.world c → doing ≡ doing_of b.world c
+    → OnErr r (b' ≡ b) → OnErr r (knows c (part_of b'.world c) seen (doing_of b'.world c) ≡ knows c part seen doing)
+begin_still b b' c seen part doing (Ok o) is did same = tt
+begin_still b b' c seen part doing (Err e) is did same =
+    λ i. knows c ((ap (λ (x : Book). part_of x.world c) same ∙ sym is) i) seen
+    ((ap (λ (x : Book). doing_of x.world c) same ∙ sym did) i)

@@ -1,0 +1,224 @@
+-- What comes of a walk that is left: of the tree, and of its client.
+use Rattle.std.specs.Prelude.{◌≡◌, ◌≢◌, ◌⊎◌, ℕ, ◌+◌, ◌<◌, ◌≤◌, Bool, true, false, cond, List, [], ◌∷◌, ◌++◌, length}
+use Rattle.std.specs.Prelude.{Option, Some, None, nat_le, unwrap_or, option_map, option_and_then, refl}
+use Rattle.std.specs.Cmp.{nat_cmp_total}
+use Rattle.std.specs.FinMap.{nat_cmp-IsAntisymmetric}
+use Rattle.std.proofs.Common.{sym, subst, ap, ◌∙◌, inl, inr, arith}
+use Rattle.std.proofs.lemmas.List.{append-nil, length-append}
+use Rattle.std.proofs.lemmas.Bool.{leb-true}
+use Rattle.ll_rights.specs.declared.errno.Errno.TheVariants.{HistoryFull}
+use Rattle.ll_rights.specs.Map.{get, remove}
+use Rattle.ll_rights.proofs.Maps.{get-remove_other}
+use Rattle.ll_seq.specs.declared.call.Call.{Call}
+use Rattle.ll_seq.specs.declared.reply.Reply.{Reply}
+use Rattle.ll_seq.specs.declared.reply.Reply.TheVariants.{Refused}
+use Rattle.ll_walks.specs.declared.step.Step.{Step}
+use Rattle.ll_walks.specs.declared.step.Step.TheVariants as steps
+use Rattle.ll_walks.specs.Walk.{Walk}
+use Rattle.ll_walks.specs.World as world
+use Rattle.ll_walks.specs.World.{World, advance, is_full, restart, shown, without_walk, next_number, reply_to}
+use Rattle.ll_walks.specs.Sound.{IsSound}
+use Rattle.ll_walks.proofs.Shapes.{walking, restarted}
+use Rattle.ll_journal.specs.Book.{Book}
+use Rattle.ll_journal.specs.Steps.{Does}
+use Rattle.ll_journal.specs.WalkEnds.{Ends}
+use Rattle.ll_journal.specs.declared.outcome.Ending.{Ending}
+use Rattle.ll_journal.specs.declared.outcome.Ending.TheVariants as ending
+use Rattle.ll_journal.specs.declared.outcome.Outcome as told
+use Rattle.ll_journal.specs.declared.outcome.Outcome.TheVariants as tells
+use Rattle.ll_journal.proofs.Ended.{gives_up}
+use Rattle.ll_client.specs.declared.account.Numbered.{Numbered}
+use Rattle.ll_client.specs.declared.left.Leaving.{Leaving}
+use Rattle.ll_client.specs.declared.left.Leaving.TheVariants.{Commit, Restart}
+use Rattle.ll_client.specs.declared.left.Left.{Left}
+use Rattle.ll_client.specs.declared.left.Left.TheVariants as left
+use Rattle.ll_client.specs.Entries.{Knows, doing_of, knows, numbered, part_of, part_from}
+use Rattle.ll_client.specs.Gains.{Goes, Leaves, Told}
+use Rattle.ll_client.specs.Hands.{ended_as, restarted_as, seen_of}
+use Rattle.ll_client.proofs.Accounts.{IsClient, Moved}
+use Rattle.ll_client.proofs.Walked.{Grown, Went, asked, client_in, doing_after, entry_of, never_full, gone, went}
+use Rattle.ll_client.proofs.Desks.{GoesOn, Steps, does_goes, knows_same, part_mine, stepped, stood}
+
+-- ---- what the journal tells
+
+pub leaves_ended : (b b' : Book) (c : ℕ) (e : Ending) → Ends b c e b' → Leaves Commit b c (ended_as e) b'
+leaves_ended b b' c ending.NotNow d = d
+leaves_ended b b' c ending.Astray d = d
+leaves_ended b b' c (ending.Replied reply) d = d
+leaves_ended b b' c ending.HistoryFull d = d
+leaves_ended b b' c ending.NoMemory d = d
+
+pub astray_ended : (e : Ending) → ended_as e ≡ left.Astray → e ≡ ending.Astray
+astray_ended ending.NotNow f = absurd (cc f)
+astray_ended ending.Astray f = refl
+astray_ended (ending.Replied reply) f = absurd (cc f)
+astray_ended ending.HistoryFull f = absurd (cc f)
+astray_ended ending.NoMemory f = absurd (cc f)
+
+-- a restart neither stands nor forks
+abbrev may_restart : world.Outcome → Bool
+may_restart world.NotNow = true
+may_restart world.Restarted = true
+may_restart _ = false
+
+restarts : (w : World) (c : ℕ) → may_restart (advance w (steps.Restart c)).0 ≡ true
+restarts w c = by (get w.walks c)
+  where
+    tells_of : Option (world.Outcome × World) → world.Outcome
+    tells_of o = let r : world.Outcome × World = unwrap_or o (world.NotNow, w) in r.0
+
+    on : (walk : Walk) (b : Bool)
+        → may_restart (tells_of (cond b (Some (world.Restarted, restarted w c walk)) None)) ≡ true
+    on walk true = refl
+    on walk false = refl
+
+    by : (o : Option Walk) → may_restart (tells_of (option_and_then (restart w c) o)) ≡ true
+    by None = refl
+    by (Some walk) = on walk walk.stale
+
+no_other : (w v : World) (c : ℕ) (o : world.Outcome) → advance w (steps.Restart c) ≡ (o, v) → may_restart o ≡ false → ⊥
+no_other w v c o e f = cc (sym (restarts w c) ∙ ap (λ (p : world.Outcome × World). may_restart p.0) e ∙ f)
+
+pub leaves_restarted : (b b' : Book) (c : ℕ) (o : told.Outcome) → Does b (steps.Restart c) o b'
+    → Leaves Restart b c (restarted_as o) b'
+leaves_restarted b b' c tells.NotNow d = d
+leaves_restarted b b' c tells.Astray d = d
+leaves_restarted b b' c tells.Restarted d = d
+leaves_restarted b b' c (tells.Stands inode) d = absurd (no_other b.world b'.world c (world.Stands inode) d refl)
+leaves_restarted b b' c tells.Forked d = absurd (no_other b.world b'.world c world.Forked d refl)
+
+pub astray_restarted : (o : told.Outcome) → restarted_as o ≡ left.Astray → o ≡ tells.Astray
+astray_restarted tells.NotNow f = absurd (cc f)
+astray_restarted tells.Astray f = refl
+astray_restarted tells.Restarted f = absurd (cc f)
+astray_restarted (tells.Stands inode) f = absurd (cc f)
+astray_restarted tells.Forked f = absurd (cc f)
+
+-- ---- of the tree
+
+abbrev call_in : Option Walk → Option Call
+call_in = option_map (λ (walk : Walk). walk.call)
+
+none_doing : (w : World) (c : ℕ) → doing_of (without_walk w c) c ≡ None
+none_doing w c = ap call_in (gone w.walks c)
+
+given_up : (b b' : Book) (c : ℕ) (walk : Walk) → IsSound b.world → length b.world.history ≤ b.world.limit
+    → get b.world.walks c ≡ Some walk
+    → b'.world ≡ without_walk b.world c → Steps b b' c
+given_up b b' c walk h fits is e = record {
+  moved = subst (λ (v : World). Moved b.world v c) (sym e) (record {
+    parts = λ d other. refl;
+    doing = λ d other. ap call_in (get-remove_other nat_cmp_total nat_cmp-IsAntisymmetric b.world.walks c d other);
+    long = omega arith;
+    clients = λ d there. there;
+  });
+  sound = subst IsSound (sym e) (gives_up b.world c walk h is);
+  within = subst (λ (v : World). length v.history ≤ v.limit) (sym e) fits;
+}
+
+pub left_steps : (how : Leaving) (b b' : Book) (c : ℕ) (l : Left) → IsSound b.world
+    → length b.world.history ≤ b.world.limit → Leaves how b c l b' → Steps b b' c
+left_steps Commit b b' c left.NotNow h fits d = stepped b b' (steps.Commit c) world.NotNow h fits d
+left_steps Commit b b' c left.Astray h fits d = stood b b' c h fits d
+left_steps Commit b b' c (left.Answered reply) h fits d = stepped b b' (steps.Commit c) (world.Replied reply) h fits d.1
+left_steps Commit b b' c left.Again h fits d = absurd d
+left_steps Commit b b' c left.HistoryFull h fits d =
+    stepped b b' (steps.Commit c) (world.Replied (Refused HistoryFull)) h fits d
+left_steps Commit b b' c left.NoMemory h fits d = given_up b b' c d.0.walk h fits d.0.is d.1
+left_steps Restart b b' c left.NotNow h fits d = stepped b b' (steps.Restart c) world.NotNow h fits d
+left_steps Restart b b' c left.Astray h fits d = stood b b' c h fits d
+left_steps Restart b b' c (left.Answered reply) h fits d = absurd d
+left_steps Restart b b' c left.Again h fits d = stepped b b' (steps.Restart c) world.Restarted h fits d
+left_steps Restart b b' c left.HistoryFull h fits d = absurd d
+left_steps Restart b b' c left.NoMemory h fits d = absurd d
+
+-- ---- of the client
+
+-- one entry more
+pub told_one : (b b' : Book) (c seen : ℕ) (part : List Numbered) (doing : Option Call) (call : Call) (reply : Reply)
+    → IsClient b c part seen doing
+    → Grown b.world b'.world c None (entry_of c call reply ∷ [])
+    → Told call reply (knows c part seen doing)
+    (knows c (part_of b'.world c) (length b'.world.history) (doing_of b'.world c))
+told_one b b' c seen part doing call reply k g =
+    let e = entry_of c call reply in
+    let more : length b'.world.history ≡ length b.world.history + 1 =
+    ap length g.came ∙ length-append b.world.history (e ∷ []) in
+    let new : part_of b'.world c ≡ part ++ numbered (length b'.world.history) call reply ∷ [] =
+    ap (part_from 0 c) g.came ∙ part_mine b.world.history e
+    ∙ (λ i. sym k.part_is i ++ numbered (sym more i) call reply ∷ []) in
+    ((let low = k.low in omega (arith, more, low)), λ i. knows c (new i) (length b'.world.history) (g.mine i))
+
+-- the history is full, and stays so
+pub full_is : (w v : World) (c limit : ℕ) (doing : Option Call) → is_full w ≡ true → length w.history ≤ w.limit
+    → w.limit ≡ limit → Grown w v c doing [] → length v.history ≡ limit
+full_is w v c limit doing full fits is g =
+    let low : w.limit ≤ length w.history = leb-true w.limit (length w.history) full in
+    let same : length v.history ≡ length w.history = ap length (g.came ∙ append-nil w.history) in
+    omega (arith, low, fits, is, same)
+
+-- a reply that only a full history gives
+pub full_grown : (w v : World) (s : Step) → s ≢ steps.Join → Went w s (world.Replied (Refused HistoryFull), v)
+    → (is_full w ≡ true) × Grown w v (client_in w s) (doing_after w s) []
+full_grown w v s other (inl g) = g
+full_grown w v s other (inr (inl g)) = absurd (other g.0)
+full_grown w v s other (inr (inr g)) = absurd (never_full (shown w) (client_in w s) g.1 (next_number w) g.3)
+
+-- with a reply where there is room
+pub room_grown : (w v : World) (s : Step) (reply : Reply) → s ≢ steps.Join → is_full w ≡ false
+    → Went w s (world.Replied reply, v)
+    → (call : Call) × (asked w s ≡ Some call)
+    × Grown w v (client_in w s) (doing_after w s) (entry_of (client_in w s) call reply ∷ [])
+room_grown w v s reply other room (inl g) = absurd (cc (sym g.0 ∙ room))
+room_grown w v s reply other room (inr (inl g)) = absurd (other g.0)
+room_grown w v s reply other room (inr (inr g)) = (g.1, g.2, g.4)
+
+pub left_goes : (how : Leaving) (b b' : Book) (c seen limit : ℕ) (part : List Numbered) (doing : Option Call) (l : Left)
+    → IsSound b.world → length b.world.history ≤ b.world.limit → b.world.limit ≡ limit → IsClient b c part seen doing
+    → Leaves how b c l b'
+    → Goes limit (knows c part seen doing) l
+    (knows c (part_of b'.world c) (seen_of l seen (length b'.world.history)) (doing_of b'.world c))
+left_goes Commit b b' c seen limit part doing left.NotNow h fits is k d =
+    let same : b'.world ≡ b.world = subst (Went b.world (steps.Commit c)) d (went b.world (steps.Commit c)) in
+    λ i. knows c ((ap (λ w. part_of w c) same ∙ sym k.part_is) i) seen
+    ((ap (λ w. doing_of w c) same ∙ sym k.doing_is) i)
+left_goes Commit b b' c seen limit part doing left.Astray h fits is k d =
+    let same : b'.world ≡ b.world = ap (λ (x : Book). x.world) d in
+    λ i. knows c ((ap (λ w. part_of w c) same ∙ sym k.part_is) i) seen
+    ((ap (λ w. doing_of w c) same ∙ sym k.doing_is) i)
+left_goes Commit b b' c seen limit part doing (left.Answered reply) h fits is k d =
+    let g = room_grown b.world b'.world (steps.Commit c) reply (λ e. cc e) d.0
+    (subst (Went b.world (steps.Commit c)) d.1 (went b.world (steps.Commit c))) in
+    (g.0, k.doing_is ∙ g.1, told_one b b' c seen part doing g.0 reply k g.2)
+left_goes Commit b b' c seen limit part doing left.Again h fits is k d = absurd d
+left_goes Commit b b' c seen limit part doing left.HistoryFull h fits is k d =
+    let g = full_grown b.world b'.world (steps.Commit c) (λ e. cc e)
+    (subst (Went b.world (steps.Commit c)) d (went b.world (steps.Commit c))) in
+    let full = full_is b.world b'.world c limit None g.0 fits is g.1 in
+    λ i. knows c ((ap (part_from 0 c) (g.1.came ∙ append-nil b.world.history) ∙ sym k.part_is) i) (full i) (g.1.mine i)
+left_goes Commit b b' c seen limit part doing left.NoMemory h fits is k d =
+    λ i. knows c ((ap (λ (w : World). part_of w c) d.1 ∙ sym k.part_is) i) seen
+    ((ap (λ (w : World). doing_of w c) d.1 ∙ none_doing b.world c) i)
+left_goes Restart b b' c seen limit part doing left.NotNow h fits is k d =
+    let same : b'.world ≡ b.world = subst (Went b.world (steps.Restart c)) d (went b.world (steps.Restart c)) in
+    λ i. knows c ((ap (λ w. part_of w c) same ∙ sym k.part_is) i) seen
+    ((ap (λ w. doing_of w c) same ∙ sym k.doing_is) i)
+left_goes Restart b b' c seen limit part doing left.Astray h fits is k d =
+    let same : b'.world ≡ b.world = ap (λ (x : Book). x.world) d in
+    λ i. knows c ((ap (λ w. part_of w c) same ∙ sym k.part_is) i) seen
+    ((ap (λ w. doing_of w c) same ∙ sym k.doing_is) i)
+left_goes Restart b b' c seen limit part doing (left.Answered reply) h fits is k d = absurd d
+left_goes Restart b b' c seen limit part doing left.Again h fits is k d =
+    knows_same b b' c seen part doing (does_goes b b' (steps.Restart c) tells.Restarted h fits refl d) k.part_is
+    k.doing_is
+left_goes Restart b b' c seen limit part doing left.HistoryFull h fits is k d = absurd d
+left_goes Restart b b' c seen limit part doing left.NoMemory h fits is k d = absurd d
+
+-- what it knows of is there
+pub seen_low : (l : Left) (seen before after : ℕ) → seen ≤ before → before ≤ after → seen_of l seen after ≤ after
+seen_low left.NotNow seen before after low long = omega (arith, low, long)
+seen_low left.Astray seen before after low long = omega (arith, low, long)
+seen_low (left.Answered reply) seen before after low long = omega arith
+seen_low left.Again seen before after low long = omega (arith, low, long)
+seen_low left.HistoryFull seen before after low long = omega arith
+seen_low left.NoMemory seen before after low long = omega (arith, low, long)

@@ -1,0 +1,5 @@
+pub mod Accounts
+pub mod Walked
+pub mod Desks
+pub mod Leavings
+pub mod Directs

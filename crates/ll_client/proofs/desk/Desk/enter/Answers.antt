@@ -1,0 +1,44 @@
+use Rattle.std.proofs.Common.{◌≡◌, ℕ, ◌≤◌, ◌∷◌, [], length, Option, None, refl, sym, ap, ◌∙◌, subst, arith}
+use Rattle.std.specs.Prelude.{OnOk, OnErr}
+use Rattle.ll_seq.specs.declared.reply.Entry.{Entry}
+use Rattle.ll_walks.specs.declared.step.Step.TheVariants.{Descend, Fork}
+use Rattle.ll_client.specs.Entries.{Knows, doing_in, knows, part_in}
+use Rattle.ll_client.specs.Gains.{Goes}
+use Rattle.ll_client.specs.Hands.{seen_of}
+use Rattle.ll_client.proofs.Accounts.{IsClient, accounts_kept}
+use Rattle.ll_client.proofs.Desks.{begin_mine, begin_steps, begin_still, desk_kept, does_goes, knows_same}
+use Rattle.ll_client.proofs.Leavings.{left_goes, left_steps, seen_low}
+use Rattle.ll_client.proofs.desk.Desk.enter.Goals as goal
+
+pub put_slot-requires-clause-all : goal.put_slot-requires-clause-all
+put_slot-requires-clause-all g c =
+    let o0 = c.take_slot.ensures.gone.out [] tt in
+    let out = c.take_client.ensures.gone.out (c.root.inside.number ∷ []) o0.0 in
+    accounts_kept c.self.inside.journal c.enter-outcome.new.self c.me.inside.number (c.root.inside.number ∷ [])
+    c.take_client.new.keeper c.enter-outcome.ensures.spares
+    ((does_goes c.self.inside.journal c.enter-outcome.new.self (Descend c.me.inside.number) c.enter-outcome.result
+    c.self.invariant.sound c.self.invariant.within refl c.enter-outcome.ensures.does).steps).moved out
+    c.take_client.ensures.gone.gone c.take_client.ensures.all
+
+pub put_slot-requires-clause-free : goal.put_slot-requires-clause-free
+put_slot-requires-clause-free g c =
+    let o0 = c.take_slot.ensures.gone.out [] tt in
+    let out = c.take_client.ensures.gone.out (c.root.inside.number ∷ []) o0.0 in
+    out.0
+
+pub invariant_of-self : goal.invariant_of-self
+invariant_of-self g c =
+    desk_kept g.N.Shape.slots g.N.Shape.limit c.self.inside.journal c.enter-outcome.new.self c.me.inside.number
+    (c.root.inside.number ∷ []) c.self.inside.keeper c.give_client.new.keeper c.self.invariant
+    ((does_goes c.self.inside.journal c.enter-outcome.new.self (Descend c.me.inside.number) c.enter-outcome.result
+    c.self.invariant.sound c.self.invariant.within refl c.enter-outcome.ensures.does).steps)
+    c.enter-outcome.ensures.spares c.give_client.ensures.all
+
+pub returns-clause-mine : goal.returns-clause-mine
+returns-clause-mine g c =
+    (λ i. knows c.me.inside.number (part_in (c.give_client.ensures.pass i)) c.me.inside.seen
+    (doing_in (c.give_client.ensures.pass i)))
+    ∙ knows_same c.self.inside.journal c.enter-outcome.new.self c.me.inside.number c.me.inside.seen _ _
+    (does_goes c.self.inside.journal c.enter-outcome.new.self (Descend c.me.inside.number) c.enter-outcome.result
+    c.self.invariant.sound c.self.invariant.within refl c.enter-outcome.ensures.does) c.take_client.ensures.part
+    c.take_client.ensures.doing ∙ c.me.view_is

@@ -1,0 +1,58 @@
+-- What becomes of a client by a step, and what a walk's end is. own
+use Rattle.std.specs.Prelude.{◌≡◌, ℕ, ◌<◌, List, [], ◌∷◌, ◌++◌, Some, None}
+use Rattle.ll_seq.specs.declared.call.Call.{Call}
+use Rattle.ll_seq.specs.declared.reply.Reply.{Reply}
+use Rattle.ll_walks.specs.World as world
+use Rattle.ll_walks.specs.World.{advance}
+use Rattle.ll_walks.specs.declared.step.Step.TheVariants as steps
+use Rattle.ll_journal.specs.Book.{Book}
+use Rattle.ll_journal.specs.declared.direct.Made.{Made}
+use Rattle.ll_journal.specs.declared.direct.Made.TheVariants as made
+use Rattle.ll_journal.specs.declared.outcome.Ending.TheVariants as ending
+use Rattle.ll_journal.specs.Steps.{IsAstrayAt}
+use Rattle.ll_journal.specs.WalkEnds.{Ends, IsAstrayAtEnd}
+use Rattle.ll_client.specs.declared.left.Leaving.{Leaving}
+use Rattle.ll_client.specs.declared.left.Leaving.TheVariants.{Commit, Restart}
+use Rattle.ll_client.specs.declared.left.Left.{Left}
+use Rattle.ll_client.specs.declared.left.Left.TheVariants as left
+use Rattle.ll_client.specs.Entries.{Knows, knows, numbered}
+
+-- one entry more, above all that it knew of; no walk of it is under way
+abbrev pub Told : Call → Reply → Knows → Knows → Type 0
+Told call reply k k' =
+    (k.seen < k'.seen) × (k' ≡ knows k.number (k.part ++ numbered k'.seen call reply ∷ []) k'.seen None)
+
+-- by a call of its own that doesn't walk, in a tree whose history may have so many entries
+abbrev pub Gains : ℕ → Call → Knows → Made → Knows → Type 0
+Gains limit call k (made.Replied reply) k' = Told call reply k k'
+Gains limit call k made.HistoryFull k' = k' ≡ record k { seen = limit }
+Gains limit call k made.NoMemory k' = k' ≡ k
+
+-- where its walk is left
+abbrev pub Goes : ℕ → Knows → Left → Knows → Type 0
+Goes limit k left.NotNow k' = k' ≡ k
+Goes limit k left.Astray k' = k' ≡ k
+Goes limit k (left.Answered reply) k' = (call : Call) × (k.doing ≡ Some call) × Told call reply k k'
+Goes limit k left.Again k' = k' ≡ k
+Goes limit k left.HistoryFull k' = k' ≡ record k { seen = limit; doing = None }
+Goes limit k left.NoMemory k' = k' ≡ record k { doing = None }
+
+-- the step, and the world after: a commit ends as the journal says, and a restart is above the root again
+abbrev pub Leaves : Leaving → Book → ℕ → Left → Book → Type 0
+Leaves Commit b number left.NotNow b' = Ends b number ending.NotNow b'
+Leaves Commit b number left.Astray b' = b' ≡ b
+Leaves Commit b number (left.Answered reply) b' = Ends b number (ending.Replied reply) b'
+Leaves Commit b number left.Again b' = ⊥
+Leaves Commit b number left.HistoryFull b' = Ends b number ending.HistoryFull b'
+Leaves Commit b number left.NoMemory b' = Ends b number ending.NoMemory b'
+Leaves Restart b number left.NotNow b' = advance b.world (steps.Restart number) ≡ (world.NotNow, b'.world)
+Leaves Restart b number left.Astray b' = b' ≡ b
+Leaves Restart b number (left.Answered reply) b' = ⊥
+Leaves Restart b number left.Again b' = advance b.world (steps.Restart number) ≡ (world.Restarted, b'.world)
+Leaves Restart b number left.HistoryFull b' = ⊥
+Leaves Restart b number left.NoMemory b' = ⊥
+
+-- the walk is to be left so, and the slots aren't enough
+abbrev pub IsAstray : Leaving → Book → ℕ → List ℕ → Type 0
+IsAstray Commit b number slots = IsAstrayAtEnd b number slots
+IsAstray Restart b number slots = IsAstrayAt b number slots

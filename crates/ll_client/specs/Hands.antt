@@ -1,0 +1,66 @@
+-- What becomes of the entries where passes are taken back and given out. No public contract cites it. own
+use Rattle.std.specs.Prelude.{◌≡◌, ℕ, ◌+◌, ◌*◌, List, [], ◌∷◌, None, ⊤, Result, Ok, Err}
+use Rattle.std.specs.Ordering.{nat_cmp}
+use Rattle.ll_rights.specs.Map.{Map, get}
+use Rattle.ll_inodes.specs.InodeTable.{NotIn}
+use Rattle.ll_journal.specs.declared.direct.Made.{Made}
+use Rattle.ll_journal.specs.declared.direct.Made.TheVariants as made
+use Rattle.ll_journal.specs.declared.outcome.Ending.{Ending}
+use Rattle.ll_journal.specs.declared.outcome.Ending.TheVariants as ending
+use Rattle.ll_journal.specs.declared.outcome.Outcome.{Outcome}
+use Rattle.ll_journal.specs.declared.outcome.Outcome.TheVariants as outcome
+use Rattle.ll_client.specs.declared.account.Account.{Account}
+use Rattle.ll_client.specs.declared.left.Left.{Left}
+use Rattle.ll_client.specs.declared.left.Left.TheVariants as left
+
+-- no slot of this list has an entry
+abbrev pub AllOut : List ℕ → Map nat_cmp Account → Type 0
+AllOut [] m = ⊤
+AllOut (k ∷ ks) m = (get m (2 * k) ≡ None) × AllOut ks m
+
+-- a slot's entry went, so it is none of those that had gone
+pub record SlotGoes (k : ℕ) (m n : Map nat_cmp Account) : Type 0 where
+  pub out : (ks : List ℕ) → AllOut ks m → AllOut (k ∷ ks) n × NotIn k ks
+
+-- a client's entry went
+pub record ClientGoes (c : ℕ) (m n : Map nat_cmp Account) : Type 0 where
+  pub out : (ks : List ℕ) → AllOut ks m → AllOut ks n
+  pub gone : get n (2 * c + 1) ≡ None
+
+-- a slot's entry came
+pub record SlotComes (k c : ℕ) (m n : Map nat_cmp Account) : Type 0 where
+  pub out : (ks : List ℕ) → NotIn k ks → AllOut ks m → AllOut ks n
+  pub client : get m (2 * c + 1) ≡ None → get n (2 * c + 1) ≡ None
+
+-- ---- how a walk is left, by what the journal tells
+
+abbrev pub ended_as : Ending → Left
+ended_as ending.NotNow = left.NotNow
+ended_as ending.Astray = left.Astray
+ended_as (ending.Replied reply) = left.Answered reply
+ended_as ending.HistoryFull = left.HistoryFull
+ended_as ending.NoMemory = left.NoMemory
+
+-- a restart neither stands nor forks
+abbrev pub restarted_as : Outcome → Left
+restarted_as outcome.NotNow = left.NotNow
+restarted_as outcome.Astray = left.Astray
+restarted_as outcome.Restarted = left.Again
+restarted_as (outcome.Stands inode) = left.NotNow
+restarted_as outcome.Forked = left.NotNow
+
+-- the last entry that the client knows of then, where the history is so long
+abbrev pub seen_of : Left → ℕ → ℕ → ℕ
+seen_of (left.Answered reply) seen entries = entries
+seen_of left.HistoryFull seen entries = entries
+seen_of left.NotNow seen entries = seen
+seen_of left.Astray seen entries = seen
+seen_of left.Again seen entries = seen
+seen_of left.NoMemory seen entries = seen
+
+-- the same of a call that doesn't walk
+abbrev pub seen_made : {E : Type 0} → Result Made E → ℕ → ℕ → ℕ
+seen_made (Ok (made.Replied reply)) seen entries = entries
+seen_made (Ok made.HistoryFull) seen entries = entries
+seen_made (Ok made.NoMemory) seen entries = seen
+seen_made (Err back) seen entries = seen

@@ -1,0 +1,3 @@
+pub mod Entries
+pub mod Hands
+pub mod Gains

@@ -1,0 +1,50 @@
+//! What lies behind the journal's lock.
+
+use crate::account::Account;
+use crate::shape::Shape;
+use ll_journal::Journal;
+use ll_tie::Keeper;
+use std::alloc::Global;
+use std::marker::Model;
+
+/// The journal, and the keeper of the accounts whose passes are out. Contracts see it as the journal.
+#[derive(Drop)]
+pub struct Desk<N: Shape> {
+    pub(crate) alloc: Global,
+    pub(crate) journal: Journal,
+    pub(crate) keeper: Keeper<N, Account>,
+}
+
+impl<N: Shape> Model for Desk<N> {
+    ghost use Rattle.ll_journal.specs.Book.{Book};
+    ghost use Rattle.ll_journal.specs.SeatCodes.{coded_book};
+
+    ghost Value = { Book };
+
+    ghost coded = { coded_book };
+
+    ghost use Rattle.ll_client.specs.Entries.{IsDesk};
+
+    ghost view = { λ desk. desk.journal };
+
+    ghost invariant = { λ desk. IsDesk N.slots N.limit desk.journal desk.keeper };
+}
+
+impl<N: Shape> Desk<N> {
+    ghost use Rattle.std.specs.Prelude.{◌≤◌, length};
+    ghost use Rattle.ll_seq.specs.History.{IsLegal};
+    ghost use Rattle.ll_seq.specs.State.{start};
+    ghost use Rattle.ll_walks.specs.Walks.{AreApart, AreFew, AreValid, GateIsHeld};
+
+    /// What holds of it, whatever was done before. Takes no memory.
+    pub fn by_law(&self)
+        ensures legal { IsLegal (start self.now.world.rules self.now.world.room) self.now.world.history }
+        ensures within { length self.now.world.history ≤ self.now.world.limit }
+        ensures valid { AreValid self.now.world }
+        ensures apart { AreApart self.now.world }
+        ensures few { AreFew self.now.world }
+        ensures gate { GateIsHeld self.now.world }
+    {
+        let _journal = &self.journal;
+    }
+}

@@ -1,0 +1,124 @@
+//! A client's calls that don't walk.
+
+ghost use Rattle.std.specs.Prelude.{◌≡◌, [], ◌∷◌, IfOk, IfErr, OnErr};
+ghost use Rattle.ll_client.specs.Hands.{seen_made};
+
+use crate::account::Account;
+use crate::desk::Desk;
+use crate::hand::{give_client, put_slot, take_client, take_slot};
+use crate::locked::Locked;
+use crate::rider::Rider;
+use crate::shape::Shape;
+use ll_journal::{Made, Unmade};
+use ll_seq::Call;
+use ll_tie::Tie;
+
+/// The last entry that the client knows of, where the history is so long.
+fn seen_alone(made: &Result<Made, Call>, seen: u64, entries: u64) -> u64
+    ensures { result ≡ seen_made made.now seen entries }
+{
+    match made {
+        Ok(Made::Replied(_)) => entries,
+        Ok(Made::HistoryFull) => entries,
+        Ok(Made::NoMemory) => seen,
+        Err(_) => seen,
+    }
+}
+
+/// The same of a call on a descriptor.
+fn seen_on_file(made: &Result<Made, Unmade>, seen: u64, entries: u64) -> u64
+    ensures { result ≡ seen_made made.now seen entries }
+{
+    match made {
+        Ok(Made::Replied(_)) => entries,
+        Ok(Made::HistoryFull) => entries,
+        Ok(Made::NoMemory) => seen,
+        Err(_) => seen,
+    }
+}
+
+impl<N: Shape> Desk<N> {
+    ghost use Rattle.ll_journal.specs.Book.{Spares, slot_of};
+    ghost use Rattle.ll_journal.specs.Direct.{Answers, ComesBack};
+    ghost use Rattle.ll_walks.specs.World.{NotNow, advance};
+    ghost use Rattle.ll_walks.specs.declared.step.Step.TheVariants.{ClientStep, FdCommit};
+    ghost use Rattle.ll_client.specs.Gains.{Gains};
+
+    /// The client's call for itself alone is made and answered, or comes back where it is none, or a walk of the client
+    /// is under way. Only ruleset, confine and spawn take memory.
+    pub fn client_step(
+        &mut self,
+        tie: &Tie<N, Account>,
+        me: &mut Rider<N>,
+        call: Call,
+    ) -> Result<Made, Call>
+        ensures does { IfOk result (λ answer. Answers self.old (ClientStep me.old.number call) answer self.new) }
+        ensures not_now { OnErr result
+            (advance self.old.world (ClientStep me.old.number call) ≡ (NotNow, self.old.world)) }
+        ensures back { IfErr result (λ back. back ≡ call) }
+        ensures same { OnErr result (self.new ≡ self.old) }
+        ensures spares { Spares self.old self.new [] }
+        ensures mine { IfOk result (λ answer. Gains N.limit call me.old answer me.new) }
+        ensures still { OnErr result (me.new ≡ me.old) }
+    {
+        let Desk {
+            journal,
+            keeper,
+            ..
+        } = self;
+        let (number, seen) = (me.number, me.seen);
+        take_client(tie, keeper, journal, number, seen, &mut me.pass);
+        let made = journal.client_step(number, call);
+        me.seen = seen_alone(&made, seen, journal.entries().len() as u64);
+        me.pass = give_client(tie, keeper, journal, number, me.seen);
+        made
+    }
+
+    /// The client's call on a descriptor is made and answered, with the slot of that file; or it comes back, as the
+    /// journal's does. Reading and growing a file takes memory; closing takes none.
+    pub fn fd_commit(
+        &mut self,
+        tie: &Tie<N, Account>,
+        me: &mut Rider<N>,
+        call: Call,
+        file: &mut Locked<N>,
+    ) -> Result<Made, Unmade>
+        ensures does { IfOk result (λ answer. Answers self.old (FdCommit me.old.number call) answer self.new) }
+        ensures back { IfErr result (ComesBack self.old me.old.number call file.old.number) }
+        ensures same { OnErr result (self.new ≡ self.old) }
+        ensures before { file.old.held ≡ slot_of self.old file.old.number }
+        ensures after { file.new ≡ record file.old { held = slot_of self.new file.old.number } }
+        ensures spares { Spares self.old self.new (file.old.number ∷ []) }
+        ensures mine { IfOk result (λ answer. Gains N.limit call me.old answer me.new) }
+        ensures still { OnErr result (me.new ≡ me.old) }
+    {
+        let Desk {
+            journal,
+            keeper,
+            ..
+        } = self;
+        let (number, seen) = (me.number, me.seen);
+        take_slot(
+            tie,
+            keeper,
+            journal,
+            file.number,
+            &file.held,
+            &mut file.pass,
+        );
+        take_client(tie, keeper, journal, number, seen, &mut me.pass);
+        let made = journal.fd_commit(number, call, file.number, &mut file.held);
+        me.seen = seen_on_file(&made, seen, journal.entries().len() as u64);
+        put_slot(
+            tie,
+            keeper,
+            journal,
+            file.number,
+            &file.held,
+            &mut file.pass,
+            number,
+        );
+        me.pass = give_client(tie, keeper, journal, number, me.seen);
+        made
+    }
+}

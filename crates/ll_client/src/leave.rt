@@ -1,0 +1,430 @@
+//! A walk is left: its call is answered, or it starts again. There is an act for each number of slots that it is lent.
+
+ghost use Rattle.std.specs.Prelude.{◌≡◌, ℕ, [], ◌∷◌, map};
+ghost use Rattle.ll_inodes.specs.InodeTable.{AreDistinct};
+ghost use Rattle.ll_held.specs.Lent as contents;
+ghost use Rattle.ll_journal.specs.Book.{Spares, slot_of};
+ghost use Rattle.ll_client.specs.Gains.{Goes, IsAstray, Leaves};
+ghost use Rattle.ll_client.specs.Hands.{ended_as, restarted_as, seen_of};
+
+use crate::account::Account;
+use crate::desk::Desk;
+use crate::hand::{give_client, put_slot, take_client, take_slot};
+use crate::left::{Leaving, Left};
+use crate::locked::Locked;
+use crate::rider::Rider;
+use crate::shape::Shape;
+use ll_held::Held;
+use ll_journal::{Ending, Journal, Outcome};
+use ll_node::Slot;
+use ll_rights::Kind;
+use ll_tie::Tie;
+use std::alloc::Global;
+use std::mem;
+
+/// What lies in a vacant slot. Takes no memory.
+fn vacant(alloc: Global) -> Held
+    ensures { result ≡ contents.vacant }
+{
+    Held {
+        inode: 0,
+        node: Slot::new(alloc, Kind::Reg),
+    }
+}
+
+/// The last entry that the client knows of, where the history is so long.
+fn seen_after(left: &Left, seen: u64, entries: u64) -> u64
+    ensures { result ≡ seen_of left.now seen entries }
+{
+    match left {
+        Left::Answered(_) => entries,
+        Left::HistoryFull => entries,
+        Left::NotNow => seen,
+        Left::Astray => seen,
+        Left::Again => seen,
+        Left::NoMemory => seen,
+    }
+}
+
+fn ended(ending: Ending) -> Left
+    ensures { result ≡ ended_as ending }
+{
+    match ending {
+        Ending::NotNow => Left::NotNow,
+        Ending::Astray => Left::Astray,
+        Ending::Replied(reply) => Left::Answered(reply),
+        Ending::HistoryFull => Left::HistoryFull,
+        Ending::NoMemory => Left::NoMemory,
+    }
+}
+
+fn restarted(outcome: Outcome) -> Left
+    ensures { result ≡ restarted_as outcome }
+{
+    match outcome {
+        Outcome::NotNow => Left::NotNow,
+        Outcome::Astray => Left::Astray,
+        Outcome::Restarted => Left::Again,
+        Outcome::Stands(_) => Left::NotNow,
+        Outcome::Forked => Left::NotNow,
+    }
+}
+
+/// With what is lent, which lies in these slots.
+fn leave_with(
+    journal: &mut Journal,
+    client: u64,
+    leaving: Leaving,
+    slots: &[u64],
+    lent: &mut [Held],
+) -> Left
+    requires distinct { AreDistinct slots.now }
+    requires lent { lent.old ≡ map (slot_of journal.old) slots.now }
+    ensures leaves { Leaves leaving journal.old client result journal.new }
+    ensures astray { result ≡ Left.Astray → IsAstray leaving journal.old client slots.now }
+    ensures lent { lent.new ≡ map (slot_of journal.new) slots.now }
+    ensures spares { Spares journal.old journal.new slots.now }
+{
+    match leaving {
+        Leaving::Commit => ended(journal.commit(client, slots, lent)),
+        Leaving::Restart => restarted(journal.restart(client, slots, lent)),
+    }
+}
+
+/// With one slot.
+fn leave_by_1(
+    journal: &mut Journal,
+    alloc: Global,
+    client: u64,
+    leaving: Leaving,
+    j: u64,
+    a: &mut Held,
+) -> Left
+    requires distinct { AreDistinct (j ∷ []) }
+    requires a { a.old ≡ slot_of journal.old j }
+    ensures leaves { Leaves leaving journal.old client result journal.new }
+    ensures astray { result ≡ Left.Astray → IsAstray leaving journal.old client (j ∷ []) }
+    ensures a { a.new ≡ slot_of journal.new j }
+    ensures spares { Spares journal.old journal.new (j ∷ []) }
+{
+    let mut lent = [mem::replace(a, vacant(alloc))];
+    let left = leave_with(journal, client, leaving, &[j], &mut lent);
+    mem::swap(a, &mut lent[0]);
+    left
+}
+
+/// With two slots.
+fn leave_by_2(
+    journal: &mut Journal,
+    alloc: Global,
+    client: u64,
+    leaving: Leaving,
+    j: u64,
+    a: &mut Held,
+    k: u64,
+    b: &mut Held,
+) -> Left
+    requires distinct { AreDistinct (j ∷ k ∷ []) }
+    requires a { a.old ≡ slot_of journal.old j }
+    requires b { b.old ≡ slot_of journal.old k }
+    ensures leaves { Leaves leaving journal.old client result journal.new }
+    ensures astray { result ≡ Left.Astray → IsAstray leaving journal.old client (j ∷ k ∷ []) }
+    ensures a { a.new ≡ slot_of journal.new j }
+    ensures b { b.new ≡ slot_of journal.new k }
+    ensures spares { Spares journal.old journal.new (j ∷ k ∷ []) }
+{
+    let mut lent = [
+        mem::replace(a, vacant(alloc)),
+        mem::replace(b, vacant(alloc)),
+    ];
+    let left = leave_with(journal, client, leaving, &[j, k], &mut lent);
+    mem::swap(a, &mut lent[0]);
+    mem::swap(b, &mut lent[1]);
+    left
+}
+
+/// With three slots.
+fn leave_by_3(
+    journal: &mut Journal,
+    alloc: Global,
+    client: u64,
+    leaving: Leaving,
+    j: u64,
+    a: &mut Held,
+    k: u64,
+    b: &mut Held,
+    l: u64,
+    d: &mut Held,
+) -> Left
+    requires distinct { AreDistinct (j ∷ k ∷ l ∷ []) }
+    requires a { a.old ≡ slot_of journal.old j }
+    requires b { b.old ≡ slot_of journal.old k }
+    requires d { d.old ≡ slot_of journal.old l }
+    ensures leaves { Leaves leaving journal.old client result journal.new }
+    ensures astray { result ≡ Left.Astray → IsAstray leaving journal.old client (j ∷ k ∷ l ∷ []) }
+    ensures a { a.new ≡ slot_of journal.new j }
+    ensures b { b.new ≡ slot_of journal.new k }
+    ensures d { d.new ≡ slot_of journal.new l }
+    ensures spares { Spares journal.old journal.new (j ∷ k ∷ l ∷ []) }
+{
+    let mut lent = [
+        mem::replace(a, vacant(alloc)),
+        mem::replace(b, vacant(alloc)),
+        mem::replace(d, vacant(alloc)),
+    ];
+    let left = leave_with(journal, client, leaving, &[j, k, l], &mut lent);
+    mem::swap(a, &mut lent[0]);
+    mem::swap(b, &mut lent[1]);
+    mem::swap(d, &mut lent[2]);
+    left
+}
+
+/// With four slots.
+fn leave_by_4(
+    journal: &mut Journal,
+    alloc: Global,
+    client: u64,
+    leaving: Leaving,
+    j: u64,
+    a: &mut Held,
+    k: u64,
+    b: &mut Held,
+    l: u64,
+    d: &mut Held,
+    m: u64,
+    e: &mut Held,
+) -> Left
+    requires distinct { AreDistinct (j ∷ k ∷ l ∷ m ∷ []) }
+    requires a { a.old ≡ slot_of journal.old j }
+    requires b { b.old ≡ slot_of journal.old k }
+    requires d { d.old ≡ slot_of journal.old l }
+    requires e { e.old ≡ slot_of journal.old m }
+    ensures leaves { Leaves leaving journal.old client result journal.new }
+    ensures astray { result ≡ Left.Astray → IsAstray leaving journal.old client (j ∷ k ∷ l ∷ m ∷ []) }
+    ensures a { a.new ≡ slot_of journal.new j }
+    ensures b { b.new ≡ slot_of journal.new k }
+    ensures d { d.new ≡ slot_of journal.new l }
+    ensures e { e.new ≡ slot_of journal.new m }
+    ensures spares { Spares journal.old journal.new (j ∷ k ∷ l ∷ m ∷ []) }
+{
+    let mut lent = [
+        mem::replace(a, vacant(alloc)),
+        mem::replace(b, vacant(alloc)),
+        mem::replace(d, vacant(alloc)),
+        mem::replace(e, vacant(alloc)),
+    ];
+    let left = leave_with(journal, client, leaving, &[j, k, l, m], &mut lent);
+    mem::swap(a, &mut lent[0]);
+    mem::swap(b, &mut lent[1]);
+    mem::swap(d, &mut lent[2]);
+    mem::swap(e, &mut lent[3]);
+    left
+}
+
+impl<N: Shape> Desk<N> {
+    /// The client's walk is left, which stands nowhere: no slot is lent. Only calls that add something take memory.
+    pub fn leave_0(&mut self, tie: &Tie<N, Account>, me: &mut Rider<N>, leaving: Leaving) -> Left
+        ensures leaves { Leaves leaving self.old me.old.number result self.new }
+        ensures astray { result ≡ Left.Astray → IsAstray leaving self.old me.old.number [] }
+        ensures spares { Spares self.old self.new [] }
+        ensures mine { Goes N.limit me.old result me.new }
+    {
+        let Desk {
+            journal,
+            keeper,
+            ..
+        } = self;
+        let (number, seen) = (me.number, me.seen);
+        take_client(tie, keeper, journal, number, seen, &mut me.pass);
+        let left = leave_with(journal, number, leaving, &[], &mut []);
+        me.seen = seen_after(&left, seen, journal.entries().len() as u64);
+        me.pass = give_client(tie, keeper, journal, number, me.seen);
+        left
+    }
+
+    /// The same with one slot.
+    pub fn leave_1(
+        &mut self,
+        tie: &Tie<N, Account>,
+        me: &mut Rider<N>,
+        a: &mut Locked<N>,
+        leaving: Leaving,
+    ) -> Left
+        ensures leaves { Leaves leaving self.old me.old.number result self.new }
+        ensures astray { result ≡ Left.Astray → IsAstray leaving self.old me.old.number (a.old.number ∷ []) }
+        ensures a_before { a.old.held ≡ slot_of self.old a.old.number }
+        ensures a_after { a.new ≡ record a.old { held = slot_of self.new a.old.number } }
+        ensures spares { Spares self.old self.new (a.old.number ∷ []) }
+        ensures mine { Goes N.limit me.old result me.new }
+    {
+        let Desk {
+            alloc,
+            journal,
+            keeper,
+        } = self;
+        let (number, seen) = (me.number, me.seen);
+        take_slot(tie, keeper, journal, a.number, &a.held, &mut a.pass);
+        take_client(tie, keeper, journal, number, seen, &mut me.pass);
+        let left = leave_by_1(journal, *alloc, number, leaving, a.number, &mut a.held);
+        me.seen = seen_after(&left, seen, journal.entries().len() as u64);
+        put_slot(tie, keeper, journal, a.number, &a.held, &mut a.pass, number);
+        me.pass = give_client(tie, keeper, journal, number, me.seen);
+        left
+    }
+
+    /// The same with two slots.
+    pub fn leave_2(
+        &mut self,
+        tie: &Tie<N, Account>,
+        me: &mut Rider<N>,
+        a: &mut Locked<N>,
+        b: &mut Locked<N>,
+        leaving: Leaving,
+    ) -> Left
+        ensures leaves { Leaves leaving self.old me.old.number result self.new }
+        ensures astray { result ≡ Left.Astray
+            → IsAstray leaving self.old me.old.number (a.old.number ∷ b.old.number ∷ []) }
+        ensures a_before { a.old.held ≡ slot_of self.old a.old.number }
+        ensures b_before { b.old.held ≡ slot_of self.old b.old.number }
+        ensures a_after { a.new ≡ record a.old { held = slot_of self.new a.old.number } }
+        ensures b_after { b.new ≡ record b.old { held = slot_of self.new b.old.number } }
+        ensures spares { Spares self.old self.new (a.old.number ∷ b.old.number ∷ []) }
+        ensures mine { Goes N.limit me.old result me.new }
+    {
+        let Desk {
+            alloc,
+            journal,
+            keeper,
+        } = self;
+        let (number, seen) = (me.number, me.seen);
+        take_slot(tie, keeper, journal, b.number, &b.held, &mut b.pass);
+        take_slot(tie, keeper, journal, a.number, &a.held, &mut a.pass);
+        take_client(tie, keeper, journal, number, seen, &mut me.pass);
+        let left = leave_by_2(
+            journal,
+            *alloc,
+            number,
+            leaving,
+            a.number,
+            &mut a.held,
+            b.number,
+            &mut b.held,
+        );
+        me.seen = seen_after(&left, seen, journal.entries().len() as u64);
+        put_slot(tie, keeper, journal, a.number, &a.held, &mut a.pass, number);
+        put_slot(tie, keeper, journal, b.number, &b.held, &mut b.pass, number);
+        me.pass = give_client(tie, keeper, journal, number, me.seen);
+        left
+    }
+
+    /// The same with three slots.
+    pub fn leave_3(
+        &mut self,
+        tie: &Tie<N, Account>,
+        me: &mut Rider<N>,
+        a: &mut Locked<N>,
+        b: &mut Locked<N>,
+        d: &mut Locked<N>,
+        leaving: Leaving,
+    ) -> Left
+        ensures leaves { Leaves leaving self.old me.old.number result self.new }
+        ensures astray { result ≡ Left.Astray
+            → IsAstray leaving self.old me.old.number (a.old.number ∷ b.old.number ∷ d.old.number ∷ []) }
+        ensures a_before { a.old.held ≡ slot_of self.old a.old.number }
+        ensures b_before { b.old.held ≡ slot_of self.old b.old.number }
+        ensures d_before { d.old.held ≡ slot_of self.old d.old.number }
+        ensures a_after { a.new ≡ record a.old { held = slot_of self.new a.old.number } }
+        ensures b_after { b.new ≡ record b.old { held = slot_of self.new b.old.number } }
+        ensures d_after { d.new ≡ record d.old { held = slot_of self.new d.old.number } }
+        ensures spares { Spares self.old self.new (a.old.number ∷ b.old.number ∷ d.old.number ∷ []) }
+        ensures mine { Goes N.limit me.old result me.new }
+    {
+        let Desk {
+            alloc,
+            journal,
+            keeper,
+        } = self;
+        let (number, seen) = (me.number, me.seen);
+        take_slot(tie, keeper, journal, d.number, &d.held, &mut d.pass);
+        take_slot(tie, keeper, journal, b.number, &b.held, &mut b.pass);
+        take_slot(tie, keeper, journal, a.number, &a.held, &mut a.pass);
+        take_client(tie, keeper, journal, number, seen, &mut me.pass);
+        let left = leave_by_3(
+            journal,
+            *alloc,
+            number,
+            leaving,
+            a.number,
+            &mut a.held,
+            b.number,
+            &mut b.held,
+            d.number,
+            &mut d.held,
+        );
+        me.seen = seen_after(&left, seen, journal.entries().len() as u64);
+        put_slot(tie, keeper, journal, a.number, &a.held, &mut a.pass, number);
+        put_slot(tie, keeper, journal, b.number, &b.held, &mut b.pass, number);
+        put_slot(tie, keeper, journal, d.number, &d.held, &mut d.pass, number);
+        me.pass = give_client(tie, keeper, journal, number, me.seen);
+        left
+    }
+
+    /// The same with four slots.
+    pub fn leave_4(
+        &mut self,
+        tie: &Tie<N, Account>,
+        me: &mut Rider<N>,
+        a: &mut Locked<N>,
+        b: &mut Locked<N>,
+        d: &mut Locked<N>,
+        e: &mut Locked<N>,
+        leaving: Leaving,
+    ) -> Left
+        ensures leaves { Leaves leaving self.old me.old.number result self.new }
+        ensures astray { result ≡ Left.Astray
+            → IsAstray leaving self.old me.old.number (a.old.number ∷ b.old.number ∷ d.old.number ∷ e.old.number ∷ []) }
+        ensures a_before { a.old.held ≡ slot_of self.old a.old.number }
+        ensures b_before { b.old.held ≡ slot_of self.old b.old.number }
+        ensures d_before { d.old.held ≡ slot_of self.old d.old.number }
+        ensures e_before { e.old.held ≡ slot_of self.old e.old.number }
+        ensures a_after { a.new ≡ record a.old { held = slot_of self.new a.old.number } }
+        ensures b_after { b.new ≡ record b.old { held = slot_of self.new b.old.number } }
+        ensures d_after { d.new ≡ record d.old { held = slot_of self.new d.old.number } }
+        ensures e_after { e.new ≡ record e.old { held = slot_of self.new e.old.number } }
+        ensures spares { Spares self.old self.new (a.old.number ∷ b.old.number ∷ d.old.number ∷ e.old.number ∷ []) }
+        ensures mine { Goes N.limit me.old result me.new }
+    {
+        let Desk {
+            alloc,
+            journal,
+            keeper,
+        } = self;
+        let (number, seen) = (me.number, me.seen);
+        take_slot(tie, keeper, journal, e.number, &e.held, &mut e.pass);
+        take_slot(tie, keeper, journal, d.number, &d.held, &mut d.pass);
+        take_slot(tie, keeper, journal, b.number, &b.held, &mut b.pass);
+        take_slot(tie, keeper, journal, a.number, &a.held, &mut a.pass);
+        take_client(tie, keeper, journal, number, seen, &mut me.pass);
+        let left = leave_by_4(
+            journal,
+            *alloc,
+            number,
+            leaving,
+            a.number,
+            &mut a.held,
+            b.number,
+            &mut b.held,
+            d.number,
+            &mut d.held,
+            e.number,
+            &mut e.held,
+        );
+        me.seen = seen_after(&left, seen, journal.entries().len() as u64);
+        put_slot(tie, keeper, journal, a.number, &a.held, &mut a.pass, number);
+        put_slot(tie, keeper, journal, b.number, &b.held, &mut b.pass, number);
+        put_slot(tie, keeper, journal, d.number, &d.held, &mut d.pass, number);
+        put_slot(tie, keeper, journal, e.number, &e.held, &mut e.pass, number);
+        me.pass = give_client(tie, keeper, journal, number, me.seen);
+        left
+    }
+}

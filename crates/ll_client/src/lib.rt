@@ -1,0 +1,23 @@
+//! The tie between the journal's lock, the slots' locks and the clients: who may speak for what.
+#![tactic(auto)]
+
+mod account;
+mod client;
+mod desk;
+mod direct;
+mod hand;
+mod leave;
+mod left;
+mod locked;
+mod look;
+mod rider;
+mod shape;
+mod walk;
+
+pub use account::{Account, Numbered};
+pub use client::Client;
+pub use desk::Desk;
+pub use left::{Leaving, Left};
+pub use locked::Locked;
+pub use rider::Rider;
+pub use shape::Shape;

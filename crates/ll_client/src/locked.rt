@@ -1,0 +1,47 @@
+//! What lies behind a slot's lock.
+
+ghost use Rattle.std.specs.Prelude.{◌≡◌};
+
+use crate::account::Account;
+use crate::shape::Shape;
+use ll_held::Held;
+use ll_tie::Pass;
+use std::marker::Model;
+
+/// What lies in the slot of a number, and the pass that shows this as the slot's account.
+#[derive(Drop)]
+pub struct Locked<N: Shape> {
+    pub(crate) number: u64,
+    pub(crate) held: Held,
+    pub(crate) pass: Pass<N, Account>,
+}
+
+impl<N: Shape> Model for Locked<N> {
+    ghost use Rattle.ll_client.specs.Entries.{Kept, coded_kept, slot_entry};
+
+    ghost Value = { Kept };
+
+    ghost coded = { coded_kept };
+
+    ghost use Rattle.std.specs.Prelude.{◌≡◌, Some};
+
+    ghost view = { λ locked. record { number = locked.number; held = locked.held } };
+
+    ghost invariant = { λ locked. locked.pass ≡ Some (slot_entry locked.number locked.held) };
+}
+
+impl<N: Shape> Locked<N> {
+    /// The number of the slot.
+    pub fn number(&self) -> u64
+        ensures { result ≡ self.now.number }
+    {
+        self.number
+    }
+
+    /// The inode that lies in it, 0 where it is vacant.
+    pub fn inode(&self) -> u64
+        ensures { result ≡ self.now.held.inode }
+    {
+        self.held.inode
+    }
+}

@@ -1,0 +1,167 @@
+//! The steps of a walk, but for its end: each takes back the passes of the client and of the slots that it is lent,
+//! makes one step of the journal, and gives them out again.
+
+ghost use Rattle.std.specs.Prelude.{◌≡◌, ◌≢◌, [], ◌∷◌, Some, IfErr, OnOk, OnErr};
+
+use crate::account::Account;
+use crate::desk::Desk;
+use crate::hand::{give_client, put_slot, take_client, take_slot};
+use crate::locked::Locked;
+use crate::rider::Rider;
+use crate::shape::Shape;
+use ll_journal::Outcome;
+use ll_seq::Call;
+use ll_tie::Tie;
+
+impl<N: Shape> Desk<N> {
+    ghost use Rattle.ll_journal.specs.Book.{Spares, slot_of};
+    ghost use Rattle.ll_journal.specs.Steps.{Does, IsAstrayAtTop, IsAstrayBelow};
+    ghost use Rattle.ll_walks.specs.World.{Begun, NotNow, advance};
+    ghost use Rattle.ll_walks.specs.declared.step.Step.TheVariants.{Begin, Descend, Fork};
+
+    /// The client's call sets out, or comes back where it may not. Takes no memory.
+    pub fn begin(
+        &mut self,
+        tie: &Tie<N, Account>,
+        me: &mut Rider<N>,
+        call: Call,
+    ) -> Result<(), Call>
+        ensures begun { OnOk result (advance self.old.world (Begin me.old.number call) ≡ (Begun, self.new.world)) }
+        ensures not_now { OnErr result (advance self.old.world (Begin me.old.number call) ≡ (NotNow, self.old.world)) }
+        ensures back { IfErr result (λ back. back ≡ call) }
+        ensures same { OnErr result (self.new ≡ self.old) }
+        ensures spares { Spares self.old self.new [] }
+        ensures mine { OnOk result (me.new ≡ record me.old { doing = Some call }) }
+        ensures still { OnErr result (me.new ≡ me.old) }
+    {
+        let Desk {
+            journal,
+            keeper,
+            ..
+        } = self;
+        let (number, seen) = (me.number, me.seen);
+        take_client(tie, keeper, journal, number, seen, &mut me.pass);
+        let begun = journal.begin(number, call);
+        me.pass = give_client(tie, keeper, journal, number, seen);
+        begun
+    }
+
+    /// The client's walk leaves what is common to both paths. Takes no memory and no slot.
+    pub fn fork(&mut self, tie: &Tie<N, Account>, me: &mut Rider<N>) -> Outcome
+        ensures does { Does self.old (Fork me.old.number) result self.new }
+        ensures spares { Spares self.old self.new [] }
+        ensures not_astray { result ≢ Outcome.Astray }
+        ensures mine { me.new ≡ me.old }
+    {
+        let Desk {
+            journal,
+            keeper,
+            ..
+        } = self;
+        let (number, seen) = (me.number, me.seen);
+        take_client(tie, keeper, journal, number, seen, &mut me.pass);
+        let outcome = journal.fork(number);
+        me.pass = give_client(tie, keeper, journal, number, seen);
+        outcome
+    }
+
+    /// The first descent of the client's walk, to the root, for which the root's slot is lent. Takes no memory.
+    pub fn enter(
+        &mut self,
+        tie: &Tie<N, Account>,
+        me: &mut Rider<N>,
+        root: &mut Locked<N>,
+    ) -> Outcome
+        ensures does { Does self.old (Descend me.old.number) result self.new }
+        ensures astray { result ≡ Outcome.Astray → IsAstrayAtTop self.old me.old.number root.old.number }
+        ensures before { root.old.held ≡ slot_of self.old root.old.number }
+        ensures after { root.new ≡ record root.old { held = slot_of self.new root.old.number } }
+        ensures spares { Spares self.old self.new (root.old.number ∷ []) }
+        ensures mine { me.new ≡ me.old }
+    {
+        let Desk {
+            journal,
+            keeper,
+            ..
+        } = self;
+        let (number, seen) = (me.number, me.seen);
+        take_slot(
+            tie,
+            keeper,
+            journal,
+            root.number,
+            &root.held,
+            &mut root.pass,
+        );
+        take_client(tie, keeper, journal, number, seen, &mut me.pass);
+        let outcome = journal.enter(number, root.number, &mut root.held);
+        put_slot(
+            tie,
+            keeper,
+            journal,
+            root.number,
+            &root.held,
+            &mut root.pass,
+            number,
+        );
+        me.pass = give_client(tie, keeper, journal, number, seen);
+        outcome
+    }
+
+    /// A descent of the client's walk: from the directory where its leg in turn stands, to that of the next name.
+    /// Takes no memory.
+    pub fn descend(
+        &mut self,
+        tie: &Tie<N, Account>,
+        me: &mut Rider<N>,
+        from: &mut Locked<N>,
+        to: &mut Locked<N>,
+    ) -> Outcome
+        ensures does { Does self.old (Descend me.old.number) result self.new }
+        ensures astray { result ≡ Outcome.Astray → IsAstrayBelow self.old me.old.number from.old.number to.old.number }
+        ensures from_before { from.old.held ≡ slot_of self.old from.old.number }
+        ensures to_before { to.old.held ≡ slot_of self.old to.old.number }
+        ensures from_after { from.new ≡ record from.old { held = slot_of self.new from.old.number } }
+        ensures to_after { to.new ≡ record to.old { held = slot_of self.new to.old.number } }
+        ensures spares { Spares self.old self.new (from.old.number ∷ to.old.number ∷ []) }
+        ensures mine { me.new ≡ me.old }
+    {
+        let Desk {
+            journal,
+            keeper,
+            ..
+        } = self;
+        let (number, seen) = (me.number, me.seen);
+        take_slot(tie, keeper, journal, to.number, &to.held, &mut to.pass);
+        take_slot(
+            tie,
+            keeper,
+            journal,
+            from.number,
+            &from.held,
+            &mut from.pass,
+        );
+        take_client(tie, keeper, journal, number, seen, &mut me.pass);
+        let outcome = journal.descend(number, from.number, &mut from.held, to.number, &mut to.held);
+        put_slot(
+            tie,
+            keeper,
+            journal,
+            from.number,
+            &from.held,
+            &mut from.pass,
+            number,
+        );
+        put_slot(
+            tie,
+            keeper,
+            journal,
+            to.number,
+            &to.held,
+            &mut to.pass,
+            number,
+        );
+        me.pass = give_client(tie, keeper, journal, number, seen);
+        outcome
+    }
+}
