@@ -19,7 +19,7 @@ use Rattle.ll_walks.specs.Sound.{IsSound}
 use Rattle.ll_walks.proofs.Shapes.{with_entry, with_stale}
 use Rattle.ll_walks.proofs.SoundSteps.{sound_ended}
 use Rattle.ll_walks.proofs.Worlds.{get-map_values}
-use Rattle.ll_journal.specs.declared.seat.Stage.{Stage}
+use Rattle.ll_journal.specs.declared.stage.Stage.{Stage}
 use Rattle.ll_journal.specs.declared.seat.Seat.TheInside.{Inside}
 use Rattle.ll_journal.specs.Book as book
 use Rattle.ll_journal.specs.Kept.{seat_at, walks_from}

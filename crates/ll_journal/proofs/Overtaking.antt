@@ -18,8 +18,8 @@ use Rattle.ll_walks.specs.Walk.{Walk, marks, passes}
 use Rattle.ll_walks.specs.World.{World, is_marked_by_other, map_values, overtaken}
 use Rattle.ll_walks.proofs.Tests as tests
 use Rattle.ll_walks.proofs.Worlds.{found, get-map_values}
-use Rattle.ll_journal.specs.declared.seat.Stage.{Stage}
-use Rattle.ll_journal.specs.declared.seat.Stage.TheVariants.{Above, Down, Split}
+use Rattle.ll_journal.specs.declared.stage.Stage.{Stage}
+use Rattle.ll_journal.specs.declared.stage.Stage.TheVariants.{Above, Down, Split}
 use Rattle.ll_journal.specs.declared.seat.Seat.TheInside.{Inside}
 use Rattle.ll_journal.specs.Book as book
 use Rattle.ll_journal.specs.Kept.{AreSeated, seat_at, walks_from}

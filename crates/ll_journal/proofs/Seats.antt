@@ -12,11 +12,11 @@ use Rattle.ll_seq.specs.State.{Name, root}
 use Rattle.ll_walks.specs.Walk.{Leg, Position, Down, Split, Walk, trunk_path, first_leg, masks_below, turn, with_turn, has_two_paths, forked, toward}
 use Rattle.ll_walks.proofs.CarriedMasks.{masks_above, masks_down}
 use Rattle.ll_walks.proofs.Ways.{common_left, common_right}
-use Rattle.ll_journal.specs.declared.seat.Leg as kept
-use Rattle.ll_journal.specs.declared.seat.Stage.{Stage}
-use Rattle.ll_journal.specs.declared.seat.Stage.TheVariants as stage
-use Rattle.ll_journal.specs.declared.seat.Turn.{Turn}
-use Rattle.ll_journal.specs.declared.seat.Turn.TheVariants as turns
+use Rattle.ll_journal.specs.declared.leg.Leg as kept
+use Rattle.ll_journal.specs.declared.stage.Stage.{Stage}
+use Rattle.ll_journal.specs.declared.stage.Stage.TheVariants as stage
+use Rattle.ll_journal.specs.declared.stage.Turn.{Turn}
+use Rattle.ll_journal.specs.declared.stage.Turn.TheVariants as turns
 use Rattle.ll_journal.specs.declared.seat.Seat.TheInside.{Inside}
 use Rattle.ll_journal.specs.declared.station.Station.TheVariants as station
 use Rattle.ll_journal.specs.Book as book

@@ -11,12 +11,12 @@ use Rattle.ll_seq.specs.Call.{first_path, second_path}
 use Rattle.ll_seq.specs.State.{Name}
 use Rattle.ll_walks.specs.Walk.{Leg, Position, Above, Down, Split, Mask, Walk, rights_where, trunk_path, leg_below, turn, with_turn, at_ends, first_leg, forked}
 use Rattle.ll_walks.specs.Commits.{first_end, second_end}
-use Rattle.ll_journal.specs.declared.seat.Leg as kept
-use Rattle.ll_journal.specs.declared.seat.Legs.{Legs}
-use Rattle.ll_journal.specs.declared.seat.Stage.{Stage}
-use Rattle.ll_journal.specs.declared.seat.Stage.TheVariants as stage
-use Rattle.ll_journal.specs.declared.seat.Turn.{Turn}
-use Rattle.ll_journal.specs.declared.seat.Turn.TheVariants as turns
+use Rattle.ll_journal.specs.declared.leg.Leg as kept
+use Rattle.ll_journal.specs.declared.leg.Legs.{Legs}
+use Rattle.ll_journal.specs.declared.stage.Stage.{Stage}
+use Rattle.ll_journal.specs.declared.stage.Stage.TheVariants as stage
+use Rattle.ll_journal.specs.declared.stage.Turn.{Turn}
+use Rattle.ll_journal.specs.declared.stage.Turn.TheVariants as turns
 use Rattle.ll_journal.specs.declared.seat.Seat.TheInside.{Inside}
 use Rattle.ll_journal.specs.Book as book
 

@@ -16,7 +16,8 @@ ghost use Rattle.ll_journal.specs.Looks as looks;
 
 use crate::ending::is_marked_by_other;
 use crate::found::{blocked, found};
-use crate::seat::{Seat, is_in, is_lent};
+use crate::seat::Seat;
+use crate::standing::{is_in, is_lent};
 use crate::way::has_two_paths;
 use ll_answer::{Found, Spot, Targets, targets_of};
 use ll_held::{Held, find};

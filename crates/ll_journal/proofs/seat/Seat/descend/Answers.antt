@@ -1,6 +1,6 @@
 use Rattle.std.proofs.Common.{ap, sym, subst, ◌∙◌, option_map, IsSome}
 use Rattle.ll_journal.specs.Book as book
-use Rattle.ll_journal.specs.declared.seat.Turn.TheVariants.{Trunk, First, Second}
+use Rattle.ll_journal.specs.declared.stage.Turn.TheVariants.{Trunk, First, Second}
 use Rattle.ll_journal.specs.Seated.{gone_down, next_in}
 use Rattle.ll_journal.proofs.Seats.{room_left, went_down}
 use Rattle.ll_journal.proofs.seat.Seat.descend.Goals as goal

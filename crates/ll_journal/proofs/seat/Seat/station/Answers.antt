@@ -3,7 +3,7 @@ use Rattle.ll_path.specs.Path.{parent}
 use Rattle.ll_seq.specs.Call.{first_path, second_path}
 use Rattle.ll_walks.specs.Walk.{has_two_paths, trunk_path}
 use Rattle.ll_journal.specs.declared.station.Station.TheVariants as station
-use Rattle.ll_journal.specs.declared.seat.Stage.TheVariants as stage
+use Rattle.ll_journal.specs.declared.stage.Stage.TheVariants as stage
 use Rattle.ll_journal.specs.Book as book
 use Rattle.ll_journal.specs.Stations.{station_of}
 use Rattle.ll_journal.specs.Seated.{depth_of}

@@ -2,7 +2,7 @@ use Rattle.std.proofs.Common.{ap, ◌∙◌, Some, None, slice_get}
 use Rattle.ll_path.specs.Path.{parent}
 use Rattle.ll_seq.specs.Call.{first_path}
 use Rattle.ll_journal.proofs.Seats.{turn_found, named, unnamed}
-use Rattle.ll_journal.proofs.seat.turn_of.Goals as goal
+use Rattle.ll_journal.proofs.stage.turn_of.Goals as goal
 
 pub returns-in-Some : goal.returns-in-Some
 returns-in-Some c =
