@@ -20,7 +20,7 @@ use crate::perform::perform;
 use crate::stage::{Stage, Turn, turn_of};
 use crate::station::{Station, split_station, trunk_station};
 use crate::walked::walks;
-use crate::way::{first_name, has_two_paths, know_ways, second_name, trunk_name};
+use crate::way::{first_path, has_two_paths, know_ways, next_name, second_path, trunk_len, way_len};
 use ll_answer::Found;
 use ll_decide::Masks;
 use ll_held::Held;
@@ -198,7 +198,11 @@ impl Seat {
     pub(crate) fn enter(&mut self, alloc: Global)
         ensures { self.new ≡ record self.old { walk = option_map (entered self.old.client.domain) self.old.walk } }
     {
-        self.trunk.start(alloc, &self.client.domain);
+        let Some(call) = &self.call else {
+            return;
+        };
+        let len = trunk_len(call);
+        self.trunk.start(alloc, &self.client.domain, len);
         self.stage = Stage::Down;
     }
 
@@ -207,11 +211,11 @@ impl Seat {
         ensures { option_map (λ name. name.now) result ≡ next_in self.now }
     {
         let call = self.call.as_ref()?;
-        match turn_of(self.stage, call, &self.first) {
+        match turn_of(self.stage, &self.first) {
             Turn::No => None,
-            Turn::Trunk => trunk_name(call, self.trunk.depth()),
-            Turn::First => first_name(call, self.first.depth()),
-            Turn::Second => second_name(call, self.second.depth()),
+            Turn::Trunk => next_name(first_path(call), self.trunk.ahead),
+            Turn::First => next_name(first_path(call), self.first.ahead),
+            Turn::Second => next_name(second_path(call), self.second.ahead),
         }
     }
 
@@ -223,11 +227,12 @@ impl Seat {
         let Some(call) = &self.call else {
             return;
         };
-        match turn_of(self.stage, call, &self.first) {
+        let domain = &self.client.domain;
+        match turn_of(self.stage, &self.first) {
             Turn::No => {}
-            Turn::Trunk => self.trunk.go_down(&self.client.domain, inode),
-            Turn::First => self.first.go_down(&self.client.domain, inode),
-            Turn::Second => self.second.go_down(&self.client.domain, inode),
+            Turn::Trunk => self.trunk.go_down(domain, first_path(call), inode),
+            Turn::First => self.first.go_down(domain, first_path(call), inode),
+            Turn::Second => self.second.go_down(domain, second_path(call), inode),
         }
     }
 
@@ -243,11 +248,8 @@ impl Seat {
         }
         match self.stage {
             Stage::Above => Station::Above,
-            Stage::Down => trunk_station(call, trunk_name(call, self.trunk.depth()).is_none()),
-            Stage::Split => split_station(
-                first_name(call, self.first.depth()).is_none(),
-                second_name(call, self.second.depth()).is_none(),
-            ),
+            Stage::Down => trunk_station(call, self.trunk.is_at_end()),
+            Stage::Split => split_station(self.first.is_at_end(), self.second.is_at_end()),
         }
     }
 
@@ -260,7 +262,7 @@ impl Seat {
         };
         match self.stage {
             Stage::Above => false,
-            Stage::Down => { has_two_paths(call) && trunk_name(call, self.trunk.depth()).is_none() }
+            Stage::Down => has_two_paths(call) && self.trunk.is_at_end(),
             Stage::Split => false,
         }
     }
@@ -270,8 +272,12 @@ impl Seat {
         requires { option_map_or (λ (walk : walks.Walk). is_some (walks.forked walk.call walk.at)) self.old.walk false ≡ true }
         ensures { self.new ≡ record self.old { walk = option_map split self.old.walk } }
     {
-        self.first.follow(&self.trunk);
-        self.second.follow(&self.trunk);
+        let Some(call) = &self.call else {
+            unreachable!()
+        };
+        let (first, second) = (way_len(first_path(call)), way_len(second_path(call)));
+        self.first.follow(&self.trunk, first);
+        self.second.follow(&self.trunk, second);
         self.stage = Stage::Split;
     }
 
@@ -294,11 +300,8 @@ impl Seat {
         };
         match self.stage {
             Stage::Above => false,
-            Stage::Down => !has_two_paths(call) && trunk_name(call, self.trunk.depth()).is_none(),
-            Stage::Split => {
-                first_name(call, self.first.depth()).is_none()
-                    && second_name(call, self.second.depth()).is_none()
-            }
+            Stage::Down => !has_two_paths(call) && self.trunk.is_at_end(),
+            Stage::Split => self.first.is_at_end() && self.second.is_at_end(),
         }
     }
 

@@ -33,8 +33,10 @@ impl Seat {
     pub(crate) fn here(&self) -> Option<u64>
         ensures { result ≡ here_in self.now }
     {
-        let call = self.call.as_ref()?;
-        match turn_of(self.stage, call, &self.first) {
+        if self.call.is_none() {
+            return None;
+        }
+        match turn_of(self.stage, &self.first) {
             Turn::No => None,
             Turn::Trunk => Some(self.trunk.here()),
             Turn::First => Some(self.first.here()),
