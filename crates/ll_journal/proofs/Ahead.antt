@@ -1,5 +1,5 @@
 -- The names ahead of a leg, as they are kept: where the next one begins, and how many names there are.
-use Rattle.std.specs.Prelude.{◌≡◌, ℕ, zero, suc, ◌<◌, ◌≤◌, ◌==◌, true, false, cond, List, [], ◌∷◌, ◌++◌, length, take, drop, Option, Some, None, slice_get, IsSome, refl}
+use Rattle.std.specs.Prelude.{◌≡◌, ℕ, zero, suc, ◌-◌, ◌<◌, ◌≤◌, ◌==◌, true, false, cond, List, [], ◌∷◌, ◌++◌, length, take, drop, Option, Some, None, slice_get, IsSome, refl}
 use Rattle.std.proofs.Common.{sym, subst, ap, ◌∙◌, arith, min, length-append, append_assoc}
 use Rattle.std.proofs.Math.Seq.{drop-length}
 use Rattle.std.proofs.lemmas.Bool.{eqb-true, eqb-false, eq-eqb, ne_eqb}
@@ -21,6 +21,11 @@ pub parent_begins : (p : Path) → (more : Path) × (parent p ++ more ≡ p)
 parent_begins [] = ([], refl)
 parent_begins (x ∷ []) = (x ∷ [], refl)
 parent_begins (x ∷ y ∷ p) = let rest = parent_begins (y ∷ p) in (rest.0, ap (λ (q : Path). x ∷ q) rest.1)
+
+pub length-parent : (p : Path) → length p - 1 ≡ length (parent p)
+length-parent [] = omega arith
+length-parent (x ∷ []) = omega arith
+length-parent (x ∷ y ∷ p) = let rest = length-parent (y ∷ p) in omega arith
 
 -- a place of the way is one of the path
 pub longer : (way more path : Path) (place : Place) → way ++ more ≡ path → IsPlace way place → IsPlace path place

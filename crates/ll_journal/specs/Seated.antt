@@ -64,9 +64,9 @@ seat_of seat = record {
 
 -- What is kept of the names ahead, once so many names of the path are taken: where the next one begins, and how many
 -- the path has
-pub record IsAhead (path : Path) (depth : ℕ) (ahead : Ahead) : Type 0 where
+pub record IsAhead (path : Path) (taken : ℕ) (ahead : Ahead) : Type 0 where
   pub place : IsPlace path ahead.place
-  pub depth : ahead.place.depth ≡ depth
+  pub depth : ahead.place.depth ≡ taken
   pub len : ahead.len ≡ length path
 
 -- a leg that stands somewhere on the path; its masks are those of its chain
