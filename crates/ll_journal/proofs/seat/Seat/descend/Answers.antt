@@ -75,3 +75,36 @@ returns-in-Second c =
     went_down c.self.inside c.in-Some.call c.in-Some.is Second (sym c.in-Second.is ∙ c.turn_of.ensures) c.self.invariant.fit c.self.invariant.short
     (subst (λ (s : book.Seat). IsSome (next_in s)) (sym c.self.view_is) c.requires) c.args.inode c.go_down-in-Second.new.self c.go_down-in-Second.ensures.stands.chain
     ∙ ap (λ (s : book.Seat). record s { walk = option_map (gone_down s.client.domain c.args.inode) s.walk }) c.self.view_is
+
+pub invariant_of-self : goal.invariant_of-self
+invariant_of-self c = record {
+  trunk = c.go_down.ensures.stands.roomy;
+  first = c.self.invariant.first;
+  second = c.self.invariant.second;
+  short = c.self.invariant.short;
+  fit = fit_below c.self.inside c.in-Some.call c.in-Some.is Trunk (sym c.in-Trunk.is ∙ c.turn_of.ensures) c.self.invariant.fit c.self.invariant.short
+    (subst (λ (s : book.Seat). IsSome (next_in s)) (sym c.self.view_is) c.requires) c.args.inode c.go_down.new.self c.go_down.ensures.stands
+      (subst (λ (p : Path). IsPlace p c.go_down.new.self.ahead.place) c.first_path.ensures c.go_down.ensures.place) c.go_down.ensures.depth c.go_down.ensures.len;
+}
+
+pub invariant_of-self-in-First : goal.invariant_of-self-in-First
+invariant_of-self-in-First c = record {
+  trunk = c.self.invariant.trunk;
+  first = c.go_down-in-First.ensures.stands.roomy;
+  second = c.self.invariant.second;
+  short = c.self.invariant.short;
+  fit = fit_below c.self.inside c.in-Some.call c.in-Some.is First (sym c.in-First.is ∙ c.turn_of.ensures) c.self.invariant.fit c.self.invariant.short
+    (subst (λ (s : book.Seat). IsSome (next_in s)) (sym c.self.view_is) c.requires) c.args.inode c.go_down-in-First.new.self c.go_down-in-First.ensures.stands
+      (subst (λ (p : Path). IsPlace p c.go_down-in-First.new.self.ahead.place) c.first_path-in-First.ensures c.go_down-in-First.ensures.place) c.go_down-in-First.ensures.depth c.go_down-in-First.ensures.len;
+}
+
+pub invariant_of-self-in-Second : goal.invariant_of-self-in-Second
+invariant_of-self-in-Second c = record {
+  trunk = c.self.invariant.trunk;
+  first = c.self.invariant.first;
+  second = c.go_down-in-Second.ensures.stands.roomy;
+  short = c.self.invariant.short;
+  fit = fit_below c.self.inside c.in-Some.call c.in-Some.is Second (sym c.in-Second.is ∙ c.turn_of.ensures) c.self.invariant.fit c.self.invariant.short
+    (subst (λ (s : book.Seat). IsSome (next_in s)) (sym c.self.view_is) c.requires) c.args.inode c.go_down-in-Second.new.self c.go_down-in-Second.ensures.stands
+      (subst (λ (p : Path). IsPlace p c.go_down-in-Second.new.self.ahead.place) c.second_path.ensures c.go_down-in-Second.ensures.place) c.go_down-in-Second.ensures.depth c.go_down-in-Second.ensures.len;
+}

@@ -28,7 +28,8 @@ invariant_of-self c =
       second = c.follow-2.ensures.roomy;
       short = c.self.invariant.short;
       fit = fits_split c.self.inside call.0 call.1 c.self.invariant.fit c.self.invariant.short may c.follow.new.self c.follow-2.new.self
-          c.follow.ensures.chain c.follow.ensures.masks c.follow-2.ensures.chain c.follow-2.ensures.masks;
+          (record { chain_is = c.follow.ensures.chain; masks_are = c.follow.ensures.masks; ahead_is = ? })
+          (record { chain_is = c.follow-2.ensures.chain; masks_are = c.follow-2.ensures.masks; ahead_is = ? });
     }
 
 pub returns : goal.returns
