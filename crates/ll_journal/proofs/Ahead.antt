@@ -12,6 +12,7 @@ use Rattle.ll_path.specs.declared.place.Place.{Place}
 use Rattle.ll_path.proofs.CommonNames.{spelled_len}
 use Rattle.ll_path.proofs.NameLemmas.{same_name-from_equal}
 use Rattle.ll_seq.specs.State.{Name}
+use Rattle.ll_walks.proofs.Ways.{common_left}
 use Rattle.ll_journal.specs.declared.leg.Ahead.{Ahead}
 use Rattle.ll_journal.specs.Seated.{IsAhead, name_on, none_left}
 
@@ -97,6 +98,9 @@ common_itself (x ∷ p) = ap (λ b. cond b (x ∷ common p p) []) (same_name-fro
 pub common_nothing : (p : Path) → common p [] ≡ []
 common_nothing [] = refl
 common_nothing (x ∷ p) = refl
+
+pub common_less : (p q : Path) → length (common p q) ≤ length p
+common_less p q = let r = common_left p q in let n = ap length r.1 in let m = length-append (common p q) r.0 in omega arith
 
 -- as many as both paths, but none of their last names
 pub length-common_parents : (p q : Path) → length (common (parent p) (parent q)) ≡ min (length (common p q)) (min (length (parent p)) (length (parent q)))

@@ -23,7 +23,7 @@ use Rattle.ll_journal.specs.declared.station.Station.TheVariants as station
 use Rattle.ll_journal.specs.Book as book
 use Rattle.ll_journal.specs.Stations.{station_at, station_of}
 use Rattle.ll_journal.specs.Seated.{granted, depth_of, last_of, leg_of, position_at, seat_of, Fits, FitSplit, FitAt, IsAhead, AreShort, StandsAt, none_left, name_on, turn_at, next_in, here_in, entered, lower, gone_down, split}
-use Rattle.ll_journal.proofs.Ahead.{parent_begins, longer, shorter, get_longer, ended, all_gone, name_is}
+use Rattle.ll_journal.proofs.Ahead.{common_less, parent_begins, longer, shorter, get_longer, ended, all_gone, name_is}
 
 -- ---- what is kept, by the stage
 
@@ -244,9 +244,6 @@ parent_less [] most le = omega arith
 parent_less (x ∷ []) most le = omega arith
 parent_less (x ∷ y ∷ p) zero le = absurd (omega arith)
 parent_less (x ∷ y ∷ p) (suc most) le = let rest = parent_less (y ∷ p) most (omega arith) in omega arith
-
-common_less : (p q : Path) → length (common p q) ≤ length p
-common_less p q = let r = common_left p q in let n = ap length r.1 in let m = length-append (common p q) r.0 in omega arith
 
 short_path : (call : Call) → AreShort call → (t : Turn) → length (path_in t call) ≤ 63
 short_path call short turns.No = omega arith
@@ -471,13 +468,6 @@ module _ (seat : Inside) (call : Call) (is : seat.call ≡ Some call) (fit : IfS
       after =
           ap (λ n. unwrap_or (forked call (position_at n seat call)) (position_at n seat call)) is_down.0
           ∙ ap (λ (o : Option Position). unwrap_or o (Down trunk_leg)) (forked_is call trunk_leg is_down.2)
-
-pub has_call : (seat : Inside) → option_map_or (λ (walk : Walk). is_some (forked walk.call walk.at)) (seat_of seat).walk false ≡ true → (call : Call) × (seat.call ≡ Some call)
-has_call seat = by seat.call
-  where
-    by : (o : Option Call) → option_map_or (λ (walk : Walk). is_some (forked walk.call walk.at)) (option_map (λ k. record { call = k; starts = seat.starts; stale = seat.is_stale; at = position_at seat.stage seat k }) o) false ≡ true → (call : Call) × (o ≡ Some call)
-    by None e = absurd (cc e)
-    by (Some call) e = (call, refl)
 
 pub may_fork_is : (seat : Inside) (call : Call) → seat.call ≡ Some call → seat.stage ≡ stage.Down → has_two_paths call ≡ true → IfSome seat.call (FitAt seat.stage seat)
     → none_left seat.trunk.ahead ≡ option_map_or (λ (walk : Walk). is_some (forked walk.call walk.at)) (seat_of seat).walk false

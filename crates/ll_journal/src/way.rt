@@ -1,6 +1,6 @@
 //! The way of a call: the names that its walk takes.
 
-ghost use Rattle.std.specs.Prelude.{◌≡◌, ◌+◌, ◌≤◌, ◌==◌, IsSome, length, slice_get, option_map};
+ghost use Rattle.std.specs.Prelude.{◌≡◌, ◌+◌, ◌<◌, ◌≤◌, ◌==◌, IsSome, length, slice_get, option_map};
 ghost use Rattle.ll_path.specs.Path.{common, parent};
 ghost use Rattle.ll_path.specs.Place.{IsPlace};
 ghost use Rattle.ll_rights.specs.declared.limits.TheConstants.{PATH_NAMES};
@@ -47,7 +47,8 @@ pub(crate) fn second_path(call: &Call) -> Option<&Path>
 
 /// How many names lead to the path's parent.
 pub(crate) fn way_len(path: Option<&Path>) -> usize
-    ensures { result ≡ length (parent (names_in path.entry)) }
+    ensures len { result ≡ length (parent (names_in path.entry)) }
+    ensures short { result < PATH_NAMES }
 {
     match path {
         Some(path) => path.len().saturating_sub(1),
