@@ -1,8 +1,20 @@
-use Rattle.std.proofs.Common.{◌≡◌, ◌+◌, ◌-◌, ◌<◌, ◌≤◌, ap, arith, inl, length, min, rules, subst, sym, ◌∙◌}
-use Rattle.ll_path.specs.Path.{common, parent}
+use Rattle.std.proofs.Common.{◌≡◌, List, [], ◌∷◌, ◌+◌, ◌-◌, ◌<◌, ◌≤◌, ap, arith, inl, length, min, sym, ◌∙◌}
+use Rattle.std.specs.Borrow.{Bor}
+use Rattle.std.specs.Iterator.{Drains, YieldsFirstRef}
+use Rattle.ll_path.specs.Path.{Path, common, parent}
+use Rattle.ll_seq.specs.State.{Name}
 use Rattle.ll_journal.specs.Seated.{names_in}
 use Rattle.ll_journal.proofs.Ahead.{common_less, common_nothing, length-common_parents, length-parent}
 use Rattle.ll_journal.proofs.way.shared_len.Goals as goal
+
+-- calls of `next` up to the first `None` give each name once
+all_given : (names : List (Bor Name)) (left : Path) → Drains (YieldsFirstRef {S = Path} {A = Name} (λ rest. rest)) left names → length names ≡ length left
+all_given [] left ran = sym (ap length (ran.1.1 ∙ ran.1.2.0))
+all_given (name ∷ names) left ran =
+    let turn = ran.1.1 in
+    let rest = all_given names turn.0 (ran.0, (ran.1.0, turn.2, ran.1.2)) in
+    let one = ap length turn.1 in
+    omega (arith, rest, one)
 
 pub count-requires-clause-fits : goal.count-requires-clause-fits
 count-requires-clause-fits c =
@@ -16,7 +28,8 @@ count-requires-clause-fits c =
 
 pub returns-in-Some-Some : goal.returns-in-Some-Some
 returns-in-Some-Some c =
-    let many : c.count.result ≡ length c.common.result = search rules in
+    let ran = c.count.ensures.ran in
+    let many = ran.2 ∙ all_given ran.0 c.common.result ran.1 in
     let both : c.common.result ≡ common (names_in c.args.one) (names_in c.args.other) =
     c.common.ensures ∙ sym (λ i. common (names_in (c.in-Some-Some.is-0 i)) (names_in (c.in-Some-Some.is-1 i))) in
     let most : c.min-most.result ≡ min (length (parent (names_in c.args.one))) (length (parent (names_in c.args.other))) =

@@ -6,7 +6,7 @@ use Rattle.ll_journal.proofs.way.trunk_len.Goals as goal
 
 pub returns-in-One : goal.returns-in-One
 returns-in-One c =
-    c.way_len.ensures ∙ ap (λ (p : Path). length (parent p)) c.spelled.ensures
+    c.way_len.ensures.len ∙ ap (λ (p : Path). length (parent p)) c.spelled.ensures
     ∙ sym (ap length (common_itself _))
     ∙ ap (λ ts. length (common (parent (first_of ts)) (parent (second_of ts)))) c.in-One.ensures
 
