@@ -1,6 +1,6 @@
 -- The names ahead of a leg, as they are kept: where the next one begins, and how many names there are.
-use Rattle.std.specs.Prelude.{◌≡◌, ℕ, zero, suc, ◌-◌, ◌<◌, ◌≤◌, ◌==◌, true, false, cond, List, [], ◌∷◌, ◌++◌, length, take, drop, Option, Some, None, slice_get, IsSome, refl}
-use Rattle.std.proofs.Common.{sym, subst, ap, ◌∙◌, arith, min, length-append, append_assoc}
+use Rattle.std.specs.Prelude.{◌≡◌, ℕ, zero, suc, ◌-◌, ◌<◌, ◌≤◌, ◌==◌, true, false, cond, [], ◌∷◌, ◌++◌, length, take, drop, None, slice_get, refl}
+use Rattle.std.proofs.Common.{sym, subst, ap, ◌∙◌, arith, min, length-append}
 use Rattle.std.proofs.Math.Seq.{drop-length}
 use Rattle.std.proofs.lemmas.Bool.{eqb-true, eqb-false, eq-eqb, ne_eqb}
 use Rattle.std.proofs.lemmas.List.{take-append-le}
@@ -11,7 +11,6 @@ use Rattle.ll_path.specs.Place.{IsPlace}
 use Rattle.ll_path.specs.declared.place.Place.{Place}
 use Rattle.ll_path.proofs.CommonNames.{spelled_len}
 use Rattle.ll_path.proofs.NameLemmas.{same_name-from_equal}
-use Rattle.ll_seq.specs.State.{Name}
 use Rattle.ll_walks.proofs.Ways.{common_left}
 use Rattle.ll_journal.specs.declared.leg.Ahead.{Ahead}
 use Rattle.ll_journal.specs.Seated.{IsAhead, name_on, none_left}

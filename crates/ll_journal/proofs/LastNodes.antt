@@ -1,5 +1,5 @@
 -- Which node a call may change or tell of, and whether it may make one, by where its last name stands.
-use Rattle.std.specs.Prelude.{◌≡◌, ℕ, Bool, Option, nat_le, refl}
+use Rattle.std.specs.Prelude.{◌≡◌, ℕ, Bool, refl}
 use Rattle.std.specs.Ordering.{nat_cmp}
 use Rattle.ll_rights.specs.Map.{Map}
 use Rattle.ll_answer.specs.Near.{may_make, nodes_of}

@@ -4,7 +4,7 @@ use Rattle.std.specs.Option.{option_map_or}
 use Rattle.std.proofs.Common.{sym, subst, ap, ◌∙◌, arith, length-append, append_assoc}
 use Rattle.ll_rules.specs.Layer.{Layer}
 use Rattle.ll_decide.specs.Masks.{AreMasks}
-use Rattle.ll_path.specs.Path.{Path, common, parent, is_root}
+use Rattle.ll_path.specs.Path.{Path, parent, is_root}
 use Rattle.ll_seq.specs.declared.call.Call.{Call}
 use Rattle.ll_seq.specs.Call.{first_path, second_path}
 use Rattle.ll_seq.specs.State.{Name, root}

@@ -1,5 +1,5 @@
 -- A call that isn't one for its client alone walks exactly where it names a path and the client is idle.
-use Rattle.std.specs.Prelude.{◌≡◌, ℕ, suc, Bool, true, false, cond, not, ◌&&◌, Option, Some, None, is_none, unwrap_or, slice_get, refl}
+use Rattle.std.specs.Prelude.{◌≡◌, ℕ, suc, Bool, true, false, cond, not, ◌&&◌, Some, None, is_none, unwrap_or, slice_get, refl}
 use Rattle.std.specs.Option.{option_map_or}
 use Rattle.std.proofs.Common.{sym, ap, subst, ◌∙◌}
 use Rattle.ll_seq.specs.declared.call.Call.{Call}
@@ -8,7 +8,6 @@ use Rattle.ll_seq.specs.declared.client.ClientRecord.{ClientRecord}
 use Rattle.ll_seq.specs.Call.{targets}
 use Rattle.ll_seq.specs.History.{is_connect}
 use Rattle.ll_seq.specs.Step.{client_of}
-use Rattle.ll_walks.specs.Walk.{Walk}
 use Rattle.ll_walks.specs.World.{World, Outcome, Begun, NotNow, advance, has_any, is_alone, is_idle, is_on_descriptor, is_walked, shown}
 use Rattle.ll_seq.specs.Stages.{early_refusals}
 use Rattle.ll_walks.specs.declared.step.Step.TheVariants.{Begin, ClientStep}

@@ -20,7 +20,9 @@ use crate::perform::perform;
 use crate::stage::{Stage, Turn, turn_of};
 use crate::station::{Station, split_station, trunk_station};
 use crate::walked::walks;
-use crate::way::{first_path, has_two_paths, know_ways, next_name, second_path, trunk_len, way_len};
+use crate::way::{
+    first_path, has_two_paths, know_ways, next_name, second_path, trunk_len, way_len,
+};
 use ll_answer::Found;
 use ll_decide::Masks;
 use ll_held::Held;

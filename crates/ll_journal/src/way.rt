@@ -96,9 +96,7 @@ pub(crate) fn place_after(path: Option<&Path>, place: Place) -> Place
     ensures place { IsPlace (names_in path.entry) result }
     ensures depth { result.depth ≡ place.depth + 1 }
 {
-    let Some(path) = path else {
-        unreachable!()
-    };
+    let Some(path) = path else { unreachable!() };
     let Some(name) = path.name_at(place) else {
         unreachable!()
     };

@@ -83,7 +83,7 @@ invariant_of-self c = record {
   second = c.self.invariant.second;
   short = c.self.invariant.short;
   fit = fit_below c.self.inside c.in-Some.call c.in-Some.is Trunk (sym c.in-Trunk.is ∙ c.turn_of.ensures) c.self.invariant.fit c.self.invariant.short
-    (subst (λ (s : book.Seat). IsSome (next_in s)) (sym c.self.view_is) c.requires) c.args.inode c.go_down.new.self c.go_down.ensures.stands
+      (subst (λ (s : book.Seat). IsSome (next_in s)) (sym c.self.view_is) c.requires) c.args.inode c.go_down.new.self c.go_down.ensures.stands
       (subst (λ (p : Path). IsPlace p c.go_down.new.self.ahead.place) c.first_path.ensures c.go_down.ensures.place) c.go_down.ensures.depth c.go_down.ensures.len;
 }
 
@@ -94,7 +94,7 @@ invariant_of-self-in-First c = record {
   second = c.self.invariant.second;
   short = c.self.invariant.short;
   fit = fit_below c.self.inside c.in-Some.call c.in-Some.is First (sym c.in-First.is ∙ c.turn_of.ensures) c.self.invariant.fit c.self.invariant.short
-    (subst (λ (s : book.Seat). IsSome (next_in s)) (sym c.self.view_is) c.requires) c.args.inode c.go_down-in-First.new.self c.go_down-in-First.ensures.stands
+      (subst (λ (s : book.Seat). IsSome (next_in s)) (sym c.self.view_is) c.requires) c.args.inode c.go_down-in-First.new.self c.go_down-in-First.ensures.stands
       (subst (λ (p : Path). IsPlace p c.go_down-in-First.new.self.ahead.place) c.first_path-in-First.ensures c.go_down-in-First.ensures.place) c.go_down-in-First.ensures.depth c.go_down-in-First.ensures.len;
 }
 
@@ -105,6 +105,6 @@ invariant_of-self-in-Second c = record {
   second = c.go_down-in-Second.ensures.stands.roomy;
   short = c.self.invariant.short;
   fit = fit_below c.self.inside c.in-Some.call c.in-Some.is Second (sym c.in-Second.is ∙ c.turn_of.ensures) c.self.invariant.fit c.self.invariant.short
-    (subst (λ (s : book.Seat). IsSome (next_in s)) (sym c.self.view_is) c.requires) c.args.inode c.go_down-in-Second.new.self c.go_down-in-Second.ensures.stands
+      (subst (λ (s : book.Seat). IsSome (next_in s)) (sym c.self.view_is) c.requires) c.args.inode c.go_down-in-Second.new.self c.go_down-in-Second.ensures.stands
       (subst (λ (p : Path). IsPlace p c.go_down-in-Second.new.self.ahead.place) c.second_path.ensures c.go_down-in-Second.ensures.place) c.go_down-in-Second.ensures.depth c.go_down-in-Second.ensures.len;
 }

@@ -1,8 +1,8 @@
-use Rattle.std.proofs.Common.{◌≡◌, ap, ◌∙◌, subst, option_map, length}
+use Rattle.std.proofs.Common.{◌≡◌, subst, option_map}
 use Rattle.ll_journal.specs.Book as book
 use Rattle.ll_journal.specs.declared.stage.Stage.TheVariants as stage
 use Rattle.ll_journal.specs.Seated.{entered, seat_of}
-use Rattle.ll_journal.proofs.Seats.{entered_is, fit_entered}
+use Rattle.ll_journal.proofs.Seats.{entered_is}
 use Rattle.ll_journal.proofs.seat.Seat.enter.Goals as goal
 
 pub returns : goal.returns
