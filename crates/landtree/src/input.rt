@@ -1,13 +1,10 @@
 //! Files of scripts, policies, histories and schedules.
 
-ghost use Rattle.std.specs.Prelude.{◌≡◌, ◌⊎◌, IfOk, IfErr, IfSome, option_and_then};
-ghost use Rattle.landtree.specs.declared.failure.Failure.{Failure};
+ghost use Rattle.std.specs.Prelude.{option_and_then};
 
-use crate::failure::Failure;
-use std::alloc::Global;
 use std::fs::File;
 use std::io;
-use std::io::{ErrorKind, Read};
+use std::io::Read;
 use std::rt::Files;
 
 /// A file that its first read opens, so that faults found before are told first.
@@ -42,18 +39,5 @@ impl<R: Files> Read for InputFile<'_, R> {
                 Ok(count)
             }
         }
-    }
-}
-
-/// The whole text of a policy's or a schedule's file.
-pub fn read_text<R: Read>(alloc: Global, file: &mut R) -> Result<Vec<u8>, Failure>
-    ensures text { IfOk result (λ text. IfSome (R.remaining file.old) (λ told. text.items ≡ told)) }
-    ensures failure { IfErr result (λ failure. (failure ≡ Failure.File) ⊎ (failure ≡ Failure.NoMemory)) }
-{
-    let mut text = Vec::new(alloc);
-    match file.read_to_end(&mut text) {
-        Ok(_) => Ok(text),
-        Err(error) if error.kind() == ErrorKind::OutOfMemory => Err(Failure::NoMemory),
-        Err(_) => Err(Failure::File),
     }
 }

@@ -1,14 +1,7 @@
 //! Landtree, the program: runs scripts of command lines over a tree in memory, audits histories, and makes schedules.
 #![tactic(auto)]
 
-mod command;
-mod conclusion;
-mod failure;
 mod input;
-mod options;
-mod policy;
-mod program;
-mod shown;
 
 ghost use Rattle.std.specs.Prelude.{◌≡◌, ◌≤◌, ◌⊎◌, ℕ, true, false, List, [], map, Some, None, Err};
 ghost use Rattle.std.specs.Prelude.{is_some, IfErr, IfNone, IfOk, IfSome, OnErr, OnOk};
@@ -16,26 +9,25 @@ ghost use Rattle.std.specs.List.{All};
 ghost use Rattle.std.specs.Process.{exit_status};
 ghost use Rattle.clap.specs.Words.{Text, fault_of, kind_of};
 ghost use Rattle.ll_session.specs.declared.fault.RunFault.{RunFault};
-ghost use Rattle.landtree.specs.declared.failure.Failure.{Failure};
+ghost use Rattle.ll_runs.specs.declared.failure.Failure.{Failure};
 ghost use Rattle.ll_rights.specs.declared.limits.TheConstants.{TREE_NODES};
 ghost use Rattle.ll_wire.specs.Entries.{IsEntry};
-ghost use Rattle.landtree.specs.Failure.{failure_by, failure_of, status_at, EndsAudit, EndsRun, EndsSchedule, IsOfDevices, IsOfSaving};
-ghost use Rattle.landtree.specs.Options.{RunOrder, ScheduleOrder, fits, landtree, order_in, ordered_by, ordered_in, to_audit, to_run, to_schedule};
-ghost use Rattle.landtree.specs.Options.{EndsWell};
-ghost use Rattle.landtree.specs.Policy.{MayFail};
+ghost use Rattle.ll_runs.specs.Failure.{failure_by, failure_of, status_at, EndsAudit, EndsRun, EndsSchedule, IsOfDevices, IsOfSaving};
+ghost use Rattle.ll_options.specs.Options.{RunOrder, ScheduleOrder, fits, landtree, order_in, ordered_by, ordered_in, to_audit, to_run, to_schedule};
+ghost use Rattle.ll_options.specs.Options.{EndsWell};
+ghost use Rattle.ll_runs.specs.Policy.{MayFail};
 ghost use Rattle.ll_session.specs.Run.{MayEnd};
 
-use conclusion::Conclusion;
-use failure::Failure;
-use input::{InputFile, read_text};
+use input::InputFile;
+use ll_options::{Options, RunOptions, ScheduleOptions};
+use ll_replay::{draw_schedule, perform_schedule, setup_by};
+use ll_runs::{
+    Conclusion, Failure, Shown, audit, header_of, perform, read_text, save_history, setup_of,
+};
 use ll_saved::Verdict;
 use ll_seq::History;
 use ll_session::Setup;
 use ll_wire::Header;
-use options::{Options, RunOptions, ScheduleOptions};
-use policy::{setup_by, setup_of};
-use program::{audit, draw_schedule, header_of, perform, perform_schedule, save_history};
-use shown::Shown;
 use std::fs::File;
 use std::io::{IsTerminal, Read};
 use std::process::ExitCode;

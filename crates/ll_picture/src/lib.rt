@@ -1,18 +1,14 @@
-//! Pictures of schedules: a row a client, time to the right.
+//! Pictures of what clients did, line by line: a row a client, time to the right.
 #![tactic(auto)]
 
 mod canvas;
-mod course;
-mod drawing;
 mod head;
 mod legend;
 mod picture;
-mod replay;
 mod scene;
-mod seat;
 mod sheet;
 mod style;
-mod told;
 mod track;
 
-pub use drawing::draw;
+pub use picture::picture_of;
+pub use scene::{Branch, Caption, Column, Event, Moment, Row, Scene};

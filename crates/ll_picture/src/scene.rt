@@ -61,6 +61,7 @@ pub struct Column {
     pub row: Option<usize>,
 }
 
+/// What the picture shows: its lines as columns, its clients as rows.
 #[derive(Drop)]
 pub struct Scene {
     pub columns: Vec<Column>,

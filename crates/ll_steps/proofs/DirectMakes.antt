@@ -118,7 +118,7 @@ pub start_keeps : (b b' : Book) (slots : List Held) (client : ℕ) (c : Call) (s
     → Starts b client c s b' → Spares b b' [] → IsKept b' slots
 start_keeps b b' slots client c (start.Made a) h d spares = alone_keeps b b' slots client c (Ok a) h d tt spares
 start_keeps b b' slots client c start.Begun h d spares = kept_alone b b' slots (Begin client c) world.Begun h d.1 spares
-start_keeps b b' slots client c (start.Back back) h d spares = kept_same b b' slots h d.1.0
+start_keeps b b' slots client c (start.Back back) h d spares = kept_same b b' slots h d.1
 
 -- it is made at once
 pub made_calls : (b b' : Book) (client : ℕ) (c : Call) (a : Made) → (a ≡ answer.NoMemory → TakesMemory c)
@@ -134,7 +134,7 @@ made_calls b b' client c a takes d waits' =
 pub back_calls : (b b' : Book) (client : ℕ) (c back : Call) → Starts b client c (start.Back back) b'
     → Waits b.world (FdCommit client c) → Calls b.world client c outcome.NotNow b'.world
 back_calls b b' client c back d waits' =
-    subst (λ (v : Book). Calls b.world client c outcome.NotNow v.world) (sym d.1.0) (waits waits' d.1.1.0 d.1.1.1)
+    subst (λ (v : Book). Calls b.world client c outcome.NotNow v.world) (sym d.1) (waits waits' d.2 d.3)
 
 -- ---- a call on a descriptor
 

@@ -1,5 +1,5 @@
 use Rattle.std.proofs.Common.{◌∙◌, ap, sym}
-use Rattle.landtree.specs.Failure.{status_at}
+use Rattle.ll_runs.specs.Failure.{status_at}
 use Rattle.landtree.proofs.concluded.Goals as goal
 
 pub returns-in-Err : goal.returns-in-Err

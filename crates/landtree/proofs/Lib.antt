@@ -1,6 +1,0 @@
-pub mod Entered
-pub mod ArgumentsUsed
-pub mod Known
-pub mod Matched
-pub mod Numbers
-pub mod Ordered

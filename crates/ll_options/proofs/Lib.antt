@@ -1,0 +1,5 @@
+pub mod Entered
+pub mod ArgumentsUsed
+pub mod Matched
+pub mod Numbers
+pub mod Ordered

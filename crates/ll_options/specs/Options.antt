@@ -1,0 +1,165 @@
+-- The words of the command line, as clap matches them. own
+use Rattle.std.specs.Prelude.{bytes_eq, ◌≡◌, ◌⊎◌, ℕ, List, [], ◌∷◌, Option, Some, None, is_some, option_and_then, option_map, codes, Bool, true, false, not, if◌then◌else◌}
+use Rattle.std.specs.List.{fold}
+use Rattle.std.specs.Str.Parse.{digits_value, without_leading_plus}
+use Rattle.clap.specs.declared.error.kind.ErrorKind.TheVariants.{DisplayHelp, DisplayVersion}
+use Rattle.clap.specs.Words.{App, IsAmong, Kinds, Row, Rule, Text, first_of, new_app, new_rule, one_of, subcommand_of, with_rule, with_subcommand}
+use Rattle.clap.specs.Simple.{on_top}
+use Rattle.clap.specs.ValueTests.{accepts}
+use Rattle.clap.specs.declared.builder.value_parser.ValueParser.{ValueParser}
+use Rattle.clap.specs.declared.builder.value_parser.ValueParser.TheVariants.{Unsigned}
+use Rattle.ll_options.specs.declared.options.RunOptions.{RunOptions}
+use Rattle.ll_options.specs.declared.options.ScheduleOptions.{ScheduleOptions}
+use Rattle.ll_options.specs.declared.options.Options.{Options}
+use Rattle.ll_options.specs.declared.options.Options.TheVariants.{Run, Schedule, Audit}
+
+abbrev pub script : Rule
+script = record (new_rule (codes "SCRIPT")) { required = true }
+
+-- an option of this name, with one value
+abbrev pub valued : Text → Rule
+valued name = record (new_rule name) { long = Some name; value_names = 1 }
+
+-- from 1 to 4,096, in decimal digits, before which a plus may stand
+abbrev pub node_numbers : ValueParser
+node_numbers = Unsigned 1 4096
+
+-- from 1 to 3, in the same way
+abbrev pub levels : ValueParser
+levels = Unsigned 1 3
+
+-- how many nodes may live: 1,024 where the words don't say
+abbrev pub nodes : Rule
+nodes = record (valued (codes "nodes")) { parser = Some node_numbers; defaults = codes "1024" ∷ [] }
+
+-- from 1 to 1,000,000
+abbrev pub history_numbers : ValueParser
+history_numbers = Unsigned 1 1000000
+
+-- how many entries the history may have: 10,000 where the words don't say
+abbrev pub history : Rule
+history = record (valued (codes "history")) { parser = Some history_numbers; defaults = codes "10000" ∷ [] }
+
+-- the level of Landlock's ABI
+abbrev pub abi : Rule
+abi = record (valued (codes "abi")) { parser = Some levels }
+
+abbrev pub run : App
+run = fold with_rule (new_app (codes "run"))
+    (script ∷ nodes ∷ abi ∷ valued (codes "policy") ∷ valued (codes "profile") ∷ history ∷ valued (codes "save") ∷ [])
+
+abbrev pub file : Rule
+file = record (new_rule (codes "FILE")) { required = true }
+
+abbrev pub audit : App
+audit = with_rule (new_app (codes "audit")) file
+
+abbrev pub schedule : App
+schedule = fold with_rule (new_app (codes "schedule")) (file ∷ nodes ∷ abi ∷ history ∷ valued (codes "picture") ∷ [])
+
+abbrev pub landtree : App
+landtree =
+    let top = on_top (λ s. record s { has_version = true; subcommand_required = true }) (new_app (codes "landtree")) in
+    with_subcommand (with_subcommand (with_subcommand top run.top) audit.top) schedule.top
+
+pub record RunOrder : Type 0 where
+  pub script : Text
+  pub nodes : ℕ
+  pub level : Option ℕ
+  pub history : ℕ
+  pub policy : Option Text
+  pub profile : Option Text
+  pub save : Option Text
+
+pub record ScheduleOrder : Type 0 where
+  pub file : Text
+  pub nodes : ℕ
+  pub level : Option ℕ
+  pub history : ℕ
+  pub picture : Option Text
+
+pub data Order : Type 0 where
+  to_run : RunOrder → Order
+  to_audit : Text → Order
+  to_schedule : ScheduleOrder → Order
+
+abbrev pub order_in : RunOptions → RunOrder
+order_in o =
+    let text = option_map (λ t. t.now) in
+    record {
+      script = o.script.now;
+      nodes = o.nodes;
+      level = o.level;
+      history = o.history;
+      policy = text o.policy;
+      profile = text o.profile;
+      save = text o.save;
+    }
+
+abbrev pub scheduled_in : ScheduleOptions → ScheduleOrder
+scheduled_in o =
+    record {
+      file = o.file.now;
+      nodes = o.nodes;
+      level = o.level;
+      history = o.history;
+      picture = option_map (λ t. t.now) o.picture;
+    }
+
+abbrev pub ordered_in : Options → Order
+ordered_in (Run o) = to_run (order_in o)
+ordered_in (Schedule o) = to_schedule (scheduled_in o)
+ordered_in (Audit file) = to_audit file.now
+
+-- the number that the text writes, if the parser accepts it
+abbrev pub number_in : ValueParser → Text → Option ℕ
+number_in parser text = if accepts false parser text then Some (digits_value 10 (without_leading_plus text)) else None
+
+abbrev pub number_of : Text → ValueParser → List Row → Option ℕ
+number_of name parser rows = option_and_then (number_in parser) (one_of name rows)
+
+-- what the matches of a subcommand want
+abbrev pub run_order : List Row → Option RunOrder
+run_order rows =
+    option_and_then (λ path. option_and_then (λ n. option_map (λ most. record {
+      script = path;
+      nodes = n;
+      level = number_of (codes "abi") levels rows;
+      history = most;
+      policy = first_of (codes "policy") rows;
+      profile = first_of (codes "profile") rows;
+      save = first_of (codes "save") rows;
+    })
+    (number_of (codes "history") history_numbers rows))
+    (number_of (codes "nodes") node_numbers rows))
+    (first_of (codes "SCRIPT") rows)
+
+abbrev pub schedule_order : List Row → Option ScheduleOrder
+schedule_order rows =
+    option_and_then (λ path. option_and_then (λ n. option_map (λ most. record {
+      file = path;
+      nodes = n;
+      level = number_of (codes "abi") levels rows;
+      history = most;
+      picture = first_of (codes "picture") rows;
+    })
+    (number_of (codes "history") history_numbers rows))
+    (number_of (codes "nodes") node_numbers rows))
+    (first_of (codes "FILE") rows)
+
+abbrev pub ordered : Text → List Row → Option Order
+ordered name rows =
+    if bytes_eq name (codes "run") then option_map to_run (run_order rows)
+    else if bytes_eq name (codes "schedule") then option_map to_schedule (schedule_order rows)
+    else option_map to_audit (first_of (codes "FILE") rows)
+
+abbrev pub ordered_by : List Text → Option Order
+ordered_by words = option_and_then (λ named. ordered named.0 named.1) (subcommand_of landtree words)
+
+-- A level is told where there is no policy, and a profile where there is one
+abbrev pub fits : RunOrder → Bool
+fits o = if is_some o.policy then not (is_some o.level) else not (is_some o.profile)
+
+-- Words with these faults end well: there is none, or help or the version is asked for
+abbrev pub EndsWell : Kinds → Type 0
+EndsWell faults = (faults ≡ []) ⊎ IsAmong DisplayHelp faults ⊎ IsAmong DisplayVersion faults

@@ -1,0 +1,46 @@
+-- What a reader has told, and what follows from it.
+use Rattle.std.proofs.Common.{◌≡◌, ◌∙◌, ℕ, List, [], Option, None, Some, refl, sym, subst, option_map, is_some, false, inl, inr, ◌⊎◌}
+use Rattle.std.specs.Prelude.{IfSome, slice_get}
+use Rattle.std.specs.Str.{IsUtf8}
+use Rattle.std.specs.Borrow.{Bor}
+use Rattle.ll_runs.specs.declared.failure.Failure.{Failure}
+use Rattle.ll_runs.specs.declared.failure.Failure.TheVariants.{File, NoMemory}
+use Rattle.ll_options.specs.declared.options.RunOptions.{RunOptions}
+use Rattle.ll_session.specs.declared.setup.Setup.{Setup}
+use Rattle.toml.specs.Parse.{parse_document}
+use Rattle.ll_policy.specs.Faults.{document_faults}
+use Rattle.ll_policy.specs.declared.fault.PolicyFault.{PolicyFault}
+use Rattle.ll_policy.specs.declared.fault.PolicyFault.TheVariants as faults
+use Rattle.ll_runs.specs.Failure.{failure_in}
+use Rattle.ll_options.specs.Options.{RunOrder, order_in}
+use Rattle.ll_runs.specs.Policy.{ByLevel, IsSetBy, Lacks}
+
+-- some text that it tells, if it tells any
+pub a_text : (o : Option (List ℕ)) → (text : List ℕ) × IfSome o (λ told. text ≡ told)
+a_text None = ([], tt)
+a_text (Some told) = (told, refl)
+
+pub same_text : (o : Option (List ℕ)) (x y : List ℕ) → x ≡ y → IfSome o (λ told. y ≡ told) → IfSome o (λ told. x ≡ told)
+same_text None x y e h = tt
+same_text (Some told) x y e h = e ∙ h
+
+-- the file can't be read
+pub unread : (order : RunOrder) (text : List ℕ) (failure : Failure) → (failure ≡ File) ⊎ (failure ≡ NoMemory) → Lacks order text failure
+unread order text failure (inl e) = subst (Lacks order text) (sym e) tt
+unread order text failure (inr e) = subst (Lacks order text) (sym e) tt
+
+-- no policy is asked for
+pub set_by_level : (options : RunOptions) (text : List ℕ) (setup : Setup) → is_some options.policy ≡ false → ByLevel (order_in options) setup
+    → IsSetBy (order_in options).policy (order_in options) text setup
+set_by_level options text setup none by = go options.policy none
+  where
+    go : (file : Option (Bor (List ℕ))) → is_some file ≡ false → IsSetBy (option_map (λ (t : Bor (List ℕ)). t.now) file) (order_in options) text setup
+    go None e = by
+    go (Some file) e = absurd cc
+
+-- the text gives no policy
+pub not_given : (order : RunOrder) (text : List ℕ) (fault : PolicyFault) → IsUtf8 text
+    → (fault ≡ faults.NoMemory) ⊎ (slice_get (document_faults (parse_document text)) 0 ≡ Some fault) → Lacks order text (failure_in fault)
+not_given order text faults.NoMemory utf8 h = tt
+not_given order text fault utf8 (inl e) = subst (λ (f : PolicyFault). Lacks order text (failure_in f)) (sym e) tt
+not_given order text fault utf8 (inr e) = inr (utf8, e)

@@ -1,0 +1,108 @@
+-- How the program ends where it fails. own
+use Rattle.std.specs.Prelude.{⊤, ℕ, List, Option, Some, None, Result, Ok, Err, codes}
+use Rattle.clap.specs.declared.error.kind.ErrorKind.{ErrorKind}
+use Rattle.clap.specs.declared.error.kind.ErrorKind.TheVariants.{DisplayHelp, DisplayVersion}
+use Rattle.clap.specs.declared.error.kind.ErrorKind.TheVariants as kind
+use Rattle.ll_policy.specs.declared.fault.PolicyFault.{PolicyFault}
+use Rattle.ll_policy.specs.declared.fault.PolicyFault.TheVariants as wrong
+use Rattle.ll_session.specs.declared.fault.RunFault.{RunFault}
+use Rattle.ll_session.specs.declared.fault.RunFault.TheVariants as run
+use Rattle.ll_lines.specs.declared.fault.SessionFault.{SessionFault}
+use Rattle.ll_lines.specs.declared.fault.SessionFault.TheVariants as session
+use Rattle.ll_saved.specs.declared.auditing.FileAuditFault.{FileAuditFault}
+use Rattle.ll_saved.specs.declared.auditing.FileAuditFault.TheVariants as audit
+use Rattle.ll_saved.specs.declared.saving.SaveFault.{SaveFault}
+use Rattle.ll_saved.specs.declared.saving.SaveFault.TheVariants as saving
+use Rattle.ll_saved.specs.declared.verdict.Verdict.TheVariants.{Legal, Illegal, BadLine}
+use Rattle.ll_runs.specs.declared.failure.Failure.{Failure}
+use Rattle.ll_runs.specs.declared.failure.Failure.TheVariants.{CommandLine, Policy, Opening, File, Output, NoMemory}
+use Rattle.ll_runs.specs.declared.conclusion.Conclusion.{Conclusion}
+use Rattle.ll_runs.specs.declared.conclusion.Conclusion.TheVariants.{Done, Judged}
+
+abbrev pub failure_in_session : SessionFault → Failure
+failure_in_session session.Read = File
+failure_in_session session.Write = Output
+failure_in_session session.NoMemory = NoMemory
+failure_in_session session.TooLong = File
+
+abbrev pub failure_of : RunFault → Failure
+failure_of run.Opening = Opening
+failure_of (run.Session fault) = failure_in_session fault
+
+abbrev pub failure_in : PolicyFault → Failure
+failure_in wrong.NoMemory = NoMemory
+failure_in fault = Policy fault
+
+abbrev pub status_of : Failure → ℕ
+status_of CommandLine = 2
+status_of (Policy fault) = 2
+status_of Opening = 2
+status_of File = 1
+status_of Output = 1
+status_of NoMemory = 4
+
+-- help and the version are no failure
+abbrev pub failure_by : ErrorKind → Option Failure
+failure_by DisplayHelp = None
+failure_by DisplayVersion = None
+failure_by kind.OutOfMemory = Some NoMemory
+failure_by _ = Some CommandLine
+
+abbrev pub failure_by_saving : SaveFault → Failure
+failure_by_saving saving.Write = File
+failure_by_saving saving.NoMemory = NoMemory
+
+abbrev pub failure_at : FileAuditFault → Failure
+failure_at audit.Read = File
+failure_at audit.Write = Output
+failure_at audit.NoMemory = NoMemory
+
+-- 3 only for a history that isn't found legal
+abbrev pub status_by : Conclusion → ℕ
+status_by Done = 0
+status_by (Judged (Legal entries)) = 0
+status_by (Judged (Illegal entry)) = 3
+status_by (Judged (BadLine line)) = 3
+
+abbrev pub status_at : Result Conclusion Failure → ℕ
+status_at (Ok conclusion) = status_by conclusion
+status_at (Err failure) = status_of failure
+
+-- the line on standard error; which fault of a policy it tells, no definition says
+abbrev pub line_of : Failure → Option (List ℕ)
+line_of CommandLine = Some (codes "landtree: command line")
+line_of (Policy fault) = None
+line_of Opening = Some (codes "landtree: opening call refused")
+line_of File = Some (codes "landtree: file")
+line_of Output = Some (codes "landtree: output")
+line_of NoMemory = Some (codes "landtree: no memory")
+
+-- a run is done, or ends by any failure but a wrong command line
+abbrev pub EndsRun : Result Conclusion Failure → Type 0
+EndsRun (Ok Done) = ⊤
+EndsRun (Ok (Judged verdict)) = ⊥
+EndsRun (Err CommandLine) = ⊥
+EndsRun (Err failure) = ⊤
+
+-- saving a history, drawing a picture: its file or memory
+abbrev pub IsOfSaving : Failure → Type 0
+IsOfSaving File = ⊤
+IsOfSaving NoMemory = ⊤
+IsOfSaving failure = ⊥
+
+-- an audit, a schedule: its file or its picture's, its output, memory
+abbrev pub IsOfDevices : Failure → Type 0
+IsOfDevices File = ⊤
+IsOfDevices Output = ⊤
+IsOfDevices NoMemory = ⊤
+IsOfDevices failure = ⊥
+
+abbrev pub EndsAudit : Result Conclusion Failure → Type 0
+EndsAudit (Ok Done) = ⊥
+EndsAudit (Ok (Judged verdict)) = ⊤
+EndsAudit (Err failure) = IsOfDevices failure
+
+abbrev pub EndsSchedule : Result Conclusion Failure → Type 0
+EndsSchedule (Ok Done) = ⊤
+EndsSchedule (Ok (Judged verdict)) = ⊥
+EndsSchedule (Err failure) = IsOfDevices failure

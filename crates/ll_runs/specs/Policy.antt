@@ -1,0 +1,71 @@
+-- What the words and the policy's file set up. own
+use Rattle.std.specs.Prelude.{bytes_eq, ◌≡◌, ◌⊎◌, ⊤, ℕ, true, List, [], Option, Some, None, option_map, slice_get, unwrap_or, is_some}
+use Rattle.std.specs.Map.{lookup}
+use Rattle.std.specs.Str.{IsUtf8}
+use Rattle.toml.specs.Parse.{parse_document}
+use Rattle.ll_seq.specs.declared.call.Call.{Call}
+use Rattle.ll_policy.specs.declared.fault.PolicyFault.TheVariants.{NotToml}
+use Rattle.ll_policy.specs.Faults.{document_faults}
+use Rattle.ll_policy.specs.Plan.{Plan, IsPlanOf}
+use Rattle.ll_runs.specs.declared.failure.Failure.{Failure}
+use Rattle.ll_runs.specs.declared.failure.Failure.TheVariants.{CommandLine, Policy, Opening, File, Output, NoMemory}
+use Rattle.ll_session.specs.declared.fault.RunFault.{RunFault}
+use Rattle.ll_session.specs.declared.setup.Setup.{Setup}
+use Rattle.ll_runs.specs.Failure.{failure_of, IsOfSaving}
+use Rattle.ll_wire.specs.declared.header.Header.{Header}
+use Rattle.ll_wire.specs.declared.header.Version.TheVariants.{Three}
+use Rattle.ll_session.specs.Run.{MayEnd}
+use Rattle.ll_options.specs.Options.{RunOrder}
+
+-- the calls of the profile that is wanted, none where none is. There is no answer where the plan hasn't that profile
+abbrev pub profile_of : Option (List ℕ) → Plan → Option (List Call)
+profile_of None plan = Some []
+profile_of (Some name) plan = lookup (bytes_eq name) plan.profiles
+
+-- the setup by a policy with this plan
+pub record ByPlan (order : RunOrder) (plan : Plan) (setup : Setup) : Type 0 where
+  pub rules : setup.rules ≡ record { abi = plan.abi; copies = true }
+  pub loader : option_map (λ calls. calls.items) setup.loader ≡ Some plan.opening
+  pub profile : Some setup.profile.items ≡ profile_of order.profile plan
+
+-- the setup without a policy
+pub record ByLevel (order : RunOrder) (setup : Setup) : Type 0 where
+  pub rules : setup.rules ≡ record { abi = unwrap_or order.level 3; copies = true }
+  pub loader : setup.loader ≡ None
+  pub profile : setup.profile.items ≡ []
+
+-- the setup by the policy in this text, if a file of one is named
+abbrev pub IsSetBy : Option (List ℕ) → RunOrder → List ℕ → Setup → Type 0
+IsSetBy None order text setup = ByLevel order setup
+IsSetBy (Some file) order text setup = (plan : Plan) × IsPlanOf (parse_document text) plan × ByPlan order plan setup
+
+-- The setup that is wanted, where the policy's file has this text
+abbrev pub IsSetup : RunOrder → List ℕ → Setup → Type 0
+IsSetup order text setup =
+    (setup.nodes ≡ order.nodes) × (setup.history ≡ order.history) × IsSetBy order.policy order text setup
+
+-- Why there is no setup of a run: the first of what is wrong with the policy's text, a profile that a right policy
+-- hasn't, a file that can't be read, want of memory
+abbrev pub Lacks : RunOrder → List ℕ → Failure → Type 0
+Lacks order text (Policy fault) =
+    ((IsUtf8 text → ⊥) × (fault ≡ NotToml))
+    ⊎ (IsUtf8 text × (slice_get (document_faults (parse_document text)) 0 ≡ Some fault))
+Lacks order text CommandLine =
+    (plan : Plan) × IsPlanOf (parse_document text) plan × (profile_of order.profile plan ≡ None)
+Lacks order text File = ⊤
+Lacks order text NoMemory = ⊤
+Lacks order text Opening = ⊥
+Lacks order text Output = ⊥
+
+-- the header of the history of a run that is set up so
+abbrev pub header_of : Setup → Header
+header_of setup = record { version = Three setup.rules.abi; nodes = setup.nodes }
+
+-- Why nothing is run to its end and saved: there is no setup, or a fault ends the run of the one there is, or a history
+-- that is to be saved can't be
+abbrev pub MayFail : RunOrder → List ℕ → Failure → Type 0
+MayFail order text failure =
+    Lacks order text failure
+    ⊎ ((setup : Setup) × IsSetup order text setup × (fault : RunFault)
+    × MayEnd setup fault × (failure ≡ failure_of fault))
+    ⊎ ((is_some order.save ≡ true) × IsOfSaving failure)

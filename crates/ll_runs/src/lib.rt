@@ -1,0 +1,16 @@
+//! Runs of scripts and audits of histories, as the program's words ask for them, and how each ends.
+#![tactic(auto)]
+
+mod conclusion;
+mod failure;
+mod policy;
+mod program;
+mod shown;
+mod text;
+
+pub use conclusion::Conclusion;
+pub use failure::Failure;
+pub use policy::setup_of;
+pub use program::{audit, header_of, perform, save_history};
+pub use shown::Shown;
+pub use text::read_text;

@@ -1,0 +1,116 @@
+//! What the program sets up, by its words and by a policy.
+
+ghost use Rattle.std.specs.Prelude.{◌≡◌, ◌⊎◌, ℕ, List, Some, None, IfOk, IfErr, IfSome, IsOk};
+ghost use Rattle.toml.specs.Parse.{parse_document};
+ghost use Rattle.ll_policy.specs.Plan.{IsPlanOf};
+ghost use Rattle.ll_options.specs.Options.{RunOrder, order_in};
+ghost use Rattle.ll_session.specs.Session.{AreOthers};
+ghost use Rattle.ll_runs.specs.Policy.{ByLevel, ByPlan, IsSetup, Lacks, profile_of};
+
+use crate::failure::Failure;
+use crate::text::read_text;
+use ll_options::RunOptions;
+use ll_policy::{Policy, PolicyFault};
+use ll_rights::Abi;
+use ll_seq::{Call, Rules};
+use ll_session::Setup;
+use std::alloc::Global;
+use std::io::Read;
+
+// The policy that a text gives.
+fn policy_of(alloc: Global, text: &[u8]) -> Result<Policy, Failure>
+    ensures plan { IfOk result (IsPlanOf (parse_document text.now)) }
+    ensures failure { IfErr result (λ failure. (order : RunOrder) → Lacks order text.now failure) }
+{
+    match str::from_utf8(text) {
+        Ok(text) => match Policy::from_text(alloc, text) {
+            Ok(policy) => Ok(policy),
+            Err(fault) => Err(Failure::of_policy(fault)),
+        },
+        Err(_) => Err(Failure::Policy(PolicyFault::NotToml)),
+    }
+}
+
+// The calls of the profile that is wanted, if one is.
+fn calls_of(alloc: Global, options: &RunOptions, policy: &Policy) -> Result<Vec<Call>, Failure>
+    ensures calls { IfOk result (λ calls. Some calls.items ≡ profile_of (order_in options.now).profile policy.now) }
+    ensures others { IfOk result (λ calls. AreOthers calls.items) }
+    ensures failure { IfErr result (λ failure. (failure ≡ Failure.NoMemory)
+        ⊎ ((failure ≡ Failure.CommandLine) × (profile_of (order_in options.now).profile policy.now ≡ None))) }
+{
+    let Some(name) = options.profile else {
+        return Ok(Vec::new(alloc));
+    };
+    match policy.profile(alloc, name) {
+        Ok(Some(calls)) => Ok(calls),
+        Ok(None) => Err(Failure::CommandLine),
+        Err(_) => Err(Failure::NoMemory),
+    }
+}
+
+// The setup by a policy.
+fn by_policy(alloc: Global, options: &RunOptions, policy: &Policy) -> Result<Setup, Failure>
+    ensures nodes { IfOk result (λ setup. setup.nodes ≡ options.now.nodes) }
+    ensures history { IfOk result (λ setup. setup.history ≡ options.now.history) }
+    ensures setup { IfOk result (ByPlan (order_in options.now) policy.now) }
+    ensures failure { IfErr result (λ failure. (failure ≡ Failure.NoMemory)
+        ⊎ ((failure ≡ Failure.CommandLine) × (profile_of (order_in options.now).profile policy.now ≡ None))) }
+{
+    let profile = calls_of(alloc, options, policy)?;
+    let Ok(opening) = policy.opening(alloc) else {
+        return Err(Failure::NoMemory);
+    };
+    Ok(Setup {
+        rules: Rules {
+            abi: policy.abi(),
+            copies: true,
+        },
+        nodes: options.nodes,
+        history: options.history,
+        loader: Some(opening),
+        profile,
+    })
+}
+
+// The setup without a policy.
+fn by_level(alloc: Global, options: &RunOptions) -> Setup
+    ensures nodes { result.nodes ≡ options.now.nodes }
+    ensures history { result.history ≡ options.now.history }
+    ensures setup { ByLevel (order_in options.now) result }
+{
+    Setup {
+        rules: Rules {
+            abi: options.level.unwrap_or(Abi::NEWEST),
+            copies: true,
+        },
+        nodes: options.nodes,
+        history: options.history,
+        loader: None,
+        profile: Vec::new(alloc),
+    }
+}
+
+/// What the options ask for, with the policy in this file where they name one: else it isn't read.
+pub fn setup_of<R: Read>(
+    alloc: Global,
+    options: &RunOptions,
+    file: &mut R,
+) -> Result<Setup, Failure>
+    ensures setup { IfOk result (λ setup. (text : List ℕ) × IfSome (R.remaining file.old) (λ told. text ≡ told)
+        × IsSetup (order_in options.now) text setup) }
+    ensures failure { IfErr result (λ failure. (text : List ℕ) × IfSome (R.remaining file.old) (λ told. text ≡ told)
+        × Lacks (order_in options.now) text failure) }
+    ensures alone { options.now.policy ≡ None → IsOk result }
+{
+    if options.policy.is_none() {
+        return Ok(by_level(alloc, options));
+    }
+    let text = match read_text(alloc, file) {
+        Ok(text) => text,
+        Err(failure) => return Err(failure),
+    };
+    match policy_of(alloc, text.as_slice()) {
+        Ok(policy) => by_policy(alloc, options, &policy),
+        Err(failure) => Err(failure),
+    }
+}

@@ -1,0 +1,93 @@
+//! Runs and audits, as the program makes them.
+
+ghost use Rattle.std.specs.Prelude.{◌≡◌, ◌≤◌, ℕ, List, OnOk, OnErr, IfOk, IfErr, IfSome, Some};
+ghost use Rattle.std.specs.Io.KnownBytes.{Appends};
+ghost use Rattle.std.specs.List.{All};
+ghost use Rattle.ll_rights.specs.declared.limits.TheConstants.{TREE_NODES};
+ghost use Rattle.ll_lines.specs.Transcript.{Writes};
+ghost use Rattle.ll_saved.specs.Saved.{Judges, saved_text, verdict_line};
+ghost use Rattle.ll_session.specs.declared.fault.RunFault.{RunFault};
+ghost use Rattle.ll_session.specs.Run.{Runs, Begins, MayEnd};
+ghost use Rattle.ll_wire.specs.Entries.{IsEntry};
+ghost use Rattle.ll_wire.specs.Pieces.{pieces};
+ghost use Rattle.ll_runs.specs.Failure.{failure_of, IsOfDevices, IsOfSaving};
+ghost use Rattle.ll_runs.specs.Policy.{header_of};
+
+use crate::failure::Failure;
+use ll_saved::{Progress, Verdict, run_audit, save};
+use ll_seq::History;
+use ll_session::{Setup, run_script};
+use ll_wire::{Header, Version};
+use std::alloc::Global;
+use std::io::{Read, Write};
+
+/// Runs a script over a tree that is set up so. What is left is its history.
+pub fn perform<R: Read, W: Write>(
+    alloc: Global,
+    setup: Setup,
+    script: &mut R,
+    out: &mut W,
+) -> Result<History, Failure>
+    ensures transcript { IfOk result (λ history. IfSome (R.remaining script.old) (λ input. (left : List ℕ)
+        × (R.remaining script.new ≡ Some left)
+        × Writes (W.contents out.old) (W.contents out.new) (λ text. Runs setup input left text history.entries))) }
+    ensures entries { IfOk result (λ history. All IsEntry history.entries) }
+    ensures beginning { OnErr result (IfSome (R.remaining script.old) (λ input.
+        Writes (W.contents out.old) (W.contents out.new) (Begins setup input))) }
+    ensures failure { IfErr result (λ failure. (fault : RunFault)
+        × MayEnd setup fault × (failure ≡ failure_of fault)) }
+{
+    match run_script(alloc, setup, script, out) {
+        Ok(history) => Ok(history),
+        Err(fault) => Err(Failure::of_run(fault)),
+    }
+}
+
+/// The header of the history of a run that is set up so.
+pub fn header_of(setup: &Setup) -> Header
+    ensures header { result ≡ header_of setup.now }
+    ensures some { 1 ≤ result.nodes }
+    ensures most { result.nodes ≤ TREE_NODES }
+{
+    Header {
+        version: Version::Three(setup.rules.abi),
+        nodes: setup.nodes,
+    }
+}
+
+/// Saves a history under this header.
+pub fn save_history<W: Write>(
+    alloc: Global,
+    header: Header,
+    history: &History,
+    file: &mut W,
+) -> Result<(), Failure>
+    requires some { 1 ≤ header.nodes }
+    requires most { header.nodes ≤ TREE_NODES }
+    requires entries { All IsEntry history.now.entries }
+    ensures saved { OnOk result (Appends (W.contents file.old) (W.contents file.new)
+        (saved_text header history.now.entries)) }
+    ensures failure { IfErr result IsOfSaving }
+{
+    match save(alloc, header, history.entries(), file) {
+        Ok(()) => Ok(()),
+        Err(fault) => Err(Failure::of_saving(fault)),
+    }
+}
+
+/// Judges the history in a file, and writes the answer's line.
+pub fn audit<R: Read, W: Write, P: Progress>(
+    alloc: Global,
+    file: &mut R,
+    out: &mut W,
+    progress: &mut P,
+) -> Result<Verdict, Failure>
+    ensures verdict { IfOk result (λ verdict. IfSome (R.remaining file.old) (λ bytes. Judges (pieces bytes) verdict)) }
+    ensures answer { IfOk result (λ verdict. Appends (W.contents out.old) (W.contents out.new) (verdict_line verdict)) }
+    ensures failure { IfErr result IsOfDevices }
+{
+    match run_audit(alloc, file, out, progress) {
+        Ok(verdict) => Ok(verdict),
+        Err(failure) => Err(Failure::of_audit(failure)),
+    }
+}
