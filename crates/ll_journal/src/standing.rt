@@ -148,7 +148,8 @@ impl Seat {
 
     /// Whether one of these directories is on the walk's way.
     pub(crate) fn passes_any(&self, inodes: &[u64]) -> bool
-        ensures { result ≡ list_any (λ inode. option_map_or (λ (walk : walks.Walk). walks.passes walk inode) self.now.walk false) inodes.now }
+        ensures { result ≡ list_any (λ inode. option_map_or (λ (walk : walks.Walk). walks.passes walk inode)
+            self.now.walk false) inodes.now }
     {
         inodes.iter().any(|inode| self.passes(*inode))
     }

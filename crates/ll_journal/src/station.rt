@@ -28,7 +28,8 @@ pub enum Station {
 
 /// On what is common to its paths, and perhaps at the end of that.
 pub(crate) fn trunk_station(call: &Call, is_ended: bool) -> Station
-    ensures { result ≡ (if is_ended then if walks.has_two_paths call.now then Station.Fork else Station.End else Station.Trunk) }
+    ensures { result ≡ (if is_ended then if walks.has_two_paths call.now then Station.Fork else Station.End else
+        Station.Trunk) }
 {
     if !is_ended {
         Station::Trunk
@@ -41,7 +42,8 @@ pub(crate) fn trunk_station(call: &Call, is_ended: bool) -> Station
 
 /// Past the fork, with branches that are perhaps at their ends.
 pub(crate) fn split_station(is_first_ended: bool, is_second_ended: bool) -> Station
-    ensures { result ≡ (if is_first_ended then if is_second_ended then Station.End else Station.Second else Station.First) }
+    ensures { result ≡ (if is_first_ended then if is_second_ended then Station.End else Station.Second else
+        Station.First) }
 {
     if !is_first_ended {
         Station::First

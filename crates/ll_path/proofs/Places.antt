@@ -1,5 +1,6 @@
 -- Where the names of a path begin in its text.
-use Rattle.std.proofs.Common.{◌≡◌, ℕ, zero, suc, ◌+◌, ◌<◌, ◌≤◌, List, [], ◌∷◌, ◌++◌, length, take, drop, Option, Some, None, option_map, slice_get, refl, ap, ◌∙◌, subst, arith, length-drop}
+use Rattle.std.proofs.Common.{◌≡◌, ℕ, zero, suc, ◌+◌, ◌<◌, ◌≤◌, List, [], ◌∷◌, ◌++◌, length, take, drop, Option, Some}
+use Rattle.std.proofs.Common.{None, option_map, slice_get, refl, ap, ◌∙◌, subst, arith, length-drop}
 use Rattle.std.specs.List.{All, AllByRecursion, join_with_byte}
 use Rattle.std.proofs.Math.Seq.{drop-append-add}
 use Rattle.std.proofs.lemmas.Bool.{ne_eqb}
@@ -22,7 +23,12 @@ spelled_more [] depth name e = absurd (cc e)
 spelled_more (this ∷ path) zero name e =
     let same : this ≡ name = cc e in omega (arith, spelled_len-cons this [], ap length same)
 spelled_more (this ∷ path) (suc depth) name e =
-    omega (arith, spelled_more path depth name e, spelled_len-cons this (take (suc depth) path), spelled_len-cons this (take depth path))
+    omega (
+      arith,
+      spelled_more path depth name e,
+      spelled_len-cons this (take (suc depth) path),
+      spelled_len-cons this (take depth path),
+    )
 
 spelled_begins : (path : Path) (depth : ℕ) → spelled_len (take depth path) ≤ spelled_len path
 spelled_begins [] zero = omega arith
@@ -32,12 +38,17 @@ spelled_begins (this ∷ path) (suc depth) =
     omega (arith, spelled_begins path depth, spelled_len-cons this (take depth path), spelled_len-cons this path)
 
 -- where fewer bytes lie before it than all names have, there is a name
-is_before : (path : Path) (depth : ℕ) → depth ≤ length path → spelled_len (take depth path) < spelled_len path → depth < length path
+is_before : (path : Path) (depth : ℕ) → depth ≤ length path → spelled_len (take depth path) < spelled_len path
+    → depth < length path
 is_before [] zero le lt = absurd (omega arith)
 is_before [] (suc depth) le lt = absurd (omega arith)
 is_before (this ∷ path) zero le lt = omega arith
 is_before (this ∷ path) (suc depth) le lt =
-    omega (arith, is_before path depth (omega arith) (omega (arith, spelled_len-cons this (take depth path), spelled_len-cons this path)))
+    omega (
+      arith,
+      is_before path depth (omega arith)
+          (omega (arith, spelled_len-cons this (take depth path), spelled_len-cons this path)),
+    )
 
 -- the last name has no slash after it
 length-text : (path : Path) → 0 < length path → length (join_with_byte 47 path) + 1 ≡ spelled_len path
@@ -52,15 +63,23 @@ name_within : (path : Path) (place : Place) (name text : List ℕ) → IsPlace p
 name_within path place name text at e is =
     let before = at.before in
     let some = slice_get_within path place.depth name is in
-    omega (arith, ap length e, length-text path (omega arith), spelled_more path place.depth name is, spelled_begins path (suc place.depth))
+    omega (
+      arith,
+      ap length e,
+      length-text path (omega arith),
+      spelled_more path place.depth name is,
+      spelled_begins path (suc place.depth),
+    )
 
-some_byte : (path : Path) (depth : ℕ) (name : List ℕ) → AllByRecursion IsName path → slice_get path depth ≡ Some name → 0 < length name
+some_byte : (path : Path) (depth : ℕ) (name : List ℕ) → AllByRecursion IsName path → slice_get path depth ≡ Some name
+    → 0 < length name
 some_byte [] depth name h e = absurd (cc e)
 some_byte (this ∷ path) zero name h e = let same : this ≡ name = cc e in subst (λ (n : List ℕ). 0 < length n) same h.0.0
 some_byte (this ∷ path) (suc depth) name h e = some_byte path depth name h.1 e
 
 -- past the text no name begins
-pub none_at : (path : Path) (place : Place) (text : List ℕ) → IsPlace path place → text ≡ join_with_byte 47 path → All IsName path
+pub none_at : (path : Path) (place : Place) (text : List ℕ) → IsPlace path place → text ≡ join_with_byte 47 path
+    → All IsName path
     → length text ≤ place.byte → None ≡ slice_get path place.depth
 none_at path place text at e names past = by (slice_get path place.depth) refl
   where
@@ -80,12 +99,14 @@ rest_at (this ∷ path) zero lt = refl
 rest_at (this ∷ []) (suc depth) lt = absurd (omega arith)
 rest_at (this ∷ next ∷ path) (suc depth) lt =
     let left = spelled_len (take depth (next ∷ path)) in
-    let bytes : spelled_len (this ∷ take depth (next ∷ path)) ≡ length this + suc left = omega (arith, spelled_len-cons this (take depth (next ∷ path))) in
+    let bytes : spelled_len (this ∷ take depth (next ∷ path)) ≡ length this + suc left =
+    omega (arith, spelled_len-cons this (take depth (next ∷ path))) in
     ap (λ (n : ℕ). drop n (this ++ 47 ∷ join_with_byte 47 (next ∷ path))) bytes
     ∙ drop-append-add this (47 ∷ join_with_byte 47 (next ∷ path)) (suc left)
     ∙ rest_at (next ∷ path) depth (omega arith)
 
-cut_names : (names : Path) → 0 < length names → AllByRecursion IsName names → cut_at_slashes (join_with_byte 47 names) ≡ names
+cut_names : (names : Path) → 0 < length names → AllByRecursion IsName names
+    → cut_at_slashes (join_with_byte 47 names) ≡ names
 cut_names [] some h = absurd (omega arith)
 cut_names (name ∷ names) some h = cut_join name names h
 
@@ -94,16 +115,20 @@ all_after path zero h = h
 all_after [] (suc depth) h = tt
 all_after (this ∷ path) (suc depth) h = all_after path depth h.1
 
-pub names_from : (path : Path) (place : Place) (text : List ℕ) → IsPlace path place → text ≡ join_with_byte 47 path → All IsName path
+pub names_from : (path : Path) (place : Place) (text : List ℕ) → IsPlace path place → text ≡ join_with_byte 47 path
+    → All IsName path
     → place.byte < length text → path_of_text (47 ∷ drop place.byte text) ≡ drop place.depth path
 names_from path place text at e names within =
     let before = at.before in
     let some : 0 < length path = some_name path (omega (arith, ap length e)) in
     let deep = is_before path place.depth at.within (omega (arith, ap length e, length-text path some)) in
-    let rest : drop place.byte text ≡ join_with_byte 47 (drop place.depth path) = rw (e, before) (rest_at path place.depth deep) in
-    path_of_text-cut (drop place.byte text) (ne_eqb _ _ (λ none. absurd (omega (arith, none, length-drop place.byte text))))
+    let rest : drop place.byte text ≡ join_with_byte 47 (drop place.depth path) =
+    rw (e, before) (rest_at path place.depth deep) in
+    path_of_text-cut (drop place.byte text)
+    (ne_eqb _ _ (λ none. absurd (omega (arith, none, length-drop place.byte text))))
     ∙ ap cut_at_slashes rest
-    ∙ cut_names (drop place.depth path) (omega (arith, length-drop place.depth path)) (all_after path place.depth (recursion_from_All IsName path names))
+    ∙ cut_names (drop place.depth path) (omega (arith, length-drop place.depth path))
+    (all_after path place.depth (recursion_from_All IsName path names))
   where
     some_name : (p : Path) → 0 < length (join_with_byte 47 p) → 0 < length p
     some_name [] lt = absurd (omega arith)
@@ -116,18 +141,21 @@ first_from (this ∷ path) (suc depth) = first_from path depth
 
 -- ---- the next place
 
-some_len : (o : Option (List ℕ)) (len : ℕ) → option_map length o ≡ Some len → (name : List ℕ) × (o ≡ Some name) × (length name ≡ len)
+some_len : (o : Option (List ℕ)) (len : ℕ) → option_map length o ≡ Some len → (name : List ℕ) × (o ≡ Some name)
+    × (length name ≡ len)
 some_len None len e = absurd (cc e)
 some_len (Some name) len e = (name, refl, cc e)
 
-pub len_within : (path : Path) (place : Place) (len : ℕ) (text : List ℕ) → IsPlace path place → text ≡ join_with_byte 47 path
+pub len_within : (path : Path) (place : Place) (len : ℕ) (text : List ℕ) → IsPlace path place
+    → text ≡ join_with_byte 47 path
     → option_map length (slice_get path place.depth) ≡ Some len → place.byte + len ≤ length text
 len_within path place len text at e is =
     let name = some_len (slice_get path place.depth) len is in
     let long = name.2 in
     omega (arith, name_within path place name.0 text at e name.1)
 
-pub place_next : (path : Path) (place : Place) (len : ℕ) → IsPlace path place → option_map length (slice_get path place.depth) ≡ Some len
+pub place_next : (path : Path) (place : Place) (len : ℕ) → IsPlace path place
+    → option_map length (slice_get path place.depth) ≡ Some len
     → IsPlace path (record { depth = place.depth + 1; byte = place.byte + len + 1 })
 place_next path place len at is =
     let name = some_len (slice_get path place.depth) len is in
@@ -136,5 +164,9 @@ place_next path place len at is =
     let more : place.depth + 1 ≡ suc place.depth = omega arith in
     record {
       within = omega (arith, slice_get_within path place.depth name.0 name.1);
-      before = omega (arith, ap (λ (n : ℕ). spelled_len (take n path)) more, spelled_more path place.depth name.0 name.1);
+      before = omega (
+        arith,
+        ap (λ (n : ℕ). spelled_len (take n path)) more,
+        spelled_more path place.depth name.0 name.1,
+      );
     }

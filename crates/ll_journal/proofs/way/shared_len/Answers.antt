@@ -8,7 +8,8 @@ use Rattle.ll_journal.proofs.Ahead.{common_less, common_nothing, length-common_p
 use Rattle.ll_journal.proofs.way.shared_len.Goals as goal
 
 -- calls of `next` up to the first `None` give each name once
-all_given : (names : List (Bor Name)) (left : Path) → Drains (YieldsFirstRef {S = Path} {A = Name} (λ rest. rest)) left names → length names ≡ length left
+all_given : (names : List (Bor Name)) (left : Path)
+    → Drains (YieldsFirstRef {S = Path} {A = Name} (λ rest. rest)) left names → length names ≡ length left
 all_given [] left ran = sym (ap length (ran.1.1 ∙ ran.1.2.0))
 all_given (name ∷ names) left ran =
     let turn = ran.1.1 in
@@ -32,7 +33,8 @@ returns-in-Some-Some c =
     let many = ran.2 ∙ all_given ran.0 c.common.result ran.1 in
     let both : c.common.result ≡ common (names_in c.args.one) (names_in c.args.other) =
     c.common.ensures ∙ sym (λ i. common (names_in (c.in-Some-Some.is-0 i)) (names_in (c.in-Some-Some.is-1 i))) in
-    let most : c.min-most.result ≡ min (length (parent (names_in c.args.one))) (length (parent (names_in c.args.other))) =
+    let most : c.min-most.result ≡ min (length (parent (names_in c.args.one)))
+    (length (parent (names_in c.args.other))) =
     c.min-most.ensures ∙ (λ i. min (c.way_len.ensures.len i) (c.way_len-2.ensures.len i)) in
     c.min.ensures ∙ (λ i. min ((many ∙ ap length both) i) (most i))
     ∙ sym (length-common_parents (names_in c.args.one) (names_in c.args.other))

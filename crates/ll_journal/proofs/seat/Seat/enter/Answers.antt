@@ -7,5 +7,6 @@ use Rattle.ll_journal.proofs.seat.Seat.enter.Goals as goal
 
 pub returns : goal.returns
 returns c =
-    subst (λ (s : book.Seat). seat_of (record c.self.inside { stage = stage.Down; trunk = c.start.new.self }) ≡ record s { walk = option_map (entered s.client.domain) s.walk }) c.self.view_is
+    subst (λ (s : book.Seat). seat_of (record c.self.inside { stage = stage.Down; trunk = c.start.new.self })
+    ≡ record s { walk = option_map (entered s.client.domain) s.walk }) c.self.view_is
     (entered_is c.self.inside c.start.new.self c.start.ensures.stands)

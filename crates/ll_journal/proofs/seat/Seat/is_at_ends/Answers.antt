@@ -13,7 +13,8 @@ pub returns-then-not-has_two_paths : goal.returns-then-not-has_two_paths
 returns-then-not-has_two_paths c =
     let fit = trunk_fits c.self.inside c.in-Some.call c.in-Some.is c.in-Down.is c.self.invariant.fit in
     let ahead = drop (depth_of c.self.inside.trunk.chain.items) (trunk_path c.in-Some.call) in
-    c.is_at_end.ensures ∙ ended (trunk_path c.in-Some.call) (depth_of c.self.inside.trunk.chain.items) c.self.inside.trunk.ahead fit.ahead
+    c.is_at_end.ensures ∙ ended (trunk_path c.in-Some.call) (depth_of c.self.inside.trunk.chain.items)
+    c.self.inside.trunk.ahead fit.ahead
     ∙ ap (λ b. not b && is_root ahead) (sym c.if-not-has_two_paths.true ∙ c.has_two_paths.ensures)
     ∙ sym (at_ends_by c.self.inside c.in-Some.call stage.Down c.in-Some.is c.in-Down.is)
     ∙ ap is_at_ends c.self.view_is
@@ -21,9 +22,13 @@ returns-then-not-has_two_paths c =
 pub returns-then-is_at_end : goal.returns-then-is_at_end
 returns-then-is_at_end c =
     let fit = split_fits c.self.inside c.in-Some.call c.in-Some.is c.in-Split.is c.self.invariant.fit in
-    let first = c.is_at_end-in-Split.ensures ∙ ended (parent (first_path c.in-Some.call)) (depth_of c.self.inside.first.chain.items) c.self.inside.first.ahead fit.first.ahead in
+    let first = c.is_at_end-in-Split.ensures
+    ∙ ended (parent (first_path c.in-Some.call)) (depth_of c.self.inside.first.chain.items)
+    c.self.inside.first.ahead fit.first.ahead in
     let second = drop (depth_of c.self.inside.second.chain.items) (parent (second_path c.in-Some.call)) in
-    c.is_at_end-then-is_at_end.ensures ∙ ended (parent (second_path c.in-Some.call)) (depth_of c.self.inside.second.chain.items) c.self.inside.second.ahead fit.second.ahead
+    c.is_at_end-then-is_at_end.ensures
+    ∙ ended (parent (second_path c.in-Some.call)) (depth_of c.self.inside.second.chain.items)
+    c.self.inside.second.ahead fit.second.ahead
     ∙ ap (λ b. b && is_root second) (sym c.if-is_at_end.true ∙ first)
     ∙ sym (at_ends_by c.self.inside c.in-Some.call stage.Split c.in-Some.is c.in-Split.is)
     ∙ ap is_at_ends c.self.view_is
@@ -31,7 +36,9 @@ returns-then-is_at_end c =
 pub returns-else-is_at_end : goal.returns-else-is_at_end
 returns-else-is_at_end c =
     let fit = split_fits c.self.inside c.in-Some.call c.in-Some.is c.in-Split.is c.self.invariant.fit in
-    let first = c.is_at_end-in-Split.ensures ∙ ended (parent (first_path c.in-Some.call)) (depth_of c.self.inside.first.chain.items) c.self.inside.first.ahead fit.first.ahead in
+    let first = c.is_at_end-in-Split.ensures
+    ∙ ended (parent (first_path c.in-Some.call)) (depth_of c.self.inside.first.chain.items)
+    c.self.inside.first.ahead fit.first.ahead in
     let second = drop (depth_of c.self.inside.second.chain.items) (parent (second_path c.in-Some.call)) in
     c.if-is_at_end.false
     ∙ ap (λ b. b && is_root second) (sym c.if-is_at_end.false ∙ first)

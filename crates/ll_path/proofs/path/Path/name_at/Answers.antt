@@ -5,7 +5,8 @@ use Rattle.ll_path.proofs.Places.{none_at, names_from, first_from}
 use Rattle.ll_path.proofs.path.Path.name_at.Goals as goal
 
 pub returns-then-place-joined : goal.returns-then-place-joined
-returns-then-place-joined c = none_at _ _ _ c.requires c.joined-joined.ensures.text c.joined-joined.ensures.each c.if-place-joined.true
+returns-then-place-joined c =
+    none_at _ _ _ c.requires c.joined-joined.ensures.text c.joined-joined.ensures.each c.if-place-joined.true
 
 -- what `next` gives of some names
 first_given : (given : Option (Bor (List ℕ))) (names left : Path)
