@@ -1,18 +1,21 @@
 -- Which node a call may change or tell of, and whether it may make one, by where its last name stands.
-use Rattle.std.specs.Prelude.{◌≡◌, ℕ, Bool, Option, nat_le, refl}
+use Rattle.std.specs.Prelude.{◌≡◌, ℕ, Bool, refl}
 use Rattle.std.specs.Ordering.{nat_cmp}
 use Rattle.ll_rights.specs.Map.{Map}
 use Rattle.ll_answer.specs.Near.{may_make, nodes_of}
 use Rattle.ll_answer.specs.declared.found.Found.{Found}
 use Rattle.ll_held.specs.declared.held.Held.{Held}
 use Rattle.ll_seq.specs.declared.call.Call.{Call}
-use Rattle.ll_seq.specs.declared.call.Call.TheVariants.{Make, Open, Read, Write, Ftruncate, Close, Truncate, ReadDir, Stat, Exec, Unlink, Rmdir, Rename, RenameNoreplace, Exchange, Link, Ruleset, Allow, Confine, Spawn, Connect}
+use Rattle.ll_seq.specs.declared.call.Call.TheVariants.{Make, Open, Read, Write, Ftruncate, Close, Truncate, ReadDir}
+use Rattle.ll_seq.specs.declared.call.Call.TheVariants.{Stat, Exec, Unlink, Rmdir, Rename, RenameNoreplace, Exchange}
+use Rattle.ll_seq.specs.declared.call.Call.TheVariants.{Link, Ruleset, Allow, Confine, Spawn, Connect}
 use Rattle.ll_seq.specs.Call.{second_path}
 use Rattle.ll_seq.specs.declared.facts.Fact.{Fact}
 use Rattle.ll_journal.specs.Looks.{found_at, found_last, last_found, spot_at}
 use Rattle.ll_journal.specs.Needs.{slot_besides}
 
-pub same_nodes : (call : Call) (found : Found) → nodes_of call (found_last (last_found call found)) ≡ nodes_of call found
+pub same_nodes : (call : Call) (found : Found)
+    → nodes_of call (found_last (last_found call found)) ≡ nodes_of call found
 same_nodes (Make kind t) found = refl
 same_nodes (Open mode t) found = refl
 same_nodes (Read fd offset count) found = refl
@@ -60,7 +63,9 @@ same_made Connect found = refl
 
 -- in the directory of the second path's leg
 module _ (places : Map nat_cmp ℕ) (spare : ℕ) (facts : Map nat_cmp Fact) (full : Bool) (here : Held) where
-  pub same_besides : (call : Call) → slot_besides places spare call (found_last (spot_at facts here (second_path call))) ≡ slot_besides places spare call (found_at facts full here here call)
+  pub same_besides : (call : Call)
+      → slot_besides places spare call (found_last (spot_at facts here (second_path call)))
+      ≡ slot_besides places spare call (found_at facts full here here call)
   same_besides (Make kind t) = refl
   same_besides (Open mode t) = refl
   same_besides (Read fd offset count) = refl

@@ -3,6 +3,7 @@ pub mod Begun
 pub mod Starting
 pub mod Ahead
 pub mod Seats
+pub mod SeatForks
 pub mod MarkOf
 pub mod Shown
 pub mod LentAfter

@@ -1,27 +1,44 @@
 -- What a walk's moves make of its seat.
-use Rattle.std.specs.Prelude.{◌≡◌, ℕ, zero, suc, ◌+◌, ◌-◌, ◌<◌, ◌≤◌, Bool, true, false, cond, List, [], ◌∷◌, ◌++◌, length, Option, Some, None, is_none, is_some, unwrap_or, ◌&&◌, option_map, option_and_then, slice_get, slice_index_or, take, drop, IsSome, IfSome, refl, ⊤}
-use Rattle.std.specs.Borrow.{Bor}
+use Rattle.std.specs.Prelude.{◌≡◌, ℕ, zero, suc, ◌+◌, ◌-◌, ◌<◌, ◌≤◌, true, false, cond, List, [], ◌∷◌, ◌++◌}
+use Rattle.std.specs.Prelude.{length, Option, Some, None, option_map, option_and_then}
+use Rattle.std.specs.Prelude.{slice_get, slice_index_or, take, drop, IsSome, IfSome, refl, ⊤}
 use Rattle.std.specs.Option.{option_map_or}
-use Rattle.std.proofs.Common.{sym, subst, ap, ◌∙◌, arith, length-append}
+use Rattle.std.proofs.Common.{sym, subst, ap, ◌∙◌, arith, length-append, append_assoc}
 use Rattle.ll_rules.specs.Layer.{Layer}
 use Rattle.ll_decide.specs.Masks.{AreMasks}
-use Rattle.ll_path.specs.Path.{Path, common, parent, is_root}
+use Rattle.ll_path.specs.Path.{Path, parent, is_root}
 use Rattle.ll_seq.specs.declared.call.Call.{Call}
 use Rattle.ll_seq.specs.Call.{first_path, second_path}
 use Rattle.ll_seq.specs.State.{Name, root}
-use Rattle.ll_walks.specs.Walk.{Leg, Position, Down, Split, Walk, trunk_path, first_leg, masks_below, turn, with_turn, has_two_paths, forked, toward}
+use Rattle.ll_walks.specs.Walk.{Leg, Position, Down, Split, Walk, trunk_path, first_leg, masks_below, turn, with_turn}
 use Rattle.ll_walks.proofs.CarriedMasks.{masks_above, masks_down}
-use Rattle.ll_walks.proofs.Ways.{common_left, common_right}
-use Rattle.ll_journal.specs.declared.seat.Leg as kept
-use Rattle.ll_journal.specs.declared.seat.Stage.{Stage}
-use Rattle.ll_journal.specs.declared.seat.Stage.TheVariants as stage
-use Rattle.ll_journal.specs.declared.seat.Turn.{Turn}
-use Rattle.ll_journal.specs.declared.seat.Turn.TheVariants as turns
+use Rattle.ll_walks.proofs.Ways.{common_left}
+use Rattle.ll_path.specs.Place.{IsPlace}
+use Rattle.ll_journal.specs.declared.leg.Leg as kept
+use Rattle.ll_journal.specs.declared.stage.Stage.{Stage}
+use Rattle.ll_journal.specs.declared.stage.Stage.TheVariants as stage
+use Rattle.ll_journal.specs.declared.stage.Turn.{Turn}
+use Rattle.ll_journal.specs.declared.stage.Turn.TheVariants as turns
 use Rattle.ll_journal.specs.declared.seat.Seat.TheInside.{Inside}
 use Rattle.ll_journal.specs.declared.station.Station.TheVariants as station
 use Rattle.ll_journal.specs.Book as book
 use Rattle.ll_journal.specs.Stations.{station_at, station_of}
-use Rattle.ll_journal.specs.Seated.{granted, depth_of, last_of, leg_of, position_at, seat_of, Fits, FitSplit, FitAt, AreShort, StandsAt, turn_at, next_in, entered, lower, gone_down, split}
+use Rattle.ll_journal.specs.Seated.{granted, depth_of, last_of, leg_of, position_at, seat_of, Fits, FitSplit, FitAt}
+use Rattle.ll_journal.specs.Seated.{AreShort, StandsAt, none_left, name_on, turn_at, next_in, here_in, entered}
+use Rattle.ll_journal.specs.Seated.{lower, gone_down, split}
+use Rattle.ll_journal.proofs.Ahead.{common_less, parent_begins, longer, shorter, get_longer, ended, name_is}
+
+-- ---- what is kept, by the stage
+
+pub trunk_fits : (seat : Inside) (call : Call) → seat.call ≡ Some call → seat.stage ≡ stage.Down
+    → IfSome seat.call (FitAt seat.stage seat) → Fits seat.client.domain (trunk_path call) seat.trunk
+trunk_fits seat call is down fit =
+    subst (λ n. FitAt n seat call) down (subst (λ (o : Option Call). IfSome o (FitAt seat.stage seat)) is fit)
+
+pub split_fits : (seat : Inside) (call : Call) → seat.call ≡ Some call → seat.stage ≡ stage.Split
+    → IfSome seat.call (FitAt seat.stage seat) → FitSplit seat call
+split_fits seat call is split fit =
+    subst (λ n. FitAt n seat call) split (subst (λ (o : Option Call). IfSome o (FitAt seat.stage seat)) is fit)
 
 -- ---- the root
 
@@ -29,54 +46,78 @@ first_masks : (domain : List Layer) → granted domain (root ∷ []) ≡ (first_
 first_masks domain = sym (ap (λ ms. masks_below domain ms root) (masks_above domain) ∙ masks_down domain [] root)
 
 leg_at_root : (domain : List Layer) (path : Path) → leg_of domain path (root ∷ []) ≡ first_leg domain path
-leg_at_root domain path = ap (λ ms. record { walked = []; ahead = path; chain = root ∷ []; here = root; masks = ms }) (first_masks domain)
+leg_at_root domain path = ap (λ ms. record { walked = []; ahead = path; chain = root ∷ []; here = root; masks = ms })
+    (first_masks domain)
 
 pub entered_is : (seat : Inside) (trunk : kept.Leg) → StandsAt seat.client.domain (root ∷ []) trunk
-    → seat_of (record seat { stage = stage.Down; trunk = trunk }) ≡ record (seat_of seat) { walk = option_map (entered seat.client.domain) (seat_of seat).walk }
+    → seat_of (record seat { stage = stage.Down; trunk = trunk })
+    ≡ record (seat_of seat) { walk = option_map (entered seat.client.domain) (seat_of seat).walk }
 entered_is seat trunk at = by seat.call
   where
-    leg : (call : Call) → leg_of seat.client.domain (trunk_path call) trunk.chain.items ≡ first_leg seat.client.domain (trunk_path call)
-    leg call = ap (leg_of seat.client.domain (trunk_path call)) at.chain ∙ leg_at_root seat.client.domain (trunk_path call)
+    leg : (call : Call) → leg_of seat.client.domain (trunk_path call) trunk.chain.items
+        ≡ first_leg seat.client.domain (trunk_path call)
+    leg call = ap (leg_of seat.client.domain (trunk_path call)) at.chain
+        ∙ leg_at_root seat.client.domain (trunk_path call)
 
-    by : (o : Option Call) → seat_of (record seat { call = o; stage = stage.Down; trunk = trunk }) ≡ record (seat_of (record seat { call = o })) { walk = option_map (entered seat.client.domain) (seat_of (record seat { call = o })).walk }
+    by : (o : Option Call) → seat_of (record seat { call = o; stage = stage.Down; trunk = trunk })
+        ≡ record (seat_of (record seat { call = o }))
+        { walk = option_map (entered seat.client.domain) (seat_of (record seat { call = o })).walk }
     by None = refl
-    by (Some call) = ap (λ (l : Leg). record { client = seat.client; spare = seat.spare; walk = Some (record { call = call; starts = seat.starts; stale = seat.is_stale; at = Down l }) }) (leg call)
+    by (Some call) = ap (λ (l : Leg).
+        record {
+          client = seat.client;
+          spare = seat.spare;
+          walk = Some (record { call = call; starts = seat.starts; stale = seat.is_stale; at = Down l });
+        }) (leg call)
 
 -- ---- one name further
 
-cut_at : (path : Path) (d : ℕ) (name : Name) → slice_get path d ≡ Some name → (drop d path ≡ name ∷ drop (suc d) path) × (take (suc d) path ≡ take d path ++ name ∷ []) × (d < length path)
+cut_at : (path : Path) (d : ℕ) (name : Name) → slice_get path d ≡ Some name → (drop d path ≡ name ∷ drop (suc d) path)
+    × (take (suc d) path ≡ take d path ++ name ∷ []) × (d < length path)
 cut_at [] d name e = absurd (cc e)
-cut_at (x ∷ path) zero name e = let same : x ≡ name = (cc e) in (ap (λ y. y ∷ path) same, ap (λ y. y ∷ []) same, omega arith)
-cut_at (x ∷ path) (suc d) name e = let rest = cut_at path d name e in (rest.0, ap (λ p. x ∷ p) rest.1, let lt = rest.2 in omega arith)
+cut_at (x ∷ path) zero name e = let same : x ≡ name = (cc e) in
+    (ap (λ y. y ∷ path) same, ap (λ y. y ∷ []) same, omega arith)
+cut_at (x ∷ path) (suc d) name e = let rest = cut_at path d name e in
+    (rest.0, ap (λ p. x ∷ p) rest.1, let lt = rest.2 in omega arith)
 
 last_pushed : (chain : List ℕ) (x : ℕ) → slice_index_or (chain ++ x ∷ []) (length chain) 0 ≡ x
 last_pushed [] x = refl
 last_pushed (y ∷ chain) x = last_pushed chain x
 
-leg_down : (domain : List Layer) (path : Path) (chain : List ℕ) (inode : ℕ) (name : Name) → 0 < length chain → slice_get path (depth_of chain) ≡ Some name
-    → leg_of domain path (chain ++ inode ∷ []) ≡ lower domain inode (leg_of domain path chain) (drop (depth_of chain) path)
+leg_down : (domain : List Layer) (path : Path) (chain : List ℕ) (inode : ℕ) (name : Name) → 0 < length chain
+    → slice_get path (depth_of chain) ≡ Some name
+    → leg_of domain path (chain ++ inode ∷ [])
+    ≡ lower domain inode (leg_of domain path chain) (drop (depth_of chain) path)
 leg_down domain path chain inode name some e =
     let cut = cut_at path (depth_of chain) name e in
     let long : length (chain ++ inode ∷ []) ≡ length chain + 1 = length-append chain (inode ∷ []) in
     let depth : depth_of (chain ++ inode ∷ []) ≡ suc (depth_of chain) = omega (arith, long) in
     let end : length (chain ++ inode ∷ []) - 1 ≡ length chain = omega (arith, long) in
-    let here : last_of (chain ++ inode ∷ []) ≡ inode = ap (λ k. slice_index_or (chain ++ inode ∷ []) k 0) end ∙ last_pushed chain inode in
-    let walked : take (depth_of (chain ++ inode ∷ [])) path ≡ take (depth_of chain) path ++ name ∷ [] = ap (λ k. take k path) depth ∙ cut.1 in
-    let ahead : drop (depth_of (chain ++ inode ∷ [])) path ≡ drop (suc (depth_of chain)) path = ap (λ k. drop k path) depth in
-    let masks : granted domain (chain ++ inode ∷ []) ≡ masks_below domain (granted domain chain) inode = sym (masks_down domain chain inode) in
+    let here : last_of (chain ++ inode ∷ []) ≡ inode =
+    ap (λ k. slice_index_or (chain ++ inode ∷ []) k 0) end ∙ last_pushed chain inode in
+    let walked : take (depth_of (chain ++ inode ∷ [])) path ≡ take (depth_of chain) path ++ name ∷ [] =
+    ap (λ k. take k path) depth ∙ cut.1 in
+    let ahead : drop (depth_of (chain ++ inode ∷ [])) path ≡ drop (suc (depth_of chain)) path =
+    ap (λ k. drop k path) depth in
+    let masks : granted domain (chain ++ inode ∷ []) ≡ masks_below domain (granted domain chain) inode =
+    sym (masks_down domain chain inode) in
     (λ i. record { walked = walked i; ahead = ahead i; chain = chain ++ inode ∷ []; here = here i; masks = masks i })
     ∙ ap (lower domain inode (leg_of domain path chain)) (sym cut.0)
 
 -- ---- the leg in turn
 
-some_left : (path : Path) (d : ℕ) (o : Option Name) → o ≡ slice_get path d → is_root (drop d path) ≡ is_none o
-some_left [] zero o e = ap is_none (sym e)
-some_left [] (suc d) o e = ap is_none (sym e)
-some_left (x ∷ path) zero o e = ap is_none (sym e)
-some_left (x ∷ path) (suc d) o e = some_left path d o e
+-- as the walk of the model has it
+abbrev turn_now : Stage → Call → List ℕ → Turn
+turn_now now call first = turn_at now (is_root (drop (depth_of first) (parent (first_path call))))
 
-pub turn_found : (now : Stage) (call : Call) (first : List ℕ) (o : Option Name) → now ≡ stage.Split → o ≡ slice_get (parent (first_path call)) (depth_of first) → cond (is_none o) turns.Second turns.First ≡ turn_at now call first
-turn_found now call first o e is = sym (ap (λ n. turn_at n call first) e ∙ ap (λ b. cond b turns.Second turns.First) (some_left (parent (first_path call)) (depth_of first) o is))
+-- by the names that are kept of the first path's leg
+turn_kept : (now : Stage) (seat : Inside) (call : Call) → FitAt now seat call
+    → turn_at now (none_left seat.first.ahead) ≡ turn_now now call seat.first.chain.items
+turn_kept stage.Above seat call fit = refl
+turn_kept stage.Down seat call fit = refl
+turn_kept stage.Split seat call fit =
+    ap (turn_at stage.Split) (ended (parent (first_path call)) (depth_of seat.first.chain.items) seat.first.ahead
+    fit.first.ahead)
 
 next_ahead : (path : Path) (d : ℕ) → slice_get (drop d path) 0 ≡ slice_get path d
 next_ahead [] zero = refl
@@ -91,11 +132,14 @@ path_in turns.Trunk call = trunk_path call
 path_in turns.First call = parent (first_path call)
 path_in turns.Second call = parent (second_path call)
 
+abbrev pub kept_in : Turn → Inside → kept.Leg
+kept_in turns.No seat = seat.trunk
+kept_in turns.Trunk seat = seat.trunk
+kept_in turns.First seat = seat.first
+kept_in turns.Second seat = seat.second
+
 abbrev pub chain_in : Turn → Inside → List ℕ
-chain_in turns.No seat = []
-chain_in turns.Trunk seat = seat.trunk.chain.items
-chain_in turns.First seat = seat.first.chain.items
-chain_in turns.Second seat = seat.second.chain.items
+chain_in t seat = (kept_in t seat).chain.items
 
 abbrev pub leg_in : Turn → Inside → Call → Option Leg
 leg_in turns.No seat call = None
@@ -103,27 +147,18 @@ leg_in turns.Trunk seat call = Some (leg_of seat.client.domain (trunk_path call)
 leg_in turns.First seat call = Some (leg_of seat.client.domain (parent (first_path call)) seat.first.chain.items)
 leg_in turns.Second seat call = Some (leg_of seat.client.domain (parent (second_path call)) seat.second.chain.items)
 
-turn_is : (now : Stage) (seat : Inside) (call : Call) → turn (position_at now seat call) ≡ leg_in (turn_at now call seat.first.chain.items) seat call
+turn_is : (now : Stage) (seat : Inside) (call : Call)
+    → turn (position_at now seat call) ≡ leg_in (turn_now now call seat.first.chain.items) seat call
 turn_is stage.Above seat call = refl
 turn_is stage.Down seat call = refl
-turn_is stage.Split seat call = elim (is_root (drop (depth_of seat.first.chain.items) (parent (first_path call)))) as (λ b. Some (cond b (leg_of seat.client.domain (parent (second_path call)) seat.second.chain.items) (leg_of seat.client.domain (parent (first_path call)) seat.first.chain.items)) ≡ leg_in (cond b turns.Second turns.First) seat call) [
-  | true ↦ refl
-  | false ↦ refl
-]
-
-module _ (seat : Inside) (call : Call) (is : seat.call ≡ Some call) (t : Turn) (found : t ≡ turn_at seat.stage call seat.first.chain.items) where
-  in_turn : turn (position_at seat.stage seat call) ≡ leg_in t seat call
-  in_turn = turn_is seat.stage seat call ∙ ap (λ u. leg_in u seat call) (sym found)
-
-  pub next_is : next_in (seat_of seat) ≡ option_and_then (λ (leg : Leg). slice_get leg.ahead 0) (leg_in t seat call)
-  next_is = ap (λ (o : Option Call). next_in (record (seat_of seat) { walk = option_map (λ k. record { call = k; starts = seat.starts; stale = seat.is_stale; at = position_at seat.stage seat k }) o })) is
-      ∙ ap (option_and_then (λ (leg : Leg). slice_get leg.ahead 0)) in_turn
-
--- ---- the leg in turn goes down
-
-some_name : (o : Option Name) → IsSome o → (name : Name) × (o ≡ Some name)
-some_name None e = absurd (cc e)
-some_name (Some name) e = (name, refl)
+turn_is stage.Split seat call =
+    elim (is_root (drop (depth_of seat.first.chain.items) (parent (first_path call)))) as
+    (λ b. Some (cond b (leg_of seat.client.domain (parent (second_path call)) seat.second.chain.items)
+    (leg_of seat.client.domain (parent (first_path call)) seat.first.chain.items))
+    ≡ leg_in (cond b turns.Second turns.First) seat call) [
+      | true ↦ refl
+      | false ↦ refl
+    ]
 
 -- what is kept of the leg in turn
 abbrev FitTurn : Turn → Inside → Call → Type 0
@@ -132,13 +167,105 @@ FitTurn turns.Trunk seat call = Fits seat.client.domain (trunk_path call) seat.t
 FitTurn turns.First seat call = Fits seat.client.domain (parent (first_path call)) seat.first
 FitTurn turns.Second seat call = Fits seat.client.domain (parent (second_path call)) seat.second
 
-fit_turn : (now : Stage) (seat : Inside) (call : Call) → FitAt now seat call → FitTurn (turn_at now call seat.first.chain.items) seat call
+fit_turn : (now : Stage) (seat : Inside) (call : Call) → FitAt now seat call
+    → FitTurn (turn_now now call seat.first.chain.items) seat call
 fit_turn stage.Above seat call fit = tt
 fit_turn stage.Down seat call fit = fit
-fit_turn stage.Split seat call fit = elim (is_root (drop (depth_of seat.first.chain.items) (parent (first_path call)))) as (λ b. FitTurn (cond b turns.Second turns.First) seat call) [
-  | true ↦ fit.second
-  | false ↦ fit.first
-]
+fit_turn stage.Split seat call fit =
+    elim (is_root (drop (depth_of seat.first.chain.items) (parent (first_path call)))) as
+    (λ b. FitTurn (cond b turns.Second turns.First) seat call) [
+      | true ↦ fit.second
+      | false ↦ fit.first
+    ]
+
+-- the path on which the leg in turn goes some way
+abbrev pub whole_in : Turn → Call → Path
+whole_in turns.No call = []
+whole_in turns.Trunk call = first_path call
+whole_in turns.First call = first_path call
+whole_in turns.Second call = second_path call
+
+way_begins : (t : Turn) (call : Call) → (more : Path) × (path_in t call ++ more ≡ whole_in t call)
+way_begins turns.No call = ([], refl)
+way_begins turns.Trunk call =
+    let way = common_left (parent (first_path call)) (parent (second_path call)) in
+    let rest = parent_begins (first_path call) in
+    (way.0 ++ rest.0, sym (append_assoc (trunk_path call) way.0 rest.0) ∙ ap (λ (p : Path). p ++ rest.0) way.1 ∙ rest.1)
+way_begins turns.First call = parent_begins (first_path call)
+way_begins turns.Second call = parent_begins (second_path call)
+
+module _ (seat : Inside) (call : Call) (is : seat.call ≡ Some call) (t : Turn)
+    (found : t ≡ turn_at seat.stage (none_left seat.first.ahead)) (fit : IfSome seat.call (FitAt seat.stage seat)) where
+  fit_here : FitAt seat.stage seat call
+  fit_here = subst (λ (o : Option Call). IfSome o (FitAt seat.stage seat)) is fit
+
+  found_now : t ≡ turn_now seat.stage call seat.first.chain.items
+  found_now = found ∙ turn_kept seat.stage seat call fit_here
+
+  in_turn : turn (position_at seat.stage seat call) ≡ leg_in t seat call
+  in_turn = turn_is seat.stage seat call ∙ ap (λ u. leg_in u seat call) (sym found_now)
+
+  fits : FitTurn t seat call
+  fits = subst (λ u. FitTurn u seat call) (sym found_now) (fit_turn seat.stage seat call fit_here)
+
+  pub next_is : next_in (seat_of seat) ≡ option_and_then (λ (leg : Leg). slice_get leg.ahead 0) (leg_in t seat call)
+  next_is = ap (λ (o : Option Call). next_in
+      (record (seat_of seat) {
+        walk = option_map
+            (λ k. record { call = k; starts = seat.starts; stale = seat.is_stale; at = position_at seat.stage seat k })
+            o;
+      }))
+      is
+      ∙ ap (option_and_then (λ (leg : Leg). slice_get leg.ahead 0)) in_turn
+
+  pub here_is : here_in (seat_of seat) ≡ option_map (λ (leg : Leg). leg.here) (leg_in t seat call)
+  here_is = ap (λ (o : Option Call). here_in
+      (record (seat_of seat) {
+        walk = option_map
+            (λ k. record { call = k; starts = seat.starts; stale = seat.is_stale; at = position_at seat.stage seat k })
+            o;
+      }))
+      is
+      ∙ ap (option_map (λ (leg : Leg). leg.here)) in_turn
+
+  module _ (there : IsSome (leg_in t seat call)) where
+    pub fits_there : Fits seat.client.domain (path_in t call) (kept_in t seat)
+    fits_there = by t fits there
+      where
+        by : (u : Turn) → FitTurn u seat call → IsSome (leg_in u seat call)
+            → Fits seat.client.domain (path_in u call) (kept_in u seat)
+        by turns.No f e = absurd (cc e)
+        by turns.Trunk f e = f
+        by turns.First f e = f
+        by turns.Second f e = f
+
+    pub leg_is : leg_in t seat call ≡ Some (leg_of seat.client.domain (path_in t call) (chain_in t seat))
+    leg_is = by t there
+      where
+        by : (u : Turn) → IsSome (leg_in u seat call)
+            → leg_in u seat call ≡ Some (leg_of seat.client.domain (path_in u call) (chain_in u seat))
+        by turns.No e = absurd (cc e)
+        by turns.Trunk e = refl
+        by turns.First e = refl
+        by turns.Second e = refl
+
+    pub place_is : IsPlace (whole_in t call) (kept_in t seat).ahead.place
+    place_is = let way = way_begins t call in
+        longer (path_in t call) way.0 (whole_in t call) (kept_in t seat).ahead.place way.1 fits_there.ahead.place
+
+    pub name_there : name_on (whole_in t call) (kept_in t seat).ahead ≡ next_in (seat_of seat)
+    name_there =
+        let way = way_begins t call in
+        name_is (path_in t call) way.0 (whole_in t call) (depth_of (chain_in t seat)) (kept_in t seat).ahead way.1
+        fits_there.ahead
+        ∙ sym (next_is ∙ ap (option_and_then (λ (leg : Leg). slice_get leg.ahead 0)) leg_is
+        ∙ next_ahead (path_in t call) (depth_of (chain_in t seat)))
+
+-- ---- the leg in turn goes down
+
+some_name : (o : Option Name) → IsSome o → (name : Name) × (o ≡ Some name)
+some_name None e = absurd (cc e)
+some_name (Some name) e = (name, refl)
 
 -- the seat with another leg in its place
 abbrev pub put : Turn → Inside → kept.Leg → Inside
@@ -147,14 +274,21 @@ put turns.Trunk seat leg = record seat { trunk = leg }
 put turns.First seat leg = record seat { first = leg }
 put turns.Second seat leg = record seat { second = leg }
 
-with_leg : (now : Stage) (seat : Inside) (call : Call) (leg : kept.Leg) → let t = turn_at now call seat.first.chain.items in with_turn (position_at now seat call) (leg_of seat.client.domain (path_in t call) leg.chain.items) ≡ position_at now (put t seat leg) call
+with_leg : (now : Stage) (seat : Inside) (call : Call) (leg : kept.Leg) → let t =
+    turn_now now call seat.first.chain.items in
+    with_turn (position_at now seat call) (leg_of seat.client.domain (path_in t call) leg.chain.items)
+    ≡ position_at now (put t seat leg) call
 with_leg stage.Above seat call leg = refl
 with_leg stage.Down seat call leg = refl
 with_leg stage.Split seat call leg =
     let old = leg_of seat.client.domain (parent (first_path call)) seat.first.chain.items in
     let new = leg_of seat.client.domain (parent (second_path call)) seat.second.chain.items in
     let trunk = leg_of seat.client.domain (trunk_path call) seat.trunk.chain.items in
-    elim (is_root (drop (depth_of seat.first.chain.items) (parent (first_path call)))) as (λ b. cond b (Split trunk old (leg_of seat.client.domain (path_in (cond b turns.Second turns.First) call) leg.chain.items)) (Split trunk (leg_of seat.client.domain (path_in (cond b turns.Second turns.First) call) leg.chain.items) new) ≡ position_at stage.Split (put (cond b turns.Second turns.First) seat leg) call) [
+    elim (is_root (drop (depth_of seat.first.chain.items) (parent (first_path call)))) as
+    (λ b. cond b (Split trunk old
+    (leg_of seat.client.domain (path_in (cond b turns.Second turns.First) call) leg.chain.items))
+    (Split trunk (leg_of seat.client.domain (path_in (cond b turns.Second turns.First) call) leg.chain.items) new)
+    ≡ position_at stage.Split (put (cond b turns.Second turns.First) seat leg) call) [
       | true ↦ refl
       | false ↦ refl
     ]
@@ -165,251 +299,173 @@ parent_less (x ∷ []) most le = omega arith
 parent_less (x ∷ y ∷ p) zero le = absurd (omega arith)
 parent_less (x ∷ y ∷ p) (suc most) le = let rest = parent_less (y ∷ p) most (omega arith) in omega arith
 
-common_less : (p q : Path) → length (common p q) ≤ length p
-common_less p q = let r = common_left p q in let n = ap length r.1 in let m = length-append (common p q) r.0 in omega arith
-
-short_path : (call : Call) → AreShort call → (t : Turn) → length (path_in t call) ≤ 63
+pub short_path : (call : Call) → AreShort call → (t : Turn) → length (path_in t call) ≤ 63
 short_path call short turns.No = omega arith
-short_path call short turns.Trunk = let a = parent_less (first_path call) 63 short.0 in let b = common_less (parent (first_path call)) (parent (second_path call)) in omega arith
+short_path call short turns.Trunk = let a = parent_less (first_path call) 63 short.0 in let b =
+    common_less (parent (first_path call)) (parent (second_path call)) in omega arith
 short_path call short turns.First = parent_less (first_path call) 63 short.0
 short_path call short turns.Second = parent_less (second_path call) 63 short.1
 
-module _ (seat : Inside) (call : Call) (is : seat.call ≡ Some call) (t : Turn) (found : t ≡ turn_at seat.stage call seat.first.chain.items)
-    (fit : IfSome seat.call (FitAt seat.stage seat)) (short : IfSome seat.call AreShort) (next : IsSome (next_in (seat_of seat))) where
-  fits : FitTurn t seat call
-  fits = subst (λ u. FitTurn u seat call) (sym found) (fit_turn seat.stage seat call (subst (λ (o : Option Call). IfSome o (FitAt seat.stage seat)) is fit))
+-- and what is kept of it
+fit_put : (now : Stage) (seat : Inside) (call : Call) (leg : kept.Leg) → let t =
+    turn_now now call seat.first.chain.items in
+    FitAt now seat call → Fits seat.client.domain (path_in t call) leg → FitAt now (put t seat leg) call
+fit_put stage.Above seat call leg fit new = tt
+fit_put stage.Down seat call leg fit new = new
+fit_put stage.Split seat call leg fit new =
+    elim (is_root (drop (depth_of seat.first.chain.items) (parent (first_path call)))) as
+    (λ b. Fits seat.client.domain (path_in (cond b turns.Second turns.First) call) leg
+    → FitAt stage.Split (put (cond b turns.Second turns.First) seat leg) call) [
+      | true ↦ λ f. record { trunk = fit.trunk; first = fit.first; second = f }
+      | false ↦ λ f. record { trunk = fit.trunk; first = f; second = fit.second }
+    ] new
 
+module _ (seat : Inside) (call : Call) (is : seat.call ≡ Some call) (t : Turn)
+    (found : t ≡ turn_at seat.stage (none_left seat.first.ahead))
+    (fit : IfSome seat.call (FitAt seat.stage seat)) (short : IfSome seat.call AreShort)
+    (next : IsSome (next_in (seat_of seat))) where
   one : IsSome (option_and_then (λ (leg : Leg). slice_get leg.ahead 0) (leg_in t seat call))
-  one = subst (λ (o : Option Name). IsSome o) (next_is seat call is t found) next
+  one = subst (λ (o : Option Name). IsSome o) (next_is seat call is t found fit) next
+
+  there : IsSome (leg_in t seat call)
+  there = by (leg_in t seat call) one
+    where
+      by : (o : Option Leg) → IsSome (option_and_then (λ (leg : Leg). slice_get leg.ahead 0) o) → IsSome o
+      by None e = absurd (cc e)
+      by (Some leg) e = refl
+
+  fits_now : Fits seat.client.domain (path_in t call) (kept_in t seat)
+  fits_now = fits_there seat call is t found fit there
 
   name : (name : Name) × (slice_get (path_in t call) (depth_of (chain_in t seat)) ≡ Some name)
-  name = by t one
-    where
-      by : (u : Turn) → IsSome (option_and_then (λ (leg : Leg). slice_get leg.ahead 0) (leg_in u seat call)) → (name : Name) × (slice_get (path_in u call) (depth_of (chain_in u seat)) ≡ Some name)
-      by turns.No e = absurd (cc e)
-      by turns.Trunk e = let n = some_name (slice_get (drop (depth_of (chain_in turns.Trunk seat)) (path_in turns.Trunk call)) 0) e in (n.0, sym (next_ahead (path_in turns.Trunk call) (depth_of (chain_in turns.Trunk seat))) ∙ n.1)
-      by turns.First e = let n = some_name (slice_get (drop (depth_of (chain_in turns.First seat)) (path_in turns.First call)) 0) e in (n.0, sym (next_ahead (path_in turns.First call) (depth_of (chain_in turns.First seat))) ∙ n.1)
-      by turns.Second e = let n = some_name (slice_get (drop (depth_of (chain_in turns.Second seat)) (path_in turns.Second call)) 0) e in (n.0, sym (next_ahead (path_in turns.Second call) (depth_of (chain_in turns.Second seat))) ∙ n.1)
+  name =
+      let n = some_name (slice_get (drop (depth_of (chain_in t seat)) (path_in t call)) 0)
+      (subst (λ (o : Option Leg). IsSome (option_and_then (λ (leg : Leg). slice_get leg.ahead 0) o))
+      (leg_is seat call is t found fit there) one) in
+      (n.0, sym (next_ahead (path_in t call) (depth_of (chain_in t seat))) ∙ n.1)
 
   some : 0 < length (chain_in t seat)
-  some = by t fits one
-    where
-      by : (u : Turn) → FitTurn u seat call → IsSome (option_and_then (λ (leg : Leg). slice_get leg.ahead 0) (leg_in u seat call)) → 0 < length (chain_in u seat)
-      by turns.No f e = absurd (cc e)
-      by turns.Trunk f e = f.some
-      by turns.First f e = f.some
-      by turns.Second f e = f.some
+  some = fits_now.some
+
+  within : depth_of (chain_in t seat) < length (path_in t call)
+  within = (cut_at (path_in t call) (depth_of (chain_in t seat)) name.0 name.1).2
 
   pub room_left : length (chain_in t seat) < 64
   room_left =
-      let lt = (cut_at (path_in t call) (depth_of (chain_in t seat)) name.0 name.1).2 in
+      let lt = within in
       let le = short_path call (subst (λ (o : Option Call). IfSome o AreShort) is short) t in
       let s = some in
       omega arith
 
-  leg_is : leg_in t seat call ≡ Some (leg_of seat.client.domain (path_in t call) (chain_in t seat))
-  leg_is = by t one
-    where
-      by : (u : Turn) → IsSome (option_and_then (λ (leg : Leg). slice_get leg.ahead 0) (leg_in u seat call)) → leg_in u seat call ≡ Some (leg_of seat.client.domain (path_in u call) (chain_in u seat))
-      by turns.No e = absurd (cc e)
-      by turns.Trunk e = refl
-      by turns.First e = refl
-      by turns.Second e = refl
+  pub place_now : IsPlace (whole_in t call) (kept_in t seat).ahead.place
+  place_now = place_is seat call is t found fit there
+
+  pub name_now : IsSome (slice_get (whole_in t call) (kept_in t seat).ahead.place.depth)
+  name_now =
+      let way = way_begins t call in
+      let lt = subst (λ (k : ℕ). k < length (path_in t call)) (sym fits_now.ahead.depth) within in
+      subst (λ (o : Option Name). IsSome o)
+      (sym (get_longer (path_in t call) way.0 (whole_in t call) (kept_in t seat).ahead.place.depth way.1 lt
+      ∙ ap (slice_get (path_in t call)) fits_now.ahead.depth ∙ name.1)) refl
+
+  module _ (inode : ℕ) (leg : kept.Leg) (stands : StandsAt seat.client.domain (chain_in t seat ++ inode ∷ []) leg)
+      (place : IsPlace (whole_in t call) leg.ahead.place)
+      (depth : leg.ahead.place.depth ≡ (kept_in t seat).ahead.place.depth + 1)
+      (len : leg.ahead.len ≡ (kept_in t seat).ahead.len) where
+    fits_below : Fits seat.client.domain (path_in t call) leg
+    fits_below =
+        let way = way_begins t call in
+        let long : length leg.chain.items ≡ length (chain_in t seat) + 1 =
+        ap length stands.chain ∙ length-append (chain_in t seat) (inode ∷ []) in
+        let old : (kept_in t seat).ahead.place.depth ≡ depth_of (chain_in t seat) = fits_now.ahead.depth in
+        let lt = within in
+        let s = some in
+        record {
+          some = omega (arith, long);
+          masks = subst (AreMasks leg.masks seat.client.domain) (sym stands.chain) stands.masks;
+          ahead = record {
+            place = shorter (path_in t call) way.0 (whole_in t call) leg.ahead.place way.1
+                (omega (arith, depth, old, lt)) place;
+            depth = omega (arith, depth, old, long, s);
+            len = len ∙ fits_now.ahead.len;
+          };
+        }
+
+    pub fit_below : IfSome seat.call (FitAt seat.stage (put t seat leg))
+    fit_below =
+        let turned = found_now seat call is t found fit in
+        subst (λ (o : Option Call). IfSome o (FitAt seat.stage (put t seat leg))) (sym is)
+        (subst (λ u. FitAt seat.stage (put u seat leg) call) (sym turned)
+        (fit_put seat.stage seat call leg (fit_here seat call is t found fit)
+        (subst (λ u. Fits seat.client.domain (path_in u call) leg) turned fits_below)))
 
   module _ (inode : ℕ) (leg : kept.Leg) (at : leg.chain.items ≡ chain_in t seat ++ inode ∷ []) where
     abbrev old_leg : Leg
     old_leg = leg_of seat.client.domain (path_in t call) (chain_in t seat)
 
-    new_leg : lower seat.client.domain inode old_leg old_leg.ahead ≡ leg_of seat.client.domain (path_in t call) leg.chain.items
-    new_leg = sym (leg_down seat.client.domain (path_in t call) (chain_in t seat) inode name.0 some name.1) ∙ ap (leg_of seat.client.domain (path_in t call)) (sym at)
+    new_leg : lower seat.client.domain inode old_leg old_leg.ahead
+        ≡ leg_of seat.client.domain (path_in t call) leg.chain.items
+    new_leg = sym (leg_down seat.client.domain (path_in t call) (chain_in t seat) inode name.0 some name.1)
+        ∙ ap (leg_of seat.client.domain (path_in t call)) (sym at)
 
     abbrev walk_at : Position → Walk
     walk_at p = record { call = call; starts = seat.starts; stale = seat.is_stale; at = p }
 
-    new_walk : gone_down seat.client.domain inode (walk_at (position_at seat.stage seat call)) ≡ walk_at (position_at seat.stage (put t seat leg) call)
+    new_walk : gone_down seat.client.domain inode (walk_at (position_at seat.stage seat call))
+        ≡ walk_at (position_at seat.stage (put t seat leg) call)
     new_walk =
-        ap (λ (o : Option Leg). option_map_or (λ (l : Leg). walk_at (with_turn (position_at seat.stage seat call) (lower seat.client.domain inode l l.ahead))) o (walk_at (position_at seat.stage seat call))) (in_turn seat call is t found ∙ leg_is)
+        ap (λ (o : Option Leg). option_map_or
+        (λ (l : Leg). walk_at (with_turn (position_at seat.stage seat call)
+        (lower seat.client.domain inode l l.ahead))) o (walk_at (position_at seat.stage seat call)))
+        (in_turn seat call is t found fit ∙ leg_is seat call is t found fit there)
         ∙ ap (λ (l : Leg). walk_at (with_turn (position_at seat.stage seat call) l)) new_leg
-        ∙ ap (λ u. walk_at (with_turn (position_at seat.stage seat call) (leg_of seat.client.domain (path_in u call) leg.chain.items))) found
+        ∙ ap (λ u. walk_at (with_turn (position_at seat.stage seat call)
+        (leg_of seat.client.domain (path_in u call) leg.chain.items))) (found_now seat call is t found fit)
         ∙ ap walk_at (with_leg seat.stage seat call leg)
-        ∙ ap (λ u. walk_at (position_at seat.stage (put u seat leg) call)) (sym found)
+        ∙ ap (λ u. walk_at (position_at seat.stage (put u seat leg) call)) (sym (found_now seat call is t found fit))
 
     abbrev seat_with : Option Walk → book.Seat
     seat_with walk = record { client = seat.client; spare = seat.spare; walk = walk }
 
-    pub went_down : seat_with (option_map (λ k. record { call = k; starts = seat.starts; stale = seat.is_stale; at = position_at seat.stage (put t seat leg) k }) seat.call) ≡ record (seat_of seat) { walk = option_map (gone_down seat.client.domain inode) (seat_of seat).walk }
+    pub went_down : seat_with (option_map
+        (λ k. record {
+          call = k;
+          starts = seat.starts;
+          stale = seat.is_stale;
+          at = position_at seat.stage (put t seat leg) k;
+        }) seat.call)
+        ≡ record (seat_of seat) { walk = option_map (gone_down seat.client.domain inode) (seat_of seat).walk }
     went_down =
-        ap (λ (o : Option Call). seat_with (option_map (λ k. record { call = k; starts = seat.starts; stale = seat.is_stale; at = position_at seat.stage (put t seat leg) k }) o)) is
+        ap (λ (o : Option Call). seat_with
+        (option_map (λ k. record {
+          call = k;
+          starts = seat.starts;
+          stale = seat.is_stale;
+          at = position_at seat.stage (put t seat leg) k;
+        }) o)) is
         ∙ ap (λ (w : Walk). seat_with (Some w)) (sym new_walk)
-        ∙ ap (λ (o : Option Call). seat_with (option_map (gone_down seat.client.domain inode) (option_map (λ k. record { call = k; starts = seat.starts; stale = seat.is_stale; at = position_at seat.stage seat k }) o))) (sym is)
-
-pub named : (r : Option (Bor Name)) (x : Bor Name) (o : Option Name) → r ≡ Some x → option_map (λ (n : Bor Name). n.now) r ≡ o → Some x.now ≡ o
-named r x o e is = ap (option_map (λ (n : Bor Name). n.now)) (sym e) ∙ is
-
-pub unnamed : (r : Option (Bor Name)) (o : Option Name) → r ≡ None → option_map (λ (n : Bor Name). n.now) r ≡ o → None ≡ o
-unnamed r o e is = ap (option_map (λ (n : Bor Name). n.now)) (sym e) ∙ is
-
--- ---- the fork
-
-all_taken : (path : Path) (d : ℕ) → is_root (drop d path) ≡ true → d ≤ length path → d ≡ length path
-all_taken [] zero e le = refl
-all_taken [] (suc d) e le = absurd (omega arith)
-all_taken (x ∷ path) zero e le = absurd (cc e)
-all_taken (x ∷ path) (suc d) e le = let rest = all_taken path d e (omega arith) in omega arith
-
-take_whole : (path more : Path) → take (length path) (path ++ more) ≡ path
-take_whole [] more = refl
-take_whole (x ∷ path) more = ap (λ p. x ∷ p) (take_whole path more)
-
-take_all : (path : Path) → take (length path) path ≡ path
-take_all [] = refl
-take_all (x ∷ path) = ap (λ p. x ∷ p) (take_all path)
-
-forked_is : (call : Call) (trunk : Leg) → (has_two_paths call && is_root trunk.ahead) ≡ true → forked call (Down trunk) ≡ Some (Split trunk (toward trunk (first_path call)) (toward trunk (second_path call)))
-forked_is call trunk e = ap (λ b. cond b (Some (Split trunk (toward trunk (first_path call)) (toward trunk (second_path call)))) None) e
-
-module _ (seat : Inside) (call : Call) (is : seat.call ≡ Some call) (fit : IfSome seat.call (FitAt seat.stage seat)) (short : IfSome seat.call AreShort)
-    (may : option_map_or (λ (walk : Walk). is_some (forked walk.call walk.at)) (seat_of seat).walk false ≡ true) where
-  abbrev trunk_leg : Leg
-  trunk_leg = leg_of seat.client.domain (trunk_path call) seat.trunk.chain.items
-
-  fit_now : FitAt seat.stage seat call
-  fit_now = subst (λ (o : Option Call). IfSome o (FitAt seat.stage seat)) is fit
-
-  may_now : is_some (forked call (position_at seat.stage seat call)) ≡ true
-  may_now = sym (ap (λ (o : Option Call). option_map_or (λ (walk : Walk). is_some (forked walk.call walk.at)) (option_map (λ k. record { call = k; starts = seat.starts; stale = seat.is_stale; at = position_at seat.stage seat k }) o) false) is) ∙ may
-
-  -- it is on its one branch
-  pub is_down : (seat.stage ≡ stage.Down) × (Fits seat.client.domain (trunk_path call) seat.trunk) × ((has_two_paths call && is_root trunk_leg.ahead) ≡ true)
-  is_down = by seat.stage fit_now may_now
-    where
-      by : (now : Stage) → FitAt now seat call → is_some (forked call (position_at now seat call)) ≡ true → (now ≡ stage.Down) × (Fits seat.client.domain (trunk_path call) seat.trunk) × ((has_two_paths call && is_root trunk_leg.ahead) ≡ true)
-      by stage.Above f m = absurd (cc m)
-      by stage.Down f m = (refl, f, elim (has_two_paths call && is_root trunk_leg.ahead) as (λ b. is_some (cond b (Some (Split trunk_leg (toward trunk_leg (first_path call)) (toward trunk_leg (second_path call)))) None) ≡ true → b ≡ true) [ true ↦ λ e. refl | false ↦ λ e. absurd (cc e) ] m)
-      by stage.Split f m = absurd (cc m)
-
-  abbrev chain : List ℕ
-  chain = seat.trunk.chain.items
-
-  at_end : depth_of chain ≡ length (trunk_path call)
-  at_end =
-      let f = is_down.1 in
-      let some = f.some in
-      let most = f.most in
-      all_taken (trunk_path call) (depth_of chain) (both_true (has_two_paths call) _ is_down.2) (omega arith)
-    where
-      both_true : (a b : Bool) → (a && b) ≡ true → b ≡ true
-      both_true true b e = e
-      both_true false b e = absurd (cc e)
-
-  pub trunk_short : length chain ≤ 64
-  trunk_short = let f = is_down.1 in let most = f.most in let le = short_path call (subst (λ (o : Option Call). IfSome o AreShort) is short) turns.Trunk in omega arith
-
-  -- one more leg, where the trunk stands
-  one_leg : (target : Path) → (more : Path) × (trunk_path call ++ more ≡ parent target) → leg_of seat.client.domain (parent target) chain ≡ toward trunk_leg target
-  one_leg target rest =
-      let walked : take (depth_of chain) (parent target) ≡ take (depth_of chain) (trunk_path call) =
-      ap (λ p. take (depth_of chain) p) (sym rest.1) ∙ ap (λ d. take d (trunk_path call ++ rest.0)) at_end ∙ take_whole (trunk_path call) rest.0
-      ∙ sym (ap (λ d. take d (trunk_path call)) at_end ∙ take_all (trunk_path call)) in
-      let deep : depth_of chain ≡ length (take (depth_of chain) (trunk_path call)) =
-      at_end ∙ sym (ap length (ap (λ d. take d (trunk_path call)) at_end ∙ take_all (trunk_path call))) in
-      λ i. record { walked = walked i; ahead = drop (deep i) (parent target); chain = chain; here = last_of chain; masks = granted seat.client.domain chain }
-
-  pub first_fits : (leg : kept.Leg) → leg.chain.items ≡ chain → leg.masks ≡ seat.trunk.masks → Fits seat.client.domain (parent (first_path call)) leg
-  first_fits leg same masks =
-      let f = is_down.1 in
-      let most = f.most in
-      let le = common_less (parent (first_path call)) (parent (second_path call)) in
-      record {
-        some = subst (λ (c : List ℕ). 0 < length c) (sym same) f.some;
-        most = subst (λ (c : List ℕ). length c ≤ length (parent (first_path call)) + 1) (sym same) (omega arith);
-        masks = subst (λ m. AreMasks m seat.client.domain leg.chain.items) (sym masks) (subst (AreMasks seat.trunk.masks seat.client.domain) (sym same) f.masks);
-      }
-
-  pub second_fits : (leg : kept.Leg) → leg.chain.items ≡ chain → leg.masks ≡ seat.trunk.masks → Fits seat.client.domain (parent (second_path call)) leg
-  second_fits leg same masks =
-      let f = is_down.1 in
-      let most = f.most in
-      let r = common_right (parent (first_path call)) (parent (second_path call)) in
-      let n = ap length r.1 in
-      let m = length-append (trunk_path call) r.0 in
-      record {
-        some = subst (λ (c : List ℕ). 0 < length c) (sym same) f.some;
-        most = subst (λ (c : List ℕ). length c ≤ length (parent (second_path call)) + 1) (sym same) (omega arith);
-        masks = subst (λ m. AreMasks m seat.client.domain leg.chain.items) (sym masks) (subst (AreMasks seat.trunk.masks seat.client.domain) (sym same) f.masks);
-      }
-
-  abbrev split_seat : kept.Leg → kept.Leg → Inside
-  split_seat first second = record seat { stage = stage.Split; first = first; second = second }
-
-  pub fits_split : (first second : kept.Leg) → first.chain.items ≡ chain → first.masks ≡ seat.trunk.masks → second.chain.items ≡ chain → second.masks ≡ seat.trunk.masks → IfSome seat.call (FitSplit (split_seat first second))
-  fits_split first second c m d n = subst (λ (o : Option Call). IfSome o (FitSplit (split_seat first second))) (sym is) (record { trunk = is_down.1; first = first_fits first c m; second = second_fits second d n })
-
-  pub split_is : (first second : kept.Leg) → first.chain.items ≡ chain → second.chain.items ≡ chain → seat_of (split_seat first second) ≡ record (seat_of seat) { walk = option_map split (seat_of seat).walk }
-  split_is first second c d =
-      ap (λ (o : Option Call). seat_with (option_map (λ k. record { call = k; starts = seat.starts; stale = seat.is_stale; at = position_at stage.Split (split_seat first second) k }) o)) is
-      ∙ ap (λ (p : Position). seat_with (Some (walk_at p))) (position ∙ sym after)
-      ∙ ap (λ (o : Option Call). seat_with (option_map split (option_map (λ k. record { call = k; starts = seat.starts; stale = seat.is_stale; at = position_at seat.stage seat k }) o))) (sym is)
-    where
-      seat_with : Option Walk → book.Seat
-      seat_with walk = record { client = seat.client; spare = seat.spare; walk = walk }
-
-      walk_at : Position → Walk
-      walk_at p = record { call = call; starts = seat.starts; stale = seat.is_stale; at = p }
-
-      target : Position
-      target = Split trunk_leg (toward trunk_leg (first_path call)) (toward trunk_leg (second_path call))
-
-      position : position_at stage.Split (split_seat first second) call ≡ target
-      position =
-          ap (λ l. Split trunk_leg l (leg_of seat.client.domain (parent (second_path call)) second.chain.items))
-          (ap (leg_of seat.client.domain (parent (first_path call))) c ∙ one_leg (first_path call) (common_left (parent (first_path call)) (parent (second_path call))))
-          ∙ ap (λ l. Split trunk_leg (toward trunk_leg (first_path call)) l)
-          (ap (leg_of seat.client.domain (parent (second_path call))) d ∙ one_leg (second_path call) (common_right (parent (first_path call)) (parent (second_path call))))
-
-      after : unwrap_or (forked call (position_at seat.stage seat call)) (position_at seat.stage seat call) ≡ target
-      after =
-          ap (λ n. unwrap_or (forked call (position_at n seat call)) (position_at n seat call)) is_down.0
-          ∙ ap (λ (o : Option Position). unwrap_or o (Down trunk_leg)) (forked_is call trunk_leg is_down.2)
-
-pub has_call : (seat : Inside) → option_map_or (λ (walk : Walk). is_some (forked walk.call walk.at)) (seat_of seat).walk false ≡ true → (call : Call) × (seat.call ≡ Some call)
-has_call seat = by seat.call
-  where
-    by : (o : Option Call) → option_map_or (λ (walk : Walk). is_some (forked walk.call walk.at)) (option_map (λ k. record { call = k; starts = seat.starts; stale = seat.is_stale; at = position_at seat.stage seat k }) o) false ≡ true → (call : Call) × (o ≡ Some call)
-    by None e = absurd (cc e)
-    by (Some call) e = (call, refl)
-
-none_mapped : (o : Option (Bor Name)) → is_none o ≡ is_none (option_map (λ (n : Bor Name). n.now) o)
-none_mapped None = refl
-none_mapped (Some n) = refl
-
-pub may_fork_is : (seat : Inside) (call : Call) → seat.call ≡ Some call → seat.stage ≡ stage.Down → has_two_paths call ≡ true → (found : Option (Bor Name)) (depth : ℕ) → depth ≡ depth_of seat.trunk.chain.items
-    → option_map (λ (n : Bor Name). n.now) found ≡ slice_get (trunk_path call) depth → is_none found ≡ option_map_or (λ (walk : Walk). is_some (forked walk.call walk.at)) (seat_of seat).walk false
-may_fork_is seat call is down two found depth e name =
-    none_mapped found
-    ∙ sym (some_left (trunk_path call) (depth_of seat.trunk.chain.items) _ (name ∙ ap (slice_get (trunk_path call)) e))
-    ∙ sym (ap (λ (o : Option Call). option_map_or (λ (walk : Walk). is_some (forked walk.call walk.at)) (option_map (λ k. record { call = k; starts = seat.starts; stale = seat.is_stale; at = position_at seat.stage seat k }) o) false) is
-    ∙ ap (λ n. is_some (forked call (position_at n seat call))) down
-    ∙ ap (λ b. is_some (cond (b && is_root trunk.ahead) (Some (Split trunk (toward trunk (first_path call)) (toward trunk (second_path call)))) None)) two
-    ∙ by (is_root trunk.ahead))
-  where
-    trunk : Leg
-    trunk = leg_of seat.client.domain (trunk_path call) seat.trunk.chain.items
-
-    by : (b : Bool) → is_some (cond b (Some (Split trunk (toward trunk (first_path call)) (toward trunk (second_path call)))) None) ≡ b
-    by true = refl
-    by false = refl
+        ∙ ap (λ (o : Option Call). seat_with
+        (option_map (gone_down seat.client.domain inode)
+        (option_map (λ k. record {
+          call = k;
+          starts = seat.starts;
+          stale = seat.is_stale;
+          at = position_at seat.stage seat k;
+        }) o))) (sym is)
 
 -- ---- where the walk is
 
--- no name is ahead, as the code finds it
-pub none_ahead : (path : Path) (depth : ℕ) (found : Option (Bor Name)) (d : ℕ) → d ≡ depth → option_map (λ (n : Bor Name). n.now) found ≡ slice_get path d → is_none found ≡ is_root (drop depth path)
-none_ahead path depth found d e is = none_mapped found ∙ sym (some_left path depth _ (is ∙ ap (slice_get path) e))
-
 module _ (seat : Inside) (call : Call) (is : seat.call ≡ Some call) (fresh : seat.is_stale ≡ false) where
   -- by the stage
-  pub station_is : (now : Stage) → seat.stage ≡ now → station_of (seat_of seat).walk ≡ station_at call (position_at now seat call)
+  pub station_is : (now : Stage) → seat.stage ≡ now
+      → station_of (seat_of seat).walk ≡ station_at call (position_at now seat call)
   station_is now e =
-      ap (λ (o : Option Call). station_of (option_map (λ k. record { call = k; starts = seat.starts; stale = seat.is_stale; at = position_at seat.stage seat k }) o)) is
+      ap (λ (o : Option Call). station_of
+      (option_map (λ k. record {
+        call = k;
+        starts = seat.starts;
+        stale = seat.is_stale;
+        at = position_at seat.stage seat k;
+      }) o)) is
       ∙ ap (λ b. cond b station.Stale (station_at call (position_at seat.stage seat call))) fresh
       ∙ ap (λ n. station_at call (position_at n seat call)) e

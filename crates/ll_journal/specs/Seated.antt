@@ -1,22 +1,27 @@
 -- What a client's seat means. No public contract cites it. own
-use Rattle.std.specs.Prelude.{◌≡◌, ℕ, Bool, ◌+◌, ◌-◌, ◌<◌, ◌≤◌, List, [], ◌∷◌, map, length, take, drop, slice_get, slice_index_or, false, Option, Some, None, option_map, option_and_then, unwrap_or, if◌then◌else◌, IfSome, vec_capacity, ⊤}
+use Rattle.std.specs.Prelude.{◌≡◌, ℕ, Bool, ◌+◌, ◌-◌, ◌<◌, ◌≤◌, ◌==◌, List, [], ◌∷◌, map, length, take, drop, slice_get}
+use Rattle.std.specs.Prelude.{slice_index_or, false, Option, Some, None, option_map, option_and_then, unwrap_or}
+use Rattle.std.specs.Prelude.{if◌then◌else◌, IfSome, vec_capacity, ⊤}
 use Rattle.std.specs.Option.{option_map_or}
 use Rattle.ll_rights.specs.declared.limits.TheConstants.{PATH_NAMES}
-use Rattle.ll_path.specs.Name.{same_name}
-use Rattle.ll_path.specs.Path.{Path, parent, is_root}
+use Rattle.std.specs.Borrow.{Bor}
+use Rattle.ll_path.specs.Path.{Path, parent}
+use Rattle.ll_path.specs.Place.{IsPlace}
 use Rattle.ll_decide.specs.Masks.{AreMasks}
 use Rattle.ll_rules.specs.Layer.{Layer, grants_on}
 use Rattle.ll_seq.specs.declared.call.Call.{Call}
 use Rattle.ll_seq.specs.Call.{first_path, second_path}
 use Rattle.ll_seq.specs.State.{Name}
-use Rattle.ll_walks.specs.Walk.{Leg, Position, Above, Down, Split, Mask, Walk, rights_where, trunk_path, leg_below, turn, with_turn, at_ends, first_leg, forked}
+use Rattle.ll_walks.specs.Walk.{Leg, Position, Above, Down, Split, Mask, Walk, rights_where, trunk_path, leg_below}
+use Rattle.ll_walks.specs.Walk.{turn, with_turn, at_ends, first_leg, forked}
 use Rattle.ll_walks.specs.Commits.{first_end, second_end}
-use Rattle.ll_journal.specs.declared.seat.Leg as kept
-use Rattle.ll_journal.specs.declared.seat.Legs.{Legs}
-use Rattle.ll_journal.specs.declared.seat.Stage.{Stage}
-use Rattle.ll_journal.specs.declared.seat.Stage.TheVariants as stage
-use Rattle.ll_journal.specs.declared.seat.Turn.{Turn}
-use Rattle.ll_journal.specs.declared.seat.Turn.TheVariants as turns
+use Rattle.ll_journal.specs.declared.leg.Ahead.{Ahead}
+use Rattle.ll_journal.specs.declared.leg.Leg as kept
+use Rattle.ll_journal.specs.declared.leg.Legs.{Legs}
+use Rattle.ll_journal.specs.declared.stage.Stage.{Stage}
+use Rattle.ll_journal.specs.declared.stage.Stage.TheVariants as stage
+use Rattle.ll_journal.specs.declared.stage.Turn.{Turn}
+use Rattle.ll_journal.specs.declared.stage.Turn.TheVariants as turns
 use Rattle.ll_journal.specs.declared.seat.Seat.TheInside.{Inside}
 use Rattle.ll_journal.specs.Book as book
 
@@ -60,11 +65,18 @@ seat_of seat = record {
   }) seat.call;
 }
 
+-- What is kept of the names ahead, once so many names of the path are taken: where the next one begins, and how many
+-- the path has
+pub record IsAhead (path : Path) (taken : ℕ) (ahead : Ahead) : Type 0 where
+  pub place : IsPlace path ahead.place
+  pub depth : ahead.place.depth ≡ taken
+  pub len : ahead.len ≡ length path
+
 -- a leg that stands somewhere on the path; its masks are those of its chain
 pub record Fits (domain : List Layer) (path : Path) (leg : kept.Leg) : Type 0 where
   pub some : 0 < length leg.chain.items
-  pub most : length leg.chain.items ≤ length path + 1
   pub masks : AreMasks leg.masks domain leg.chain.items
+  pub ahead : IsAhead path (depth_of leg.chain.items) leg.ahead
 
 -- and so do the three past the fork
 pub record FitSplit (seat : Inside) (call : Call) : Type 0 where
@@ -105,18 +117,23 @@ pub record IsSeat (seat : Inside) : Type 0 where
 
 -- ---- What a walk does in its seat
 
--- the name where both are the same
-abbrev pub shared_name : Option Name → Option Name → Option Name
-shared_name None other = None
-shared_name (Some one) None = None
-shared_name (Some one) (Some other) = if same_name one other then Some one else None
+-- the names of the path, none where there is no path
+abbrev pub names_in : Option (Bor Path) → Path
+names_in None = []
+names_in (Some path) = path.now
 
--- which leg is in turn, by how far the first path's leg has come
-abbrev pub turn_at : Stage → Call → List ℕ → Turn
-turn_at stage.Above call first = turns.No
-turn_at stage.Down call first = turns.Trunk
-turn_at stage.Split call first =
-    if is_root (drop (depth_of first) (parent (first_path call))) then turns.Second else turns.First
+abbrev pub none_left : Ahead → Bool
+none_left ahead = ahead.place.depth == ahead.len
+
+-- the next name, of a leg that goes some way on this path
+abbrev pub name_on : Path → Ahead → Option Name
+name_on path ahead = if none_left ahead then None else slice_get path ahead.place.depth
+
+-- which leg is in turn, by whether the first path's is at its end
+abbrev pub turn_at : Stage → Bool → Turn
+turn_at stage.Above is_first_ended = turns.No
+turn_at stage.Down is_first_ended = turns.Trunk
+turn_at stage.Split is_first_ended = if is_first_ended then turns.Second else turns.First
 
 -- the next name of the leg in turn
 abbrev pub next_of : Position → Option Name

@@ -1,67 +1,40 @@
 //! Clients, each with its walk.
 
-ghost use Rattle.std.specs.Prelude.{◌≡◌, ℕ, List, Option, is_ok, ◌&&◌, ◌||◌, ◌==◌, ◌<◌, ◌≤◌, not, false, true, length, [], ◌∷◌, ◌++◌, None, Some, is_none, is_some, if◌then◌else◌, IfOk, OnErr, IfSome, IfNone, IsSome, option_map};
-ghost use Rattle.std.specs.List.{list_any};
+ghost use Rattle.std.specs.Prelude.{◌≡◌, ℕ, List, Option, is_ok, ◌&&◌, ◌==◌, ◌≤◌, not, false, true, None, Some};
+ghost use Rattle.std.specs.Prelude.{is_none, is_some, IfOk, OnErr, IfSome, IfNone, IsSome, option_map};
 ghost use Rattle.std.specs.Option.{option_map_or};
 ghost use Rattle.ll_answer.specs.Lean.{spares_memory};
 ghost use Rattle.ll_decide.specs.Masks.{AreMasks};
 ghost use Rattle.ll_rights.specs.Map.{remove};
-ghost use Rattle.ll_rights.specs.declared.limits.TheConstants.{PATH_NAMES};
 ghost use Rattle.ll_seq.specs.Effects.{child_of};
-ghost use Rattle.ll_seq.specs.State.{State, root};
+ghost use Rattle.ll_seq.specs.State.{State};
 ghost use Rattle.ll_walks.specs.Commits.{first_end, second_end};
 ghost use Rattle.ll_walks.specs.Walk as walks;
 ghost use Rattle.ll_walks.specs.World.{is_alone, is_walked, overtaken};
-ghost use Rattle.ll_journal.specs.Looks as looks;
 ghost use Rattle.ll_journal.specs.Stations.{station_of};
-ghost use Rattle.ll_journal.specs.Needs.{slots_in};
 ghost use Rattle.ll_journal.specs.Performed.{IsAtEnd, Performs, IsFreeAtEnd};
-ghost use Rattle.ll_journal.specs.Seated.{turn_at};
 
 use crate::alone::{Own, RecordCall, answer, own_call};
+use crate::leg::{Leg, Legs};
 use crate::pair::ReplyPair;
 use crate::perform::perform;
-use crate::slots::Slots;
-use crate::station::Station;
+use crate::stage::{Stage, Turn, turn_of};
+use crate::station::{Station, split_station, trunk_station};
 use crate::walked::walks;
-use crate::way::{first_name, has_two_paths, know_ways, second_name, trunk_name};
+use crate::way::{
+    first_path, has_two_paths, know_ways, next_name, second_path, trunk_len, way_len,
+};
 use ll_answer::Found;
 use ll_decide::Masks;
 use ll_held::Held;
 use ll_inodes::Inodes;
 use ll_rights::Abi;
-use ll_rights::limits::PATH_NAMES;
-use ll_rules::Domain;
-use ll_seq::{Call, ClientRecord, Descriptor, NumberMap, ROOT, Rules};
+use ll_seq::{Call, ClientRecord, Descriptor, NumberMap, Rules};
 use std::alloc::{AllocError, Global};
 use std::marker::Model;
 
 /// On its fourth start a walk takes the gate.
 const LAST_START: u64 = 4;
-
-/// A branch of a walk: the inodes from the root to where it stands, and what each layer grants there.
-#[derive(Drop)]
-struct Leg {
-    chain: Vec<u64>,
-    masks: Masks,
-}
-
-/// How far a walk has come: above the root, on its one branch, or past the fork.
-#[derive(Clone, Copy)]
-enum Stage {
-    Above,
-    Down,
-    Split,
-}
-
-/// The leg in turn.
-#[derive(Clone, Copy)]
-enum Turn {
-    No,
-    Trunk,
-    First,
-    Second,
-}
 
 /// A client, the slot that is kept for what it makes, and its walk, if one is under way. There is room for the longest
 /// walk from the start, so none takes memory.
@@ -69,13 +42,13 @@ enum Turn {
 pub(crate) struct Seat {
     client: ClientRecord,
     spare: u64,
-    call: Option<Call>,
+    pub(crate) call: Option<Call>,
     starts: u64,
     is_stale: bool,
-    stage: Stage,
-    trunk: Leg,
-    first: Leg,
-    second: Leg,
+    pub(crate) stage: Stage,
+    pub(crate) trunk: Leg,
+    pub(crate) first: Leg,
+    pub(crate) second: Leg,
 }
 
 impl Model for Seat {
@@ -93,147 +66,6 @@ impl Model for Seat {
     ghost invariant = { IsSeat };
 }
 
-impl Leg {
-    ghost use Rattle.ll_journal.specs.Seated.{IsRoomy, StandsAt, depth_of, last_of};
-
-    fn new(alloc: Global) -> Result<Leg, AllocError>
-        ensures { IfOk result IsRoomy }
-    {
-        let chain = Vec::with_capacity(alloc, PATH_NAMES)?;
-        Ok(Leg {
-            chain,
-            masks: Masks::empty(alloc),
-        })
-    }
-
-    /// At the root.
-    fn start(&mut self, alloc: Global, domain: &Domain)
-        requires { IsRoomy self.old }
-        ensures { StandsAt domain.now (root ∷ []) self.new }
-    {
-        self.chain.clear();
-        self.chain.push_reserved(ROOT);
-        self.masks = Masks::root(alloc, domain);
-    }
-
-    /// One directory further.
-    fn go_down(&mut self, domain: &Domain, inode: u64)
-        requires roomy { IsRoomy self.old }
-        requires short { length self.old.chain.items < PATH_NAMES }
-        requires masks { AreMasks self.old.masks domain.now self.old.chain.items }
-        ensures { StandsAt domain.now (self.old.chain.items ++ inode ∷ []) self.new }
-    {
-        self.chain.push_reserved(inode);
-        self.masks.down(domain, inode);
-    }
-
-    /// Where the other one stands.
-    fn follow(&mut self, other: &Leg)
-        requires roomy { IsRoomy self.old }
-        requires short { length other.now.chain.items ≤ PATH_NAMES }
-        ensures chain { self.new.chain.items ≡ other.now.chain.items }
-        ensures masks { self.new.masks ≡ other.now.masks }
-        ensures roomy { IsRoomy self.new }
-    {
-        self.chain.clear();
-        for inode in &other.chain {
-            self.chain.push_reserved(*inode);
-        }
-        self.masks = other.masks.copy();
-    }
-
-    /// How many names it took.
-    fn depth(&self) -> usize
-        requires { 0 < length self.now.chain.items }
-        ensures { result ≡ depth_of self.now.chain.items }
-    {
-        self.chain.len() - 1
-    }
-
-    fn here(&self) -> u64
-        requires { 0 < length self.now.chain.items }
-        ensures { result ≡ last_of self.now.chain.items }
-    {
-        self.chain[self.depth()]
-    }
-}
-
-/// The leg in turn: of a forked walk the first path's, to its end.
-fn turn_of(stage: Stage, call: &Call, first: &Leg) -> Turn
-    requires { stage ≡ Stage.Split → 0 < length first.now.chain.items }
-    ensures { result ≡ turn_at stage call.now first.now.chain.items }
-{
-    match stage {
-        Stage::Above => Turn::No,
-        Stage::Down => Turn::Trunk,
-        Stage::Split => match first_name(call, first.depth()) {
-            Some(_) => Turn::First,
-            None => Turn::Second,
-        },
-    }
-}
-
-/// On what is common to its paths, and perhaps at the end of that.
-fn trunk_station(call: &Call, is_ended: bool) -> Station
-    ensures { result ≡ (if is_ended then if walks.has_two_paths call.now then Station.Fork else Station.End else Station.Trunk) }
-{
-    if !is_ended {
-        Station::Trunk
-    } else if has_two_paths(call) {
-        Station::Fork
-    } else {
-        Station::End
-    }
-}
-
-/// Past the fork, with branches that are perhaps at their ends.
-fn split_station(is_first_ended: bool, is_second_ended: bool) -> Station
-    ensures { result ≡ (if is_first_ended then if is_second_ended then Station.End else Station.Second else Station.First) }
-{
-    if !is_first_ended {
-        Station::First
-    } else if is_second_ended {
-        Station::End
-    } else {
-        Station::Second
-    }
-}
-
-pub(crate) fn is_in(inodes: &[u64], inode: u64) -> bool
-    ensures { result ≡ walks.is_in inodes.now inode }
-{
-    inodes.iter().any(|other| *other == inode)
-}
-
-/// Whether the inode lies in what is lent.
-pub(crate) fn is_lent(lent: &[Held], inode: u64) -> bool
-    ensures { result ≡ looks.lends lent.now inode }
-{
-    lent.iter().any(|held| held.inode == inode)
-}
-
-/// The branches of one walk.
-#[derive(Drop)]
-struct Legs {
-    trunk: Leg,
-    first: Leg,
-    second: Leg,
-}
-
-impl Legs {
-    ghost use Rattle.ll_journal.specs.Seated.{AreRoomy};
-
-    fn new(alloc: Global) -> Result<Legs, AllocError>
-        ensures { IfOk result AreRoomy }
-    {
-        Ok(Legs {
-            trunk: Leg::new(alloc)?,
-            first: Leg::new(alloc)?,
-            second: Leg::new(alloc)?,
-        })
-    }
-}
-
 /// A walk that has ended: its call, and what each layer grants where its branches stood. With one path both are the same.
 #[derive(Drop)]
 pub(crate) struct Ended {
@@ -244,7 +76,7 @@ pub(crate) struct Ended {
 
 impl Seat {
     ghost use Rattle.ll_journal.specs.Own.{Comes, IsFreeOwn, IsOwn};
-    ghost use Rattle.ll_journal.specs.Seated.{again, call_in, entered, first_here_in, gone_down, here_in, is_at_ends, next_in, second_here_in, split};
+    ghost use Rattle.ll_journal.specs.Seated.{again, call_in, entered, gone_down, is_at_ends, next_in, split};
 
     /// A client without a walk.
     pub(crate) fn new(alloc: Global, client: ClientRecord, spare: u64) -> Result<Seat, AllocError>
@@ -369,7 +201,11 @@ impl Seat {
     pub(crate) fn enter(&mut self, alloc: Global)
         ensures { self.new ≡ record self.old { walk = option_map (entered self.old.client.domain) self.old.walk } }
     {
-        self.trunk.start(alloc, &self.client.domain);
+        let Some(call) = &self.call else {
+            return;
+        };
+        let len = trunk_len(call);
+        self.trunk.start(alloc, &self.client.domain, len);
         self.stage = Stage::Down;
     }
 
@@ -378,96 +214,29 @@ impl Seat {
         ensures { option_map (λ name. name.now) result ≡ next_in self.now }
     {
         let call = self.call.as_ref()?;
-        match turn_of(self.stage, call, &self.first) {
+        match turn_of(self.stage, &self.first) {
             Turn::No => None,
-            Turn::Trunk => trunk_name(call, self.trunk.depth()),
-            Turn::First => first_name(call, self.first.depth()),
-            Turn::Second => second_name(call, self.second.depth()),
+            Turn::Trunk => next_name(first_path(call), self.trunk.ahead),
+            Turn::First => next_name(first_path(call), self.first.ahead),
+            Turn::Second => next_name(second_path(call), self.second.ahead),
         }
-    }
-
-    /// Where the leg in turn stands.
-    pub(crate) fn here(&self) -> Option<u64>
-        ensures { result ≡ here_in self.now }
-    {
-        let call = self.call.as_ref()?;
-        match turn_of(self.stage, call, &self.first) {
-            Turn::No => None,
-            Turn::Trunk => Some(self.trunk.here()),
-            Turn::First => Some(self.first.here()),
-            Turn::Second => Some(self.second.here()),
-        }
-    }
-
-    /// Whether the walk stands in the directory.
-    pub(crate) fn stands_in(&self, inode: u64) -> bool
-        ensures { result ≡ option_map_or (λ (walk : walks.Walk). walks.marks walk inode) self.now.walk false }
-    {
-        if self.call.is_none() {
-            return false;
-        }
-        match self.stage {
-            Stage::Above => false,
-            Stage::Down => self.trunk.here() == inode,
-            Stage::Split => {
-                self.trunk.here() == inode
-                    || self.first.here() == inode
-                    || self.second.here() == inode
-            }
-        }
-    }
-
-    /// Whether each directory where the walk stands is lent.
-    pub(crate) fn is_all_lent(&self, lent: &[Held]) -> bool
-        ensures { result ≡ looks.is_all_lent lent.now self.now }
-    {
-        if self.call.is_none() {
-            return true;
-        }
-        match self.stage {
-            Stage::Above => true,
-            Stage::Down => is_lent(lent, self.trunk.here()),
-            Stage::Split => {
-                is_lent(lent, self.trunk.here())
-                    && is_lent(lent, self.first.here())
-                    && is_lent(lent, self.second.here())
-            }
-        }
-    }
-
-    /// The slots of the directories where the walk stands.
-    pub(crate) fn slots(&self, table: &Inodes) -> Slots
-        ensures { result ≡ slots_in table.now.places self.now }
-    {
-        let mut slots = Slots::new();
-        if self.call.is_none() {
-            return slots;
-        }
-        match self.stage {
-            Stage::Above => {}
-            Stage::Down => slots.add_of(table, self.trunk.here()),
-            Stage::Split => {
-                slots.add_of(table, self.trunk.here());
-                slots.add_of(table, self.first.here());
-                slots.add_of(table, self.second.here());
-            }
-        }
-        slots
     }
 
     /// The leg in turn takes its next name, which names this directory.
     pub(crate) fn descend(&mut self, inode: u64)
         requires { IsSome (next_in self.old) }
-        ensures { self.new ≡ record self.old { walk = option_map (gone_down self.old.client.domain inode) self.old.walk } }
+        ensures { self.new ≡ record self.old
+            { walk = option_map (gone_down self.old.client.domain inode) self.old.walk } }
     {
         let Some(call) = &self.call else {
             return;
         };
-        match turn_of(self.stage, call, &self.first) {
+        let domain = &self.client.domain;
+        match turn_of(self.stage, &self.first) {
             Turn::No => {}
-            Turn::Trunk => self.trunk.go_down(&self.client.domain, inode),
-            Turn::First => self.first.go_down(&self.client.domain, inode),
-            Turn::Second => self.second.go_down(&self.client.domain, inode),
+            Turn::Trunk => self.trunk.go_down(domain, first_path(call), inode),
+            Turn::First => self.first.go_down(domain, first_path(call), inode),
+            Turn::Second => self.second.go_down(domain, second_path(call), inode),
         }
     }
 
@@ -483,35 +252,38 @@ impl Seat {
         }
         match self.stage {
             Stage::Above => Station::Above,
-            Stage::Down => trunk_station(call, trunk_name(call, self.trunk.depth()).is_none()),
-            Stage::Split => split_station(
-                first_name(call, self.first.depth()).is_none(),
-                second_name(call, self.second.depth()).is_none(),
-            ),
+            Stage::Down => trunk_station(call, self.trunk.is_at_end()),
+            Stage::Split => split_station(self.first.is_at_end(), self.second.is_at_end()),
         }
     }
 
     /// Whether the walk stands at its fork.
     pub(crate) fn may_fork(&self) -> bool
-        ensures { result ≡ option_map_or (λ (walk : walks.Walk). is_some (walks.forked walk.call walk.at)) self.now.walk false }
+        ensures { result ≡ option_map_or (λ (walk : walks.Walk). is_some (walks.forked walk.call walk.at)) self.now.walk
+            false }
     {
         let Some(call) = &self.call else {
             return false;
         };
         match self.stage {
             Stage::Above => false,
-            Stage::Down => { has_two_paths(call) && trunk_name(call, self.trunk.depth()).is_none() }
+            Stage::Down => has_two_paths(call) && self.trunk.is_at_end(),
             Stage::Split => false,
         }
     }
 
     /// The walk leaves what is common to both paths.
     pub(crate) fn fork(&mut self)
-        requires { option_map_or (λ (walk : walks.Walk). is_some (walks.forked walk.call walk.at)) self.old.walk false ≡ true }
+        requires { option_map_or (λ (walk : walks.Walk). is_some (walks.forked walk.call walk.at)) self.old.walk false
+            ≡ true }
         ensures { self.new ≡ record self.old { walk = option_map split self.old.walk } }
     {
-        self.first.follow(&self.trunk);
-        self.second.follow(&self.trunk);
+        let Some(call) = &self.call else {
+            unreachable!()
+        };
+        let (first, second) = (way_len(first_path(call)), way_len(second_path(call)));
+        self.first.follow(&self.trunk, first);
+        self.second.follow(&self.trunk, second);
         self.stage = Stage::Split;
     }
 
@@ -534,11 +306,8 @@ impl Seat {
         };
         match self.stage {
             Stage::Above => false,
-            Stage::Down => !has_two_paths(call) && trunk_name(call, self.trunk.depth()).is_none(),
-            Stage::Split => {
-                first_name(call, self.first.depth()).is_none()
-                    && second_name(call, self.second.depth()).is_none()
-            }
+            Stage::Down => !has_two_paths(call) && self.trunk.is_at_end(),
+            Stage::Split => self.first.is_at_end() && self.second.is_at_end(),
         }
     }
 
@@ -547,59 +316,6 @@ impl Seat {
         ensures { option_map (λ call. call.now) result ≡ call_in self.now }
     {
         self.call.as_ref()
-    }
-
-    /// Where the leg of the call's first path stands.
-    pub(crate) fn first_here(&self) -> Option<u64>
-        ensures { result ≡ first_here_in self.now }
-    {
-        if self.call.is_none() {
-            return None;
-        }
-        match self.stage {
-            Stage::Above => None,
-            Stage::Down => Some(self.trunk.here()),
-            Stage::Split => Some(self.first.here()),
-        }
-    }
-
-    /// Where the leg of the call's second path stands.
-    pub(crate) fn second_here(&self) -> Option<u64>
-        ensures { result ≡ second_here_in self.now }
-    {
-        if self.call.is_none() {
-            return None;
-        }
-        match self.stage {
-            Stage::Above => None,
-            Stage::Down => Some(self.trunk.here()),
-            Stage::Split => Some(self.second.here()),
-        }
-    }
-
-    /// Whether the directory is on the walk's way from the root.
-    fn passes(&self, inode: u64) -> bool
-        ensures { result ≡ option_map_or (λ (walk : walks.Walk). walks.passes walk inode) self.now.walk false }
-    {
-        if self.call.is_none() {
-            return false;
-        }
-        match self.stage {
-            Stage::Above => false,
-            Stage::Down => is_in(&self.trunk.chain, inode),
-            Stage::Split => {
-                is_in(&self.trunk.chain, inode)
-                    || is_in(&self.first.chain, inode)
-                    || is_in(&self.second.chain, inode)
-            }
-        }
-    }
-
-    /// Whether one of these directories is on the walk's way.
-    fn passes_any(&self, inodes: &[u64]) -> bool
-        ensures { result ≡ list_any (λ inode. option_map_or (λ (walk : walks.Walk). walks.passes walk inode) self.now.walk false) inodes.now }
-    {
-        inodes.iter().any(|inode| self.passes(*inode))
     }
 
     /// A walk that passes one of these directories is stale.
@@ -617,7 +333,8 @@ impl Seat {
         ensures call { (walk : walks.Walk) → self.old.walk ≡ Some walk → result.call ≡ walk.call }
         ensures first { (walk : walks.Walk) (leg : walks.Leg) → self.old.walk ≡ Some walk → first_end walk.at ≡ Some leg
             → AreMasks result.first self.old.client.domain leg.chain }
-        ensures second { (walk : walks.Walk) (leg : walks.Leg) → self.old.walk ≡ Some walk → second_end walk.at ≡ Some leg
+        ensures second { (walk : walks.Walk) (leg : walks.Leg) → self.old.walk ≡ Some walk
+            → second_end walk.at ≡ Some leg
             → AreMasks result.second self.old.client.domain leg.chain }
         ensures rest { self.new ≡ record self.old { walk = None } }
     {
@@ -664,13 +381,18 @@ impl Seat {
     ) -> Result<ReplyPair, AllocError>
         requires idle { self.old.walk ≡ None }
         requires end { (s : State) × (number : ℕ) × (marks : ℕ → Option ℕ) × (spares : List ℕ) × (place : ℕ)
-            × IsAtEnd s number marks spares place self.old.client self.old.spare table.old slots.now lent.old walk.now.call walk.now.first walk.now.second found.now }
+            × IsAtEnd s number marks spares place self.old.client self.old.spare table.old slots.now lent.old
+            walk.now.call walk.now.first walk.now.second found.now }
         ensures ok { IfOk result (λ reply. (s : State) (number : ℕ) (marks : ℕ → Option ℕ) (spares : List ℕ) (place : ℕ)
-            → IsAtEnd s number marks spares place self.old.client self.old.spare table.old slots.now lent.old walk.now.call walk.now.first walk.now.second found.now
-            → Performs s number marks spares place table.old slots.now walk.now.call reply self.new.client self.new.spare table.new lent.new) }
+            → IsAtEnd s number marks spares place self.old.client self.old.spare table.old slots.now lent.old
+            walk.now.call walk.now.first walk.now.second found.now
+            → Performs s number marks spares place table.old slots.now walk.now.call reply self.new.client
+            self.new.spare table.new lent.new) }
         ensures rest { self.new.walk ≡ None }
         ensures err { OnErr result ((self.new ≡ self.old) × (table.new ≡ table.old) × (lent.new ≡ lent.old)) }
-        ensures starved { OnErr result (IsFreeAtEnd self.old.client self.old.spare table.old slots.now lent.old walk.now.call walk.now.first walk.now.second found.now) }
+        ensures starved { OnErr result
+            (IsFreeAtEnd self.old.client self.old.spare table.old slots.now lent.old walk.now.call walk.now.first
+            walk.now.second found.now) }
         ensures calm { spares_memory walk.now.call ≡ true → is_ok result ≡ true }
     {
         let (client, spare) = (&mut self.client, &mut self.spare);

@@ -1,5 +1,11 @@
 //! Where a walk is.
 
+ghost use Rattle.std.specs.Prelude.{◌≡◌, if◌then◌else◌};
+ghost use Rattle.ll_walks.specs.Walk as walks;
+
+use crate::way::has_two_paths;
+use ll_seq::Call;
+
 /// Where a client's walk is, as far as it can be told without a look at a directory.
 #[derive(Clone, Copy, PartialEq, Eq)]
 pub enum Station {
@@ -18,4 +24,32 @@ pub enum Station {
     Second,
     /// Each branch is at its end.
     End,
+}
+
+/// On what is common to its paths, and perhaps at the end of that.
+pub(crate) fn trunk_station(call: &Call, is_ended: bool) -> Station
+    ensures { result ≡ (if is_ended then if walks.has_two_paths call.now then Station.Fork else Station.End else
+        Station.Trunk) }
+{
+    if !is_ended {
+        Station::Trunk
+    } else if has_two_paths(call) {
+        Station::Fork
+    } else {
+        Station::End
+    }
+}
+
+/// Past the fork, with branches that are perhaps at their ends.
+pub(crate) fn split_station(is_first_ended: bool, is_second_ended: bool) -> Station
+    ensures { result ≡ (if is_first_ended then if is_second_ended then Station.End else Station.Second else
+        Station.First) }
+{
+    if !is_first_ended {
+        Station::First
+    } else if is_second_ended {
+        Station::End
+    } else {
+        Station::Second
+    }
 }

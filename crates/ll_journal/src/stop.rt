@@ -16,7 +16,8 @@ ghost use Rattle.ll_journal.specs.Looks as looks;
 
 use crate::ending::is_marked_by_other;
 use crate::found::{blocked, found};
-use crate::seat::{Seat, is_in, is_lent};
+use crate::seat::Seat;
+use crate::standing::{is_in, is_lent};
 use crate::way::has_two_paths;
 use ll_answer::{Found, Spot, Targets, targets_of};
 use ll_held::{Held, find};
@@ -54,7 +55,8 @@ fn stop_before(table: &Inodes, lent: &[Held], here: u64, name: &str) -> Stop
 /// second has its last name here.
 pub(crate) fn node_at(call: &Call, last: &Spot) -> u64
     ensures first { result ≡ slice_index_or (near.nodes_of call.now (looks.found_last last.now)) 0 0 }
-    ensures alone { (p : ℕ → Bool) → p 0 ≡ true → list_all p (near.nodes_of call.now (looks.found_last last.now)) ≡ p result }
+    ensures alone { (p : ℕ → Bool) → p 0 ≡ true
+        → list_all p (near.nodes_of call.now (looks.found_last last.now)) ≡ p result }
 {
     match call {
         Call::Open(..) | Call::Truncate(..) | Call::ReadDir(_) => {}
@@ -114,7 +116,8 @@ fn may_make(call: &Call, found: &Found) -> bool
 }
 
 fn is_other_lent(lent: &[Held], call: &Call, found: &Found) -> bool
-    ensures { result ≡ list_all (λ inode. (inode == 0) || looks.lends lent.now inode) (near.nodes_of call.now found.now) }
+    ensures { result ≡ list_all (λ inode. (inode == 0) || looks.lends lent.now inode)
+        (near.nodes_of call.now found.now) }
 {
     let other = other_node(call, found);
     other == 0 || is_lent(lent, other)
@@ -191,7 +194,8 @@ fn is_marked_there(seats: &[Seat], client: u64, call: &Call, found: &Found) -> b
 /// With this found at the ends.
 fn stop_there(sight: &Sight<'_>, client: u64, spare: u64, call: &Call, found: Found) -> Stop
     ensures { (w : world.World) → w.walks ≡ walks_from 1 sight.now.seats.now
-        → result ≡ looks.stop_there (world.is_marked_by_other w client) sight.now.slots.now sight.now.lent.now spare call.now found }
+        → result ≡ looks.stop_there (world.is_marked_by_other w client) sight.now.slots.now sight.now.lent.now spare
+        call.now found }
 {
     if is_marked_there(sight.seats, client, call, &found) {
         Stop::NotNow

@@ -1,74 +1,106 @@
 //! The way of a call: the names that its walk takes.
 
-ghost use Rattle.std.specs.Prelude.{◌≡◌, ◌≤◌, ◌==◌, None, Some, length, slice_get, option_map};
-ghost use Rattle.ll_path.specs.Name.{same_name};
-ghost use Rattle.ll_path.specs.Path.{parent};
+ghost use Rattle.std.specs.Prelude.{◌≡◌, ◌+◌, ◌<◌, ◌≤◌, ◌==◌, IsSome, length, slice_get, option_map};
+ghost use Rattle.ll_path.specs.Path.{common, parent};
+ghost use Rattle.ll_path.specs.Place.{IsPlace};
 ghost use Rattle.ll_rights.specs.declared.limits.TheConstants.{PATH_NAMES};
-ghost use Rattle.ll_seq.specs.Call.{first_path, path_of, second_path};
+ghost use Rattle.ll_seq.specs.Call as calls;
 ghost use Rattle.ll_walks.specs.Walk as walks;
-ghost use Rattle.ll_journal.specs.Seated.{AreShort, shared_name};
+ghost use Rattle.ll_journal.specs.Seated.{AreShort, name_on, names_in};
 
+use crate::leg::Ahead;
 use ll_answer::{Targets, targets_of};
-use ll_path::Target;
+use ll_path::{Path, Place, Target};
 use ll_seq::Call;
 
-/// The name at this depth on the way to the parent of the word's path.
-fn name_at(target: &Target, depth: usize) -> Option<&str>
-    ensures { option_map (λ name. name.now) result ≡ slice_get (parent (path_of target.now)) depth }
+/// The path that the word spells, if it spells one.
+fn spelled(target: &Target) -> Option<&Path>
+    ensures { names_in result ≡ calls.path_of target.now }
 {
     match target {
-        Target::Good(path) => path.parent().nth(depth),
+        Target::Good(path) => Some(path),
         Target::Bad(_) => None,
     }
 }
 
-fn is_same(one: &str, other: &str) -> bool
-    ensures { result ≡ same_name one.now other.now }
-{
-    one == other
-}
-
-/// The name where both are the same.
-fn shared<'a>(one: Option<&'a str>, other: Option<&'a str>) -> Option<&'a str>
-    ensures { option_map (λ name. name.now) result ≡ shared_name (option_map (λ name. name.now) one.entry) (option_map (λ name. name.now) other.entry) }
-{
-    let one = one?;
-    let other = other?;
-    if is_same(one, other) { Some(one) } else { None }
-}
-
-/// The name at this depth on the way of both paths. The names above are common to both.
-pub(crate) fn trunk_name(call: &Call, depth: usize) -> Option<&str>
-    requires { depth ≤ length (walks.trunk_path call.now) }
-    ensures { option_map (λ name. name.now) result ≡ slice_get (walks.trunk_path call.now) depth }
+/// The call's first path, if it has one.
+pub(crate) fn first_path(call: &Call) -> Option<&Path>
+    ensures { names_in result ≡ calls.first_path call.now }
 {
     match targets_of(call) {
         Targets::No => None,
-        Targets::One(target) => name_at(target, depth),
-        Targets::Two(old, new) => shared(name_at(old, depth), name_at(new, depth)),
+        Targets::One(target) => spelled(target),
+        Targets::Two(old, _) => spelled(old),
     }
 }
 
-/// The same on the way of the first path.
-pub(crate) fn first_name(call: &Call, depth: usize) -> Option<&str>
-    ensures { option_map (λ name. name.now) result ≡ slice_get (parent (first_path call.now)) depth }
+/// The call's second path, which is the first one where it has no other.
+pub(crate) fn second_path(call: &Call) -> Option<&Path>
+    ensures { names_in result ≡ calls.second_path call.now }
 {
     match targets_of(call) {
         Targets::No => None,
-        Targets::One(target) => name_at(target, depth),
-        Targets::Two(old, _) => name_at(old, depth),
+        Targets::One(target) => spelled(target),
+        Targets::Two(_, new) => spelled(new),
     }
 }
 
-/// The same on the way of the second path.
-pub(crate) fn second_name(call: &Call, depth: usize) -> Option<&str>
-    ensures { option_map (λ name. name.now) result ≡ slice_get (parent (second_path call.now)) depth }
+/// How many names lead to the path's parent.
+pub(crate) fn way_len(path: Option<&Path>) -> usize
+    ensures len { result ≡ length (parent (names_in path.entry)) }
+    ensures short { result < PATH_NAMES }
+{
+    match path {
+        Some(path) => path.len().saturating_sub(1),
+        None => 0,
+    }
+}
+
+/// With how many names the ways to both paths' parents begin alike.
+fn shared_len(one: Option<&Path>, other: Option<&Path>) -> usize
+    ensures { result ≡ length (common (parent (names_in one.entry)) (parent (names_in other.entry))) }
+{
+    let most = way_len(one).min(way_len(other));
+    match (one, other) {
+        (Some(one), Some(other)) => one.common(other).count().min(most),
+        _ => 0,
+    }
+}
+
+/// How many names are common to both ways of a call; of one path, how many its way has.
+pub(crate) fn trunk_len(call: &Call) -> usize
+    ensures { result ≡ length (walks.trunk_path call.now) }
 {
     match targets_of(call) {
-        Targets::No => None,
-        Targets::One(target) => name_at(target, depth),
-        Targets::Two(_, new) => name_at(new, depth),
+        Targets::No => 0,
+        Targets::One(target) => way_len(spelled(target)),
+        Targets::Two(old, new) => shared_len(spelled(old), spelled(new)),
     }
+}
+
+/// The next name of a leg whose way is the beginning of this path.
+pub(crate) fn next_name(path: Option<&Path>, ahead: Ahead) -> Option<&str>
+    requires { IsPlace (names_in path) ahead.place }
+    ensures { option_map (λ name. name.now) result ≡ name_on (names_in path.entry) ahead }
+{
+    if ahead.is_empty() {
+        return None;
+    }
+    path?.name_at(ahead.place)
+}
+
+/// The place after the name that begins there.
+pub(crate) fn place_after(path: Option<&Path>, place: Place) -> Place
+    requires place { IsPlace (names_in path) place }
+    requires name { IsSome (slice_get (names_in path) place.depth) }
+    ensures place { IsPlace (names_in path.entry) result }
+    ensures depth { result.depth ≡ place.depth + 1 }
+{
+    let Some(path) = path else { unreachable!() };
+    let Some(name) = path.name_at(place) else {
+        unreachable!()
+    };
+    path.place_after(place, name.len())
 }
 
 pub(crate) fn has_two_paths(call: &Call) -> bool
@@ -79,7 +111,7 @@ pub(crate) fn has_two_paths(call: &Call) -> bool
 
 /// A path has few names.
 fn know_short(target: &Target)
-    ensures { length (path_of target.now) ≤ PATH_NAMES }
+    ensures { length (calls.path_of target.now) ≤ PATH_NAMES }
 {
     if let Target::Good(path) = target {
         prove!(path.len() <= 64);

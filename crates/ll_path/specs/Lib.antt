@@ -1,5 +1,6 @@
 pub mod Name
 pub mod Names
 pub mod Path
+pub mod Place
 pub mod Target
 pub mod Word

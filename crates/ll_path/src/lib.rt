@@ -6,6 +6,7 @@ mod bytes;
 mod name;
 mod names;
 mod path;
+mod place;
 mod target;
 mod word;
 
@@ -13,5 +14,6 @@ pub use bytes::Data;
 pub use name::Name;
 pub use names::Names;
 pub use path::Path;
+pub use place::Place;
 pub use target::{BadPath, Target};
 pub use word::Word;

@@ -1,12 +1,16 @@
 //! Paths.
 
-ghost use Rattle.std.specs.Prelude.{◌≡◌, ◌<◌, ◌≤◌, ◌+◌, ◌^◌, ℕ, nat_lt, List, [], ◌∷◌, ◌++◌, All, length, sum_by, Option, Some, slice_get, IfSome, IfNone, IfOk, IfErr};
+ghost use Rattle.std.specs.Prelude.{◌≡◌, ◌<◌, ◌≤◌, ◌+◌, ◌^◌, ℕ, nat_lt, List, [], ◌∷◌, ◌++◌, All, length, sum_by};
+ghost use Rattle.std.specs.Prelude.{Option, Some, option_map, slice_get, IfSome, IfNone, IfOk, IfErr};
 ghost use Rattle.std.specs.List.{join_with_byte, list_any};
 ghost use Rattle.ll_path.specs.Word.{IsVisible, IsWord};
 ghost use Rattle.ll_path.specs.Name.{IsName, same_name};
-ghost use Rattle.ll_path.specs.Path.{path_of_text, is_no_name, is_long_name, path_refusals, path_text, is_root, parent, last_name, is_beneath, common};
+ghost use Rattle.ll_path.specs.Path.{path_of_text, is_no_name, is_long_name, path_refusals, path_text, is_root, parent};
+ghost use Rattle.ll_path.specs.Path.{last_name, is_beneath, common};
+ghost use Rattle.ll_path.specs.Place.{IsPlace};
 
 use crate::names::Names;
+use crate::place::Place;
 use crate::word::Word;
 use ll_rights::Errno;
 use std::marker::Model;
@@ -122,6 +126,33 @@ impl Path {
         ensures { result ≡ self.now }
     {
         Names::after_slash(self.joined())
+    }
+
+    /// The name that begins at the place, unless no name follows. The names before it aren't read.
+    pub fn name_at(&self, place: Place) -> Option<&str>
+        requires { IsPlace self.now place }
+        ensures { option_map (λ name. name.now) result ≡ slice_get self.now place.depth }
+    {
+        let joined = self.joined();
+        if place.byte >= joined.len() {
+            return None;
+        }
+        Names::after_slash(&joined[place.byte..]).next()
+    }
+
+    /// The place after the name that begins at the place and takes so many bytes.
+    pub fn place_after(&self, place: Place, len: usize) -> Place
+        requires place { IsPlace self.now place }
+        requires name { option_map length (slice_get self.now place.depth) ≡ Some len }
+        ensures place { IsPlace self.now result }
+        ensures depth { result.depth ≡ place.depth + 1 }
+    {
+        let joined = self.joined();
+        prove!(place.byte + len <= joined.len());
+        Place {
+            depth: place.depth + 1,
+            byte: place.byte + len + 1,
+        }
     }
 
     /// How many names there are.

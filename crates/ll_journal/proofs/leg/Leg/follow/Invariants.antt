@@ -1,5 +1,5 @@
 use Rattle.std.proofs.Common.{◌≡◌, take, vec_capacity}
-use Rattle.ll_journal.proofs.seat.Leg.follow.Given as goal
+use Rattle.ll_journal.proofs.leg.Leg.follow.Given as goal
 
 abbrev pub invariant-loop-inode : goal.invariant-loop-inode
 invariant-loop-inode l = record {

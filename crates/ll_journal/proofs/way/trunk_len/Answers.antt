@@ -1,0 +1,17 @@
+use Rattle.std.proofs.Common.{ap, sym, ◌∙◌, length}
+use Rattle.ll_path.specs.Path.{Path, common, parent}
+use Rattle.ll_seq.specs.Call.{first_of, second_of}
+use Rattle.ll_journal.proofs.Ahead.{common_itself}
+use Rattle.ll_journal.proofs.way.trunk_len.Goals as goal
+
+pub returns-in-One : goal.returns-in-One
+returns-in-One c =
+    c.way_len.ensures.len ∙ ap (λ (p : Path). length (parent p)) c.spelled.ensures
+    ∙ sym (ap length (common_itself _))
+    ∙ ap (λ ts. length (common (parent (first_of ts)) (parent (second_of ts)))) c.in-One.ensures
+
+pub returns-in-Two : goal.returns-in-Two
+returns-in-Two c =
+    c.shared_len.ensures
+    ∙ (λ i. length (common (parent (c.spelled-in-Two.ensures i)) (parent (c.spelled-in-Two-2.ensures i))))
+    ∙ ap (λ ts. length (common (parent (first_of ts)) (parent (second_of ts)))) c.in-Two.ensures
