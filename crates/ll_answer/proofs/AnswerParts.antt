@@ -10,7 +10,9 @@ use Rattle.ll_seq.specs.Asked.{call_denials, grants}
 use Rattle.ll_seq.specs.CallParts.{asked, moved, done, existence_refusals, kind_refusals, limit_refusals}
 use Rattle.ll_seq.specs.Call.{first_path, second_path}
 use Rattle.ll_seq.specs.declared.call.Call.{Call}
-use Rattle.ll_seq.specs.declared.call.Call.TheVariants.{Make, Open, Read, Write, Ftruncate, Close, Truncate, ReadDir, Stat, Exec, Unlink, Rmdir, Rename, RenameNoreplace, Exchange, Link, Ruleset, Allow, Confine, Spawn, Connect}
+use Rattle.ll_seq.specs.declared.call.Call.TheVariants.{Make, Open, Read, Write, Ftruncate, Close, Truncate, ReadDir}
+use Rattle.ll_seq.specs.declared.call.Call.TheVariants.{Stat, Exec, Unlink, Rmdir, Rename, RenameNoreplace, Exchange}
+use Rattle.ll_seq.specs.declared.call.Call.TheVariants.{Link, Ruleset, Allow, Confine, Spawn, Connect}
 use Rattle.ll_seq.specs.declared.client.ClientRecord.{ClientRecord}
 use Rattle.ll_seq.specs.declared.reply.Reply.{Reply}
 use Rattle.ll_seq.specs.declared.reply.Reply.TheVariants.{Refused, Denied}
@@ -28,7 +30,8 @@ use Rattle.ll_answer.specs.Lean.{is_lean, spares_memory}
 use Rattle.ll_answer.specs.Passed.{before_policy, after_policy, has_path, Passed, IsFree}
 
 -- policy judges what the call asks and moves, and nothing that was kept
-pub policy_is : (s : State) (c : ClientRecord) (call : Call) → has_path call ≡ true → slice_get (call_denials s c call) 0 ≡ verdict (grants s) c.domain (asked s call) (moved s call)
+pub policy_is : (s : State) (c : ClientRecord) (call : Call) → has_path call ≡ true
+    → slice_get (call_denials s c call) 0 ≡ verdict (grants s) c.domain (asked s call) (moved s call)
 policy_is s c (Make k t) e = refl
 policy_is s c (Open m t) e = refl
 policy_is s c (Read n o z) e = absurd cc
@@ -52,7 +55,8 @@ policy_is s c Spawn e = absurd cc
 policy_is s c Connect e = absurd cc
 
 -- what policy judges, by what is asked on
-pub judged_so : (s : State) (c : ClientRecord) (call : Call) (d : Demands) → has_path call ≡ true → (demanded : AreDemands s call d)
+pub judged_so : (s : State) (c : ClientRecord) (call : Call) (d : Demands) → has_path call ≡ true
+    → (demanded : AreDemands s call d)
     → slice_get (call_denials s c call) 0 ≡ verdict (grants_along (chains s call)) c.domain demanded.asks demanded.moves
 judged_so s c call d ours demanded =
     policy_is s c call ours
@@ -60,16 +64,20 @@ judged_so s c call d ours demanded =
     ∙ verdict_same s (first_path call) (second_path call) c.domain demanded.asks demanded.moves
 
 -- a call that nothing refuses does what is told of it
-pub comes_so : (s : State) (n : ℕ) (c : ClientRecord) (call : Call) (found : Found) (effect : Effect) → client_of s n ≡ c → has_path call ≡ true
+pub comes_so : (s : State) (n : ℕ) (c : ClientRecord) (call : Call) (found : Found) (effect : Effect)
+    → client_of s n ≡ c → has_path call ≡ true
     → Passed s c call found → after_policy s c call ≡ [] → refusals s (client_of s n) call ≡ []
-    → ((fresh : ℕ) → IsFree s c call found → ◌≡◌ {A = Reply × State} (done s n c call (first_path call) (second_path call) fresh) (told s effect.answer, after s n c effect.change))
+    → ((fresh : ℕ) → IsFree s c call found
+    → ◌≡◌ {A = Reply × State} (done s n c call (first_path call) (second_path call) fresh)
+    (told s effect.answer, after s n c effect.change))
     → (IsFree s c call found → Fits s c effect.change)
     → (spares_memory call ≡ true → is_lean effect ≡ true)
     → IsDone s n call effect
 comes_so s n c call found effect who ours passed nothing free does fits lean =
     let kinds = kind_refusals s c call (first_path call) (second_path call) in
     let limits = limit_refusals s c call (first_path call) (second_path call) in
-    let is_free : IsFree s c call found = record { passed = passed; kinds = one_free kinds limits nothing; limits = other_free kinds limits nothing } in
+    let is_free : IsFree s c call found =
+    record { passed = passed; kinds = one_free kinds limits nothing; limits = other_free kinds limits nothing } in
     let outcome_of : ClientRecord → Reply × State = λ z. (told s effect.answer, after s n z effect.change) in
     record {
       free = free;

@@ -10,9 +10,12 @@ use Rattle.ll_path.specs.Path.{Path, parent}
 use Rattle.ll_path.specs.declared.target.Target.{Target}
 use Rattle.ll_seq.specs.Call.{first_of, second_of, first_path, second_path, targets}
 use Rattle.ll_seq.specs.declared.call.Call.{Call}
-use Rattle.ll_seq.specs.declared.call.Call.TheVariants.{Make, Open, Read, Write, Ftruncate, Close, Truncate, ReadDir, Stat, Exec, Unlink, Rmdir, Rename, RenameNoreplace, Exchange, Link, Ruleset, Allow, Confine, Spawn, Connect}
+use Rattle.ll_seq.specs.declared.call.Call.TheVariants.{Make, Open, Read, Write, Ftruncate, Close, Truncate, ReadDir}
+use Rattle.ll_seq.specs.declared.call.Call.TheVariants.{Stat, Exec, Unlink, Rmdir, Rename, RenameNoreplace, Exchange}
+use Rattle.ll_seq.specs.declared.call.Call.TheVariants.{Link, Ruleset, Allow, Confine, Spawn, Connect}
 use Rattle.ll_seq.specs.declared.client.ClientRecord.{ClientRecord}
-use Rattle.ll_seq.specs.Stages.{in_the_way, way_to, missing, present, text_refusals, number_refusals, relation_refusals, walk_refusals}
+use Rattle.ll_seq.specs.Stages.{in_the_way, way_to, missing, present, text_refusals, number_refusals, relation_refusals}
+use Rattle.ll_seq.specs.Stages.{walk_refusals}
 use Rattle.ll_seq.specs.CallParts.{existence_refusals}
 use Rattle.ll_seq.specs.State.{State, root}
 use Rattle.ll_seq.specs.Tree.{named}
@@ -30,27 +33,31 @@ other_free [] ys e = e
 other_free (x ∷ xs) ys e = absurd cc
 
 -- what comes after no refusal
-pub after_none : (ones others : List Errno) (other : Option Errno) → slice_get ones 0 ≡ None → (ones ≡ [] → other ≡ slice_get others 0)
+pub after_none : (ones others : List Errno) (other : Option Errno) → slice_get ones 0 ≡ None
+    → (ones ≡ [] → other ≡ slice_get others 0)
     → other ≡ slice_get (ones ++ others) 0
 after_none [] others other none then = then refl
 after_none (x ∷ ones) others other none then = absurd cc
 
-pub first_way : (s : State) (words : List Target) → flat_map (way_to s) words ≡ [] → in_the_way s (parent (first_of words)) root ≡ []
+pub first_way : (s : State) (words : List Target) → flat_map (way_to s) words ≡ []
+    → in_the_way s (parent (first_of words)) root ≡ []
 first_way s [] e = refl
 first_way s (word ∷ words) e = one_free (way_to s word) _ e
 
-pub second_way : (s : State) (words : List Target) → flat_map (way_to s) words ≡ [] → in_the_way s (parent (second_of words)) root ≡ []
+pub second_way : (s : State) (words : List Target) → flat_map (way_to s) words ≡ []
+    → in_the_way s (parent (second_of words)) root ≡ []
 second_way s [] e = refl
 second_way s (word ∷ []) e = one_free (way_to s word) _ e
 second_way s (old ∷ (new ∷ words)) e = one_free (way_to s new) _ (other_free (way_to s old) _ e)
 
 -- where no way is blocked, both last names stand as they are found
-module _ (s : State) (call : Call) (found : Found) (facts : AreFacts s call found) (free : walk_refusals s call ≡ []) where
-  pub first_stands : Stands s (first_path call) found.first
-  first_stands = facts.first.stands (facts.first.way ∙ ap (λ l. slice_get l 0) (first_way s (targets call) free))
+module _ (s : State) (call : Call) (found : Found) (facts : AreFacts s call found) (free : walk_refusals s call ≡ [])
+  where
+    pub first_stands : Stands s (first_path call) found.first
+    first_stands = facts.first.stands (facts.first.way ∙ ap (λ l. slice_get l 0) (first_way s (targets call) free))
 
-  pub second_stands : Stands s (second_path call) found.second
-  second_stands = facts.second.stands (facts.second.way ∙ ap (λ l. slice_get l 0) (second_way s (targets call) free))
+    pub second_stands : Stands s (second_path call) found.second
+    second_stands = facts.second.stands (facts.second.way ∙ ap (λ l. slice_get l 0) (second_way s (targets call) free))
 
 some_there : (o : Option ℕ) → refuse (is_none o) ENOENT ≡ [] → is_some o ≡ true
 some_there None e = absurd cc
@@ -74,7 +81,10 @@ exist s (Unlink t) at new e = needed s at e
 exist s (Rmdir t) at new e = needed s at e
 exist s (Rename from into) at new e = needed s at e
 exist s (RenameNoreplace from into) at new e = needed s at (one_free (missing s at) (present s new) e)
-exist s (Exchange from into) at new e = (needed s at (one_free (missing s at) (missing s new) e), needed s new (other_free (missing s at) (missing s new) e))
+exist s (Exchange from into) at new e = (
+  needed s at (one_free (missing s at) (missing s new) e),
+  needed s new (other_free (missing s at) (missing s new) e),
+)
 exist s (Link from into) at new e = needed s at (one_free (missing s at) (present s new) e)
 exist s (Ruleset r) at new e = tt
 exist s (Allow n t r) at new e = needed s at e
@@ -82,7 +92,8 @@ exist s (Confine n) at new e = tt
 exist s Spawn at new e = tt
 exist s Connect at new e = tt
 
-pub all_passed : (s : State) (c : ClientRecord) (call : Call) (found : Found) → AreFacts s call found → before_policy s c call ≡ [] → Passed s c call found
+pub all_passed : (s : State) (c : ClientRecord) (call : Call) (found : Found) → AreFacts s call found
+    → before_policy s c call ≡ [] → Passed s c call found
 all_passed s c call found facts free =
     let at = first_path call in
     let new = second_path call in
@@ -102,23 +113,28 @@ all_passed s c call found facts free =
       existence = existence;
     }
 
-pub passed_at : (s : State) (c : ClientRecord) (call same : Call) (found : Found) → call ≡ same → Passed s c call found → Passed s c same found
+pub passed_at : (s : State) (c : ClientRecord) (call same : Call) (found : Found) → call ≡ same → Passed s c call found
+    → Passed s c same found
 passed_at s c call same found is = subst (λ (z : Call). Passed s c z found) is
 
-pub free_at : (s : State) (c : ClientRecord) (call same : Call) (found : Found) → call ≡ same → IsFree s c call found → IsFree s c same found
+pub free_at : (s : State) (c : ClientRecord) (call same : Call) (found : Found) → call ≡ same → IsFree s c call found
+    → IsFree s c same found
 free_at s c call same found is = subst (λ (z : Call). IsFree s c z found) is
 
 -- ---- early refusals, and those by what is found
 
-pub in_order : (s : State) (c : ClientRecord) (call : Call) → early_refusals c call ++ found_refusals s call ≡ before_policy s c call
+pub in_order : (s : State) (c : ClientRecord) (call : Call)
+    → early_refusals c call ++ found_refusals s call ≡ before_policy s c call
 in_order s c call =
     let text = text_refusals call in
     let number = number_refusals c call in
     let lying = relation_refusals call (first_path call) (second_path call) in
-    append_assoc (text ++ number) lying (found_refusals s call) ∙ append_assoc text number (lying ++ found_refusals s call)
+    append_assoc (text ++ number) lying (found_refusals s call)
+    ∙ append_assoc text number (lying ++ found_refusals s call)
 
 -- where no early stage refuses it
-pub after_early : (s : State) (c : ClientRecord) (call : Call) → early_refusals c call ≡ [] → before_policy s c call ≡ found_refusals s call
+pub after_early : (s : State) (c : ClientRecord) (call : Call) → early_refusals c call ≡ []
+    → before_policy s c call ≡ found_refusals s call
 after_early s c call e = sym (in_order s c call) ∙ ap (λ es. es ++ found_refusals s call) e
 
 pub first_kept : {A : Type 0} (xs ys : List A) (x : A) → slice_get xs 0 ≡ Some x → slice_get (xs ++ ys) 0 ≡ Some x

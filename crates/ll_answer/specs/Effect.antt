@@ -1,6 +1,7 @@
 -- What the data of an effect mean, by the words of the definitions, and what holds where a call comes to them. Cited by
 -- contracts between crates alone. own
-use Rattle.std.specs.Prelude.{◌≡◌, ◌≢◌, ◌<◌, ⊤, ℕ, not, ◌==◌, ◌&&◌, false, [], ◌++◌, length, Option, Some, None, slice_set, if◌then◌else◌}
+use Rattle.std.specs.Prelude.{◌≡◌, ◌≢◌, ◌<◌, ⊤, ℕ, not, ◌==◌, ◌&&◌, false, [], ◌++◌, length, Option, Some, None}
+use Rattle.std.specs.Prelude.{slice_set, if◌then◌else◌}
 use Rattle.ll_rights.specs.declared.kind.Kind.TheVariants.{Reg, Dir}
 use Rattle.ll_rights.specs.Kind.{is_dir}
 use Rattle.ll_rights.specs.Map.{get, insert}
@@ -12,7 +13,8 @@ use Rattle.ll_seq.specs.declared.client.Descriptor.{Descriptor}
 use Rattle.ll_seq.specs.declared.dentries.Dentry.{Dentry}
 use Rattle.ll_seq.specs.declared.reply.Reply.{Reply}
 use Rattle.ll_seq.specs.declared.reply.Reply.TheVariants as reply
-use Rattle.ll_seq.specs.Effects.{with_node, without_name, with_name, with_moved, let_go, with_size, with_bytes, with_client, status_of, dentry_of}
+use Rattle.ll_seq.specs.Effects.{with_node, without_name, with_name, with_moved, let_go, with_size, with_bytes}
+use Rattle.ll_seq.specs.Effects.{with_client, status_of, dentry_of}
 use Rattle.ll_seq.specs.Reach.{HasName}
 use Rattle.ll_seq.specs.Stages.{has_names, has_many_names, is_crowded, no_space, is_too_long, lowest_free, ruleset_at}
 use Rattle.ll_seq.specs.State.{State, root, dentry, child, kind_of, names_in}
@@ -21,7 +23,8 @@ use Rattle.ll_answer.specs.declared.changes.Answer.{Answer}
 use Rattle.ll_answer.specs.declared.changes.Answer.TheVariants.{Done, Opened, Status, Names}
 use Rattle.ll_answer.specs.declared.changes.At.{At}
 use Rattle.ll_answer.specs.declared.changes.Change.{Change}
-use Rattle.ll_answer.specs.declared.changes.Change.TheVariants.{Nothing, Make, Take, Name, Move, Replace, Exchange, Resize, Open, Allow}
+use Rattle.ll_answer.specs.declared.changes.Change.TheVariants.{Nothing, Make, Take, Name, Move, Replace, Exchange}
+use Rattle.ll_answer.specs.declared.changes.Change.TheVariants.{Resize, Open, Allow}
 use Rattle.ll_answer.specs.declared.changes.Opening.{Opening}
 use Rattle.ll_answer.specs.declared.changes.Rule.{Rule}
 

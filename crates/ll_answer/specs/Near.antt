@@ -8,7 +8,8 @@ use Rattle.ll_answer.specs.declared.changes.Answer.{Answer}
 use Rattle.ll_answer.specs.declared.changes.Answer.TheVariants.{Done, Opened, Status, Names}
 use Rattle.ll_answer.specs.declared.changes.At.{At}
 use Rattle.ll_answer.specs.declared.changes.Change.{Change}
-use Rattle.ll_answer.specs.declared.changes.Change.TheVariants.{Nothing, Make, Take, Name, Move, Replace, Exchange, Resize, Open, Allow}
+use Rattle.ll_answer.specs.declared.changes.Change.TheVariants.{Nothing, Make, Take, Name, Move, Replace, Exchange}
+use Rattle.ll_answer.specs.declared.changes.Change.TheVariants.{Resize, Open, Allow}
 use Rattle.ll_answer.specs.declared.changes.Effect.{Effect}
 use Rattle.ll_answer.specs.declared.found.Found.{Found}
 use Rattle.ll_answer.specs.declared.found.Spot.{Spot}

@@ -1,6 +1,7 @@
 //! What an allowed call answers and changes.
 
-ghost use Rattle.std.specs.Prelude.{◌≡◌, ℕ, [], ◌∷◌, Option, Some, None, true, false, length, option_map, option_to_list, unwrap_or};
+ghost use Rattle.std.specs.Prelude.{◌≡◌, ℕ, [], ◌∷◌, Option, Some, None, true, false, length, option_map};
+ghost use Rattle.std.specs.Prelude.{option_to_list, unwrap_or};
 ghost use Rattle.ll_decide.specs.Judge.{AreGranted};
 ghost use Rattle.ll_path.specs.Path.{Path};
 ghost use Rattle.ll_seq.specs.Asked.{kept_at};

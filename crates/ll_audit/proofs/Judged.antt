@@ -14,4 +14,5 @@ module _ (rules : Rules) (room : ℕ) (entries : List Entry) (legal : IsLegal (s
   gains_nothing early late whole = no_gain rules room early late (subst (IsLegal (start rules room)) (sym whole) legal)
 
   pub withholds : (early late : List Entry) → early ++ late ≡ entries → Withholds rules room early late
-  withholds early late whole = bytes_are_withheld rules room early late (subst (IsLegal (start rules room)) (sym whole) legal)
+  withholds early late whole = bytes_are_withheld rules room early late
+      (subst (IsLegal (start rules room)) (sym whole) legal)

@@ -19,8 +19,8 @@ use ll_rights::limits::TREE_NODES;
 use ll_seq::{Entry, History, Rules};
 use std::alloc::Global;
 
-/// Makes the entries' calls in a tree, up to the first whose reply isn't the tree's. After a fault nothing is said of the
-/// tree: the faulty entry's call may have been made in it.
+/// Makes the entries' calls in a tree, up to the first whose reply isn't the tree's. After a fault nothing is said of
+/// the tree: the faulty entry's call may have been made in it.
 pub fn follow(tree: &mut Plain, entries: &[Entry]) -> Result<(), AuditFault>
     requires { tree.old.next + length entries.now < 2 ^ 64 }
     ensures legal { OnOk result (IsLegal tree.old entries.now) }

@@ -1,5 +1,7 @@
 -- What a change may rely on where its slots are lent to it, and what is to be shown of one by which no node comes.
-use Rattle.std.specs.Prelude.{◌≡◌, ◌≢◌, ◌⊎◌, ℕ, zero, suc, Bool, true, false, cond, ◌||◌, ◌==◌, List, [], ◌∷◌, ◌++◌, map, Option, Some, None, is_some, option_map, slice_get, slice_set, slice_index_or, if◌then◌else◌, refl}
+use Rattle.std.specs.Prelude.{◌≡◌, ◌≢◌, ◌⊎◌, ℕ, zero, suc, Bool, true, false, cond, ◌||◌, ◌==◌, List, [], ◌∷◌, ◌++◌}
+use Rattle.std.specs.Prelude.{map, Option, Some, None, is_some, option_map, slice_get, slice_set, slice_index_or}
+use Rattle.std.specs.Prelude.{if◌then◌else◌, refl}
 use Rattle.std.specs.List.{AllByRecursion, list_any}
 use Rattle.std.proofs.Common.{sym, subst, ap, ◌∙◌, inl, inr, arith}
 use Rattle.std.proofs.lemmas.Bool.{eqb-true, eqb-false, eq-eqb}
@@ -22,13 +24,15 @@ use Rattle.ll_inodes.specs.InodeTable.{Table, IsTable, NotIn, without_inode}
 use Rattle.ll_inodes.proofs.SlotLists.{left_there}
 use Rattle.ll_changes.specs.Accounts.{account, accounts}
 use Rattle.ll_changes.specs.Enacting.{IsReached, IsGiven, IsMade, GivesBack, KeepsSlots}
-use Rattle.ll_changes.proofs.Accounted.{inode_at, got, account_held, account_vacant, account_inode, told_by, not_here, all_lent}
+use Rattle.ll_changes.proofs.Accounted.{inode_at, got, account_held, account_vacant, account_inode, told_by, not_here}
+use Rattle.ll_changes.proofs.Accounted.{all_lent}
 use Rattle.ll_changes.proofs.SlotAccounts.{content_of}
 
 -- ---- the tree, and the inodes in it
 
 pub tree_reached : (s : State) → IsReached s → IsTree s
-tree_reached s reached = subst IsTree (sym reached.is) (after_tree (start reached.rules reached.room) reached.entries (start_tree reached.rules reached.room))
+tree_reached s reached = subst IsTree (sym reached.is)
+    (after_tree (start reached.rules reached.room) reached.entries (start_tree reached.rules reached.room))
 
 -- a node of a kind is there
 pub kind_there : (s : State) (i : ℕ) (k : Kind) → kind_of s i ≡ Some k → has s.nodes i ≡ true
@@ -39,7 +43,8 @@ kind_there s i k e = by (get s.nodes i) e
     by (Some n) f = refl
 
 -- no node has the number 0
-pub some_there : (s : State) (spares : List ℕ) (table : Table) → IsTable s spares table → (i : ℕ) → has s.nodes i ≡ true → i ≢ 0
+pub some_there : (s : State) (spares : List ℕ) (table : Table) → IsTable s spares table → (i : ℕ) → has s.nodes i ≡ true
+    → i ≢ 0
 some_there s spares table counted i there = by (get table.places i) refl (counted.living i ∙ there)
   where
     by : (o : Option ℕ) → get table.places i ≡ o → is_some o ≡ true → i ≢ 0
@@ -54,7 +59,8 @@ module _ (s : State) (tree : IsTree s) where
   directory_there at dir = kind_there s at.directory Dir (directory_kind at dir)
 
   pub held_there : (at : At) (x : ℕ) → Holds s at x → has s.nodes x ≡ true
-  held_there at x holds = let known = tree.known at.directory at.name.now x holds.child in kind_there s x known.0 known.1
+  held_there at x holds = let known = tree.known at.directory at.name.now x holds.child in
+      kind_there s x known.0 known.1
 
   pub named_there : (x : ℕ) → HasName s x → has s.nodes x ≡ true
   named_there x named = let known = kind_known s tree named.0 x named.1 in kind_there s x known.0 known.1
@@ -66,43 +72,58 @@ abbrev pub held_of : State → (ℕ → Option ℕ) → ℕ → Held
 held_of s marks i = record { inode = i; node = record (content_of s i) { mark = marks i } }
 
 -- nothing, or a node that is there
-pub account_is : (s : State) (marks : ℕ → Option ℕ) (inodes : List ℕ) (k : ℕ) → ((inode_at inodes k ≡ 0) × (account s marks inodes k ≡ vacant)) ⊎ ((inode_at inodes k ≢ 0) × (account s marks inodes k ≡ held_of s marks (inode_at inodes k)))
+pub account_is : (s : State) (marks : ℕ → Option ℕ) (inodes : List ℕ) (k : ℕ)
+    → ((inode_at inodes k ≡ 0) × (account s marks inodes k ≡ vacant))
+    ⊎ ((inode_at inodes k ≢ 0) × (account s marks inodes k ≡ held_of s marks (inode_at inodes k)))
 account_is s marks inodes k =
-    elim (inode_at inodes k == 0) as (λ b. (inode_at inodes k == 0) ≡ b → ((inode_at inodes k ≡ 0) × (account s marks inodes k ≡ vacant)) ⊎ ((inode_at inodes k ≢ 0) × (account s marks inodes k ≡ held_of s marks (inode_at inodes k)))) [
+    elim (inode_at inodes k == 0) as (λ b. (inode_at inodes k == 0) ≡ b
+    → ((inode_at inodes k ≡ 0) × (account s marks inodes k ≡ vacant))
+    ⊎ ((inode_at inodes k ≢ 0) × (account s marks inodes k ≡ held_of s marks (inode_at inodes k)))) [
       | true ↦ λ e. let none = eqb-true (inode_at inodes k) 0 e in inl (none, account_vacant s marks inodes k none)
-      | false ↦ λ e. let some = eqb-false (inode_at inodes k) 0 e in inr (some, account_held s marks inodes k (inode_at inodes k) refl some)
+      | false ↦ λ e. let some = eqb-false (inode_at inodes k) 0 e in
+          inr (some, account_held s marks inodes k (inode_at inodes k) refl some)
     ] refl
 
 -- what holds of the inode's node holds in the slot that is lent for it
-pub all_given : (P : Held → Type 0) (s : State) (marks : ℕ → Option ℕ) (inodes slots : List ℕ) (lent : List Held) → lent ≡ accounts s marks inodes slots → (i : ℕ) → i ≢ 0 → P (held_of s marks i) → AllByRecursion (λ (held : Held). held.inode ≡ i → P held) lent
+pub all_given : (P : Held → Type 0) (s : State) (marks : ℕ → Option ℕ) (inodes slots : List ℕ) (lent : List Held)
+    → lent ≡ accounts s marks inodes slots → (i : ℕ) → i ≢ 0 → P (held_of s marks i)
+    → AllByRecursion (λ (held : Held). held.inode ≡ i → P held) lent
 all_given P s marks inodes slots lent told i some holds =
-    subst (AllByRecursion (λ (held : Held). held.inode ≡ i → P held)) (sym told) (all_lent (λ held. held.inode ≡ i → P held) s marks inodes each slots)
+    subst (AllByRecursion (λ (held : Held). held.inode ≡ i → P held)) (sym told)
+    (all_lent (λ held. held.inode ≡ i → P held) s marks inodes each slots)
   where
     each : (k : ℕ) → (account s marks inodes k).inode ≡ i → P (account s marks inodes k)
-    each k same = subst P (sym (account_held s marks inodes k i (sym (account_inode s marks inodes k) ∙ same) some)) holds
+    each k same = subst P (sym (account_held s marks inodes k i (sym (account_inode s marks inodes k) ∙ same) some))
+        holds
 
 -- ---- what is done to each slot
 
 module _ (s t : State) (marks : ℕ → Option ℕ) (inodes : List ℕ) (f : Held → Held) (idle : f vacant ≡ vacant) where
   -- all inodes stay where they are
-  pub each_stays : ((i : ℕ) → i ≢ 0 → f (held_of s marks i) ≡ held_of t marks i) → (k : ℕ) → account t marks inodes k ≡ f (account s marks inodes k)
+  pub each_stays : ((i : ℕ) → i ≢ 0 → f (held_of s marks i) ≡ held_of t marks i) → (k : ℕ)
+      → account t marks inodes k ≡ f (account s marks inodes k)
   each_stays each k = elim (account_is s marks inodes k) [
     | inl none ↦ account_vacant t marks inodes k none.0 ∙ sym (ap f none.1 ∙ idle)
-    | inr some ↦ account_held t marks inodes k (inode_at inodes k) refl some.0 ∙ sym (ap f some.1 ∙ each (inode_at inodes k) some.0)
+    | inr some ↦ account_held t marks inodes k (inode_at inodes k) refl some.0
+        ∙ sym (ap f some.1 ∙ each (inode_at inodes k) some.0)
   ]
 
   -- all but one
-  pub each_but : (gone : ℕ) → f (held_of s marks gone) ≡ vacant → ((i : ℕ) → i ≢ 0 → i ≢ gone → f (held_of s marks i) ≡ held_of t marks i) → (k : ℕ) → account t marks (without_inode inodes gone) k ≡ f (account s marks inodes k)
+  pub each_but : (gone : ℕ) → f (held_of s marks gone) ≡ vacant
+      → ((i : ℕ) → i ≢ 0 → i ≢ gone → f (held_of s marks i) ≡ held_of t marks i) → (k : ℕ)
+      → account t marks (without_inode inodes gone) k ≡ f (account s marks inodes k)
   each_but gone leaves each k = elim (account_is s marks inodes k) [
     | inl none ↦ account_vacant t marks (without_inode inodes gone) k (nothing none.0) ∙ sym (ap f none.1 ∙ idle)
-    | inr some ↦ elim (inode_at inodes k == gone) as (λ b. (inode_at inodes k == gone) ≡ b → account t marks (without_inode inodes gone) k ≡ f (account s marks inodes k)) [
-      | true ↦ λ e.
-          account_vacant t marks (without_inode inodes gone) k (out inodes gone k (eqb-true (inode_at inodes k) gone e))
-          ∙ sym (ap f some.1 ∙ ap (λ i. f (held_of s marks i)) (eqb-true (inode_at inodes k) gone e) ∙ leaves)
-      | false ↦ λ e. let other = eqb-false (inode_at inodes k) gone e in
-          account_held t marks (without_inode inodes gone) k (inode_at inodes k) (left inodes gone k other) some.0
-          ∙ sym (ap f some.1 ∙ each (inode_at inodes k) some.0 other)
-    ] refl
+    | inr some ↦ elim (inode_at inodes k == gone) as (λ b. (inode_at inodes k == gone) ≡ b
+        → account t marks (without_inode inodes gone) k ≡ f (account s marks inodes k)) [
+          | true ↦ λ e.
+              account_vacant t marks (without_inode inodes gone) k
+              (out inodes gone k (eqb-true (inode_at inodes k) gone e))
+              ∙ sym (ap f some.1 ∙ ap (λ i. f (held_of s marks i)) (eqb-true (inode_at inodes k) gone e) ∙ leaves)
+          | false ↦ λ e. let other = eqb-false (inode_at inodes k) gone e in
+              account_held t marks (without_inode inodes gone) k (inode_at inodes k) (left inodes gone k other) some.0
+              ∙ sym (ap f some.1 ∙ each (inode_at inodes k) some.0 other)
+        ] refl
   ]
     where
       out : (is : List ℕ) (gone k : ℕ) → inode_at is k ≡ gone → inode_at (without_inode is gone) k ≡ 0
@@ -112,7 +133,9 @@ module _ (s t : State) (marks : ℕ → Option ℕ) (inodes : List ℕ) (f : Hel
 
       left : (is : List ℕ) (gone k : ℕ) → inode_at is k ≢ gone → inode_at (without_inode is gone) k ≡ inode_at is k
       left [] gone k other = refl
-      left (i ∷ is) gone zero other = elim (i == gone) as (λ b. (i == gone) ≡ b → cond b 0 i ≡ i) [ true ↦ λ e. absurd (other (eqb-true i gone e)) | false ↦ λ e. refl ] refl
+      left (i ∷ is) gone zero other =
+          elim (i == gone) as (λ b. (i == gone) ≡ b → cond b 0 i ≡ i)
+          [ true ↦ λ e. absurd (other (eqb-true i gone e)) | false ↦ λ e. refl ] refl
       left (i ∷ is) gone (suc k) other = left is gone k other
 
       nothing : inode_at inodes k ≡ 0 → inode_at (without_inode inodes gone) k ≡ 0
@@ -123,44 +146,59 @@ module _ (s t : State) (marks : ℕ → Option ℕ) (inodes : List ℕ) (f : Hel
 
 -- ---- where a node goes
 
-module _ (s : State) (spares : List ℕ) (table : Table) (counted : IsTable s spares table) (inode : ℕ) (some : inode ≢ 0) where
-  -- some slot that is lent is its own
-  slot_lent : (slots : List ℕ) → list_any (λ k. inode_at table.inodes k == inode) slots ≡ true → (k : ℕ) × (list_any (λ l. l == k) slots ≡ true) × (inode_at table.inodes k ≡ inode)
-  slot_lent [] any = absurd (cc any)
-  slot_lent (k ∷ slots) any =
-      elim (inode_at table.inodes k == inode) as (λ b. (inode_at table.inodes k == inode) ≡ b → (b || list_any (λ k. inode_at table.inodes k == inode) slots) ≡ true
-      → (l : ℕ) × (list_any (λ m. m == l) (k ∷ slots) ≡ true) × (inode_at table.inodes l ≡ inode)) [
-        | true ↦ λ e f. (k, ap (λ b. b || list_any (λ m. m == k) slots) (eq-eqb k k refl), eqb-true (inode_at table.inodes k) inode e)
-        | false ↦ λ e f. let more = slot_lent slots f in (more.0, or_also (k == more.0) (list_any (λ m. m == more.0) slots) more.1, more.2)
-      ] refl any
-    where
-      or_also : (a b : Bool) → b ≡ true → (a || b) ≡ true
-      or_also true b e = refl
-      or_also false b e = e
+module _ (s : State) (spares : List ℕ) (table : Table) (counted : IsTable s spares table) (inode : ℕ) (some : inode ≢ 0)
+  where
+    -- some slot that is lent is its own
+    slot_lent : (slots : List ℕ) → list_any (λ k. inode_at table.inodes k == inode) slots ≡ true → (k : ℕ)
+        × (list_any (λ l. l == k) slots ≡ true) × (inode_at table.inodes k ≡ inode)
+    slot_lent [] any = absurd (cc any)
+    slot_lent (k ∷ slots) any =
+        elim (inode_at table.inodes k == inode) as (λ b. (inode_at table.inodes k == inode) ≡ b
+        → (b || list_any (λ k. inode_at table.inodes k == inode) slots) ≡ true
+        → (l : ℕ) × (list_any (λ m. m == l) (k ∷ slots) ≡ true) × (inode_at table.inodes l ≡ inode)) [
+          | true ↦ λ e f. (
+            k,
+            ap (λ b. b || list_any (λ m. m == k) slots) (eq-eqb k k refl),
+            eqb-true (inode_at table.inodes k) inode e,
+          )
+          | false ↦ λ e f. let more = slot_lent slots f in
+              (more.0, or_also (k == more.0) (list_any (λ m. m == more.0) slots) more.1, more.2)
+        ] refl any
+      where
+        or_also : (a b : Bool) → b ≡ true → (a || b) ≡ true
+        or_also true b e = refl
+        or_also false b e = e
 
-  -- no slot has it any more, so its node is gone
-  gone_so : (t : State) (spares' : List ℕ) (table' : Table) → IsTable t spares' table' → table'.inodes ≡ without_inode table.inodes inode → kind_of t inode ≡ None
-  gone_so t spares' table' after inodes = by (get t.nodes inode) refl (get table'.places inode) refl
-    where
-      by : (o : Option Node) → get t.nodes inode ≡ o → (p : Option ℕ) → get table'.places inode ≡ p → option_map (λ (n : Node). n.kind) o ≡ None
-      by None e p f = refl
-      by (Some n) e None f = absurd (cc (sym (ap is_some f) ∙ after.living inode ∙ ap is_some e))
-      by (Some n) e (Some slot) f = absurd ((left_there table.inodes inode slot inode (ap (λ is. slice_get is slot) (sym inodes) ∙ (after.placed.there inode slot f).0) some).1 refl)
+    -- no slot has it any more, so its node is gone
+    gone_so : (t : State) (spares' : List ℕ) (table' : Table) → IsTable t spares' table'
+        → table'.inodes ≡ without_inode table.inodes inode → kind_of t inode ≡ None
+    gone_so t spares' table' after inodes = by (get t.nodes inode) refl (get table'.places inode) refl
+      where
+        by : (o : Option Node) → get t.nodes inode ≡ o → (p : Option ℕ) → get table'.places inode ≡ p
+            → option_map (λ (n : Node). n.kind) o ≡ None
+        by None e p f = refl
+        by (Some n) e None f = absurd (cc (sym (ap is_some f) ∙ after.living inode ∙ ap is_some e))
+        by (Some n) e (Some slot) f =
+            absurd ((left_there table.inodes inode slot inode (ap (λ is. slice_get is slot) (sym inodes)
+            ∙ (after.placed.there inode slot f).0) some).1 refl)
 
-  pub given_back : (slots : List ℕ) → list_any (λ k. inode_at table.inodes k == inode) slots ≡ true → (t : State) (spares' : List ℕ) (table' : Table) → IsTable t spares' table' → table'.inodes ≡ without_inode table.inodes inode
-      → ((slot : ℕ) → get table.places inode ≡ Some slot → table'.free ≡ table.free ++ slot ∷ []) → GivesBack s t table table' slots
-  given_back slots any t spares' table' after inodes free =
-      let here = slot_lent slots any in
-      record {
-        slot = here.0;
-        lent = here.1;
-        there =
-            ap (has s.nodes) here.2 ∙ sym (counted.living inode)
-            ∙ ap is_some (counted.placed.lies here.0 inode (got table.inodes here.0 inode here.2 some) some);
-        gone = ap (kind_of t) here.2 ∙ gone_so t spares' table' after inodes;
-        inodes = inodes ∙ ap (without_inode table.inodes) (sym here.2);
-        free = free here.0 (counted.placed.lies here.0 inode (got table.inodes here.0 inode here.2 some) some);
-      }
+    pub given_back : (slots : List ℕ) → list_any (λ k. inode_at table.inodes k == inode) slots ≡ true
+        → (t : State) (spares' : List ℕ) (table' : Table) → IsTable t spares' table'
+        → table'.inodes ≡ without_inode table.inodes inode
+        → ((slot : ℕ) → get table.places inode ≡ Some slot → table'.free ≡ table.free ++ slot ∷ [])
+        → GivesBack s t table table' slots
+    given_back slots any t spares' table' after inodes free =
+        let here = slot_lent slots any in
+        record {
+          slot = here.0;
+          lent = here.1;
+          there =
+              ap (has s.nodes) here.2 ∙ sym (counted.living inode)
+              ∙ ap is_some (counted.placed.lies here.0 inode (got table.inodes here.0 inode here.2 some) some);
+          gone = ap (kind_of t) here.2 ∙ gone_so t spares' table' after inodes;
+          inodes = inodes ∙ ap (without_inode table.inodes) (sym here.2);
+          free = free here.0 (counted.placed.lies here.0 inode (got table.inodes here.0 inode here.2 some) some);
+        }
 
 -- ---- what comes of the change
 
@@ -171,33 +209,47 @@ put_again (y ∷ xs) zero x at = ap (λ z. z ∷ xs) (sym (same_Some y x at))
 put_again (y ∷ xs) (suc i) x at = ap (λ zs. y ∷ zs) (put_again xs i x at)
 
 -- one client's record stays
-pub client_stays : (s t : State) (number : ℕ) (c : ClientRecord) → t.clients ≡ s.clients → get s.clients number ≡ Some c → (q : ℕ) → get t.clients q ≡ (if q == number then Some c else get s.clients q)
+pub client_stays : (s t : State) (number : ℕ) (c : ClientRecord) → t.clients ≡ s.clients → get s.clients number ≡ Some c
+    → (q : ℕ) → get t.clients q ≡ (if q == number then Some c else get s.clients q)
 client_stays s t number c same at q =
     ap (λ m. get m q) same
-    ∙ elim (q == number) as (λ b. (q == number) ≡ b → get s.clients q ≡ cond b (Some c) (get s.clients q)) [ true ↦ λ e. ap (get s.clients) (eqb-true q number e) ∙ at | false ↦ λ e. refl ] refl
+    ∙ elim (q == number) as (λ b. (q == number) ≡ b → get s.clients q ≡ cond b (Some c) (get s.clients q))
+    [ true ↦ λ e. ap (get s.clients) (eqb-true q number e) ∙ at | false ↦ λ e. refl ] refl
 
-module _ (s : State) (number : ℕ) (marks : ℕ → Option ℕ) (spares : List ℕ) (place : ℕ) (c : ClientRecord) (spare : ℕ) (table : Table) (slots : List ℕ) (lent : List Held)
+module _ (s : State) (number : ℕ) (marks : ℕ → Option ℕ) (spares : List ℕ) (place : ℕ) (c : ClientRecord) (spare : ℕ)
+    (table : Table) (slots : List ℕ) (lent : List Held)
     (given : IsGiven s number marks spares place c spare table slots lent) where
   pub given_tree : IsTree s
   given_tree = tree_reached s given.reached
 
   -- in a slot that isn't lent lies nothing that is touched
-  pub away : (touched : List ℕ) → AllByRecursion (λ i. i ≢ 0) touched → AllByRecursion (λ i. list_any (λ k. slice_index_or table.inodes k 0 == i) slots ≡ true) touched → (k : ℕ) → NotIn k slots → NotIn (inode_at table.inodes k) touched
+  pub away : (touched : List ℕ) → AllByRecursion (λ i. i ≢ 0) touched
+      → AllByRecursion (λ i. list_any (λ k. slice_index_or table.inodes k 0 == i) slots ≡ true) touched → (k : ℕ)
+      → NotIn k slots → NotIn (inode_at table.inodes k) touched
   away [] somes covered k out = tt
-  away (i ∷ is) somes covered k out = (not_here table.inodes table.places given.counted.placed i somes.0 slots covered.0 k out, away is somes.1 covered.1 k out)
+  away (i ∷ is) somes covered k out = (
+    not_here table.inodes table.places given.counted.placed i somes.0 slots covered.0 k out,
+    away is somes.1 covered.1 k out,
+  )
 
   -- so what changes only what is touched leaves it
-  pub others_stay : (f : Held → Held) (touched : List ℕ) → AllByRecursion (λ i. i ≢ 0) touched → AllByRecursion (λ i. list_any (λ k. slice_index_or table.inodes k 0 == i) slots ≡ true) touched
-      → ((held : Held) → NotIn held.inode touched → f held ≡ held) → (k : ℕ) → NotIn k slots → f (account s marks table.inodes k) ≡ account s marks table.inodes k
+  pub others_stay : (f : Held → Held) (touched : List ℕ) → AllByRecursion (λ i. i ≢ 0) touched
+      → AllByRecursion (λ i. list_any (λ k. slice_index_or table.inodes k 0 == i) slots ≡ true) touched
+      → ((held : Held) → NotIn held.inode touched → f held ≡ held) → (k : ℕ) → NotIn k slots
+      → f (account s marks table.inodes k) ≡ account s marks table.inodes k
   others_stay f touched somes covered spared k out =
-      spared (account s marks table.inodes k) (subst (λ i. NotIn i touched) (sym (account_inode s marks table.inodes k)) (away touched somes covered k out))
+      spared (account s marks table.inodes k)
+      (subst (λ i. NotIn i touched) (sym (account_inode s marks table.inodes k)) (away touched somes covered k out))
 
   -- what is done to each slot alike, and leaves what isn't touched, is made
-  pub made_by : (t : State) (c' : ClientRecord) (table' : Table) (lent' : List Held) (f : Held → Held) (touched : List ℕ) → IsTable t spares table' → t.next ≡ s.next
+  pub made_by : (t : State) (c' : ClientRecord) (table' : Table) (lent' : List Held) (f : Held → Held)
+      (touched : List ℕ) → IsTable t spares table' → t.next ≡ s.next
       → ((q : ℕ) → get t.clients q ≡ (if q == number then Some c' else get s.clients q))
       → lent' ≡ map f lent → ((k : ℕ) → account t marks table'.inodes k ≡ f (account s marks table.inodes k))
-      → AllByRecursion (λ i. i ≢ 0) touched → AllByRecursion (λ i. list_any (λ k. slice_index_or table.inodes k 0 == i) slots ≡ true) touched
-      → ((held : Held) → NotIn held.inode touched → f held ≡ held) → KeepsSlots table table' ⊎ GivesBack s t table table' slots
+      → AllByRecursion (λ i. i ≢ 0) touched
+      → AllByRecursion (λ i. list_any (λ k. slice_index_or table.inodes k 0 == i) slots ≡ true) touched
+      → ((held : Held) → NotIn held.inode touched → f held ≡ held) → KeepsSlots table table'
+      ⊎ GivesBack s t table table' slots
       → IsMade s t number marks spares place c' spare table table' slots lent'
   made_by t c' table' lent' f touched counted next clients done each somes covered spared free = record {
     counted = subst (λ kept. IsTable t kept table') (sym (put_again spares place spare given.kept)) counted;

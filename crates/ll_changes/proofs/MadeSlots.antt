@@ -1,5 +1,7 @@
 -- A new node comes to lie in the client's spare slot, and a lent directory gets its name.
-use Rattle.std.specs.Prelude.{◌≡◌, ◌≢◌, ℕ, zero, suc, ◌<◌, ◌==◌, Bool, true, false, cond, ◌||◌, List, [], ◌∷◌, ◌++◌, map, length, Option, Some, None, IfSome, IfNone, is_some, option_map, unwrap_or, nat_le, slice_get, slice_set, refl}
+use Rattle.std.specs.Prelude.{◌≡◌, ◌≢◌, ℕ, zero, suc, ◌<◌, ◌==◌, Bool, true, false, cond, ◌||◌, List, [], ◌∷◌, ◌++◌}
+use Rattle.std.specs.Prelude.{map, length, Option, Some, None, IfSome, IfNone, is_some, option_map, unwrap_or, nat_le}
+use Rattle.std.specs.Prelude.{slice_get, slice_set, refl}
 use Rattle.std.specs.List.{AllByRecursion, AllWithin, HoldsAt, list_any}
 use Rattle.std.specs.Option.{MatchOption}
 use Rattle.std.specs.Ordering.{nat_cmp, eq_by_cmp}
@@ -35,7 +37,8 @@ use Rattle.ll_inodes.specs.InodeTable.{Table, IsTable, AreDistinct, NotIn, IsVac
 use Rattle.ll_inodes.proofs.SlotLists.{same_or_not, set_same}
 use Rattle.ll_changes.specs.Accounts.{account, accounts, names_map}
 use Rattle.ll_changes.specs.Enacting.{IsReached, IsGiven, Covers, IsMade}
-use Rattle.ll_changes.proofs.Accounted.{inode_at, got, account_held, account_inode, account_kept, lent_apart, not_here, all_lent}
+use Rattle.ll_changes.proofs.Accounted.{inode_at, got, account_held, account_inode, account_kept, lent_apart, not_here}
+use Rattle.ll_changes.proofs.Accounted.{all_lent}
 use Rattle.ll_changes.proofs.ChangedSlots.{made_in, made_new}
 use Rattle.ll_changes.proofs.Living.{make_kind}
 use Rattle.ll_changes.proofs.NameMaps.{same_names, get-names_map, len-names_map}
@@ -43,7 +46,8 @@ use Rattle.ll_changes.proofs.SlotAccounts.{content_of, make_other}
 
 -- a legal history leads to a tree
 pub tree_of : (s : State) → IsReached s → IsTree s
-tree_of s reached = subst IsTree (sym reached.is) (after_tree (start reached.rules reached.room) reached.entries (start_tree reached.rules reached.room))
+tree_of s reached = subst IsTree (sym reached.is)
+    (after_tree (start reached.rules reached.room) reached.entries (start_tree reached.rules reached.room))
 
 -- ---- lists
 
@@ -77,12 +81,14 @@ listed x (k ∷ ks) any j out same =
     ] refl any
 
 -- of slots that are apart all but one change alike
-module _ (f : Held → Held) (one : ℕ) (x : Held) (before after : ℕ → Held) (here : after one ≡ x) (elsewhere : (k : ℕ) → k ≢ one → after k ≡ f (before k)) where
+module _ (f : Held → Held) (one : ℕ) (x : Held) (before after : ℕ → Held) (here : after one ≡ x) (elsewhere : (k : ℕ)
+    → k ≢ one → after k ≡ f (before k)) where
   rest_changed : (slots : List ℕ) → NotIn one slots → map f (map before slots) ≡ map after slots
   rest_changed [] out = refl
   rest_changed (k ∷ slots) out = λ i. sym (elsewhere k (λ e. out.0 (sym e))) i ∷ rest_changed slots out.1 i
 
-  pub one_filled : (slots : List ℕ) → AreDistinct slots → (place : ℕ) → slice_get slots place ≡ Some one → slice_set (map f (map before slots)) place x ≡ map after slots
+  pub one_filled : (slots : List ℕ) → AreDistinct slots → (place : ℕ) → slice_get slots place ≡ Some one
+      → slice_set (map f (map before slots)) place x ≡ map after slots
   one_filled [] apart place at = absurd (cc at)
   one_filled (k ∷ slots) apart zero at =
       let same : k ≡ one = cc at in
@@ -101,15 +107,20 @@ IsPlace spare slots found =
     MatchOption found (AllWithin (λ (k : ℕ). k ≢ spare) slots 0 (length slots))
     (λ i. (i < length slots) × HoldsAt (λ (k : ℕ). k ≡ spare) slots i × AllWithin (λ (k : ℕ). k ≢ spare) slots 0 i)
 
-pub it_stands : (spare : ℕ) (slots : List ℕ) (found : Option ℕ) → IsPlace spare slots found → IfSome found (λ i. slice_get slots i ≡ Some spare)
+pub it_stands : (spare : ℕ) (slots : List ℕ) (found : Option ℕ) → IsPlace spare slots found
+    → IfSome found (λ i. slice_get slots i ≡ Some spare)
 it_stands spare slots None is = tt
 it_stands spare slots (Some i) is = slice_get-get_or slots i 0 is.0 ∙ ap Some (is.1 0)
 
 nowhere : (spare : ℕ) (slots : List ℕ) → AllWithin (λ (k : ℕ). k ≢ spare) slots 0 (length slots) → NotIn spare slots
 nowhere spare [] all = tt
-nowhere spare (k ∷ slots) all = (λ e. all 0 k (omega arith) (omega arith) (sym e), nowhere spare slots (λ j d low less. all (suc j) d (omega arith) (omega arith)))
+nowhere spare (k ∷ slots) all = (
+  λ e. all 0 k (omega arith) (omega arith) (sym e),
+  nowhere spare slots (λ j d low less. all (suc j) d (omega arith) (omega arith)),
+)
 
-pub it_is_away : (spare : ℕ) (slots : List ℕ) (found : Option ℕ) → IsPlace spare slots found → IfNone found (NotIn spare slots)
+pub it_is_away : (spare : ℕ) (slots : List ℕ) (found : Option ℕ) → IsPlace spare slots found
+    → IfNone found (NotIn spare slots)
 it_is_away spare slots None is = nowhere spare slots is
 it_is_away spare slots (Some i) is = tt
 
@@ -122,7 +133,8 @@ taken_back m name inode none =
     ∙ ap (cond (eq_by_cmp (slice_cmp nat_cmp) q name) None) (get-insert nat_list_cmp_total names_exact m name inode q)
     ∙ by q (eq_by_cmp (slice_cmp nat_cmp) q name) refl)
   where
-    by : (q : Name) (b : Bool) → eq_by_cmp (slice_cmp nat_cmp) q name ≡ b → cond b None (cond b (Some inode) (get m q)) ≡ get m q
+    by : (q : Name) (b : Bool) → eq_by_cmp (slice_cmp nat_cmp) q name ≡ b
+        → cond b None (cond b (Some inode) (get m q)) ≡ get m q
     by q true e = sym (ap (get m) (names_exact q name (equal_at _ e)) ∙ none)
     by q false e = refl
 
@@ -135,11 +147,14 @@ module _ (directory : ℕ) (name : Name) (inode : ℕ) where
     | inl lies ↦
         ap (unnamed_in directory name) (sym (named_here directory name inode held lies))
         ∙ cond-true (held.inode == directory) _ _ (eq-eqb held.inode directory lies)
-        ∙ ap (λ (m : NameMap). record held { node = record held.node { names = m } }) (taken_back held.node.names name inode (lacks lies))
-    | inr other ↦ ap (unnamed_in directory name) (named_elsewhere directory name inode held other) ∙ cond-false (held.inode == directory) _ held (ne_eqb held.inode directory other)
+        ∙ ap (λ (m : NameMap). record held { node = record held.node { names = m } })
+        (taken_back held.node.names name inode (lacks lies))
+    | inr other ↦ ap (unnamed_in directory name) (named_elsewhere directory name inode held other)
+        ∙ cond-false (held.inode == directory) _ held (ne_eqb held.inode directory other)
   ]
 
-  pub all_back : (lent : List Held) → AllByRecursion Lacking lent → map (unnamed_in directory name) (map (named_in directory name inode) lent) ≡ lent
+  pub all_back : (lent : List Held) → AllByRecursion Lacking lent
+      → map (unnamed_in directory name) (map (named_in directory name inode) lent) ≡ lent
   all_back [] lacking = refl
   all_back (held ∷ lent) lacking = λ i. back_one held lacking.0 i ∷ all_back lent lacking.1 i
 
@@ -157,7 +172,9 @@ pub has_node : (o : Option Node) (kind : Kind) → option_map (λ (n : Node). n.
 has_node None kind e = absurd (cc e)
 has_node (Some n) kind e = refl
 
-module _ (s : State) (number : ℕ) (marks : ℕ → Option ℕ) (spares : List ℕ) (place : ℕ) (c : ClientRecord) (spare : ℕ) (table : Table) (slots : List ℕ) (lent : List Held) (given : IsGiven s number marks spares place c spare table slots lent) where
+module _ (s : State) (number : ℕ) (marks : ℕ → Option ℕ) (spares : List ℕ) (place : ℕ) (c : ClientRecord) (spare : ℕ)
+    (table : Table) (slots : List ℕ) (lent : List Held)
+    (given : IsGiven s number marks spares place c spare table slots lent) where
   pub tree : IsTree s
   tree = tree_of s given.reached
 
@@ -168,7 +185,8 @@ module _ (s : State) (number : ℕ) (marks : ℕ → Option ℕ) (spares : List 
       (given.counted.placed.there i slot.0 slot.1).1
 
   pub apart_given : AreApart lent
-  apart_given = subst AreApart (sym given.told) (lent_apart table.inodes table.places given.counted.placed s marks slots given.apart)
+  apart_given = subst AreApart (sym given.told)
+      (lent_apart table.inodes table.places given.counted.placed s marks slots given.apart)
 
   pub spare_vacant : slice_get table.inodes spare ≡ Some 0
   spare_vacant = all_at (IsVacant table.inodes) spares place spare given.counted.spares given.kept
@@ -189,7 +207,9 @@ module _ (s : State) (number : ℕ) (marks : ℕ → Option ℕ) (spares : List 
   -- nothing lies in a slot under the next inode
   pub next_nowhere : (k : ℕ) → inode_at table.inodes k ≢ 0 → inode_at table.inodes k ≢ table.next
   next_nowhere k some same =
-      cc (sym next_unplaced ∙ ap (get table.places) (sym same) ∙ given.counted.placed.lies k (inode_at table.inodes k) (got table.inodes k (inode_at table.inodes k) refl some) some)
+      cc (sym next_unplaced ∙ ap (get table.places) (sym same)
+      ∙ given.counted.placed.lies k (inode_at table.inodes k)
+      (got table.inodes k (inode_at table.inodes k) refl some) some)
 
   module _ (at : At) (kind : Kind) (fits : HasRoom s at) where
     pub directory_there : kind_of s at.directory ≡ Some Dir
@@ -212,29 +232,46 @@ module _ (s : State) (number : ℕ) (marks : ℕ → Option ℕ) (spares : List 
 
     takes_name : insert_refusals (names_map s at.directory) at.name.now ≡ []
     takes_name =
-        let absent : has (names_map s at.directory) at.name.now ≡ false = ap is_some (get-names_map s at.directory at.name.now ∙ fits.lacks.child) in
-        let few : nat_le 1024 (len (names_map s at.directory)) ≡ false = ap (nat_le 1024) (len-names_map s at.directory) ∙ space.0 in
+        let absent : has (names_map s at.directory) at.name.now ≡ false =
+        ap is_some (get-names_map s at.directory at.name.now ∙ fits.lacks.child) in
+        let few : nat_le 1024 (len (names_map s at.directory)) ≡ false =
+        ap (nat_le 1024) (len-names_map s at.directory) ∙ space.0 in
         λ i. refuse (absent i) EEXIST ++ refuse (few i) ENOSPC
 
-    pub lent_takes : AllByRecursion (λ (held : Held). held.inode ≡ at.directory → (is_dir held.node.kind ≡ true) × (insert_refusals held.node.names at.name.now ≡ [])) lent
+    pub lent_takes : AllByRecursion (λ (held : Held). held.inode ≡ at.directory → (is_dir held.node.kind ≡ true)
+        × (insert_refusals held.node.names at.name.now ≡ [])) lent
     lent_takes =
-        subst (AllByRecursion (λ (held : Held). held.inode ≡ at.directory → (is_dir held.node.kind ≡ true) × (insert_refusals held.node.names at.name.now ≡ []))) (sym given.told)
-        (all_lent (λ (held : Held). held.inode ≡ at.directory → (is_dir held.node.kind ≡ true) × (insert_refusals held.node.names at.name.now ≡ [])) s marks table.inodes each slots)
+        subst (AllByRecursion (λ (held : Held). held.inode ≡ at.directory → (is_dir held.node.kind ≡ true)
+        × (insert_refusals held.node.names at.name.now ≡ []))) (sym given.told)
+        (all_lent (λ (held : Held). held.inode ≡ at.directory → (is_dir held.node.kind ≡ true)
+        × (insert_refusals held.node.names at.name.now ≡ [])) s marks table.inodes each slots)
       where
-        each : (k : ℕ) → (account s marks table.inodes k).inode ≡ at.directory → (is_dir (account s marks table.inodes k).node.kind ≡ true) × (insert_refusals (account s marks table.inodes k).node.names at.name.now ≡ [])
+        each : (k : ℕ) → (account s marks table.inodes k).inode ≡ at.directory
+            → (is_dir (account s marks table.inodes k).node.kind ≡ true)
+            × (insert_refusals (account s marks table.inodes k).node.names at.name.now ≡ [])
         each k lies =
-            let is = account_held s marks table.inodes k at.directory (sym (account_inode s marks table.inodes k) ∙ lies) directory_some in
-            (ap (λ (h : Held). is_dir h.node.kind) is ∙ ap (λ o. is_dir (unwrap_or o Reg)) directory_there, ap (λ (h : Held). insert_refusals h.node.names at.name.now) is ∙ takes_name)
+            let is = account_held s marks table.inodes k at.directory (sym (account_inode s marks table.inodes k)
+            ∙ lies) directory_some in (
+              ap (λ (h : Held). is_dir h.node.kind) is
+                  ∙ ap (λ o. is_dir (unwrap_or o Reg)) directory_there,
+              ap (λ (h : Held). insert_refusals h.node.names at.name.now) is ∙ takes_name,
+            )
 
-    pub lent_lacks : AllByRecursion (λ (held : Held). held.inode ≡ at.directory → get held.node.names at.name.now ≡ None) lent
+    pub lent_lacks : AllByRecursion (λ (held : Held). held.inode ≡ at.directory
+        → get held.node.names at.name.now ≡ None) lent
     lent_lacks =
-        subst (AllByRecursion (λ (held : Held). held.inode ≡ at.directory → get held.node.names at.name.now ≡ None)) (sym given.told)
-        (all_lent (λ (held : Held). held.inode ≡ at.directory → get held.node.names at.name.now ≡ None) s marks table.inodes each slots)
+        subst (AllByRecursion (λ (held : Held). held.inode ≡ at.directory → get held.node.names at.name.now ≡ None))
+        (sym given.told)
+        (all_lent (λ (held : Held). held.inode ≡ at.directory → get held.node.names at.name.now ≡ None) s marks
+        table.inodes each slots)
       where
-        each : (k : ℕ) → (account s marks table.inodes k).inode ≡ at.directory → get (account s marks table.inodes k).node.names at.name.now ≡ None
+        each : (k : ℕ) → (account s marks table.inodes k).inode ≡ at.directory
+            → get (account s marks table.inodes k).node.names at.name.now ≡ None
         each k lies =
-            let is = account_held s marks table.inodes k at.directory (sym (account_inode s marks table.inodes k) ∙ lies) directory_some in
-            ap (λ (h : Held). get h.node.names at.name.now) is ∙ get-names_map s at.directory at.name.now ∙ fits.lacks.child
+            let is = account_held s marks table.inodes k at.directory (sym (account_inode s marks table.inodes k)
+            ∙ lies) directory_some in
+            ap (λ (h : Held). get h.node.names at.name.now) is ∙ get-names_map s at.directory at.name.now
+            ∙ fits.lacks.child
 
     -- ---- the new node
 
@@ -249,24 +286,40 @@ module _ (s : State) (number : ℕ) (marks : ℕ → Option ℕ) (spares : List 
 
     made_here : account made_state marks made_inodes spare ≡ filled table.next kind
     made_here =
-        let lies : inode_at made_inodes spare ≡ table.next = get_or_from_slice_get made_inodes spare table.next 0 (set_same table.inodes spare 0 table.next spare_vacant) in
-        let content : content_of made_state table.next ≡ new_slot kind = ap (content_of made_state) given.counted.next ∙ made_new s tree at kind fits in
+        let lies : inode_at made_inodes spare ≡ table.next =
+        get_or_from_slice_get made_inodes spare table.next 0 (set_same table.inodes spare 0 table.next spare_vacant)
+        in
+        let content : content_of made_state table.next ≡ new_slot kind =
+        ap (content_of made_state) given.counted.next ∙ made_new s tree at kind fits in
         let mark : marks table.next ≡ None = ap marks given.counted.next ∙ given.unmarked in
         account_held made_state marks made_inodes spare table.next lies next_some
         ∙ (λ i. record { inode = table.next; node = record (content i) { mark = mark i } })
 
-    made_elsewhere : (k : ℕ) → k ≢ spare → account made_state marks made_inodes k ≡ named_in at.directory at.name.now table.next (account s marks table.inodes k)
+    made_elsewhere : (k : ℕ) → k ≢ spare
+        → account made_state marks made_inodes k
+        ≡ named_in at.directory at.name.now table.next (account s marks table.inodes k)
     made_elsewhere k other = elim (same_or_not (inode_at table.inodes k) at.directory) [
       | inl lies ↦
           account_held made_state marks made_inodes k at.directory (kept ∙ lies) directory_some
-          ∙ ap (λ c. record { inode = at.directory; node = record c { mark = marks at.directory } }) (made_in s tree at kind fits)
-          ∙ ap (λ n. record { inode = at.directory; node = record (content_of s at.directory) { names = insert (names_map s at.directory) at.name.now n; mark = marks at.directory } }) (sym given.counted.next)
-          ∙ named_here at.directory at.name.now table.next (record { inode = at.directory; node = record (content_of s at.directory) { mark = marks at.directory } }) refl
-          ∙ ap (named_in at.directory at.name.now table.next) (sym (account_held s marks table.inodes k at.directory lies directory_some))
+          ∙ ap (λ c. record { inode = at.directory; node = record c { mark = marks at.directory } })
+          (made_in s tree at kind fits)
+          ∙ ap (λ n. record {
+            inode = at.directory;
+            node = record (content_of s at.directory)
+                { names = insert (names_map s at.directory) at.name.now n; mark = marks at.directory };
+          })
+          (sym given.counted.next)
+          ∙ named_here at.directory at.name.now table.next
+          (record { inode = at.directory; node = record (content_of s at.directory) { mark = marks at.directory } })
+          refl
+          ∙ ap (named_in at.directory at.name.now table.next)
+          (sym (account_held s marks table.inodes k at.directory lies directory_some))
       | inr away ↦
           account_kept s made_state marks table.inodes made_inodes k kept
-          (λ some. make_other s kind (dentry_at at) (inode_at table.inodes k) away (λ e. next_nowhere k some (e ∙ sym given.counted.next)))
-          ∙ sym (named_elsewhere at.directory at.name.now table.next (account s marks table.inodes k) (λ e. away (sym (account_inode s marks table.inodes k) ∙ e)))
+          (λ some. make_other s kind (dentry_at at) (inode_at table.inodes k) away
+          (λ e. next_nowhere k some (e ∙ sym given.counted.next)))
+          ∙ sym (named_elsewhere at.directory at.name.now table.next (account s marks table.inodes k)
+          (λ e. away (sym (account_inode s marks table.inodes k) ∙ e)))
     ]
       where
         kept : inode_at made_inodes k ≡ inode_at table.inodes k
@@ -277,24 +330,33 @@ module _ (s : State) (number : ℕ) (marks : ℕ → Option ℕ) (spares : List 
       made_others k out =
           made_elsewhere k (listed spare slots (covers.new refl) k out)
           ∙ named_elsewhere at.directory at.name.now table.next (account s marks table.inodes k)
-          (λ e. not_here table.inodes table.places given.counted.placed at.directory directory_some slots covers.touched.0 k out (sym (account_inode s marks table.inodes k) ∙ e))
+          (λ e. not_here table.inodes table.places given.counted.placed at.directory directory_some slots
+          covers.touched.0 k out (sym (account_inode s marks table.inodes k) ∙ e))
 
-      pub made : (fresh : ℕ) (table' : Table) (lent' : List Held) (k : ℕ) → IsTable made_state (slice_set spares place fresh) table' → table'.inodes ≡ made_inodes → table.free ≡ table'.free ++ fresh ∷ [] → slice_get slots k ≡ Some spare
-          → lent' ≡ slice_set (map (named_in at.directory at.name.now table.next) lent) k (filled table.next kind) → IsMade s made_state number marks spares place c fresh table table' slots lent'
+      pub made : (fresh : ℕ) (table' : Table) (lent' : List Held) (k : ℕ)
+          → IsTable made_state (slice_set spares place fresh) table' → table'.inodes ≡ made_inodes
+          → table.free ≡ table'.free ++ fresh ∷ [] → slice_get slots k ≡ Some spare
+          → lent' ≡ slice_set (map (named_in at.directory at.name.now table.next) lent) k (filled table.next kind)
+          → IsMade s made_state number marks spares place c fresh table table' slots lent'
       made fresh table' lent' k counted inodes free lies put = record {
         counted = counted;
         next = let new = counted.next in let old = given.counted.next in omega (arith, new, old);
         clients = λ q. by q (q == number) refl;
         told =
             put
-            ∙ ap (λ l. slice_set (map (named_in at.directory at.name.now table.next) l) k (filled table.next kind)) given.told
-            ∙ one_filled (named_in at.directory at.name.now table.next) spare (filled table.next kind) (account s marks table.inodes) (account made_state marks made_inodes) made_here made_elsewhere slots given.apart k lies
+            ∙ ap (λ l. slice_set (map (named_in at.directory at.name.now table.next) l) k (filled table.next kind))
+            given.told
+            ∙ one_filled (named_in at.directory at.name.now table.next) spare (filled table.next kind)
+            (account s marks table.inodes) (account made_state marks made_inodes) made_here made_elsewhere slots
+            given.apart k lies
             ∙ ap (λ is. accounts made_state marks is slots) (sym inodes);
         others = λ j out. ap (λ is. account made_state marks is j) inodes ∙ made_others j out;
         freed = inr (inl (record {
-          made = ap (has made_state.nodes) given.counted.next ∙ has_node (get made_state.nodes s.next) kind (make_kind s kind (dentry_at at));
+          made = ap (has made_state.nodes) given.counted.next
+              ∙ has_node (get made_state.nodes s.next) kind (make_kind s kind (dentry_at at));
           free = free;
-          inodes = inodes ∙ ap (λ k. slice_set table.inodes k table.next) (sym (get_or_from_slice_get spares place spare 0 given.kept));
+          inodes = inodes ∙ ap (λ k. slice_set table.inodes k table.next)
+              (sym (get_or_from_slice_get spares place spare 0 given.kept));
         }));
       }
         where

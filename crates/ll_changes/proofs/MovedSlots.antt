@@ -1,5 +1,6 @@
 -- Two names that change places, and a name that moves, in the slots of their directories.
-use Rattle.std.specs.Prelude.{◌≡◌, ◌≢◌, ℕ, not, List, [], ◌∷◌, map, Option, Some, is_some, refl, Bool, true, false, ◌&&◌, ◌==◌, ◌++◌, None, unwrap_or}
+use Rattle.std.specs.Prelude.{◌≡◌, ◌≢◌, ℕ, not, List, [], ◌∷◌, map, Option, Some, is_some, refl, Bool, true, false}
+use Rattle.std.specs.Prelude.{◌&&◌, ◌==◌, ◌++◌, None, unwrap_or}
 use Rattle.std.specs.List.{AllByRecursion}
 use Rattle.std.proofs.Common.{sym, ap, ◌∙◌, inl, inr}
 use Rattle.std.proofs.lemmas.Bool.{cases_eq, ne_eqb}
@@ -43,41 +44,58 @@ not_missing names name inode there = ap (λ o. refuse (not (is_some o)) ENOENT) 
 -- ---- names that change places
 
 -- a name that is put doesn't take another away
-still_there : (s : State) (old new : At) (first : ℕ) → child s old.directory old.name.now ≡ Some first → child (with_name s (dentry_at new) first) old.directory old.name.now ≡ Some first
-still_there s old new first there = elim (insert_cases dentry_total dentry_exact s.entries (dentry_at new) first (dentry_at old)) [
-  | inl here ↦ here.1
-  | inr away ↦ away.1 ∙ there
-]
+still_there : (s : State) (old new : At) (first : ℕ) → child s old.directory old.name.now ≡ Some first
+    → child (with_name s (dentry_at new) first) old.directory old.name.now ≡ Some first
+still_there s old new first there =
+    elim (insert_cases dentry_total dentry_exact s.entries (dentry_at new) first (dentry_at old)) [
+      | inl here ↦ here.1
+      | inr away ↦ away.1 ∙ there
+    ]
 
 -- the slots that are lent, with a name put into them
-pub named_lent : (s : State) (marks : ℕ → Option ℕ) (inodes slots : List ℕ) (at : At) (inode : ℕ) → at.directory ≢ 0 → map (named_in at.directory at.name.now inode) (accounts s marks inodes slots) ≡ accounts (with_name s (dentry_at at) inode) marks inodes slots
+pub named_lent : (s : State) (marks : ℕ → Option ℕ) (inodes slots : List ℕ) (at : At) (inode : ℕ) → at.directory ≢ 0
+    → map (named_in at.directory at.name.now inode) (accounts s marks inodes slots)
+    ≡ accounts (with_name s (dentry_at at) inode) marks inodes slots
 named_lent s marks inodes slots at inode some =
     told_by s (with_name s (dentry_at at) inode) marks inodes inodes (named_in at.directory at.name.now inode)
     (each_stays s (with_name s (dentry_at at) inode) marks inodes (named_in at.directory at.name.now inode)
-    (named_elsewhere at.directory at.name.now inode vacant (λ e. some (sym e))) (λ i there. named_each s marks at inode i)) slots
+    (named_elsewhere at.directory at.name.now inode vacant (λ e. some (sym e)))
+    (λ i there. named_each s marks at inode i)) slots
 
 -- no name is missing in the slot of its directory
-has_name : (s : State) (marks : ℕ → Option ℕ) (inodes slots : List ℕ) (lent : List Held) → lent ≡ accounts s marks inodes slots → (at : At) (inode : ℕ) → at.directory ≢ 0 → child s at.directory at.name.now ≡ Some inode
+has_name : (s : State) (marks : ℕ → Option ℕ) (inodes slots : List ℕ) (lent : List Held)
+    → lent ≡ accounts s marks inodes slots → (at : At) (inode : ℕ) → at.directory ≢ 0
+    → child s at.directory at.name.now ≡ Some inode
     → AllByRecursion (λ (held : Held). held.inode ≡ at.directory → missing held.node.names at.name.now ≡ []) lent
 has_name s marks inodes slots lent told at inode some there =
     all_given (λ held. missing held.node.names at.name.now ≡ []) s marks inodes slots lent told at.directory some
     (not_missing (names_map s at.directory) at.name.now inode (get-names_map s at.directory at.name.now ∙ there))
 
-module _ (old new : At) (first second : ℕ) (slots : List ℕ) (c : ClientRecord) (spare : ℕ) (table : Table) (lent : List Held) (may : MayEnact (change.Exchange old new first second) slots c spare table lent) where
-  pub has_new : AllByRecursion (λ (held : Held). held.inode ≡ new.directory → missing held.node.names new.name.now ≡ []) lent
-  has_new = has_name may.s may.marks table.inodes slots lent may.given.told new second (directory_some may.given new may.fits.new.directory) may.fits.new.child
+module _ (old new : At) (first second : ℕ) (slots : List ℕ) (c : ClientRecord) (spare : ℕ) (table : Table)
+    (lent : List Held) (may : MayEnact (change.Exchange old new first second) slots c spare table lent) where
+  pub has_new : AllByRecursion (λ (held : Held). held.inode ≡ new.directory → missing held.node.names new.name.now ≡ [])
+      lent
+  has_new = has_name may.s may.marks table.inodes slots lent may.given.told new second
+      (directory_some may.given new may.fits.new.directory) may.fits.new.child
 
-  pub has_old : (between : List Held) → between ≡ map (named_in new.directory new.name.now first) lent → AllByRecursion (λ (held : Held). held.inode ≡ old.directory → missing held.node.names old.name.now ≡ []) between
+  pub has_old : (between : List Held) → between ≡ map (named_in new.directory new.name.now first) lent
+      → AllByRecursion (λ (held : Held). held.inode ≡ old.directory → missing held.node.names old.name.now ≡ []) between
   has_old between done =
       has_name (with_name may.s (dentry_at new) first) may.marks table.inodes slots between
       (done ∙ ap (map (named_in new.directory new.name.now first)) may.given.told
       ∙ named_lent may.s may.marks table.inodes slots new first (directory_some may.given new may.fits.new.directory))
-      old first (directory_some may.given old may.fits.old.directory) (still_there may.s old new first may.fits.old.child)
+      old first (directory_some may.given old may.fits.old.directory)
+      (still_there may.s old new first may.fits.old.child)
 
-module _ {s : State} {number : ℕ} {marks : ℕ → Option ℕ} {spares : List ℕ} {place : ℕ} {c : ClientRecord} {spare : ℕ} {table : Table} {slots : List ℕ} {lent : List Held} (given : IsGiven s number marks spares place c spare table slots lent) where
-  pub exchanged_slots : (old new : At) (first second : ℕ) (between lent' : List Held) → FitsExchange s old new first second → Covers table.inodes spare slots (change.Exchange old new first second)
-      → between ≡ map (named_in new.directory new.name.now first) lent → lent' ≡ map (named_in old.directory old.name.now second) between
-      → IsMade s (with_name (with_name s (dentry_at new) first) (dentry_at old) second) number marks spares place c spare table table slots lent'
+module _ {s : State} {number : ℕ} {marks : ℕ → Option ℕ} {spares : List ℕ} {place : ℕ} {c : ClientRecord} {spare : ℕ}
+    {table : Table} {slots : List ℕ} {lent : List Held}
+    (given : IsGiven s number marks spares place c spare table slots lent) where
+  pub exchanged_slots : (old new : At) (first second : ℕ) (between lent' : List Held)
+      → FitsExchange s old new first second → Covers table.inodes spare slots (change.Exchange old new first second)
+      → between ≡ map (named_in new.directory new.name.now first) lent
+      → lent' ≡ map (named_in old.directory old.name.now second) between
+      → IsMade s (with_name (with_name s (dentry_at new) first) (dentry_at old) second) number marks spares place c
+      spare table table slots lent'
   exchanged_slots old new first second between lent' fits covers put done =
       let half = with_name s (dentry_at new) first in
       let all = with_name half (dentry_at old) second in
@@ -86,10 +104,12 @@ module _ {s : State} {number : ℕ} {marks : ℕ → Option ℕ} {spares : List 
       made_staying given all c table lent' (λ held. in_old (in_new held)) (old.directory ∷ new.directory ∷ [])
       (done ∙ ap (map in_old) put ∙ map-map in_old in_new lent)
       (still_table s spares table given.counted all table.facts refl refl refl
-      (kept_exchange s table.facts (dentry_at old) (dentry_at new) first second given.counted.facts fits.old.child fits.new.child))
+      (kept_exchange s table.facts (dentry_at old) (dentry_at new) first second given.counted.facts fits.old.child
+      fits.new.child))
       refl refl refl (client_stays s all number c refl given.client) covers.touched
       (directory_some given old fits.old.directory, (directory_some given new fits.new.directory, tt))
-      (λ held away. ap in_old (named_elsewhere new.directory new.name.now first held away.1.0) ∙ named_elsewhere old.directory old.name.now second held away.0)
+      (λ held away. ap in_old (named_elsewhere new.directory new.name.now first held away.1.0)
+      ∙ named_elsewhere old.directory old.name.now second held away.0)
       (λ i some. ap in_old (named_each s marks new first i) ∙ named_each half marks old second i)
 
 -- ---- a name that moves
@@ -98,51 +118,80 @@ module _ {s : State} {number : ℕ} {marks : ℕ → Option ℕ} {spares : List 
 abbrev left : State → At → State
 left s at = record s { entries = remove s.entries (dentry_at at) }
 
-unnamed_each : (s : State) (marks : ℕ → Option ℕ) (at : At) (i : ℕ) → unnamed_in at.directory at.name.now (held_of s marks i) ≡ held_of (left s at) marks i
+unnamed_each : (s : State) (marks : ℕ → Option ℕ) (at : At) (i : ℕ)
+    → unnamed_in at.directory at.name.now (held_of s marks i) ≡ held_of (left s at) marks i
 unnamed_each s marks at i = elim (cases_eq i at.directory) [
   | inl e ↦
       at_same i at.directory _ _ e
-      ∙ ap (λ j. record { inode = j; node = record (content_of s j) { names = remove (names_map s j) at.name.now; mark = marks j } }) e
+      ∙ ap (λ j. record {
+        inode = j;
+        node = record (content_of s j) { names = remove (names_map s j) at.name.now; mark = marks j };
+      }) e
       ∙ sym (ap (λ x. record { inode = at.directory; node = record x { mark = marks at.directory } })
       (with_names s (left s at) at.directory _ refl (names_taken s (left s at) (dentry_at at) refl)))
       ∙ sym (ap (held_of (left s at) marks) e)
   | inr other ↦
       at_other i at.directory _ _ other
-      ∙ same_held s (left s at) marks i (same_content s (left s at) i refl (names_taken_other s (left s at) (dentry_at at) refl i other))
+      ∙ same_held s (left s at) marks i
+      (same_content s (left s at) i refl (names_taken_other s (left s at) (dentry_at at) refl i other))
 ]
 
-no_rename_refusals : (names : NameMap) (old new : Name) (inode : ℕ) → get names old ≡ Some inode → get names new ≡ None → rename_refusals names old new ≡ []
-no_rename_refusals names old new inode there lacks = λ i. refuse (not (is_some (there i))) ENOENT ++ refuse (is_some (lacks i)) EEXIST
+no_rename_refusals : (names : NameMap) (old new : Name) (inode : ℕ) → get names old ≡ Some inode → get names new ≡ None
+    → rename_refusals names old new ≡ []
+no_rename_refusals names old new inode there lacks =
+    λ i. refuse (not (is_some (there i))) ENOENT ++ refuse (is_some (lacks i)) EEXIST
 
 -- the directory has the one name, and takes the other in its place
 abbrev pub Renames : Name → Name → ℕ → Slot → Type 0
-Renames old new inode slot = (is_dir slot.kind ≡ true) × (rename_refusals slot.names old new ≡ []) × (get slot.names old ≡ Some inode)
+Renames old new inode slot = (is_dir slot.kind ≡ true) × (rename_refusals slot.names old new ≡ [])
+    × (get slot.names old ≡ Some inode)
 
 differs : (a b : ℕ) (crowded : Bool) → a ≢ b → (not (a == b) && crowded) ≡ false → crowded ≡ false
 differs a b crowded other room = sym (ap (λ same. not same && crowded) (ne_eqb a b other)) ∙ room
 
-module _ (old new : At) (inode : ℕ) (slots : List ℕ) (c : ClientRecord) (spare : ℕ) (table : Table) (lent : List Held) (may : MayEnact (change.Move old new inode) slots c spare table lent) where
+module _ (old new : At) (inode : ℕ) (slots : List ℕ) (c : ClientRecord) (spare : ℕ) (table : Table) (lent : List Held)
+    (may : MayEnact (change.Move old new inode) slots c spare table lent) where
   pub may_move : AreApart lent × ((old.directory ≢ 0) × (new.directory ≢ 0)) × IsName new.name.now
-  may_move = (given_apart may.given, (directory_some may.given old may.fits.old.directory, directory_some may.given new may.fits.new.directory), may.fits.new.name)
+  may_move = (
+    given_apart may.given,
+    (directory_some may.given old may.fits.old.directory, directory_some may.given new may.fits.new.directory),
+    may.fits.new.name,
+  )
 
   -- between two directories
-  pub moves_between : old.directory ≢ new.directory → AllByRecursion (λ (held : Held). held.inode ≡ new.directory → Takes new.name.now held.node) lent
-  moves_between two = takes_name may.given new may.fits.new (differs old.directory new.directory (is_crowded may.s new.directory) two may.fits.room)
+  pub moves_between : old.directory ≢ new.directory
+      → AllByRecursion (λ (held : Held). held.inode ≡ new.directory → Takes new.name.now held.node) lent
+  moves_between two = takes_name may.given new may.fits.new
+      (differs old.directory new.directory (is_crowded may.s new.directory) two may.fits.room)
 
   -- within one
-  pub moves_within : old.directory ≡ new.directory → AllByRecursion (λ (held : Held). held.inode ≡ old.directory → Renames old.name.now new.name.now inode held.node) lent
+  pub moves_within : old.directory ≡ new.directory
+      → AllByRecursion (λ (held : Held). held.inode ≡ old.directory → Renames old.name.now new.name.now inode held.node)
+      lent
   moves_within same =
       let names = names_map may.s old.directory in
-      let there : get names old.name.now ≡ Some inode = get-names_map may.s old.directory old.name.now ∙ may.fits.old.child in
-      let none : get names new.name.now ≡ None = get-names_map may.s old.directory new.name.now ∙ ap (λ d. child may.s d new.name.now) same ∙ may.fits.new.child in
-      of_lent may.given old.directory (Renames old.name.now new.name.now inode) may_move.1.0
-      (ap (λ o. is_dir (unwrap_or o Reg)) (given_directory may.given old may.fits.old.directory), no_rename_refusals names old.name.now new.name.now inode there none, there)
+      let there : get names old.name.now ≡ Some inode =
+      get-names_map may.s old.directory old.name.now ∙ may.fits.old.child in
+      let none : get names new.name.now ≡ None =
+      get-names_map may.s old.directory new.name.now ∙ ap (λ d. child may.s d new.name.now) same
+      ∙ may.fits.new.child in
+      of_lent may.given old.directory (Renames old.name.now new.name.now inode) may_move.1.0 (
+        ap (λ o. is_dir (unwrap_or o Reg)) (given_directory may.given old may.fits.old.directory),
+        no_rename_refusals names old.name.now new.name.now inode there none,
+        there,
+      )
 
-module _ {s : State} {number : ℕ} {marks : ℕ → Option ℕ} {spares : List ℕ} {place : ℕ} {c : ClientRecord} {spare : ℕ} {table : Table} {slots : List ℕ} {lent : List Held} (given : IsGiven s number marks spares place c spare table slots lent) where
-  pub moved_slots : (old new : At) (inode : ℕ) (table' : Table) (lent' : List Held) → FitsMove s old new inode → Covers table.inodes spare slots (change.Move old new inode)
-      → lent' ≡ map (λ held. named_in new.directory new.name.now inode (unnamed_in old.directory old.name.now held)) lent
-      → IsTable (with_moved s (dentry_at old) (dentry_at new) inode) spares table' → table'.inodes ≡ table.inodes → table'.free ≡ table.free
-      → IsMade s (with_moved s (dentry_at old) (dentry_at new) inode) number marks spares place c spare table table' slots lent'
+module _ {s : State} {number : ℕ} {marks : ℕ → Option ℕ} {spares : List ℕ} {place : ℕ} {c : ClientRecord} {spare : ℕ}
+    {table : Table} {slots : List ℕ} {lent : List Held}
+    (given : IsGiven s number marks spares place c spare table slots lent) where
+  pub moved_slots : (old new : At) (inode : ℕ) (table' : Table) (lent' : List Held) → FitsMove s old new inode
+      → Covers table.inodes spare slots (change.Move old new inode)
+      → lent' ≡ map (λ held. named_in new.directory new.name.now inode (unnamed_in old.directory old.name.now held))
+      lent
+      → IsTable (with_moved s (dentry_at old) (dentry_at new) inode) spares table' → table'.inodes ≡ table.inodes
+      → table'.free ≡ table.free
+      → IsMade s (with_moved s (dentry_at old) (dentry_at new) inode) number marks spares place c spare table table'
+      slots lent'
   moved_slots old new inode table' lent' fits covers done counted inodes free =
       let all = with_moved s (dentry_at old) (dentry_at new) inode in
       let into = named_in new.directory new.name.now inode in
@@ -150,5 +199,6 @@ module _ {s : State} {number : ℕ} {marks : ℕ → Option ℕ} {spares : List 
       made_staying given all c table' lent' (λ held. into (from held)) (old.directory ∷ new.directory ∷ [])
       done counted inodes free refl (client_stays s all number c refl given.client) covers.touched
       (directory_some given old fits.old.directory, (directory_some given new fits.new.directory, tt))
-      (λ held away. ap into (at_other held.inode old.directory _ held away.0) ∙ named_elsewhere new.directory new.name.now inode held away.1.0)
+      (λ held away. ap into (at_other held.inode old.directory _ held away.0)
+      ∙ named_elsewhere new.directory new.name.now inode held away.1.0)
       (λ i some. ap into (unnamed_each s marks old i) ∙ named_each (left s old) marks new inode i)

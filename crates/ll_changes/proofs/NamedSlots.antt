@@ -1,5 +1,6 @@
 -- A further name, in the slot of its directory.
-use Rattle.std.specs.Prelude.{◌≡◌, ◌≢◌, ℕ, true, false, List, [], ◌∷◌, ◌++◌, map, Option, None, is_some, nat_le, unwrap_or, refl}
+use Rattle.std.specs.Prelude.{◌≡◌, ◌≢◌, ℕ, true, false, List, [], ◌∷◌, ◌++◌, map, Option, None, is_some, nat_le}
+use Rattle.std.specs.Prelude.{unwrap_or, refl}
 use Rattle.std.specs.List.{AllByRecursion}
 use Rattle.std.proofs.Common.{sym, ap, ◌∙◌, inl, inr}
 use Rattle.std.proofs.lemmas.Bool.{cases_eq}
@@ -29,7 +30,8 @@ use Rattle.ll_changes.proofs.SlotAccounts.{content_of, link_named, link_other}
 use Rattle.ll_changes.proofs.GivenSlots.{held_of, client_stays}
 use Rattle.ll_changes.proofs.StayingSlots.{given_directory, directory_some, given_apart, of_lent, made_staying}
 
-no_refusals : (names : NameMap) (name : Name) → get names name ≡ None → nat_le 1024 (len names) ≡ false → insert_refusals names name ≡ []
+no_refusals : (names : NameMap) (name : Name) → get names name ≡ None → nat_le 1024 (len names) ≡ false
+    → insert_refusals names name ≡ []
 no_refusals names name lacks room = λ i. refuse (is_some (lacks i)) EEXIST ++ refuse (room i) ENOSPC
 
 -- a directory that lacks the name takes it
@@ -37,37 +39,60 @@ abbrev pub Takes : Name → Slot → Type 0
 Takes name slot = (is_dir slot.kind ≡ true) × (insert_refusals slot.names name ≡ [])
 
 -- the state's name and the slot's are one
-pub named_each : (s : State) (marks : ℕ → Option ℕ) (at : At) (inode i : ℕ) → named_in at.directory at.name.now inode (held_of s marks i) ≡ held_of (with_name s (dentry_at at) inode) marks i
+pub named_each : (s : State) (marks : ℕ → Option ℕ) (at : At) (inode i : ℕ)
+    → named_in at.directory at.name.now inode (held_of s marks i) ≡ held_of (with_name s (dentry_at at) inode) marks i
 named_each s marks at inode i = elim (cases_eq i at.directory) [
   | inl e ↦
       sym (named_here at.directory at.name.now inode (held_of s marks i) e)
-      ∙ ap (λ j. record { inode = j; node = record (content_of s j) { names = insert (names_map s j) at.name.now inode; mark = marks j } }) e
-      ∙ sym (ap (λ x. record { inode = at.directory; node = record x { mark = marks at.directory } }) (link_named s (dentry_at at) inode))
+      ∙ ap (λ j. record {
+        inode = j;
+        node = record (content_of s j) { names = insert (names_map s j) at.name.now inode; mark = marks j };
+      }) e
+      ∙ sym (ap (λ x. record { inode = at.directory; node = record x { mark = marks at.directory } })
+      (link_named s (dentry_at at) inode))
       ∙ sym (ap (held_of (with_name s (dentry_at at) inode) marks) e)
   | inr other ↦
       named_elsewhere at.directory at.name.now inode (held_of s marks i) other
-      ∙ sym (ap (λ x. record { inode = i; node = record x { mark = marks i } }) (link_other s (dentry_at at) inode i other))
+      ∙ sym (ap (λ x. record { inode = i; node = record x { mark = marks i } })
+      (link_other s (dentry_at at) inode i other))
 ]
 
-module _ {s : State} {number : ℕ} {marks : ℕ → Option ℕ} {spares : List ℕ} {place : ℕ} {c : ClientRecord} {spare : ℕ} {table : Table} {slots : List ℕ} {lent : List Held} (given : IsGiven s number marks spares place c spare table slots lent) where
-  pub takes_name : (at : At) → Lacks s at → is_crowded s at.directory ≡ false → AllByRecursion (λ (held : Held). held.inode ≡ at.directory → Takes at.name.now held.node) lent
+module _ {s : State} {number : ℕ} {marks : ℕ → Option ℕ} {spares : List ℕ} {place : ℕ} {c : ClientRecord} {spare : ℕ}
+    {table : Table} {slots : List ℕ} {lent : List Held}
+    (given : IsGiven s number marks spares place c spare table slots lent) where
+  pub takes_name : (at : At) → Lacks s at → is_crowded s at.directory ≡ false
+      → AllByRecursion (λ (held : Held). held.inode ≡ at.directory → Takes at.name.now held.node) lent
   takes_name at lacks room =
       of_lent given at.directory (Takes at.name.now)
       (directory_some given at lacks.directory) (
         ap (λ o. is_dir (unwrap_or o Reg)) (given_directory given at lacks.directory),
-        no_refusals (names_map s at.directory) at.name.now (get-names_map s at.directory at.name.now ∙ lacks.child) (ap (nat_le 1024) (len-names_map s at.directory) ∙ room),
+        no_refusals (names_map s at.directory) at.name.now (get-names_map s at.directory at.name.now ∙ lacks.child)
+            (ap (nat_le 1024) (len-names_map s at.directory) ∙ room),
       )
 
-  pub named_slots : (at : At) (inode : ℕ) (table' : Table) (lent' : List Held) → FitsName s at inode → Covers table.inodes spare slots (change.Name at inode) → lent' ≡ map (named_in at.directory at.name.now inode) lent
-      → IsTable (with_name s (dentry_at at) inode) spares table' → table'.inodes ≡ table.inodes → table'.free ≡ table.free → IsMade s (with_name s (dentry_at at) inode) number marks spares place c spare table table' slots lent'
+  pub named_slots : (at : At) (inode : ℕ) (table' : Table) (lent' : List Held) → FitsName s at inode
+      → Covers table.inodes spare slots (change.Name at inode)
+      → lent' ≡ map (named_in at.directory at.name.now inode) lent
+      → IsTable (with_name s (dentry_at at) inode) spares table' → table'.inodes ≡ table.inodes
+      → table'.free ≡ table.free → IsMade s (with_name s (dentry_at at) inode) number marks spares place c spare
+      table table' slots lent'
   named_slots at inode table' lent' fits covers done counted inodes free =
-      made_staying given (with_name s (dentry_at at) inode) c table' lent' (named_in at.directory at.name.now inode) (at.directory ∷ [])
-      done counted inodes free refl (client_stays s (with_name s (dentry_at at) inode) number c refl given.client) covers.touched
+      made_staying given (with_name s (dentry_at at) inode) c table' lent' (named_in at.directory at.name.now inode)
+      (at.directory ∷ [])
+      done counted inodes free refl (client_stays s (with_name s (dentry_at at) inode) number c refl given.client)
+      covers.touched
       (directory_some given at fits.lacks.directory, tt)
-      (λ held away. named_elsewhere at.directory at.name.now inode held away.0) (λ i some. named_each s marks at inode i)
+      (λ held away. named_elsewhere at.directory at.name.now inode held away.0)
+      (λ i some. named_each s marks at inode i)
 
 -- what is asked of the slots that are lent
-pub may_name : (at : At) (inode : ℕ) (slots : List ℕ) (c : ClientRecord) (spare : ℕ) (table : Table) (lent : List Held) → MayEnact (change.Name at inode) slots c spare table lent
-    → AreApart lent × (at.directory ≢ 0) × IsName at.name.now × AllByRecursion (λ (held : Held). held.inode ≡ at.directory → Takes at.name.now held.node) lent
-may_name at inode slots c spare table lent may =
-    (given_apart may.given, directory_some may.given at may.fits.lacks.directory, may.fits.lacks.name, takes_name may.given at may.fits.lacks may.fits.room)
+pub may_name : (at : At) (inode : ℕ) (slots : List ℕ) (c : ClientRecord) (spare : ℕ) (table : Table) (lent : List Held)
+    → MayEnact (change.Name at inode) slots c spare table lent
+    → AreApart lent × (at.directory ≢ 0) × IsName at.name.now
+    × AllByRecursion (λ (held : Held). held.inode ≡ at.directory → Takes at.name.now held.node) lent
+may_name at inode slots c spare table lent may = (
+  given_apart may.given,
+  directory_some may.given at may.fits.lacks.directory,
+  may.fits.lacks.name,
+  takes_name may.given at may.fits.lacks may.fits.room,
+)

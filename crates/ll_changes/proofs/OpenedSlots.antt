@@ -1,5 +1,7 @@
 -- A file is opened: one that is there, whose lent slot may be emptied, or one that was made.
-use Rattle.std.specs.Prelude.{◌≡◌, ◌≢◌, ℕ, zero, suc, ◌+◌, ◌==◌, Bool, true, false, cond, List, [], ◌∷◌, ◌++◌, map, length, nat_lt, Option, Some, None, is_some, is_none, option_map, slice_get, slice_set, refl}
+use Rattle.std.specs.Prelude.{◌≡◌, ◌≢◌, ℕ, zero, suc, ◌+◌, ◌==◌, Bool, true, false, cond, List, [], ◌∷◌, ◌++◌, map}
+use Rattle.std.specs.Prelude.{length, nat_lt, Option, Some, None, is_some, is_none, option_map, slice_get, slice_set}
+use Rattle.std.specs.Prelude.{refl}
 use Rattle.std.specs.List.{list_any}
 use Rattle.std.specs.Option.{option_map_or}
 use Rattle.std.specs.Ordering.{nat_cmp}
@@ -26,7 +28,8 @@ use Rattle.ll_seq.proofs.OrderedTables.{remove-insert}
 use Rattle.ll_laws.proofs.Granted.{kind_known}
 use Rattle.ll_answer.specs.declared.changes.Change.TheVariants.{Make, Open}
 use Rattle.ll_answer.specs.declared.changes.Opening.{Opening}
-use Rattle.ll_answer.specs.Effect.{CanOpen, FitsOpening, HasRoom, dentry_at, descriptor_of, with_descriptor, with_opening}
+use Rattle.ll_answer.specs.Effect.{CanOpen, FitsOpening, HasRoom, dentry_at, descriptor_of, with_descriptor}
+use Rattle.ll_answer.specs.Effect.{with_opening}
 use Rattle.ll_answer.specs.Near.{opened_inode}
 use Rattle.ll_held.specs.declared.held.Held.{Held}
 use Rattle.ll_held.specs.Lent.{emptied_in}
@@ -45,7 +48,8 @@ use Rattle.ll_changes.proofs.SlotAccounts.{bytes_put, bytes_other}
 module _ (s : State) (inode : ℕ) (bytes : List ℕ) where
   pub bytes_parts : ((with_bytes s inode bytes).clients ≡ s.clients) × ((with_bytes s inode bytes).room ≡ s.room)
   bytes_parts =
-      elim (get s.nodes inode) as (λ o. (after o).clients ≡ s.clients × (after o).room ≡ s.room) [ None ↦ (refl, refl) | Some n ↦ (refl, refl) ]
+      elim (get s.nodes inode) as (λ o. (after o).clients ≡ s.clients × (after o).room ≡ s.room)
+      [ None ↦ (refl, refl) | Some n ↦ (refl, refl) ]
     where
       after : Option Node → State
       after o = option_map_or (λ (n : Node). record s { nodes = insert s.nodes inode (record n { bytes = bytes }) }) o s
@@ -53,14 +57,16 @@ module _ (s : State) (inode : ℕ) (bytes : List ℕ) where
   bytes_has : (i : ℕ) → has (with_bytes s inode bytes).nodes i ≡ has s.nodes i
   bytes_has i = told (get (with_bytes s inode bytes).nodes i) (get s.nodes i) (bytes_kind s inode bytes i)
     where
-      told : (a b : Option Node) → option_map (λ (n : Node). n.kind) a ≡ option_map (λ (n : Node). n.kind) b → is_some a ≡ is_some b
+      told : (a b : Option Node) → option_map (λ (n : Node). n.kind) a ≡ option_map (λ (n : Node). n.kind) b
+          → is_some a ≡ is_some b
       told None None e = refl
       told None (Some n) e = absurd (cc e)
       told (Some m) None e = absurd (cc e)
       told (Some m) (Some n) e = refl
 
   bytes_len : len (with_bytes s inode bytes).nodes ≡ len s.nodes
-  bytes_len = same_len (with_bytes s inode bytes).nodes s.nodes (λ (n : Node). n.kind) (λ (n : Node). n.kind) (bytes_kind s inode bytes)
+  bytes_len = same_len (with_bytes s inode bytes).nodes s.nodes (λ (n : Node). n.kind) (λ (n : Node). n.kind)
+      (bytes_kind s inode bytes)
 
   pub bytes_table : (spares : List ℕ) (t : Table) → IsTable s spares t → IsTable (with_bytes s inode bytes) spares t
   bytes_table spares t table = record {
@@ -72,7 +78,8 @@ module _ (s : State) (inode : ℕ) (bytes : List ℕ) where
     free = table.free;
     spares = table.spares;
     distinct = table.distinct;
-    count = ap (λ n. length t.free + length spares + n) bytes_len ∙ table.count ∙ ap (λ n. n + TREE_CLIENTS) (sym bytes_parts.1);
+    count = ap (λ n. length t.free + length spares + n) bytes_len ∙ table.count
+        ∙ ap (λ n. n + TREE_CLIENTS) (sym bytes_parts.1);
     few = let most = table.few in let many = bytes_len in let room = bytes_parts.1 in omega (arith, most, many, room);
   }
 
@@ -81,16 +88,21 @@ module _ (s : State) (inode : ℕ) (bytes : List ℕ) where
 -- as the table counts a descriptor more of the inode
 abbrev pub Opens : Table → ℕ → Table → Type 0
 Opens table inode table' =
-    (s : State) (spares : List ℕ) (client : ℕ) (c : ClientRecord) (fd : ℕ) (d : Descriptor) → IsTable s spares table → get s.clients client ≡ Some c → get c.descriptors fd ≡ None → d.inode ≡ inode
-    → has s.nodes inode ≡ true → IsTable (with_client s client (record c { descriptors = insert c.descriptors fd d })) spares table'
+    (s : State) (spares : List ℕ) (client : ℕ) (c : ClientRecord) (fd : ℕ) (d : Descriptor) → IsTable s spares table
+    → get s.clients client ≡ Some c → get c.descriptors fd ≡ None → d.inode ≡ inode
+    → has s.nodes inode ≡ true → IsTable (with_client s client (record c { descriptors = insert c.descriptors fd d }))
+    spares table'
 
-pub one_client : (clients : Map nat_cmp ClientRecord) (number : ℕ) (c : ClientRecord) (q : ℕ) → get (insert clients number c) q ≡ cond (q == number) (Some c) (get clients q)
+pub one_client : (clients : Map nat_cmp ClientRecord) (number : ℕ) (c : ClientRecord) (q : ℕ)
+    → get (insert clients number c) q ≡ cond (q == number) (Some c) (get clients q)
 one_client clients number c q =
     get-insert nat_cmp_total nat_cmp-IsAntisymmetric clients number c q
     ∙ ap (λ b. cond b (Some c) (get clients q)) (unsigned_tied q number)
 
 -- the client with the descriptor put in
-pub described : (c : ClientRecord) (o : Opening) (inode : ℕ) (d : Descriptor) (ds : Map nat_cmp Descriptor) → d ≡ descriptor_of o inode → ds ≡ insert c.descriptors o.number d → record c { descriptors = ds } ≡ with_descriptor c o inode
+pub described : (c : ClientRecord) (o : Opening) (inode : ℕ) (d : Descriptor) (ds : Map nat_cmp Descriptor)
+    → d ≡ descriptor_of o inode → ds ≡ insert c.descriptors o.number d
+    → record c { descriptors = ds } ≡ with_descriptor c o inode
 described c o inode d ds is put = ap (λ m. record c { descriptors = m }) (put ∙ ap (insert c.descriptors o.number) is)
 
 set_back : (xs : List ℕ) (i x : ℕ) → slice_get xs i ≡ Some x → slice_set xs i x ≡ xs
@@ -100,7 +112,9 @@ set_back (y ∷ xs) (suc i) x at = ap (λ zs. y ∷ zs) (set_back xs i x at)
 
 -- ---- the file that is there
 
-module _ (s : State) (number : ℕ) (marks : ℕ → Option ℕ) (spares : List ℕ) (place : ℕ) (c : ClientRecord) (spare : ℕ) (table : Table) (slots : List ℕ) (lent : List Held) (given : IsGiven s number marks spares place c spare table slots lent) (o : Opening) where
+module _ (s : State) (number : ℕ) (marks : ℕ → Option ℕ) (spares : List ℕ) (place : ℕ) (c : ClientRecord) (spare : ℕ)
+    (table : Table) (slots : List ℕ) (lent : List Held)
+    (given : IsGiven s number marks spares place c spare table slots lent) (o : Opening) where
   module _ (inode : ℕ) (there : o.there ≡ Some inode) (fits : FitsOpening s c o) where
     file_kind : (kind : Kind) × (kind_of s inode ≡ Some kind)
     file_kind =
@@ -126,41 +140,60 @@ module _ (s : State) (number : ℕ) (marks : ℕ → Option ℕ) (spares : List 
     file_has true = bytes_has s inode [] inode ∙ has_node (get s.nodes inode) file_kind.0 file_kind.1
     file_has false = has_node (get s.nodes inode) file_kind.0 file_kind.1
 
-    emptied_slot : (k : ℕ) → account (with_bytes s inode []) marks table.inodes k ≡ emptied_in inode (account s marks table.inodes k)
+    emptied_slot : (k : ℕ) → account (with_bytes s inode []) marks table.inodes k
+        ≡ emptied_in inode (account s marks table.inodes k)
     emptied_slot k = elim (same_or_not (inode_at table.inodes k) inode) [
       | inl lies ↦
           let was = account_held s marks table.inodes k inode lies file_some in
           account_held (with_bytes s inode []) marks table.inodes k inode lies file_some
-          ∙ ap (λ d. record { inode = inode; node = record d { mark = marks inode } }) (bytes_put s inode [] file_kind.0 file_kind.1)
+          ∙ ap (λ d. record { inode = inode; node = record d { mark = marks inode } })
+          (bytes_put s inode [] file_kind.0 file_kind.1)
           ∙ sym (cond-true (inode == inode) _ _ (eq-eqb inode inode refl))
           ∙ ap (emptied_in inode) (sym was)
       | inr away ↦
-          account_kept s (with_bytes s inode []) marks table.inodes table.inodes k refl (λ some. bytes_other s inode [] (inode_at table.inodes k) away)
-          ∙ sym (cond-false ((account s marks table.inodes k).inode == inode) _ _ (ne_eqb _ inode (λ e. away (sym (account_inode s marks table.inodes k) ∙ e))))
+          account_kept s (with_bytes s inode []) marks table.inodes table.inodes k refl
+          (λ some. bytes_other s inode [] (inode_at table.inodes k) away)
+          ∙ sym (cond-false ((account s marks table.inodes k).inode == inode) _ _
+          (ne_eqb _ inode (λ e. away (sym (account_inode s marks table.inodes k) ∙ e))))
     ]
 
-    slots_told : (b : Bool) → cond b (map (emptied_in inode) lent) lent ≡ accounts (found_file b) marks table.inodes slots
-    slots_told true = ap (map (emptied_in inode)) given.told ∙ told_by s (with_bytes s inode []) marks table.inodes table.inodes (emptied_in inode) emptied_slot slots
+    slots_told : (b : Bool) → cond b (map (emptied_in inode) lent) lent
+        ≡ accounts (found_file b) marks table.inodes slots
+    slots_told true = ap (map (emptied_in inode)) given.told
+        ∙ told_by s (with_bytes s inode []) marks table.inodes table.inodes (emptied_in inode) emptied_slot slots
     slots_told false = given.told
 
     module _ (covers : Covers table.inodes spare slots (Open o)) where
-      slots_kept : (b : Bool) (k : ℕ) → NotIn k slots → account (found_file b) marks table.inodes k ≡ account s marks table.inodes k
+      slots_kept : (b : Bool) (k : ℕ) → NotIn k slots
+          → account (found_file b) marks table.inodes k ≡ account s marks table.inodes k
       slots_kept true k out =
           let away : inode_at table.inodes k ≢ inode =
-          subst (λ i. i ≢ 0 → inode_at table.inodes k ≢ i) (ap (opened_inode o.at) there) (λ some. not_here table.inodes table.places given.counted.placed (opened_inode o.at o.there) some slots covers.touched.0 k out) file_some
+          subst (λ i. i ≢ 0 → inode_at table.inodes k ≢ i) (ap (opened_inode o.at) there)
+          (λ some. not_here table.inodes table.places given.counted.placed (opened_inode o.at o.there) some slots
+          covers.touched.0 k out) file_some
           in
-          account_kept s (with_bytes s inode []) marks table.inodes table.inodes k refl (λ some. bytes_other s inode [] (inode_at table.inodes k) away)
+          account_kept s (with_bytes s inode []) marks table.inodes table.inodes k refl
+          (λ some. bytes_other s inode [] (inode_at table.inodes k) away)
       slots_kept false k out = refl
 
-      pub opened : (b : Bool) → o.is_emptied ≡ b → (c' : ClientRecord) (table' : Table) (lent' : List Held) → c' ≡ with_descriptor c o inode → Opens table inode table' → table'.inodes ≡ table.inodes → table'.free ≡ table.free
-          → lent' ≡ cond b (map (emptied_in inode) lent) lent → IsMade s (with_opening s number c o o.there) number marks spares place c' spare table table' slots lent'
+      pub opened : (b : Bool) → o.is_emptied ≡ b → (c' : ClientRecord) (table' : Table) (lent' : List Held)
+          → c' ≡ with_descriptor c o inode → Opens table inode table' → table'.inodes ≡ table.inodes
+          → table'.free ≡ table.free
+          → lent' ≡ cond b (map (emptied_in inode) lent) lent
+          → IsMade s (with_opening s number c o o.there) number marks spares place c' spare table table' slots lent'
       opened b emptied c' table' lent' client opens inodes free put =
-          subst (λ d. IsMade s (with_opening s number c o o.there) number marks spares place d spare table table' slots lent') (sym client)
-          (subst (λ t. IsMade s (with_opening s number c o t) number marks spares place (with_descriptor c o inode) spare table table' slots lent') (sym there)
-          (subst (λ a. IsMade s (with_client (found_file a) number (with_descriptor c o inode)) number marks spares place (with_descriptor c o inode) spare table table' slots lent') (sym emptied) (record {
-            counted = subst (λ ks. IsTable (with_client (found_file b) number (with_descriptor c o inode)) ks table') (sym (set_back spares place spare given.kept)) counted;
-            next = let new = counted.next in let old = given.counted.next in let same = file_next b in omega (arith, new, old, same);
-            clients = λ q. one_client (found_file b).clients number (with_descriptor c o inode) q ∙ ap (λ m. cond (q == number) (Some (with_descriptor c o inode)) (get m q)) (file_clients b);
+          subst (λ d. IsMade s (with_opening s number c o o.there) number marks spares place d spare table table' slots
+          lent') (sym client)
+          (subst (λ t. IsMade s (with_opening s number c o t) number marks spares place (with_descriptor c o inode)
+          spare table table' slots lent') (sym there)
+          (subst (λ a. IsMade s (with_client (found_file a) number (with_descriptor c o inode)) number marks spares
+          place (with_descriptor c o inode) spare table table' slots lent') (sym emptied) (record {
+            counted = subst (λ ks. IsTable (with_client (found_file b) number (with_descriptor c o inode)) ks table')
+                (sym (set_back spares place spare given.kept)) counted;
+            next = let new = counted.next in let old = given.counted.next in let same = file_next b in
+                omega (arith, new, old, same);
+            clients = λ q. one_client (found_file b).clients number (with_descriptor c o inode) q
+                ∙ ap (λ m. cond (q == number) (Some (with_descriptor c o inode)) (get m q)) (file_clients b);
             told = put ∙ slots_told b ∙ ap (λ is. accounts (found_file b) marks is slots) (sym inodes);
             others = λ k out. ap (λ is. account (found_file b) marks is k) inodes ∙ slots_kept b k out;
             freed = inl (given.kept, record { inodes = inodes; free = free });
@@ -172,21 +205,28 @@ module _ (s : State) (number : ℕ) (marks : ℕ → Option ℕ) (spares : List 
 
           counted : IsTable (with_client (found_file b) number (with_descriptor c o inode)) spares table'
           counted =
-              opens (found_file b) spares number c o.number (descriptor_of o inode) (file_table b) (ap (λ m. get m number) (file_clients b) ∙ given.client)
+              opens (found_file b) spares number c o.number (descriptor_of o inode) (file_table b)
+              (ap (λ m. get m number) (file_clients b) ∙ given.client)
               fits.free refl (file_has b)
 
 -- ---- a file that is made
 
-pub covers_new : (o : Opening) → o.there ≡ None → (inodes : List ℕ) (spare : ℕ) (slots : List ℕ) → Covers inodes spare slots (Open o) → Covers inodes spare slots (Make o.at Reg)
+pub covers_new : (o : Opening) → o.there ≡ None → (inodes : List ℕ) (spare : ℕ) (slots : List ℕ)
+    → Covers inodes spare slots (Open o) → Covers inodes spare slots (Make o.at Reg)
 covers_new o none inodes spare slots covers = record {
-  touched = (subst (λ i. list_any (λ k. inode_at inodes k == i) slots ≡ true) (ap (opened_inode o.at) none) covers.touched.0, tt);
+  touched = (
+    subst (λ i. list_any (λ k. inode_at inodes k == i) slots ≡ true) (ap (opened_inode o.at) none)
+        covers.touched.0,
+    tt,
+  );
   new = λ e. covers.new (ap is_none none);
 }
 
 pub room_new : (s : State) (c : ClientRecord) (o : Opening) → o.there ≡ None → FitsOpening s c o → HasRoom s o.at
 room_new s c o none fits = subst (CanOpen s o) none fits.file
 
-pub may_make : (o : Opening) (slots : List ℕ) (c : ClientRecord) (spare : ℕ) (table : Table) (lent : List Held) → o.there ≡ None → MayEnact (Open o) slots c spare table lent → MayEnact (Make o.at Reg) slots c spare table lent
+pub may_make : (o : Opening) (slots : List ℕ) (c : ClientRecord) (spare : ℕ) (table : Table) (lent : List Held)
+    → o.there ≡ None → MayEnact (Open o) slots c spare table lent → MayEnact (Make o.at Reg) slots c spare table lent
 may_make o slots c spare table lent none may = record {
   s = may.s;
   number = may.number;
@@ -198,8 +238,12 @@ may_make o slots c spare table lent none may = record {
   covers = covers_new o none table.inodes spare slots may.covers;
 }
 
-module _ (s : State) (number : ℕ) (marks : ℕ → Option ℕ) (spares : List ℕ) (place : ℕ) (c : ClientRecord) (spare : ℕ) (table : Table) (slots : List ℕ) (lent : List Held) (given : IsGiven s number marks spares place c spare table slots lent) (o : Opening) (spare' : ℕ) (table1 : Table) (lent' : List Held)
-    (made : IsMade s (with_node s Reg (dentry_at o.at)) number marks spares place c spare' table table1 slots lent') (inode : ℕ) (next : inode ≡ table.next) where
+module _ (s : State) (number : ℕ) (marks : ℕ → Option ℕ) (spares : List ℕ) (place : ℕ) (c : ClientRecord) (spare : ℕ)
+    (table : Table) (slots : List ℕ) (lent : List Held)
+    (given : IsGiven s number marks spares place c spare table slots lent) (o : Opening) (spare' : ℕ) (table1 : Table)
+    (lent' : List Held)
+    (made : IsMade s (with_node s Reg (dentry_at o.at)) number marks spares place c spare' table table1 slots lent')
+    (inode : ℕ) (next : inode ≡ table.next) where
   abbrev made_file : State
   made_file = with_node s Reg (dentry_at o.at)
 
@@ -215,13 +259,22 @@ module _ (s : State) (number : ℕ) (marks : ℕ → Option ℕ) (spares : List 
       ∙ ap (λ n. nat_lt n MOST_OPENS) (given.counted.facts.unused s.next (omega arith)).opens
     where
       fact : ℕ → Kind → Fact
-      fact i kind = record { kind = kind; names = length (names_in made_file i); links = name_count made_file i; opens = open_count made_file i }
+      fact i kind = record {
+        kind = kind;
+        names = length (names_in made_file i);
+        links = name_count made_file i;
+        opens = open_count made_file i;
+      }
 
-  pub opened_new : o.there ≡ None → FitsOpening s c o → (c' : ClientRecord) (table' : Table) → c' ≡ with_descriptor c o inode → Opens table1 inode table' → table'.inodes ≡ table1.inodes → table'.free ≡ table1.free
+  pub opened_new : o.there ≡ None → FitsOpening s c o → (c' : ClientRecord) (table' : Table)
+      → c' ≡ with_descriptor c o inode → Opens table1 inode table' → table'.inodes ≡ table1.inodes
+      → table'.free ≡ table1.free
       → IsMade s (with_opening s number c o o.there) number marks spares place c' spare' table table' slots lent'
   opened_new none fits c' table' client opens inodes free =
-      subst (λ d. IsMade s (with_opening s number c o o.there) number marks spares place d spare' table table' slots lent') (sym (client ∙ ap (with_descriptor c o) is_next))
-      (subst (λ t. IsMade s (with_opening s number c o t) number marks spares place (with_descriptor c o s.next) spare' table table' slots lent') (sym none) (record {
+      subst (λ d. IsMade s (with_opening s number c o o.there) number marks spares place d spare' table table' slots
+      lent') (sym (client ∙ ap (with_descriptor c o) is_next))
+      (subst (λ t. IsMade s (with_opening s number c o t) number marks spares place (with_descriptor c o s.next) spare'
+      table table' slots lent') (sym none) (record {
         counted = counted;
         next = let new = counted.next in let old = given.counted.next in omega (arith, new, old);
         clients = one_client s.clients number (with_descriptor c o s.next);
@@ -230,20 +283,45 @@ module _ (s : State) (number : ℕ) (marks : ℕ → Option ℕ) (spares : List 
         freed = freed_then made.freed;
       }))
     where
-      freed_then : LeavesTable s made_file spares place spare' table table1 slots → LeavesTable s (with_client made_file number (with_descriptor c o s.next)) spares place spare' table table' slots
+      freed_then : LeavesTable s made_file spares place spare' table table1 slots
+          → LeavesTable s (with_client made_file number (with_descriptor c o s.next)) spares place spare' table table'
+          slots
       freed_then (inl keeps) = inl (keeps.0, record { inodes = inodes ∙ keeps.1.inodes; free = free ∙ keeps.1.free })
-      freed_then (inr (inl takes)) = inr (inl (record { made = takes.made; free = takes.free ∙ ap (λ ks. ks ++ spare' ∷ []) (sym free); inodes = inodes ∙ takes.inodes }))
+      freed_then (inr (inl takes)) =
+          inr (inl (record {
+            made = takes.made;
+            free = takes.free
+                ∙ ap (λ ks. ks ++ spare' ∷ []) (sym free);
+            inodes = inodes ∙ takes.inodes;
+          }))
       freed_then (inr (inr gives)) =
           let back = gives.1 in
-          inr (inr (gives.0, record { slot = back.slot; lent = back.lent; there = back.there; gone = back.gone; inodes = inodes ∙ back.inodes; free = free ∙ back.free }))
+          inr (inr (
+            gives.0,
+            record {
+              slot = back.slot;
+              lent = back.lent;
+              there = back.there;
+              gone = back.gone;
+              inodes = inodes ∙ back.inodes;
+              free = free ∙ back.free;
+            },
+          ))
 
       lives : has made_file.nodes inode ≡ true
-      lives = ap (has made_file.nodes) is_next ∙ has_node (get made_file.nodes s.next) Reg (make_kind s Reg (dentry_at o.at))
+      lives = ap (has made_file.nodes) is_next
+          ∙ has_node (get made_file.nodes s.next) Reg (make_kind s Reg (dentry_at o.at))
 
-      counted : IsTable (with_client made_file number (with_descriptor c o s.next)) (slice_set spares place spare') table'
+      counted : IsTable (with_client made_file number (with_descriptor c o s.next)) (slice_set spares place spare')
+          table'
       counted =
-          opens made_file (slice_set spares place spare') number c o.number (descriptor_of o s.next) made.counted given.client fits.free (sym is_next) lives
+          opens made_file (slice_set spares place spare') number c o.number (descriptor_of o s.next) made.counted
+          given.client fits.free (sym is_next) lives
 
 -- what is taken out again was never there
-pub undescribed : (c : ClientRecord) (o : Opening) (d : Descriptor) (ds ds' : Map nat_cmp Descriptor) → get c.descriptors o.number ≡ None → ds ≡ insert c.descriptors o.number d → ds' ≡ remove ds o.number → record c { descriptors = ds' } ≡ c
-undescribed c o d ds ds' none put taken = ap (λ m. record c { descriptors = m }) (taken ∙ ap (λ m. remove m o.number) put ∙ remove-insert c.descriptors o.number d none)
+pub undescribed : (c : ClientRecord) (o : Opening) (d : Descriptor) (ds ds' : Map nat_cmp Descriptor)
+    → get c.descriptors o.number ≡ None → ds ≡ insert c.descriptors o.number d → ds' ≡ remove ds o.number
+    → record c { descriptors = ds' } ≡ c
+undescribed c o d ds ds' none put taken =
+    ap (λ m. record c { descriptors = m }) (taken ∙ ap (λ m. remove m o.number) put
+    ∙ remove-insert c.descriptors o.number d none)

@@ -26,20 +26,29 @@ use Rattle.ll_changes.proofs.StayingSlots.{named_kind, named_some, given_apart, 
 use Rattle.ll_changes.proofs.OpenedSlots.{bytes_parts, bytes_table}
 
 -- the state's length and the slot's are one
-resized_each : (s : State) (marks : ℕ → Option ℕ) (inode size : ℕ) (kind : Kind) → kind_of s inode ≡ Some kind → (i : ℕ) → resized_in inode size (held_of s marks i) ≡ held_of (with_size s inode size) marks i
+resized_each : (s : State) (marks : ℕ → Option ℕ) (inode size : ℕ) (kind : Kind) → kind_of s inode ≡ Some kind → (i : ℕ)
+    → resized_in inode size (held_of s marks i) ≡ held_of (with_size s inode size) marks i
 resized_each s marks inode size kind there i = elim (cases_eq i inode) [
   | inl e ↦
       sym (resized_here inode size (held_of s marks i) e)
-      ∙ ap (λ j. record { inode = j; node = record (content_of s j) { bytes = resized (bytes_of s j) size; mark = marks j } }) e
-      ∙ sym (ap (λ x. record { inode = inode; node = record x { mark = marks inode } }) (size_put s inode size kind there))
+      ∙ ap (λ j. record {
+        inode = j;
+        node = record (content_of s j) { bytes = resized (bytes_of s j) size; mark = marks j };
+      }) e
+      ∙ sym (ap (λ x. record { inode = inode; node = record x { mark = marks inode } })
+      (size_put s inode size kind there))
       ∙ sym (ap (held_of (with_size s inode size) marks) e)
   | inr other ↦
       resized_elsewhere inode size (held_of s marks i) other
-      ∙ sym (ap (λ x. record { inode = i; node = record x { mark = marks i } }) (bytes_other s inode (resized (bytes_of s inode) size) i other))
+      ∙ sym (ap (λ x. record { inode = i; node = record x { mark = marks i } })
+      (bytes_other s inode (resized (bytes_of s inode) size) i other))
 ]
 
-module _ {s : State} {number : ℕ} {marks : ℕ → Option ℕ} {spares : List ℕ} {place : ℕ} {c : ClientRecord} {spare : ℕ} {table : Table} {slots : List ℕ} {lent : List Held} (given : IsGiven s number marks spares place c spare table slots lent) where
-  pub resized_slots : (inode size : ℕ) (lent' : List Held) → FitsResize s inode size → Covers table.inodes spare slots (change.Resize inode size) → lent' ≡ map (resized_in inode size) lent
+module _ {s : State} {number : ℕ} {marks : ℕ → Option ℕ} {spares : List ℕ} {place : ℕ} {c : ClientRecord} {spare : ℕ}
+    {table : Table} {slots : List ℕ} {lent : List Held}
+    (given : IsGiven s number marks spares place c spare table slots lent) where
+  pub resized_slots : (inode size : ℕ) (lent' : List Held) → FitsResize s inode size
+      → Covers table.inodes spare slots (change.Resize inode size) → lent' ≡ map (resized_in inode size) lent
       → IsMade s (with_size s inode size) number marks spares place c spare table table slots lent'
   resized_slots inode size lent' fits covers done =
       let bytes = resized (bytes_of s inode) size in
@@ -48,15 +57,20 @@ module _ {s : State} {number : ℕ} {marks : ℕ → Option ℕ} {spares : List 
       done (bytes_table s inode bytes spares table given.counted) refl refl (bytes_next s inode bytes)
       (client_stays s (with_size s inode size) number c (bytes_parts s inode bytes).0 given.client) covers.touched
       (named_some given inode fits.named, tt)
-      (λ held away. resized_elsewhere inode size held away.0) (λ i some. resized_each s marks inode size known.0 known.1 i)
+      (λ held away. resized_elsewhere inode size held away.0)
+      (λ i some. resized_each s marks inode size known.0 known.1 i)
 
 -- a file takes a length that isn't too long
 abbrev pub TakesLen : ℕ → Slot → Type 0
 TakesLen size slot = (is_dir slot.kind ≡ false) × (len_refusals size ≡ [])
 
 -- what is asked of the slots that are lent
-pub may_resize : (inode size : ℕ) (slots : List ℕ) (c : ClientRecord) (spare : ℕ) (table : Table) (lent : List Held) → MayEnact (change.Resize inode size) slots c spare table lent
+pub may_resize : (inode size : ℕ) (slots : List ℕ) (c : ClientRecord) (spare : ℕ) (table : Table) (lent : List Held)
+    → MayEnact (change.Resize inode size) slots c spare table lent
     → AreApart lent × (inode ≢ 0) × AllByRecursion (λ (held : Held). held.inode ≡ inode → TakesLen size held.node) lent
 may_resize inode size slots c spare table lent may =
-    let some = named_some may.given inode may.fits.named in
-    (given_apart may.given, some, of_lent may.given inode (TakesLen size) some (may.fits.file, ap (λ b. refuse b EFBIG) may.fits.short))
+    let some = named_some may.given inode may.fits.named in (
+      given_apart may.given,
+      some,
+      of_lent may.given inode (TakesLen size) some (may.fits.file, ap (λ b. refuse b EFBIG) may.fits.short),
+    )

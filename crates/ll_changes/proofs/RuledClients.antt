@@ -1,5 +1,6 @@
 -- A rule more in a client's ruleset: no slot changes.
-use Rattle.std.specs.Prelude.{◌≡◌, false, Result, Ok, Err, OnOk, ℕ, cond, ◌==◌, List, Option, Some, slice_set, slice_get, unwrap_or, refl}
+use Rattle.std.specs.Prelude.{◌≡◌, false, Result, Ok, Err, OnOk, ℕ, cond, ◌==◌, List, Option, Some, slice_set}
+use Rattle.std.specs.Prelude.{slice_get, unwrap_or, refl}
 use Rattle.std.specs.Result.{is_err}
 use Rattle.std.proofs.Common.{sym, subst, ap, ◌∙◌, arith, inl}
 use Rattle.ll_rights.specs.Map.{get}
@@ -24,21 +25,32 @@ no_error (Ok a) none p = p
 no_error (Err e) none p = absurd (cc none)
 
 -- the ruleset of the rule's number is the one that got it
-pub allowed : (c : ClientRecord) (rule : Rule) (rulesets : List Layer) (made : Layer) → slice_get c.rulesets rule.number ≡ Some made → rulesets ≡ slice_set c.rulesets rule.number (with_rule made rule.inode rule.rights.0) → record c { rulesets = rulesets } ≡ with_rule_of c rule
+pub allowed : (c : ClientRecord) (rule : Rule) (rulesets : List Layer) (made : Layer)
+    → slice_get c.rulesets rule.number ≡ Some made
+    → rulesets ≡ slice_set c.rulesets rule.number (with_rule made rule.inode rule.rights.0)
+    → record c { rulesets = rulesets } ≡ with_rule_of c rule
 allowed c rule rulesets made there put =
     ap (λ (rs : List Layer). record c { rulesets = rs }) put
-    ∙ sym (ap (λ o. record c { rulesets = slice_set c.rulesets rule.number (with_rule (unwrap_or o (new_ruleset 0)) rule.inode rule.rights.0) }) there)
+    ∙ sym (ap (λ o. record c {
+      rulesets = slice_set c.rulesets rule.number
+          (with_rule (unwrap_or o (new_ruleset 0)) rule.inode rule.rights.0);
+    }) there)
 
-module _ {s : State} {number : ℕ} {marks : ℕ → Option ℕ} {spares : List ℕ} {place : ℕ} {c : ClientRecord} {spare : ℕ} {table : Table} {slots : List ℕ} {lent : List Held} (given : IsGiven s number marks spares place c spare table slots lent) where
-  pub ruled_client : (rule : Rule) (c' : ClientRecord) → c' ≡ with_rule_of c rule → IsMade s (with_client s number (with_rule_of c rule)) number marks spares place c' spare table table slots lent
+module _ {s : State} {number : ℕ} {marks : ℕ → Option ℕ} {spares : List ℕ} {place : ℕ} {c : ClientRecord} {spare : ℕ}
+    {table : Table} {slots : List ℕ} {lent : List Held}
+    (given : IsGiven s number marks spares place c spare table slots lent) where
+  pub ruled_client : (rule : Rule) (c' : ClientRecord) → c' ≡ with_rule_of c rule
+      → IsMade s (with_client s number (with_rule_of c rule)) number marks spares place c' spare table table slots lent
   ruled_client rule c' is =
       let ruled = with_client s number (with_rule_of c rule) in
       record {
         counted = subst (λ ks. IsTable ruled ks table) (sym (put_again spares place spare given.kept))
             (still_table s spares table given.counted ruled table.facts refl refl refl
-            (kept_client s table.facts table.facts number c given.counted.facts given.client (with_rule_of c rule) refl));
+            (kept_client s table.facts table.facts number c given.counted.facts given.client (with_rule_of c rule)
+            refl));
         next = omega arith;
-        clients = λ q. one_client s.clients number (with_rule_of c rule) q ∙ ap (λ d. cond (q == number) (Some d) (get s.clients q)) (sym is);
+        clients = λ q. one_client s.clients number (with_rule_of c rule) q
+            ∙ ap (λ d. cond (q == number) (Some d) (get s.clients q)) (sym is);
         told = given.told;
         others = λ k out. refl;
         freed = inl (given.kept, record { inodes = refl; free = refl });

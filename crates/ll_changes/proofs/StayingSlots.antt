@@ -19,18 +19,23 @@ use Rattle.ll_changes.specs.Accounts.{account}
 use Rattle.ll_changes.specs.Enacting.{IsGiven, IsMade}
 use Rattle.ll_changes.proofs.SlotAccounts.{content_of}
 use Rattle.ll_changes.proofs.Accounted.{inode_at, lent_apart}
-use Rattle.ll_changes.proofs.GivenSlots.{held_of, some_there, directory_kind, directory_there, named_there, all_given, each_stays, given_tree, made_by}
+use Rattle.ll_changes.proofs.GivenSlots.{held_of, some_there, directory_kind, directory_there, named_there, all_given}
+use Rattle.ll_changes.proofs.GivenSlots.{each_stays, given_tree, made_by}
 
 zero_out : (is : List ℕ) → AllByRecursion (λ i. i ≢ 0) is → NotIn 0 is
 zero_out [] some = tt
 zero_out (i ∷ is) some = (λ e. some.0 (sym e), zero_out is some.1)
 
-module _ {s : State} {number : ℕ} {marks : ℕ → Option ℕ} {spares : List ℕ} {place : ℕ} {c : ClientRecord} {spare : ℕ} {table : Table} {slots : List ℕ} {lent : List Held} (given : IsGiven s number marks spares place c spare table slots lent) where
+module _ {s : State} {number : ℕ} {marks : ℕ → Option ℕ} {spares : List ℕ} {place : ℕ} {c : ClientRecord} {spare : ℕ}
+    {table : Table} {slots : List ℕ} {lent : List Held}
+    (given : IsGiven s number marks spares place c spare table slots lent) where
   pub given_directory : (at : At) → IsDirectory s at.directory → kind_of s at.directory ≡ Some Dir
-  given_directory at dir = directory_kind s (given_tree s number marks spares place c spare table slots lent given) at dir
+  given_directory at dir = directory_kind s (given_tree s number marks spares place c spare table slots lent given) at
+      dir
 
   pub directory_lives : (at : At) → IsDirectory s at.directory → has s.nodes at.directory ≡ true
-  directory_lives at dir = directory_there s (given_tree s number marks spares place c spare table slots lent given) at dir
+  directory_lives at dir = directory_there s (given_tree s number marks spares place c spare table slots lent given) at
+      dir
 
   pub directory_some : (at : At) → IsDirectory s at.directory → at.directory ≢ 0
   directory_some at dir = some_there s spares table given.counted at.directory (directory_lives at dir)
@@ -39,27 +44,35 @@ module _ {s : State} {number : ℕ} {marks : ℕ → Option ℕ} {spares : List 
   named_lives i named = named_there s (given_tree s number marks spares place c spare table slots lent given) i named
 
   pub named_kind : (i : ℕ) → HasName s i → (k : Kind) × (kind_of s i ≡ Some k)
-  named_kind i named = kind_known s (given_tree s number marks spares place c spare table slots lent given) named.0 i named.1
+  named_kind i named = kind_known s (given_tree s number marks spares place c spare table slots lent given) named.0 i
+      named.1
 
   pub named_some : (i : ℕ) → HasName s i → i ≢ 0
   named_some i named = some_there s spares table given.counted i (named_lives i named)
 
   pub given_apart : AreApart lent
-  given_apart = subst AreApart (sym given.told) (lent_apart table.inodes table.places given.counted.placed s marks slots given.apart)
+  given_apart = subst AreApart (sym given.told)
+      (lent_apart table.inodes table.places given.counted.placed s marks slots given.apart)
 
   -- what holds of a node holds in its slot, if that is lent
-  pub of_lent : (i : ℕ) (P : Slot → Type 0) → i ≢ 0 → P (record (content_of s i) { mark = marks i }) → AllByRecursion (λ (held : Held). held.inode ≡ i → P held.node) lent
+  pub of_lent : (i : ℕ) (P : Slot → Type 0) → i ≢ 0 → P (record (content_of s i) { mark = marks i })
+      → AllByRecursion (λ (held : Held). held.inode ≡ i → P held.node) lent
   of_lent i P some here = all_given (λ held. P held.node) s marks table.inodes slots lent given.told i some here
 
   -- f: what is done to each slot that is lent. is: the nodes that it concerns, which lie in slots that are lent
-  pub made_staying : (t : State) (c' : ClientRecord) (table' : Table) (lent' : List Held) (f : Held → Held) (is : List ℕ)
-      → lent' ≡ map f lent → IsTable t spares table' → table'.inodes ≡ table.inodes → table'.free ≡ table.free → t.next ≡ s.next
+  pub made_staying : (t : State) (c' : ClientRecord) (table' : Table) (lent' : List Held) (f : Held → Held)
+      (is : List ℕ)
+      → lent' ≡ map f lent → IsTable t spares table' → table'.inodes ≡ table.inodes → table'.free ≡ table.free
+      → t.next ≡ s.next
       → ((q : ℕ) → get t.clients q ≡ (if q == number then Some c' else get s.clients q))
-      → AllByRecursion (λ i. list_any (λ k. inode_at table.inodes k == i) slots ≡ true) is → AllByRecursion (λ i. i ≢ 0) is
+      → AllByRecursion (λ i. list_any (λ k. inode_at table.inodes k == i) slots ≡ true) is
+      → AllByRecursion (λ i. i ≢ 0) is
       → ((held : Held) → NotIn held.inode is → f held ≡ held)
       → ((i : ℕ) → i ≢ 0 → f (held_of s marks i) ≡ held_of t marks i)
       → IsMade s t number marks spares place c' spare table table' slots lent'
   made_staying t c' table' lent' f is done counted inodes free next clients touched some away each =
-      made_by s number marks spares place c spare table slots lent given t c' table' lent' f is counted next clients done
-      (λ k. ap (λ is. account t marks is k) inodes ∙ each_stays s t marks table.inodes f (away vacant (zero_out is some)) each k)
+      made_by s number marks spares place c spare table slots lent given t c' table' lent' f is counted next clients
+      done
+      (λ k. ap (λ is. account t marks is k) inodes
+      ∙ each_stays s t marks table.inodes f (away vacant (zero_out is some)) each k)
       some touched away (inl (record { inodes = inodes; free = free }))

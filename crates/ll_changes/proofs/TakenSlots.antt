@@ -1,5 +1,6 @@
 -- A name that goes, in the slots that are lent and in the table.
-use Rattle.std.specs.Prelude.{◌≡◌, ◌≢◌, ◌⊎◌, ℕ, true, false, not, cond, Bool, ◌==◌, List, [], ◌∷◌, ◌++◌, map, Option, Some, refl}
+use Rattle.std.specs.Prelude.{◌≡◌, ◌≢◌, ◌⊎◌, ℕ, true, false, not, cond, Bool, ◌==◌, List, [], ◌∷◌, ◌++◌, map, Option}
+use Rattle.std.specs.Prelude.{Some, refl}
 use Rattle.std.proofs.Common.{sym, ap, ◌∙◌, inl, inr}
 use Rattle.std.proofs.lemmas.Bool.{eqb-true, eqb-false, eq-eqb, ne_eqb}
 use Rattle.ll_rights.specs.Map.{get, has, remove}
@@ -18,7 +19,8 @@ use Rattle.ll_changes.specs.Enacting.{IsGiven, Covers, IsMade, GivesBack, KeepsS
 use Rattle.ll_changes.proofs.SlotAccounts.{content_of}
 use Rattle.ll_changes.proofs.ChangedSlots.{taken_apart, taken_from, taken_living, after_elsewhere}
 use Rattle.ll_changes.proofs.Living.{after_next}
-use Rattle.ll_changes.proofs.GivenSlots.{directory_there, held_there, some_there, held_of, each_stays, each_but, client_stays, given_back, given_tree, made_by}
+use Rattle.ll_changes.proofs.GivenSlots.{directory_there, held_there, some_there, held_of, each_stays, each_but}
+use Rattle.ll_changes.proofs.GivenSlots.{client_stays, given_back, given_tree, made_by}
 
 -- ---- a slot that is the inode's, and another one
 
@@ -29,7 +31,8 @@ pub at_other : {X : Type 0} (i j : ℕ) (x y : X) → i ≢ j → cond (i == j) 
 at_other i j x y other = ap (λ b. cond b x y) (ne_eqb i j other)
 
 pub by_same : {P : Type 0} (i j : ℕ) → (i ≡ j → P) → (i ≢ j → P) → P
-by_same {P} i j same other = elim (i == j) as (λ b. (i == j) ≡ b → P) [ true ↦ λ e. same (eqb-true i j e) | false ↦ λ e. other (eqb-false i j e) ] refl
+by_same {P} i j same other = elim (i == j) as (λ b. (i == j) ≡ b → P)
+    [ true ↦ λ e. same (eqb-true i j e) | false ↦ λ e. other (eqb-false i j e) ] refl
 
 -- what doesn't go lives
 pub not_living : (goes living : Bool) → goes ≡ not living → goes ≡ false → living ≡ true
@@ -37,13 +40,16 @@ not_living goes true is e = refl
 not_living goes false is e = absurd (cc (sym is ∙ e))
 
 -- the same content is the same slot
-pub same_held : (s t : State) (marks : ℕ → Option ℕ) (i : ℕ) → content_of t i ≡ content_of s i → held_of s marks i ≡ held_of t marks i
+pub same_held : (s t : State) (marks : ℕ → Option ℕ) (i : ℕ) → content_of t i ≡ content_of s i
+    → held_of s marks i ≡ held_of t marks i
 same_held s t marks i same = λ j. record { inode = i; node = record (sym same j) { mark = marks i } }
 
 -- ---- the name
 
-module _ (s : State) (number : ℕ) (marks : ℕ → Option ℕ) (spares : List ℕ) (place : ℕ) (c : ClientRecord) (spare : ℕ) (table : Table) (slots : List ℕ) (lent : List Held)
-    (given : IsGiven s number marks spares place c spare table slots lent) (at : At) (inode : ℕ) (fits : FitsTake s at inode) (covers : Covers table.inodes spare slots (Take at inode)) where
+module _ (s : State) (number : ℕ) (marks : ℕ → Option ℕ) (spares : List ℕ) (place : ℕ) (c : ClientRecord) (spare : ℕ)
+    (table : Table) (slots : List ℕ) (lent : List Held)
+    (given : IsGiven s number marks spares place c spare table slots lent) (at : At) (inode : ℕ)
+    (fits : FitsTake s at inode) (covers : Covers table.inodes spare slots (Take at inode)) where
   abbrev without : State
   without = without_name s (dentry_at at) inode
 
@@ -71,32 +77,45 @@ module _ (s : State) (number : ℕ) (marks : ℕ → Option ℕ) (spares : List 
   unnamed_here : unnamed (held_of s marks at.directory) ≡ held_of without marks at.directory
   unnamed_here =
       at_same at.directory at.directory _ _ refl
-      ∙ (λ j. record { inode = at.directory; node = record (sym (taken_from s tree at inode fits) j) { mark = marks at.directory } })
+      ∙ (λ j. record {
+        inode = at.directory;
+        node = record (sym (taken_from s tree at inode fits) j) { mark = marks at.directory };
+      })
 
   -- all but the inode's own
   unnamed_each : (i : ℕ) → i ≢ inode → unnamed (held_of s marks i) ≡ held_of without marks i
   unnamed_each i other =
       by_same i at.directory
       (λ e. ap (λ j. unnamed (held_of s marks j)) e ∙ unnamed_here ∙ ap (held_of without marks) (sym e))
-      (λ away. unnamed_away (held_of s marks i) away ∙ same_held s without marks i (after_elsewhere s number c (Take at inode) i (away, (other, tt))))
+      (λ away. unnamed_away (held_of s marks i) away
+      ∙ same_held s without marks i (after_elsewhere s number c (Take at inode) i (away, (other, tt))))
 
   abbrev left : State
   left = record s { entries = remove s.entries (dentry_at at) }
 
-  made : (table' : Table) (lent' : List Held) (f : Held → Held) → IsTable without spares table' → lent' ≡ map f lent → ((k : ℕ) → account without marks table'.inodes k ≡ f (account s marks table.inodes k))
+  made : (table' : Table) (lent' : List Held) (f : Held → Held) → IsTable without spares table' → lent' ≡ map f lent
+      → ((k : ℕ) → account without marks table'.inodes k ≡ f (account s marks table.inodes k))
       → ((held : Held) → NotIn held.inode (at.directory ∷ inode ∷ []) → f held ≡ held)
-      → KeepsSlots table table' ⊎ GivesBack s without table table' slots → IsMade s without number marks spares place c spare table table' slots lent'
+      → KeepsSlots table table' ⊎ GivesBack s without table table' slots
+      → IsMade s without number marks spares place c spare table table' slots lent'
   made table' lent' f counted done each spared free =
-      made_by s number marks spares place c spare table slots lent given without c table' lent' f (at.directory ∷ inode ∷ []) counted (after_next s number c (Take at inode))
-      (client_stays s without number c clients given.client) done each (directory_some, (inode_some, tt)) covers.touched spared free
+      made_by s number marks spares place c spare table slots lent given without c table' lent' f
+      (at.directory ∷ inode ∷ []) counted (after_next s number c (Take at inode))
+      (client_stays s without number c clients given.client) done each (directory_some, (inode_some, tt)) covers.touched
+      spared free
     where
       clients : without.clients ≡ s.clients
-      clients = elim (lives left inode) as (λ b. (cond b left (record left { nodes = remove left.nodes inode })).clients ≡ s.clients) [ true ↦ refl | false ↦ refl ]
+      clients = elim (lives left inode) as
+          (λ b. (cond b left (record left { nodes = remove left.nodes inode })).clients ≡ s.clients)
+          [ true ↦ refl | false ↦ refl ]
 
   -- the node lives on
-  pub taken_alone : (table' : Table) (lent' : List Held) → IsTable without spares table' → lives left inode ≡ true → table'.inodes ≡ table.inodes → table'.free ≡ table.free → lent' ≡ map unnamed lent → IsMade s without number marks spares place c spare table table' slots lent'
+  pub taken_alone : (table' : Table) (lent' : List Held) → IsTable without spares table' → lives left inode ≡ true
+      → table'.inodes ≡ table.inodes → table'.free ≡ table.free → lent' ≡ map unnamed lent
+      → IsMade s without number marks spares place c spare table table' slots lent'
   taken_alone table' lent' counted living inodes free done =
-      made table' lent' unnamed counted done (λ k. ap (λ is. account without marks is k) inodes ∙ each_stays s without marks table.inodes unnamed idle (λ i some. each i) k)
+      made table' lent' unnamed counted done (λ k. ap (λ is. account without marks is k) inodes
+      ∙ each_stays s without marks table.inodes unnamed idle (λ i some. each i) k)
       (λ held away. unnamed_away held away.0) (inl (record { inodes = inodes; free = free }))
     where
       idle : unnamed vacant ≡ vacant
@@ -105,20 +124,28 @@ module _ (s : State) (number : ℕ) (marks : ℕ → Option ℕ) (spares : List 
       each : (i : ℕ) → unnamed (held_of s marks i) ≡ held_of without marks i
       each i =
           by_same i inode
-          (λ e. ap (λ j. unnamed (held_of s marks j)) e ∙ unnamed_away (held_of s marks inode) apart ∙ same_held s without marks inode (taken_living s tree at inode fits living) ∙ ap (held_of without marks) (sym e))
+          (λ e. ap (λ j. unnamed (held_of s marks j)) e ∙ unnamed_away (held_of s marks inode) apart
+          ∙ same_held s without marks inode (taken_living s tree at inode fits living)
+          ∙ ap (held_of without marks) (sym e))
           (unnamed_each i)
 
   -- it goes
-  pub taken_whole : (table' : Table) (lent' : List Held) → IsTable without spares table' → table'.inodes ≡ without_inode table.inodes inode
-      → ((slot : ℕ) → get table.places inode ≡ Some slot → table'.free ≡ table.free ++ slot ∷ []) → lent' ≡ map (λ held. vacated inode (unnamed held)) lent → IsMade s without number marks spares place c spare table table' slots lent'
+  pub taken_whole : (table' : Table) (lent' : List Held) → IsTable without spares table'
+      → table'.inodes ≡ without_inode table.inodes inode
+      → ((slot : ℕ) → get table.places inode ≡ Some slot → table'.free ≡ table.free ++ slot ∷ [])
+      → lent' ≡ map (λ held. vacated inode (unnamed held)) lent
+      → IsMade s without number marks spares place c spare table table' slots lent'
   taken_whole table' lent' counted inodes free done =
       made table' lent' (λ held. vacated inode (unnamed held)) counted done
-      (λ k. ap (λ is. account without marks is k) inodes ∙ each_but s without marks table.inodes (λ held. vacated inode (unnamed held)) idle inode leaves each k)
+      (λ k. ap (λ is. account without marks is k) inodes
+      ∙ each_but s without marks table.inodes (λ held. vacated inode (unnamed held)) idle inode leaves each k)
       (λ held away. ap (vacated inode) (unnamed_away held away.0) ∙ at_other held.inode inode vacant held away.1.0)
-      (inr (given_back s spares table given.counted inode inode_some slots covers.touched.1.0 without spares table' counted inodes free))
+      (inr (given_back s spares table given.counted inode inode_some slots covers.touched.1.0 without spares table'
+      counted inodes free))
     where
       idle : vacated inode (unnamed vacant) ≡ vacant
-      idle = ap (vacated inode) (unnamed_away vacant (λ e. directory_some (sym e))) ∙ at_other 0 inode vacant vacant (λ e. inode_some (sym e))
+      idle = ap (vacated inode) (unnamed_away vacant (λ e. directory_some (sym e)))
+          ∙ at_other 0 inode vacant vacant (λ e. inode_some (sym e))
 
       leaves : vacated inode (unnamed (held_of s marks inode)) ≡ vacant
       leaves = ap (vacated inode) (unnamed_away (held_of s marks inode) apart) ∙ at_same inode inode vacant _ refl

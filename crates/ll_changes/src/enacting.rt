@@ -26,8 +26,10 @@ pub fn enact(
     change: &Change<'_>,
 ) -> Result<(), AllocError>
     requires { MayEnact change.now slots.now client.old spare.old table.old lent.old }
-    ensures ok { OnOk result (Enacts change.now slots.now client.old spare.old table.old lent.old client.new spare.new table.new lent.new) }
-    ensures err { OnErr result ((client.new ≡ client.old) × (spare.new ≡ spare.old) × (table.new ≡ table.old) × (lent.new ≡ lent.old)) }
+    ensures ok { OnOk result (Enacts change.now slots.now client.old spare.old table.old lent.old client.new spare.new
+        table.new lent.new) }
+    ensures err { OnErr result ((client.new ≡ client.old) × (spare.new ≡ spare.old) × (table.new ≡ table.old)
+        × (lent.new ≡ lent.old)) }
     ensures calm { adds_nothing change.now ≡ true → is_ok result ≡ true }
 {
     match change {

@@ -33,8 +33,10 @@ pub(crate) fn make(
     at: &At<'_>,
     kind: Kind,
 ) -> Result<(), AllocError>
-    requires { (c : record_of.ClientRecord) × MayEnact (change.Make at.now kind) slots.now c spare.old table.old lent.old }
-    ensures ok { OnOk result ((c : record_of.ClientRecord) → Enacts (change.Make at.now kind) slots.now c spare.old table.old lent.old c spare.new table.new lent.new) }
+    requires { (c : record_of.ClientRecord)
+        × MayEnact (change.Make at.now kind) slots.now c spare.old table.old lent.old }
+    ensures ok { OnOk result ((c : record_of.ClientRecord)
+        → Enacts (change.Make at.now kind) slots.now c spare.old table.old lent.old c spare.new table.new lent.new) }
     ensures err { OnErr result ((spare.new ≡ spare.old) × (table.new ≡ table.old) × (lent.new ≡ lent.old)) }
 {
     let inode = table.next();
@@ -63,9 +65,12 @@ pub(crate) fn open_new(
     lent: &mut [Held],
     opening: &Opening<'_>,
 ) -> Result<(), AllocError>
-    requires { (opening.now.there ≡ None) × MayEnact (change.Open opening.now) slots.now client.old spare.old table.old lent.old }
-    ensures ok { OnOk result (Enacts (change.Open opening.now) slots.now client.old spare.old table.old lent.old client.new spare.new table.new lent.new) }
-    ensures err { OnErr result ((client.new ≡ client.old) × (spare.new ≡ spare.old) × (table.new ≡ table.old) × (lent.new ≡ lent.old)) }
+    requires { (opening.now.there ≡ None)
+        × MayEnact (change.Open opening.now) slots.now client.old spare.old table.old lent.old }
+    ensures ok { OnOk result (Enacts (change.Open opening.now) slots.now client.old spare.old table.old lent.old
+        client.new spare.new table.new lent.new) }
+    ensures err { OnErr result ((client.new ≡ client.old) × (spare.new ≡ spare.old) × (table.new ≡ table.old)
+        × (lent.new ≡ lent.old)) }
 {
     let inode = table.next();
     client
@@ -87,8 +92,11 @@ pub(crate) fn open_there(
     opening: &Opening<'_>,
     inode: u64,
 ) -> Result<(), AllocError>
-    requires { (opening.now.there ≡ Some inode) × (slots : List ℕ) × (spare : ℕ) × MayEnact (change.Open opening.now) slots client.old spare table.old lent.old }
-    ensures ok { OnOk result ((slots : List ℕ) (spare : ℕ) → Enacts (change.Open opening.now) slots client.old spare table.old lent.old client.new spare table.new lent.new) }
+    requires { (opening.now.there ≡ Some inode) × (slots : List ℕ) × (spare : ℕ)
+        × MayEnact (change.Open opening.now) slots client.old spare table.old lent.old }
+    ensures ok { OnOk result ((slots : List ℕ) (spare : ℕ)
+        → Enacts (change.Open opening.now) slots client.old spare table.old lent.old client.new spare table.new
+        lent.new) }
     ensures err { OnErr result ((client.new ≡ client.old) × (table.new ≡ table.old) × (lent.new ≡ lent.old)) }
 {
     if !table.has_room(inode) {

@@ -20,7 +20,8 @@ pub(crate) fn name(
     at: &At<'_>,
     inode: u64,
 ) -> Result<(), AllocError>
-    requires { (slots : List ℕ) × (c : client_of.ClientRecord) × (spare : ℕ) × MayEnact (change.Name at.now inode) slots c spare table.old lent.old }
+    requires { (slots : List ℕ) × (c : client_of.ClientRecord) × (spare : ℕ)
+        × MayEnact (change.Name at.now inode) slots c spare table.old lent.old }
     ensures ok { OnOk result ((slots : List ℕ) (c : client_of.ClientRecord) (spare : ℕ)
         → Enacts (change.Name at.now inode) slots c spare table.old lent.old c spare table.new lent.new) }
     ensures err { OnErr result ((table.new ≡ table.old) × (lent.new ≡ lent.old)) }

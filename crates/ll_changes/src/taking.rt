@@ -12,7 +12,8 @@ use std::alloc::Global;
 
 /// The inode loses the name, and its slot where nothing keeps its node. Takes no memory.
 pub(crate) fn take(alloc: Global, table: &mut Inodes, lent: &mut [Held], at: &At<'_>, inode: u64)
-    ensures { (slots : List ℕ) (c : ClientRecord) (spare : ℕ) → Enacts (Take at.now inode) slots c spare table.old lent.old c spare table.new lent.new }
+    ensures { (slots : List ℕ) (c : ClientRecord) (spare : ℕ)
+        → Enacts (Take at.now inode) slots c spare table.old lent.old c spare table.new lent.new }
 {
     take_name(lent, at.directory, at.name);
     if table.unname(at.directory, inode) {
@@ -31,8 +32,10 @@ pub(crate) fn replace(
     inode: u64,
     replaced: u64,
 )
-    requires { (slots : List ℕ) × (c : ClientRecord) × (spare : ℕ) × MayEnact (Replace old.now new.now inode replaced) slots c spare table.old lent.old }
-    ensures { (slots : List ℕ) (c : ClientRecord) (spare : ℕ) → Enacts (Replace old.now new.now inode replaced) slots c spare table.old lent.old c spare table.new lent.new }
+    requires { (slots : List ℕ) × (c : ClientRecord) × (spare : ℕ)
+        × MayEnact (Replace old.now new.now inode replaced) slots c spare table.old lent.old }
+    ensures { (slots : List ℕ) (c : ClientRecord) (spare : ℕ)
+        → Enacts (Replace old.now new.now inode replaced) slots c spare table.old lent.old c spare table.new lent.new }
 {
     replace_name(lent, new.directory, new.name, inode);
     take_name(lent, old.directory, old.name);

@@ -11,7 +11,7 @@ use Rattle.ll_rights.proofs.Maps.{get-insert_same, get-insert_other, get-remove_
 use Rattle.ll_seq.specs.declared.call.Call.{Call}
 use Rattle.ll_held.specs.declared.held.Held.{Held}
 use Rattle.ll_inodes.specs.InodeTable.{NotIn}
-use Rattle.ll_walks.specs.World.{World, shown}
+use Rattle.ll_worlds.specs.World.{World, shown}
 use Rattle.ll_journal.specs.Book.{Book, Spares, slot_of}
 use Rattle.ll_client.specs.declared.account.Account.{Account}
 use Rattle.ll_client.specs.declared.account.Account.TheVariants.{Slot, Client}

@@ -12,13 +12,13 @@ use Rattle.ll_seq.specs.declared.call.Call.{Call}
 use Rattle.ll_seq.specs.declared.reply.Entry.{Entry}
 use Rattle.ll_seq.specs.declared.reply.Reply.{Reply}
 use Rattle.ll_seq.specs.declared.reply.Reply.TheVariants as replies
-use Rattle.ll_walks.specs.declared.step.Step.{Step}
-use Rattle.ll_walks.specs.declared.step.Step.TheVariants.{Join, Begin, Descend, Fork, Commit, Restart, FdCommit}
-use Rattle.ll_walks.specs.declared.step.Step.TheVariants.{ClientStep}
-use Rattle.ll_walks.specs.World.{World, Outcome, NotNow, Begun, Stands, Forked, Restarted, Replied, Joined, shown}
-use Rattle.ll_walks.specs.World.{is_full, next_number, reply_to, advance, without_walk}
-use Rattle.ll_walks.specs.Sound.{IsSound}
-use Rattle.ll_walks.proofs.SoundSteps.{sound_kept}
+use Rattle.ll_worlds.specs.declared.step.Step.{Step}
+use Rattle.ll_worlds.specs.declared.step.Step.TheVariants.{Join, Begin, Descend, Fork, Commit, Restart, FdCommit}
+use Rattle.ll_worlds.specs.declared.step.Step.TheVariants.{ClientStep}
+use Rattle.ll_worlds.specs.World.{World, Outcome, NotNow, Begun, Stands, Forked, Restarted, Replied, Joined, shown}
+use Rattle.ll_worlds.specs.World.{is_full, next_number, reply_to, advance, without_walk}
+use Rattle.ll_worlds.specs.Sound.{IsSound}
+use Rattle.ll_worlds.proofs.SoundSteps.{sound_kept}
 use Rattle.ll_journal.specs.Book.{Book, Spares}
 use Rattle.ll_journal.specs.Steps.{Does}
 use Rattle.ll_journal.specs.declared.outcome.Outcome as told

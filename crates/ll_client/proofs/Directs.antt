@@ -6,11 +6,11 @@ use Rattle.ll_rights.specs.declared.errno.Errno.TheVariants.{HistoryFull}
 use Rattle.ll_seq.specs.declared.call.Call.{Call}
 use Rattle.ll_seq.specs.declared.reply.Reply.TheVariants.{Refused}
 use Rattle.ll_laws.proofs.Chains.{same_Some}
-use Rattle.ll_walks.specs.declared.step.Step.{Step}
-use Rattle.ll_walks.specs.declared.step.Step.TheVariants.{Join}
-use Rattle.ll_walks.specs.World as world
-use Rattle.ll_walks.specs.World.{World, advance}
-use Rattle.ll_walks.specs.Sound.{IsSound}
+use Rattle.ll_worlds.specs.declared.step.Step.{Step}
+use Rattle.ll_worlds.specs.declared.step.Step.TheVariants.{Join}
+use Rattle.ll_worlds.specs.World as world
+use Rattle.ll_worlds.specs.World.{World, advance}
+use Rattle.ll_worlds.specs.Sound.{IsSound}
 use Rattle.ll_journal.specs.Book.{Book}
 use Rattle.ll_journal.specs.Direct.{Answers}
 use Rattle.ll_journal.specs.declared.direct.Made.{Made}

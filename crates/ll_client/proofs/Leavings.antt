@@ -12,13 +12,13 @@ use Rattle.ll_rights.proofs.Maps.{get-remove_other}
 use Rattle.ll_seq.specs.declared.call.Call.{Call}
 use Rattle.ll_seq.specs.declared.reply.Reply.{Reply}
 use Rattle.ll_seq.specs.declared.reply.Reply.TheVariants.{Refused}
-use Rattle.ll_walks.specs.declared.step.Step.{Step}
-use Rattle.ll_walks.specs.declared.step.Step.TheVariants as steps
-use Rattle.ll_walks.specs.Walk.{Walk}
-use Rattle.ll_walks.specs.World as world
-use Rattle.ll_walks.specs.World.{World, advance, is_full, restart, shown, without_walk, next_number, reply_to}
-use Rattle.ll_walks.specs.Sound.{IsSound}
-use Rattle.ll_walks.proofs.Shapes.{walking, restarted}
+use Rattle.ll_worlds.specs.declared.step.Step.{Step}
+use Rattle.ll_worlds.specs.declared.step.Step.TheVariants as steps
+use Rattle.ll_worlds.specs.Walk.{Walk}
+use Rattle.ll_worlds.specs.World as world
+use Rattle.ll_worlds.specs.World.{World, advance, is_full, restart, shown, without_walk, next_number, reply_to}
+use Rattle.ll_worlds.specs.Sound.{IsSound}
+use Rattle.ll_worlds.proofs.Shapes.{walking, restarted}
 use Rattle.ll_journal.specs.Book.{Book}
 use Rattle.ll_journal.specs.Steps.{Does}
 use Rattle.ll_journal.specs.WalkEnds.{Ends}

@@ -21,19 +21,19 @@ use Rattle.ll_seq.specs.declared.reply.Reply.TheVariants.{Refused, Denied}
 use Rattle.ll_seq.specs.State.{State, root}
 use Rattle.ll_seq.specs.Step.{step, client_of}
 use Rattle.ll_seq.proofs.Consequences.{answered, step-clients_stay}
-use Rattle.ll_walks.specs.declared.step.Step.{Step}
-use Rattle.ll_walks.specs.declared.step.Step.TheVariants.{Join, Begin, Descend, Fork, Commit, Restart, FdCommit}
-use Rattle.ll_walks.specs.declared.step.Step.TheVariants.{ClientStep}
-use Rattle.ll_walks.specs.Walk.{Walk, Leg, Position, further, turn, forked, is_above}
-use Rattle.ll_walks.specs.World.{World, Outcome, NotNow, Begun, Stands, Forked, Restarted, Replied, Joined, shown}
-use Rattle.ll_walks.specs.World.{domain_of, is_idle, is_walked, is_on_descriptor, is_alone, is_marked, is_full}
-use Rattle.ll_walks.specs.World.{may_commit, takes_gate, next_number, reply_to, with_walk, without_walk, map_values}
-use Rattle.ll_walks.specs.World.{overtaken, moved_by, joined, begin, enter, stand, descend, fork, commit, restart}
-use Rattle.ll_walks.specs.World.{direct, advance}
-use Rattle.ll_walks.proofs.Shapes.{begun, committed, entered, join, may_hold, replied, restarted, stood, walking}
-use Rattle.ll_walks.proofs.Shapes.{with_entry, with_stale}
-use Rattle.ll_walks.proofs.Tests.{both, not_true}
-use Rattle.ll_walks.proofs.Worlds.{get-map_values}
+use Rattle.ll_worlds.specs.declared.step.Step.{Step}
+use Rattle.ll_worlds.specs.declared.step.Step.TheVariants.{Join, Begin, Descend, Fork, Commit, Restart, FdCommit}
+use Rattle.ll_worlds.specs.declared.step.Step.TheVariants.{ClientStep}
+use Rattle.ll_worlds.specs.Walk.{Walk, Leg, Position, further, turn, forked, is_above}
+use Rattle.ll_worlds.specs.World.{World, Outcome, NotNow, Begun, Stands, Forked, Restarted, Replied, Joined, shown}
+use Rattle.ll_worlds.specs.World.{domain_of, is_idle, is_walked, is_on_descriptor, is_alone, is_marked, is_full}
+use Rattle.ll_worlds.specs.World.{may_commit, takes_gate, next_number, reply_to, with_walk, without_walk, map_values}
+use Rattle.ll_worlds.specs.World.{overtaken, moved_by, joined, begin, enter, stand, descend, fork, commit, restart}
+use Rattle.ll_worlds.specs.World.{direct, advance}
+use Rattle.ll_worlds.proofs.Shapes.{begun, committed, entered, join, may_hold, replied, restarted, stood, walking}
+use Rattle.ll_worlds.proofs.Shapes.{with_entry, with_stale}
+use Rattle.ll_worlds.proofs.Tests.{both, not_true}
+use Rattle.ll_worlds.proofs.Worlds.{get-map_values}
 use Rattle.ll_journal.proofs.Shown.{shown_answered}
 use Rattle.ll_client.specs.Entries.{doing_of}
 

@@ -34,7 +34,7 @@ impl<N: Shape> Desk<N> {
     ghost use Rattle.std.specs.Prelude.{◌≤◌, length};
     ghost use Rattle.ll_seq.specs.History.{IsLegal};
     ghost use Rattle.ll_seq.specs.State.{start};
-    ghost use Rattle.ll_walks.specs.Walks.{AreApart, AreFew, AreValid, GateIsHeld};
+    ghost use Rattle.ll_worlds.specs.Walks.{AreApart, AreFew, AreValid, GateIsHeld};
 
     /// What holds of it, whatever was done before. Takes no memory.
     pub fn by_law(&self)

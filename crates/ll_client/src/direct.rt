@@ -40,8 +40,8 @@ fn seen_on_file(made: &Result<Made, Unmade>, seen: u64, entries: u64) -> u64
 impl<N: Shape> Desk<N> {
     ghost use Rattle.ll_journal.specs.Book.{Spares, slot_of};
     ghost use Rattle.ll_journal.specs.Direct.{Answers, ComesBack};
-    ghost use Rattle.ll_walks.specs.World.{NotNow, advance};
-    ghost use Rattle.ll_walks.specs.declared.step.Step.TheVariants.{ClientStep, FdCommit};
+    ghost use Rattle.ll_worlds.specs.World.{NotNow, advance};
+    ghost use Rattle.ll_worlds.specs.declared.step.Step.TheVariants.{ClientStep, FdCommit};
     ghost use Rattle.ll_client.specs.Gains.{Gains};
 
     /// The client's call for itself alone is made and answered, or comes back where it is none, or a walk of the client

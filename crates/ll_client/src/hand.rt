@@ -3,7 +3,7 @@
 ghost use Rattle.std.specs.Prelude.{◌≡◌, ◌<◌, ◌≤◌, ◌+◌, ◌*◌, Some, None, length, true};
 ghost use Rattle.ll_rights.specs.declared.limits.TheConstants.{TREE_CLIENTS, TREE_NODES};
 ghost use Rattle.ll_rights.specs.Map.{get, has};
-ghost use Rattle.ll_walks.specs.World.{shown};
+ghost use Rattle.ll_worlds.specs.World.{shown};
 ghost use Rattle.ll_journal.specs.Book.{slot_of};
 ghost use Rattle.ll_client.specs.Entries.{AreAccounts, client_entry, doing_in, doing_of, part_in, part_of, slot_entry};
 ghost use Rattle.ll_client.specs.Hands.{ClientGoes, SlotComes, SlotGoes};

@@ -3,7 +3,7 @@
 ghost use Rattle.std.specs.Prelude.{◌≡◌, ◌<◌, ℕ, length, None, Some, IfSome, IfNone};
 ghost use Rattle.std.specs.List.{AllByRecursion};
 ghost use Rattle.ll_seq.specs.State.{root};
-ghost use Rattle.ll_walks.specs.Walk.{Leg};
+ghost use Rattle.ll_worlds.specs.Walk.{Leg};
 
 use crate::desk::Desk;
 use crate::rider::Rider;

@@ -16,8 +16,8 @@ use ll_tie::Tie;
 impl<N: Shape> Desk<N> {
     ghost use Rattle.ll_journal.specs.Book.{Spares, slot_of};
     ghost use Rattle.ll_journal.specs.Steps.{Does, IsAstrayAtTop, IsAstrayBelow};
-    ghost use Rattle.ll_walks.specs.World.{Begun, NotNow, advance};
-    ghost use Rattle.ll_walks.specs.declared.step.Step.TheVariants.{Begin, Descend, Fork};
+    ghost use Rattle.ll_worlds.specs.World.{Begun, NotNow, advance};
+    ghost use Rattle.ll_worlds.specs.declared.step.Step.TheVariants.{Begin, Descend, Fork};
 
     /// The client's call sets out, or comes back where it may not. Takes no memory.
     pub fn begin(

@@ -1,5 +1,6 @@
 -- What sets hold that are made of others, bit by bit.
-use Rattle.std.specs.Prelude.{◌≡◌, ℕ, zero, suc, ◌-◌, ◌^◌, ◌<◌, true, not, ◌&&◌, ◌||◌, ◌==◌, bit_and, bit_or, min, max, refl}
+use Rattle.std.specs.Prelude.{◌≡◌, ℕ, zero, suc, ◌-◌, ◌^◌, ◌<◌, true, not, ◌&&◌, ◌||◌, ◌==◌, bit_and, bit_or, min, max}
+use Rattle.std.specs.Prelude.{refl}
 use Rattle.std.specs.Int.{w64, bit_at}
 use Rattle.std.proofs.Common.{ap, ◌∙◌, arith}
 use Rattle.std.proofs.lemmas.Bool.{agree_below_at}
@@ -31,13 +32,16 @@ other (suc zero) f = refl
 other (suc (suc x)) f = absurd (omega arith)
 
 pub holds-and : (a b right : ℕ) → holds (bit_and a b) right ≡ (holds a right && holds b right)
-holds-and a b right = ap (λ n. n == 1) (bit_at_and a b right) ∙ both (bit_at a right) (bit_at b right) (bit_at-lt a right) (bit_at-lt b right)
+holds-and a b right = ap (λ n. n == 1) (bit_at_and a b right)
+    ∙ both (bit_at a right) (bit_at b right) (bit_at-lt a right) (bit_at-lt b right)
 
 pub holds-or : (a b right : ℕ) → holds (bit_or a b) right ≡ (holds a right || holds b right)
-holds-or a b right = ap (λ n. n == 1) (bit_at_or a b right) ∙ either (bit_at a right) (bit_at b right) (bit_at-lt a right) (bit_at-lt b right)
+holds-or a b right = ap (λ n. n == 1) (bit_at_or a b right)
+    ∙ either (bit_at a right) (bit_at b right) (bit_at-lt a right) (bit_at-lt b right)
 
 pub holds-not : (a right : ℕ) → a < 2 ^ 64 → right < 64 → holds (2 ^ 64 - 1 - a) right ≡ not (holds a right)
-holds-not a right fits known = ap (λ n. n == 1) (bit_at_not w64 a right fits known) ∙ other (bit_at a right) (bit_at-lt a right)
+holds-not a right fits known =
+    ap (λ n. n == 1) (bit_at_not w64 a right fits known) ∙ other (bit_at a right) (bit_at-lt a right)
 
 pub holds_all : (right : ℕ) → right < 15 → holds 0x7fff right ≡ true
 holds_all right known = agree_below_at (λ r. holds 0x7fff r) (λ _. true) 15 right refl known

@@ -1,6 +1,7 @@
 -- What a domain denies: every layer has to grant every right that is asked. landlock.rst, "Layers of file path access
 -- rights". A layer may be kept as anything that tells what it grants on what stands for a path
-use Rattle.std.specs.Prelude.{ℕ, Bool, true, false, not, ◌&&◌, List, [], ◌∷◌, ◌++◌, Option, ◌==◌, slice_get, filter, if◌then◌else◌}
+use Rattle.std.specs.Prelude.{ℕ, Bool, true, false, not, ◌&&◌, List, [], ◌∷◌, ◌++◌, Option, ◌==◌, slice_get, filter}
+use Rattle.std.specs.Prelude.{if◌then◌else◌}
 use Rattle.std.specs.List.{list_any, flat_map, enumerate_from}
 use Rattle.ll_rights.specs.Right.{refer, all_rights}
 use Rattle.ll_rights.specs.Access.{holds}

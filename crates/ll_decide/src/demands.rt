@@ -94,7 +94,8 @@ impl Demands {
 
     /// One right more is asked where the test says so.
     pub fn ask_if(self, test: bool, on: On, right: Right) -> Demands
-        ensures asks { (asks : List (Ask On)) → AreAsks self asks → AreAsks result (asks ++ when test (ask_on on right ∷ [])) }
+        ensures asks { (asks : List (Ask On)) → AreAsks self asks
+            → AreAsks result (asks ++ when test (ask_on on right ∷ [])) }
         ensures moves { (moves : List (Move On)) → AreMoves self moves → AreMoves result moves }
     {
         if test { self.ask(on, right) } else { self }
@@ -103,7 +104,8 @@ impl Demands {
     /// A node moves for which these rights mean something.
     pub fn moves(self, way: Way, relevant: Access) -> Demands
         ensures asks { (asks : List (Ask On)) → AreAsks self asks → AreAsks result asks }
-        ensures moves { (moves : List (Move On)) → AreMoves self moves → AreMoves result (moves ++ move_on way relevant.0 ∷ []) }
+        ensures moves { (moves : List (Move On)) → AreMoves self moves
+            → AreMoves result (moves ++ move_on way relevant.0 ∷ []) }
     {
         match way {
             Way::There => Demands {

@@ -33,11 +33,13 @@ pub fn least_denial(demands: &Demands, granted: &Granted<'_>) -> Option<Denial>
     requires entered { length granted.now.entered.now ≡ length granted.now.itself.now }
 
     // The masks as they are handed in, with a layer kept as its number from 0.
-    ensures by_masks { (asks : List (Ask asked_on.On)) (moves : List (Move asked_on.On)) → AreAsks demands.now asks → AreMoves demands.now moves
+    ensures by_masks { (asks : List (Ask asked_on.On)) (moves : List (Move asked_on.On)) → AreAsks demands.now asks
+        → AreMoves demands.now moves
         → result ≡ verdict (grants_by granted.now) (range_with_len 0 (length granted.now.itself.now)) asks moves }
 
     // The layers that they are masks of, and the chains of inodes that they are over.
-    ensures along_chains { (domain : List Layer) (chain : asked_on.On → List ℕ) (asks : List (Ask asked_on.On)) (moves : List (Move asked_on.On))
+    ensures along_chains { (domain : List Layer) (chain : asked_on.On → List ℕ) (asks : List (Ask asked_on.On))
+        (moves : List (Move asked_on.On))
         → AreAsks demands.now asks → AreMoves demands.now moves → AreGranted domain chain granted.now
         → result ≡ verdict (grants_along chain) domain asks moves }
 {
@@ -129,7 +131,8 @@ impl Denied {
 /// Those of the rights that the layer doesn't grant.
 fn missing(rights: Access, masks: &Masks, layer: usize) -> Access
     requires { layer < length masks.now }
-    ensures { (right : ℕ) → right < 15 → holds result.0 right ≡ (holds rights.0 right && not (holds (slice_index masks.now layer) right)) }
+    ensures { (right : ℕ) → right < 15
+        → holds result.0 right ≡ (holds rights.0 right && not (holds (slice_index masks.now layer) right)) }
 {
     let granted = masks.layer(layer);
     Access(rights.0 & !granted.0)
@@ -150,7 +153,8 @@ impl Granted<'_> {
         requires other { layer < length self.now.other.now }
         requires parent { layer < length self.now.parent.now }
         requires entered { layer < length self.now.entered.now }
-        ensures { (right : ℕ) (place : told_at.Place) → right < 15 → is_in result right place ≡ lacking (grants_by self.now layer) demands.now right place }
+        ensures { (right : ℕ) (place : told_at.Place) → right < 15
+            → is_in result right place ≡ lacking (grants_by self.now layer) demands.now right place }
     {
         let itself = missing(demands.itself, self.itself, layer);
         let other = missing(demands.other, self.other, layer);
@@ -169,7 +173,8 @@ impl Granted<'_> {
         requires other { layer < length self.now.other.now }
         requires parent { layer < length self.now.parent.now }
         requires entered { layer < length self.now.entered.now }
-        ensures { (right : ℕ) (place : told_at.Place) → right < 15 → is_in result right place ≡ gaining (grants_by self.now layer) demands.now right place }
+        ensures { (right : ℕ) (place : told_at.Place) → right < 15
+            → is_in result right place ≡ gaining (grants_by self.now layer) demands.now right place }
     {
         let there = had(demands.there, self.entered, layer);
         let back = had(demands.back, self.parent, layer);
@@ -185,7 +190,8 @@ impl Granted<'_> {
         requires other { layer < length self.now.other.now }
         requires parent { layer < length self.now.parent.now }
         requires entered { layer < length self.now.entered.now }
-        ensures { (right : ℕ) (place : told_at.Place) → right < 15 → is_in result right place ≡ fails self.now demands.now reason layer right place }
+        ensures { (right : ℕ) (place : told_at.Place) → right < 15
+            → is_in result right place ≡ fails self.now demands.now reason layer right place }
     {
         match reason {
             Reason::Lacks => self.lacks(demands, layer),

@@ -85,7 +85,8 @@ impl Masks {
     /// The same over the chain with one inode more at its end.
     pub fn down(&mut self, domain: &Domain, inode: u64)
         requires { length self.old ≡ length domain.now }
-        ensures masks { (inodes : List ℕ) → AreMasks self.old domain.now inodes → AreMasks self.new domain.now (inodes ++ inode ∷ []) }
+        ensures masks { (inodes : List ℕ) → AreMasks self.old domain.now inodes
+            → AreMasks self.new domain.now (inodes ++ inode ∷ []) }
         ensures len { length self.new ≡ length self.old }
     {
         add_rules(self.masks.as_mut_slice(), domain.layers(), inode);
@@ -136,7 +137,8 @@ impl Default for Mask {
 impl Mask {
     // over the chain with one inode more
     fn with_rule(self, layer: &Layer, inode: u64) -> Mask
-        ensures { (inodes : List ℕ) → IsMask self.rights.0 layer.now inodes → IsMask result.rights.0 layer.now (inodes ++ inode ∷ []) }
+        ensures { (inodes : List ℕ) → IsMask self.rights.0 layer.now inodes
+            → IsMask result.rights.0 layer.now (inodes ++ inode ∷ []) }
     {
         let granted = Access(layer.rule(inode).0 & Access::ALL.0);
         Mask {
@@ -148,7 +150,8 @@ impl Mask {
 // each mask over the chain with one inode more
 fn add_rules(masks: &mut [Mask], layers: &[Layer], inode: u64)
     requires { length masks.old ≡ length layers.now }
-    ensures masks { (inodes : List ℕ) → AreMasks (numbers_of masks.old) layers.now inodes → AreMasks (numbers_of masks.new) layers.now (inodes ++ inode ∷ []) }
+    ensures masks { (inodes : List ℕ) → AreMasks (numbers_of masks.old) layers.now inodes
+        → AreMasks (numbers_of masks.new) layers.now (inodes ++ inode ∷ []) }
     ensures len { length masks.new ≡ length masks.old }
 {
     for (i, mask) in masks.iter_mut().enumerate() {

@@ -49,7 +49,8 @@ impl Held {
         requires directory { is_dir self.old.node.kind ≡ true }
         requires name { IsName name.now }
         requires takes { insert_refusals self.old.node.names name.now ≡ [] }
-        ensures ok { OnOk result (self.new ≡ record self.old { node = record self.old.node { names = insert self.old.node.names name.now inode } }) }
+        ensures ok { OnOk result (self.new
+            ≡ record self.old { node = record self.old.node { names = insert self.old.node.names name.now inode } }) }
         ensures err { OnErr result (self.new ≡ self.old) }
     {
         wants_memory(self.node.insert(name, inode))
@@ -78,7 +79,8 @@ impl Held {
     pub(crate) fn rename(&mut self, old: &str, new: &str) -> Result<(), AllocError>
         requires name { IsName new.now }
         requires takes { rename_refusals self.old.node.names old.now new.now ≡ [] }
-        ensures ok { OnOk result (self.new ≡ record self.old { node = record self.old.node { names = renamed self.old.node.names old.now new.now } }) }
+        ensures ok { OnOk result (self.new
+            ≡ record self.old { node = record self.old.node { names = renamed self.old.node.names old.now new.now } }) }
         ensures err { OnErr result (self.new ≡ self.old) }
     {
         wants_memory(self.node.rename(old, new))
@@ -88,7 +90,8 @@ impl Held {
     pub(crate) fn set_len(&mut self, size: u64) -> Result<(), AllocError>
         requires file { is_dir self.old.node.kind ≡ false }
         requires takes { len_refusals size ≡ [] }
-        ensures ok { OnOk result (self.new ≡ record self.old { node = record self.old.node { bytes = resized self.old.node.bytes size } }) }
+        ensures ok { OnOk result (self.new
+            ≡ record self.old { node = record self.old.node { bytes = resized self.old.node.bytes size } }) }
         ensures err { OnErr result (self.new ≡ self.old) }
     {
         wants_memory(self.node.set_len(size))

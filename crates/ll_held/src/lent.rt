@@ -1,13 +1,15 @@
 //! What a step does to the slots that it is lent.
 
-ghost use Rattle.std.specs.Prelude.{◌≡◌, ◌≢◌, ◌<◌, [], true, false, length, map, slice_get, slice_set, Some, IfSome, IfNone, OnOk, OnErr};
+ghost use Rattle.std.specs.Prelude.{◌≡◌, ◌≢◌, ◌<◌, [], true, false, length, map, slice_get, slice_set, Some, IfSome};
+ghost use Rattle.std.specs.Prelude.{IfNone, OnOk, OnErr};
 ghost use Rattle.std.specs.List.{AllByRecursion};
 ghost use Rattle.ll_rights.specs.Kind.{is_dir};
 ghost use Rattle.ll_rights.specs.Map.{get};
 ghost use Rattle.ll_path.specs.Name.{IsName};
 ghost use Rattle.ll_node.specs.Refusals.{insert_refusals, missing, rename_refusals, len_refusals};
 ghost use Rattle.ll_held.specs.declared.held.Held as record_of;
-ghost use Rattle.ll_held.specs.Lent.{AreApart, Misses, unmarked, named_in, unnamed_in, resized_in, emptied_in, vacated, filled};
+ghost use Rattle.ll_held.specs.Lent.{AreApart, Misses, unmarked, named_in, unnamed_in, resized_in, emptied_in, vacated};
+ghost use Rattle.ll_held.specs.Lent.{filled};
 
 use crate::held::Held;
 use ll_rights::Kind;
@@ -15,7 +17,8 @@ use std::alloc::{AllocError, Global};
 
 /// The place of the slot where the inode lies.
 pub fn find(lent: &[Held], inode: u64) -> Option<usize>
-    ensures some { IfSome result (λ place. (held : record_of.Held) × (slice_get lent.now place ≡ Some held) × (held.inode ≡ inode)) }
+    ensures some { IfSome result (λ place. (held : record_of.Held) × (slice_get lent.now place ≡ Some held)
+        × (held.inode ≡ inode)) }
     ensures none { IfNone result (Misses inode lent.now) }
     ensures within { IfSome result (λ place. place < length lent.now) }
 {
@@ -36,7 +39,8 @@ pub fn name(lent: &mut [Held], directory: u64, name: &str, inode: u64) -> Result
     requires apart { AreApart lent.old }
     requires directory { directory ≢ 0 }
     requires name { IsName name.now }
-    requires takes { AllByRecursion (λ (held : record_of.Held). held.inode ≡ directory → (is_dir held.node.kind ≡ true) × (insert_refusals held.node.names name.now ≡ [])) lent.old }
+    requires takes { AllByRecursion (λ (held : record_of.Held). held.inode ≡ directory → (is_dir held.node.kind ≡ true)
+        × (insert_refusals held.node.names name.now ≡ [])) lent.old }
     ensures ok { OnOk result (lent.new ≡ map (named_in directory name.now inode) lent.old) }
     ensures err { OnErr result (lent.new ≡ lent.old) }
 {
@@ -57,7 +61,8 @@ pub fn take_name(lent: &mut [Held], directory: u64, name: &str)
 
 /// A name that the directory has comes to stand for another inode. Takes no memory.
 pub fn replace_name(lent: &mut [Held], directory: u64, name: &str, inode: u64)
-    requires { AllByRecursion (λ (held : record_of.Held). held.inode ≡ directory → missing held.node.names name.now ≡ []) lent.old }
+    requires { AllByRecursion (λ (held : record_of.Held). held.inode ≡ directory
+        → missing held.node.names name.now ≡ []) lent.old }
     ensures { lent.new ≡ map (named_in directory name.now inode) lent.old }
 {
     for held in lent.iter_mut() {
@@ -77,10 +82,14 @@ pub fn move_name(
     requires apart { AreApart lent.old }
     requires directories { (from ≢ 0) × (into ≢ 0) }
     requires name { IsName new.now }
-    requires takes { from ≢ into → AllByRecursion (λ (held : record_of.Held). held.inode ≡ into → (is_dir held.node.kind ≡ true) × (insert_refusals held.node.names new.now ≡ [])) lent.old }
-    requires within { from ≡ into → AllByRecursion (λ (held : record_of.Held). held.inode ≡ from → (is_dir held.node.kind ≡ true)
-        × (rename_refusals held.node.names old.now new.now ≡ []) × (get held.node.names old.now ≡ Some inode)) lent.old }
-    ensures ok { OnOk result (lent.new ≡ map (λ held. named_in into new.now inode (unnamed_in from old.now held)) lent.old) }
+    requires takes { from ≢ into → AllByRecursion (λ (held : record_of.Held). held.inode ≡ into
+        → (is_dir held.node.kind ≡ true) × (insert_refusals held.node.names new.now ≡ [])) lent.old }
+    requires within { from ≡ into
+        → AllByRecursion (λ (held : record_of.Held). held.inode ≡ from → (is_dir held.node.kind ≡ true)
+        × (rename_refusals held.node.names old.now new.now ≡ []) × (get held.node.names old.now ≡ Some inode))
+        lent.old }
+    ensures ok { OnOk result (lent.new
+        ≡ map (λ held. named_in into new.now inode (unnamed_in from old.now held)) lent.old) }
     ensures err { OnErr result (lent.new ≡ lent.old) }
 {
     if from != into {
@@ -98,7 +107,8 @@ pub fn move_name(
 pub fn set_len(lent: &mut [Held], inode: u64, size: u64) -> Result<(), AllocError>
     requires apart { AreApart lent.old }
     requires inode { inode ≢ 0 }
-    requires takes { AllByRecursion (λ (held : record_of.Held). held.inode ≡ inode → (is_dir held.node.kind ≡ false) × (len_refusals size ≡ [])) lent.old }
+    requires takes { AllByRecursion (λ (held : record_of.Held). held.inode ≡ inode → (is_dir held.node.kind ≡ false)
+        × (len_refusals size ≡ [])) lent.old }
     ensures ok { OnOk result (lent.new ≡ map (resized_in inode size) lent.old) }
     ensures err { OnErr result (lent.new ≡ lent.old) }
 {

@@ -1,5 +1,6 @@
 -- The table of a tree of the root alone.
-use Rattle.std.specs.Prelude.{◌≡◌, ◌≢◌, ◌⊎◌, ℕ, zero, suc, ◌+◌, ◌-◌, ◌<◌, ◌≤◌, List, [], ◌∷◌, ◌++◌, length, replicate, Some, None, slice_get, refl, is_some}
+use Rattle.std.specs.Prelude.{◌≡◌, ◌≢◌, ◌⊎◌, ℕ, zero, suc, ◌+◌, ◌-◌, ◌<◌, ◌≤◌, List, [], ◌∷◌, ◌++◌, length, replicate}
+use Rattle.std.specs.Prelude.{Some, None, slice_get, refl, is_some}
 use Rattle.std.specs.List.{AllByRecursion, range_with_len}
 use Rattle.std.specs.Ordering.{nat_cmp}
 use Rattle.std.specs.Cmp.{nat_cmp_total}
@@ -23,7 +24,8 @@ one_more first zero = ap (λ n. n ∷ []) (omega arith)
 one_more first (suc count) =
     let longer : suc count + 1 ≡ suc (count + 1) = omega arith in
     let same : first + 1 + count ≡ first + suc count = omega arith in
-    ap (range_with_len first) longer ∙ ap (λ ns. first ∷ ns) (one_more (first + 1) count ∙ ap (λ n. range_with_len (first + 1) count ++ n ∷ []) same)
+    ap (range_with_len first) longer
+    ∙ ap (λ ns. first ∷ ns) (one_more (first + 1) count ∙ ap (λ n. range_with_len (first + 1) count ++ n ∷ []) same)
 
 abbrev vacant : ℕ → List ℕ
 vacant others = replicate others 0
@@ -42,39 +44,52 @@ abbrev opened : ℕ → List ℕ
 opened others = 1 ∷ vacant others
 
 -- all slots but the first are vacant
-vacant_slots : (others first count : ℕ) → first + count ≤ others → AllByRecursion (IsVacant (opened others)) (range_with_len (suc first) count)
+vacant_slots : (others first count : ℕ) → first + count ≤ others
+    → AllByRecursion (IsVacant (opened others)) (range_with_len (suc first) count)
 vacant_slots others first zero fits = tt
 vacant_slots others first (suc count) fits =
-    let next : suc (suc first) ≡ suc first + 1 = omega arith in
-    (vacant_at others first (omega arith), subst (λ n. AllByRecursion (IsVacant (opened others)) (range_with_len n count)) next (vacant_slots others (suc first) count (omega arith)))
+    let next : suc (suc first) ≡ suc first + 1 = omega arith in (
+      vacant_at others first (omega arith),
+      subst (λ n. AllByRecursion (IsVacant (opened others)) (range_with_len n count)) next
+          (vacant_slots others (suc first) count (omega arith)),
+    )
 
 abbrev places : Map nat_cmp ℕ
 places = insert empty 1 0
 
 lies : (others slot inode : ℕ) → slice_get (opened others) slot ≡ Some inode → inode ≢ 0 → get places inode ≡ Some slot
-lies others zero inode e some = ap (get places) (sym (same_Some 1 inode e)) ∙ get-insert_same nat_cmp_total nat_cmp-IsAntisymmetric empty 1 0
+lies others zero inode e some =
+    ap (get places) (sym (same_Some 1 inode e)) ∙ get-insert_same nat_cmp_total nat_cmp-IsAntisymmetric empty 1 0
 lies others (suc slot) inode e some = absurd (some (nothing_else others slot inode e))
 
-there : (others inode slot : ℕ) → ((inode ≡ 1) × (slot ≡ 0)) ⊎ (get {X = ℕ} {R = nat_cmp} empty inode ≡ Some slot) → (slice_get (opened others) slot ≡ Some inode) × (inode ≢ 0)
-there others inode slot (inl a) = let one = a.0 in (ap (slice_get (opened others)) a.1 ∙ ap Some (sym a.0), λ z. absurd (omega (arith, one, z)))
+there : (others inode slot : ℕ) → ((inode ≡ 1) × (slot ≡ 0)) ⊎ (get {X = ℕ} {R = nat_cmp} empty inode ≡ Some slot)
+    → (slice_get (opened others) slot ≡ Some inode) × (inode ≢ 0)
+there others inode slot (inl a) = let one = a.0 in
+    (ap (slice_get (opened others)) a.1 ∙ ap Some (sym a.0), λ z. absurd (omega (arith, one, z)))
 there others inode slot (inr a) = absurd (cc (sym (get-empty ℕ nat_cmp inode) ∙ a))
 
 -- the root lies in the first
 placed : (others : ℕ) → ArePlaced (opened others) places
 placed others = record {
   lies = lies others;
-  there = λ inode slot e. there others inode slot (got_inserted nat_cmp_total nat_cmp-IsAntisymmetric empty 1 0 inode slot e);
+  there = λ inode slot e. there others inode slot
+      (got_inserted nat_cmp_total nat_cmp-IsAntisymmetric empty 1 0 inode slot e);
 }
 
 -- only the root lives
 root_alone : (rules : Rules) (room inode : ℕ) → has places inode ≡ has (start rules room).nodes inode
-root_alone rules room inode = by (insert_cases nat_cmp_total nat_cmp-IsAntisymmetric empty 1 0 inode) (insert_cases nat_cmp_total nat_cmp-IsAntisymmetric empty root (empty_node Dir) inode)
+root_alone rules room inode =
+    by (insert_cases nat_cmp_total nat_cmp-IsAntisymmetric empty 1 0 inode)
+    (insert_cases nat_cmp_total nat_cmp-IsAntisymmetric empty root (empty_node Dir) inode)
   where
     nothing : get {X = ℕ} {R = nat_cmp} empty inode ≡ None
     nothing = get-empty ℕ nat_cmp inode
 
-    by : ((inode ≡ 1) × (get places inode ≡ Some 0)) ⊎ ((inode ≢ 1) × (get places inode ≡ get {X = ℕ} {R = nat_cmp} empty inode))
-        → ((inode ≡ root) × (get (start rules room).nodes inode ≡ Some (empty_node Dir))) ⊎ ((inode ≢ root) × (get (start rules room).nodes inode ≡ get {X = Node} {R = nat_cmp} empty inode)) → has places inode ≡ has (start rules room).nodes inode
+    by : ((inode ≡ 1) × (get places inode ≡ Some 0))
+        ⊎ ((inode ≢ 1) × (get places inode ≡ get {X = ℕ} {R = nat_cmp} empty inode))
+        → ((inode ≡ root) × (get (start rules room).nodes inode ≡ Some (empty_node Dir)))
+        ⊎ ((inode ≢ root) × (get (start rules room).nodes inode ≡ get {X = Node} {R = nat_cmp} empty inode))
+        → has places inode ≡ has (start rules room).nodes inode
     by (inl a) (inl b) = ap is_some a.1 ∙ sym (ap is_some b.1)
     by (inl a) (inr b) = absurd (b.0 a.0)
     by (inr a) (inl b) = absurd (a.0 b.0)
@@ -97,9 +112,16 @@ length-range first zero = refl
 length-range first (suc count) = ap suc (length-range (first + 1) count)
 
 abbrev opened_table : (others : ℕ) (t : Table) → Table
-opened_table others t = record { facts = t.facts; next = 2; inodes = opened others; places = places; free = range_with_len 1 others }
+opened_table others t = record {
+  facts = t.facts;
+  next = 2;
+  inodes = opened others;
+  places = places;
+  free = range_with_len 1 others;
+}
 
-new_is : (rules : Rules) (room others : ℕ) (t : Table) → 1 ≤ room → others ≡ room + TREE_CLIENTS - 1 → AreKept (start rules room) t.facts → IsTable (start rules room) [] (opened_table others t)
+new_is : (rules : Rules) (room others : ℕ) (t : Table) → 1 ≤ room → others ≡ room + TREE_CLIENTS - 1
+    → AreKept (start rules room) t.facts → IsTable (start rules room) [] (opened_table others t)
 new_is rules room others t some all facts = record {
   facts = facts;
   next = refl;
@@ -113,8 +135,17 @@ new_is rules room others t some all facts = record {
   few = subst (λ n. n ≤ room) (sym (one_node rules room)) some;
 }
 
-pub new_table : (t : Table) (room others : ℕ) → 1 ≤ room → others ≡ room + TREE_CLIENTS - 1 → ((rules : Rules) (room : ℕ) → AreKept (start rules room) t.facts)
-    → t.next ≡ 2 → t.inodes ≡ opened others → t.places ≡ places → t.free ≡ range_with_len 1 others → (rules : Rules) → IsTable (start rules room) [] t
+pub new_table : (t : Table) (room others : ℕ) → 1 ≤ room → others ≡ room + TREE_CLIENTS - 1
+    → ((rules : Rules) (room : ℕ) → AreKept (start rules room) t.facts)
+    → t.next ≡ 2 → t.inodes ≡ opened others → t.places ≡ places → t.free ≡ range_with_len 1 others → (rules : Rules)
+    → IsTable (start rules room) [] t
 new_table t room others some all facts next inodes found free rules =
-    subst (IsTable (start rules room) []) (λ i. record { facts = t.facts; next = sym next i; inodes = sym inodes i; places = sym found i; free = sym free i })
+    subst (IsTable (start rules room) [])
+    (λ i. record {
+      facts = t.facts;
+      next = sym next i;
+      inodes = sym inodes i;
+      places = sym found i;
+      free = sym free i;
+    })
     (new_is rules room others t some all (facts rules room))

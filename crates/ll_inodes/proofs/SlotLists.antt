@@ -1,5 +1,6 @@
 -- Lists of slots, and what lies in them, where an entry changes.
-use Rattle.std.specs.Prelude.{◌≡◌, ◌≢◌, ◌⊎◌, ℕ, zero, suc, ◌==◌, Bool, true, false, cond, List, [], ◌∷◌, ◌++◌, Option, Some, None, option_map, slice_get, slice_set, if◌then◌else◌, refl}
+use Rattle.std.specs.Prelude.{◌≡◌, ◌≢◌, ◌⊎◌, ℕ, zero, suc, ◌==◌, Bool, true, false, cond, List, [], ◌∷◌, ◌++◌, Option}
+use Rattle.std.specs.Prelude.{Some, None, option_map, slice_get, slice_set, if◌then◌else◌, refl}
 use Rattle.std.specs.List.{AllByRecursion}
 use Rattle.std.proofs.Common.{sym, subst, ap, ◌∙◌, inl, inr, arith}
 use Rattle.std.proofs.lemmas.Bool.{eqb-true, eq-eqb}
@@ -16,7 +17,8 @@ same_or_not a b = elim (a == b) as (λ t. (a == b) ≡ t → (a ≡ b) ⊎ (a �
 
 -- ---- an entry that is set
 
-pub set_same : {A : Type 0} (xs : List A) (i : ℕ) (x y : A) → slice_get xs i ≡ Some x → slice_get (slice_set xs i y) i ≡ Some y
+pub set_same : {A : Type 0} (xs : List A) (i : ℕ) (x y : A) → slice_get xs i ≡ Some x
+    → slice_get (slice_set xs i y) i ≡ Some y
 set_same [] i x y e = absurd (cc e)
 set_same (z ∷ xs) zero x y e = refl
 set_same (z ∷ xs) (suc i) x y e = set_same xs i x y e
@@ -66,15 +68,19 @@ differs_at k (x ∷ ks) (suc i) j out at = differs_at k ks i j out.1 at
 distinct_set : (ks : List ℕ) (i k : ℕ) → NotIn k ks → AreDistinct ks → AreDistinct (slice_set ks i k)
 distinct_set [] i k out apart = tt
 distinct_set (x ∷ ks) zero k out apart = (out.1, apart.1)
-distinct_set (x ∷ ks) (suc i) k out apart = (not_in_set x ks i k apart.0 (λ e. out.0 (sym e)), distinct_set ks i k out.1 apart.1)
+distinct_set (x ∷ ks) (suc i) k out apart =
+    (not_in_set x ks i k apart.0 (λ e. out.0 (sym e)), distinct_set ks i k out.1 apart.1)
 
 -- the last of the free slots takes the place of a spare
-pub distinct_lent : (free spares : List ℕ) (fresh place : ℕ) → AreDistinct ((free ++ fresh ∷ []) ++ spares) → AreDistinct (free ++ slice_set spares place fresh)
+pub distinct_lent : (free spares : List ℕ) (fresh place : ℕ) → AreDistinct ((free ++ fresh ∷ []) ++ spares)
+    → AreDistinct (free ++ slice_set spares place fresh)
 distinct_lent [] spares fresh place apart = distinct_set spares place fresh apart.0 apart.1
 distinct_lent (x ∷ free) spares fresh place apart =
     let out = in_neither x (free ++ fresh ∷ []) spares apart.0 in
-    let front = in_neither x free (fresh ∷ []) out.0 in
-    (not_in_both x free (slice_set spares place fresh) front.0 (not_in_set x spares place fresh out.1 front.1.0), distinct_lent free spares fresh place apart.1)
+    let front = in_neither x free (fresh ∷ []) out.0 in (
+      not_in_both x free (slice_set spares place fresh) front.0 (not_in_set x spares place fresh out.1 front.1.0),
+      distinct_lent free spares fresh place apart.1,
+    )
 
 pub distinct_right : (js ks : List ℕ) → AreDistinct (js ++ ks) → AreDistinct ks
 distinct_right [] ks apart = apart
@@ -85,14 +91,16 @@ last_apart [] spares fresh apart = apart.0
 last_apart (x ∷ free) spares fresh apart = last_apart free spares fresh apart.1
 
 -- a spare is no free slot
-pub not_free : (free spares : List ℕ) (fresh place spare : ℕ) → AreDistinct ((free ++ fresh ∷ []) ++ spares) → slice_get spares place ≡ Some spare → NotIn spare free
+pub not_free : (free spares : List ℕ) (fresh place spare : ℕ) → AreDistinct ((free ++ fresh ∷ []) ++ spares)
+    → slice_get spares place ≡ Some spare → NotIn spare free
 not_free [] spares fresh place spare apart at = tt
 not_free (x ∷ free) spares fresh place spare apart at =
     let out = in_neither x (free ++ fresh ∷ []) spares apart.0 in
     (λ e. differs_at x spares place spare out.1 at (sym e), not_free free spares fresh place spare apart.1 at)
 
 -- and no spare any more once another slot has its place
-pub no_spare : (spares : List ℕ) (fresh place spare : ℕ) → AreDistinct spares → NotIn fresh spares → slice_get spares place ≡ Some spare → NotIn spare (slice_set spares place fresh)
+pub no_spare : (spares : List ℕ) (fresh place spare : ℕ) → AreDistinct spares → NotIn fresh spares
+    → slice_get spares place ≡ Some spare → NotIn spare (slice_set spares place fresh)
 no_spare [] fresh place spare apart out at = tt
 no_spare (x ∷ spares) fresh zero spare apart out at =
     let same : x ≡ spare = same_Some x spare at in
@@ -101,30 +109,40 @@ no_spare (x ∷ spares) fresh (suc place) spare apart out at =
     (λ e. differs_at x spares place spare apart.0 at (sym e), no_spare spares fresh place spare apart.1 out.1 at)
 
 -- a slot that was neither free nor spare
-pub distinct_freed : (free spares : List ℕ) (slot : ℕ) → NotIn slot free → NotIn slot spares → AreDistinct (free ++ spares) → AreDistinct ((free ++ slot ∷ []) ++ spares)
+pub distinct_freed : (free spares : List ℕ) (slot : ℕ) → NotIn slot free → NotIn slot spares
+    → AreDistinct (free ++ spares) → AreDistinct ((free ++ slot ∷ []) ++ spares)
 distinct_freed [] spares slot a b apart = (b, apart)
 distinct_freed (x ∷ free) spares slot a b apart =
-    let out = in_neither x free spares apart.0 in
-    (not_in_both x (free ++ slot ∷ []) spares (not_in_both x free (slot ∷ []) out.0 (λ e. a.0 (sym e), tt)) out.1, distinct_freed free spares slot a.1 b apart.1)
+    let out = in_neither x free spares apart.0 in (
+      not_in_both x (free ++ slot ∷ []) spares (not_in_both x free (slot ∷ []) out.0 (λ e. a.0 (sym e), tt)) out.1,
+      distinct_freed free spares slot a.1 b apart.1,
+    )
 
 -- ---- vacant slots
 
 -- the slot where an inode lies is none of them
-pub taken_out : (inodes : List ℕ) (slot inode : ℕ) (ks : List ℕ) → slice_get inodes slot ≡ Some inode → inode ≢ 0 → AllByRecursion (IsVacant inodes) ks → NotIn slot ks
+pub taken_out : (inodes : List ℕ) (slot inode : ℕ) (ks : List ℕ) → slice_get inodes slot ≡ Some inode → inode ≢ 0
+    → AllByRecursion (IsVacant inodes) ks → NotIn slot ks
 taken_out inodes slot inode [] at some all = tt
-taken_out inodes slot inode (k ∷ ks) at some all = (λ e. some (same_Some inode 0 (sym at ∙ ap (slice_get inodes) e ∙ all.0)), taken_out inodes slot inode ks at some all.1)
+taken_out inodes slot inode (k ∷ ks) at some all = (
+  λ e. some (same_Some inode 0 (sym at ∙ ap (slice_get inodes) e ∙ all.0)),
+  taken_out inodes slot inode ks at some all.1,
+)
 
 -- they stay so where an inode comes to lie in another one
-pub vacant_still : (inodes : List ℕ) (slot inode : ℕ) (ks : List ℕ) → NotIn slot ks → AllByRecursion (IsVacant inodes) ks → AllByRecursion (IsVacant (slice_set inodes slot inode)) ks
+pub vacant_still : (inodes : List ℕ) (slot inode : ℕ) (ks : List ℕ) → NotIn slot ks
+    → AllByRecursion (IsVacant inodes) ks → AllByRecursion (IsVacant (slice_set inodes slot inode)) ks
 vacant_still inodes slot inode [] out all = tt
-vacant_still inodes slot inode (k ∷ ks) out all = (set_other inodes slot k inode out.0 ∙ all.0, vacant_still inodes slot inode ks out.1 all.1)
+vacant_still inodes slot inode (k ∷ ks) out all =
+    (set_other inodes slot k inode out.0 ∙ all.0, vacant_still inodes slot inode ks out.1 all.1)
 
 -- ---- without an inode
 
 abbrev pub out_of : ℕ → ℕ → ℕ
 out_of inode i = if i == inode then 0 else i
 
-pub without_get : (inodes : List ℕ) (inode k : ℕ) → slice_get (without_inode inodes inode) k ≡ option_map (out_of inode) (slice_get inodes k)
+pub without_get : (inodes : List ℕ) (inode k : ℕ)
+    → slice_get (without_inode inodes inode) k ≡ option_map (out_of inode) (slice_get inodes k)
 without_get [] inode k = refl
 without_get (i ∷ inodes) inode zero = refl
 without_get (i ∷ inodes) inode (suc k) = without_get inodes inode k
@@ -133,40 +151,57 @@ pub out_itself : (inode i : ℕ) → i ≡ inode → out_of inode i ≡ 0
 out_itself inode i same = ap (λ b. cond b 0 i) (eq-eqb i inode same)
 
 pub out_other : (inode i : ℕ) → i ≢ inode → out_of inode i ≡ i
-out_other inode i differ = elim (i == inode) as (λ b. (i == inode) ≡ b → cond b 0 i ≡ i) [ true ↦ λ e. absurd (differ (eqb-true i inode e)) | false ↦ λ e. refl ] refl
+out_other inode i differ = elim (i == inode) as (λ b. (i == inode) ≡ b → cond b 0 i ≡ i)
+    [ true ↦ λ e. absurd (differ (eqb-true i inode e)) | false ↦ λ e. refl ] refl
 
 -- what lies somewhere afterwards lay there before, and is another inode
-pub left_there : (inodes : List ℕ) (inode k i : ℕ) → slice_get (without_inode inodes inode) k ≡ Some i → i ≢ 0 → (slice_get inodes k ≡ Some i) × (i ≢ inode)
+pub left_there : (inodes : List ℕ) (inode k i : ℕ) → slice_get (without_inode inodes inode) k ≡ Some i → i ≢ 0
+    → (slice_get inodes k ≡ Some i) × (i ≢ inode)
 left_there inodes inode k i at some = by (slice_get inodes k) refl (sym (without_get inodes inode k) ∙ at)
   where
-    by : (o : Option ℕ) → slice_get inodes k ≡ o → (option_map (out_of inode) o ≡ Some i) → (slice_get inodes k ≡ Some i) × (i ≢ inode)
+    by : (o : Option ℕ) → slice_get inodes k ≡ o → (option_map (out_of inode) o ≡ Some i)
+        → (slice_get inodes k ≡ Some i) × (i ≢ inode)
     by None is e = absurd (cc e)
     by (Some j) is e = elim (same_or_not j inode) [
       | inl same ↦ absurd (some (same_Some i 0 (sym e ∙ ap Some (out_itself inode j same))))
-      | inr differ ↦ (let j_is : j ≡ i = same_Some j i (ap Some (sym (out_other inode j differ)) ∙ e) in (is ∙ ap Some j_is, λ s. differ (j_is ∙ s)))
+      | inr differ ↦ (let j_is : j ≡ i = same_Some j i (ap Some (sym (out_other inode j differ)) ∙ e)
+          in (is ∙ ap Some j_is, λ s. differ (j_is ∙ s)))
     ]
 
-pub vacant_without : (inodes : List ℕ) (inode : ℕ) (ks : List ℕ) → AllByRecursion (IsVacant inodes) ks → AllByRecursion (IsVacant (without_inode inodes inode)) ks
+pub vacant_without : (inodes : List ℕ) (inode : ℕ) (ks : List ℕ) → AllByRecursion (IsVacant inodes) ks
+    → AllByRecursion (IsVacant (without_inode inodes inode)) ks
 vacant_without inodes inode [] all = tt
-vacant_without inodes inode (k ∷ ks) all = (without_get inodes inode k ∙ ap (option_map (out_of inode)) all.0 ∙ ap Some (nothing (0 == inode)), vacant_without inodes inode ks all.1)
+vacant_without inodes inode (k ∷ ks) all = (
+  without_get inodes inode k ∙ ap (option_map (out_of inode)) all.0
+      ∙ ap Some (nothing (0 == inode)),
+  vacant_without inodes inode ks all.1,
+)
   where
     nothing : (b : Bool) → cond b zero zero ≡ zero
     nothing true = refl
     nothing false = refl
 
 -- its slot is vacant
-pub gone_from : (inodes : List ℕ) (inode slot : ℕ) → slice_get inodes slot ≡ Some inode → IsVacant (without_inode inodes inode) slot
-gone_from inodes inode slot at = without_get inodes inode slot ∙ ap (option_map (out_of inode)) at ∙ ap Some (out_itself inode inode refl)
+pub gone_from : (inodes : List ℕ) (inode slot : ℕ) → slice_get inodes slot ≡ Some inode
+    → IsVacant (without_inode inodes inode) slot
+gone_from inodes inode slot at =
+    without_get inodes inode slot ∙ ap (option_map (out_of inode)) at ∙ ap Some (out_itself inode inode refl)
 
 -- where it is none
 pub without_nothing : (inodes : List ℕ) (inode : ℕ) → inode ≡ 0 → without_inode inodes inode ≡ inodes
 without_nothing [] inode nothing = refl
 without_nothing (i ∷ inodes) inode nothing =
-    let head : out_of inode i ≡ i = elim (same_or_not i inode) [ inl same ↦ out_itself inode i same ∙ sym (same ∙ nothing) | inr differ ↦ out_other inode i differ ] in
+    let head : out_of inode i ≡ i =
+    elim (same_or_not i inode) [
+      | inl same ↦ out_itself inode i same
+          ∙ sym (same ∙ nothing)
+      | inr differ ↦ out_other inode i differ
+    ] in
     λ j. head j ∷ without_nothing inodes inode nothing j
 
 -- where it lies nowhere
-pub without_none : (inodes : List ℕ) (inode : ℕ) → ((k : ℕ) → slice_get inodes k ≢ Some inode) → without_inode inodes inode ≡ inodes
+pub without_none : (inodes : List ℕ) (inode : ℕ) → ((k : ℕ) → slice_get inodes k ≢ Some inode)
+    → without_inode inodes inode ≡ inodes
 without_none [] inode none = refl
 without_none (i ∷ inodes) inode none =
     let head : out_of inode i ≡ i = out_other inode i (λ e. none 0 (ap Some e)) in
@@ -174,7 +209,8 @@ without_none (i ∷ inodes) inode none =
     λ j. head j ∷ tail j
 
 -- where it lies in one slot
-pub without_one : (inodes : List ℕ) (inode slot : ℕ) → slice_get inodes slot ≡ Some inode → ((k : ℕ) → slice_get inodes k ≡ Some inode → k ≡ slot) → slice_set inodes slot 0 ≡ without_inode inodes inode
+pub without_one : (inodes : List ℕ) (inode slot : ℕ) → slice_get inodes slot ≡ Some inode
+    → ((k : ℕ) → slice_get inodes k ≡ Some inode → k ≡ slot) → slice_set inodes slot 0 ≡ without_inode inodes inode
 without_one [] inode slot at only = absurd (cc at)
 without_one (i ∷ inodes) inode zero at only =
     let head : out_of inode i ≡ 0 = out_itself inode i (same_Some i inode at) in

@@ -1,12 +1,15 @@
 //! The table of inodes.
 
-ghost use Rattle.std.specs.Prelude.{◌≡◌, ◌<◌, ◌≤◌, ◌+◌, ◌-◌, ◌^◌, ◌∷◌, ◌++◌, ℕ, List, [], true, false, not, ◌&&◌, ◌==◌, is_none, unwrap_or, if◌then◌else◌, length, replicate, vec_capacity, slice_get, slice_set, Some, None, IfOk, OnOk, OnErr};
+ghost use Rattle.std.specs.Prelude.{◌≡◌, ◌<◌, ◌≤◌, ◌+◌, ◌-◌, ◌^◌, ◌∷◌, ◌++◌, ℕ, List, [], true, false, not, ◌&&◌, ◌==◌};
+ghost use Rattle.std.specs.Prelude.{is_none, unwrap_or, if◌then◌else◌, length, replicate, vec_capacity, slice_get};
+ghost use Rattle.std.specs.Prelude.{slice_set, Some, None, IfOk, OnOk, OnErr};
 ghost use Rattle.std.specs.List.{range_with_len};
 ghost use Rattle.ll_rights.specs.declared.limits.TheConstants.{TREE_CLIENTS, TREE_NODES};
 ghost use Rattle.ll_rights.specs.Map.{get, has, insert, len, remove};
 ghost use Rattle.ll_seq.specs.State.{State, root, start};
 ghost use Rattle.ll_seq.specs.Facts.{AreKept, has_room, have_room};
-ghost use Rattle.ll_seq.specs.Effects.{with_client, child_of, with_node, with_name, without_name, with_moved, renamed, let_go, lives};
+ghost use Rattle.ll_seq.specs.Effects.{with_client, child_of, with_node, with_name, without_name, with_moved, renamed};
+ghost use Rattle.ll_seq.specs.Effects.{let_go, lives};
 ghost use Rattle.ll_seq.specs.Stages.{is_crowded, has_many_names};
 ghost use Rattle.ll_seq.specs.declared.client.ClientRecord.{ClientRecord};
 ghost use Rattle.ll_seq.specs.declared.client.Descriptor as file;
@@ -311,7 +314,8 @@ impl Inodes {
         ensures table { (s : State) (spares : List ℕ) (client : ℕ) (c : ClientRecord) (fd : ℕ) (d : file.Descriptor)
             → IsTable s spares self.old → get s.clients client ≡ Some c → get c.descriptors fd ≡ Some d
             → d.inode ≡ inode → has s.nodes inode ≡ true
-            → IsTable (let_go (with_client s client (record c { descriptors = remove c.descriptors fd })) inode) spares self.new }
+            → IsTable (let_go (with_client s client (record c { descriptors = remove c.descriptors fd })) inode) spares
+            self.new }
         ensures goes { (s : State) (spares : List ℕ) (client : ℕ) (c : ClientRecord) (fd : ℕ) (d : file.Descriptor)
             → IsTable s spares self.old → get s.clients client ≡ Some c → get c.descriptors fd ≡ Some d
             → d.inode ≡ inode → has s.nodes inode ≡ true

@@ -1,5 +1,7 @@
 -- A walk that has ended where each branch is at its end: what its call is made with.
-use Rattle.std.specs.Prelude.{◌≡◌, ℕ, zero, suc, ◌+◌, ◌-◌, ◌<◌, ◌≤◌, ◌^◌, Bool, true, false, not, ◌&&◌, ◌||◌, ◌==◌, List, [], ◌∷◌, map, length, Option, Some, None, nat_le, slice_get, slice_index_or, unwrap_or, refl}
+use Rattle.std.specs.Prelude.{◌≡◌, ℕ, zero, suc, ◌+◌, ◌-◌, ◌<◌, ◌≤◌, ◌^◌, Bool, true, false, not, ◌&&◌, ◌||◌, ◌==◌}
+use Rattle.std.specs.Prelude.{List, [], ◌∷◌, map, length, Option, Some, None, nat_le, slice_get, slice_index_or}
+use Rattle.std.specs.Prelude.{unwrap_or, refl}
 use Rattle.std.specs.List.{list_any}
 use Rattle.std.proofs.Common.{sym, subst, ap, ◌∙◌, arith}
 use Rattle.std.proofs.lemmas.Bool.{eq-eqb}
@@ -17,17 +19,19 @@ use Rattle.ll_changes.specs.Enacting.{IsGiven}
 use Rattle.ll_held.specs.declared.held.Held.{Held}
 use Rattle.ll_inodes.specs.InodeTable.{AreDistinct}
 use Rattle.ll_seq.specs.declared.call.Call.{Call}
-use Rattle.ll_seq.specs.declared.call.Call.TheVariants.{Make, Open, Read, Write, Ftruncate, Close, Truncate, ReadDir, Stat, Exec, Unlink, Rmdir, Rename, RenameNoreplace, Exchange, Link, Ruleset, Allow, Confine, Spawn, Connect}
+use Rattle.ll_seq.specs.declared.call.Call.TheVariants.{Make, Open, Read, Write, Ftruncate, Close, Truncate, ReadDir}
+use Rattle.ll_seq.specs.declared.call.Call.TheVariants.{Stat, Exec, Unlink, Rmdir, Rename, RenameNoreplace, Exchange}
+use Rattle.ll_seq.specs.declared.call.Call.TheVariants.{Link, Ruleset, Allow, Confine, Spawn, Connect}
 use Rattle.ll_seq.specs.declared.client.ClientRecord.{ClientRecord}
 use Rattle.ll_seq.specs.Call.{first_path, second_path, targets}
 use Rattle.ll_seq.specs.State.{State, kind_of, new_client}
 use Rattle.ll_seq.specs.Step.{client_of}
-use Rattle.ll_walks.specs.Commits.{first_end, second_end}
-use Rattle.ll_walks.specs.Walk.{Walk, Leg, Position, Above, Down, Split, is_in, marks}
-use Rattle.ll_walks.specs.World.{World, domain_of, has_any, is_full, is_walked, shown, without_walk}
+use Rattle.ll_worlds.specs.Commits.{first_end, second_end}
+use Rattle.ll_worlds.specs.Walk.{Walk, Leg, Position, Above, Down, Split, is_in, marks}
+use Rattle.ll_worlds.specs.World.{World, domain_of, has_any, is_full, is_walked, shown, without_walk}
 use Rattle.ll_seq.specs.Stages.{early_refusals}
-use Rattle.ll_walks.proofs.SoundSteps.{marked_below}
-use Rattle.ll_walks.proofs.Tests.{both, is_nil, not_true}
+use Rattle.ll_worlds.proofs.SoundSteps.{marked_below}
+use Rattle.ll_worlds.proofs.Tests.{both, is_nil, not_true}
 use Rattle.ll_journal.specs.declared.journal.Journal.TheInside.{Inside}
 use Rattle.ll_journal.specs.Book.{Seat, Book, inode_in, has_mark, mark_of, slot_of}
 use Rattle.ll_journal.specs.Decidings.{IsEndAt}
@@ -79,22 +83,35 @@ or_also true b e = refl
 or_also false b e = e
 
 -- a walk stands where its legs do
-first_marked : (at : Position) (leg : Leg) → first_end at ≡ Some leg → (walk : Walk) → walk.at ≡ at → marks walk leg.here ≡ true
+first_marked : (at : Position) (leg : Leg) → first_end at ≡ Some leg → (walk : Walk) → walk.at ≡ at
+    → marks walk leg.here ≡ true
 first_marked Above leg e walk is = absurd (cc e)
-first_marked (Down trunk) leg e walk is = ap (λ p. marks (record walk { at = p }) leg.here) is ∙ or_true (trunk.here == leg.here) false (eq-eqb trunk.here leg.here (ap (λ (l : Leg). l.here) (same_Some trunk leg e)))
+first_marked (Down trunk) leg e walk is =
+    ap (λ p. marks (record walk { at = p }) leg.here) is
+    ∙ or_true (trunk.here == leg.here) false
+    (eq-eqb trunk.here leg.here (ap (λ (l : Leg). l.here) (same_Some trunk leg e)))
 first_marked (Split trunk old new) leg e walk is =
     ap (λ p. marks (record walk { at = p }) leg.here) is
-    ∙ or_also (trunk.here == leg.here) ((old.here == leg.here) || ((new.here == leg.here) || false)) (or_true (old.here == leg.here) ((new.here == leg.here) || false) (eq-eqb old.here leg.here (ap (λ (l : Leg). l.here) (same_Some old leg e))))
+    ∙ or_also (trunk.here == leg.here) ((old.here == leg.here) || ((new.here == leg.here) || false))
+    (or_true (old.here == leg.here) ((new.here == leg.here) || false)
+    (eq-eqb old.here leg.here (ap (λ (l : Leg). l.here) (same_Some old leg e))))
 
-second_marked : (at : Position) (leg : Leg) → second_end at ≡ Some leg → (walk : Walk) → walk.at ≡ at → marks walk leg.here ≡ true
+second_marked : (at : Position) (leg : Leg) → second_end at ≡ Some leg → (walk : Walk) → walk.at ≡ at
+    → marks walk leg.here ≡ true
 second_marked Above leg e walk is = absurd (cc e)
-second_marked (Down trunk) leg e walk is = ap (λ p. marks (record walk { at = p }) leg.here) is ∙ or_true (trunk.here == leg.here) false (eq-eqb trunk.here leg.here (ap (λ (l : Leg). l.here) (same_Some trunk leg e)))
+second_marked (Down trunk) leg e walk is =
+    ap (λ p. marks (record walk { at = p }) leg.here) is
+    ∙ or_true (trunk.here == leg.here) false
+    (eq-eqb trunk.here leg.here (ap (λ (l : Leg). l.here) (same_Some trunk leg e)))
 second_marked (Split trunk old new) leg e walk is =
     ap (λ p. marks (record walk { at = p }) leg.here) is
     ∙ or_also (trunk.here == leg.here) ((old.here == leg.here) || ((new.here == leg.here) || false))
-    (or_also (old.here == leg.here) ((new.here == leg.here) || false) (or_true (new.here == leg.here) false (eq-eqb new.here leg.here (ap (λ (l : Leg). l.here) (same_Some new leg e)))))
+    (or_also (old.here == leg.here) ((new.here == leg.here) || false)
+    (or_true (new.here == leg.here) false
+    (eq-eqb new.here leg.here (ap (λ (l : Leg). l.here) (same_Some new leg e)))))
 
-pub spare_at : (seats : List Seat) (place : ℕ) (seat : Seat) → slice_get seats place ≡ Some seat → slice_get (spares_of seats) place ≡ Some seat.spare
+pub spare_at : (seats : List Seat) (place : ℕ) (seat : Seat) → slice_get seats place ≡ Some seat
+    → slice_get (spares_of seats) place ≡ Some seat.spare
 spare_at [] place seat at = absurd (cc at)
 spare_at (z ∷ seats) zero seat at = ap (λ (s : Seat). Some s.spare) (same_Some z seat at)
 spare_at (z ∷ seats) (suc place) seat at = spare_at seats place seat at
@@ -108,16 +125,22 @@ in_map : (f : ℕ → ℕ) (slots : List ℕ) (x : ℕ) → is_in (map f slots) 
 in_map f [] x = refl
 in_map f (k ∷ slots) x = ap (λ b. (f k == x) || b) (in_map f slots x)
 
-small_enough : (next len limit : ℕ) → next ≤ len + 2 → nat_le limit len ≡ false → limit ≤ HISTORY_ENTRIES → next < 2 ^ 64 - 1
+small_enough : (next len limit : ℕ) → next ≤ len + 2 → nat_le limit len ≡ false → limit ≤ HISTORY_ENTRIES
+    → next < 2 ^ 64 - 1
 small_enough next len limit few room most = grind (arith, nat_tests)
 
-module _ (j i : Inside) (h : IsKept j) (mid : IsKept i) (number place : ℕ) (slots : List ℕ) (distinct : AreDistinct slots) (found : Found) (r : IsReachedEnd (book_of j) number slots found)
-    (world : world_of i ≡ without_walk (world_of j) number) (inodes : i.table.inodes ≡ j.table.inodes) (spares : spares_of i.seats.items ≡ spares_of j.seats.items)
-    (call : Call) (call_is : call ≡ r.walk.call) (first second : List ℕ) (first_masks : AreMasks first (domain_of (world_of j) number) r.first.chain) (second_masks : AreMasks second (domain_of (world_of j) number) r.second.chain)
+module _ (j i : Inside) (h : IsKept j) (mid : IsKept i) (number place : ℕ) (slots : List ℕ)
+    (distinct : AreDistinct slots) (found : Found) (r : IsReachedEnd (book_of j) number slots found)
+    (world : world_of i ≡ without_walk (world_of j) number) (inodes : i.table.inodes ≡ j.table.inodes)
+    (spares : spares_of i.seats.items ≡ spares_of j.seats.items)
+    (call : Call) (call_is : call ≡ r.walk.call) (first second : List ℕ)
+    (first_masks : AreMasks first (domain_of (world_of j) number) r.first.chain)
+    (second_masks : AreMasks second (domain_of (world_of j) number) r.second.chain)
     (lent : List Held) (told : lent ≡ map (slot_of (book_of i)) slots) (room_left : is_full (world_of i) ≡ false)
     (seat : Seat) (at : slice_get i.seats.items place ≡ Some seat) (numbered : number ≡ suc place) where
   pub seat_idle : seat.walk ≡ None
-  seat_idle = sym (walk_here i mid number place seat at numbered) ∙ ap (λ (w : World). get w.walks number) world ∙ removed (world_of j).walks number
+  seat_idle = sym (walk_here i mid number place seat at numbered) ∙ ap (λ (w : World). get w.walks number) world
+      ∙ removed (world_of j).walks number
 
   tree : shown (world_of i) ≡ shown (world_of j)
   tree = ap shown world
@@ -126,17 +149,22 @@ module _ (j i : Inside) (h : IsKept j) (mid : IsKept i) (number place : ℕ) (sl
   client = there i mid number Spawn place seat at numbered
 
   domain : domain_of (world_of j) number ≡ seat.client.domain
-  domain = ap (λ (s : State). (client_of s number).domain) (sym tree) ∙ ap (λ (o : Option ClientRecord). (unwrap_or o new_client).domain) client
+  domain = ap (λ (s : State). (client_of s number).domain) (sym tree)
+      ∙ ap (λ (o : Option ClientRecord). (unwrap_or o new_client).domain) client
 
   lies : (x : ℕ) → is_lent (book_of j) slots x ≡ true → lies_in i.table.inodes slots x
-  lies x e = subst (λ ns. list_any (λ k. slice_index_or ns k 0 == x) slots ≡ true) (sym inodes) (sym (in_map (inode_in (book_of j)) slots x) ∙ e)
+  lies x e = subst (λ ns. list_any (λ k. slice_index_or ns k 0 == x) slots ≡ true) (sym inodes)
+      (sym (in_map (inode_in (book_of j)) slots x) ∙ e)
 
-  end_at : (path : Path) (spot : Spot) (leg : Leg) (masks : List ℕ) → IsEndOf (shown (world_of j)) path spot leg → AreMasks masks (domain_of (world_of j) number) leg.chain → IsEndAt (shown (world_of i)) seat.client.domain path spot masks
+  end_at : (path : Path) (spot : Spot) (leg : Leg) (masks : List ℕ) → IsEndOf (shown (world_of j)) path spot leg
+      → AreMasks masks (domain_of (world_of j) number) leg.chain
+      → IsEndAt (shown (world_of i)) seat.client.domain path spot masks
   end_at path spot leg masks e granted = subst (λ s. IsEndAt s seat.client.domain path spot masks) (sym tree) (record {
     way = e.way;
     names = e.names ∙ ap Some (sym e.here);
     directory = ap (λ x. kind_of (shown (world_of j)) x) e.here ∙ e.directory;
-    masks = subst (AreMasks masks seat.client.domain) e.chain (subst (λ ls. AreMasks masks ls leg.chain) domain granted);
+    masks = subst (AreMasks masks seat.client.domain) e.chain
+        (subst (λ ls. AreMasks masks ls leg.chain) domain granted);
   })
 
   nobody : (n : ℕ) → has_mark (world_of i) (shown (world_of i)).next n ≡ false
@@ -149,9 +177,16 @@ module _ (j i : Inside) (h : IsKept j) (mid : IsKept i) (number place : ℕ) (sl
           let less = marked_below (world_of i) mid.sound n walk.0 walk.1 (shown (world_of i)).next walk.2 in
           absurd (omega (arith, less))
 
-  given : IsGiven (shown (world_of i)) number (mark_of (world_of i)) (spares_of i.seats.items) place seat.client seat.spare i.table slots lent
+  given : IsGiven (shown (world_of i)) number (mark_of (world_of i)) (spares_of i.seats.items) place seat.client
+      seat.spare i.table slots lent
   given = record {
-    reached = record { rules = i.rules; room = i.room; entries = i.history.entries; legal = mid.sound.legal; is = refl };
+    reached = record {
+      rules = i.rules;
+      room = i.room;
+      entries = i.history.entries;
+      legal = mid.sound.legal;
+      is = refl;
+    };
     counted = mid.table;
     kept = spare_at i.seats.items place seat at;
     crowd = subst (λ n. n ≤ TREE_CLIENTS) (sym (many_spares i.seats.items)) mid.crowd;
@@ -171,33 +206,45 @@ module _ (j i : Inside) (h : IsKept j) (mid : IsKept i) (number place : ℕ) (sl
 
   walked : is_walked seat.client r.walk.call ≡ true
   walked =
-      ap (λ c. is_walked c r.walk.call) (sym (ap (λ s. client_of s number) (sym tree) ∙ ap (λ (o : Option ClientRecord). unwrap_or o new_client) client))
+      ap (λ c. is_walked c r.walk.call)
+      (sym (ap (λ s. client_of s number) (sym tree)
+      ∙ ap (λ (o : Option ClientRecord). unwrap_or o new_client) client))
       ∙ (h.sound.valid number r.walk r.ends.is).0.walked
 
   early : early_refusals seat.client r.walk.call ≡ []
-  early = is_nil (early_refusals seat.client r.walk.call) (not_true _ (both (has_any (targets r.walk.call)) (not (has_any (early_refusals seat.client r.walk.call))) walked).1)
+  early = is_nil (early_refusals seat.client r.walk.call)
+      (not_true _ (both (has_any (targets r.walk.call)) (not (has_any (early_refusals seat.client r.walk.call)))
+      walked).1)
 
   path : has_path r.walk.call ≡ true
-  path = names_path r.walk.call (left_true (has_any (targets r.walk.call)) _ ((h.sound.valid number r.walk r.ends.is).0.walked))
+  path = names_path r.walk.call
+      (left_true (has_any (targets r.walk.call)) _ ((h.sound.valid number r.walk r.ends.is).0.walked))
 
-  pub at_end : IsAtEnd (shown (world_of i)) number (mark_of (world_of i)) (spares_of i.seats.items) place seat.client seat.spare i.table slots lent call first second found
-  at_end = subst (λ c. IsAtEnd (shown (world_of i)) number (mark_of (world_of i)) (spares_of i.seats.items) place seat.client seat.spare i.table slots lent c first second found) (sym call_is) (record {
-    given = given;
-    path = path;
-    early = early;
-    facts = subst (λ s. AreFacts s r.walk.call found) (sym tree) r.facts;
-    old = end_at (first_path r.walk.call) found.first r.first first r.old first_masks;
-    new = end_at (second_path r.walk.call) found.second r.second second r.new second_masks;
-    old_lent = lies found.first.directory (r.ends.marked found.first.directory (ap (marks r.walk) r.old.here ∙ first_marked r.walk.at r.first r.first_is r.walk refl));
-    new_lent = lies found.second.directory (r.ends.marked found.second.directory (ap (marks r.walk) r.new.here ∙ second_marked r.walk.at r.second r.second_is r.walk refl));
-    nodes = λ x e some. lies x (r.nodes x e some);
-    kept = λ e. subst (λ k. is_in slots k ≡ true) spare_is (r.spare e);
-  })
+  pub at_end : IsAtEnd (shown (world_of i)) number (mark_of (world_of i)) (spares_of i.seats.items) place seat.client
+      seat.spare i.table slots lent call first second found
+  at_end = subst (λ c. IsAtEnd (shown (world_of i)) number (mark_of (world_of i)) (spares_of i.seats.items) place
+      seat.client seat.spare i.table slots lent c first second found) (sym call_is) (record {
+        given = given;
+        path = path;
+        early = early;
+        facts = subst (λ s. AreFacts s r.walk.call found) (sym tree) r.facts;
+        old = end_at (first_path r.walk.call) found.first r.first first r.old first_masks;
+        new = end_at (second_path r.walk.call) found.second r.second second r.new second_masks;
+        old_lent = lies found.first.directory
+            (r.ends.marked found.first.directory (ap (marks r.walk) r.old.here
+            ∙ first_marked r.walk.at r.first r.first_is r.walk refl));
+        new_lent = lies found.second.directory
+            (r.ends.marked found.second.directory (ap (marks r.walk) r.new.here
+            ∙ second_marked r.walk.at r.second r.second_is r.walk refl));
+        nodes = λ x e some. lies x (r.nodes x e some);
+        kept = λ e. subst (λ k. is_in slots k ≡ true) spare_is (r.spare e);
+      })
 
 -- ---- as the code finds it
 
 -- the walk has ended: what its call is answered with
-pub record EndedSo (j i : Inside) (number place : ℕ) (slots : List ℕ) (found : Found) (call : Call) (first second : List ℕ) (lent : List Held) (seat : Seat) : Type 0 where
+pub record EndedSo (j i : Inside) (number place : ℕ) (slots : List ℕ) (found : Found) (call : Call)
+    (first second : List ℕ) (lent : List Held) (seat : Seat) : Type 0 where
   pub reached : IsReachedEnd (book_of j) number slots found
   pub world : world_of i ≡ without_walk (world_of j) number
   pub inodes : i.table.inodes ≡ j.table.inodes
@@ -208,24 +255,37 @@ pub record EndedSo (j i : Inside) (number place : ℕ) (slots : List ℕ) (found
   pub told : lent ≡ map (slot_of (book_of i)) slots
   pub at : slice_get i.seats.items place ≡ Some seat
 
-pub ended_so : (j i : Inside) (b v : Book) → book_of j ≡ b → book_of i ≡ v → (number place : ℕ) (slots : List ℕ) (found : Found) → IsReachedEnd b number slots found → v.world ≡ without_walk b.world number → v ≡ record b { world = v.world }
+pub ended_so : (j i : Inside) (b v : Book) → book_of j ≡ b → book_of i ≡ v
+    → (number place : ℕ) (slots : List ℕ) (found : Found) → IsReachedEnd b number slots found
+    → v.world ≡ without_walk b.world number → v ≡ record b { world = v.world }
     → (call : Call) (first second : List ℕ) → ((walk : Walk) → get b.world.walks number ≡ Some walk → call ≡ walk.call)
-    → ((walk : Walk) (leg : Leg) → get b.world.walks number ≡ Some walk → first_end walk.at ≡ Some leg → AreMasks first (domain_of b.world number) leg.chain)
-    → ((walk : Walk) (leg : Leg) → get b.world.walks number ≡ Some walk → second_end walk.at ≡ Some leg → AreMasks second (domain_of b.world number) leg.chain)
-    → (lent lent' : List Held) → lent ≡ map (slot_of b) slots → ((slots : List ℕ) → lent ≡ map (slot_of b) slots → lent' ≡ map (slot_of v) slots)
-    → (seat : Seat) → place < length b.spares → number ≡ suc place → seat ≡ slice_index_or i.seats.items place seat → EndedSo j i number place slots found call first second lent' seat
-ended_so j i b v eb ev number place slots found q ended rest call first second calls firsts seconds lent lent' told tells seat within numbered value =
-    let r : IsReachedEnd (book_of j) number slots found = subst (λ (x : Book). IsReachedEnd x number slots found) (sym eb) q in
-    let is : get b.world.walks number ≡ Some r.walk = ap (λ (x : Book). get x.world.walks number) (sym eb) ∙ r.ends.is in
-    let same_spares : spares_of i.seats.items ≡ b.spares = ap (λ (x : Book). x.spares) ev ∙ ap (λ (x : Book). x.spares) rest in
+    → ((walk : Walk) (leg : Leg) → get b.world.walks number ≡ Some walk → first_end walk.at ≡ Some leg
+    → AreMasks first (domain_of b.world number) leg.chain)
+    → ((walk : Walk) (leg : Leg) → get b.world.walks number ≡ Some walk → second_end walk.at ≡ Some leg
+    → AreMasks second (domain_of b.world number) leg.chain)
+    → (lent lent' : List Held) → lent ≡ map (slot_of b) slots
+    → ((slots : List ℕ) → lent ≡ map (slot_of b) slots → lent' ≡ map (slot_of v) slots)
+    → (seat : Seat) → place < length b.spares → number ≡ suc place → seat ≡ slice_index_or i.seats.items place seat
+    → EndedSo j i number place slots found call first second lent' seat
+ended_so j i b v eb ev number place slots found q ended rest call first second calls firsts seconds lent lent' told
+    tells seat within numbered value =
+    let r : IsReachedEnd (book_of j) number slots found =
+    subst (λ (x : Book). IsReachedEnd x number slots found) (sym eb) q in
+    let is : get b.world.walks number ≡ Some r.walk =
+    ap (λ (x : Book). get x.world.walks number) (sym eb) ∙ r.ends.is in
+    let same_spares : spares_of i.seats.items ≡ b.spares =
+    ap (λ (x : Book). x.spares) ev ∙ ap (λ (x : Book). x.spares) rest in
     record {
       reached = r;
       world = ap (λ (x : Book). x.world) ev ∙ ended ∙ ap (λ (x : Book). without_walk x.world number) (sym eb);
       inodes = ap (λ (x : Book). x.inodes) ev ∙ ap (λ (x : Book). x.inodes) rest ∙ ap (λ (x : Book). x.inodes) (sym eb);
       spares = same_spares ∙ ap (λ (x : Book). x.spares) (sym eb);
       call_is = calls r.walk is;
-      first_masks = subst (λ (x : Book). AreMasks first (domain_of x.world number) r.first.chain) (sym eb) (firsts r.walk r.first is r.first_is);
-      second_masks = subst (λ (x : Book). AreMasks second (domain_of x.world number) r.second.chain) (sym eb) (seconds r.walk r.second is r.second_is);
+      first_masks = subst (λ (x : Book). AreMasks first (domain_of x.world number) r.first.chain) (sym eb)
+          (firsts r.walk r.first is r.first_is);
+      second_masks = subst (λ (x : Book). AreMasks second (domain_of x.world number) r.second.chain) (sym eb)
+          (seconds r.walk r.second is r.second_is);
       told = tells slots told ∙ ap (λ (x : Book). map (slot_of x) slots) (sym ev);
-      at = at_place i.seats.items i.seats.items number place seat refl (numbered, subst (λ n. place < n) (ap length (sym same_spares) ∙ many_spares i.seats.items) within) value;
+      at = at_place i.seats.items i.seats.items number place seat refl
+          (numbered, subst (λ n. place < n) (ap length (sym same_spares) ∙ many_spares i.seats.items) within) value;
     }

@@ -1,5 +1,7 @@
--- What a commit finds: the directories where a walk stands at its ends, what they have under the last names, and the answer of a walk that can't go on.
-use Rattle.std.specs.Prelude.{◌≡◌, ℕ, Bool, true, false, ◌||◌, List, [], ◌∷◌, ◌++◌, map, length, Option, Some, None, nat_lt, nat_le, unwrap_or, slice_get, option_map, option_and_then, refl}
+-- What a commit finds: the directories where a walk stands at its ends, what they have under the last names, and the
+-- answer of a walk that can't go on.
+use Rattle.std.specs.Prelude.{◌≡◌, ℕ, Bool, true, false, ◌||◌, List, [], ◌∷◌, ◌++◌, map, length, Option, Some, None}
+use Rattle.std.specs.Prelude.{nat_lt, nat_le, unwrap_or, slice_get, option_map, option_and_then, refl}
 use Rattle.std.specs.Option.{option_map_or}
 use Rattle.std.specs.List.{list_any, flat_map}
 use Rattle.std.specs.Ordering.{nat_cmp}
@@ -30,13 +32,13 @@ use Rattle.ll_laws.proofs.Unrefused.{parent_last}
 use Rattle.ll_laws.proofs.Trees.{IsTree}
 use Rattle.ll_answer.specs.Found.{IsSpot, there_in}
 use Rattle.ll_answer.specs.declared.found.Spot.{Spot}
-use Rattle.ll_walks.specs.Walk.{Walk, Leg, Position, Above, Down, Split, rights_where, turn, at_ends}
-use Rattle.ll_walks.specs.World.{World, shown, domain_of, reply_to, last_node, last_nodes}
-use Rattle.ll_walks.specs.Walks.{IsRight, AreRight}
-use Rattle.ll_walks.specs.Sound.{IsSound}
-use Rattle.ll_walks.specs.Commits.{HasEnded, first_end, second_end}
-use Rattle.ll_walks.proofs.EndsReached.{ends_reached, blocked_refused}
-use Rattle.ll_walks.proofs.SoundSteps.{holds_of}
+use Rattle.ll_worlds.specs.Walk.{Walk, Leg, Position, Above, Down, Split, rights_where, turn, at_ends}
+use Rattle.ll_worlds.specs.World.{World, shown, domain_of, reply_to, last_node, last_nodes}
+use Rattle.ll_worlds.specs.Walks.{IsRight, AreRight}
+use Rattle.ll_worlds.specs.Sound.{IsSound}
+use Rattle.ll_worlds.specs.Commits.{HasEnded, first_end, second_end}
+use Rattle.ll_worlds.proofs.EndsReached.{ends_reached, blocked_refused}
+use Rattle.ll_worlds.proofs.SoundSteps.{holds_of}
 use Rattle.ll_changes.specs.Accounts.{names_map}
 use Rattle.ll_changes.proofs.NameMaps.{get-names_map}
 
@@ -49,7 +51,8 @@ pub record IsEnd (s : State) (domain : List Layer) (path : Path) (leg : Leg) : T
   pub chain : leg.chain ≡ ancestors s (parent path)
   pub masks : leg.masks ≡ map (λ layer. rights_where (grants s layer (parent path))) domain
 
-end_of : (s : State) (domain : List Layer) (path : Path) (leg : Leg) → IsRight s domain leg → HasEnded s path leg → IsEnd s domain path leg
+end_of : (s : State) (domain : List Layer) (path : Path) (leg : Leg) → IsRight s domain leg → HasEnded s path leg
+    → IsEnd s domain path leg
 end_of s domain path leg r e = record {
   names = ap (named s) (sym e.walked) ∙ r.names;
   directory = r.directory;
@@ -62,17 +65,20 @@ end_of s domain path leg r e = record {
 subst_leg : (s : State) (domain : List Layer) (a b : Leg) → IsRight s domain a → a ≡ b → IsRight s domain b
 subst_leg s domain a b r e = subst (IsRight s domain) e r
 
-first_right : (s : State) (domain : List Layer) (at : Position) (leg : Leg) → AreRight s domain at → first_end at ≡ Some leg → IsRight s domain leg
+first_right : (s : State) (domain : List Layer) (at : Position) (leg : Leg) → AreRight s domain at
+    → first_end at ≡ Some leg → IsRight s domain leg
 first_right s domain Above leg r e = absurd (cc e)
 first_right s domain (Down trunk) leg r e = subst_leg s domain trunk leg r (same_Some trunk leg e)
 first_right s domain (Split trunk old new) leg r e = subst_leg s domain old leg r.1 (same_Some old leg e)
 
-second_right : (s : State) (domain : List Layer) (at : Position) (leg : Leg) → AreRight s domain at → second_end at ≡ Some leg → IsRight s domain leg
+second_right : (s : State) (domain : List Layer) (at : Position) (leg : Leg) → AreRight s domain at
+    → second_end at ≡ Some leg → IsRight s domain leg
 second_right s domain Above leg r e = absurd (cc e)
 second_right s domain (Down trunk) leg r e = subst_leg s domain trunk leg r (same_Some trunk leg e)
 second_right s domain (Split trunk old new) leg r e = subst_leg s domain new leg r.2 (same_Some new leg e)
 
-module _ (w : World) (number : ℕ) (walk : Walk) (sound : IsSound w) (is : get w.walks number ≡ Some walk) (fresh : walk.stale ≡ false) (at : at_ends walk.call walk.at ≡ true) (leg : Leg) where
+module _ (w : World) (number : ℕ) (walk : Walk) (sound : IsSound w) (is : get w.walks number ≡ Some walk)
+    (fresh : walk.stale ≡ false) (at : at_ends walk.call walk.at ≡ true) (leg : Leg) where
   -- the leg of the call's first path, or its only one
   pub first_is_end : first_end walk.at ≡ Some leg → IsEnd (shown w) (domain_of w number) (first_path walk.call) leg
   first_is_end e =
@@ -87,26 +93,35 @@ module _ (w : World) (number : ℕ) (walk : Walk) (sound : IsSound w) (is : get 
       ((ends_reached w (holds_of w sound) number walk is fresh at leg).1 e)
 
 -- where the next name of the leg in turn names no directory, that is the answer
-pub blocked_reply : (w : World) (number : ℕ) (walk : Walk) → IsSound w → get w.walks number ≡ Some walk → walk.stale ≡ false → (leg : Leg) → turn walk.at ≡ Some leg → (name : Name) (rest : Path) → leg.ahead ≡ name ∷ rest
-    → (errno : Errno) → slice_get (no_directory (kind_of_child (shown w) (get (names_map (shown w) leg.here) name))) 0 ≡ Some errno → reply_to w number walk.call ≡ Refused errno
+pub blocked_reply : (w : World) (number : ℕ) (walk : Walk) → IsSound w → get w.walks number ≡ Some walk
+    → walk.stale ≡ false → (leg : Leg) → turn walk.at ≡ Some leg → (name : Name) (rest : Path) → leg.ahead ≡ name ∷ rest
+    → (errno : Errno) → slice_get (no_directory (kind_of_child (shown w) (get (names_map (shown w) leg.here) name))) 0
+    ≡ Some errno → reply_to w number walk.call ≡ Refused errno
 blocked_reply w number walk sound is fresh leg in_turn name rest ahead errno first =
     blocked_refused w (holds_of w sound) number walk is fresh leg in_turn name rest ahead errno
-    (ap (λ o. slice_get (no_directory (kind_of_child (shown w) o)) 0) (sym (get-names_map (shown w) leg.here name)) ∙ first)
+    (ap (λ o. slice_get (no_directory (kind_of_child (shown w) o)) 0) (sym (get-names_map (shown w) leg.here name))
+    ∙ first)
 
 -- ---- the last name
 
 -- a chain goes no further where a name is missing
-chain_missing : (s : State) (p : Path) (n : Name) (i x : ℕ) → end_from s p i ≡ Some x → child s x n ≡ None → chain_from s (p ++ n ∷ []) i ≡ chain_from s p i
-chain_missing s [] n i x e none = ap (λ o. i ∷ option_map_or (chain_from s []) o []) (ap (λ j. child s j n) (same_Some i x e) ∙ none)
+chain_missing : (s : State) (p : Path) (n : Name) (i x : ℕ) → end_from s p i ≡ Some x → child s x n ≡ None
+    → chain_from s (p ++ n ∷ []) i ≡ chain_from s p i
+chain_missing s [] n i x e none =
+    ap (λ o. i ∷ option_map_or (chain_from s []) o []) (ap (λ j. child s j n) (same_Some i x e) ∙ none)
 chain_missing s (m ∷ p) n i x e none =
-    elim (child s i m) as (λ o. option_and_then (end_from s p) o ≡ Some x → i ∷ option_map_or (chain_from s (p ++ n ∷ [])) o [] ≡ i ∷ option_map_or (chain_from s p) o []) [
+    elim (child s i m) as (λ o. option_and_then (end_from s p) o ≡ Some x
+    → i ∷ option_map_or (chain_from s (p ++ n ∷ [])) o [] ≡ i ∷ option_map_or (chain_from s p) o []) [
       | None ↦ λ f. refl
       | Some j ↦ λ f. ap (λ is. i ∷ is) (chain_missing s p n j x f none)
     ] e
 
 -- a path's chain is that of its directory, and what it names
-pub chain_last : (s : State) (path : Path) (d : ℕ) → named s (parent path) ≡ Some d → is_root path ≡ false → ancestors s path ≡ ancestors s (parent path) ++ option_map_or (λ (j : ℕ). j ∷ []) (named s path) []
-chain_last s path d stands below = whole ∙ by (child s d (last_name path)) refl ∙ ap (λ o. ancestors s (parent path) ++ option_map_or (λ (j : ℕ). j ∷ []) o []) (sym names)
+pub chain_last : (s : State) (path : Path) (d : ℕ) → named s (parent path) ≡ Some d → is_root path ≡ false
+    → ancestors s path ≡ ancestors s (parent path) ++ option_map_or (λ (j : ℕ). j ∷ []) (named s path) []
+chain_last s path d stands below =
+    whole ∙ by (child s d (last_name path)) refl
+    ∙ ap (λ o. ancestors s (parent path) ++ option_map_or (λ (j : ℕ). j ∷ []) o []) (sym names)
   where
     whole : ancestors s path ≡ chain_from s (parent path ++ last_name path ∷ []) root
     whole = ap (ancestors s) (parent_last path below)
@@ -114,21 +129,34 @@ chain_last s path d stands below = whole ∙ by (child s d (last_name path)) ref
     names : named s path ≡ child s d (last_name path)
     names = named-child s path (parent path) (last_name path) d (parent_last path below) stands
 
-    by : (o : Option ℕ) → child s d (last_name path) ≡ o → chain_from s (parent path ++ last_name path ∷ []) root ≡ ancestors s (parent path) ++ option_map_or (λ (j : ℕ). j ∷ []) (child s d (last_name path)) []
-    by None e = chain_missing s (parent path) (last_name path) root d stands e ∙ sym (append-nil (ancestors s (parent path))) ∙ ap (λ o. ancestors s (parent path) ++ option_map_or (λ (j : ℕ). j ∷ []) o []) (sym e)
-    by (Some x) e = chain_push s (parent path) (last_name path) root d x stands e ∙ ap (λ o. ancestors s (parent path) ++ option_map_or (λ (j : ℕ). j ∷ []) o []) (sym e)
+    by : (o : Option ℕ) → child s d (last_name path) ≡ o
+        → chain_from s (parent path ++ last_name path ∷ []) root ≡ ancestors s (parent path)
+        ++ option_map_or (λ (j : ℕ). j ∷ []) (child s d (last_name path)) []
+    by None e = chain_missing s (parent path) (last_name path) root d stands e
+        ∙ sym (append-nil (ancestors s (parent path)))
+        ∙ ap (λ o. ancestors s (parent path) ++ option_map_or (λ (j : ℕ). j ∷ []) o []) (sym e)
+    by (Some x) e = chain_push s (parent path) (last_name path) root d x stands e
+        ∙ ap (λ o. ancestors s (parent path) ++ option_map_or (λ (j : ℕ). j ∷ []) o []) (sym e)
 
-module _ (s : State) (tree : IsTree s) (domain : List Layer) (path : Path) (leg : Leg) (end : IsEnd s domain path leg) where
-  -- the lent directory has under the last name what the path names
-  pub end_look_up : is_root path ≡ false → get (names_map s leg.here) (last_name path) ≡ named s path
-  end_look_up below = get-names_map s leg.here (last_name path) ∙ sym (named-child s path (parent path) (last_name path) leg.here (parent_last path below) end.names)
+module _ (s : State) (tree : IsTree s) (domain : List Layer) (path : Path) (leg : Leg) (end : IsEnd s domain path leg)
+  where
+    -- the lent directory has under the last name what the path names
+    pub end_look_up : is_root path ≡ false → get (names_map s leg.here) (last_name path) ≡ named s path
+    end_look_up below = get-names_map s leg.here (last_name path)
+        ∙ sym (named-child s path (parent path) (last_name path) leg.here (parent_last path below) end.names)
 
-  -- what is found there
-  pub end_spot : (spot : Spot) → spot.way ≡ None → spot.directory ≡ leg.here → spot.is_crowded ≡ is_crowded s leg.here → spot.there ≡ option_map (there_in s) (named s path) → IsSpot s path spot
-  end_spot spot way directory crowded there = record {
-    way = way ∙ ap (λ es. slice_get es 0) (sym end.way);
-    stands = λ none. record { directory = directory ∙ end.here; crowded = crowded ∙ ap (is_crowded s) end.here; there = there };
-  }
+    -- what is found there
+    pub end_spot : (spot : Spot) → spot.way ≡ None → spot.directory ≡ leg.here → spot.is_crowded ≡ is_crowded s leg.here
+        → spot.there ≡ option_map (there_in s) (named s path) → IsSpot s path spot
+    end_spot spot way directory crowded there = record {
+      way = way ∙ ap (λ es. slice_get es 0) (sym end.way);
+      stands = λ none. record {
+        directory = directory ∙ end.here;
+        crowded = crowded
+            ∙ ap (is_crowded s) end.here;
+        there = there;
+      };
+    }
 
 -- ---- what is kept of a node
 
@@ -136,7 +164,13 @@ module _ (s : State) (facts : Map nat_cmp Fact) (kept : AreKept s facts) (inode 
   pub has_fact : (kind : Kind) → kind_of s inode ≡ Some kind → (fact : Fact) × (get facts inode ≡ Some fact)
   has_fact kind e = (
     record { kind = kind; names = length (names_in s inode); links = name_count s inode; opens = open_count s inode },
-    kept.told inode ∙ ap (option_map (λ (k : Kind). record { kind = k; names = length (names_in s inode); links = name_count s inode; opens = open_count s inode })) e,
+    kept.told inode ∙ ap (option_map
+        (λ (k : Kind). record {
+          kind = k;
+          names = length (names_in s inode);
+          links = name_count s inode;
+          opens = open_count s inode;
+        })) e,
   )
 
   module _ (fact : Fact) (is : get facts inode ≡ Some fact) where
@@ -144,14 +178,31 @@ module _ (s : State) (facts : Map nat_cmp Fact) (kept : AreKept s facts) (inode 
     counts : fact_of s inode ≡ Some fact
     counts = sym (kept.told inode) ∙ is
 
-    pub fact_is : (kind_of s inode ≡ Some fact.kind) × (fact.names ≡ length (names_in s inode)) × (fact.links ≡ name_count s inode)
+    pub fact_is : (kind_of s inode ≡ Some fact.kind) × (fact.names ≡ length (names_in s inode))
+        × (fact.links ≡ name_count s inode)
     fact_is =
-        elim (kind_of s inode) as (λ o. option_map (λ (kind : Kind). record { kind = kind; names = length (names_in s inode); links = name_count s inode; opens = open_count s inode }) o ≡ Some fact → (o ≡ Some fact.kind) × (fact.names ≡ length (names_in s inode)) × (fact.links ≡ name_count s inode)) [
+        elim (kind_of s inode) as (λ o. option_map
+        (λ (kind : Kind). record {
+          kind = kind;
+          names = length (names_in s inode);
+          links = name_count s inode;
+          opens = open_count s inode;
+        }) o ≡ Some fact → (o ≡ Some fact.kind)
+        × (fact.names ≡ length (names_in s inode)) × (fact.links ≡ name_count s inode)) [
           | None ↦ λ e. absurd (cc e)
-          | Some kind ↦ λ e. let same = same_Some _ _ e in (ap (λ (f : Fact). Some f.kind) same, ap (λ (f : Fact). f.names) (sym same), ap (λ (f : Fact). f.links) (sym same))
+          | Some kind ↦ λ e. let same = same_Some _ _ e in (
+            ap (λ (f : Fact). Some f.kind) same,
+            ap (λ (f : Fact). f.names) (sym same),
+            ap (λ (f : Fact). f.links) (sym same),
+          )
         ] counts
 
-    pub there_is : record { inode = inode; kind = fact.kind; has_names = nat_lt 0 fact.names; has_many_names = nat_le NODE_NAMES fact.links } ≡ there_in s inode
+    pub there_is : record {
+      inode = inode;
+      kind = fact.kind;
+      has_names = nat_lt 0 fact.names;
+      has_many_names = nat_le NODE_NAMES fact.links;
+    } ≡ there_in s inode
     there_is = λ i. record {
       inode = inode;
       kind = unwrap_or (sym fact_is.0 i) Reg;
@@ -164,9 +215,12 @@ module _ (s : State) (facts : Map nat_cmp Fact) (kept : AreKept s facts) (inode 
 
 -- ---- marks at the last names
 
-pub any_last : (s : State) (call : Call) (f : ℕ → Bool) → list_any f (last_nodes s call) ≡ list_any (λ (t : Target). list_any f (last_node s (path_of t))) (targets call)
+pub any_last : (s : State) (call : Call) (f : ℕ → Bool)
+    → list_any f (last_nodes s call) ≡ list_any (λ (t : Target). list_any f (last_node s (path_of t))) (targets call)
 any_last s call f = over (targets call)
   where
-    over : (ts : List Target) → list_any f (flat_map (λ (t : Target). last_node s (path_of t)) ts) ≡ list_any (λ (t : Target). list_any f (last_node s (path_of t))) ts
+    over : (ts : List Target) → list_any f (flat_map (λ (t : Target). last_node s (path_of t)) ts)
+        ≡ list_any (λ (t : Target). list_any f (last_node s (path_of t))) ts
     over [] = refl
-    over (t ∷ ts) = list_any-append f (last_node s (path_of t)) (flat_map (λ (u : Target). last_node s (path_of u)) ts) ∙ ap (λ b. list_any f (last_node s (path_of t)) || b) (over ts)
+    over (t ∷ ts) = list_any-append f (last_node s (path_of t)) (flat_map (λ (u : Target). last_node s (path_of u)) ts)
+        ∙ ap (λ b. list_any f (last_node s (path_of t)) || b) (over ts)

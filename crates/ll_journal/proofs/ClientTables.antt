@@ -30,7 +30,9 @@ module _ (s : State) (number : ℕ) (c : ClientRecord) (spares : List ℕ) (t : 
   }
 
   -- a client more keeps the last of the free slots
-  pub table_more : (slot : ℕ) (t' : Table) → t.free ≡ t'.free ++ slot ∷ [] → t' ≡ record t { facts = t'.facts; free = t'.free } → AreKept (with_client s number c) t'.facts → IsTable (with_client s number c) (spares ++ slot ∷ []) t'
+  pub table_more : (slot : ℕ) (t' : Table) → t.free ≡ t'.free ++ slot ∷ []
+      → t' ≡ record t { facts = t'.facts; free = t'.free } → AreKept (with_client s number c) t'.facts
+      → IsTable (with_client s number c) (spares ++ slot ∷ []) t'
   table_more slot t' free rest facts =
       subst (IsTable (with_client s number c) (spares ++ slot ∷ [])) (sym rest) (record {
         facts = facts;
@@ -41,7 +43,8 @@ module _ (s : State) (number : ℕ) (c : ClientRecord) (spares : List ℕ) (t : 
         free = vacant.0;
         spares = all_more (IsVacant t.inodes) spares slot is.spares vacant.1;
         distinct = distinct_moved t'.free spares slot (subst (λ ks. AreDistinct (ks ++ spares)) free is.distinct);
-        count = let one = ap length free ∙ length-append t'.free (slot ∷ []) in let more = length-append spares (slot ∷ []) in let sum = is.count in omega (arith, one, more, sum);
+        count = let one = ap length free ∙ length-append t'.free (slot ∷ []) in let more =
+            length-append spares (slot ∷ []) in let sum = is.count in omega (arith, one, more, sum);
         few = is.few;
       })
     where

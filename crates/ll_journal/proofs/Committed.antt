@@ -1,5 +1,7 @@
 -- A walk is answered: the world after, what the journal keeps, and every slot's account.
-use Rattle.std.specs.Prelude.{◌≡◌, ◌≢◌, ℕ, zero, suc, ◌+◌, ◌≤◌, Bool, true, false, cond, ◌==◌, List, [], ◌∷◌, map, length, Option, Some, option_map, slice_get, slice_set, slice_index_or, refl, ◌-◌, ◌&&◌, ◌++◌, None}
+use Rattle.std.specs.Prelude.{◌≡◌, ◌≢◌, ℕ, zero, suc, ◌+◌, ◌≤◌, Bool, true, false, cond, ◌==◌, List, [], ◌∷◌, map}
+use Rattle.std.specs.Prelude.{length, Option, Some, option_map, slice_get, slice_set, slice_index_or, refl, ◌-◌, ◌&&◌}
+use Rattle.std.specs.Prelude.{◌++◌, None}
 use Rattle.std.proofs.Common.{sym, subst, ap, ◌∙◌, arith, length-append, inl, inr}
 use Rattle.std.proofs.lemmas.Bool.{eqb-true, eq-eqb}
 use Rattle.std.proofs.lemmas.List.{length-map, length-set}
@@ -18,11 +20,12 @@ use Rattle.ll_seq.specs.History.{Log}
 use Rattle.ll_seq.specs.State.{State, bytes_of, kind_of, start}
 use Rattle.ll_seq.specs.Tree.{kind_or_file}
 use Rattle.ll_seq.specs.Step.{step}
-use Rattle.ll_walks.specs.Walk.{Walk}
-use Rattle.ll_walks.specs.World.{World, Replied, advance, shown, is_full, may_commit, moved_by, map_values, next_number, overtaken, reply_to, without_walk, has_any}
-use Rattle.ll_walks.specs.declared.step.Step.TheVariants.{Commit}
-use Rattle.ll_walks.specs.Sound.{IsSound}
-use Rattle.ll_walks.proofs.Shapes.{with_entry, with_stale}
+use Rattle.ll_worlds.specs.Walk.{Walk}
+use Rattle.ll_worlds.specs.World.{World, Replied, advance, shown, is_full, may_commit, moved_by, map_values}
+use Rattle.ll_worlds.specs.World.{next_number, overtaken, reply_to, without_walk, has_any}
+use Rattle.ll_worlds.specs.declared.step.Step.TheVariants.{Commit}
+use Rattle.ll_worlds.specs.Sound.{IsSound}
+use Rattle.ll_worlds.proofs.Shapes.{with_entry, with_stale}
 use Rattle.ll_journal.specs.declared.journal.Journal.TheInside.{Inside}
 use Rattle.ll_journal.specs.Book.{Seat, Book, Spares, mark_of, has_mark, slot_of}
 use Rattle.ll_journal.specs.WalkEnds.{LeavesFree, TakesName, would_make}
@@ -32,14 +35,16 @@ use Rattle.ll_inodes.proofs.SlotLists.{set_same, set_other}
 use Rattle.ll_journal.proofs.Ended.{commit_equation}
 use Rattle.ll_journal.proofs.MarkOf.{are_clients, has_mark_stale, mark_same}
 use Rattle.ll_journal.proofs.MadeNodes.{has_let_go, would_have_made}
-use Rattle.ll_journal.proofs.Overtaking.{overtaken_seat, overtaken_seats, seated_overtaken, spares_overtaken, walks_overtaken}
+use Rattle.ll_journal.proofs.Overtaking.{overtaken_seat, overtaken_seats, seated_overtaken, spares_overtaken}
+use Rattle.ll_journal.proofs.Overtaking.{walks_overtaken}
 use Rattle.ll_journal.proofs.Ruled.{room_stays}
 use Rattle.ll_journal.proofs.Shown.{shown_answered}
 use Rattle.ll_journal.proofs.Starting.{sound_after}
 use Rattle.ll_journal.proofs.Stepping.{entered, walks_same}
 
 -- as the accounts of slots are told
-pub told_slots : (b : Book) (slots : List ℕ) → map (slot_of b) slots ≡ accounts (shown b.world) (mark_of b.world) b.inodes slots
+pub told_slots : (b : Book) (slots : List ℕ)
+    → map (slot_of b) slots ≡ accounts (shown b.world) (mark_of b.world) b.inodes slots
 told_slots b [] = refl
 told_slots b (k ∷ slots) = ap (λ ks. slot_of b k ∷ ks) (told_slots b slots)
 
@@ -52,8 +57,10 @@ spares_both b v x slots first then = record {
 }
 
 -- another record and another spare in one seat
-pub seated_with : (s t : State) (seats : List Seat) (place number : ℕ) (old new : Seat) → slice_get seats place ≡ Some old → number ≡ suc place
-    → ((q : ℕ) → get t.clients q ≡ cond (q == number) (Some new.client) (get s.clients q)) → AreSeated s seats → AreSeated t (slice_set seats place new)
+pub seated_with : (s t : State) (seats : List Seat) (place number : ℕ) (old new : Seat)
+    → slice_get seats place ≡ Some old → number ≡ suc place
+    → ((q : ℕ) → get t.clients q ≡ cond (q == number) (Some new.client) (get s.clients q)) → AreSeated s seats
+    → AreSeated t (slice_set seats place new)
 seated_with s t seats place number old new at numbered clients seated q = clients q ∙ by (q == number) refl
   where
     client_in : Option Seat → Option ClientRecord
@@ -63,22 +70,31 @@ seated_with s t seats place number old new at numbered clients seated q = client
     other zero n = refl
     other (suc i) n = set_other seats place i new (λ e. n (ap suc (sym e) ∙ sym numbered))
 
-    by : (b : Bool) → (q == number) ≡ b → cond b (Some new.client) (get s.clients q) ≡ client_in (seat_at (slice_set seats place new) q)
-    by true e = sym (ap client_in (ap (seat_at (slice_set seats place new)) (eqb-true q number e ∙ numbered) ∙ set_same seats place old new at))
+    by : (b : Bool) → (q == number) ≡ b
+        → cond b (Some new.client) (get s.clients q) ≡ client_in (seat_at (slice_set seats place new) q)
+    by true e = sym (ap client_in (ap (seat_at (slice_set seats place new)) (eqb-true q number e ∙ numbered)
+        ∙ set_same seats place old new at))
     by false e = seated q ∙ sym (ap client_in (other q (λ same. cc (sym e ∙ eq-eqb q number same))))
 
-pub spares_set : (seats : List Seat) (place : ℕ) (new : Seat) → spares_of (slice_set seats place new) ≡ slice_set (spares_of seats) place new.spare
+pub spares_set : (seats : List Seat) (place : ℕ) (new : Seat)
+    → spares_of (slice_set seats place new) ≡ slice_set (spares_of seats) place new.spare
 spares_set [] place new = refl
 spares_set (z ∷ seats) zero new = refl
 spares_set (z ∷ seats) (suc place) new = ap (λ ks. z.spare ∷ ks) (spares_set seats place new)
 
 -- j: the journal before, i: after the walk's end, k: after the commit
-module _ (j i k : Inside) (h : IsKept j) (mid : IsKept i) (number place : ℕ) (walk : Walk) (is : get (world_of j).walks number ≡ Some walk) (may : may_commit (world_of j) number walk ≡ true)
+module _ (j i k : Inside) (h : IsKept j) (mid : IsKept i) (number place : ℕ) (walk : Walk)
+    (is : get (world_of j).walks number ≡ Some walk) (may : may_commit (world_of j) number walk ≡ true)
     (ended : world_of i ≡ without_walk (world_of j) number) (room_left : is_full (world_of i) ≡ false)
-    (old : Seat) (at : slice_get i.seats.items place ≡ Some old) (numbered : number ≡ suc place) (reply : Reply) (c : ClientRecord) (spare : ℕ) (lent : List Held) (slots : List ℕ)
-    (performs : Performs (shown (world_of i)) number (mark_of (world_of i)) (spares_of i.seats.items) place i.table slots walk.call reply c spare k.table lent)
-    (new : Seat) (client : new.client ≡ c) (kept : new.spare ≡ spare) (idle : new.walk ≡ old.walk) (moved : List ℕ) (moves : moved ≡ moved_by (shown (world_of i)) walk.call reply)
-    (seats : k.seats.items ≡ overtaken_seats moved (slice_set i.seats.items place new)) (history : k.history ≡ entered i number walk.call reply) (rules : k.rules ≡ i.rules) (room : k.room ≡ i.room) (gate : k.gate ≡ i.gate) where
+    (old : Seat) (at : slice_get i.seats.items place ≡ Some old) (numbered : number ≡ suc place) (reply : Reply)
+    (c : ClientRecord) (spare : ℕ) (lent : List Held) (slots : List ℕ)
+    (performs : Performs (shown (world_of i)) number (mark_of (world_of i)) (spares_of i.seats.items) place i.table
+    slots walk.call reply c spare k.table lent)
+    (new : Seat) (client : new.client ≡ c) (kept : new.spare ≡ spare) (idle : new.walk ≡ old.walk) (moved : List ℕ)
+    (moves : moved ≡ moved_by (shown (world_of i)) walk.call reply)
+    (seats : k.seats.items ≡ overtaken_seats moved (slice_set i.seats.items place new))
+    (history : k.history ≡ entered i number walk.call reply) (rules : k.rules ≡ i.rules) (room : k.room ≡ i.room)
+    (gate : k.gate ≡ i.gate) where
   abbrev w : World
   w = world_of j
 
@@ -95,38 +111,52 @@ module _ (j i k : Inside) (h : IsKept j) (mid : IsKept i) (number place : ℕ) (
   told_then = told ∙ ap (λ (v : World). reply_to v number walk.call) ended
 
   walks_are : walks_from 1 k.seats.items ≡ map_values (overtaken moved) (walks_from 1 i.seats.items)
-  walks_are = ap (walks_from 1) seats ∙ walks_overtaken moved (slice_set i.seats.items place new) ∙ ap (map_values (overtaken moved)) (walks_same i.seats.items place old new 1 at idle)
+  walks_are = ap (walks_from 1) seats ∙ walks_overtaken moved (slice_set i.seats.items place new)
+      ∙ ap (map_values (overtaken moved)) (walks_same i.seats.items place old new 1 at idle)
 
   world_so : world_of k ≡ with_stale moved (with_entry (world_of i) number walk.call reply)
-  world_so = λ x. record { rules = rules x; room = room x; limit = (history x).limit; history = (history x).entries; walks = walks_are x; gate = gate x }
+  world_so = λ x. record {
+    rules = rules x;
+    room = room x;
+    limit = (history x).limit;
+    history = (history x).entries;
+    walks = walks_are x;
+    gate = gate x;
+  }
 
-  pub committed_world : world_of k ≡ with_stale (moved_by (shown w) walk.call reply) (with_entry (without_walk w number) number walk.call reply)
+  pub committed_world : world_of k
+      ≡ with_stale (moved_by (shown w) walk.call reply) (with_entry (without_walk w number) number walk.call reply)
   committed_world =
       world_so ∙ (λ x. with_stale (moves x) (with_entry (ended x) number walk.call reply))
-      ∙ ap (λ (v : World). with_stale (moved_by (shown v) walk.call reply) (with_entry (without_walk w number) number walk.call reply)) ended
+      ∙ ap (λ (v : World). with_stale (moved_by (shown v) walk.call reply)
+      (with_entry (without_walk w number) number walk.call reply)) ended
 
   room_then : is_full w ≡ false
   room_then = ap is_full (sym ended) ∙ room_left
 
   pub committed_step : advance w (Commit number) ≡ (Replied reply, world_of k)
-  committed_step = commit_equation w number walk is may room_then reply told_then ∙ ap (λ (v : World). (Replied reply, v)) (sym committed_world)
+  committed_step = commit_equation w number walk is may room_then reply told_then
+      ∙ ap (λ (v : World). (Replied reply, v)) (sym committed_world)
 
   sound_so : IsSound (world_of k)
   sound_so = sound_after j (world_of k) (Commit number) (Replied reply) h committed_step
 
   shown_so : shown (world_of k) ≡ performs.after
   shown_so =
-      shown_answered (world_of i) (world_of k) number walk.call reply told (ap (λ (v : World). v.rules) world_so) (ap (λ (v : World). v.room) world_so) (ap (λ (v : World). v.history) world_so)
+      shown_answered (world_of i) (world_of k) number walk.call reply told (ap (λ (v : World). v.rules) world_so)
+      (ap (λ (v : World). v.room) world_so) (ap (λ (v : World). v.history) world_so)
       ∙ ap (λ (p : Reply × State). p.1) steps_so
 
   seated_so : AreSeated performs.after k.seats.items
   seated_so =
       subst (AreSeated performs.after) (sym seats)
       (seated_overtaken moved performs.after (slice_set i.seats.items place new)
-      (seated_with before performs.after i.seats.items place number old new at numbered (λ q. performs.made.clients q ∙ ap (λ x. cond (q == number) (Some x) (get before.clients q)) (sym client)) mid.seated))
+      (seated_with before performs.after i.seats.items place number old new at numbered (λ q. performs.made.clients q
+      ∙ ap (λ x. cond (q == number) (Some x) (get before.clients q)) (sym client)) mid.seated))
 
   spares_so : spares_of k.seats.items ≡ slice_set (spares_of i.seats.items) place spare
-  spares_so = ap spares_of seats ∙ spares_overtaken moved (slice_set i.seats.items place new) ∙ spares_set i.seats.items place new ∙ ap (slice_set (spares_of i.seats.items) place) kept
+  spares_so = ap spares_of seats ∙ spares_overtaken moved (slice_set i.seats.items place new)
+      ∙ spares_set i.seats.items place new ∙ ap (slice_set (spares_of i.seats.items) place) kept
 
   table_so : IsTable performs.after (spares_of k.seats.items) k.table
   table_so = subst (λ ks. IsTable performs.after ks k.table) (sym spares_so) performs.made.counted
@@ -138,9 +168,11 @@ module _ (j i k : Inside) (h : IsKept j) (mid : IsKept i) (number place : ℕ) (
     table = subst (λ s. IsTable s (spares_of k.seats.items) k.table) (sym shown_so) table_so;
     crowd =
         subst (λ n. n ≤ TREE_CLIENTS)
-        (sym (ap length seats ∙ length-map (slice_set i.seats.items place new) (overtaken_seat moved) ∙ length-set i.seats.items place new)) mid.crowd;
+        (sym (ap length seats ∙ length-map (slice_set i.seats.items place new) (overtaken_seat moved)
+        ∙ length-set i.seats.items place new)) mid.crowd;
     numbers =
-        let longer = ap (λ (log : Log). length log.entries) history ∙ length-append i.history.entries (record { client = number; call = walk.call; reply = reply } ∷ []) in
+        let longer = ap (λ (log : Log). length log.entries) history
+        ∙ length-append i.history.entries (record { client = number; call = walk.call; reply = reply } ∷ []) in
         let was = mid.numbers in
         let next = performs.made.next in
         omega (arith, longer, was, next);
@@ -152,7 +184,8 @@ module _ (j i k : Inside) (h : IsKept j) (mid : IsKept i) (number place : ℕ) (
   same_marks : (x : ℕ) → mark_of (world_of k) x ≡ mark_of (world_of i) x
   same_marks x =
       mark_same (world_of i) (world_of k) x (are_clients (world_of i) mid.sound) (are_clients (world_of k) sound_so)
-      (λ n. ap (λ (v : World). has_mark v x n) world_so ∙ has_mark_stale (with_entry (world_of i) number walk.call reply) moved x n)
+      (λ n. ap (λ (v : World). has_mark v x n) world_so
+      ∙ has_mark_stale (with_entry (world_of i) number walk.call reply) moved x n)
 
   slot_so : (q : ℕ) → slot_of (book_of k) q ≡ account performs.after (mark_of (world_of i)) k.table.inodes q
   slot_so q =
@@ -167,7 +200,8 @@ module _ (j i k : Inside) (h : IsKept j) (mid : IsKept i) (number place : ℕ) (
         };
       })) (same_marks (slice_index_or k.table.inodes q 0))
 
-  slots_so : (qs : List ℕ) → map (slot_of (book_of k)) qs ≡ accounts performs.after (mark_of (world_of i)) k.table.inodes qs
+  slots_so : (qs : List ℕ) → map (slot_of (book_of k)) qs
+      ≡ accounts performs.after (mark_of (world_of i)) k.table.inodes qs
   slots_so [] = refl
   slots_so (q ∷ qs) = λ x. slot_so q x ∷ slots_so qs x
 
@@ -180,7 +214,8 @@ module _ (j i k : Inside) (h : IsKept j) (mid : IsKept i) (number place : ℕ) (
     size =
         let now = table_so.slots in
         let then = mid.table.slots in
-        let rooms = ap (λ (s : State). s.room) (sym shown_so) ∙ room_stays (start k.rules k.room) k.history.entries ∙ room ∙ sym (room_stays (start i.rules i.room) i.history.entries) in
+        let rooms = ap (λ (s : State). s.room) (sym shown_so) ∙ room_stays (start k.rules k.room) k.history.entries
+        ∙ room ∙ sym (room_stays (start i.rules i.room) i.history.entries) in
         now ∙ ap (λ n. n + TREE_CLIENTS) rooms ∙ sym then;
     slots = λ q out. slot_so q ∙ performs.made.others q out;
   }
@@ -191,10 +226,12 @@ module _ (j i k : Inside) (h : IsKept j) (mid : IsKept i) (number place : ℕ) (
   first_true true b e = refl
   first_true false b e = absurd (cc e)
 
-  spares_stay : slice_get (spares_of i.seats.items) place ≡ Some spare → spares_of k.seats.items ≡ spares_of i.seats.items
+  spares_stay : slice_get (spares_of i.seats.items) place ≡ Some spare
+      → spares_of k.seats.items ≡ spares_of i.seats.items
   spares_stay same = spares_so ∙ put_again (spares_of i.seats.items) place spare same
 
-  pub committed_rest : i.table.inodes ≡ j.table.inodes → i.table.free ≡ j.table.free → spares_of i.seats.items ≡ spares_of j.seats.items → LeavesFree (book_of j) number slots (book_of k)
+  pub committed_rest : i.table.inodes ≡ j.table.inodes → i.table.free ≡ j.table.free
+      → spares_of i.seats.items ≡ spares_of j.seats.items → LeavesFree (book_of j) number slots (book_of k)
   committed_rest inodes free spares = by performs.made.freed
     where
       place_is : number - 1 ≡ place
@@ -206,15 +243,18 @@ module _ (j i k : Inside) (h : IsKept j) (mid : IsKept i) (number place : ℕ) (
       made_so : has performs.after.nodes i.table.next ≡ true → would_make (shown w) walk.call ≡ true
       made_so made =
           ap (λ (v : World). would_make (shown v) walk.call) (sym ended)
-          ∙ would_have_made before performs.after number walk.call (next_number (world_of i)) _ k.table (ap (λ (p : Reply × State). p.1) steps_so) performs.made.counted
+          ∙ would_have_made before performs.after number walk.call (next_number (world_of i)) _ k.table
+          (ap (λ (p : Reply × State). p.1) steps_so) performs.made.counted
           (ap (has performs.after.nodes) (sym mid.table.next) ∙ made)
 
       let_go_so : (x : ℕ) → has before.nodes x ≡ true → kind_of performs.after x ≡ None → TakesName walk.call
       let_go_so x there gone =
-          has_let_go before performs.after number walk.call (next_number (world_of i)) x (ap (λ (p : Reply × State). p.1) steps_so)
+          has_let_go before performs.after number walk.call (next_number (world_of i)) x
+          (ap (λ (p : Reply × State). p.1) steps_so)
           (first_true (has_any (targets walk.call)) _ ((h.sound.valid number walk is).0.walked)) there gone
 
-      by : LeavesTable before performs.after (spares_of i.seats.items) place spare i.table k.table slots → LeavesFree (book_of j) number slots (book_of k)
+      by : LeavesTable before performs.after (spares_of i.seats.items) place spare i.table k.table slots
+          → LeavesFree (book_of j) number slots (book_of k)
       by (inl keeps) = inl (λ x. record {
         world = world_of k;
         inodes = (keeps.1.inodes ∙ inodes) x;
@@ -225,7 +265,8 @@ module _ (j i k : Inside) (h : IsKept j) (mid : IsKept i) (number place : ℕ) (
         may = (walk, is, made_so takes.made);
         slot = spare;
         made = (λ x. has (shown_so x).nodes (next_is x)) ∙ takes.made;
-        inodes = takes.inodes ∙ (λ x. slice_set (inodes x) (slice_index_or (spares x) (sym place_is x) 0) (sym next_is x));
+        inodes = takes.inodes ∙ (λ x. slice_set (inodes x) (slice_index_or (spares x) (sym place_is x) 0)
+            (sym next_is x));
         free = sym free ∙ takes.free;
         spares = spares_so ∙ (λ x. slice_set (spares x) (sym place_is x) spare);
       }))

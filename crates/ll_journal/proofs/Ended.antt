@@ -13,14 +13,14 @@ use Rattle.ll_rights.proofs.Maps.{get-remove_other, got_left, same_map}
 use Rattle.ll_seq.specs.declared.call.Call.{Call}
 use Rattle.ll_seq.specs.declared.reply.Reply.{Reply}
 use Rattle.ll_seq.specs.declared.reply.Reply.TheVariants.{Refused}
-use Rattle.ll_walks.specs.Walk.{Walk, at_ends}
-use Rattle.ll_walks.specs.World.{World, Replied, advance, is_full, may_commit, moved_by, overtaken, reply_to, shown}
-use Rattle.ll_walks.specs.World.{without_walk}
-use Rattle.ll_walks.specs.declared.step.Step.TheVariants.{Commit}
-use Rattle.ll_walks.specs.Sound.{IsSound}
-use Rattle.ll_walks.proofs.Shapes.{with_entry, with_stale}
-use Rattle.ll_walks.proofs.SoundSteps.{sound_ended}
-use Rattle.ll_walks.proofs.Worlds.{get-map_values}
+use Rattle.ll_worlds.specs.Walk.{Walk, at_ends}
+use Rattle.ll_worlds.specs.World.{World, Replied, advance, is_full, may_commit, moved_by, overtaken, reply_to, shown}
+use Rattle.ll_worlds.specs.World.{without_walk}
+use Rattle.ll_worlds.specs.declared.step.Step.TheVariants.{Commit}
+use Rattle.ll_worlds.specs.Sound.{IsSound}
+use Rattle.ll_worlds.proofs.Shapes.{with_entry, with_stale}
+use Rattle.ll_worlds.proofs.SoundSteps.{sound_ended}
+use Rattle.ll_worlds.proofs.Worlds.{get-map_values}
 use Rattle.ll_journal.specs.declared.stage.Stage.{Stage}
 use Rattle.ll_journal.specs.declared.seat.Seat.TheInside.{Inside}
 use Rattle.ll_journal.specs.Book as book

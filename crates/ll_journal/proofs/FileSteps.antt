@@ -1,5 +1,7 @@
 -- A client's call on a descriptor: what the step comes to, and what the journal keeps.
-use Rattle.std.specs.Prelude.{◌≡◌, ◌≢◌, ℕ, suc, ◌≤◌, Bool, true, false, cond, not, ◌&&◌, List, [], ◌∷◌, ◌++◌, length, Option, Some, None, Result, Ok, Err, IfOk, IfSome, IfNone, OnErr, is_none, is_some, option_map, option_and_then, unwrap_or, slice_get, slice_set, refl}
+use Rattle.std.specs.Prelude.{◌≡◌, ◌≢◌, ℕ, suc, ◌≤◌, Bool, true, false, cond, not, ◌&&◌, List, [], ◌∷◌, ◌++◌, length}
+use Rattle.std.specs.Prelude.{Option, Some, None, Result, Ok, Err, IfOk, IfSome, IfNone, OnErr, is_none, is_some}
+use Rattle.std.specs.Prelude.{option_map, option_and_then, unwrap_or, slice_get, slice_set, refl}
 use Rattle.std.specs.declared.alloc.AllocError.{AllocError}
 use Rattle.std.specs.Option.{option_map_or}
 use Rattle.std.proofs.Common.{sym, subst, ap, ◌∙◌, inl, inr, arith}
@@ -22,11 +24,12 @@ use Rattle.ll_seq.specs.Step.{step, refusals, client_of}
 use Rattle.ll_seq.specs.Effects.{let_go, lives, with_bytes, with_client}
 use Rattle.ll_changes.proofs.Living.{let_go_gone, let_go_next}
 use Rattle.ll_changes.proofs.SlotAccounts.{content_of, bytes_put, bytes_other, let_go_other, let_go_living}
-use Rattle.ll_walks.specs.Walk.{Walk}
-use Rattle.ll_walks.specs.World.{World, NotNow, Replied, advance, shown, descriptor_of, is_idle, is_full, is_on_descriptor, next_number, reply_to}
-use Rattle.ll_walks.specs.declared.step.Step.TheVariants.{FdCommit}
-use Rattle.ll_walks.specs.Sound.{IsSound}
-use Rattle.ll_walks.proofs.Shapes.{with_entry}
+use Rattle.ll_worlds.specs.Walk.{Walk}
+use Rattle.ll_worlds.specs.World.{World, NotNow, Replied, advance, shown, descriptor_of, is_idle, is_full}
+use Rattle.ll_worlds.specs.World.{is_on_descriptor, next_number, reply_to}
+use Rattle.ll_worlds.specs.declared.step.Step.TheVariants.{FdCommit}
+use Rattle.ll_worlds.specs.Sound.{IsSound}
+use Rattle.ll_worlds.proofs.Shapes.{with_entry}
 use Rattle.ll_held.specs.declared.held.Held.{Held}
 use Rattle.ll_held.specs.Lent.{vacant}
 use Rattle.ll_inodes.specs.InodeTable.{Table, IsTable, NotIn, without_inode}
@@ -53,7 +56,8 @@ use Rattle.ll_journal.proofs.OpenFiles.{descriptor_file, file_kind}
 use Rattle.ll_journal.proofs.Shown.{shown_reply}
 use Rattle.ll_journal.proofs.Starved.{step_granted}
 use Rattle.ll_journal.proofs.Starting.{sound_after, spares_kept}
-use Rattle.ll_journal.proofs.Stepping.{there, walks_same, seated_put, set_again, world_unchanged, book_unchanged, kept_unchanged, entered}
+use Rattle.ll_journal.proofs.Stepping.{there, walks_same, seated_put, set_again, world_unchanged, book_unchanged}
+use Rattle.ll_journal.proofs.Stepping.{kept_unchanged, entered}
 
 -- ---- whether the call is one for this step
 
@@ -72,7 +76,8 @@ none_open : (b : Bool) (o : Option Descriptor) → cond b o None ≡ None → (b
 none_open true o e = ap is_some e
 none_open false o e = refl
 
-pub idle_open : (seat : Seat) (fd : ℕ) (d : Descriptor) → opened_idle seat fd ≡ Some d → (seat.walk ≡ None) × (get seat.client.descriptors fd ≡ Some d)
+pub idle_open : (seat : Seat) (fd : ℕ) (d : Descriptor) → opened_idle seat fd ≡ Some d → (seat.walk ≡ None)
+    × (get seat.client.descriptors fd ≡ Some d)
 idle_open seat fd d e = by seat.walk refl
   where
     by : (o : Option Walk) → seat.walk ≡ o → (seat.walk ≡ None) × (get seat.client.descriptors fd ≡ Some d)
@@ -95,27 +100,33 @@ module _ (j : Inside) (h : IsKept j) (number : ℕ) (call : Call) where
   abbrev in_seat : Option Seat → Bool
   in_seat o = option_map_or (λ (seat : Seat). may_on seat call) o false
 
-  may_is : (is_idle w number && is_on_descriptor (client_of (shown w) number) call) ≡ in_seat (seat_at j.seats.items number)
+  may_is : (is_idle w number && is_on_descriptor (client_of (shown w) number) call)
+      ≡ in_seat (seat_at j.seats.items number)
   may_is =
       ap (λ c. told c (get w.walks number)) (h.seated number)
-      ∙ ap (told (option_map (λ (seat : Seat). seat.client) (seat_at j.seats.items number))) (walk_at j.seats.items number)
+      ∙ ap (told (option_map (λ (seat : Seat). seat.client) (seat_at j.seats.items number)))
+      (walk_at j.seats.items number)
       ∙ by (seat_at j.seats.items number)
     where
-      by : (o : Option Seat) → told (option_map (λ (seat : Seat). seat.client) o) (option_and_then (λ (seat : Seat). seat.walk) o) ≡ in_seat o
+      by : (o : Option Seat) → told (option_map (λ (seat : Seat). seat.client) o)
+          (option_and_then (λ (seat : Seat). seat.walk) o) ≡ in_seat o
       by None = refl
       by (Some seat) = ap (λ b. b && is_on_descriptor seat.client call) (not_some seat.walk)
 
   pub no_seat : seat_at j.seats.items number ≡ None → advance w (FdCommit number call) ≡ (NotNow, w)
-  no_seat none = direct_not_now w number (is_on_descriptor (client_of (shown w) number) call) call (may_is ∙ ap in_seat none)
+  no_seat none = direct_not_now w number (is_on_descriptor (client_of (shown w) number) call) call (may_is
+      ∙ ap in_seat none)
 
   pub no_descriptor : descriptor_of call ≡ None → advance w (FdCommit number call) ≡ (NotNow, w)
-  no_descriptor none = direct_not_now w number (is_on_descriptor (client_of (shown w) number) call) call (ap (λ b. is_idle w number && b) (on_none (client_of (shown w) number) call none) ∙ never (is_idle w number))
+  no_descriptor none = direct_not_now w number (is_on_descriptor (client_of (shown w) number) call) call
+      (ap (λ b. is_idle w number && b) (on_none (client_of (shown w) number) call none) ∙ never (is_idle w number))
     where
       never : (b : Bool) → (b && false) ≡ false
       never true = refl
       never false = refl
 
-  module _ (place : ℕ) (seat : Seat) (at : slice_get j.seats.items place ≡ Some seat) (numbered : number ≡ suc place) (fd : ℕ) (what : FileCall) (is_call : call ≡ on_file what fd) where
+  module _ (place : ℕ) (seat : Seat) (at : slice_get j.seats.items place ≡ Some seat) (numbered : number ≡ suc place)
+      (fd : ℕ) (what : FileCall) (is_call : call ≡ on_file what fd) where
     stands : seat_at j.seats.items number ≡ Some seat
     stands = ap (seat_at j.seats.items) numbered ∙ at
 
@@ -123,7 +134,8 @@ module _ (j : Inside) (h : IsKept j) (number : ℕ) (call : Call) where
     seat_may = ap in_seat stands ∙ ap (λ b. is_none seat.walk && b) (on_descriptor seat.client call fd what is_call)
 
     pub not_open : opened_idle seat fd ≡ None → advance w (FdCommit number call) ≡ (NotNow, w)
-    not_open none = direct_not_now w number (is_on_descriptor (client_of (shown w) number) call) call (may_is ∙ seat_may ∙ none_open (is_none seat.walk) (get seat.client.descriptors fd) none)
+    not_open none = direct_not_now w number (is_on_descriptor (client_of (shown w) number) call) call (may_is ∙ seat_may
+        ∙ none_open (is_none seat.walk) (get seat.client.descriptors fd) none)
 
     module _ (d : Descriptor) (idle : seat.walk ≡ None) (holds : get seat.client.descriptors fd ≡ Some d) where
       may : (is_idle w number && is_on_descriptor (client_of (shown w) number) call) ≡ true
@@ -145,12 +157,15 @@ module _ (j : Inside) (h : IsKept j) (number : ℕ) (call : Call) where
       pub file_full : is_full w ≡ true → advance w (FdCommit number call) ≡ (Replied (replies.Refused HistoryFull), w)
       file_full full = direct_full w number (is_on_descriptor (client_of (shown w) number) call) call may full
 
-      pub file_replies : (reply : Reply) → is_full w ≡ false → reply ≡ reply_to w number call → advance w (FdCommit number call) ≡ (Replied reply, with_entry w number call reply)
-      file_replies reply room is = direct_replies w number (is_on_descriptor (client_of (shown w) number) call) call may room ∙ (λ i. (Replied (sym is i), with_entry w number call (sym is i)))
+      pub file_replies : (reply : Reply) → is_full w ≡ false → reply ≡ reply_to w number call
+          → advance w (FdCommit number call) ≡ (Replied reply, with_entry w number call reply)
+      file_replies reply room is = direct_replies w number (is_on_descriptor (client_of (shown w) number) call) call may
+          room ∙ (λ i. (Replied (sym is i), with_entry w number call (sym is i)))
 
 -- ---- what lies in the lent slot
 
-module _ (j : Inside) (h : IsKept j) (number place : ℕ) (seat : Seat) (at : slice_get j.seats.items place ≡ Some seat) (numbered : number ≡ suc place) (fd : ℕ) (d : Descriptor)
+module _ (j : Inside) (h : IsKept j) (number place : ℕ) (seat : Seat) (at : slice_get j.seats.items place ≡ Some seat)
+    (numbered : number ≡ suc place) (fd : ℕ) (d : Descriptor)
     (holds : get seat.client.descriptors fd ≡ Some d) where
   pub owner : get (shown (world_of j)).clients number ≡ Some seat.client
   owner = h.seated number ∙ ap (option_map (λ (s : Seat). s.client)) (ap (seat_at j.seats.items) numbered ∙ at)
@@ -165,7 +180,8 @@ module _ (j : Inside) (h : IsKept j) (number place : ℕ) (seat : Seat) (at : sl
   pub place_is : (slot : ℕ) × (get j.table.places d.inode ≡ Some slot)
   place_is = by (get j.table.places d.inode) refl (h.table.living d.inode ∙ lives_on)
     where
-      by : (o : Option ℕ) → get j.table.places d.inode ≡ o → is_some o ≡ true → (slot : ℕ) × (get j.table.places d.inode ≡ Some slot)
+      by : (o : Option ℕ) → get j.table.places d.inode ≡ o → is_some o ≡ true → (slot : ℕ)
+          × (get j.table.places d.inode ≡ Some slot)
       by None e there = absurd (cc there)
       by (Some slot) e there = (slot, e)
 
@@ -183,7 +199,8 @@ module _ (j : Inside) (h : IsKept j) (number place : ℕ) (seat : Seat) (at : sl
     file_is = lent ∙ slot_holds (book_of j) slot d.inode lies some_inode
 
     pub plain : is_dir file.node.kind ≡ false
-    plain = ap (λ (f : Held). is_dir f.node.kind) file_is ∙ (descriptor_file (world_of j) number fd seat.client d owner holds).1
+    plain = ap (λ (f : Held). is_dir f.node.kind) file_is
+        ∙ (descriptor_file (world_of j) number fd seat.client d owner holds).1
 
     pub placed_at : get j.table.places d.inode ≡ Some slot
     placed_at = h.table.placed.lies slot d.inode (got_of_index j.table.inodes slot d.inode lies some_inode) some_inode
@@ -191,7 +208,8 @@ module _ (j : Inside) (h : IsKept j) (number place : ℕ) (seat : Seat) (at : sl
 -- ---- the whole step
 
 -- what it is to show
-pub record FileStepped (b : Book) (number : ℕ) (call : Call) (slot : ℕ) (answer : Made) (file : Held) (k : Inside) : Type 0 where
+pub record FileStepped (b : Book) (number : ℕ) (call : Call) (slot : ℕ) (answer : Made) (file : Held) (k : Inside) :
+    Type 0 where
   pub kept : IsKept k
   pub does : Answers b (FdCommit number call) answer (book_of k)
   pub lent : file ≡ slot_of (book_of k) slot
@@ -199,17 +217,26 @@ pub record FileStepped (b : Book) (number : ℕ) (call : Call) (slot : ℕ) (ans
   pub rest : LeavesSlot call slot b (book_of k)
 
 same_spares : (b b' : Book) (slots : List ℕ) → b' ≡ b → Spares b b' slots
-same_spares b b' slots e = subst (λ x. Spares b x slots) (sym e) (record { limit = refl; size = refl; slots = λ j out. refl })
+same_spares b b' slots e = subst (λ x. Spares b x slots) (sym e)
+    (record { limit = refl; size = refl; slots = λ j out. refl })
 
-replied_so : (b b' : Book) (number : ℕ) (call : Call) (answer : Made) (reply : Reply) → answer ≡ answers.Replied reply → is_full b.world ≡ false → advance b.world (FdCommit number call) ≡ (Replied reply, b'.world) → Answers b (FdCommit number call) answer b'
-replied_so b b' number call answer reply is room e = subst (λ a. Answers b (FdCommit number call) a b') (sym is) (room, e)
+replied_so : (b b' : Book) (number : ℕ) (call : Call) (answer : Made) (reply : Reply) → answer ≡ answers.Replied reply
+    → is_full b.world ≡ false → advance b.world (FdCommit number call) ≡ (Replied reply, b'.world)
+    → Answers b (FdCommit number call) answer b'
+replied_so b b' number call answer reply is room e =
+    subst (λ a. Answers b (FdCommit number call) a b') (sym is) (room, e)
 
-starved_so : (b b' : Book) (number : ℕ) (call : Call) (answer : Made) → answer ≡ answers.NoMemory → b' ≡ b → Starves b.world (FdCommit number call) → Answers b (FdCommit number call) answer b'
-starved_so b b' number call answer is e starves = subst (λ a. Answers b (FdCommit number call) a b') (sym is) (e, starves)
+starved_so : (b b' : Book) (number : ℕ) (call : Call) (answer : Made) → answer ≡ answers.NoMemory → b' ≡ b
+    → Starves b.world (FdCommit number call) → Answers b (FdCommit number call) answer b'
+starved_so b b' number call answer is e starves =
+    subst (λ a. Answers b (FdCommit number call) a b') (sym is) (e, starves)
 
-module _ (j k : Inside) (h : IsKept j) (number : ℕ) (call : Call) (place : ℕ) (old : Seat) (at : slice_get j.seats.items place ≡ Some old) (numbered : number ≡ suc place)
-    (fd : ℕ) (what : FileCall) (is_call : call ≡ on_file what fd) (d : Descriptor) (idle : old.walk ≡ None) (holds : get old.client.descriptors fd ≡ Some d)
-    (slot : ℕ) (file : Held) (lent : file ≡ slot_of (book_of j) slot) (same : d.inode ≡ file.inode) (room_left : is_full (world_of j) ≡ false)
+module _ (j k : Inside) (h : IsKept j) (number : ℕ) (call : Call) (place : ℕ) (old : Seat)
+    (at : slice_get j.seats.items place ≡ Some old) (numbered : number ≡ suc place)
+    (fd : ℕ) (what : FileCall) (is_call : call ≡ on_file what fd) (d : Descriptor) (idle : old.walk ≡ None)
+    (holds : get old.client.descriptors fd ≡ Some d)
+    (slot : ℕ) (file : Held) (lent : file ≡ slot_of (book_of j) slot) (same : d.inode ≡ file.inode)
+    (room_left : is_full (world_of j) ≡ false)
     (rules : k.rules ≡ j.rules) (room : k.room ≡ j.room) (gate : k.gate ≡ j.gate) (answer : Made) (file' : Held) where
   abbrev before : State
   before = shown (world_of j)
@@ -230,8 +257,10 @@ module _ (j k : Inside) (h : IsKept j) (number : ℕ) (call : Call) (place : ℕ
   held_by_caller = ap (λ (c : ClientRecord). get c.descriptors fd) caller_is ∙ holds
 
   -- the call is answered so, and the tree is another
-  module _ (reply : Reply) (t : State) (steps : step before number call (next_number (world_of j)) ≡ (reply, t)) (history : k.history ≡ entered j number call reply)
-      (walks_are : walks_from 1 k.seats.items ≡ walks_from 1 j.seats.items) (seated : AreSeated t k.seats.items) (table : IsTable t (spares_of k.seats.items) k.table)
+  module _ (reply : Reply) (t : State) (steps : step before number call (next_number (world_of j)) ≡ (reply, t))
+      (history : k.history ≡ entered j number call reply)
+      (walks_are : walks_from 1 k.seats.items ≡ walks_from 1 j.seats.items) (seated : AreSeated t k.seats.items)
+      (table : IsTable t (spares_of k.seats.items) k.table)
       (many : length k.seats.items ≡ length j.seats.items) (next : k.table.next ≡ j.table.next) where
     told_so : reply ≡ reply_to (world_of j) number call
     told_so = sym (ap (λ (p : Reply × State). p.0) steps)
@@ -243,7 +272,8 @@ module _ (j k : Inside) (h : IsKept j) (number : ℕ) (call : Call) (place : ℕ
     world_so = world_is j k h number call reply told_so rules room gate history walks_are
 
     advances : advance (world_of j) (FdCommit number call) ≡ (Replied reply, world_of k)
-    advances = file_replies j h number call place old at numbered fd what is_call d idle holds reply room_left told_so ∙ ap (λ (v : World). (Replied reply, v)) (sym world_so)
+    advances = file_replies j h number call place old at numbered fd what is_call d idle holds reply room_left told_so
+        ∙ ap (λ (v : World). (Replied reply, v)) (sym world_so)
 
     kept_so : IsKept k
     kept_so =
@@ -257,25 +287,33 @@ module _ (j k : Inside) (h : IsKept j) (number : ℕ) (call : Call) (place : ℕ
     tree_is : shown (world_of k) ≡ t
     tree_is = ap shown answered_is ∙ shown_reply (world_of j) number call ∙ after
 
-    held_after : (i : ℕ) → held_of (world_of k) i ≡ record { inode = i; node = record (content_of t i) { mark = mark_of (world_of j) i } }
+    held_after : (i : ℕ) → held_of (world_of k) i
+        ≡ record { inode = i; node = record (content_of t i) { mark = mark_of (world_of j) i } }
     held_after i =
         ap (λ v. held_of v i) answered_is
         ∙ held_answered (world_of j) number call h.sound (subst IsSound answered_is kept_so.sound) i
         ∙ ap (λ s. record { inode = i; node = record (content_of s i) { mark = mark_of (world_of j) i } }) after
 
     held_same : (i : ℕ) → content_of t i ≡ content_of before i → held_of (world_of k) i ≡ held_of (world_of j) i
-    held_same i content = held_after i ∙ ap (λ s. record { inode = i; node = record s { mark = mark_of (world_of j) i } }) content
+    held_same i content = held_after i
+        ∙ ap (λ s. record { inode = i; node = record s { mark = mark_of (world_of j) i } }) content
 
-    spares_so : length k.table.inodes ≡ length j.table.inodes → ((q : ℕ) → NotIn q (slot ∷ []) → inode_in (book_of k) q ≡ inode_in (book_of j) q) → ((i : ℕ) → i ≢ d.inode → content_of t i ≡ content_of before i)
+    spares_so : length k.table.inodes ≡ length j.table.inodes
+        → ((q : ℕ) → NotIn q (slot ∷ []) → inode_in (book_of k) q ≡ inode_in (book_of j) q)
+        → ((i : ℕ) → i ≢ d.inode → content_of t i ≡ content_of before i)
         → Spares (book_of j) (book_of k) (slot ∷ [])
     spares_so size stay content =
-        spares_others (book_of j) j.table.places h.table.placed (book_of k) (slot ∷ []) (ap (λ (v : World). v.limit) world_so) size stay
-        (λ q away some apart. held_same (inode_in (book_of j) q) (content (inode_in (book_of j) q) (λ e. apart.0 (e ∙ sym at_slot))))
+        spares_others (book_of j) j.table.places h.table.placed (book_of k) (slot ∷ [])
+        (ap (λ (v : World). v.limit) world_so) size stay
+        (λ q away some apart. held_same (inode_in (book_of j) q)
+        (content (inode_in (book_of j) q) (λ e. apart.0 (e ∙ sym at_slot))))
 
   -- ---- on the file's bytes
 
-  module _ (asked : BytesCall) (on : call ≡ on_bytes asked fd) (seats : k.seats.items ≡ j.seats.items) (table : k.table ≡ j.table) (reply : Reply)
-      (comes : ComesOn d (on_bytes asked) file.node.bytes reply file'.node.bytes) (others : file' ≡ record file { node = record file.node { bytes = file'.node.bytes } })
+  module _ (asked : BytesCall) (on : call ≡ on_bytes asked fd) (seats : k.seats.items ≡ j.seats.items)
+      (table : k.table ≡ j.table) (reply : Reply)
+      (comes : ComesOn d (on_bytes asked) file.node.bytes reply file'.node.bytes)
+      (others : file' ≡ record file { node = record file.node { bytes = file'.node.bytes } })
       (history : k.history ≡ entered j number call reply) (is : answer ≡ answers.Replied reply) where
     abbrev bytes : List ℕ
     bytes = file'.node.bytes
@@ -289,7 +327,8 @@ module _ (j k : Inside) (h : IsKept j) (number : ℕ) (call : Call) (place : ℕ
         ∙ comes before number (next_number (world_of j)) fd held_by_caller (ap (λ (f : Held). f.node.bytes) (sym was))
 
     still_seated : AreSeated changed k.seats.items
-    still_seated = subst (AreSeated changed) (sym seats) (λ q. ap (λ m. get m q) (with_bytes_clients before d.inode bytes) ∙ h.seated q)
+    still_seated = subst (AreSeated changed) (sym seats)
+        (λ q. ap (λ m. get m q) (with_bytes_clients before d.inode bytes) ∙ h.seated q)
 
     still_table : IsTable changed (spares_of k.seats.items) k.table
     still_table =
@@ -303,30 +342,46 @@ module _ (j k : Inside) (h : IsKept j) (number : ℕ) (call : Call) (place : ℕ
     same_inodes = ap (λ (t : Table). t.inodes) table
 
     bytes_kept_so : IsKept k
-    bytes_kept_so = kept_so reply changed steps_so history (ap (walks_from 1) seats) still_seated still_table (ap length seats) same_next
+    bytes_kept_so = kept_so reply changed steps_so history (ap (walks_from 1) seats) still_seated still_table
+        (ap length seats) same_next
 
     lent_bytes : file' ≡ slot_of (book_of k) slot
     lent_bytes =
         others
         ∙ ap (λ (f : Held). record f { node = record f.node { bytes = bytes } }) was
-        ∙ sym (ap (λ c. record { inode = d.inode; node = record c { mark = mark_of (world_of j) d.inode } }) (bytes_put before d.inode bytes Reg (file_kind (world_of j) number fd old.client d (owner j h number place old at numbered fd d holds) holds)))
-        ∙ sym (held_after reply changed steps_so history (ap (walks_from 1) seats) still_seated still_table (ap length seats) same_next d.inode)
-        ∙ sym (slot_holds (book_of k) slot d.inode (ap (λ ns. inode_in (record (book_of k) { inodes = ns }) slot) same_inodes ∙ at_slot) not_none)
+        ∙ sym (ap (λ c. record { inode = d.inode; node = record c { mark = mark_of (world_of j) d.inode } })
+        (bytes_put before d.inode bytes Reg
+        (file_kind (world_of j) number fd old.client d (owner j h number place old at numbered fd d holds) holds)))
+        ∙ sym (held_after reply changed steps_so history (ap (walks_from 1) seats) still_seated still_table
+        (ap length seats) same_next d.inode)
+        ∙ sym (slot_holds (book_of k) slot d.inode
+        (ap (λ ns. inode_in (record (book_of k) { inodes = ns }) slot) same_inodes ∙ at_slot) not_none)
 
     on_its_bytes : FileStepped (book_of j) number call slot answer file' k
     on_its_bytes = record {
       kept = bytes_kept_so;
-      does = replied_so (book_of j) (book_of k) number call answer reply is room_left (advances reply changed steps_so history (ap (walks_from 1) seats) still_seated still_table (ap length seats) same_next);
+      does = replied_so (book_of j) (book_of k) number call answer reply is room_left
+          (advances reply changed steps_so history (ap (walks_from 1) seats) still_seated still_table (ap length seats)
+          same_next);
       lent = lent_bytes;
-      spares = spares_so reply changed steps_so history (ap (walks_from 1) seats) still_seated still_table (ap length seats) same_next (ap length same_inodes)
-          (λ q away. ap (λ ns. inode_in (record (book_of k) { inodes = ns }) q) same_inodes) (bytes_other before d.inode bytes);
-      rest = inl (λ i. record { world = world_of k; inodes = (table i).inodes; free = (table i).free; spares = spares_of (seats i) });
+      spares = spares_so reply changed steps_so history (ap (walks_from 1) seats) still_seated still_table
+          (ap length seats) same_next (ap length same_inodes)
+          (λ q away. ap (λ ns. inode_in (record (book_of k) { inodes = ns }) q) same_inodes)
+          (bytes_other before d.inode bytes);
+      rest = inl (λ i. record {
+        world = world_of k;
+        inodes = (table i).inodes;
+        free = (table i).free;
+        spares = spares_of (seats i);
+      });
     }
 
   -- ---- closing
 
-  module _ (on : call ≡ Close fd) (new : Seat) (seats : k.seats.items ≡ slice_set j.seats.items place new) (new_is : new ≡ record old { client = unopened old.client fd })
-      (lets : LetsGo d.inode j.table k.table file file') (reply : Reply) (done : reply ≡ replies.Done) (history : k.history ≡ entered j number call reply) (is : answer ≡ answers.Replied reply) where
+  module _ (on : call ≡ Close fd) (new : Seat) (seats : k.seats.items ≡ slice_set j.seats.items place new)
+      (new_is : new ≡ record old { client = unopened old.client fd })
+      (lets : LetsGo d.inode j.table k.table file file') (reply : Reply) (done : reply ≡ replies.Done)
+      (history : k.history ≡ entered j number call reply) (is : answer ≡ answers.Replied reply) where
     abbrev without : State
     without = with_client before number (unopened old.client fd)
 
@@ -340,7 +395,8 @@ module _ (j k : Inside) (h : IsKept j) (number : ℕ) (call : Call) (place : ℕ
         ∙ (λ i. (sym done i, let_go (with_client before number (unopened (caller_is i) fd)) d.inode))
 
     walks_stay : walks_from 1 k.seats.items ≡ walks_from 1 j.seats.items
-    walks_stay = ap (walks_from 1) seats ∙ walks_same j.seats.items place old new 1 at (ap (λ (s : Seat). s.walk) new_is)
+    walks_stay = ap (walks_from 1) seats
+        ∙ walks_same j.seats.items place old new 1 at (ap (λ (s : Seat). s.walk) new_is)
 
     spares_are : spares_of k.seats.items ≡ spares_of j.seats.items
     spares_are = ap spares_of seats ∙ spares_kept j.seats.items place old new at (ap (λ (s : Seat). s.spare) new_is)
@@ -373,20 +429,27 @@ module _ (j k : Inside) (h : IsKept j) (number : ℕ) (call : Call) (place : ℕ
     closed_kept = kept_so reply left steps_closed history walks_stay seated_less table_less seats_many next_same
 
     closed_does : Answers (book_of j) (FdCommit number call) answer (book_of k)
-    closed_does = replied_so (book_of j) (book_of k) number call answer reply is room_left (advances reply left steps_closed history walks_stay seated_less table_less seats_many next_same)
+    closed_does = replied_so (book_of j) (book_of k) number call answer reply is room_left
+        (advances reply left steps_closed history walks_stay seated_less table_less seats_many next_same)
 
-    closed_spares : length k.table.inodes ≡ length j.table.inodes → ((q : ℕ) → NotIn q (slot ∷ []) → inode_in (book_of k) q ≡ inode_in (book_of j) q) → Spares (book_of j) (book_of k) (slot ∷ [])
-    closed_spares size stay = spares_so reply left steps_closed history walks_stay seated_less table_less seats_many next_same size stay (let_go_other without d.inode)
+    closed_spares : length k.table.inodes ≡ length j.table.inodes
+        → ((q : ℕ) → NotIn q (slot ∷ []) → inode_in (book_of k) q ≡ inode_in (book_of j) q)
+        → Spares (book_of j) (book_of k) (slot ∷ [])
+    closed_spares size stay = spares_so reply left steps_closed history walks_stay seated_less table_less seats_many
+        next_same size stay (let_go_other without d.inode)
 
     abbrev slot_is : get j.table.places d.inode ≡ Some slot
     slot_is = placed_at j h number place old at numbered fd d holds slot file lent same
 
     -- the table's slots, by whether the node goes
-    inodes_by : (b : Bool) → lets.goes ≡ b → k.table.inodes ≡ cond b (without_inode j.table.inodes d.inode) j.table.inodes
-    inodes_by b e = lets.inodes before (spares_of j.seats.items) h.table ∙ ap (λ b. cond b (without_inode j.table.inodes d.inode) j.table.inodes) e
+    inodes_by : (b : Bool) → lets.goes ≡ b
+        → k.table.inodes ≡ cond b (without_inode j.table.inodes d.inode) j.table.inodes
+    inodes_by b e = lets.inodes before (spares_of j.seats.items) h.table
+        ∙ ap (λ b. cond b (without_inode j.table.inodes d.inode) j.table.inodes) e
 
     free_by : (b : Bool) → lets.goes ≡ b → k.table.free ≡ cond b (j.table.free ++ slot ∷ []) j.table.free
-    free_by b e = lets.free before (spares_of j.seats.items) slot h.table slot_is ∙ ap (λ b. cond b (j.table.free ++ slot ∷ []) j.table.free) e
+    free_by b e = lets.free before (spares_of j.seats.items) slot h.table slot_is
+        ∙ ap (λ b. cond b (j.table.free ++ slot ∷ []) j.table.free) e
 
     lent_by : (b : Bool) → lets.goes ≡ b → file' ≡ cond b vacant file
     lent_by b e = lets.lent ∙ ap (λ b. cond b vacant file) e
@@ -398,10 +461,16 @@ module _ (j k : Inside) (h : IsKept j) (number : ℕ) (call : Call) (place : ℕ
       does = closed_does;
       lent =
           lent_by false e ∙ was
-          ∙ sym (held_same reply left steps_closed history walks_stay seated_less table_less seats_many next_same d.inode (ap (λ s. content_of s d.inode) (let_go_living without d.inode living)))
+          ∙ sym (held_same reply left steps_closed history walks_stay seated_less table_less seats_many next_same
+          d.inode (ap (λ s. content_of s d.inode) (let_go_living without d.inode living)))
           ∙ sym (slot_holds (book_of k) slot d.inode (stay slot ∙ at_slot) not_none);
       spares = closed_spares (ap length same_inodes) (λ q away. stay q);
-      rest = inl (λ i. record { world = world_of k; inodes = same_inodes i; free = free_by false e i; spares = spares_are i });
+      rest = inl (λ i. record {
+        world = world_of k;
+        inodes = same_inodes i;
+        free = free_by false e i;
+        spares = spares_are i;
+      });
     }
       where
         same_inodes : k.table.inodes ≡ j.table.inodes
@@ -415,7 +484,8 @@ module _ (j k : Inside) (h : IsKept j) (number : ℕ) (call : Call) (place : ℕ
         not_dead false e = absurd (cc e)
 
         living : lives without d.inode ≡ true
-        living = not_dead _ (sym e ∙ lets.dies before (spares_of j.seats.items) number old.client fd d h.table here_is holds refl alive)
+        living = not_dead _ (sym e ∙ lets.dies before (spares_of j.seats.items) number old.client fd d h.table here_is
+            holds refl alive)
 
     tree_left : shown (world_of k) ≡ left
     tree_left = tree_is reply left steps_closed history walks_stay seated_less table_less seats_many next_same
@@ -425,14 +495,17 @@ module _ (j k : Inside) (h : IsKept j) (number : ℕ) (call : Call) (place : ℕ
     goes_so e = record {
       kept = closed_kept;
       does = closed_does;
-      lent = lent_by true e ∙ sym (slot_vacant (book_of k) slot (in_after slot ∙ left_slot j.table.inodes d.inode slot at_slot));
-      spares = closed_spares (ap length inodes ∙ length-map j.table.inodes _) (λ q away. in_after q ∙ other_slot j.table.inodes d.inode q (λ lies. away.0 (only q lies)));
+      lent = lent_by true e ∙ sym (slot_vacant (book_of k) slot (in_after slot
+          ∙ left_slot j.table.inodes d.inode slot at_slot));
+      spares = closed_spares (ap length inodes ∙ length-map j.table.inodes _) (λ q away. in_after q
+          ∙ other_slot j.table.inodes d.inode q (λ lies. away.0 (only q lies)));
       rest = inr (
         fd,
         on,
         record {
           there = ap (has before.nodes) at_slot ∙ alive;
-          gone = ap (kind_of (shown (world_of k))) at_slot ∙ ap (λ s. kind_of s d.inode) tree_left ∙ let_go_gone without d.inode dead;
+          gone = ap (kind_of (shown (world_of k))) at_slot ∙ ap (λ s. kind_of s d.inode) tree_left
+              ∙ let_go_gone without d.inode dead;
           inodes = inodes ∙ ap (without_inode j.table.inodes) (sym at_slot);
           free = free_by true e;
           spares = spares_are;
@@ -448,13 +521,16 @@ module _ (j k : Inside) (h : IsKept j) (number : ℕ) (call : Call) (place : ℕ
         not_living false e = refl
 
         dead : lives without d.inode ≡ false
-        dead = not_living _ (sym e ∙ lets.dies before (spares_of j.seats.items) number old.client fd d h.table here_is holds refl alive)
+        dead = not_living _ (sym e ∙ lets.dies before (spares_of j.seats.items) number old.client fd d h.table here_is
+            holds refl alive)
 
-        in_after : (q : ℕ) → inode_in (book_of k) q ≡ inode_in (record (book_of k) { inodes = without_inode j.table.inodes d.inode }) q
+        in_after : (q : ℕ) → inode_in (book_of k) q
+            ≡ inode_in (record (book_of k) { inodes = without_inode j.table.inodes d.inode }) q
         in_after q = ap (λ ns. inode_in (record (book_of k) { inodes = ns }) q) inodes
 
         only : (q : ℕ) → inode_in (book_of j) q ≡ d.inode → q ≡ slot
-        only q lies = one_slot (book_of j) j.table.places h.table.placed q slot (lies ∙ sym at_slot) (λ none. not_none (sym lies ∙ none))
+        only q lies = one_slot (book_of j) j.table.places h.table.placed q slot (lies ∙ sym at_slot)
+            (λ none. not_none (sym lies ∙ none))
 
     closes : FileStepped (book_of j) number call slot answer file' k
     closes = by lets.goes refl
@@ -469,14 +545,16 @@ module _ (j k : Inside) (h : IsKept j) (number : ℕ) (call : Call) (place : ℕ
   starves free = record {
     reply = reply_to (world_of j) number call;
     after = with_entry (world_of j) number call (reply_to (world_of j) number call);
-    replied = file_replies j h number call place old at numbered fd what is_call d idle holds (reply_to (world_of j) number call) room_left refl;
+    replied = file_replies j h number call place old at numbered fd what is_call d idle holds
+        (reply_to (world_of j) number call) room_left refl;
     room = room_left;
     granted =
         step_granted before number call (next_number (world_of j))
         (ap (refusals before (client_of before number)) is_call ∙ free before number fd held_by_caller);
   }
 
-  unmade : k.seats.items ≡ j.seats.items → k.table ≡ j.table → k.history ≡ j.history → file' ≡ file → answer ≡ answers.NoMemory → IsFreeOn d (on_file what) → FileStepped (book_of j) number call slot answer file' k
+  unmade : k.seats.items ≡ j.seats.items → k.table ≡ j.table → k.history ≡ j.history → file' ≡ file
+      → answer ≡ answers.NoMemory → IsFreeOn d (on_file what) → FileStepped (book_of j) number call slot answer file' k
   unmade seats table history stays is free =
       let same_book = book_unchanged j k rules room gate history seats table in
       record {
@@ -484,46 +562,76 @@ module _ (j k : Inside) (h : IsKept j) (number : ℕ) (call : Call) (place : ℕ
         does = starved_so (book_of j) (book_of k) number call answer is same_book (starves free);
         lent = stays ∙ lent ∙ ap (λ b. slot_of b slot) (sym same_book);
         spares = same_spares (book_of j) (book_of k) (slot ∷ []) same_book;
-        rest = inl (same_book ∙ ap (λ v. record (book_of j) { world = v }) (sym (world_unchanged j k rules room gate history seats table)));
+        rest = inl (same_book ∙ ap (λ v. record (book_of j) { world = v })
+            (sym (world_unchanged j k rules room gate history seats table)));
       }
 
 -- ---- as the code finds it
 
-module _ (j k : Inside) (h : IsKept j) (number : ℕ) (call : Call) (place : ℕ) (old : Seat) (at : slice_get j.seats.items place ≡ Some old) (numbered : number ≡ suc place)
+module _ (j k : Inside) (h : IsKept j) (number : ℕ) (call : Call) (place : ℕ) (old : Seat)
+    (at : slice_get j.seats.items place ≡ Some old) (numbered : number ≡ suc place)
     (fd : ℕ) (d : Descriptor) (idle : old.walk ≡ None) (holds : get old.client.descriptors fd ≡ Some d)
-    (slot : ℕ) (file : Held) (lent : file ≡ slot_of (book_of j) slot) (same : d.inode ≡ file.inode) (room_left : is_full (world_of j) ≡ false)
-    (rules : k.rules ≡ j.rules) (room : k.room ≡ j.room) (gate : k.gate ≡ j.gate) (answer : Made) (file' : Held) (new : Seat) (seats : k.seats.items ≡ slice_set j.seats.items place new) where
-  pub served : (what : FileCall) → call ≡ on_file what fd → (told : Result Reply AllocError) → IfOk told (λ reply. Serves fd d what old j.table file reply new k.table file') → OnErr told ((new ≡ old) × (k.table ≡ j.table) × (file' ≡ file))
-      → OnErr told (IsFreeOn d (on_file what)) → IfOk told (λ reply. (answer ≡ answers.Replied reply) × (k.history ≡ entered j number call reply)) → OnErr told ((answer ≡ answers.NoMemory) × (k.history ≡ j.history)) → FileStepped (book_of j) number call slot answer file' k
+    (slot : ℕ) (file : Held) (lent : file ≡ slot_of (book_of j) slot) (same : d.inode ≡ file.inode)
+    (room_left : is_full (world_of j) ≡ false)
+    (rules : k.rules ≡ j.rules) (room : k.room ≡ j.room) (gate : k.gate ≡ j.gate) (answer : Made) (file' : Held)
+    (new : Seat) (seats : k.seats.items ≡ slice_set j.seats.items place new) where
+  pub served : (what : FileCall) → call ≡ on_file what fd → (told : Result Reply AllocError)
+      → IfOk told (λ reply. Serves fd d what old j.table file reply new k.table file')
+      → OnErr told ((new ≡ old) × (k.table ≡ j.table) × (file' ≡ file))
+      → OnErr told (IsFreeOn d (on_file what))
+      → IfOk told (λ reply. (answer ≡ answers.Replied reply) × (k.history ≡ entered j number call reply))
+      → OnErr told ((answer ≡ answers.NoMemory) × (k.history ≡ j.history))
+      → FileStepped (book_of j) number call slot answer file' k
   served files.Close is_call (Ok reply) serves err free ok bad =
-      closes j k h number call place old at numbered fd files.Close is_call d idle holds slot file lent same room_left rules room gate answer file'
-      is_call new seats serves.1 (subst (λ i. LetsGo i j.table k.table file file') (sym same) serves.2) reply serves.0 ok.1 ok.0
+      closes j k h number call place old at numbered fd files.Close is_call d idle holds slot file lent same room_left
+      rules room gate answer file'
+      is_call new seats serves.1 (subst (λ i. LetsGo i j.table k.table file file') (sym same) serves.2) reply serves.0
+      ok.1 ok.0
   served (files.OnBytes asked) is_call (Ok reply) serves err free ok bad =
-      on_its_bytes j k h number call place old at numbered fd (files.OnBytes asked) is_call d idle holds slot file lent same room_left rules room gate answer file'
-      asked is_call (seats ∙ ap (slice_set j.seats.items place) serves.0 ∙ set_again j.seats.items place old at) serves.1 reply serves.2 serves.3 ok.1 ok.0
+      on_its_bytes j k h number call place old at numbered fd (files.OnBytes asked) is_call d idle holds slot file lent
+      same room_left rules room gate answer file'
+      asked is_call (seats ∙ ap (slice_set j.seats.items place) serves.0 ∙ set_again j.seats.items place old at)
+      serves.1 reply serves.2 serves.3 ok.1 ok.0
   served what is_call (Err e) serves err free ok bad =
-      unmade j k h number call place old at numbered fd what is_call d idle holds slot file lent same room_left rules room gate answer file'
-      (seats ∙ ap (slice_set j.seats.items place) err.0 ∙ set_again j.seats.items place old at) err.1 bad.1 err.2 bad.0 free
+      unmade j k h number call place old at numbered fd what is_call d idle holds slot file lent same room_left rules
+      room gate answer file'
+      (seats ∙ ap (slice_set j.seats.items place) err.0 ∙ set_again j.seats.items place old at) err.1 bad.1 err.2 bad.0
+      free
 
-pub over_file_stepped : (b b' : Book) (number : ℕ) (call : Call) (slot : ℕ) (answer : Made) (file : Held) (k : Inside) → b ≡ b' → FileStepped b number call slot answer file k → FileStepped b' number call slot answer file k
-over_file_stepped b b' number call slot answer file k e h = subst (λ (b : Book). FileStepped b number call slot answer file k) e h
+pub over_file_stepped : (b b' : Book) (number : ℕ) (call : Call) (slot : ℕ) (answer : Made) (file : Held) (k : Inside)
+    → b ≡ b' → FileStepped b number call slot answer file k → FileStepped b' number call slot answer file k
+over_file_stepped b b' number call slot answer file k e h =
+    subst (λ (b : Book). FileStepped b number call slot answer file k) e h
 
-pub over_file_not_now : (b b' : Book) (number : ℕ) (call : Call) → b ≡ b' → advance b.world (FdCommit number call) ≡ (NotNow, b.world) → advance b'.world (FdCommit number call) ≡ (NotNow, b'.world)
-over_file_not_now b b' number call e h = subst (λ (b : Book). advance b.world (FdCommit number call) ≡ (NotNow, b.world)) e h
+pub over_file_not_now : (b b' : Book) (number : ℕ) (call : Call) → b ≡ b'
+    → advance b.world (FdCommit number call) ≡ (NotNow, b.world)
+    → advance b'.world (FdCommit number call) ≡ (NotNow, b'.world)
+over_file_not_now b b' number call e h =
+    subst (λ (b : Book). advance b.world (FdCommit number call) ≡ (NotNow, b.world)) e h
 
-pub over_file_full : (b b' : Book) (number : ℕ) (call : Call) → b ≡ b' → advance b.world (FdCommit number call) ≡ (Replied (replies.Refused HistoryFull), b.world)
+pub over_file_full : (b b' : Book) (number : ℕ) (call : Call) → b ≡ b'
+    → advance b.world (FdCommit number call) ≡ (Replied (replies.Refused HistoryFull), b.world)
     → advance b'.world (FdCommit number call) ≡ (Replied (replies.Refused HistoryFull), b'.world)
-over_file_full b b' number call e h = subst (λ (b : Book). advance b.world (FdCommit number call) ≡ (Replied (replies.Refused HistoryFull), b.world)) e h
+over_file_full b b' number call e h =
+    subst (λ (b : Book). advance b.world (FdCommit number call) ≡ (Replied (replies.Refused HistoryFull), b.world)) e h
 
 -- ---- where the file lies
 
-module _ (j : Inside) (h : IsKept j) (number place : ℕ) (seat : Seat) (at : slice_get j.seats.items place ≡ Some seat) (numbered : number ≡ suc place) (fd : ℕ) where
-  pub slot_there : (d : Descriptor) → get seat.client.descriptors fd ≡ Some d → (found : Option ℕ) → found ≡ get j.table.places d.inode
-      → IfSome found (λ slot. (file : Descriptor) × IsOpen (world_of j) number fd file × (inode_in (book_of j) slot ≡ file.inode))
+module _ (j : Inside) (h : IsKept j) (number place : ℕ) (seat : Seat) (at : slice_get j.seats.items place ≡ Some seat)
+    (numbered : number ≡ suc place) (fd : ℕ) where
+  pub slot_there : (d : Descriptor) → get seat.client.descriptors fd ≡ Some d → (found : Option ℕ)
+      → found ≡ get j.table.places d.inode
+      → IfSome found (λ slot. (file : Descriptor) × IsOpen (world_of j) number fd file
+      × (inode_in (book_of j) slot ≡ file.inode))
   slot_there d holds None is = tt
-  slot_there d holds (Some slot) is =
-      (d, record { caller = seat.client; there = owner j h number place seat at numbered fd d holds; holds = holds }, get_or_from_slice_get j.table.inodes slot d.inode 0 (h.table.placed.there d.inode slot (sym is)).0)
+  slot_there d holds (Some slot) is = (
+    d,
+    record { caller = seat.client; there = owner j h number place seat at numbered fd d holds; holds = holds },
+    get_or_from_slice_get j.table.inodes slot d.inode 0 (h.table.placed.there d.inode slot (sym is)).0,
+  )
 
-  pub slot_none : (d : Descriptor) → get seat.client.descriptors fd ≡ Some d → (found : Option ℕ) → found ≡ get j.table.places d.inode → IfNone found ((file : Descriptor) → IsOpen (world_of j) number fd file → ⊥)
-  slot_none d holds None is = let some = place_is j h number place seat at numbered fd d holds in absurd (cc (is ∙ some.1))
+  pub slot_none : (d : Descriptor) → get seat.client.descriptors fd ≡ Some d → (found : Option ℕ)
+      → found ≡ get j.table.places d.inode → IfNone found ((file : Descriptor) → IsOpen (world_of j) number fd file → ⊥)
+  slot_none d holds None is = let some = place_is j h number place seat at numbered fd d holds in
+      absurd (cc (is ∙ some.1))
   slot_none d holds (Some slot) is = tt

@@ -5,7 +5,9 @@ use Rattle.std.proofs.Common.{ap, subst, sym, ◌∙◌}
 use Rattle.ll_decide.specs.declared.denial.Denial.{Denial}
 use Rattle.ll_rights.specs.declared.errno.Errno.{Errno}
 use Rattle.ll_seq.specs.declared.call.Call.{Call}
-use Rattle.ll_seq.specs.declared.call.Call.TheVariants.{Make, Open, Read, Write, Ftruncate, Close, Truncate, ReadDir, Stat, Exec, Unlink, Rmdir, Rename, RenameNoreplace, Exchange, Link, Ruleset, Allow, Confine, Spawn, Connect}
+use Rattle.ll_seq.specs.declared.call.Call.TheVariants.{Make, Open, Read, Write, Ftruncate, Close, Truncate, ReadDir}
+use Rattle.ll_seq.specs.declared.call.Call.TheVariants.{Stat, Exec, Unlink, Rmdir, Rename, RenameNoreplace, Exchange}
+use Rattle.ll_seq.specs.declared.call.Call.TheVariants.{Link, Ruleset, Allow, Confine, Spawn, Connect}
 use Rattle.ll_seq.specs.declared.client.ClientRecord.{ClientRecord}
 use Rattle.ll_seq.specs.declared.reply.Reply.{Reply}
 use Rattle.ll_seq.specs.declared.reply.Reply.TheVariants.{Refused, Denied}
@@ -20,7 +22,8 @@ use Rattle.ll_laws.proofs.Gain.{done_of}
 use Rattle.ll_journal.proofs.Shown.{step_done}
 
 -- what holds of the reply holds of the pair's
-pub if_copied : {E : Type 0} (P : Reply → Type 0) (r : Result Reply E) (reply : Reply) → IfOk r (λ pair. pair ≡ reply) → P reply → IfOk r P
+pub if_copied : {E : Type 0} (P : Reply → Type 0) (r : Result Reply E) (reply : Reply) → IfOk r (λ pair. pair ≡ reply)
+    → P reply → IfOk r P
 if_copied P (Ok pair) reply same h = subst P (sym same) h
 if_copied P (Err e) reply same h = tt
 
@@ -52,15 +55,19 @@ refusals_hold s c call =
     let kinds = both_hold _ _ policy (refused_hold (stages s c at new call).kinds) in
     both_hold _ _ kinds (refused_hold (stages s c at new call).limits)
 
-first_held : (s : State) (replies : List Reply) (outcome : Reply × State) → HoldNothing replies → holds_memory (first_or s replies outcome).0 ≡ true → replies ≡ []
+first_held : (s : State) (replies : List Reply) (outcome : Reply × State) → HoldNothing replies
+    → holds_memory (first_or s replies outcome).0 ≡ true → replies ≡ []
 first_held s [] outcome none holds = refl
 first_held s (reply ∷ replies) outcome none holds = cc (sym none.0 ∙ holds)
 
-pub held_free : (s : State) (number : ℕ) (call : Call) (fresh : ℕ) → holds_memory (step s number call fresh).0 ≡ true → refusals s (client_of s number) call ≡ []
+pub held_free : (s : State) (number : ℕ) (call : Call) (fresh : ℕ) → holds_memory (step s number call fresh).0 ≡ true
+    → refusals s (client_of s number) call ≡ []
 held_free s number call fresh holds =
-    first_held s (refusals s (client_of s number) call) (done_of s number (client_of s number) call fresh) (refusals_hold s (client_of s number) call) holds
+    first_held s (refusals s (client_of s number) call) (done_of s number (client_of s number) call fresh)
+    (refusals_hold s (client_of s number) call) holds
 
-done_takes : (s : State) (number : ℕ) (c : ClientRecord) (call : Call) (fresh : ℕ) → holds_memory (done_of s number c call fresh).0 ≡ true → spares_memory call ≡ false
+done_takes : (s : State) (number : ℕ) (c : ClientRecord) (call : Call) (fresh : ℕ)
+    → holds_memory (done_of s number c call fresh).0 ≡ true → spares_memory call ≡ false
 done_takes s number c (Make kind t) fresh e = refl
 done_takes s number c (Open mode t) fresh e = refl
 done_takes s number c (Read fd offset count) fresh e = refl
@@ -83,7 +90,9 @@ done_takes s number c (Confine rs) fresh e = refl
 done_takes s number c Spawn fresh e = refl
 done_takes s number c Connect fresh e = refl
 
-pub held_takes : (s : State) (number : ℕ) (call : Call) (fresh : ℕ) → holds_memory (step s number call fresh).0 ≡ true → spares_memory call ≡ false
+pub held_takes : (s : State) (number : ℕ) (call : Call) (fresh : ℕ) → holds_memory (step s number call fresh).0 ≡ true
+    → spares_memory call ≡ false
 held_takes s number call fresh holds =
     done_takes s number (client_of s number) call fresh
-    (ap (λ (o : Reply × State). holds_memory o.0) (sym (step_done s number call fresh (held_free s number call fresh holds))) ∙ holds)
+    (ap (λ (o : Reply × State). holds_memory o.0)
+    (sym (step_done s number call fresh (held_free s number call fresh holds))) ∙ holds)

@@ -1,5 +1,6 @@
 -- What is lent, by inodes: what lies under one that is lent, and whether a walk's directories are.
-use Rattle.std.specs.Prelude.{◌≡◌, ◌≢◌, ℕ, zero, suc, Bool, true, false, ◌||◌, ◌&&◌, ◌==◌, List, [], ◌∷◌, map, Option, Some, slice_get, refl}
+use Rattle.std.specs.Prelude.{◌≡◌, ◌≢◌, ℕ, zero, suc, Bool, true, false, ◌||◌, ◌&&◌, ◌==◌, List, [], ◌∷◌, map, Option}
+use Rattle.std.specs.Prelude.{Some, slice_get, refl}
 use Rattle.std.specs.Option.{option_map_or}
 use Rattle.std.specs.List.{list_all, list_any}
 use Rattle.std.proofs.Common.{sym, subst, ap, ◌∙◌, inl, inr}
@@ -9,10 +10,10 @@ use Rattle.ll_rules.specs.Layer.{Layer}
 use Rattle.ll_seq.specs.State.{State, kind_of}
 use Rattle.ll_seq.proofs.Parted.{or_split, or_left, or_right}
 use Rattle.ll_laws.proofs.Chains.{same_Some}
-use Rattle.ll_walks.specs.Walk.{Walk, Leg, Position, Above, Down, Split, legs, marks}
-use Rattle.ll_walks.specs.Walks.{IsRight, AreRight}
-use Rattle.ll_walks.specs.World.{World, shown, domain_of}
-use Rattle.ll_walks.proofs.Tests.{both, or_false}
+use Rattle.ll_worlds.specs.Walk.{Walk, Leg, Position, Above, Down, Split, legs, marks}
+use Rattle.ll_worlds.specs.Walks.{IsRight, AreRight}
+use Rattle.ll_worlds.specs.World.{World, shown, domain_of}
+use Rattle.ll_worlds.proofs.Tests.{both, or_false}
 use Rattle.ll_held.specs.declared.held.Held.{Held}
 use Rattle.ll_held.specs.Lent.{Misses}
 use Rattle.ll_journal.specs.declared.journal.Journal.TheInside.{Inside}
@@ -29,7 +30,8 @@ use Rattle.ll_journal.proofs.Descending.{living_one}
 module _ (b : Book) where
   lends_of : (slots : List ℕ) (inode : ℕ) → lends (map (slot_of b) slots) inode ≡ is_lent b slots inode
   lends_of [] inode = refl
-  lends_of (k ∷ slots) inode = let here = slot_inode b k in let rest = lends_of slots inode in λ i. (here i == inode) || rest i
+  lends_of (k ∷ slots) inode = let here = slot_inode b k in let rest = lends_of slots inode in
+      λ i. (here i == inode) || rest i
 
   misses_of : (slots : List ℕ) (inode : ℕ) → Misses inode (map (slot_of b) slots) → is_lent b slots inode ≡ false
   misses_of [] inode away = refl
@@ -39,7 +41,8 @@ module _ (b : Book) where
         | inr there ↦ cc (sym there ∙ misses_of slots inode away.1)
       ])
 
-  slot_got : (slots : List ℕ) (place : ℕ) (held : Held) → slice_get (map (slot_of b) slots) place ≡ Some held → (k : ℕ) × (slot_of b k ≡ held)
+  slot_got : (slots : List ℕ) (place : ℕ) (held : Held) → slice_get (map (slot_of b) slots) place ≡ Some held → (k : ℕ)
+      × (slot_of b k ≡ held)
   slot_got [] place held e = absurd (cc e)
   slot_got (k ∷ slots) zero held e = (k, same_Some (slot_of b k) held e)
   slot_got (k ∷ slots) (suc place) held e = slot_got slots place held e
@@ -52,7 +55,8 @@ stands ls inode = list_any (λ (leg : Leg). leg.here == inode) ls
 abbrev all_in : List Held → List Leg → Bool
 all_in lent ls = list_all (λ (leg : Leg). lends lent leg.here) ls
 
-all_lent : (lent : List Held) (ls : List Leg) (inode : ℕ) → all_in lent ls ≡ true → stands ls inode ≡ true → lends lent inode ≡ true
+all_lent : (lent : List Held) (ls : List Leg) (inode : ℕ) → all_in lent ls ≡ true → stands ls inode ≡ true
+    → lends lent inode ≡ true
 all_lent lent [] inode all e = absurd (cc e)
 all_lent lent (leg ∷ ls) inode all e =
     let parts = both (lends lent leg.here) (all_in lent ls) all in
@@ -61,13 +65,16 @@ all_lent lent (leg ∷ ls) inode all e =
       | inr there ↦ all_lent lent ls inode parts.1 there
     ]
 
-not_all_lent : (lent : List Held) (ls : List Leg) → all_in lent ls ≡ false → ((inode : ℕ) → stands ls inode ≡ true → lends lent inode ≡ true) → ⊥
+not_all_lent : (lent : List Held) (ls : List Leg) → all_in lent ls ≡ false
+    → ((inode : ℕ) → stands ls inode ≡ true → lends lent inode ≡ true) → ⊥
 not_all_lent lent [] none all = cc none
 not_all_lent lent (leg ∷ ls) none all =
     let here = all leg.here (or_left (leg.here == leg.here) (stands ls leg.here) (eq-eqb leg.here leg.here refl)) in
-    not_all_lent lent ls (ap (λ t. t && all_in lent ls) (sym here) ∙ none) (λ inode e. all inode (or_right (leg.here == inode) (stands ls inode) e))
+    not_all_lent lent ls (ap (λ t. t && all_in lent ls) (sym here) ∙ none)
+    (λ inode e. all inode (or_right (leg.here == inode) (stands ls inode) e))
 
-stood_in : (s : State) (domain : List Layer) (at : Position) (inode : ℕ) → AreRight s domain at → stands (legs at) inode ≡ true → kind_of s inode ≡ Some Dir
+stood_in : (s : State) (domain : List Layer) (at : Position) (inode : ℕ) → AreRight s domain at
+    → stands (legs at) inode ≡ true → kind_of s inode ≡ Some Dir
 stood_in s domain at inode right e = by at right e
   where
     of_leg : (leg : Leg) → IsRight s domain leg → (leg.here == inode) ≡ true → kind_of s inode ≡ Some Dir
@@ -92,7 +99,8 @@ stood_in s domain at inode right e = by at right e
 
 -- ---- of a client's walk
 
-module _ (j : Inside) (h : IsKept j) (number place : ℕ) (seat : Seat) (at : slice_get j.seats.items place ≡ Some seat) (numbered : number ≡ suc place)
+module _ (j : Inside) (h : IsKept j) (number place : ℕ) (seat : Seat) (at : slice_get j.seats.items place ≡ Some seat)
+    (numbered : number ≡ suc place)
     (slots : List ℕ) (lent : List Held) (told : lent ≡ map (slot_of (book_of j)) slots) where
   abbrev w : World
   w = world_of j
@@ -104,7 +112,8 @@ module _ (j : Inside) (h : IsKept j) (number place : ℕ) (seat : Seat) (at : sl
   pub lies_held : (held : Held) (inode : ℕ) → Lies lent inode held → inode ≢ 0 → held ≡ held_of w inode
   lies_held held inode lies some =
       let slot = slot_got b slots lies.place held (ap (λ ls. slice_get ls lies.place) (sym told) ∙ lies.there) in
-      sym slot.1 ∙ slot_holds b slot.0 inode (sym (slot_inode b slot.0) ∙ ap (λ (v : Held). v.inode) slot.1 ∙ lies.is) some
+      sym slot.1 ∙ slot_holds b slot.0 inode (sym (slot_inode b slot.0) ∙ ap (λ (v : Held). v.inode) slot.1 ∙ lies.is)
+      some
 
   pub lends_is : (inode : ℕ) → lends lent inode ≡ is_lent b slots inode
   lends_is inode = ap (λ ls. lends ls inode) told ∙ lends_of b slots inode
@@ -114,21 +123,31 @@ module _ (j : Inside) (h : IsKept j) (number place : ℕ) (seat : Seat) (at : sl
 
   module _ (walk : Walk) (is : seat.walk ≡ Some walk) where
     legs_lent : (t : Bool) → is_all_lent lent seat ≡ t → all_in lent (legs walk.at) ≡ t
-    legs_lent t all = sym (ap (λ (o : Option Walk). option_map_or (λ (v : Walk). all_in lent (legs v.at)) o true) is) ∙ all
+    legs_lent t all = sym (ap (λ (o : Option Walk). option_map_or (λ (v : Walk). all_in lent (legs v.at)) o true) is)
+        ∙ all
 
     pub all_marked : is_all_lent lent seat ≡ true → (inode : ℕ) → marks walk inode ≡ true → is_lent b slots inode ≡ true
     all_marked all inode marked = sym (lends_is inode) ∙ all_lent lent (legs walk.at) inode (legs_lent true all) marked
 
     -- that each lies in the slots can't be where some isn't lent
-    pub some_unlent : is_all_lent lent seat ≡ false → ((inode : ℕ) → marks walk inode ≡ true → is_lent b slots inode ≡ true) → ⊥
-    some_unlent none all = not_all_lent lent (legs walk.at) (legs_lent false none) (λ inode e. lends_is inode ∙ all inode e)
+    pub some_unlent : is_all_lent lent seat ≡ false
+        → ((inode : ℕ) → marks walk inode ≡ true → is_lent b slots inode ≡ true) → ⊥
+    some_unlent none all = not_all_lent lent (legs walk.at) (legs_lent false none) (λ inode e. lends_is inode
+        ∙ all inode e)
 
     module _ (fresh : walk.stale ≡ false) where
       pub not_all_marked : is_all_lent lent seat ≡ false → IsAstrayAtEnd b number slots
-      not_all_marked none = (walk, walk_here j h number place seat at numbered ∙ is, fresh, λ (enough : AreEnough b number walk slots). some_unlent none enough.marked)
+      not_all_marked none = (
+        walk,
+        walk_here j h number place seat at numbered
+            ∙ is,
+        fresh,
+        λ (enough : AreEnough b number walk slots). some_unlent none enough.marked,
+      )
 
       -- each directory where it stands is a node
       pub leg_some : (inode : ℕ) → marks walk inode ≡ true → inode ≢ 0
       leg_some inode marked =
           living_one j h inode Dir
-          (stood_in (shown w) (domain_of w number) walk.at inode ((h.sound.valid number walk (walk_here j h number place seat at numbered ∙ is)).1 fresh) marked)
+          (stood_in (shown w) (domain_of w number) walk.at inode
+          ((h.sound.valid number walk (walk_here j h number place seat at numbered ∙ is)).1 fresh) marked)

@@ -11,7 +11,7 @@ use Rattle.ll_rights.proofs.Maps.{get-empty, get-insert_same, get-insert_other, 
 use Rattle.ll_seq.specs.declared.client.ClientRecord.{ClientRecord}
 use Rattle.ll_seq.specs.State.{State}
 use Rattle.ll_seq.specs.Effects.{with_client}
-use Rattle.ll_walks.specs.Walk.{Walk}
+use Rattle.ll_worlds.specs.Walk.{Walk}
 use Rattle.ll_journal.specs.Book.{Seat}
 use Rattle.ll_inodes.specs.InodeTable.{NotIn}
 use Rattle.ll_journal.specs.Kept.{AreSeated, seat_at, walks_from}

@@ -1,5 +1,6 @@
 -- What the call of a walk that has ended may rely on, and what comes of it.
-use Rattle.std.specs.Prelude.{◌≡◌, ◌≢◌, ◌⊎◌, ℕ, Bool, true, false, ◌==◌, ◌||◌, List, [], ◌∷◌, map, length, Option, Some, None, is_none, option_map, unwrap_or, refl}
+use Rattle.std.specs.Prelude.{◌≡◌, ◌≢◌, ◌⊎◌, ℕ, Bool, true, false, ◌==◌, ◌||◌, List, [], ◌∷◌, map, length, Option, Some}
+use Rattle.std.specs.Prelude.{None, is_none, option_map, unwrap_or, refl}
 use Rattle.std.specs.List.{AllByRecursion, list_any}
 use Rattle.std.specs.Option.{option_map_or}
 use Rattle.std.proofs.Common.{sym, subst, ap, ◌∙◌, inl, inr}
@@ -28,7 +29,8 @@ use Rattle.ll_answer.specs.declared.changes.Answer.{Answer}
 use Rattle.ll_answer.specs.declared.changes.Answer.TheVariants.{Done, Opened, Status, Names}
 use Rattle.ll_answer.specs.declared.changes.At.{At}
 use Rattle.ll_answer.specs.declared.changes.Change.{Change}
-use Rattle.ll_answer.specs.declared.changes.Change.TheVariants.{Nothing, Make, Take, Name, Move, Replace, Exchange, Resize, Open, Allow}
+use Rattle.ll_answer.specs.declared.changes.Change.TheVariants.{Nothing, Make, Take, Name, Move, Replace, Exchange}
+use Rattle.ll_answer.specs.declared.changes.Change.TheVariants.{Resize, Open, Allow}
 use Rattle.ll_answer.specs.declared.changes.Effect.{Effect}
 use Rattle.ll_answer.specs.declared.changes.Opening.{Opening}
 use Rattle.ll_answer.specs.declared.found.Found.{Found}
@@ -43,7 +45,7 @@ use Rattle.ll_inodes.specs.InodeTable.{Table}
 use Rattle.ll_changes.specs.Enacting.{Covers, Enacts, MayEnact}
 use Rattle.ll_changes.proofs.GivenSlots.{given_tree, held_there, kind_there, made_idle, some_there}
 use Rattle.ll_changes.proofs.StayingSlots.{directory_some, named_some}
-use Rattle.ll_walks.specs.Walk.{is_in}
+use Rattle.ll_worlds.specs.Walk.{is_in}
 use Rattle.ll_journal.specs.Performed.{IsAtEnd, Performs, lies_in}
 use Rattle.ll_journal.proofs.HeldReplies.{held_free, held_takes}
 
@@ -74,9 +76,11 @@ told_tells s (Names inode) = inr refl
 
 -- they have one path, and what it names is there
 abbrev AsksOfNode : State → Call → Found → Path → Path → Type 0
-AsksOfNode s call found at new = (existence_refusals s call at new ≡ missing s at) × (nodes_of call found ≡ inode_at found.first ∷ [])
+AsksOfNode s call found at new =
+    (existence_refusals s call at new ≡ missing s at) × (nodes_of call found ≡ inode_at found.first ∷ [])
 
-told_call : (s : State) (n : ℕ) (c : ClientRecord) (found : Found) (at new : Path) (fresh : ℕ) (call : Call) → tells (done s n c call at new fresh).0 ≡ true → AsksOfNode s call found at new
+told_call : (s : State) (n : ℕ) (c : ClientRecord) (found : Found) (at new : Path) (fresh : ℕ) (call : Call)
+    → tells (done s n c call at new fresh).0 ≡ true → AsksOfNode s call found at new
 told_call s n c found at new fresh (call.Make kind target) tells = absurd (cc tells)
 told_call s n c found at new fresh (call.Open mode target) tells = absurd (cc tells)
 told_call s n c found at new fresh (call.Read fd offset count) tells = absurd (cc tells)
@@ -100,20 +104,25 @@ told_call s n c found at new fresh call.Spawn tells = absurd (cc tells)
 told_call s n c found at new fresh call.Connect tells = absurd (cc tells)
 
 -- where nothing refuses a call, nothing refuses it for what isn't there
-none_missing : (s : State) (c : ClientRecord) (asked : Call) → refusals s c asked ≡ [] → existence_refusals s asked (first_path asked) (second_path asked) ≡ []
+none_missing : (s : State) (c : ClientRecord) (asked : Call) → refusals s c asked ≡ []
+    → existence_refusals s asked (first_path asked) (second_path asked) ≡ []
 none_missing s c asked free =
     let at = first_path asked in
     let new = second_path asked in
     nil_map reply.Refused (existence_refusals s asked at new)
-    (nil_right _ (map reply.Refused (existence_refusals s asked at new)) (nil_left _ (map reply.Denied (call_denials s c asked))
-    (nil_left _ (map reply.Refused (kind_refusals s c asked at new)) (nil_left _ (map reply.Refused (limit_refusals s c asked at new)) free))))
+    (nil_right _ (map reply.Refused (existence_refusals s asked at new))
+    (nil_left _ (map reply.Denied (call_denials s c asked))
+    (nil_left _ (map reply.Refused (kind_refusals s c asked at new))
+    (nil_left _ (map reply.Refused (limit_refusals s c asked at new)) free))))
 
 named_there : (o : Option ℕ) → is_none o ≡ false → (x : ℕ) × (o ≡ Some x)
 named_there None e = absurd (cc e)
 named_there (Some x) e = (x, refl)
 
-module _ {s : State} {number : ℕ} {marks : ℕ → Option ℕ} {spares : List ℕ} {place : ℕ} {c : ClientRecord} {spare : ℕ} {table : Table} {slots : List ℕ} {lent : List Held}
-    {asked : Call} {first second : List ℕ} {found : Found} (end : IsAtEnd s number marks spares place c spare table slots lent asked first second found) where
+module _ {s : State} {number : ℕ} {marks : ℕ → Option ℕ} {spares : List ℕ} {place : ℕ} {c : ClientRecord} {spare : ℕ}
+    {table : Table} {slots : List ℕ} {lent : List Held}
+    {asked : Call} {first second : List ℕ} {found : Found}
+    (end : IsAtEnd s number marks spares place c spare table slots lent asked first second found) where
   pub client_is : client_of s number ≡ c
   client_is = ap (λ (o : Option ClientRecord). unwrap_or o new_client) end.given.client
 
@@ -125,7 +134,8 @@ module _ {s : State} {number : ℕ} {marks : ℕ → Option ℕ} {spares : List 
 
   -- ---- what is refused
 
-  pub refused : (answer : Reply) → IsRefused s number asked answer → Performs s number marks spares place table slots asked answer c spare table lent
+  pub refused : (answer : Reply) → IsRefused s number asked answer
+      → Performs s number marks spares place table slots asked answer c spare table lent
   refused answer same = record {
     after = s;
     steps = λ fresh. sym (same fresh);
@@ -133,19 +143,23 @@ module _ {s : State} {number : ℕ} {marks : ℕ → Option ℕ} {spares : List 
   }
 
   -- a reply that holds bytes or names is no refusal
-  holding : (answer : Reply) → IsRefused s number asked answer → holds_memory answer ≡ true → holds_memory (step s number asked 0).0 ≡ true
+  holding : (answer : Reply) → IsRefused s number asked answer → holds_memory answer ≡ true
+      → holds_memory (step s number asked 0).0 ≡ true
   holding answer same holds = ap (λ (o : Reply × State). holds_memory o.0) (sym (same 0)) ∙ holds
 
-  pub free_if_held : (answer : Reply) → IsRefused s number asked answer → holds_memory answer ≡ true → refusals s (client_of s number) asked ≡ []
+  pub free_if_held : (answer : Reply) → IsRefused s number asked answer → holds_memory answer ≡ true
+      → refusals s (client_of s number) asked ≡ []
   free_if_held answer same holds = held_free s number asked 0 (holding answer same holds)
 
-  pub takes_if_held : (answer : Reply) → IsRefused s number asked answer → holds_memory answer ≡ true → spares_memory asked ≡ false
+  pub takes_if_held : (answer : Reply) → IsRefused s number asked answer → holds_memory answer ≡ true
+      → spares_memory asked ≡ false
   takes_if_held answer same holds = held_takes s number asked 0 (holding answer same holds)
 
   -- ---- which nodes are there
 
   held_some : (at : At) (x : ℕ) → Holds s at x → x ≢ 0
-  held_some at x holds = some_there s spares table end.given.counted x (held_there s (given_tree s number marks spares place c spare table slots lent end.given) at x holds)
+  held_some at x holds = some_there s spares table end.given.counted x
+      (held_there s (given_tree s number marks spares place c spare table slots lent end.given) at x holds)
 
   opened_some : (o : Opening) (there : Option ℕ) → CanOpen s o there → opened_inode o.at there ≢ 0
   opened_some o None can = directory_some end.given o.at can.lacks.directory
@@ -154,11 +168,17 @@ module _ {s : State} {number : ℕ} {marks : ℕ → Option ℕ} {spares : List 
   changed_some : (change : Change) → Fits s c change → AllByRecursion (λ i. i ≢ 0) (changed_inodes change)
   changed_some Nothing fits = tt
   changed_some (Make at kind) fits = (directory_some end.given at fits.lacks.directory, tt)
-  changed_some (Take at inode) fits = (directory_some end.given at fits.holds.directory, (held_some at inode fits.holds, tt))
+  changed_some (Take at inode) fits =
+      (directory_some end.given at fits.holds.directory, (held_some at inode fits.holds, tt))
   changed_some (Name at inode) fits = (directory_some end.given at fits.lacks.directory, tt)
-  changed_some (Move old new inode) fits = (directory_some end.given old fits.old.directory, (directory_some end.given new fits.new.directory, tt))
-  changed_some (Replace old new inode replaced) fits = (directory_some end.given old fits.old.directory, (directory_some end.given new fits.new.directory, (held_some new replaced fits.new, tt)))
-  changed_some (Exchange old new one other) fits = (directory_some end.given old fits.old.directory, (directory_some end.given new fits.new.directory, tt))
+  changed_some (Move old new inode) fits =
+      (directory_some end.given old fits.old.directory, (directory_some end.given new fits.new.directory, tt))
+  changed_some (Replace old new inode replaced) fits = (
+    directory_some end.given old fits.old.directory,
+    (directory_some end.given new fits.new.directory, (held_some new replaced fits.new, tt)),
+  )
+  changed_some (Exchange old new one other) fits =
+      (directory_some end.given old fits.old.directory, (directory_some end.given new fits.new.directory, tt))
   changed_some (Resize inode size) fits = (named_some end.given inode fits.named, tt)
   changed_some (Open opening) fits = (opened_some opening opening.there fits.file, tt)
   changed_some (Allow rule) fits = tt
@@ -170,19 +190,23 @@ module _ {s : State} {number : ℕ} {marks : ℕ → Option ℕ} {spares : List 
   first_some : (x : ℕ) → named s (first_path asked) ≡ Some x → inode_at found.first ≢ 0
   first_some x names none =
       named_some end.given x (first_path asked, names)
-      (sym (ap (λ (o : Option There). option_map_or (λ (there : There). there.inode) o 0) ((end.facts.first.stands end.old.way).there ∙ ap (option_map (there_in s)) names)) ∙ none)
+      (sym (ap (λ (o : Option There). option_map_or (λ (there : There). there.inode) o 0)
+      ((end.facts.first.stands end.old.way).there ∙ ap (option_map (there_in s)) names)) ∙ none)
 
   -- ---- which nodes are lent
 
-  near_lies : (i : ℕ) → list_any (λ j. j == i) (found.first.directory ∷ found.second.directory ∷ nodes_of asked found) ≡ true → i ≢ 0 → lies_in table.inodes slots i
+  near_lies : (i : ℕ) → list_any (λ j. j == i) (found.first.directory ∷ found.second.directory ∷ nodes_of asked found)
+      ≡ true → i ≢ 0 → lies_in table.inodes slots i
   near_lies i any some = by (found.first.directory == i) (found.second.directory == i) refl refl any
     where
-      by : (a b : Bool) → (found.first.directory == i) ≡ a → (found.second.directory == i) ≡ b → (a || (b || is_in (nodes_of asked found) i)) ≡ true → lies_in table.inodes slots i
+      by : (a b : Bool) → (found.first.directory == i) ≡ a → (found.second.directory == i) ≡ b
+          → (a || (b || is_in (nodes_of asked found) i)) ≡ true → lies_in table.inodes slots i
       by true b e f g = subst (lies_in table.inodes slots) (eqb-true found.first.directory i e) end.old_lent
       by false true e f g = subst (lies_in table.inodes slots) (eqb-true found.second.directory i f) end.new_lent
       by false false e f g = end.nodes i g some
 
-  all_lie : (inodes : List ℕ) → AreNear asked found inodes → AllByRecursion (λ i. i ≢ 0) inodes → AllByRecursion (lies_in table.inodes slots) inodes
+  all_lie : (inodes : List ℕ) → AreNear asked found inodes → AllByRecursion (λ i. i ≢ 0) inodes
+      → AllByRecursion (lies_in table.inodes slots) inodes
   all_lie [] near somes = tt
   all_lie (i ∷ is) near somes = (near_lies i near.0 somes.0, all_lie is near.1 somes.1)
 
@@ -210,30 +234,40 @@ module _ {s : State} {number : ℕ} {marks : ℕ → Option ℕ} {spares : List 
       covers = covers;
     }
 
-    answered : (done s number (client_of s number) asked (first_path asked) (second_path asked) 0).0 ≡ told s effect.answer
+    answered : (done s number (client_of s number) asked (first_path asked) (second_path asked) 0).0
+        ≡ told s effect.answer
     answered =
         ap (λ (o : Reply × State). o.0)
-        (sym (ap (λ replies. first_or s replies (done s number (client_of s number) asked (first_path asked) (second_path asked) 0)) is.free) ∙ is.done 0)
+        (sym (ap (λ replies. first_or s replies
+        (done s number (client_of s number) asked (first_path asked) (second_path asked) 0)) is.free) ∙ is.done 0)
 
-    pub takes_if_told : (answer : Reply) → answer ≡ told s effect.answer → holds_memory answer ≡ true → spares_memory asked ≡ false
+    pub takes_if_told : (answer : Reply) → answer ≡ told s effect.answer → holds_memory answer ≡ true
+        → spares_memory asked ≡ false
     takes_if_told answer tells_so holds =
-        held_takes s number asked 0 (ap (λ (o : Reply × State). holds_memory o.0) (is.done 0) ∙ ap holds_memory (sym tells_so) ∙ holds)
+        held_takes s number asked 0 (ap (λ (o : Reply × State). holds_memory o.0) (is.done 0)
+        ∙ ap holds_memory (sym tells_so) ∙ holds)
 
     -- the nodes that are told of are there
     pub told_some : AllByRecursion (λ i. i ≢ 0) (told_inodes effect.answer)
     told_some = elim (told_tells s effect.answer) [
       | inl none ↦ subst (AllByRecursion (λ i. i ≢ 0)) (sym none) tt
       | inr tells_of ↦
-          let asks = told_call s number (client_of s number) found (first_path asked) (second_path asked) 0 asked (ap tells answered ∙ tells_of) in
-          let there = named_there (named s (first_path asked)) (not_refused _ ENOENT (sym asks.0 ∙ none_missing s (client_of s number) asked is.free)) in
-          over (subst (AllByRecursion (λ i. i ≢ 0)) (sym asks.1) (first_some there.0 there.1, tt)) (told_inodes effect.answer) near.told
+          let asks = told_call s number (client_of s number) found (first_path asked) (second_path asked) 0 asked
+          (ap tells answered ∙ tells_of) in
+          let there = named_there (named s (first_path asked))
+          (not_refused _ ENOENT (sym asks.0 ∙ none_missing s (client_of s number) asked is.free)) in
+          over (subst (AllByRecursion (λ i. i ≢ 0)) (sym asks.1) (first_some there.0 there.1, tt))
+          (told_inodes effect.answer) near.told
     ]
       where
-        over : AllByRecursion (λ i. i ≢ 0) (nodes_of asked found) → (inodes : List ℕ) → AreNear asked found inodes → AllByRecursion (λ i. i ≢ 0) inodes
+        over : AllByRecursion (λ i. i ≢ 0) (nodes_of asked found) → (inodes : List ℕ) → AreNear asked found inodes
+            → AllByRecursion (λ i. i ≢ 0) inodes
         over somes [] nears = tt
         over somes (i ∷ inodes) nears = (
-          among_some (found.first.directory ∷ found.second.directory ∷ nodes_of asked found) i
-              (directory_of_some found.first.directory end.old.directory, (directory_of_some found.second.directory end.new.directory, somes)) nears.0,
+          among_some (found.first.directory ∷ found.second.directory ∷ nodes_of asked found) i (
+            directory_of_some found.first.directory end.old.directory,
+            (directory_of_some found.second.directory end.new.directory, somes),
+          ) nears.0,
           over somes inodes nears.1,
         )
 
@@ -241,8 +275,10 @@ module _ {s : State} {number : ℕ} {marks : ℕ → Option ℕ} {spares : List 
     pub told_lie : AllByRecursion (lies_in table.inodes slots) (told_inodes effect.answer)
     told_lie = all_lie (told_inodes effect.answer) near.told told_some
 
-    pub performed : (answer : Reply) (c' : ClientRecord) (spare' : ℕ) (table' : Table) (lent' : List Held) → answer ≡ told s effect.answer
-        → Enacts effect.change slots c spare table lent c' spare' table' lent' → Performs s number marks spares place table slots asked answer c' spare' table' lent'
+    pub performed : (answer : Reply) (c' : ClientRecord) (spare' : ℕ) (table' : Table) (lent' : List Held)
+        → answer ≡ told s effect.answer
+        → Enacts effect.change slots c spare table lent c' spare' table' lent'
+        → Performs s number marks spares place table slots asked answer c' spare' table' lent'
     performed answer c' spare' table' lent' tells_so enacted = record {
       after = after s number c effect.change;
       steps = λ fresh. is.done fresh ∙ (λ i. (sym tells_so i, after s number (client_is i) effect.change));

@@ -1,5 +1,6 @@
 -- A walk whose call is refused: the step leaves the tree as it is, and nobody is overtaken.
-use Rattle.std.specs.Prelude.{◌≡◌, ◌<◌, ℕ, zero, suc, Bool, true, false, ◌||◌, List, [], ◌∷◌, map, length, Option, Some, None, option_map, slice_get, slice_set, refl}
+use Rattle.std.specs.Prelude.{◌≡◌, ◌<◌, ℕ, zero, suc, Bool, true, false, ◌||◌, List, [], ◌∷◌, map, length, Option, Some}
+use Rattle.std.specs.Prelude.{None, option_map, slice_get, slice_set, refl}
 use Rattle.std.proofs.Common.{sym, subst, ap, ◌∙◌, arith, inl}
 use Rattle.ll_rights.specs.declared.errno.Errno.{Errno}
 use Rattle.ll_changes.proofs.GivenSlots.{client_stays}
@@ -14,8 +15,8 @@ use Rattle.ll_seq.specs.declared.reply.Reply.TheVariants.{Refused}
 use Rattle.ll_seq.specs.History.{Log}
 use Rattle.ll_seq.specs.State.{State}
 use Rattle.ll_seq.specs.Step.{step, client_of, first_or, refusals}
-use Rattle.ll_walks.specs.Walk.{Walk}
-use Rattle.ll_walks.specs.World.{World, is_full, next_number, overtaken, reply_to, shown, without_walk}
+use Rattle.ll_worlds.specs.Walk.{Walk}
+use Rattle.ll_worlds.specs.World.{World, is_full, next_number, overtaken, reply_to, shown, without_walk}
 use Rattle.ll_journal.specs.declared.journal.Journal.TheInside.{Inside}
 use Rattle.ll_journal.specs.Book.{Seat, Spares, mark_of, slot_of}
 use Rattle.ll_journal.specs.declared.outcome.Ending.TheVariants.{Replied}
@@ -24,7 +25,8 @@ use Rattle.ll_journal.specs.Kept.{IsKept, book_of, spares_of, world_of}
 use Rattle.ll_journal.specs.Performed.{Performs}
 use Rattle.ll_journal.specs.Stopped.{IsBlockedEnd}
 use Rattle.ll_journal.proofs.AtAnswers.{spare_at}
-use Rattle.ll_journal.proofs.Committed.{committed_kept, committed_lent, committed_spares, committed_step, spares_set, told_slots}
+use Rattle.ll_journal.proofs.Committed.{committed_kept, committed_lent, committed_spares, committed_step, spares_set}
+use Rattle.ll_journal.proofs.Committed.{told_slots}
 use Rattle.ll_journal.proofs.Overtaking.{overtaken_seats}
 use Rattle.ll_journal.proofs.Stepping.{entered, set_again, there}
 
@@ -35,7 +37,8 @@ is_refused (Refused errno) = true
 is_refused _ = false
 
 -- what is done isn't refused
-done_not_refused : (s : State) (number : ℕ) (c : ClientRecord) (call : Call) (fresh : ℕ) → is_refused (done_of s number c call fresh).0 ≡ false
+done_not_refused : (s : State) (number : ℕ) (c : ClientRecord) (call : Call) (fresh : ℕ)
+    → is_refused (done_of s number c call fresh).0 ≡ false
 done_not_refused s number c (calls.Make kind t) fresh = refl
 done_not_refused s number c (calls.Open mode t) fresh = refl
 done_not_refused s number c (calls.Read fd offset count) fresh = refl
@@ -59,10 +62,13 @@ done_not_refused s number c calls.Spawn fresh = refl
 done_not_refused s number c calls.Connect fresh = refl
 
 -- a refusal keeps the tree, whatever a client's number would be
-pub refused_keeps : (s : State) (number : ℕ) (call : Call) (one : ℕ) (errno : Errno) → (step s number call one).0 ≡ Refused errno → (fresh : ℕ) → ◌≡◌ {A = Reply × State} (step s number call fresh) (Refused errno, s)
+pub refused_keeps : (s : State) (number : ℕ) (call : Call) (one : ℕ) (errno : Errno)
+    → (step s number call one).0 ≡ Refused errno → (fresh : ℕ)
+    → ◌≡◌ {A = Reply × State} (step s number call fresh) (Refused errno, s)
 refused_keeps s number call one errno is fresh = by (refusals s (client_of s number) call) is
   where
-    by : (rs : List Reply) → (first_or s rs (done_of s number (client_of s number) call one)).0 ≡ Refused errno → ◌≡◌ {A = Reply × State} (first_or s rs (done_of s number (client_of s number) call fresh)) (Refused errno, s)
+    by : (rs : List Reply) → (first_or s rs (done_of s number (client_of s number) call one)).0 ≡ Refused errno
+        → ◌≡◌ {A = Reply × State} (first_or s rs (done_of s number (client_of s number) call fresh)) (Refused errno, s)
     by [] e = absurd (cc (sym (done_not_refused s number (client_of s number) call one) ∙ ap is_refused e))
     by (reply ∷ more) e = ap (λ r. (r, s)) e
 
@@ -78,26 +84,31 @@ none_overtaken (Some walk) = ap (λ b. Some (record walk { stale = b })) (as_it_
 
 seats_stay : (seats : List Seat) → overtaken_seats [] seats ≡ seats
 seats_stay [] = refl
-seats_stay (seat ∷ seats) = let here = none_overtaken seat.walk in let rest = seats_stay seats in λ i. record seat { walk = here i } ∷ rest i
+seats_stay (seat ∷ seats) = let here = none_overtaken seat.walk in let rest = seats_stay seats in
+    λ i. record seat { walk = here i } ∷ rest i
 
 -- one seat put back, and nobody overtaken
-pub seats_as_were : (seats : List Seat) (place : ℕ) (seat : Seat) → slice_get seats place ≡ Some seat → seats ≡ overtaken_seats [] (slice_set seats place seat)
+pub seats_as_were : (seats : List Seat) (place : ℕ) (seat : Seat) → slice_get seats place ≡ Some seat
+    → seats ≡ overtaken_seats [] (slice_set seats place seat)
 seats_as_were seats place seat at = sym (ap (overtaken_seats []) (set_again seats place seat at) ∙ seats_stay seats)
 
 -- ---- what is made
 
-module _ (i : Inside) (mid : IsKept i) (number place : ℕ) (seat : Seat) (at : slice_get i.seats.items place ≡ Some seat) (numbered : number ≡ suc place)
+module _ (i : Inside) (mid : IsKept i) (number place : ℕ) (seat : Seat) (at : slice_get i.seats.items place ≡ Some seat)
+    (numbered : number ≡ suc place)
     (slots : List ℕ) (lent : List Held) (told : lent ≡ map (slot_of (book_of i)) slots) where
   abbrev s : State
   s = shown (world_of i)
 
   pub refusal : (call : Call) (one : ℕ) (errno : Errno) → (step s number call one).0 ≡ Refused errno
-      → Performs s number (mark_of (world_of i)) (spares_of i.seats.items) place i.table slots call (Refused errno) seat.client seat.spare i.table lent
+      → Performs s number (mark_of (world_of i)) (spares_of i.seats.items) place i.table slots call (Refused errno)
+      seat.client seat.spare i.table lent
   refusal call one errno is = record {
     after = s;
     steps = refused_keeps s number call one errno is;
     made = record {
-      counted = subst (λ kept. IsTable s kept i.table) (ap spares_of (sym (set_again i.seats.items place seat at)) ∙ spares_set i.seats.items place seat) mid.table;
+      counted = subst (λ kept. IsTable s kept i.table) (ap spares_of (sym (set_again i.seats.items place seat at))
+          ∙ spares_set i.seats.items place seat) mid.table;
       next = omega arith;
       clients = client_stays s s number seat.client refl (there i mid number calls.Spawn place seat at numbered);
       told = told ∙ told_slots (book_of i) slots;
@@ -106,7 +117,8 @@ module _ (i : Inside) (mid : IsKept i) (number place : ℕ) (seat : Seat) (at : 
     };
   }
 
-seat_there : (seats : List Seat) (place : ℕ) → place < length seats → (seat : Seat) × (slice_get seats place ≡ Some seat)
+seat_there : (seats : List Seat) (place : ℕ) → place < length seats → (seat : Seat)
+    × (slice_get seats place ≡ Some seat)
 seat_there [] place lt = absurd (omega (arith, lt))
 seat_there (seat ∷ seats) zero lt = (seat, refl)
 seat_there (seat ∷ seats) (suc place) lt = seat_there seats place (omega (arith, lt))
@@ -114,10 +126,13 @@ seat_there (seat ∷ seats) (suc place) lt = seat_there seats place (omega (arit
 -- ---- the refusal is told
 
 -- j: the journal before, i: after the walk's end, log: the history after
-module _ (j i : Inside) (h : IsKept j) (mid : IsKept i) (number place : ℕ) (numbered : number ≡ suc place) (within : place < length i.seats.items) (slots : List ℕ)
-    (lent : List Held) (told : lent ≡ map (slot_of (book_of i)) slots) (errno : Errno) (blocked : IsBlockedEnd (book_of j) number slots errno)
+module _ (j i : Inside) (h : IsKept j) (mid : IsKept i) (number place : ℕ) (numbered : number ≡ suc place)
+    (within : place < length i.seats.items) (slots : List ℕ)
+    (lent : List Held) (told : lent ≡ map (slot_of (book_of i)) slots) (errno : Errno)
+    (blocked : IsBlockedEnd (book_of j) number slots errno)
     (ended : world_of i ≡ without_walk (world_of j) number) (room_left : is_full (world_of j) ≡ false)
-    (call : Call) (call_is : call ≡ blocked.walk.call) (log : Log) (pushed : log ≡ entered i number call (Refused errno)) where
+    (call : Call) (call_is : call ≡ blocked.walk.call) (log : Log)
+    (pushed : log ≡ entered i number call (Refused errno)) where
   abbrev pub refused_journal : Inside
   refused_journal = record i { history = log }
 
@@ -130,7 +145,8 @@ module _ (j i : Inside) (h : IsKept j) (mid : IsKept i) (number place : ℕ) (nu
   room_then : is_full (world_of i) ≡ false
   room_then = ap is_full ended ∙ room_left
 
-  performs : Performs (shown (world_of i)) number (mark_of (world_of i)) (spares_of i.seats.items) place i.table slots blocked.walk.call (Refused errno) seat.client seat.spare i.table lent
+  performs : Performs (shown (world_of i)) number (mark_of (world_of i)) (spares_of i.seats.items) place i.table slots
+      blocked.walk.call (Refused errno) seat.client seat.spare i.table lent
   performs =
       refusal i mid number place seat at numbered slots lent told blocked.walk.call (next_number (world_of i)) errno
       (ap (λ (v : World). reply_to v number blocked.walk.call) ended ∙ blocked.reply)
@@ -140,22 +156,26 @@ module _ (j i : Inside) (h : IsKept j) (mid : IsKept i) (number place : ℕ) (nu
 
   pub refused_kept : IsKept refused_journal
   refused_kept =
-      committed_kept j i refused_journal h mid number place blocked.walk blocked.ends.is blocked.ends.may ended room_then seat at numbered (Refused errno) seat.client seat.spare lent slots performs
+      committed_kept j i refused_journal h mid number place blocked.walk blocked.ends.is blocked.ends.may ended
+      room_then seat at numbered (Refused errno) seat.client seat.spare lent slots performs
       seat refl refl refl [] refl (seats_as_were i.seats.items place seat at) history refl refl refl
 
   pub refused_does : Ends (book_of j) number (Replied (Refused errno)) (book_of refused_journal)
   refused_does = (
     room_left,
-    committed_step j i refused_journal h mid number place blocked.walk blocked.ends.is blocked.ends.may ended room_then seat at numbered (Refused errno) seat.client seat.spare lent slots performs
+    committed_step j i refused_journal h mid number place blocked.walk blocked.ends.is blocked.ends.may ended room_then
+        seat at numbered (Refused errno) seat.client seat.spare lent slots performs
         seat refl refl refl [] refl (seats_as_were i.seats.items place seat at) history refl refl refl,
   )
 
   pub refused_lent : lent ≡ map (slot_of (book_of refused_journal)) slots
   refused_lent =
-      committed_lent j i refused_journal h mid number place blocked.walk blocked.ends.is blocked.ends.may ended room_then seat at numbered (Refused errno) seat.client seat.spare lent slots performs
+      committed_lent j i refused_journal h mid number place blocked.walk blocked.ends.is blocked.ends.may ended
+      room_then seat at numbered (Refused errno) seat.client seat.spare lent slots performs
       seat refl refl refl [] refl (seats_as_were i.seats.items place seat at) history refl refl refl
 
   pub refused_spares : Spares (book_of i) (book_of refused_journal) slots
   refused_spares =
-      committed_spares j i refused_journal h mid number place blocked.walk blocked.ends.is blocked.ends.may ended room_then seat at numbered (Refused errno) seat.client seat.spare lent slots performs
+      committed_spares j i refused_journal h mid number place blocked.walk blocked.ends.is blocked.ends.may ended
+      room_then seat at numbered (Refused errno) seat.client seat.spare lent slots performs
       seat refl refl refl [] refl (seats_as_were i.seats.items place seat at) history refl refl refl

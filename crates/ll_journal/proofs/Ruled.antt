@@ -5,7 +5,9 @@ use Rattle.std.proofs.Common.{ap, ◌∙◌}
 use Rattle.ll_rights.specs.declared.kind.Kind.TheVariants.{Reg}
 use Rattle.ll_rights.specs.Map.{get, insert, remove}
 use Rattle.ll_seq.specs.declared.call.Call.{Call}
-use Rattle.ll_seq.specs.declared.call.Call.TheVariants.{Make, Open, Read, Write, Ftruncate, Close, Truncate, ReadDir, Stat, Exec, Unlink, Rmdir, Rename, RenameNoreplace, Exchange, Link, Ruleset, Allow, Confine, Spawn, Connect}
+use Rattle.ll_seq.specs.declared.call.Call.TheVariants.{Make, Open, Read, Write, Ftruncate, Close, Truncate, ReadDir}
+use Rattle.ll_seq.specs.declared.call.Call.TheVariants.{Stat, Exec, Unlink, Rmdir, Rename, RenameNoreplace, Exchange}
+use Rattle.ll_seq.specs.declared.call.Call.TheVariants.{Link, Ruleset, Allow, Confine, Spawn, Connect}
 use Rattle.ll_seq.specs.declared.client.ClientRecord.{ClientRecord}
 use Rattle.ll_seq.specs.declared.dentries.Dentry.{Dentry}
 use Rattle.ll_seq.specs.declared.node.Node.{Node}
@@ -14,7 +16,8 @@ use Rattle.ll_seq.specs.declared.reply.Entry.{Entry}
 use Rattle.ll_seq.specs.Call.{path_of}
 use Rattle.ll_seq.specs.State.{State, bytes_of}
 use Rattle.ll_seq.specs.Tree.{named, inode_of}
-use Rattle.ll_seq.specs.Effects.{with_bytes, with_client, with_node, with_moved, with_opened, emptied, dentry_of, overwritten, inode_at, lives, let_go, renamed}
+use Rattle.ll_seq.specs.Effects.{with_bytes, with_client, with_node, with_moved, with_opened, emptied, dentry_of}
+use Rattle.ll_seq.specs.Effects.{overwritten, inode_at, lives, let_go, renamed}
 use Rattle.ll_seq.specs.Step.{step, refusals, first_or, client_of}
 use Rattle.ll_seq.specs.History.{fresh_of, state_after, after}
 use Rattle.ll_laws.proofs.Gain.{done_of}
@@ -24,25 +27,38 @@ abbrev frame : State → Rules × ℕ
 frame s = (s.rules, s.room)
 
 bytes_frame : (s : State) (inode : ℕ) (bytes : List ℕ) → frame (with_bytes s inode bytes) ≡ frame s
-bytes_frame s inode bytes = elim (get s.nodes inode) as (λ o. frame (option_map_or (λ (n : Node). record s { nodes = insert s.nodes inode (record n { bytes = bytes }) }) o s) ≡ frame s) [ None ↦ refl | Some n ↦ refl ]
+bytes_frame s inode bytes = elim (get s.nodes inode) as
+    (λ o. frame (option_map_or (λ (n : Node). record s { nodes = insert s.nodes inode (record n { bytes = bytes }) }) o
+    s) ≡ frame s) [ None ↦ refl | Some n ↦ refl ]
 
 let_go_frame : (s : State) (inode : ℕ) → frame (let_go s inode) ≡ frame s
-let_go_frame s inode = elim (lives s inode) as (λ b. frame (cond b s (record s { nodes = remove s.nodes inode })) ≡ frame s) [ true ↦ refl | false ↦ refl ]
+let_go_frame s inode = elim (lives s inode) as
+    (λ b. frame (cond b s (record s { nodes = remove s.nodes inode })) ≡ frame s) [ true ↦ refl | false ↦ refl ]
 
 renamed_frame : (s : State) (old new : Dentry) (inode : ℕ) (o : Option ℕ) → frame (renamed s old new inode o) ≡ frame s
 renamed_frame s old new inode None = refl
-renamed_frame s old new inode (Some r) = elim (inode == r) as (λ b. frame (cond b s (let_go (with_moved s old new inode) r)) ≡ frame s) [ true ↦ refl | false ↦ let_go_frame (with_moved s old new inode) r ]
+renamed_frame s old new inode (Some r) =
+    elim (inode == r) as (λ b. frame (cond b s (let_go (with_moved s old new inode) r)) ≡ frame s)
+    [ true ↦ refl | false ↦ let_go_frame (with_moved s old new inode) r ]
 
-done_frame : (s : State) (number : ℕ) (c : ClientRecord) (call : Call) (fresh : ℕ) → frame (done_of s number c call fresh).1 ≡ frame s
+done_frame : (s : State) (number : ℕ) (c : ClientRecord) (call : Call) (fresh : ℕ)
+    → frame (done_of s number c call fresh).1 ≡ frame s
 done_frame s number c (Make kind t) fresh = refl
 done_frame s number c (Open mode t) fresh =
-    elim (is_none (named s (path_of t))) as (λ b. frame (cond b (with_client (with_node s Reg (dentry_of s (path_of t))) number (with_opened s c mode (path_of t) s.next)) (with_client (emptied s mode (inode_of s (path_of t))) number (with_opened s c mode (path_of t) (inode_of s (path_of t))))) ≡ frame s) [
+    elim (is_none (named s (path_of t))) as
+    (λ b. frame (cond b (with_client (with_node s Reg (dentry_of s (path_of t))) number
+    (with_opened s c mode (path_of t) s.next))
+    (with_client (emptied s mode (inode_of s (path_of t))) number
+    (with_opened s c mode (path_of t) (inode_of s (path_of t))))) ≡ frame s) [
       | true ↦ refl
-      | false ↦ elim mode.truncate as (λ b. frame (cond b (with_bytes s (inode_of s (path_of t)) []) s) ≡ frame s) [ true ↦ bytes_frame s _ _ | false ↦ refl ]
+      | false ↦ elim mode.truncate as (λ b. frame (cond b (with_bytes s (inode_of s (path_of t)) []) s) ≡ frame s)
+          [ true ↦ bytes_frame s _ _ | false ↦ refl ]
     ]
 done_frame s number c (Read fd offset count) fresh = refl
 done_frame s number c (Write fd offset bytes) fresh =
-    elim (length bytes == 0) as (λ b. frame (cond b s (with_bytes s (inode_at c fd) (overwritten (bytes_of s (inode_at c fd)) offset bytes))) ≡ frame s) [ true ↦ refl | false ↦ bytes_frame s _ _ ]
+    elim (length bytes == 0) as (λ b. frame
+    (cond b s (with_bytes s (inode_at c fd) (overwritten (bytes_of s (inode_at c fd)) offset bytes))) ≡ frame s)
+    [ true ↦ refl | false ↦ bytes_frame s _ _ ]
 done_frame s number c (Ftruncate fd size) fresh = bytes_frame s _ _
 done_frame s number c (Close fd) fresh = let_go_frame _ _
 done_frame s number c (Truncate t size) fresh = bytes_frame s _ _

@@ -1,5 +1,6 @@
 -- A client that is spawned, as the code makes it.
-use Rattle.std.specs.Prelude.{◌≡◌, ℕ, zero, suc, ◌+◌, ◌-◌, ◌<◌, false, List, [], ◌∷◌, ◌++◌, length, Some, None, slice_index_or}
+use Rattle.std.specs.Prelude.{◌≡◌, ℕ, zero, suc, ◌+◌, ◌-◌, ◌<◌, false, List, [], ◌∷◌, ◌++◌, length, Some, None}
+use Rattle.std.specs.Prelude.{slice_index_or}
 use Rattle.std.specs.Ordering.{nat_cmp}
 use Rattle.std.proofs.Common.{sym, subst, ap, ◌∙◌, arith, length-append}
 use Rattle.std.proofs.lemmas.Option.{slice_get-get_or}
@@ -19,12 +20,20 @@ last_index [] x d n e = ap (λ k. slice_index_or (x ∷ []) k d) e
 last_index (z ∷ seats) x d zero e = absurd (cc e)
 last_index (z ∷ seats) x d (suc n) e = last_index seats x d n (omega (arith, e))
 
-module _ (rules : Rules) (place : ℕ) (seats : List Seat) (table : Table) (number : ℕ) (seats' : List Seat) (middle table' : Table)
-    (parent : Seat) (child : ClientRecord) (within : place < length seats) (is : parent ≡ slice_index_or seats place parent) (born : child ≡ child_of rules parent.client) (numbered : number ≡ length seats + 1)
-    (seated : (spare : ℕ) × (table.free ≡ middle.free ++ spare ∷ []) × (seats' ≡ seats ++ record { client = child; spare = spare; walk = None } ∷ [])) where
-  pub spawns : (len : ℕ) (last : Seat) (descriptors : Map nat_cmp Descriptor) → len ≡ length seats' → last ≡ slice_index_or seats' (len - 1) last → descriptors ≡ last.client.descriptors
-      → ((s : State) (client : ℕ) (c : ClientRecord) (fresh : ℕ) → AreKept s middle.facts → get s.clients client ≡ Some c → has s.clients fresh ≡ false → (child_of s.rules c).descriptors ≡ descriptors → AreKept (with_client s fresh (child_of s.rules c)) table'.facts)
-      → middle ≡ record table { free = middle.free } → table' ≡ record middle { facts = table'.facts } → Spawns rules place seats table number seats' table'
+module _ (rules : Rules) (place : ℕ) (seats : List Seat) (table : Table) (number : ℕ) (seats' : List Seat)
+    (middle table' : Table)
+    (parent : Seat) (child : ClientRecord) (within : place < length seats)
+    (is : parent ≡ slice_index_or seats place parent) (born : child ≡ child_of rules parent.client)
+    (numbered : number ≡ length seats + 1)
+    (seated : (spare : ℕ) × (table.free ≡ middle.free ++ spare ∷ [])
+    × (seats' ≡ seats ++ record { client = child; spare = spare; walk = None } ∷ [])) where
+  pub spawns : (len : ℕ) (last : Seat) (descriptors : Map nat_cmp Descriptor) → len ≡ length seats'
+      → last ≡ slice_index_or seats' (len - 1) last → descriptors ≡ last.client.descriptors
+      → ((s : State) (client : ℕ) (c : ClientRecord) (fresh : ℕ) → AreKept s middle.facts
+      → get s.clients client ≡ Some c → has s.clients fresh ≡ false → (child_of s.rules c).descriptors ≡ descriptors
+      → AreKept (with_client s fresh (child_of s.rules c)) table'.facts)
+      → middle ≡ record table { free = middle.free } → table' ≡ record middle { facts = table'.facts }
+      → Spawns rules place seats table number seats' table'
   spawns len last descriptors many at told counted first then = record {
     parent = parent;
     there = slice_get-get_or seats place parent within ∙ ap Some (sym is);
@@ -34,8 +43,10 @@ module _ (rules : Rules) (place : ℕ) (seats : List Seat) (table : Table) (numb
     seats-are = seated.2 ∙ ap (λ c. seats ++ record { client = c; spare = seated.0; walk = None } ∷ []) born;
     facts-are = λ s client kept same there unknown.
         subst (λ r. AreKept (with_client s number (child_of r parent.client)) table'.facts) same
-        (counted s client parent.client number (subst (AreKept s) (ap (λ (t : Table). t.facts) (sym first)) kept) there unknown (ap (λ r. (child_of r parent.client).descriptors) same ∙ sym own));
-    rest-is = then ∙ ap (λ (t : Table). record t { facts = table'.facts }) first ∙ ap (λ ks. record table { facts = table'.facts; free = ks }) (ap (λ (t : Table). t.free) (sym then));
+        (counted s client parent.client number (subst (AreKept s) (ap (λ (t : Table). t.facts) (sym first)) kept) there
+        unknown (ap (λ r. (child_of r parent.client).descriptors) same ∙ sym own));
+    rest-is = then ∙ ap (λ (t : Table). record t { facts = table'.facts }) first
+        ∙ ap (λ ks. record table { facts = table'.facts; free = ks }) (ap (λ (t : Table). t.free) (sym then));
   }
     where
       new : Seat

@@ -6,7 +6,9 @@ use Rattle.ll_rights.specs.declared.errno.Errno.{Errno}
 use Rattle.ll_rights.specs.declared.errno.Errno.TheVariants.{NoMemory}
 use Rattle.ll_rights.specs.Errno.{refuse}
 use Rattle.ll_seq.specs.declared.call.Call.{Call}
-use Rattle.ll_seq.specs.declared.call.Call.TheVariants.{Make, Open, Read, Write, Ftruncate, Close, Truncate, ReadDir, Stat, Exec, Unlink, Rmdir, Rename, RenameNoreplace, Exchange, Link, Ruleset, Allow, Confine, Spawn, Connect}
+use Rattle.ll_seq.specs.declared.call.Call.TheVariants.{Make, Open, Read, Write, Ftruncate, Close, Truncate, ReadDir}
+use Rattle.ll_seq.specs.declared.call.Call.TheVariants.{Stat, Exec, Unlink, Rmdir, Rename, RenameNoreplace, Exchange}
+use Rattle.ll_seq.specs.declared.call.Call.TheVariants.{Link, Ruleset, Allow, Confine, Spawn, Connect}
 use Rattle.ll_seq.specs.declared.client.ClientRecord.{ClientRecord}
 use Rattle.ll_seq.specs.declared.reply.Reply.{Reply}
 use Rattle.ll_seq.specs.Fails.{Fails}
@@ -17,7 +19,8 @@ use Rattle.ll_journal.specs.Starving.{is_refusal}
 use Rattle.ll_journal.proofs.Shown.{step_done}
 
 -- what is done is no refusal
-done_granted : (s : State) (number : ℕ) (c : ClientRecord) (call : Call) (fresh : ℕ) → is_refusal (done_of s number c call fresh).0 ≡ false
+done_granted : (s : State) (number : ℕ) (c : ClientRecord) (call : Call) (fresh : ℕ)
+    → is_refusal (done_of s number c call fresh).0 ≡ false
 done_granted s number c (Make kind t) fresh = refl
 done_granted s number c (Open mode t) fresh = refl
 done_granted s number c (Read fd offset count) fresh = refl
@@ -40,9 +43,11 @@ done_granted s number c (Confine rs) fresh = refl
 done_granted s number c Spawn fresh = refl
 done_granted s number c Connect fresh = refl
 
-pub step_granted : (s : State) (number : ℕ) (call : Call) (fresh : ℕ) → refusals s (client_of s number) call ≡ [] → is_refusal (step s number call fresh).0 ≡ false
+pub step_granted : (s : State) (number : ℕ) (call : Call) (fresh : ℕ) → refusals s (client_of s number) call ≡ []
+    → is_refusal (step s number call fresh).0 ≡ false
 step_granted s number call fresh free =
-    ap (λ (o : Reply × State). is_refusal o.0) (step_done s number call fresh free) ∙ done_granted s number (client_of s number) call fresh
+    ap (λ (o : Reply × State). is_refusal o.0) (step_done s number call fresh free)
+    ∙ done_granted s number (client_of s number) call fresh
 
 -- ---- refusals and want of memory
 

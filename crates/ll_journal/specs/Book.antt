@@ -1,5 +1,6 @@
 -- What contracts see of the journal, and the account of a slot: what has to lie behind its lock. own
-use Rattle.std.specs.Prelude.{◌≡◌, ℕ, zero, suc, ◌+◌, ◌-◌, Bool, false, ◌==◌, List, [], ◌∷◌, replicate, slice_index_or, length, Option, Some, None, if◌then◌else◌}
+use Rattle.std.specs.Prelude.{◌≡◌, ℕ, zero, suc, ◌+◌, ◌-◌, Bool, false, ◌==◌, List, [], ◌∷◌, replicate, slice_index_or}
+use Rattle.std.specs.Prelude.{length, Option, Some, None, if◌then◌else◌}
 use Rattle.std.specs.List.{range_with_len}
 use Rattle.std.specs.Option.{option_map_or}
 use Rattle.ll_rights.specs.declared.limits.TheConstants.{TREE_CLIENTS}
@@ -12,8 +13,8 @@ use Rattle.ll_changes.specs.Accounts.{names_map}
 use Rattle.ll_held.specs.declared.held.Held.{Held}
 use Rattle.ll_held.specs.Lent.{vacant}
 use Rattle.ll_inodes.specs.InodeTable.{NotIn}
-use Rattle.ll_walks.specs.Walk.{Walk, marks}
-use Rattle.ll_walks.specs.World.{World, new_world, next_number, shown}
+use Rattle.ll_worlds.specs.Walk.{Walk, marks}
+use Rattle.ll_worlds.specs.World.{World, new_world, next_number, shown}
 
 -- A client: its record, the slot that is kept for what it makes, and its walk if one is under way
 pub record Seat : Type 0 where

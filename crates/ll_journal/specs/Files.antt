@@ -13,7 +13,7 @@ use Rattle.ll_seq.specs.Step.{step, refusals, client_of}
 use Rattle.ll_held.specs.declared.held.Held.{Held}
 use Rattle.ll_held.specs.Lent.{vacant}
 use Rattle.ll_inodes.specs.InodeTable.{Table, IsTable, without_inode}
-use Rattle.ll_walks.specs.World.{descriptor_of}
+use Rattle.ll_worlds.specs.World.{descriptor_of}
 use Rattle.ll_journal.specs.Book.{Seat}
 use Rattle.ll_journal.specs.declared.files.BytesCall.{BytesCall}
 use Rattle.ll_journal.specs.declared.files.BytesCall.TheVariants.{Read, Write, Resize}

@@ -1,5 +1,6 @@
 -- What the journal keeps beside the history, and how it is tied to the shown state. No public contract cites it. own
-use Rattle.std.specs.Prelude.{◌≡◌, ℕ, zero, suc, ◌+◌, ◌≤◌, List, [], ◌∷◌, map, length, Option, None, option_map, slice_get}
+use Rattle.std.specs.Prelude.{◌≡◌, ℕ, zero, suc, ◌+◌, ◌≤◌, List, [], ◌∷◌, map, length, Option, None, option_map}
+use Rattle.std.specs.Prelude.{slice_get}
 use Rattle.std.specs.Option.{option_map_or}
 use Rattle.std.specs.Ordering.{nat_cmp}
 use Rattle.ll_rights.specs.declared.limits.TheConstants.{HISTORY_ENTRIES, TREE_CLIENTS}
@@ -7,9 +8,9 @@ use Rattle.ll_rights.specs.Map.{Map, empty, get, insert}
 use Rattle.ll_inodes.specs.InodeTable.{IsTable}
 use Rattle.ll_seq.specs.State.{State}
 use Rattle.ll_journal.specs.declared.journal.Journal.TheInside.{Inside}
-use Rattle.ll_walks.specs.Walk.{Walk}
-use Rattle.ll_walks.specs.World.{World, shown}
-use Rattle.ll_walks.specs.Sound.{IsSound}
+use Rattle.ll_worlds.specs.Walk.{Walk}
+use Rattle.ll_worlds.specs.World.{World, shown}
+use Rattle.ll_worlds.specs.Sound.{IsSound}
 use Rattle.ll_journal.specs.Book.{Seat, Book}
 
 -- the walks that are under way; the first seat is that of the client of this number

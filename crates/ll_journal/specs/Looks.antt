@@ -1,5 +1,6 @@
 -- What the journal finds before a step: whether it may be made. No public contract cites it. own
-use Rattle.std.specs.Prelude.{◌≡◌, ◌⊎◌, ℕ, ◌==◌, Bool, true, false, not, ◌&&◌, ◌||◌, List, Option, Some, None, is_none, nat_lt, nat_le, option_map, option_and_then, slice_get, if◌then◌else◌}
+use Rattle.std.specs.Prelude.{◌≡◌, ◌⊎◌, ℕ, ◌==◌, Bool, true, false, not, ◌&&◌, ◌||◌, List, Option, Some, None, is_none}
+use Rattle.std.specs.Prelude.{nat_lt, nat_le, option_map, option_and_then, slice_get, if◌then◌else◌}
 use Rattle.std.specs.List.{list_all, list_any}
 use Rattle.std.specs.Option.{option_map_or}
 use Rattle.std.specs.Ordering.{nat_cmp}
@@ -18,7 +19,7 @@ use Rattle.ll_seq.specs.declared.call.Call.{Call}
 use Rattle.ll_seq.specs.Call.{first_path, second_path}
 use Rattle.ll_seq.specs.Stages.{no_directory}
 use Rattle.ll_seq.specs.State.{Name, root}
-use Rattle.ll_walks.specs.Walk.{Walk, Leg, has_two_paths, is_in, legs, is_above}
+use Rattle.ll_worlds.specs.Walk.{Walk, Leg, has_two_paths, is_in, legs, is_above}
 use Rattle.ll_held.specs.declared.held.Held.{Held}
 use Rattle.ll_journal.specs.declared.look.Look.{Look}
 use Rattle.ll_journal.specs.declared.look.Look.TheVariants.{NotNow, Astray, Go}

@@ -6,8 +6,8 @@ use Rattle.ll_rights.specs.Map.{Map, get}
 use Rattle.ll_answer.specs.Near.{nodes_of, may_make}
 use Rattle.ll_answer.specs.declared.found.Found.{Found}
 use Rattle.ll_seq.specs.declared.call.Call.{Call}
-use Rattle.ll_walks.specs.Walk.{Walk, Leg, at_ends, is_in, legs}
-use Rattle.ll_walks.specs.World.{shown}
+use Rattle.ll_worlds.specs.Walk.{Walk, Leg, at_ends, is_in, legs}
+use Rattle.ll_worlds.specs.World.{shown}
 use Rattle.ll_journal.specs.Book.{Seat, Book, inode_in}
 use Rattle.ll_journal.specs.WalkEnds.{IsNeeded, nodes_at_end, would_make, spare_of}
 

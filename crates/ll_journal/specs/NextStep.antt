@@ -4,8 +4,8 @@ use Rattle.std.specs.List.{AllByRecursion}
 use Rattle.ll_rights.specs.Map.{get}
 use Rattle.ll_seq.specs.State.{root}
 use Rattle.ll_inodes.specs.InodeTable.{AreDistinct}
-use Rattle.ll_walks.specs.Walk.{Walk, Leg, at_ends, is_blocked, turn}
-use Rattle.ll_walks.specs.World.{shown}
+use Rattle.ll_worlds.specs.Walk.{Walk, Leg, at_ends, is_blocked, turn}
+use Rattle.ll_worlds.specs.World.{shown}
 use Rattle.ll_journal.specs.declared.next.Next.{Next}
 use Rattle.ll_journal.specs.declared.next.Next.TheVariants as next
 use Rattle.ll_journal.specs.declared.station.Station.TheVariants as station

@@ -1,5 +1,6 @@
 -- A client's calls for itself alone. No public contract cites it. own
-use Rattle.std.specs.Prelude.{◌≡◌, ◌⊎◌, ℕ, ◌+◌, ◌<◌, ◌≤◌, true, false, List, [], ◌∷◌, ◌++◌, length, Option, Some, None, slice_get}
+use Rattle.std.specs.Prelude.{◌≡◌, ◌⊎◌, ℕ, ◌+◌, ◌<◌, ◌≤◌, true, false, List, [], ◌∷◌, ◌++◌, length, Option, Some, None}
+use Rattle.std.specs.Prelude.{slice_get}
 use Rattle.ll_rights.specs.Map.{get, has}
 use Rattle.ll_seq.specs.declared.call.Call.{Call}
 use Rattle.ll_seq.specs.declared.call.Call.TheVariants as call
@@ -14,7 +15,7 @@ use Rattle.ll_seq.specs.Facts.{AreKept}
 use Rattle.ll_inodes.specs.InodeTable.{Table}
 use Rattle.ll_seq.specs.declared.rules.Rules.{Rules}
 use Rattle.ll_seq.specs.Step.{step, refusals}
-use Rattle.ll_walks.specs.World.{is_alone}
+use Rattle.ll_worlds.specs.World.{is_alone}
 use Rattle.ll_seq.specs.Stages.{early_refusals}
 use Rattle.ll_journal.specs.Book.{Seat}
 use Rattle.ll_journal.specs.declared.alone.Own.{Own}

@@ -14,7 +14,7 @@ use Rattle.ll_seq.specs.declared.reply.Reply.{Reply}
 use Rattle.ll_seq.specs.Call.{first_path, second_path}
 use Rattle.ll_seq.specs.State.{State}
 use Rattle.ll_seq.specs.Step.{step, refusals, client_of}
-use Rattle.ll_walks.specs.Walk.{is_in}
+use Rattle.ll_worlds.specs.Walk.{is_in}
 use Rattle.ll_seq.specs.Stages.{early_refusals}
 use Rattle.ll_journal.specs.Decidings.{IsEndAt}
 

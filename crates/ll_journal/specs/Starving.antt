@@ -3,9 +3,9 @@ use Rattle.std.specs.Prelude.{◌≡◌, ℕ, Bool, true, false, Some}
 use Rattle.ll_rights.specs.Map.{get}
 use Rattle.ll_seq.specs.declared.reply.Reply.{Reply}
 use Rattle.ll_seq.specs.declared.reply.Reply.TheVariants.{Refused, Denied}
-use Rattle.ll_walks.specs.Walk.{Walk}
-use Rattle.ll_walks.specs.World.{World, Replied, advance, is_full, may_commit, reply_to}
-use Rattle.ll_walks.specs.declared.step.Step.{Step}
+use Rattle.ll_worlds.specs.Walk.{Walk}
+use Rattle.ll_worlds.specs.World.{World, Replied, advance, is_full, may_commit, reply_to}
+use Rattle.ll_worlds.specs.declared.step.Step.{Step}
 
 -- the call is refused, or denied
 abbrev pub is_refusal : Reply → Bool

@@ -12,11 +12,11 @@ use Rattle.ll_seq.specs.declared.reply.Reply.TheVariants.{Refused}
 use Rattle.ll_seq.specs.Call.{first_path, second_path}
 use Rattle.ll_seq.specs.State.{State, kind_of}
 use Rattle.ll_seq.specs.Tree.{named, ancestors}
-use Rattle.ll_walks.specs.Commits.{first_end, second_end}
-use Rattle.ll_walks.specs.Walk.{Walk, Leg, is_in, marks}
-use Rattle.ll_walks.specs.World as world
-use Rattle.ll_walks.specs.World.{advance, shown, may_commit, reply_to}
-use Rattle.ll_walks.specs.declared.step.Step.TheVariants.{Commit}
+use Rattle.ll_worlds.specs.Commits.{first_end, second_end}
+use Rattle.ll_worlds.specs.Walk.{Walk, Leg, is_in, marks}
+use Rattle.ll_worlds.specs.World as world
+use Rattle.ll_worlds.specs.World.{advance, shown, may_commit, reply_to}
+use Rattle.ll_worlds.specs.declared.step.Step.TheVariants.{Commit}
 use Rattle.ll_journal.specs.declared.stop.Stop.{Stop}
 use Rattle.ll_journal.specs.declared.stop.Stop.TheVariants as stops
 use Rattle.ll_journal.specs.Book.{Book}

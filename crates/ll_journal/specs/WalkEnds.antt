@@ -1,5 +1,6 @@
 -- What comes of a commit, and which slots it needs. own
-use Rattle.std.specs.Prelude.{◌≡◌, ◌⊎◌, ℕ, ◌-◌, Bool, true, false, List, [], map, is_none, Some, slice_index_or, ◌∷◌, ◌++◌, slice_set}
+use Rattle.std.specs.Prelude.{◌≡◌, ◌⊎◌, ℕ, ◌-◌, Bool, true, false, List, [], map, is_none, Some, slice_index_or, ◌∷◌}
+use Rattle.std.specs.Prelude.{◌++◌, slice_set}
 use Rattle.ll_rights.specs.Map.{get, has}
 use Rattle.ll_rights.specs.declared.errno.Errno.TheVariants.{HistoryFull}
 use Rattle.ll_path.specs.declared.target.Target.{Target}
@@ -10,10 +11,10 @@ use Rattle.ll_seq.specs.declared.reply.Reply.TheVariants.{Refused}
 use Rattle.ll_seq.specs.Call.{path_of}
 use Rattle.ll_seq.specs.State.{State}
 use Rattle.ll_seq.specs.Tree.{named}
-use Rattle.ll_walks.specs.Walk.{Walk, at_ends, is_in, marks}
-use Rattle.ll_walks.specs.World as world
-use Rattle.ll_walks.specs.World.{World, advance, shown, is_full, last_node, without_walk}
-use Rattle.ll_walks.specs.declared.step.Step.TheVariants.{Commit}
+use Rattle.ll_worlds.specs.Walk.{Walk, at_ends, is_in, marks}
+use Rattle.ll_worlds.specs.World as world
+use Rattle.ll_worlds.specs.World.{World, advance, shown, is_full, last_node, without_walk}
+use Rattle.ll_worlds.specs.declared.step.Step.TheVariants.{Commit}
 use Rattle.ll_journal.specs.declared.outcome.Ending.{Ending}
 use Rattle.ll_journal.specs.declared.outcome.Ending.TheVariants as ending
 use Rattle.ll_journal.specs.Book.{Book, inode_in}

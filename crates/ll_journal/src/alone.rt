@@ -2,7 +2,7 @@
 
 ghost use Rattle.std.specs.Prelude.{◌≡◌, ◌≢◌, ◌<◌, None, Some, slice_get, IfOk, OnErr, option_map, if◌then◌else◌};
 ghost use Rattle.ll_rights.specs.Map.{has};
-ghost use Rattle.ll_walks.specs.World as world;
+ghost use Rattle.ll_worlds.specs.World as world;
 ghost use Rattle.ll_seq.specs.Stages.{early_refusals};
 ghost use Rattle.ll_seq.specs.declared.reply.Reply.TheVariants as replies;
 ghost use Rattle.ll_journal.specs.Own.{IsOwn, Comes, IsFreeOwn};

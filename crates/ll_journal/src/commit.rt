@@ -2,7 +2,7 @@
 
 ghost use Rattle.std.specs.Prelude.{◌≡◌, ◌≢◌, ◌<◌, ℕ, List, suc, true, length, map, Some};
 ghost use Rattle.ll_rights.specs.Map.{get};
-ghost use Rattle.ll_walks.specs.Walk as walks;
+ghost use Rattle.ll_worlds.specs.Walk as walks;
 
 use crate::decided::{moved_by, overtake_moved};
 use crate::ending::released;
@@ -17,8 +17,8 @@ use ll_seq::{Entry, Reply};
 
 impl Journal {
     ghost use Rattle.ll_decide.specs.Masks.{AreMasks};
-    ghost use Rattle.ll_walks.specs.Commits.{first_end, second_end};
-    ghost use Rattle.ll_walks.specs.World.{domain_of, without_walk};
+    ghost use Rattle.ll_worlds.specs.Commits.{first_end, second_end};
+    ghost use Rattle.ll_worlds.specs.World.{domain_of, without_walk};
     ghost use Rattle.ll_journal.specs.Book.{Spares, slot_of};
     ghost use Rattle.ll_inodes.specs.InodeTable.{AreDistinct};
     ghost use Rattle.ll_journal.specs.WalkEnds.{Ends, IsAstrayAtEnd, LeavesFree, MayTakeMemory, is_lent};
@@ -32,13 +32,17 @@ impl Journal {
         ensures world { self.new.world ≡ without_walk self.old.world client }
         ensures rest { self.new ≡ record self.old { world = self.new.world } }
         ensures call { (walk : walks.Walk) → get self.old.world.walks client ≡ Some walk → result.call ≡ walk.call }
-        ensures first { (walk : walks.Walk) (leg : walks.Leg) → get self.old.world.walks client ≡ Some walk → first_end walk.at ≡ Some leg
+        ensures first { (walk : walks.Walk) (leg : walks.Leg) → get self.old.world.walks client ≡ Some walk
+            → first_end walk.at ≡ Some leg
             → AreMasks result.first (domain_of self.old.world client) leg.chain }
-        ensures second { (walk : walks.Walk) (leg : walks.Leg) → get self.old.world.walks client ≡ Some walk → second_end walk.at ≡ Some leg
+        ensures second { (walk : walks.Walk) (leg : walks.Leg) → get self.old.world.walks client ≡ Some walk
+            → second_end walk.at ≡ Some leg
             → AreMasks result.second (domain_of self.old.world client) leg.chain }
-        ensures lent { (slots : List ℕ) → lent.old ≡ map (slot_of self.old) slots → lent.new ≡ map (slot_of self.new) slots }
+        ensures lent { (slots : List ℕ) → lent.old ≡ map (slot_of self.old) slots
+            → lent.new ≡ map (slot_of self.new) slots }
         ensures spares { (slots : List ℕ) (walk : walks.Walk) → get self.old.world.walks client ≡ Some walk
-            → ((inode : ℕ) → walks.marks walk inode ≡ true → is_lent self.old slots inode ≡ true) → Spares self.old self.new slots }
+            → ((inode : ℕ) → walks.marks walk inode ≡ true → is_lent self.old slots inode ≡ true)
+            → Spares self.old self.new slots }
     {
         let seat = &mut self.seats[place];
         let walk = seat.end();

@@ -1,6 +1,8 @@
 //! What a commit decides: what the call of a walk that has ended comes to, what is told, and whose walks are stale.
 
-ghost use Rattle.std.specs.Prelude.{◌≡◌, ◌≢◌, ◌==◌, ℕ, true, List, [], ◌∷◌, ◌++◌, None, length, filter, map, option_map, option_to_list, slice_index_or, is_ok, if◌then◌else◌, Option, IfOk, MatchOption, MatchResult};
+ghost use Rattle.std.specs.Prelude.{◌≡◌, ◌≢◌, ◌==◌, ℕ, true, List, [], ◌∷◌, ◌++◌, None, length, filter, map};
+ghost use Rattle.std.specs.Prelude.{option_map, option_to_list, slice_index_or, is_ok, if◌then◌else◌, Option, IfOk};
+ghost use Rattle.std.specs.Prelude.{MatchOption, MatchResult};
 ghost use Rattle.std.specs.List.{AllByRecursion, list_any};
 ghost use Rattle.std.specs.Option.{option_map_or};
 ghost use Rattle.ll_decide.specs.Masks.{AreMasks};
@@ -21,7 +23,7 @@ ghost use Rattle.ll_answer.specs.Near.{IsNear, told_inodes};
 ghost use Rattle.ll_answer.specs.Passed.{has_path};
 ghost use Rattle.ll_changes.specs.Accounts.{accounts};
 ghost use Rattle.ll_inodes.specs.InodeTable.{IsTable};
-ghost use Rattle.ll_walks.specs.World as world;
+ghost use Rattle.ll_worlds.specs.World as world;
 ghost use Rattle.ll_journal.specs.Book as book;
 ghost use Rattle.ll_journal.specs.Decidings.{HasContent, IsEndAt, Lends, moved_list};
 
@@ -40,7 +42,8 @@ use std::alloc::{AllocError, Global};
 /// What is granted with one node more on the chain, if there is one.
 fn granted_at(domain: &Domain, masks: &Masks, node: Option<u64>) -> Masks
     requires { length masks.now ≡ length domain.now }
-    ensures masks { (inodes : List ℕ) → AreMasks masks.now domain.now inodes → AreMasks result domain.now (inodes ++ option_map_or (λ j. j ∷ []) node []) }
+    ensures masks { (inodes : List ℕ) → AreMasks masks.now domain.now inodes
+        → AreMasks result domain.now (inodes ++ option_map_or (λ j. j ∷ []) node []) }
     ensures len { length result ≡ length domain.now }
 {
     let mut masks = masks.copy();
@@ -53,7 +56,8 @@ fn granted_at(domain: &Domain, masks: &Masks, node: Option<u64>) -> Masks
 /// What is granted on the path that the word spells, by what is granted on its parent.
 fn granted_on(domain: &Domain, target: &Target, spot: &Spot, masks: &Masks) -> Masks
     requires { length masks.now ≡ length domain.now }
-    ensures masks { (s : State) → Stands s (path_of target.now) spot.now → IsEndAt s domain.now (path_of target.now) spot.now masks.now
+    ensures masks { (s : State) → Stands s (path_of target.now) spot.now
+        → IsEndAt s domain.now (path_of target.now) spot.now masks.now
         → AreMasks result domain.now (ancestors s (path_of target.now)) }
     ensures len { length result ≡ length domain.now }
 {
@@ -66,7 +70,8 @@ fn granted_on(domain: &Domain, target: &Target, spot: &Spot, masks: &Masks) -> M
 /// What is granted on the call's first path.
 fn granted_on_first(domain: &Domain, call: &Call, spot: &Spot, masks: &Masks) -> Masks
     requires { length masks.now ≡ length domain.now }
-    ensures masks { (s : State) → Stands s (first_path call.now) spot.now → IsEndAt s domain.now (first_path call.now) spot.now masks.now
+    ensures masks { (s : State) → Stands s (first_path call.now) spot.now
+        → IsEndAt s domain.now (first_path call.now) spot.now masks.now
         → AreMasks result domain.now (ancestors s (first_path call.now)) }
     ensures len { length result ≡ length domain.now }
 {
@@ -80,7 +85,8 @@ fn granted_on_first(domain: &Domain, call: &Call, spot: &Spot, masks: &Masks) ->
 /// The same of the second one.
 fn granted_on_second(domain: &Domain, call: &Call, spot: &Spot, masks: &Masks) -> Masks
     requires { length masks.now ≡ length domain.now }
-    ensures masks { (s : State) → Stands s (second_path call.now) spot.now → IsEndAt s domain.now (second_path call.now) spot.now masks.now
+    ensures masks { (s : State) → Stands s (second_path call.now) spot.now
+        → IsEndAt s domain.now (second_path call.now) spot.now masks.now
         → AreMasks result domain.now (ancestors s (second_path call.now)) }
     ensures len { length result ≡ length domain.now }
 {
@@ -100,7 +106,8 @@ pub(crate) fn decided<'a>(
     requires early { early_refusals caller.now walk.now.call ≡ [] }
     requires first { length walk.now.first ≡ length caller.now.domain }
     requires second { length walk.now.second ≡ length caller.now.domain }
-    ensures decided { (s : State) (n : ℕ) → client_of s n ≡ caller.now → has_path walk.now.call ≡ true → AreFacts s walk.now.call found.now
+    ensures decided { (s : State) (n : ℕ) → client_of s n ≡ caller.now → has_path walk.now.call ≡ true
+        → AreFacts s walk.now.call found.now
         → IsEndAt s caller.now.domain (first_path walk.now.call) found.now.first walk.now.first
         → IsEndAt s caller.now.domain (second_path walk.now.call) found.now.second walk.now.second
         → MatchResult result (IsDone s n walk.now.call) (IsRefused s n walk.now.call) }
@@ -150,7 +157,8 @@ fn size_of_lent(lent: &[Held], inode: u64) -> u64
 
 /// The number of the node's names. A directory has one link.
 fn links(table: &Inodes, inode: u64, kind: Kind) -> u64
-    ensures { (s : State) (spares : List ℕ) → IsTable s spares table.now → has s.nodes inode ≡ true → result ≡ (if is_dir kind then 1 else name_count s inode) }
+    ensures { (s : State) (spares : List ℕ) → IsTable s spares table.now → has s.nodes inode ≡ true
+        → result ≡ (if is_dir kind then 1 else name_count s inode) }
 {
     if kind.is_dir() {
         return 1;
@@ -162,7 +170,8 @@ fn links(table: &Inodes, inode: u64, kind: Kind) -> u64
 }
 
 fn status(table: &Inodes, lent: &[Held], inode: u64, kind: Kind) -> Status
-    ensures { (s : State) (spares : List ℕ) → IsTable s spares table.now → Lends s lent.now inode → has s.nodes inode ≡ true → result ≡ status_of s inode kind }
+    ensures { (s : State) (spares : List ℕ) → IsTable s spares table.now → Lends s lent.now inode
+        → has s.nodes inode ≡ true → result ≡ status_of s inode kind }
 {
     Status {
         inode,
@@ -189,8 +198,10 @@ pub(crate) fn tell(
     lent: &[Held],
     alloc: Global,
 ) -> Result<Reply, AllocError>
-    ensures told { IfOk result (λ reply. (s : State) (marks : ℕ → Option ℕ) (spares slots : List ℕ) → IsTable s spares table.now → lent.now ≡ accounts s marks table.now.inodes slots
-        → AllByRecursion (λ i. list_any (λ k. slice_index_or table.now.inodes k 0 == i) slots ≡ true) (told_inodes answer) → AllByRecursion (λ i. i ≢ 0) (told_inodes answer)
+    ensures told { IfOk result (λ reply. (s : State) (marks : ℕ → Option ℕ) (spares slots : List ℕ)
+        → IsTable s spares table.now → lent.now ≡ accounts s marks table.now.inodes slots
+        → AllByRecursion (λ i. list_any (λ k. slice_index_or table.now.inodes k 0 == i) slots ≡ true)
+        (told_inodes answer) → AllByRecursion (λ i. i ≢ 0) (told_inodes answer)
         → reply ≡ told s answer) }
     ensures short { is_short answer ≡ true → is_ok result ≡ true }
 {
@@ -233,7 +244,8 @@ fn inode_there(spot: &Spot) -> u64
 
 /// Whether the second path names the first one's node already.
 fn is_same_node(found: &Found) -> bool
-    ensures { (s : State) (old new : Path) → Stands s old found.now.first → Stands s new found.now.second → result ≡ world.is_same_node s old new }
+    ensures { (s : State) (old new : Path) → Stands s old found.now.first → Stands s new found.now.second
+        → result ≡ world.is_same_node s old new }
 {
     match node_there(&found.second) {
         None => false,
@@ -254,8 +266,10 @@ fn directory_there(spot: &Spot) -> Option<u64>
 
 /// The directories that the call moves where it is done.
 fn moved_where_done(call: &Call, found: &Found) -> Moved
-    ensures { (s : State) → Stands s (first_path call.now) found.now.first → Stands s (second_path call.now) found.now.second → kind_of s 0 ≡ None
-        → moved_list result ≡ filter (λ inode. is_dir (kind_or_file s inode)) (map (inode_of s) (world.moving call.now)) }
+    ensures { (s : State) → Stands s (first_path call.now) found.now.first
+        → Stands s (second_path call.now) found.now.second → kind_of s 0 ≡ None
+        → moved_list result ≡ filter (λ inode. is_dir (kind_or_file s inode))
+        (map (inode_of s) (world.moving call.now)) }
 {
     match call {
         Call::Rename(..) | Call::RenameNoreplace(..) => Moved {
@@ -276,7 +290,8 @@ fn moved_where_done(call: &Call, found: &Found) -> Moved
 
 /// The directories that the call moves, where it is so answered. No node has the inode 0.
 pub(crate) fn moved_by(call: &Call, found: &Found, reply: &Reply) -> Moved
-    ensures { (s : State) → AreFacts s call.now found.now → found.now.first.way ≡ None → found.now.second.way ≡ None → kind_of s 0 ≡ None
+    ensures { (s : State) → AreFacts s call.now found.now → found.now.first.way ≡ None → found.now.second.way ≡ None
+        → kind_of s 0 ≡ None
         → moved_list result ≡ world.moved_by s call.now reply.now }
 {
     match reply {
@@ -287,7 +302,9 @@ pub(crate) fn moved_by(call: &Call, found: &Found, reply: &Reply) -> Moved
 
 /// Every walk that passes one of these is stale.
 pub(crate) fn overtake_moved(seats: &mut Vec<Seat>, moved: Moved)
-    ensures { seats.new.items ≡ map (λ (seat : book.Seat). record seat { walk = option_map (world.overtaken (moved_list moved)) seat.walk }) seats.old.items }
+    ensures { seats.new.items ≡ map
+        (λ (seat : book.Seat). record seat { walk = option_map (world.overtaken (moved_list moved)) seat.walk })
+        seats.old.items }
 {
     match (moved.first, moved.second) {
         (None, None) => {}

@@ -1,8 +1,9 @@
 //! The calls that don't walk: a client's on itself, and the coming of clients.
 
-ghost use Rattle.std.specs.Prelude.{◌≡◌, ◌≢◌, ℕ, ◌+◌, ◌<◌, [], ◌∷◌, ◌++◌, None, length, Ok, Err, IfOk, IfErr, OnOk, OnErr};
-ghost use Rattle.ll_walks.specs.World as world;
-ghost use Rattle.ll_walks.specs.declared.step.Step.TheVariants as steps;
+ghost use Rattle.std.specs.Prelude.{◌≡◌, ◌≢◌, ℕ, ◌+◌, ◌<◌, [], ◌∷◌, ◌++◌, None, length, Ok, Err, IfOk, IfErr, OnOk};
+ghost use Rattle.std.specs.Prelude.{OnErr};
+ghost use Rattle.ll_worlds.specs.World as world;
+ghost use Rattle.ll_worlds.specs.declared.step.Step.TheVariants as steps;
 ghost use Rattle.ll_seq.specs.declared.reply.Reply.TheVariants as replies;
 ghost use Rattle.ll_journal.specs.Own.{Spawns, SpawnTells};
 ghost use Rattle.ll_rights.specs.declared.limits.TheConstants.{TREE_CLIENTS};

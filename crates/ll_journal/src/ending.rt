@@ -1,7 +1,7 @@
 //! What a commit does to the walks of all clients.
 
 ghost use Rattle.std.specs.Prelude.{◌≡◌, map, option_map};
-ghost use Rattle.ll_walks.specs.World as world;
+ghost use Rattle.ll_worlds.specs.World as world;
 ghost use Rattle.ll_journal.specs.Book as book;
 ghost use Rattle.ll_journal.specs.Kept.{walks_from};
 
@@ -9,7 +9,9 @@ use crate::seat::Seat;
 
 /// Every walk that passes one of these directories is stale.
 pub(crate) fn overtake(seats: &mut Vec<Seat>, moved: &[u64])
-    ensures { seats.new.items ≡ map (λ (seat : book.Seat). record seat { walk = option_map (world.overtaken moved.now) seat.walk }) seats.old.items }
+    ensures { seats.new.items ≡ map
+        (λ (seat : book.Seat). record seat { walk = option_map (world.overtaken moved.now) seat.walk })
+        seats.old.items }
 {
     for seat in seats.iter_mut() {
         seat.overtake(moved);

@@ -77,7 +77,8 @@ fn read(
     count: u64,
     node: &Slot,
 ) -> Result<ReplyPair, AllocError>
-    ensures ok { IfOk result (λ reply. ComesOn file.now (λ fd. calls.Read fd offset count) node.now.bytes reply node.now.bytes) }
+    ensures ok { IfOk result (λ reply. ComesOn file.now (λ fd. calls.Read fd offset count) node.now.bytes reply
+        node.now.bytes) }
     ensures starved { OnErr result (IsFreeOn file.now (λ fd. calls.Read fd offset count)) }
 {
     if MOST_READ < count {
@@ -99,7 +100,8 @@ fn write(
     node: &mut Slot,
 ) -> Result<ReplyPair, AllocError>
     requires { is_dir node.old.kind ≡ false }
-    ensures ok { IfOk result (λ reply. ComesOn file.now (λ fd. calls.Write fd offset bytes.now) node.old.bytes reply node.new.bytes) }
+    ensures ok { IfOk result (λ reply. ComesOn file.now (λ fd. calls.Write fd offset bytes.now) node.old.bytes reply
+        node.new.bytes) }
     ensures rest { node.new ≡ record node.old { bytes = node.new.bytes } }
     ensures err { OnErr result (node.new ≡ node.old) }
     ensures starved { OnErr result (IsFreeOn file.now (λ fd. calls.Write fd offset bytes.now)) }
@@ -121,7 +123,8 @@ fn resize(
     node: &mut Slot,
 ) -> Result<ReplyPair, AllocError>
     requires { is_dir node.old.kind ≡ false }
-    ensures ok { IfOk result (λ reply. ComesOn file.now (λ fd. calls.Ftruncate fd size) node.old.bytes reply node.new.bytes) }
+    ensures ok { IfOk result (λ reply. ComesOn file.now (λ fd. calls.Ftruncate fd size) node.old.bytes reply
+        node.new.bytes) }
     ensures rest { node.new ≡ record node.old { bytes = node.new.bytes } }
     ensures err { OnErr result (node.new ≡ node.old) }
     ensures starved { OnErr result (IsFreeOn file.now (λ fd. calls.Ftruncate fd size)) }
@@ -152,7 +155,8 @@ pub(crate) fn answer(
     held: &mut Held,
 ) -> Result<ReplyPair, AllocError>
     requires { is_dir held.old.node.kind ≡ false }
-    ensures ok { IfOk result (λ reply. ComesOn file.now (on_bytes asked.entry) held.old.node.bytes reply held.new.node.bytes) }
+    ensures ok { IfOk result (λ reply. ComesOn file.now (on_bytes asked.entry) held.old.node.bytes reply
+        held.new.node.bytes) }
     ensures rest { held.new ≡ record held.old { node = record held.old.node { bytes = held.new.node.bytes } } }
     ensures err { OnErr result (held.new ≡ held.old) }
     ensures starved { OnErr result (IsFreeOn file.now (on_bytes asked.entry)) }

@@ -1,12 +1,13 @@
 //! The journal.
 
-ghost use Rattle.std.specs.Prelude.{◌≡◌, ◌<◌, ◌≤◌, suc, [], ◌∷◌, length, None, IfOk, IfErr, IfSome, IfNone, OnOk, OnErr, ◌≢◌, map, ◌==◌, ◌&&◌, is_none, is_some, false, if◌then◌else◌, Some};
+ghost use Rattle.std.specs.Prelude.{◌≡◌, ◌<◌, ◌≤◌, suc, [], ◌∷◌, length, None, IfOk, IfErr, IfSome, IfNone, OnOk};
+ghost use Rattle.std.specs.Prelude.{OnErr, ◌≢◌, map, ◌==◌, ◌&&◌, is_none, is_some, false, if◌then◌else◌, Some};
 ghost use Rattle.ll_rights.specs.declared.limits.TheConstants.{HISTORY_ENTRIES, TREE_CLIENTS, TREE_NODES};
 ghost use Rattle.std.specs.Option.{option_map_or};
 ghost use Rattle.ll_seq.specs.Call.{targets};
 ghost use Rattle.ll_seq.specs.State.{root};
-ghost use Rattle.ll_walks.specs.Walk.{Walk, forked, marks};
-ghost use Rattle.ll_walks.specs.World.{has_any};
+ghost use Rattle.ll_worlds.specs.Walk.{Walk, forked, marks};
+ghost use Rattle.ll_worlds.specs.World.{has_any};
 ghost use Rattle.ll_journal.specs.Looks.{goes_on};
 ghost use Rattle.ll_journal.specs.Kept.{seat_at};
 
@@ -68,7 +69,8 @@ pub(crate) fn place_of(seats: &[Seat], client: u64) -> Option<usize>
 
 /// Who holds the gate when the client's walk has come to the root.
 fn gate_at_root(seat: &Seat, gate: Option<u64>, client: u64) -> Option<u64>
-    ensures { result ≡ (if option_map_or (λ (walk : Walk). walk.starts == 4) seat.now.walk false then Some client else gate) }
+    ensures { result ≡ (if option_map_or (λ (walk : Walk). walk.starts == 4) seat.now.walk false then Some client else
+        gate) }
 {
     if seat.starts_last() {
         Some(client)
@@ -79,7 +81,8 @@ fn gate_at_root(seat: &Seat, gate: Option<u64>, client: u64) -> Option<u64>
 
 /// The client's mark in the directory, if its walk stands there.
 fn mark_in(seat: &Seat, client: u64, inode: u64) -> Option<u64>
-    ensures { result ≡ (if option_map_or (λ (walk : Walk). marks walk inode) seat.now.walk false then Some client else None) }
+    ensures { result ≡ (if option_map_or (λ (walk : Walk). marks walk inode) seat.now.walk false then Some client else
+        None) }
 {
     if seat.stands_in(inode) {
         Some(client)
@@ -90,7 +93,8 @@ fn mark_in(seat: &Seat, client: u64, inode: u64) -> Option<u64>
 
 /// Whether its walk stands at its fork, and isn't stale.
 fn may_fork(seat: &Seat) -> bool
-    ensures { result ≡ (goes_on seat.now && option_map_or (λ (walk : Walk). is_some (forked walk.call walk.at)) seat.now.walk false) }
+    ensures { result ≡ (goes_on seat.now
+        && option_map_or (λ (walk : Walk). is_some (forked walk.call walk.at)) seat.now.walk false) }
 {
     seat.goes_on() && seat.may_fork()
 }
@@ -106,8 +110,8 @@ impl Journal {
     ghost use Rattle.ll_journal.specs.Book.{Spares, new_book, slot_of};
     ghost use Rattle.ll_journal.specs.Stations.{station_in};
     ghost use Rattle.ll_journal.specs.Steps.{Does, GoesDown, IsAstrayAt, IsAstrayAtTop, IsAstrayBelow, IsNext};
-    ghost use Rattle.ll_walks.specs.World.{Begun, NotNow, advance};
-    ghost use Rattle.ll_walks.specs.declared.step.Step.TheVariants.{Begin, ClientStep, Descend, Fork, Restart};
+    ghost use Rattle.ll_worlds.specs.World.{Begun, NotNow, advance};
+    ghost use Rattle.ll_worlds.specs.declared.step.Step.TheVariants.{Begin, ClientStep, Descend, Fork, Restart};
 
     /// A tree of the root alone, in which so many nodes may live, without a client. Room is reserved for so many
     /// entries of the history.

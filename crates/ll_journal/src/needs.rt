@@ -4,7 +4,7 @@ ghost use Rattle.std.specs.Prelude.{◌≡◌, ◌<◌, ◌≤◌, ℕ, length, 
 ghost use Rattle.std.specs.List.{AllByRecursion};
 ghost use Rattle.ll_rights.specs.Map.{get};
 ghost use Rattle.ll_seq.specs.State.{root};
-ghost use Rattle.ll_walks.specs.Walk.{Leg, Walk};
+ghost use Rattle.ll_worlds.specs.Walk.{Leg, Walk};
 ghost use Rattle.ll_journal.specs.Looks.{found_last};
 ghost use Rattle.ll_journal.specs.Needs as needs;
 
@@ -17,8 +17,8 @@ use ll_held::Held;
 use ll_inodes::Inodes;
 use ll_seq::{Call, ROOT};
 
-/// The slot, besides those of directories, that the call may need where its walk ends: its one path or its second has its
-/// last name here.
+/// The slot, besides those of directories, that the call may need where its walk ends: its one path or its second has
+/// its last name here.
 fn slot_besides(table: &Inodes, spare: u64, call: &Call, last: &Spot) -> Option<u64>
     ensures { result ≡ needs.slot_besides table.now.places spare call.now (found_last last.now) }
 {
@@ -48,7 +48,8 @@ impl Journal {
 
     /// The slot of the directory where the leg in turn of the client's walk stands.
     pub fn turn_slot(&self, client: u64) -> Option<u64>
-        ensures some { IfSome result (λ slot. (leg : Leg) × (leg_in_turn self.now.world client ≡ Some leg) × (inode_in self.now slot ≡ leg.here)) }
+        ensures some { IfSome result (λ slot. (leg : Leg) × (leg_in_turn self.now.world client ≡ Some leg)
+            × (inode_in self.now slot ≡ leg.here)) }
         ensures within { IfSome result (λ slot. slot < length self.now.inodes) }
         ensures none { IfNone result (leg_in_turn self.now.world client ≡ None) }
     {
@@ -95,13 +96,15 @@ impl Journal {
         slot_besides(&self.table, seat.spare(), call, &last)
     }
 
-    /// All the slots that a commit of the client's walk may need, and no others, seen from that of the directory where its
-    /// leg in turn stands.
+    /// All the slots that a commit of the client's walk may need, and no others, seen from that of the directory where
+    /// its leg in turn stands.
     pub fn end_slots(&self, client: u64, slot: u64, here: &Held) -> Slots
         requires { here.now ≡ slot_of self.now slot }
-        ensures enough { IsInTurn self.now client slot → (walk : Walk) → get self.now.world.walks client ≡ Some walk → walk.stale ≡ false
+        ensures enough { IsInTurn self.now client slot → (walk : Walk) → get self.now.world.walks client ≡ Some walk
+            → walk.stale ≡ false
             → AreEnough self.now client walk result }
-        ensures only { IsInTurn self.now client slot → (walk : Walk) → get self.now.world.walks client ≡ Some walk → walk.stale ≡ false
+        ensures only { IsInTurn self.now client slot → (walk : Walk) → get self.now.world.walks client ≡ Some walk
+            → walk.stale ≡ false
             → AllByRecursion (IsNeeded self.now client walk) result }
         ensures distinct { AreDistinct result }
         ensures within { AllByRecursion (λ slot. slot < length self.now.inodes) result }

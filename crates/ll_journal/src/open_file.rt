@@ -1,6 +1,7 @@
 //! A client's calls on the files that it has open.
 
-ghost use Rattle.std.specs.Prelude.{◌≡◌, ◌≢◌, ◌<◌, ℕ, [], ◌∷◌, false, is_none, length, Some, None, Ok, IfOk, IfErr, IfSome, IfNone, OnErr, if◌then◌else◌};
+ghost use Rattle.std.specs.Prelude.{◌≡◌, ◌≢◌, ◌<◌, ℕ, [], ◌∷◌, false, is_none, length, Some, None, Ok, IfOk, IfErr};
+ghost use Rattle.std.specs.Prelude.{IfSome, IfNone, OnErr, if◌then◌else◌};
 ghost use Rattle.ll_rights.specs.Kind.{is_dir};
 ghost use Rattle.ll_rights.specs.Map.{get};
 ghost use Rattle.ll_seq.specs.declared.client.Descriptor as record_of;
@@ -63,7 +64,8 @@ fn serve(
     file: &mut Held,
 ) -> Result<ReplyPair, AllocError>
     requires { is_dir file.old.node.kind ≡ false }
-    ensures ok { IfOk result (λ reply. Serves number held asked.entry seat.old table.old file.old reply seat.new table.new file.new) }
+    ensures ok { IfOk result (λ reply. Serves number held asked.entry seat.old table.old file.old reply seat.new
+        table.new file.new) }
     ensures err { OnErr result ((seat.new ≡ seat.old) × (table.new ≡ table.old) × (file.new ≡ file.old)) }
     ensures starved { OnErr result (IsFreeOn held (on_file asked.entry)) }
     ensures calm { OnErr result (asked.entry ≢ FileCall.Close) }
@@ -79,7 +81,7 @@ fn serve(
 }
 
 impl Journal {
-    ghost use Rattle.ll_walks.specs.declared.step.Step.TheVariants as steps;
+    ghost use Rattle.ll_worlds.specs.declared.step.Step.TheVariants as steps;
     ghost use Rattle.ll_journal.specs.Book.{Spares, inode_in, slot_of};
     ghost use Rattle.ll_journal.specs.Direct.{Answers, ComesBack, IsOpen, LeavesSlot};
 

@@ -27,12 +27,18 @@ pub(crate) fn perform(
     found: &Found,
 ) -> Result<ReplyPair, AllocError>
     requires { (s : State) × (number : ℕ) × (marks : ℕ → Option ℕ) × (spares : List ℕ) × (place : ℕ)
-        × IsAtEnd s number marks spares place client.old spare.old table.old slots.now lent.old walk.now.call walk.now.first walk.now.second found.now }
+        × IsAtEnd s number marks spares place client.old spare.old table.old slots.now lent.old walk.now.call
+        walk.now.first walk.now.second found.now }
     ensures ok { IfOk result (λ reply. (s : State) (number : ℕ) (marks : ℕ → Option ℕ) (spares : List ℕ) (place : ℕ)
-        → IsAtEnd s number marks spares place client.old spare.old table.old slots.now lent.old walk.now.call walk.now.first walk.now.second found.now
-        → Performs s number marks spares place table.old slots.now walk.now.call reply client.new spare.new table.new lent.new) }
-    ensures err { OnErr result ((client.new ≡ client.old) × (spare.new ≡ spare.old) × (table.new ≡ table.old) × (lent.new ≡ lent.old)) }
-    ensures starved { OnErr result (IsFreeAtEnd client.old spare.old table.old slots.now lent.old walk.now.call walk.now.first walk.now.second found.now) }
+        → IsAtEnd s number marks spares place client.old spare.old table.old slots.now lent.old walk.now.call
+        walk.now.first walk.now.second found.now
+        → Performs s number marks spares place table.old slots.now walk.now.call reply client.new spare.new table.new
+        lent.new) }
+    ensures err { OnErr result ((client.new ≡ client.old) × (spare.new ≡ spare.old) × (table.new ≡ table.old)
+        × (lent.new ≡ lent.old)) }
+    ensures starved { OnErr result
+        (IsFreeAtEnd client.old spare.old table.old slots.now lent.old walk.now.call walk.now.first walk.now.second
+        found.now) }
     ensures calm { spares_memory walk.now.call ≡ true → is_ok result ≡ true }
 {
     let effect = match decided(client, walk, found) {

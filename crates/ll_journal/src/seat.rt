@@ -8,9 +8,9 @@ ghost use Rattle.ll_decide.specs.Masks.{AreMasks};
 ghost use Rattle.ll_rights.specs.Map.{remove};
 ghost use Rattle.ll_seq.specs.Effects.{child_of};
 ghost use Rattle.ll_seq.specs.State.{State};
-ghost use Rattle.ll_walks.specs.Commits.{first_end, second_end};
-ghost use Rattle.ll_walks.specs.Walk as walks;
-ghost use Rattle.ll_walks.specs.World.{is_alone, is_walked, overtaken};
+ghost use Rattle.ll_worlds.specs.Commits.{first_end, second_end};
+ghost use Rattle.ll_worlds.specs.Walk as walks;
+ghost use Rattle.ll_worlds.specs.World.{is_alone, is_walked, overtaken};
 ghost use Rattle.ll_journal.specs.Stations.{station_of};
 ghost use Rattle.ll_journal.specs.Performed.{IsAtEnd, Performs, IsFreeAtEnd};
 
@@ -66,7 +66,8 @@ impl Model for Seat {
     ghost invariant = { IsSeat };
 }
 
-/// A walk that has ended: its call, and what each layer grants where its branches stood. With one path both are the same.
+/// A walk that has ended: its call, and what each layer grants where its branches stood. With one path both are the
+/// same.
 #[derive(Drop)]
 pub(crate) struct Ended {
     pub call: Call,

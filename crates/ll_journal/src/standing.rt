@@ -3,7 +3,7 @@
 ghost use Rattle.std.specs.Prelude.{◌≡◌, false};
 ghost use Rattle.std.specs.List.{list_any};
 ghost use Rattle.std.specs.Option.{option_map_or};
-ghost use Rattle.ll_walks.specs.Walk as walks;
+ghost use Rattle.ll_worlds.specs.Walk as walks;
 ghost use Rattle.ll_journal.specs.Looks as looks;
 ghost use Rattle.ll_journal.specs.Needs.{slots_in};
 

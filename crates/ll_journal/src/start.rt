@@ -22,8 +22,9 @@ impl Journal {
     ghost use Rattle.ll_journal.specs.Book.{Spares};
     ghost use Rattle.ll_journal.specs.Direct.{LeavesSlots, TakesMemory};
 
-    /// The client's call is made and answered where it is one for the client alone; else it sets out, or comes back where
-    /// it may not. A call on a descriptor that the client has comes back. Only ruleset, confine and spawn take memory.
+    /// The client's call is made and answered where it is one for the client alone; else it sets out, or comes back
+    /// where it may not. A call on a descriptor that the client has comes back. Only ruleset, confine and spawn take
+    /// memory.
     pub fn start(&mut self, client: u64, call: Call) -> Start
         ensures starts { Starts self.old client call result self.new }
         ensures spares { Spares self.old self.new [] }

@@ -9,8 +9,8 @@ ghost use Rattle.ll_path.specs.Path.{Path};
 ghost use Rattle.ll_rights.specs.Map.{len};
 ghost use Rattle.ll_seq.specs.Call.{first_path, path_of, second_path};
 ghost use Rattle.ll_seq.specs.State.{State};
-ghost use Rattle.ll_walks.specs.Walk.{is_in};
-ghost use Rattle.ll_walks.specs.World as world;
+ghost use Rattle.ll_worlds.specs.Walk.{is_in};
+ghost use Rattle.ll_worlds.specs.World as world;
 ghost use Rattle.ll_journal.specs.Kept.{walks_from};
 ghost use Rattle.ll_journal.specs.Looks as looks;
 

@@ -2,7 +2,7 @@
 
 ghost use Rattle.std.specs.Prelude.{◌≡◌, ◌||◌, not, Some, is_none, if◌then◌else◌};
 ghost use Rattle.ll_seq.specs.Call.{targets};
-ghost use Rattle.ll_walks.specs.World as world;
+ghost use Rattle.ll_worlds.specs.World as world;
 
 use ll_answer::{Targets, refused_early, targets_of};
 use ll_seq::{Call, ClientRecord};

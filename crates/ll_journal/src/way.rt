@@ -5,7 +5,7 @@ ghost use Rattle.ll_path.specs.Path.{common, parent};
 ghost use Rattle.ll_path.specs.Place.{IsPlace};
 ghost use Rattle.ll_rights.specs.declared.limits.TheConstants.{PATH_NAMES};
 ghost use Rattle.ll_seq.specs.Call as calls;
-ghost use Rattle.ll_walks.specs.Walk as walks;
+ghost use Rattle.ll_worlds.specs.Walk as walks;
 ghost use Rattle.ll_journal.specs.Seated.{AreShort, name_on, names_in};
 
 use crate::leg::Ahead;

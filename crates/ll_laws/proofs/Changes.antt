@@ -1,5 +1,6 @@
 -- How each call that isn't refused changes the tree.
-use Rattle.std.specs.Prelude.{◌≡◌, ◌≢◌, ◌⊎◌, ℕ, ◌<◌, Bool, true, false, cond, not, ◌||◌, ◌&&◌, ◌==◌, List, [], ◌∷◌, ◌++◌, length, Option, Some, None, option_map, option_and_then, filter, refl, Contains}
+use Rattle.std.specs.Prelude.{◌≡◌, ◌≢◌, ◌⊎◌, ℕ, ◌<◌, Bool, true, false, cond, not, ◌||◌, ◌&&◌, ◌==◌, List, [], ◌∷◌}
+use Rattle.std.specs.Prelude.{◌++◌, length, Option, Some, None, option_map, option_and_then, filter, refl, Contains}
 use Rattle.std.specs.Option.{option_map_or}
 use Rattle.std.specs.Ordering.{eq_by_cmp}
 use Rattle.std.specs.Cmp.{nat_cmp_total}
@@ -9,7 +10,8 @@ use Rattle.std.proofs.Common.{sym, subst, ap, ◌∙◌, inl, inr, arith}
 use Rattle.std.proofs.lemmas.Bool.{eq-eqb, eqb-true}
 use Rattle.ll_rights.specs.declared.kind.Kind.{Kind}
 use Rattle.ll_rights.specs.Map.{get, insert, remove, entries}
-use Rattle.ll_rights.proofs.Maps.{get-insert_same, get-insert_other, get-remove_other, insert_cases, got_inserted, got_left}
+use Rattle.ll_rights.proofs.Maps.{get-insert_same, get-insert_other, get-remove_other, insert_cases, got_inserted}
+use Rattle.ll_rights.proofs.Maps.{got_left}
 use Rattle.ll_path.specs.Name.{same_name}
 use Rattle.ll_path.specs.Path.{Path, parent, last_name, is_root, is_beneath}
 use Rattle.ll_rules.specs.Layer.{Layer}
@@ -19,7 +21,8 @@ use Rattle.ll_seq.specs.declared.node.Node.{Node}
 use Rattle.ll_seq.specs.State.{Name, dentry, dentry_cmp, State, child, root, kind_of, empty_node, name_count, is_open}
 use Rattle.ll_seq.specs.Tree.{end_from, named, inode_of}
 use Rattle.ll_seq.specs.Asked.{grants}
-use Rattle.ll_seq.specs.Effects.{dentry_of, lives, let_go, with_name, with_moved, with_node, without_name, with_bytes, with_client}
+use Rattle.ll_seq.specs.Effects.{dentry_of, lives, let_go, with_name, with_moved, with_node, without_name, with_bytes}
+use Rattle.ll_seq.specs.Effects.{with_client}
 use Rattle.ll_seq.specs.CallParts.{exchanged, is_relevant}
 use Rattle.ll_seq.proofs.DentryOrder.{dentry_total, dentry_exact}
 use Rattle.ll_seq.proofs.CutChains.{end_append}
@@ -29,7 +32,8 @@ use Rattle.ll_laws.proofs.Unrefused.{neither, inode_is, parent_last, last_child,
 
 -- ---- the same tree
 
-pub same_tree : (s t : State) → t.entries ≡ s.entries → ((i : ℕ) → kind_of t i ≡ kind_of s i) → t.next ≡ s.next → Shrinks s t
+pub same_tree : (s t : State) → t.entries ≡ s.entries → ((i : ℕ) → kind_of t i ≡ kind_of s i) → t.next ≡ s.next
+    → Shrinks s t
 same_tree s t e k n = record {
   entries = λ d m x c. ap (λ es. get es (dentry d m)) (sym e) ∙ c;
   kinds = λ i j f. sym (k i) ∙ f;
@@ -39,32 +43,74 @@ same_tree s t e k n = record {
 }
 
 -- what isn't of the tree may change after
-pub more_change : (s t u : State) (domain : List Layer) → u.entries ≡ t.entries → u.nodes ≡ t.nodes → u.next ≡ t.next → Change s t domain → Change s u domain
+pub more_change : (s t u : State) (domain : List Layer) → u.entries ≡ t.entries → u.nodes ≡ t.nodes → u.next ≡ t.next
+    → Change s t domain → Change s u domain
 more_change s t u domain a b c h =
     subst (λ z. Change s z domain)
-    (λ i. record { entries = sym a i; nodes = sym b i; next = sym c i; room = u.room; rules = u.rules; clients = u.clients })
+    (λ i. record {
+      entries = sym a i;
+      nodes = sym b i;
+      next = sym c i;
+      room = u.room;
+      rules = u.rules;
+      clients = u.clients;
+    })
     (alike h)
   where
     v : State
-    v = record { entries = t.entries; nodes = t.nodes; next = t.next; room = u.room; rules = u.rules; clients = u.clients }
+    v = record {
+      entries = t.entries;
+      nodes = t.nodes;
+      next = t.next;
+      room = u.room;
+      rules = u.rules;
+      clients = u.clients;
+    }
 
     alike : Change s t domain → Change s v domain
-    alike (shrinks g) = shrinks (record { entries = g.entries; kinds = g.kinds; kept = g.kept; top = g.top; next = g.next })
-    alike (adds d n g) = adds d n (record { more = record { entries = g.more.entries; away = g.more.away }; kinds = g.kinds; kept = g.kept; fresh = g.fresh; next = g.next; dir = g.dir; below = g.below })
+    alike (shrinks g) = shrinks (record {
+      entries = g.entries;
+      kinds = g.kinds;
+      kept = g.kept;
+      top = g.top;
+      next = g.next;
+    })
+    alike (adds d n g) = adds d n
+        (record {
+          more = record { entries = g.more.entries; away = g.more.away };
+          kinds = g.kinds;
+          kept = g.kept;
+          fresh = g.fresh;
+          next = g.next;
+          dir = g.dir;
+          below = g.below;
+        })
     alike (moves Fresh g) =
-        moves Fresh (record { more = record { entries = g.more.entries; away = g.more.away }; alone = g.alone; kinds = g.kinds; kept = g.kept; top = g.top; next = g.next; enters = g.enters })
+        moves Fresh (record {
+          more = record { entries = g.more.entries; away = g.more.away };
+          alone = g.alone;
+          kinds = g.kinds;
+          kept = g.kept;
+          top = g.top;
+          next = g.next;
+          enters = g.enters;
+        })
 
 -- ---- a node that goes
 
-no_name_in : (es : List (Dentry × ℕ)) (q : Dentry) (i : ℕ) → length (filter (λ (e : Dentry × ℕ). e.1 == i) es) ≡ 0 → find dentry_cmp q es ≢ Some i
+no_name_in : (es : List (Dentry × ℕ)) (q : Dentry) (i : ℕ) → length (filter (λ (e : Dentry × ℕ). e.1 == i) es) ≡ 0
+    → find dentry_cmp q es ≢ Some i
 no_name_in [] q i none f = cc
 no_name_in (e ∷ es) q i none f =
-    elim (e.1 == i) as (λ b. (e.1 == i) ≡ b → length (cond b (e ∷ filter (λ (x : Dentry × ℕ). x.1 == i) es) (filter (λ (x : Dentry × ℕ). x.1 == i) es)) ≡ 0 → ⊥) [
+    elim (e.1 == i) as (λ b. (e.1 == i) ≡ b
+    → length (cond b (e ∷ filter (λ (x : Dentry × ℕ). x.1 == i) es) (filter (λ (x : Dentry × ℕ). x.1 == i) es)) ≡ 0
+    → ⊥) [
       | true ↦ λ h g. omega arith
-      | false ↦ λ h g. elim (eq_by_cmp dentry_cmp q e.0) as (λ b. cond b (Some e.1) (find dentry_cmp q es) ≡ Some i → ⊥) [
-        | true ↦ λ k. cc (sym h ∙ eq-eqb e.1 i (same_Some e.1 i k))
-        | false ↦ λ k. no_name_in es q i g k
-      ] f
+      | false ↦ λ h g. elim (eq_by_cmp dentry_cmp q e.0) as (λ b. cond b (Some e.1) (find dentry_cmp q es) ≡ Some i
+          → ⊥) [
+            | true ↦ λ k. cc (sym h ∙ eq-eqb e.1 i (same_Some e.1 i k))
+            | false ↦ λ k. no_name_in es q i g k
+          ] f
     ] refl none
 
 no_name : (s : State) (d : ℕ) (n : Name) (i : ℕ) → (name_count s i == 0) ≡ true → child s d n ≢ Some i
@@ -74,18 +120,25 @@ no_name s d n i e = no_name_in s.entries.list (dentry d n) i (eqb-true _ _ e)
 pub shrinks_itself : (s : State) → Shrinks s s
 shrinks_itself s = same_tree s s refl (λ i. refl) refl
 
-gone : (s : State) (i : ℕ) → (i == root) ≡ false → (name_count s i == 0) ≡ true → Shrinks s (record s { nodes = remove s.nodes i })
+gone : (s : State) (i : ℕ) → (i == root) ≡ false → (name_count s i == 0) ≡ true
+    → Shrinks s (record s { nodes = remove s.nodes i })
 gone s i top none = record {
   entries = λ d m x c. c;
   kinds = λ j k f. by j k (get (remove s.nodes i) j) refl f;
-  kept = λ d m x c. ap (option_map (λ (n : Node). n.kind)) (get-remove_other nat_cmp_total nat_cmp-IsAntisymmetric s.nodes i x (λ is. no_name s d m i none (c ∙ ap Some is)));
-  top = ap (option_map (λ (n : Node). n.kind)) (get-remove_other nat_cmp_total nat_cmp-IsAntisymmetric s.nodes i root (λ is. cc (sym top ∙ eq-eqb i root (sym is))));
+  kept = λ d m x c. ap (option_map (λ (n : Node). n.kind))
+      (get-remove_other nat_cmp_total nat_cmp-IsAntisymmetric s.nodes i x
+      (λ is. no_name s d m i none (c ∙ ap Some is)));
+  top = ap (option_map (λ (n : Node). n.kind))
+      (get-remove_other nat_cmp_total nat_cmp-IsAntisymmetric s.nodes i root
+      (λ is. cc (sym top ∙ eq-eqb i root (sym is))));
   next = refl;
 }
   where
-    by : (j : ℕ) (k : Kind) (o : Option Node) → get (remove s.nodes i) j ≡ o → option_map (λ (n : Node). n.kind) o ≡ Some k → kind_of s j ≡ Some k
+    by : (j : ℕ) (k : Kind) (o : Option Node) → get (remove s.nodes i) j ≡ o
+        → option_map (λ (n : Node). n.kind) o ≡ Some k → kind_of s j ≡ Some k
     by j k None is f = absurd (cc f)
-    by j k (Some n) is f = ap (option_map (λ (n : Node). n.kind)) (got_left nat_cmp_total nat_cmp-IsAntisymmetric s.nodes i j n is).0 ∙ f
+    by j k (Some n) is f = ap (option_map (λ (n : Node). n.kind))
+        (got_left nat_cmp_total nat_cmp-IsAntisymmetric s.nodes i j n is).0 ∙ f
 
 -- what doesn't live is no root and has no name
 dead : (s : State) (i : ℕ) → lives s i ≡ false → ((i == root) ≡ false) × ((name_count s i == 0) ≡ true)
@@ -114,7 +167,8 @@ shrinks_after s t u g h = record {
   next = h.next ∙ g.next;
 }
 
-moves_after : (s t u : State) (domain : List Layer) (Fresh : ℕ → Name → ℕ → Type 0) → Moves s t domain Fresh → Shrinks t u → Moves s u domain Fresh
+moves_after : (s t u : State) (domain : List Layer) (Fresh : ℕ → Name → ℕ → Type 0) → Moves s t domain Fresh
+    → Shrinks t u → Moves s u domain Fresh
 moves_after s t u domain Fresh g h = record {
   more = record { entries = λ e m x c. g.more.entries e m x (h.entries e m x c); away = g.more.away };
   alone = λ d n o w f e m c. g.alone d n o w f e m (h.entries e m o c);
@@ -141,20 +195,26 @@ without_name_shrinks s at i =
     left = record s { entries = remove s.entries at }
 
 pub close_shrinks : (s : State) (number : ℕ) (c : ClientRecord) (i : ℕ) → Shrinks s (let_go (with_client s number c) i)
-close_shrinks s number c i = shrinks_after s (with_client s number c) _ (same_tree s (with_client s number c) refl (λ j. refl) refl) (let_go_shrinks (with_client s number c) i)
+close_shrinks s number c i = shrinks_after s (with_client s number c) _
+    (same_tree s (with_client s number c) refl (λ j. refl) refl) (let_go_shrinks (with_client s number c) i)
 
 -- ---- bytes
 
 pub with_bytes_shrinks : (s : State) (i : ℕ) (bytes : List ℕ) → Shrinks s (with_bytes s i bytes)
 with_bytes_shrinks s i bytes =
-    elim (get s.nodes i) as (λ o. get s.nodes i ≡ o → Shrinks s (option_map_or (λ (n : Node). record s { nodes = insert s.nodes i (record n { bytes = bytes }) }) o s)) [
+    elim (get s.nodes i) as (λ o. get s.nodes i ≡ o
+    → Shrinks s (option_map_or (λ (n : Node). record s { nodes = insert s.nodes i (record n { bytes = bytes }) }) o
+    s)) [
       | None ↦ λ e. shrinks_itself s
-      | Some n ↦ λ e. same_tree s (record s { nodes = insert s.nodes i (record n { bytes = bytes }) }) refl (kept n e) refl
+      | Some n ↦ λ e. same_tree s (record s { nodes = insert s.nodes i (record n { bytes = bytes }) }) refl (kept n e)
+          refl
     ] refl
   where
-    kept : (n : Node) → get s.nodes i ≡ Some n → (j : ℕ) → option_map (λ (m : Node). m.kind) (get (insert s.nodes i (record n { bytes = bytes })) j) ≡ kind_of s j
+    kept : (n : Node) → get s.nodes i ≡ Some n → (j : ℕ)
+        → option_map (λ (m : Node). m.kind) (get (insert s.nodes i (record n { bytes = bytes })) j) ≡ kind_of s j
     kept n e j = elim (insert_cases nat_cmp_total nat_cmp-IsAntisymmetric s.nodes i (record n { bytes = bytes }) j) [
-      | inl a ↦ ap (option_map (λ (m : Node). m.kind)) a.1 ∙ sym (ap (option_map (λ (m : Node). m.kind)) (ap (get s.nodes) a.0 ∙ e))
+      | inl a ↦ ap (option_map (λ (m : Node). m.kind)) a.1
+          ∙ sym (ap (option_map (λ (m : Node). m.kind)) (ap (get s.nodes) a.0 ∙ e))
       | inr a ↦ ap (option_map (λ (m : Node). m.kind)) a.1
     ]
 
@@ -177,15 +237,18 @@ end_below s t (m ∷ q) i x h e =
       | Some j ↦ λ is g. let w = t.old i m j is in end_below s t q j x w.1 g
     ] refl e
 
-pub new_adds : (s : State) (kind : Kind) (p : Path) (d : ℕ) → IsTree s → IsPlace s p d → Adds s (with_node s kind (dentry_of s p)) d (last_name p)
+pub new_adds : (s : State) (kind : Kind) (p : Path) (d : ℕ) → IsTree s → IsPlace s p d
+    → Adds s (with_node s kind (dentry_of s p)) d (last_name p)
 new_adds s kind p d t h =
     let below : d < s.next = end_below s t (parent p) root d t.above h.named in
     record {
       more = record {
-        entries = λ e m x c. elim (got_inserted dentry_total dentry_exact s.entries (dentry_of s p) s.next (dentry e m) x c) [
-          | inl a ↦ let is : dentry e m ≡ dentry d (last_name p) = a.0 ∙ dentry_is s p d h in inr (ap (λ (q : Dentry). q.directory) is, ap (λ (q : Dentry). q.name) is, a.1)
-          | inr a ↦ inl a
-        ];
+        entries = λ e m x c. elim (got_inserted dentry_total dentry_exact s.entries (dentry_of s p) s.next (dentry e m)
+            x c) [
+              | inl a ↦ let is : dentry e m ≡ dentry d (last_name p) = a.0 ∙ dentry_is s p d h in
+                  inr (ap (λ (q : Dentry). q.directory) is, ap (λ (q : Dentry). q.name) is, a.1)
+              | inr a ↦ inl a
+            ];
         away = λ f m y w g n z v q e. nowhere q below (ap (end_from s q) (sym w.2) ∙ e ∙ ap Some v.0);
       };
       kinds = λ i k f. elim (insert_cases nat_cmp_total nat_cmp-IsAntisymmetric s.nodes s.next (empty_node kind) i) [
@@ -193,8 +256,14 @@ new_adds s kind p d t h =
         | inr a ↦ inr (sym (ap (option_map (λ (n : Node). n.kind)) a.1) ∙ f)
       ];
       kept = λ i k f. let w = t.nodes i k f in
-          ap (option_map (λ (n : Node). n.kind)) (get-insert_other nat_cmp_total nat_cmp-IsAntisymmetric s.nodes s.next (empty_node kind) i (λ is. omega arith)) ∙ f;
-      fresh = (kind, ap (option_map (λ (n : Node). n.kind)) (get-insert_same nat_cmp_total nat_cmp-IsAntisymmetric s.nodes s.next (empty_node kind)));
+          ap (option_map (λ (n : Node). n.kind))
+          (get-insert_other nat_cmp_total nat_cmp-IsAntisymmetric s.nodes s.next (empty_node kind) i
+          (λ is. omega arith)) ∙ f;
+      fresh = (
+        kind,
+        ap (option_map (λ (n : Node). n.kind))
+            (get-insert_same nat_cmp_total nat_cmp-IsAntisymmetric s.nodes s.next (empty_node kind)),
+      );
       next = refl;
       dir = h.dir;
       below = below;
@@ -214,17 +283,21 @@ pub record IsMove (s : State) (domain : List Layer) (from to : Path) (c d o : �
   pub there : IsPlace s to d
   pub at : named s from ≡ Some o
   pub apart : is_beneath from to ≡ false
-  pub held : (layer : Layer) → Contains domain layer → (right : ℕ) → is_relevant (kind_of s o) right ≡ true → grants s layer (parent to) right ≡ true → grants s layer from right ≡ true
+  pub held : (layer : Layer) → Contains domain layer → (right : ℕ) → is_relevant (kind_of s o) right ≡ true
+      → grants s layer (parent to) right ≡ true → grants s layer from right ≡ true
 
-module _ (s : State) (domain : List Layer) (from to : Path) (c d o : ℕ) (t : IsTree s) (h : IsMove s domain from to c d o) where
+module _ (s : State) (domain : List Layer) (from to : Path) (c d o : ℕ) (t : IsTree s)
+    (h : IsMove s domain from to c d o) where
   old_entry : child s c (last_name from) ≡ Some o
   old_entry = last_child s from c o h.here.not_root h.here.named h.at
 
   -- the new place isn't beneath the node
   not_beneath : (q : Path) → end_from s q o ≢ Some d
   not_beneath q e =
-      let is : from ++ q ≡ parent to = only_path s t (from ++ q) (parent to) d h.there.dir (end_append s from q root o h.at ∙ e) h.there.named in
-      let whole : to ≡ (from ++ q) ++ last_name to ∷ [] = parent_last to h.there.not_root ∙ ap (λ (r : Path). r ++ last_name to ∷ []) (sym is) in
+      let is : from ++ q ≡ parent to =
+      only_path s t (from ++ q) (parent to) d h.there.dir (end_append s from q root o h.at ∙ e) h.there.named in
+      let whole : to ≡ (from ++ q) ++ last_name to ∷ [] =
+      parent_last to h.there.not_root ∙ ap (λ (r : Path). r ++ last_name to ∷ []) (sym is) in
       absurd (cc (sym h.apart ∙ ap (is_beneath from) whole ∙ beneath_append from q (last_name to)))
 
   abbrev new_entry : ℕ → Name → ℕ → Type 0
@@ -247,7 +320,10 @@ module _ (s : State) (domain : List Layer) (from to : Path) (c d o : ℕ) (t : I
       → ((e : ℕ) (m : Name) → child u e m ≡ Some o → NotFile s o → (e ≡ d) × (m ≡ last_name to))
       → Moves s u domain new_entry
   moved u nodes next entries lost = record {
-    more = record { entries = entries; away = λ f m y w g n z v q e. not_beneath q (ap (end_from s q) (sym w.2) ∙ e ∙ ap Some v.0) };
+    more = record {
+      entries = entries;
+      away = λ f m y w g n z v q e. not_beneath q (ap (end_from s q) (sym w.2) ∙ e ∙ ap Some v.0);
+    };
     alone = λ f m y w file g n e.
         let r = lost g n (e ∙ ap Some w.2) (subst (NotFile s) w.2 file) in
         (r.0 ∙ sym w.0, r.1 ∙ sym w.1);
@@ -265,7 +341,8 @@ module _ (s : State) (domain : List Layer) (from to : Path) (c d o : ℕ) (t : I
 
   pub link_moves : (NotFile s o → ⊥) → Moves s (with_name s (dentry_of s to) (inode_of s from)) domain new_entry
   link_moves file = moved (with_name s (dentry_of s to) (inode_of s from)) refl refl
-      (λ e m x g. elim (got_inserted dentry_total dentry_exact s.entries (dentry_of s to) (inode_of s from) (dentry e m) x g) [
+      (λ e m x g. elim (got_inserted dentry_total dentry_exact s.entries (dentry_of s to) (inode_of s from) (dentry e m)
+      x g) [
         | inl a ↦ let w = new_dentry e m a.0 in inr (w.0, w.1, a.1 ∙ inode_is s from o h.at)
         | inr a ↦ inl a
       ])
@@ -276,11 +353,13 @@ module _ (s : State) (domain : List Layer) (from to : Path) (c d o : ℕ) (t : I
 
   pub renamed_moves : Moves s renamed_before domain new_entry
   renamed_moves = moved renamed_before refl refl
-      (λ e m x g. elim (got_inserted dentry_total dentry_exact (remove s.entries (dentry_of s from)) (dentry_of s to) (inode_of s from) (dentry e m) x g) [
+      (λ e m x g. elim (got_inserted dentry_total dentry_exact (remove s.entries (dentry_of s from)) (dentry_of s to)
+      (inode_of s from) (dentry e m) x g) [
         | inl a ↦ let w = new_dentry e m a.0 in inr (w.0, w.1, a.1 ∙ inode_is s from o h.at)
         | inr a ↦ inl (got_left dentry_total dentry_exact s.entries (dentry_of s from) (dentry e m) x a).0
       ])
-      (λ e m g f. elim (got_inserted dentry_total dentry_exact (remove s.entries (dentry_of s from)) (dentry_of s to) (inode_of s from) (dentry e m) o g) [
+      (λ e m g f. elim (got_inserted dentry_total dentry_exact (remove s.entries (dentry_of s from)) (dentry_of s to)
+      (inode_of s from) (dentry e m) o g) [
         | inl a ↦ new_dentry e m a.0
         | inr a ↦
             let w = got_left dentry_total dentry_exact s.entries (dentry_of s from) (dentry e m) o a in
@@ -290,7 +369,8 @@ module _ (s : State) (domain : List Layer) (from to : Path) (c d o : ℕ) (t : I
 
   -- another node had the name, and loses it
   pub replaced_moves : (r : ℕ) → Moves s (let_go renamed_before r) domain new_entry
-  replaced_moves r = moves_after s renamed_before (let_go renamed_before r) domain new_entry renamed_moves (let_go_shrinks renamed_before r)
+  replaced_moves r = moves_after s renamed_before (let_go renamed_before r) domain new_entry renamed_moves
+      (let_go_shrinks renamed_before r)
 
 -- ---- two names that exchange what they stand for
 
@@ -303,14 +383,18 @@ not_beneath_itself (n ∷ p) = by (same_name n n) (is_beneath p p) (not_beneath_
     by false b e = refl
 
 -- a node isn't above the directory of its name
-above_itself : (s : State) → IsTree s → (p : Path) (d o : ℕ) → IsPlace s p d → named s p ≡ Some o → (q : Path) → end_from s q o ≢ Some d
+above_itself : (s : State) → IsTree s → (p : Path) (d o : ℕ) → IsPlace s p d → named s p ≡ Some o → (q : Path)
+    → end_from s q o ≢ Some d
 above_itself s t p d o here at q e =
-    let is : p ++ q ≡ parent p = only_path s t (p ++ q) (parent p) d here.dir (end_append s p q root o at ∙ e) here.named in
-    let whole : p ≡ (p ++ q) ++ last_name p ∷ [] = parent_last p here.not_root ∙ ap (λ (r : Path). r ++ last_name p ∷ []) (sym is) in
+    let is : p ++ q ≡ parent p = only_path s t (p ++ q) (parent p) d here.dir (end_append s p q root o at ∙ e)
+    here.named in
+    let whole : p ≡ (p ++ q) ++ last_name p ∷ [] =
+    parent_last p here.not_root ∙ ap (λ (r : Path). r ++ last_name p ∷ []) (sym is) in
     cc (sym (not_beneath_itself p) ∙ ap (is_beneath p) whole ∙ beneath_append p q (last_name p))
 
 -- o stands at a in c, and n at b in d
-module _ (s : State) (domain : List Layer) (a b : Path) (c d o n : ℕ) (t : IsTree s) (h : IsMove s domain a b c d o) (k : IsMove s domain b a d c n) where
+module _ (s : State) (domain : List Layer) (a b : Path) (c d o n : ℕ) (t : IsTree s) (h : IsMove s domain a b c d o)
+    (k : IsMove s domain b a d c n) where
   abbrev swapped : State
   swapped = exchanged s a b
 
@@ -328,10 +412,13 @@ module _ (s : State) (domain : List Layer) (a b : Path) (c d o n : ℕ) (t : IsT
 
   in_swapped : (e : ℕ) (m : Name) (x : ℕ) → child swapped e m ≡ Some x → two_entries e m x ⊎ OldEntry e m x
   in_swapped e m x g =
-      elim (insert_cases dentry_total dentry_exact (insert s.entries (dentry_of s b) (inode_of s a)) (dentry_of s a) (inode_of s b) (dentry e m)) [
-        | inl w ↦ let p = new_dentry s domain b a d c n t k e m w.0 in inl (inr (p.0, p.1, same_Some x n (sym g ∙ w.1 ∙ ap Some (inode_is s b n k.at))))
+      elim (insert_cases dentry_total dentry_exact (insert s.entries (dentry_of s b) (inode_of s a)) (dentry_of s a)
+      (inode_of s b) (dentry e m)) [
+        | inl w ↦ let p = new_dentry s domain b a d c n t k e m w.0 in
+            inl (inr (p.0, p.1, same_Some x n (sym g ∙ w.1 ∙ ap Some (inode_is s b n k.at))))
         | inr w ↦ elim (insert_cases dentry_total dentry_exact s.entries (dentry_of s b) (inode_of s a) (dentry e m)) [
-          | inl v ↦ let p = new_dentry s domain a b c d o t h e m v.0 in inl (inl (p.0, p.1, same_Some x o (sym g ∙ w.1 ∙ v.1 ∙ ap Some (inode_is s a o h.at))))
+          | inl v ↦ let p = new_dentry s domain a b c d o t h e m v.0 in
+              inl (inl (p.0, p.1, same_Some x o (sym g ∙ w.1 ∙ v.1 ∙ ap Some (inode_is s a o h.at))))
           | inr v ↦ inr (w.0, v.0, sym v.1 ∙ sym w.1 ∙ g)
         ]
       ]
@@ -350,7 +437,8 @@ module _ (s : State) (domain : List Layer) (a b : Path) (c d o n : ℕ) (t : IsT
     next = refl;
   }
     where
-      entry : (f : ℕ) (l : Name) (y e : ℕ) (m : Name) (x : ℕ) → At f l y e m x → child s f l ≡ Some y → child s e m ≡ Some x
+      entry : (f : ℕ) (l : Name) (y e : ℕ) (m : Name) (x : ℕ) → At f l y e m x → child s f l ≡ Some y
+          → child s e m ≡ Some x
       entry f l y e m x w is = (λ i. child s (w.0 i) (w.1 i)) ∙ is ∙ ap Some (sym w.2)
 
   pub exchange_moves : o ≢ n → Moves s swapped domain two_entries
@@ -364,22 +452,33 @@ module _ (s : State) (domain : List Layer) (a b : Path) (c d o n : ℕ) (t : IsT
     kept = λ e m x g. refl;
     top = refl;
     next = refl;
-    enters = λ f m x w. elim w [ inl v ↦ enters s domain a b c d o t h f m x v | inr v ↦ enters s domain b a d c n t k f m x v ];
+    enters = λ f m x w. elim w [
+      | inl v ↦ enters s domain a b c d o t h f m x v
+      | inr v ↦ enters s domain b a d c n t k f
+          m x v
+    ];
   }
     where
-      far : (f : ℕ) (m : Name) (x : ℕ) → two_entries f m x → (g : ℕ) (l : Name) (y : ℕ) → two_entries g l y → (q : Path) → end_from s q x ≢ Some g
-      far f m x (inl w) g l y (inl v) q e = not_beneath s domain a b c d o t h q (ap (end_from s q) (sym w.2) ∙ e ∙ ap Some v.0)
-      far f m x (inl w) g l y (inr v) q e = above_itself s t a c o h.here h.at q (ap (end_from s q) (sym w.2) ∙ e ∙ ap Some v.0)
-      far f m x (inr w) g l y (inl v) q e = above_itself s t b d n k.here k.at q (ap (end_from s q) (sym w.2) ∙ e ∙ ap Some v.0)
-      far f m x (inr w) g l y (inr v) q e = not_beneath s domain b a d c n t k q (ap (end_from s q) (sym w.2) ∙ e ∙ ap Some v.0)
+      far : (f : ℕ) (m : Name) (x : ℕ) → two_entries f m x → (g : ℕ) (l : Name) (y : ℕ) → two_entries g l y → (q : Path)
+          → end_from s q x ≢ Some g
+      far f m x (inl w) g l y (inl v) q e =
+          not_beneath s domain a b c d o t h q (ap (end_from s q) (sym w.2) ∙ e ∙ ap Some v.0)
+      far f m x (inl w) g l y (inr v) q e =
+          above_itself s t a c o h.here h.at q (ap (end_from s q) (sym w.2) ∙ e ∙ ap Some v.0)
+      far f m x (inr w) g l y (inl v) q e =
+          above_itself s t b d n k.here k.at q (ap (end_from s q) (sym w.2) ∙ e ∙ ap Some v.0)
+      far f m x (inr w) g l y (inr v) q e =
+          not_beneath s domain b a d c n t k q (ap (end_from s q) (sym w.2) ∙ e ∙ ap Some v.0)
 
       -- a directory's one entry in s is where it no longer stands
-      only_old : (p : Path) (f : ℕ) (y : ℕ) → IsPlace s p f → child s f (last_name p) ≡ Some y → (x : ℕ) → x ≡ y → NotFile s x → (e : ℕ) (l : Name) → child s e l ≡ Some x → dentry e l ≡ dentry_of s p
+      only_old : (p : Path) (f : ℕ) (y : ℕ) → IsPlace s p f → child s f (last_name p) ≡ Some y → (x : ℕ) → x ≡ y
+          → NotFile s x → (e : ℕ) (l : Name) → child s e l ≡ Some x → dentry e l ≡ dentry_of s p
       only_old p f y at is x same file e l g =
           let one = t.one e l f (last_name p) x file g (is ∙ ap Some (sym same)) in
           (λ i. dentry (one.0 i) (one.1 i)) ∙ sym (dentry_is s p f at)
 
-      alone_at : (f : ℕ) (m : Name) (x : ℕ) → two_entries f m x → NotFile s x → (e : ℕ) (l : Name) → two_entries e l x ⊎ OldEntry e l x → (e ≡ f) × (l ≡ m)
+      alone_at : (f : ℕ) (m : Name) (x : ℕ) → two_entries f m x → NotFile s x → (e : ℕ) (l : Name) → two_entries e l x
+          ⊎ OldEntry e l x → (e ≡ f) × (l ≡ m)
       alone_at f m x (inl w) file e l (inl (inl u)) = (u.0 ∙ sym w.0, u.1 ∙ sym w.1)
       alone_at f m x (inl w) file e l (inl (inr u)) = absurd (differ (sym w.2 ∙ u.2))
       alone_at f m x (inl w) file e l (inr u) = absurd (u.0 (only_old a c o h.here first_entry x w.2 file e l u.2))

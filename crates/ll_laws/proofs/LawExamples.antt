@@ -1,5 +1,7 @@
 -- A legal history with a confined move, and what both laws say of it: they aren't empty.
-use Rattle.std.specs.Prelude.{◌≡◌, ◌≢◌, ℕ, ◌<◌, Bool, true, false, cond, not, List, [], ◌∷◌, ◌++◌, ◌&&◌, ◌||◌, ◌==◌, map, drop, Option, Some, None, is_some, codes, slice_index_or, unwrap_or, refl, IsTrue, Contains, if◌then◌else◌}
+use Rattle.std.specs.Prelude.{◌≡◌, ◌≢◌, ℕ, ◌<◌, Bool, true, false, cond, not, List, [], ◌∷◌, ◌++◌, ◌&&◌, ◌||◌, ◌==◌}
+use Rattle.std.specs.Prelude.{map, drop, Option, Some, None, is_some, codes, slice_index_or, unwrap_or, refl, IsTrue}
+use Rattle.std.specs.Prelude.{Contains, if◌then◌else◌}
 use Rattle.std.specs.List.{list_any, list_all}
 use Rattle.std.specs.Ordering.{nat_cmp, eq_by_cmp}
 use Rattle.std.specs.FinMap.Entries.{find}
@@ -18,7 +20,8 @@ use Rattle.ll_seq.specs.declared.call.AccessMode.TheVariants as way
 use Rattle.ll_seq.specs.declared.call.Creation.TheVariants.{Never}
 use Rattle.ll_seq.specs.declared.rules.Rules.{Rules}
 use Rattle.ll_seq.specs.declared.call.Call.{Call}
-use Rattle.ll_seq.specs.declared.call.Call.TheVariants.{Make, Open, Read, Rename, RenameNoreplace, Exchange, Link, Ruleset, Allow, Confine, Spawn, Connect}
+use Rattle.ll_seq.specs.declared.call.Call.TheVariants.{Make, Open, Read, Rename, RenameNoreplace, Exchange, Link}
+use Rattle.ll_seq.specs.declared.call.Call.TheVariants.{Ruleset, Allow, Confine, Spawn, Connect}
 use Rattle.ll_seq.specs.declared.reply.Reply.{Reply}
 use Rattle.ll_seq.specs.declared.reply.Reply.TheVariants.{Done, Opened, Bytes, Created, Spawned}
 use Rattle.ll_seq.specs.declared.reply.Entry.{Entry}
@@ -98,7 +101,8 @@ replies_from s (e ∷ es) = (outcome_of s e).0 ∷ replies_from (after s e) es
 
 -- who calls is there, or connects and is told ok; nobody has the number of a spawned client
 abbrev may_call : State → Entry → Bool
-may_call s e = (if is_connect e.call then not (has s.clients e.client) && is_done e.reply else has s.clients e.client) && not (has s.clients (fresh_of e.reply))
+may_call s e = (if is_connect e.call then not (has s.clients e.client) && is_done e.reply else has s.clients e.client)
+    && not (has s.clients (fresh_of e.reply))
 
 abbrev may_call_from : State → List Entry → Bool
 may_call_from s [] = true
@@ -124,14 +128,17 @@ stands s e may answered = record {
   answered = answered;
 }
   where
-    w : ((if is_connect e.call then not (has s.clients e.client) && is_done e.reply else has s.clients e.client) ≡ true) × (not (has s.clients (fresh_of e.reply)) ≡ true)
+    w : ((if is_connect e.call then not (has s.clients e.client) && is_done e.reply else has s.clients e.client) ≡ true)
+        × (not (has s.clients (fresh_of e.reply)) ≡ true)
     w = both _ _ may
 
-    by : (b : Bool) → (if b then not (has s.clients e.client) && is_done e.reply else has s.clients e.client) ≡ true → (has s.clients e.client ≡ not b) × (IsTrue b → e.reply ≡ Done)
+    by : (b : Bool) → (if b then not (has s.clients e.client) && is_done e.reply else has s.clients e.client) ≡ true
+        → (has s.clients e.client ≡ not b) × (IsTrue b → e.reply ≡ Done)
     by true h = (holds_not _ (both _ _ h).0, λ is. done_is e.reply (both _ _ h).1)
     by false h = (h, λ is. absurd (cc is))
 
-legal_by : (s : State) (es : List Entry) → may_call_from s es ≡ true → replies_from s es ≡ map (λ (e : Entry). e.reply) es → IsLegal s es
+legal_by : (s : State) (es : List Entry) → may_call_from s es ≡ true
+    → replies_from s es ≡ map (λ (e : Entry). e.reply) es → IsLegal s es
 legal_by s [] may answered = tt
 legal_by s (e ∷ es) may answered = (
   stands s e (both _ _ may).0 (ap (λ rs. slice_index_or rs 0 Done) answered),
@@ -140,37 +147,48 @@ legal_by s (e ∷ es) may answered = (
 
 -- ---- an inode that nobody has open
 
-some_passes : {A : Type 0} (f : A → Bool) (es : List (ℕ × A)) (q : ℕ) (v : A) → find nat_cmp q es ≡ Some v → f v ≡ true → list_any (λ (e : ℕ × A). f e.1) es ≡ true
+some_passes : {A : Type 0} (f : A → Bool) (es : List (ℕ × A)) (q : ℕ) (v : A) → find nat_cmp q es ≡ Some v → f v ≡ true
+    → list_any (λ (e : ℕ × A). f e.1) es ≡ true
 some_passes f [] q v is h = absurd (cc is)
 some_passes {A} f (e ∷ es) q v is h =
-    elim (eq_by_cmp nat_cmp q e.0) as (λ b. cond b (Some e.1) (find nat_cmp q es) ≡ Some v → (f e.1 || list_any (λ (e : ℕ × A). f e.1) es) ≡ true) [
+    elim (eq_by_cmp nat_cmp q e.0) as (λ b. cond b (Some e.1) (find nat_cmp q es) ≡ Some v
+    → (f e.1 || list_any (λ (e : ℕ × A). f e.1) es) ≡ true) [
       | true ↦ λ g. or_left _ _ (ap f (same_Some _ _ g) ∙ h)
       | false ↦ λ g. or_right _ _ (some_passes f es q v g h)
     ] is
 
-opened : (s : State) (inode client fd : ℕ) (c : ClientRecord) (d : Descriptor) → get s.clients client ≡ Some c → get c.descriptors fd ≡ Some d → d.inode ≡ inode → is_open s inode ≡ true
+opened : (s : State) (inode client fd : ℕ) (c : ClientRecord) (d : Descriptor) → get s.clients client ≡ Some c
+    → get c.descriptors fd ≡ Some d → d.inode ≡ inode → is_open s inode ≡ true
 unfolding get entries
 opened s inode client fd c d is g same =
-    some_passes (λ (k : ClientRecord). list_any (λ (d : ℕ × Descriptor). d.1.inode == inode) (entries k.descriptors)) _ client c is
+    some_passes (λ (k : ClientRecord). list_any (λ (d : ℕ × Descriptor). d.1.inode == inode) (entries k.descriptors)) _
+    client c is
     (some_passes (λ (d : Descriptor). d.inode == inode) _ fd d g (eq-eqb _ _ same))
 
-closed_to_all : (s : State) (inode : ℕ) → is_open s inode ≡ false → (client : ℕ) → has s.clients client ≡ true → (fd : ℕ) (d : Descriptor) → get (client_of s client).descriptors fd ≡ Some d → d.inode ≢ inode
+closed_to_all : (s : State) (inode : ℕ) → is_open s inode ≡ false → (client : ℕ) → has s.clients client ≡ true
+    → (fd : ℕ) (d : Descriptor) → get (client_of s client).descriptors fd ≡ Some d → d.inode ≢ inode
 closed_to_all s inode closed client there fd d g same = by (get s.clients client) refl there
   where
     by : (o : Option ClientRecord) → get s.clients client ≡ o → is_some o ≡ true → ⊥
     by None is h = cc (h)
-    by (Some c) is h = cc (sym closed ∙ opened s inode client fd c d is (ap (λ o. get (unwrap_or o new_client).descriptors fd) (sym is) ∙ g) same)
+    by (Some c) is h = cc (sym closed
+        ∙ opened s inode client fd c d is (ap (λ o. get (unwrap_or o new_client).descriptors fd) (sym is) ∙ g) same)
 
 -- ---- no call but a read is answered by bytes
 
-bytes_done : (s : State) (number : ℕ) (c : ClientRecord) (call : Call) (fresh : ℕ) (bytes : List ℕ) → (done_of s number c call fresh).0 ≡ Bytes bytes → (fd : ℕ) × (offset : ℕ) × (count : ℕ) × (call ≡ Read fd offset count)
+bytes_done : (s : State) (number : ℕ) (c : ClientRecord) (call : Call) (fresh : ℕ) (bytes : List ℕ)
+    → (done_of s number c call fresh).0 ≡ Bytes bytes → (fd : ℕ) × (offset : ℕ) × (count : ℕ)
+    × (call ≡ Read fd offset count)
 bytes_done s number c (Read fd offset count) fresh bytes e = (fd, offset, count, refl)
 bytes_done s number c _ fresh bytes e = absurd (cc e)
 
-pub only_reads : (s : State) (number : ℕ) (call : Call) (fresh : ℕ) (bytes : List ℕ) → (step s number call fresh).0 ≡ Bytes bytes → (fd : ℕ) × (offset : ℕ) × (count : ℕ) × (call ≡ Read fd offset count)
+pub only_reads : (s : State) (number : ℕ) (call : Call) (fresh : ℕ) (bytes : List ℕ)
+    → (step s number call fresh).0 ≡ Bytes bytes → (fd : ℕ) × (offset : ℕ) × (count : ℕ) × (call ≡ Read fd offset count)
 only_reads s number call fresh bytes e =
     let c = client_of s number in
-    bytes_done s number c call fresh bytes (ap (λ rs. (first_or s rs (done_of s number c call fresh)).0) (sym (no_refusal s number call fresh (Bytes bytes) refl e)) ∙ e)
+    bytes_done s number c call fresh bytes
+    (ap (λ rs. (first_or s rs (done_of s number c call fresh)).0)
+    (sym (no_refusal s number call fresh (Bytes bytes) refl e)) ∙ e)
 
 -- ---- who is under a layer stays so
 
@@ -178,14 +196,21 @@ mover : (a : Bool) (client by : ℕ) → IsTrue a → (not a || client == by) �
 mover true client by i e = sym (eqb-true client by e)
 mover false client by i e = absurd (cc i)
 
-all_under : (s : State) (es : List Entry) (bound : Layer) (x by : ℕ) → IsTree s → IsLegal s es → x < s.next → IsConfined bound s by → list_all (λ (e : Entry). not (is_move e.call) || e.client == by) es ≡ true → MovesUnder bound s es
+all_under : (s : State) (es : List Entry) (bound : Layer) (x by : ℕ) → IsTree s → IsLegal s es → x < s.next
+    → IsConfined bound s by → list_all (λ (e : Entry). not (is_move e.call) || e.client == by) es ≡ true
+    → MovesUnder bound s es
 all_under s [] bound x by t l small c all = tt
 all_under s (e ∷ es) bound x by t l small c all =
     let here : IsTrue (is_move e.call) → e.reply ≡ Done → Contains (client_of s e.client).domain bound =
-    λ i d. subst (λ n. Contains (client_of s n).domain bound) (mover (is_move e.call) e.client by i (both _ _ all).0) c.under in
+    λ i d. subst (λ n. Contains (client_of s n).domain bound) (mover (is_move e.call) e.client by i (both _ _ all).0)
+    c.under in
     let clients = entry_clients s bound x s e t l.0 small in
-    let there : IsConfined bound (after s e) by = record { there = clients.there by c.there; under = clients.under by c.there c.under } in
-    (here, all_under (after s e) es bound x by (kept_tree s e t) l.1 (one_entry s e bound x read_file t l.0 here small).0 there (both _ _ all).1)
+    let there : IsConfined bound (after s e) by =
+    record { there = clients.there by c.there; under = clients.under by c.there c.under } in (
+      here,
+      all_under (after s e) es bound x by (kept_tree s e t) l.1
+          (one_entry s e bound x read_file t l.0 here small).0 there (both _ _ all).1,
+    )
 
 -- ---- the example
 
@@ -204,7 +229,8 @@ has_name = (path_of_text (codes "/a/f"), refl)
 under : MovesUnder layer cut late
 under =
     let t = after_tree (start newest 8) early (start_tree newest 8) in
-    all_under cut late layer file 1 t (legal_late (start newest 8) early late legal) (named_below cut t has_name.0 file has_name.1) confined refl
+    all_under cut late layer file 1 t (legal_late (start newest 8) early late legal)
+    (named_below cut t has_name.0 file has_name.1) confined refl
 
 reached : InReach end layer file read_file
 unfolding empty checked get insert remove entries numbers_from
@@ -219,9 +245,11 @@ unfolding empty checked get insert remove entries numbers_from
 closed = refl
 
 withheld : Withheld layer file cut (IsConfined layer cut) cut late
-withheld = bytes_are_withheld newest 8 early late legal layer under file has_name (λ client c. closed_to_all cut file closed client c.there)
+withheld = bytes_are_withheld newest 8 early late legal layer under file has_name
+    (λ client c. closed_to_all cut file closed client c.there)
 
 -- and so, too, as the spawned client reads it
 pub read_by_spawned : InReach cut layer file read_file
 unfolding empty checked get insert remove entries numbers_from
-read_by_spawned = withheld.2.2.2.2.2.2.0 (inr (inl (inl (inl (inl (inl confined)))), refl)) (record { fd = 0; offset = 0; count = 1; bytes = []; call = refl; answered = refl; from = refl })
+read_by_spawned = withheld.2.2.2.2.2.2.0 (inr (inl (inl (inl (inl (inl confined)))), refl))
+    (record { fd = 0; offset = 0; count = 1; bytes = []; call = refl; answered = refl; from = refl })

@@ -36,12 +36,14 @@ known right e = elim (cases_lt right 15) [
 ]
 
 -- what means something for a node is one of the rights
-pub is_one_of_all : (k : Option Kind) (right : ℕ) → is_relevant k right ≡ true → list_any (λ r. r == right) all_rights ≡ true
+pub is_one_of_all : (k : Option Kind) (right : ℕ) → is_relevant k right ≡ true
+    → list_any (λ r. r == right) all_rights ≡ true
 is_one_of_all None right e = absurd (cc e)
 is_one_of_all (Some k) right e = known right (relevant_dir k right e)
 
 -- the rights by which bytes are read and changed mean something for every node
-pub for_bytes : (k : Kind) → (is_relevant (Some k) read_file ≡ true) × (is_relevant (Some k) write_file ≡ true) × (is_relevant (Some k) truncate ≡ true)
+pub for_bytes : (k : Kind) → (is_relevant (Some k) read_file ≡ true) × (is_relevant (Some k) write_file ≡ true)
+    × (is_relevant (Some k) truncate ≡ true)
 for_bytes Reg = (refl, refl, refl)
 for_bytes Dir = (refl, refl, refl)
 for_bytes Sym = (refl, refl, refl)

@@ -1,5 +1,6 @@
 -- What is known where no stage refuses.
-use Rattle.std.specs.Prelude.{◌≡◌, ◌⊎◌, ℕ, zero, suc, ◌+◌, ◌<◌, Bool, true, false, ◌&&◌, ◌||◌, List, [], ◌∷◌, ◌++◌, map, length, Option, Some, None, unwrap_or, option_and_then, refl, Contains, slice_index_or}
+use Rattle.std.specs.Prelude.{◌≡◌, ◌⊎◌, ℕ, zero, suc, ◌+◌, ◌<◌, Bool, true, false, ◌&&◌, ◌||◌, List, [], ◌∷◌, ◌++◌, map}
+use Rattle.std.specs.Prelude.{length, Option, Some, None, unwrap_or, option_and_then, refl, Contains, slice_index_or}
 use Rattle.std.specs.Option.{option_map_or}
 use Rattle.std.specs.List.{flat_map, enumerate_from, list_any}
 use Rattle.std.specs.Ordering.{is_eq}
@@ -47,15 +48,20 @@ neither false b e = (refl, e)
 -- ---- paths
 
 -- nothing is in the way: the path names a directory
-pub walked : (s : State) (p : Path) (i : ℕ) → NotFile s i → in_the_way s p i ≡ [] → (x : ℕ) × (end_from s p i ≡ Some x) × NotFile s x
+pub walked : (s : State) (p : Path) (i : ℕ) → NotFile s i → in_the_way s p i ≡ [] → (x : ℕ) × (end_from s p i ≡ Some x)
+    × NotFile s x
 walked s [] i f e = (i, refl, f)
 walked s (n ∷ p) i f e =
-    elim (child s i n) as (λ c. no_directory (kind_of_child s c) ++ option_map_or (in_the_way s p) c [] ≡ [] → (x : ℕ) × (option_and_then (end_from s p) c ≡ Some x) × NotFile s x) [
+    elim (child s i n) as (λ c. no_directory (kind_of_child s c) ++ option_map_or (in_the_way s p) c [] ≡ [] → (x : ℕ)
+    × (option_and_then (end_from s p) c ≡ Some x) × NotFile s x) [
       | None ↦ λ g. absurd (cc g)
-      | Some j ↦ λ g. on j (kind_of s j) refl (nil_left (no_directory (kind_of s j)) (in_the_way s p j) g) (λ h. walked s p j h (nil_right (no_directory (kind_of s j)) (in_the_way s p j) g))
+      | Some j ↦ λ g. on j (kind_of s j) refl (nil_left (no_directory (kind_of s j)) (in_the_way s p j) g)
+          (λ h. walked s p j h (nil_right (no_directory (kind_of s j)) (in_the_way s p j) g))
     ] e
   where
-    on : (j : ℕ) (k : Option Kind) → kind_of s j ≡ k → no_directory k ≡ [] → (NotFile s j → (x : ℕ) × (end_from s p j ≡ Some x) × NotFile s x) → (x : ℕ) × (end_from s p j ≡ Some x) × NotFile s x
+    on : (j : ℕ) (k : Option Kind) → kind_of s j ≡ k → no_directory k ≡ []
+        → (NotFile s j → (x : ℕ) × (end_from s p j ≡ Some x) × NotFile s x) → (x : ℕ) × (end_from s p j ≡ Some x)
+        × NotFile s x
     on j None is g f = absurd (cc g)
     on j (Some Dir) is g f = f (λ k h. same_Some k Dir (sym h ∙ is))
     on j (Some Reg) is g f = absurd (cc g)
@@ -74,7 +80,8 @@ parent_last [] e = absurd (cc e)
 parent_last (n ∷ []) e = refl
 parent_last (n ∷ m ∷ p) e = ap (λ (q : Path). n ∷ q) (parent_last (m ∷ p) refl)
 
-pub last_child : (s : State) (p : Path) (d x : ℕ) → is_root p ≡ false → named s (parent p) ≡ Some d → named s p ≡ Some x → child s d (last_name p) ≡ Some x
+pub last_child : (s : State) (p : Path) (d x : ℕ) → is_root p ≡ false → named s (parent p) ≡ Some d → named s p ≡ Some x
+    → child s d (last_name p) ≡ Some x
 last_child s p d x r e h =
     let w = end_last s (parent p) (last_name p) root x (ap (λ q. end_from s q root) (sym (parent_last p r)) ∙ h) in
     ap (λ z. child s z (last_name p)) (same_Some d w.0 (sym e ∙ w.1)) ∙ w.2
@@ -122,32 +129,58 @@ IsIn-contains xs x c = in_list xs c.0 x c.1 c.2
 
 module _ {A : Type 0} (cause : Cause) (test : A → ℕ → Place → Bool) where
   abbrev at_places : ℕ → A → ℕ → List Place → List Denial
-  at_places number layer right places = flat_map (λ place. when (test layer right place) (record { cause = cause; layer = number; right = right; place = place } ∷ [])) places
+  at_places number layer right places =
+      flat_map (λ place. when (test layer right place)
+      (record { cause = cause; layer = number; right = right; place = place } ∷ [])) places
 
   abbrev at_rights : ℕ → A → List ℕ → List Place → List Denial
   at_rights number layer rights places = flat_map (λ right. at_places number layer right places) rights
 
-  none_at_place : (number : ℕ) (layer : A) (right : ℕ) (places : List Place) (place : Place) → at_places number layer right places ≡ [] → IsIn places place → test layer right place ≡ false
+  none_at_place : (number : ℕ) (layer : A) (right : ℕ) (places : List Place) (place : Place)
+      → at_places number layer right places ≡ [] → IsIn places place → test layer right place ≡ false
   none_at_place number layer right [] place e i = absurd i
-  none_at_place number layer right (p ∷ ps) place e (inl h) = ap (test layer right) (sym h) ∙ off (test layer right p) (nil_left (when {A = Denial} (test layer right p) _) (at_places number layer right ps) e)
+  none_at_place number layer right (p ∷ ps) place e (inl h) =
+      ap (test layer right) (sym h)
+      ∙ off (test layer right p) (nil_left (when {A = Denial} (test layer right p) _) (at_places number layer right ps)
+      e)
     where
-      off : (b : Bool) → when {A = Denial} b (record { cause = cause; layer = number; right = right; place = p } ∷ []) ≡ [] → b ≡ false
+      off : (b : Bool) → when {A = Denial} b (record { cause = cause; layer = number; right = right; place = p } ∷ [])
+          ≡ [] → b ≡ false
       off true g = absurd (cc g)
       off false g = refl
-  none_at_place number layer right (p ∷ ps) place e (inr h) = none_at_place number layer right ps place (nil_right (when {A = Denial} (test layer right p) _) (at_places number layer right ps) e) h
+  none_at_place number layer right (p ∷ ps) place e (inr h) =
+      none_at_place number layer right ps place
+      (nil_right (when {A = Denial} (test layer right p) _) (at_places number layer right ps) e) h
 
-  none_at_right : (number : ℕ) (layer : A) (rights : List ℕ) (places : List Place) (right : ℕ) (place : Place) → at_rights number layer rights places ≡ [] → IsIn rights right → IsIn places place → test layer right place ≡ false
+  none_at_right : (number : ℕ) (layer : A) (rights : List ℕ) (places : List Place) (right : ℕ) (place : Place)
+      → at_rights number layer rights places ≡ [] → IsIn rights right → IsIn places place
+      → test layer right place ≡ false
   none_at_right number layer [] places right place e i j = absurd i
-  none_at_right number layer (r ∷ rs) places right place e (inl h) j = ap (λ z. test layer z place) (sym h) ∙ none_at_place number layer r places place (nil_left (at_places number layer r places) (at_rights number layer rs places) e) j
-  none_at_right number layer (r ∷ rs) places right place e (inr h) j = none_at_right number layer rs places right place (nil_right (at_places number layer r places) (at_rights number layer rs places) e) h j
+  none_at_right number layer (r ∷ rs) places right place e (inl h) j =
+      ap (λ z. test layer z place) (sym h)
+      ∙ none_at_place number layer r places place
+      (nil_left (at_places number layer r places) (at_rights number layer rs places) e) j
+  none_at_right number layer (r ∷ rs) places right place e (inr h) j =
+      none_at_right number layer rs places right place
+      (nil_right (at_places number layer r places) (at_rights number layer rs places) e) h j
 
-  none_from : (number : ℕ) (layers : List A) (rights : List ℕ) (places : List Place) (layer : A) (right : ℕ) (place : Place) → flat_map (λ (l : ℕ × A). at_rights l.0 l.1 rights places) (enumerate_from number layers) ≡ [] → IsIn layers layer → IsIn rights right → IsIn places place → test layer right place ≡ false
+  none_from : (number : ℕ) (layers : List A) (rights : List ℕ) (places : List Place) (layer : A) (right : ℕ)
+      (place : Place) → flat_map (λ (l : ℕ × A). at_rights l.0 l.1 rights places) (enumerate_from number layers) ≡ []
+      → IsIn layers layer → IsIn rights right → IsIn places place → test layer right place ≡ false
   none_from number [] rights places layer right place e i j k = absurd i
   none_from number (l ∷ ls) rights places layer right place e (inl h) j k =
-      ap (λ z. test z right place) (sym h) ∙ none_at_right number l rights places right place (nil_left (at_rights number l rights places) (flat_map (λ (m : ℕ × A). at_rights m.0 m.1 rights places) (enumerate_from (number + 1) ls)) e) j k
+      ap (λ z. test z right place) (sym h)
+      ∙ none_at_right number l rights places right place
+      (nil_left (at_rights number l rights places)
+      (flat_map (λ (m : ℕ × A). at_rights m.0 m.1 rights places) (enumerate_from (number + 1) ls)) e) j k
   none_from number (l ∷ ls) rights places layer right place e (inr h) j k =
-      none_from (number + 1) ls rights places layer right place (nil_right (at_rights number l rights places) (flat_map (λ (m : ℕ × A). at_rights m.0 m.1 rights places) (enumerate_from (number + 1) ls)) e) h j k
+      none_from (number + 1) ls rights places layer right place
+      (nil_right (at_rights number l rights places)
+      (flat_map (λ (m : ℕ × A). at_rights m.0 m.1 rights places) (enumerate_from (number + 1) ls)) e) h j k
 
 -- no denial: the test fails of each layer, right and place
-pub none_denied : {A : Type 0} (cause : Cause) (layers : List A) (rights : List ℕ) (places : List Place) (test : A → ℕ → Place → Bool) → denials cause layers rights places test ≡ [] → (layer : A) → Contains layers layer → (right : ℕ) → IsIn rights right → (place : Place) → IsIn places place → test layer right place ≡ false
-none_denied cause layers rights places test e layer c right i place j = none_from cause test 1 layers rights places layer right place e (IsIn-contains layers layer c) i j
+pub none_denied : {A : Type 0} (cause : Cause) (layers : List A) (rights : List ℕ) (places : List Place) (test : A → ℕ
+    → Place → Bool) → denials cause layers rights places test ≡ [] → (layer : A) → Contains layers layer → (right : ℕ)
+    → IsIn rights right → (place : Place) → IsIn places place → test layer right place ≡ false
+none_denied cause layers rights places test e layer c right i place j =
+    none_from cause test 1 layers rights places layer right place e (IsIn-contains layers layer c) i j

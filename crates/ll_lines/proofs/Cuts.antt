@@ -1,5 +1,6 @@
 -- What a line holds.
-use Rattle.std.proofs.Common.{◌≡◌, ◌∙◌, ◌↔◌, IsTrue, not, ℕ, ◌<◌, Bool, true, false, List, [], ◌∷◌, ◌++◌, append_assoc, length, Option, None, Some, ap, refl, subst, sym, arith}
+use Rattle.std.proofs.Common.{◌≡◌, ◌∙◌, ◌↔◌, IsTrue, not, ℕ, ◌<◌, Bool, true, false, List, [], ◌∷◌, ◌++◌, append_assoc}
+use Rattle.std.proofs.Common.{length, Option, None, Some, ap, refl, subst, sym, arith}
 use Rattle.ll_wire.specs.Pieces.{pieces}
 use Rattle.ll_wire.proofs.CutStreams.{IsOpen, open-append, pieces-last, pieces-line}
 use Rattle.ll_lines.specs.Cutting.{Cuts, Gives, Holds}
@@ -23,7 +24,8 @@ no_bytes line part is held = let h = kept line [] part is held in cc
 
 -- ---- a line that is being read
 
-one_line : (part rest : List ℕ) (b : ℕ) → b ≡ 10 → IsOpen part → pieces (part ++ b ∷ rest) ≡ (part ++ b ∷ []) ∷ pieces rest
+one_line : (part rest : List ℕ) (b : ℕ) → b ≡ 10 → IsOpen part
+    → pieces (part ++ b ∷ rest) ≡ (part ++ b ∷ []) ∷ pieces rest
 one_line part rest b lf is_open = rw lf (pieces-line part rest is_open)
 
 -- of what is left, a part without a line feed is held, and the rest is so
@@ -34,28 +36,50 @@ Held line left IsRest = (part rest : List ℕ) × (left ≡ part ++ rest) × IsO
 abbrev pub Takes : Option (List ℕ) → ℕ → Option (List ℕ) → Type 0
 Takes line b line' = (part : List ℕ) → Holds line part → Holds line' (part ++ b ∷ [])
 
-module _ (IsRest IsNext : List ℕ → Type 0) (next : Option ℕ) (gives : (rest : List ℕ) → IsRest rest → Gives rest next IsNext) (line line' : Option (List ℕ)) (left : List ℕ) where
+module _ (IsRest IsNext : List ℕ → Type 0) (next : Option ℕ) (gives : (rest : List ℕ) → IsRest rest
+    → Gives rest next IsNext) (line line' : Option (List ℕ)) (left : List ℕ) where
   given : (o : Option ℕ) → next ≡ o → (rest : List ℕ) → IsRest rest → Gives rest o IsNext
   given o is rest h = subst (λ (x : Option ℕ). Gives rest x IsNext) is (gives rest h)
 
   -- a byte of the line
-  pub byte_more : (b : ℕ) → next ≡ Some b → (b ≡ 10 → ⊥) → Takes line b line' → Held line left IsRest → Held line' left IsNext
+  pub byte_more : (b : ℕ) → next ≡ Some b → (b ≡ 10 → ⊥) → Takes line b line' → Held line left IsRest
+      → Held line' left IsNext
   byte_more b is ne takes h =
-      let more = given (Some b) is h.1 h.5 in
-      (h.0 ++ b ∷ [], more.0, h.2 ∙ ap (λ x. h.0 ++ x) more.1 ∙ sym (append_assoc h.0 (b ∷ []) more.0), open-append h.0 b ne h.3, takes h.0 h.4, more.2)
+      let more = given (Some b) is h.1 h.5 in (
+        h.0 ++ b ∷ [],
+        more.0,
+        h.2 ∙ ap (λ x. h.0 ++ x) more.1
+            ∙ sym (append_assoc h.0 (b ∷ []) more.0),
+        open-append h.0 b ne h.3,
+        takes h.0 h.4,
+        more.2,
+      )
 
   -- its line feed
-  pub byte_last : (b : ℕ) → next ≡ Some b → b ≡ 10 → Takes line b line' → Held line left IsRest → Cuts left true line' IsNext
+  pub byte_last : (b : ℕ) → next ≡ Some b → b ≡ 10 → Takes line b line' → Held line left IsRest
+      → Cuts left true line' IsNext
   byte_last b is lf takes h =
-      let more = given (Some b) is h.1 h.5 in
-      (h.0 ++ b ∷ [], more.0, ap pieces (h.2 ∙ ap (λ x. h.0 ++ x) more.1) ∙ one_line h.0 more.0 b lf h.3, takes h.0 h.4, more.2)
+      let more = given (Some b) is h.1 h.5 in (
+        h.0 ++ b ∷ [],
+        more.0,
+        ap pieces (h.2 ∙ ap (λ x. h.0 ++ x) more.1)
+            ∙ one_line h.0 more.0 b lf h.3,
+        takes h.0 h.4,
+        more.2,
+      )
 
   -- the end of the input
-  pub no_byte : (is_empty : Bool) → next ≡ None → (IsTrue is_empty ↔ (line ≡ Some [])) → Held line left IsRest → Cuts left (not is_empty) line IsNext
+  pub no_byte : (is_empty : Bool) → next ≡ None → (IsTrue is_empty ↔ (line ≡ Some [])) → Held line left IsRest
+      → Cuts left (not is_empty) line IsNext
   no_byte true none is h =
       let end = given None none h.1 h.5 in
       let nothing : left ≡ [] = h.2 ∙ ap (λ x. x ++ h.1) (no_bytes line h.0 (is.0 refl) h.4) ∙ end.0 in (nothing, end.1)
   no_byte false none is h =
       let end = given None none h.1 h.5 in
-      let all : left ≡ h.0 ++ [] = h.2 ∙ ap (λ x. h.0 ++ x) end.0 in
-      (h.0, [], ap pieces all ∙ pieces-last h.0 (has_bytes line h.0 (λ e. absurd (let yes = is.1 e in cc)) h.4) h.3, h.4, end.1)
+      let all : left ≡ h.0 ++ [] = h.2 ∙ ap (λ x. h.0 ++ x) end.0 in (
+        h.0,
+        [],
+        ap pieces all ∙ pieces-last h.0 (has_bytes line h.0 (λ e. absurd (let yes = is.1 e in cc)) h.4) h.3,
+        h.4,
+        end.1,
+      )

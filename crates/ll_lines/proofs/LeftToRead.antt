@@ -1,5 +1,6 @@
 -- What is left to read after a read.
-use Rattle.std.proofs.Common.{◌≡◌, ℕ, suc, ◌+◌, ◌<◌, ◌≤◌, List, [], ◌∷◌, ◌++◌, drop, drop-cons, get_or, length, length-drop, length-take-le, take, Option, None, Some, refl, sym, ap, ◌∙◌, arith}
+use Rattle.std.proofs.Common.{◌≡◌, ℕ, suc, ◌+◌, ◌<◌, ◌≤◌, List, [], ◌∷◌, ◌++◌, drop, drop-cons, get_or, length}
+use Rattle.std.proofs.Common.{length-drop, length-take-le, take, Option, None, Some, refl, sym, ap, ◌∙◌, arith}
 use Rattle.std.specs.Io.KnownBytes.{Consumes}
 use Rattle.std.proofs.lemmas.List.{length-append}
 use Rattle.std.proofs.Math.Nat.{pos_of_ne-zero}
@@ -15,7 +16,8 @@ gave (Some xs) (Some ys) left bytes e h = let same : xs ≡ left = cc in (ys, re
 -- ---- bytes that are held
 
 -- between two places of a chunk there are some
-pub held_some : (chunk : List ℕ) (start end : ℕ) → start < end → end ≤ length chunk → drop start (take end chunk) ≡ [] → ⊥
+pub held_some : (chunk : List ℕ) (start end : ℕ) → start < end → end ≤ length chunk → drop start (take end chunk) ≡ []
+    → ⊥
 held_some chunk start end less most none =
     let long = length-drop start (take end chunk) in
     let kept = length-take-le end chunk most in

@@ -55,7 +55,8 @@ module _ {S : Type 0} (Tells : S → List ℕ → List ℕ → S → Type 0) whe
       (first : S) (piece : List ℕ) → IsFirst first → Holds line piece → IsStarted first piece old new
 
   -- it answers the lines that it has read, and holds this of the next ones
-  abbrev pub AnswersSome : (IsFirst IsNow : S → Type 0) → Reading → (remaining remaining' old new : Option (List ℕ)) → Type 0
+  abbrev pub AnswersSome : (IsFirst IsNow : S → Type 0) → Reading → (remaining remaining' old new : Option (List ℕ))
+      → Type 0
   AnswersSome IsFirst IsNow lines remaining remaining' old new =
       (first : S) (input : List ℕ) → IsFirst first → remaining ≡ Some input
       → (left : List ℕ) × IsLeft lines remaining' left × Reached IsNow first input left old new

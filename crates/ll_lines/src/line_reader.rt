@@ -1,6 +1,7 @@
 //! Reading lines.
 
-ghost use Rattle.std.specs.Prelude.{◌≡◌, ◌≢◌, ◌<◌, ◌≤◌, ◌+◌, [], ℕ, List, true, false, Ok, IfOk, IfErr, OnOk, MatchOption, Err};
+ghost use Rattle.std.specs.Prelude.{◌≡◌, ◌≢◌, ◌<◌, ◌≤◌, ◌+◌, [], ℕ, List, true, false, Ok, IfOk, IfErr, OnOk};
+ghost use Rattle.std.specs.Prelude.{MatchOption, Err};
 ghost use Rattle.ll_lines.specs.Cutting.{Counts, Cuts, Gives, IsLeft, most_left, unread};
 ghost use Rattle.ll_lines.specs.Transcript.{most_reads};
 ghost use Rattle.ll_lines.specs.declared.fault.SessionFault.{SessionFault};

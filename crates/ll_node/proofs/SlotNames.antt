@@ -29,8 +29,10 @@ absent None e = refl
 absent (Some inode) e = cc
 
 -- the new name put in and the old one taken out
-pub renamed_is : (names after : NameMap) (old new : List ℕ) (inode : ℕ) → get names old ≡ Some inode → has names new ≡ false → after ≡ remove (insert names new inode) old → after ≡ renamed names old new
+pub renamed_is : (names after : NameMap) (old new : List ℕ) (inode : ℕ) → get names old ≡ Some inode
+    → has names new ≡ false → after ≡ remove (insert names new inode) old → after ≡ renamed names old new
 renamed_is names after old new inode there free is =
     is
-    ∙ remove-insert_other nat_list_cmp_total names_exact names new old inode (two_keys names new old None (Some inode) (absent (get names new) free) there (λ e. cc))
+    ∙ remove-insert_other nat_list_cmp_total names_exact names new old inode
+    (two_keys names new old None (Some inode) (absent (get names new) free) there (λ e. cc))
     ∙ sym (ap (λ o. option_map_or (λ (i : ℕ). insert (remove names old) new i) o names) there)

@@ -1,6 +1,7 @@
 //! One node behind its lock.
 
-ghost use Rattle.std.specs.Prelude.{◌≡◌, ◌+◌, ◌≤◌, ℕ, List, [], ◌∷◌, Some, false, OnOk, OnErr, IfOk, IfErr, IsTrue, map, take, drop};
+ghost use Rattle.std.specs.Prelude.{◌≡◌, ◌+◌, ◌≤◌, ℕ, List, [], ◌∷◌, Some, false, OnOk, OnErr, IfOk, IfErr, IsTrue};
+ghost use Rattle.std.specs.Prelude.{map, take, drop};
 ghost use Rattle.ll_rights.specs.Kind.{is_dir};
 ghost use Rattle.ll_rights.specs.Map.{empty, get, insert, remove, entries};
 ghost use Rattle.ll_path.specs.Name.{IsName};

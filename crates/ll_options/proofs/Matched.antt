@@ -11,5 +11,6 @@ free = refl
 pub command_free : (command : App) → command ≡ landtree → is_simple_and_free command ≡ true
 command_free command e = ap is_simple_and_free e ∙ free
 
-pub no_fault : (command : App) (words : List Text) → command ≡ landtree → fault_of command words ≡ [] → fault_of landtree words ≡ []
+pub no_fault : (command : App) (words : List Text) → command ≡ landtree → fault_of command words ≡ []
+    → fault_of landtree words ≡ []
 no_fault command words e f = ap (λ (a : App). fault_of a words) (sym e) ∙ f

@@ -1,5 +1,6 @@
 -- The number that a word gives, and what the matches of `run` ask for.
-use Rattle.std.proofs.Common.{◌≡◌, ◌∙◌, ◌<◌, ◌≤◌, ◌^◌, ◌&&◌, ℕ, Bool, true, false, Option, Some, None, refl, sym, ap, cond, codes, option_map, is_some, nat_le}
+use Rattle.std.proofs.Common.{◌≡◌, ◌∙◌, ◌<◌, ◌≤◌, ◌^◌, ◌&&◌, ℕ, Bool, true, false, Option, Some, None, refl, sym, ap}
+use Rattle.std.proofs.Common.{cond, codes, option_map, is_some, nat_le}
 use Rattle.std.specs.Option.{SomeIff}
 use Rattle.std.specs.Prelude.{option_and_then}
 use Rattle.std.specs.Str.Parse.{IsNumeral, digits_value, without_leading_plus}
@@ -11,7 +12,8 @@ use Rattle.clap.specs.declared.builder.value_parser.ValueParser.TheVariants.{Uns
 use Rattle.clap.specs.declared.parser.matches.Found.{Found}
 use Rattle.clap.proofs.ValueTestLemmas.{Accepts-accepts, accepts-Accepts}
 use Rattle.clap.proofs.WalkLemmas.{both, first_value-rows, one_text-rows}
-use Rattle.ll_options.specs.Options.{RunOrder, ScheduleOrder, history_numbers, levels, node_numbers, number_in, run_order, schedule_order}
+use Rattle.ll_options.specs.Options.{RunOrder, ScheduleOrder, history_numbers, levels, node_numbers, number_in}
+use Rattle.ll_options.specs.Options.{run_order, schedule_order}
 
 abbrev number : Text → ℕ
 number t = digits_value 10 (without_leading_plus t)
@@ -39,9 +41,12 @@ module _ (low high : ℕ) where
 
   -- of such a text the range decides
   in_range : (t : Text) → IsNumber t → number_in parser t ≡ allowed (number t)
-  in_range t is = ap (λ (b : Bool). cond b (Some (number t)) None) (same (accepts false parser t) (nat_le low (number t) && nat_le (number t) high)
-      (λ e. let in_bounds = accepts-Accepts false parser t e in rw (le-leb _ _ in_bounds.2, le-leb _ _ in_bounds.3) refl)
-      (λ e. let bounds = both _ _ e in Accepts-accepts false parser t (is.0, is.1, leb-true _ _ bounds.0, leb-true _ _ bounds.1)))
+  in_range t is = ap (λ (b : Bool). cond b (Some (number t)) None)
+      (same (accepts false parser t) (nat_le low (number t) && nat_le (number t) high)
+      (λ e. let in_bounds = accepts-Accepts false parser t e
+      in rw (le-leb _ _ in_bounds.2, le-leb _ _ in_bounds.3) refl)
+      (λ e. let bounds = both _ _ e
+      in Accepts-accepts false parser t (is.0, is.1, leb-true _ _ bounds.0, leb-true _ _ bounds.1)))
 
   -- and of any other text nothing comes
   no_number : (t : Text) → (IsNumber t → ⊥) → number_in parser t ≡ None
@@ -51,7 +56,8 @@ module _ (low high : ℕ) where
       go true e = let in_bounds = accepts-Accepts false parser t e in absurd (not (in_bounds.0, in_bounds.1))
       go false e = refl
 
-  pub number_read : (text : Option Text) (r : Option ℕ) → (text ≡ None → r ≡ None) → ((t : Text) → text ≡ Some t → Reads t r)
+  pub number_read : (text : Option Text) (r : Option ℕ) → (text ≡ None → r ≡ None)
+      → ((t : Text) → text ≡ Some t → Reads t r)
       → option_and_then allowed r ≡ option_and_then (number_in parser) text
   number_read None r none value = ap (option_and_then allowed) (none refl)
   number_read (Some t) (Some n) none value = let read = value t refl in ap allowed read.1 ∙ sym (in_range t read.0)
@@ -74,14 +80,26 @@ level_allowed (Some level) n h = ap Some h.1 ∙ within 1 3 n h.0.0 h.0.1
 level_allowed None n h = beyond 1 3 n h
 
 -- the run that is wanted, where each part is there
-abbrev pub together : Option Text → Option ℕ → Option ℕ → Option ℕ → Option Text → Option Text → Option Text → Option RunOrder
+abbrev pub together : Option Text → Option ℕ → Option ℕ → Option ℕ → Option Text → Option Text → Option Text
+    → Option RunOrder
 together path n most level policy profile save =
-    option_and_then (λ p. option_and_then (λ k. option_map (λ m. record { script = p; nodes = k; level = level; history = m; policy = policy; profile = profile; save = save }) most) n) path
+    option_and_then (λ p. option_and_then
+    (λ k. option_map (λ m. record {
+      script = p;
+      nodes = k;
+      level = level;
+      history = m;
+      policy = policy;
+      profile = profile;
+      save = save;
+    }) most) n) path
 
 -- the same of a schedule
 abbrev pub together_scheduled : Option Text → Option ℕ → Option ℕ → Option ℕ → Option Text → Option ScheduleOrder
 together_scheduled path n most level picture =
-    option_and_then (λ p. option_and_then (λ k. option_map (λ m. record { file = p; nodes = k; level = level; history = m; picture = picture }) most) n) path
+    option_and_then (λ p. option_and_then
+    (λ k. option_map (λ m. record { file = p; nodes = k; level = level; history = m; picture = picture }) most) n)
+    path
 
 module _ (f : Found) where
   abbrev pub level_by : Option ℕ
@@ -92,19 +110,26 @@ module _ (f : Found) where
 
   -- with the parts that may be missing as the matches tell them
   abbrev pub order_by : Option Text → Option ℕ → Option ℕ → Option RunOrder
-  order_by path n most = together path n most level_by (text_by (codes "policy")) (text_by (codes "profile")) (text_by (codes "save"))
+  order_by path n most = together path n most level_by (text_by (codes "policy")) (text_by (codes "profile"))
+      (text_by (codes "save"))
 
-  pub as_matched : (path : Option Text) (n most : Option ℕ) → path ≡ first_value f (codes "SCRIPT") → n ≡ option_and_then (number_in node_numbers) (one_text f (codes "nodes"))
-      → most ≡ option_and_then (number_in history_numbers) (one_text f (codes "history")) → order_by path n most ≡ run_order (rows_of f)
+  pub as_matched : (path : Option Text) (n most : Option ℕ) → path ≡ first_value f (codes "SCRIPT")
+      → n ≡ option_and_then (number_in node_numbers) (one_text f (codes "nodes"))
+      → most ≡ option_and_then (number_in history_numbers) (one_text f (codes "history"))
+      → order_by path n most ≡ run_order (rows_of f)
   as_matched path n most e g h =
       let script = first_of (codes "SCRIPT") (rows_of f) in
       let count = option_and_then (number_in node_numbers) (one_of (codes "nodes") (rows_of f)) in
       ap (λ (p : Option Text). order_by p n most) (e ∙ first_value-rows f (codes "SCRIPT"))
-      ∙ ap (λ (k : Option ℕ). order_by script k most) (g ∙ ap (option_and_then (number_in node_numbers)) (one_text-rows f (codes "nodes")))
-      ∙ ap (λ (m : Option ℕ). order_by script count m) (h ∙ ap (option_and_then (number_in history_numbers)) (one_text-rows f (codes "history")))
+      ∙ ap (λ (k : Option ℕ). order_by script k most) (g
+      ∙ ap (option_and_then (number_in node_numbers)) (one_text-rows f (codes "nodes")))
+      ∙ ap (λ (m : Option ℕ). order_by script count m) (h
+      ∙ ap (option_and_then (number_in history_numbers)) (one_text-rows f (codes "history")))
 
-  pub as_scheduled : (path : Option Text) (n most level : Option ℕ) (picture : Option Text) → path ≡ first_value f (codes "FILE") → n ≡ option_and_then (number_in node_numbers) (one_text f (codes "nodes"))
-      → most ≡ option_and_then (number_in history_numbers) (one_text f (codes "history")) → level ≡ level_by → picture ≡ first_value f (codes "picture")
+  pub as_scheduled : (path : Option Text) (n most level : Option ℕ) (picture : Option Text)
+      → path ≡ first_value f (codes "FILE") → n ≡ option_and_then (number_in node_numbers) (one_text f (codes "nodes"))
+      → most ≡ option_and_then (number_in history_numbers) (one_text f (codes "history")) → level ≡ level_by
+      → picture ≡ first_value f (codes "picture")
       → together_scheduled path n most level picture ≡ schedule_order (rows_of f)
   as_scheduled path n most level picture e g h i j =
       let file = first_of (codes "FILE") (rows_of f) in
@@ -113,11 +138,15 @@ module _ (f : Found) where
       ap (λ (l : Option ℕ). together_scheduled path n most l picture) i
       ∙ ap (λ (q : Option Text). together_scheduled path n most level_by q) (j ∙ first_value-rows f (codes "picture"))
       ∙ ap (λ (p : Option Text). together_scheduled p n most level_by drawn) (e ∙ first_value-rows f (codes "FILE"))
-      ∙ ap (λ (k : Option ℕ). together_scheduled file k most level_by drawn) (g ∙ ap (option_and_then (number_in node_numbers)) (one_text-rows f (codes "nodes")))
-      ∙ ap (λ (m : Option ℕ). together_scheduled file count m level_by drawn) (h ∙ ap (option_and_then (number_in history_numbers)) (one_text-rows f (codes "history")))
+      ∙ ap (λ (k : Option ℕ). together_scheduled file k most level_by drawn) (g
+      ∙ ap (option_and_then (number_in node_numbers)) (one_text-rows f (codes "nodes")))
+      ∙ ap (λ (m : Option ℕ). together_scheduled file count m level_by drawn) (h
+      ∙ ap (option_and_then (number_in history_numbers)) (one_text-rows f (codes "history")))
 
-  pub with_parts : (path : Option Text) (n most level : Option ℕ) (policy profile save : Option Text) → level ≡ level_by → policy ≡ first_value f (codes "policy")
-      → profile ≡ first_value f (codes "profile") → save ≡ first_value f (codes "save") → together path n most level policy profile save ≡ order_by path n most
+  pub with_parts : (path : Option Text) (n most level : Option ℕ) (policy profile save : Option Text) → level ≡ level_by
+      → policy ≡ first_value f (codes "policy")
+      → profile ≡ first_value f (codes "profile") → save ≡ first_value f (codes "save")
+      → together path n most level policy profile save ≡ order_by path n most
   with_parts path n most level policy profile save e g h i =
       let named = text_by (codes "policy") in
       let layered = text_by (codes "profile") in
@@ -126,10 +155,12 @@ module _ (f : Found) where
       ∙ ap (λ (q : Option Text). together path n most level_by named q save) (h ∙ first_value-rows f (codes "profile"))
       ∙ ap (λ (q : Option Text). together path n most level_by named layered q) (i ∙ first_value-rows f (codes "save"))
 
-pub whole : (p : Option Text) (n m l : Option ℕ) (q r s : Option Text) (path : Text) (nodes most : ℕ) → p ≡ Some path → n ≡ Some nodes → m ≡ Some most
+pub whole : (p : Option Text) (n m l : Option ℕ) (q r s : Option Text) (path : Text) (nodes most : ℕ) → p ≡ Some path
+    → n ≡ Some nodes → m ≡ Some most
     → is_some (together p n m l q r s) ≡ true
 whole p n m l q r s path nodes most e f g = rw (e, f, g) refl
 
-pub whole_schedule : (p : Option Text) (n m l : Option ℕ) (q : Option Text) (path : Text) (nodes most : ℕ) → p ≡ Some path → n ≡ Some nodes → m ≡ Some most
+pub whole_schedule : (p : Option Text) (n m l : Option ℕ) (q : Option Text) (path : Text) (nodes most : ℕ)
+    → p ≡ Some path → n ≡ Some nodes → m ≡ Some most
     → is_some (together_scheduled p n m l q) ≡ true
 whole_schedule p n m l q path nodes most e f g = rw (e, f, g) refl

@@ -1,5 +1,6 @@
 -- Paths and their texts: what a text without refusals is, and how a path lies to its parent.
-use Rattle.std.proofs.Common.{◌≡◌, ◌≢◌, ◌==◌, ℕ, suc, ◌≤◌, Bool, true, false, not, ◌&&◌, cond, nat_lt, nat_eq, List, [], ◌∷◌, ◌++◌, length, drop, codes, refl, ap, sym, ◌∙◌, arith, subst}
+use Rattle.std.proofs.Common.{◌≡◌, ◌≢◌, ◌==◌, ℕ, suc, ◌≤◌, Bool, true, false, not, ◌&&◌, cond, nat_lt, nat_eq, List, []}
+use Rattle.std.proofs.Common.{◌∷◌, ◌++◌, length, drop, codes, refl, ap, sym, ◌∙◌, arith, subst}
 use Rattle.std.specs.List.{All, AllByRecursion, list_any, join_with_byte, starts_with}
 use Rattle.std.proofs.lemmas.Bool.{ltb-false, not-false, eqb-true, ne_eqb}
 use Rattle.std.proofs.lemmas.Bool.Decides.{nat_tests}
@@ -10,7 +11,8 @@ use Rattle.ll_rights.specs.declared.errno.Errno.TheVariants.{EINVAL, ENAMETOOLON
 use Rattle.ll_rights.specs.Errno.{refuse}
 use Rattle.ll_path.specs.Word.{IsVisible}
 use Rattle.ll_path.specs.Name.{IsName}
-use Rattle.ll_path.specs.Path.{Path, path_of_text, is_no_name, is_long_name, path_refusals, path_text, is_root, parent, last_name}
+use Rattle.ll_path.specs.Path.{Path, path_of_text, is_no_name, is_long_name, path_refusals, path_text, is_root, parent}
+use Rattle.ll_path.specs.Path.{last_name}
 use Rattle.ll_path.proofs.Splits.{cut_at_slashes}
 use Rattle.ll_path.proofs.NameLemmas.{all_names, parts_bytes}
 
@@ -27,7 +29,8 @@ path_of_text-cut (b ∷ rest) e = path_of_text-more b rest
 
 pub join-path_of_text : (rest : List ℕ) → join_with_byte 47 (path_of_text (47 ∷ rest)) ≡ rest
 join-path_of_text [] = refl
-join-path_of_text (b ∷ rest) = ap (join_with_byte 47) (path_of_text-more b rest) ∙ join_with_byte-slice_split 47 (b ∷ rest)
+join-path_of_text (b ∷ rest) =
+    ap (join_with_byte 47) (path_of_text-more b rest) ∙ join_with_byte-slice_split 47 (b ∷ rest)
 
 -- what a text is that has no refusals
 pub record SpellsPath (text : List ℕ) : Type 0 where
@@ -54,9 +57,11 @@ begins [] e = absurd cc
 begins (b ∷ text) e = ap (λ (x : ℕ). x ∷ text) (sym (eqb-true 47 b (both (nat_eq 47 b) true e).0))
 
 -- a text that doesn't begin with a slash
-pub starts_elsewhere : (text : List ℕ) → ((rest : List ℕ) → text ≢ 47 ∷ rest) → starts_with nat_eq text (codes "/") ≡ false
+pub starts_elsewhere : (text : List ℕ) → ((rest : List ℕ) → text ≢ 47 ∷ rest)
+    → starts_with nat_eq text (codes "/") ≡ false
 starts_elsewhere [] h = refl
-starts_elsewhere (b ∷ text) h = ap (λ (test : Bool). test && true) (ne_eqb 47 b (λ e. h text (ap (λ (x : ℕ). x ∷ text) (sym e))))
+starts_elsewhere (b ∷ text) h =
+    ap (λ (test : Bool). test && true) (ne_eqb 47 b (λ e. h text (ap (λ (x : ℕ). x ∷ text) (sym e))))
 
 pub spells_path : (text : List ℕ) → path_refusals text ≡ [] → SpellsPath text
 spells_path text e =
@@ -81,12 +86,16 @@ spells_path text e =
 pub path_text-path_of_text : (text : List ℕ) → path_refusals text ≡ [] → path_text (path_of_text text) ≡ text
 path_text-path_of_text text e =
     let slash = (spells_path text e).slash in
-    ap (λ (t : List ℕ). path_text (path_of_text t)) slash ∙ ap (λ (rest : List ℕ). 47 ∷ rest) (join-path_of_text (drop 1 text)) ∙ sym slash
+    ap (λ (t : List ℕ). path_text (path_of_text t)) slash
+    ∙ ap (λ (rest : List ℕ). 47 ∷ rest) (join-path_of_text (drop 1 text)) ∙ sym slash
 
-pub join-path_of_whole_text : (text : List ℕ) → path_refusals text ≡ [] → join_with_byte 47 (path_of_text text) ≡ drop 1 text
-join-path_of_whole_text text e = ap (λ (t : List ℕ). join_with_byte 47 (path_of_text t)) (spells_path text e).slash ∙ join-path_of_text (drop 1 text)
+pub join-path_of_whole_text : (text : List ℕ) → path_refusals text ≡ []
+    → join_with_byte 47 (path_of_text text) ≡ drop 1 text
+join-path_of_whole_text text e =
+    ap (λ (t : List ℕ). join_with_byte 47 (path_of_text t)) (spells_path text e).slash ∙ join-path_of_text (drop 1 text)
 
-name_bytes : (rest : List ℕ) → AllByRecursion IsVisible rest → AllByRecursion (AllByRecursion (λ b. IsVisible b × (b ≢ 47))) (path_of_text (47 ∷ rest))
+name_bytes : (rest : List ℕ) → AllByRecursion IsVisible rest
+    → AllByRecursion (AllByRecursion (λ b. IsVisible b × (b ≢ 47))) (path_of_text (47 ∷ rest))
 name_bytes [] h = tt
 name_bytes (b ∷ rest) h = rw (path_of_text-more b rest) (parts_bytes (b ∷ rest) h)
 
@@ -95,11 +104,15 @@ rest_visible [] rest h e = absurd cc
 rest_visible (b ∷ text) rest h e = let same : text ≡ rest = cc in subst (AllByRecursion IsVisible) same h.1
 
 -- a path's names are names
-pub path_of_text-names : (text : List ℕ) → AllByRecursion IsVisible text → path_refusals text ≡ [] → All IsName (path_of_text text)
+pub path_of_text-names : (text : List ℕ) → AllByRecursion IsVisible text → path_refusals text ≡ []
+    → All IsName (path_of_text text)
 path_of_text-names text visible e =
     let spells = spells_path text e in
     let bytes = name_bytes (drop 1 text) (rest_visible text (drop 1 text) visible spells.slash) in
-    All-from_recursion IsName (path_of_text text) (all_names (path_of_text text) (subst (λ (t : List ℕ). AllByRecursion (AllByRecursion (λ b. IsVisible b × (b ≢ 47))) (path_of_text t)) (sym spells.slash) bytes) spells.named spells.short)
+    All-from_recursion IsName (path_of_text text)
+    (all_names (path_of_text text)
+    (subst (λ (t : List ℕ). AllByRecursion (AllByRecursion (λ b. IsVisible b × (b ≢ 47))) (path_of_text t))
+    (sym spells.slash) bytes) spells.named spells.short)
 
 -- ---- a path and its parent
 
@@ -131,4 +144,5 @@ at_end P [] last h = h.0
 at_end P (name ∷ front) last h = at_end P front last h.1
 
 pub end_is_name : (path front : Path) (last : List ℕ) → path ≡ front ++ last ∷ [] → All IsName path → IsName last
-end_is_name path front last e h = at_end IsName front last (subst (AllByRecursion IsName) e (recursion_from_All IsName path h))
+end_is_name path front last e h =
+    at_end IsName front last (subst (AllByRecursion IsName) e (recursion_from_All IsName path h))

@@ -35,11 +35,13 @@ not_both text errno e h = none-some errno (sym (ap (λ (errnos : List Errno). sl
 same_bad : (one two : BadPath) → one.word ≡ two.word → one.errno ≡ two.errno → one ≡ two
 same_bad one two e d =
     let parts : ◌≡◌ {A = List ℕ × Errno} (one.word, one.errno) (two.word, two.errno) = λ i. (e i, d i) in
-    let whole : ◌≡◌ {A = (b : List ℕ × Errno) × Refused b} ((one.word, one.errno), one.refused) ((two.word, two.errno), two.refused) = Σ_prop_path refused_once parts in
+    let whole : ◌≡◌ {A = (b : List ℕ × Errno) × Refused b} ((one.word, one.errno), one.refused)
+    ((two.word, two.errno), two.refused) = Σ_prop_path refused_once parts in
     λ i. record { word = (whole i).0.0; errno = (whole i).0.1; refused = (whole i).1 }
 
 pub target_unique : (text : List ℕ) (one two : Target) → IsTarget text one → IsTarget text two → one ≡ two
 target_unique text (Good path) (Good other) h k = ap Good (h.1 ∙ sym k.1)
 target_unique text (Good path) (Bad other) h k = absurd (not_both text other.errno h.0 k.1)
 target_unique text (Bad bad) (Good other) h k = absurd (not_both text bad.errno k.0 h.1)
-target_unique text (Bad bad) (Bad other) h k = ap Bad (same_bad bad other (h.0 ∙ sym k.0) (same_Some _ _ (sym h.1 ∙ k.1)))
+target_unique text (Bad bad) (Bad other) h k =
+    ap Bad (same_bad bad other (h.0 ∙ sym k.0) (same_Some _ _ (sym h.1 ∙ k.1)))

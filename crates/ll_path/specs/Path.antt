@@ -1,5 +1,6 @@
 -- Paths. path_resolution(7), in this project's profile
-use Rattle.std.specs.Prelude.{ℕ, ◌==◌, Bool, true, false, not, ◌&&◌, ◌||◌, List, [], ◌∷◌, ◌++◌, length, nat_eq, nat_lt, drop, if◌then◌else◌, codes}
+use Rattle.std.specs.Prelude.{ℕ, ◌==◌, Bool, true, false, not, ◌&&◌, ◌||◌, List, [], ◌∷◌, ◌++◌, length, nat_eq, nat_lt}
+use Rattle.std.specs.Prelude.{drop, if◌then◌else◌, codes}
 use Rattle.std.specs.List.{slice_split, starts_with, list_any, join_with_byte}
 use Rattle.ll_rights.specs.declared.errno.Errno.{Errno}
 use Rattle.ll_rights.specs.declared.errno.Errno.TheVariants.{EINVAL, ENAMETOOLONG}

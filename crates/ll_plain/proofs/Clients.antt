@@ -15,8 +15,10 @@ some_or (Some x) d e = refl
 pub got_client : (a s : State) (n : ℕ) → a ≡ s → has s.clients n ≡ true → get a.clients n ≡ Some (client_of s n)
 got_client a s n is there = ap (λ z. get z.clients n) is ∙ some_or (get s.clients n) new_client there
 
-pub kept : (a s : State) (clients : Map nat_cmp ClientRecord) → a ≡ s → clients ≡ a.clients → record a { clients = clients } ≡ s
+pub kept : (a s : State) (clients : Map nat_cmp ClientRecord) → a ≡ s → clients ≡ a.clients
+    → record a { clients = clients } ≡ s
 kept a s clients is same = ap (λ m. record a { clients = m }) same ∙ is
 
-pub client_changed : (a s : State) (clients : Map nat_cmp ClientRecord) (n : ℕ) (c : ClientRecord) → a ≡ s → clients ≡ insert a.clients n c → record a { clients = clients } ≡ with_client s n c
+pub client_changed : (a s : State) (clients : Map nat_cmp ClientRecord) (n : ℕ) (c : ClientRecord) → a ≡ s
+    → clients ≡ insert a.clients n c → record a { clients = clients } ≡ with_client s n c
 client_changed a s clients n c is same = ap (λ m. record a { clients = m }) same ∙ ap (λ z. with_client z n c) is

@@ -1,5 +1,6 @@
 -- What a layer reaches, found by paths of so many names.
-use Rattle.std.specs.Prelude.{◌≡◌, ◌↔◌, ℕ, ◌*◌, ◌^◌, ◌<◌, Bool, true, false, not, ◌&&◌, ◌||◌, ◌==◌, [], ◌++◌, length, Some, None, IsTrue, bit_and, bit_or, refl}
+use Rattle.std.specs.Prelude.{◌≡◌, ◌↔◌, ℕ, ◌*◌, ◌^◌, ◌<◌, Bool, true, false, not, ◌&&◌, ◌||◌, ◌==◌, [], ◌++◌, length}
+use Rattle.std.specs.Prelude.{Some, None, IsTrue, bit_and, bit_or, refl}
 use Rattle.std.proofs.Common.{ap, sym, ◌∙◌, inl, inr, arith, length-append}
 use Rattle.std.proofs.lemmas.Bool.{cases_lt}
 use Rattle.std.proofs.lemmas.Nat.Bits.{bit_at_above}
@@ -55,7 +56,8 @@ module _ (s : State) (inode steps : ℕ) (enough : steps ≡ 2 * length (entries
       (short.path, (short.leads, let most = short.short in omega arith))
 
   -- and where a rule on some path to it holds a right, one does on such a path
-  pub ruled_soon : (layer : Layer) (path : Path) (right : ℕ) → named s path ≡ Some inode → is_ruled s layer path right ≡ true → (p : Path) × Leads s steps inode p × IsTrue (is_ruled s layer p right)
+  pub ruled_soon : (layer : Layer) (path : Path) (right : ℕ) → named s path ≡ Some inode
+      → is_ruled s layer path right ≡ true → (p : Path) × Leads s steps inode p × IsTrue (is_ruled s layer p right)
   ruled_soon layer path right leads ruled =
       let c = cut s (has_rule layer right) path root inode leads ruled in
       let front = shortcut s c.front root c.at c.leads in
@@ -71,7 +73,8 @@ module _ (s : State) (inode steps : ℕ) (enough : steps ≡ 2 * length (entries
   pub nameless : (layer : Layer) → Found s layer (Leads s steps inode) None → HasName s inode → ⊥
   nameless layer none h = let soon = named_soon h in none soon.0 soon.1
 
-  module _ (layer : Layer) (kind : Kind) (kind_is : kind_of s inode ≡ Some kind) (free granted : ℕ) (ruled : Access) (mask : IsMask free layer []) (is : granted ≡ bit_or free ruled.0)
+  module _ (layer : Layer) (kind : Kind) (kind_is : kind_of s inode ≡ Some kind) (free granted : ℕ) (ruled : Access)
+      (mask : IsMask free layer []) (is : granted ≡ bit_or free ruled.0)
       (found : Found s layer (Leads s steps inode) (Some ruled)) where
     in_granted : (right : ℕ) → holds granted right ≡ (holds free right || holds ruled.0 right)
     in_granted right = ap (λ n. holds n right) is ∙ holds-or free ruled.0 right
@@ -82,31 +85,44 @@ module _ (s : State) (inode steps : ℕ) (enough : steps ≡ 2 * length (entries
     meant : (right : ℕ) → is_relevant (kind_of s inode) right ≡ holds (relevant kind) right
     meant right = ap (λ k. is_relevant k right) kind_is
 
-    reaches : (right : ℕ) → holds granted right ≡ true → holds (relevant kind) right ≡ true → InReach s layer inode right
+    reaches : (right : ℕ) → holds granted right ≡ true → holds (relevant kind) right ≡ true
+        → InReach s layer inode right
     reaches right g r = elim (or_split (holds free right) (holds ruled.0 right) (sym (in_granted right) ∙ g)) [
       | inl a ↦ record {
         path = found.0.0;
         names = found.0.1.0;
         relevant = meant right ∙ r;
-        granted = or_left (not (restricts layer right)) (is_ruled s layer found.0.0 right) (sym (in_free right (known (relevant kind) right (relevant_known kind) r)) ∙ a);
+        granted = or_left (not (restricts layer right)) (is_ruled s layer found.0.0 right)
+            (sym (in_free right (known (relevant kind) right (relevant_known kind) r)) ∙ a);
       }
       | inr b ↦
           let w = (found.1 right).0 b in
-          record { path = w.0; names = w.1.0; relevant = meant right ∙ r; granted = or_right (not (restricts layer right)) (is_ruled s layer w.0 right) w.2 }
+          record {
+            path = w.0;
+            names = w.1.0;
+            relevant = meant right
+                ∙ r;
+            granted = or_right (not (restricts layer right)) (is_ruled s layer w.0 right) w.2;
+          }
     ]
 
     reached : (right : ℕ) → InReach s layer inode right → holds granted right ≡ true
     reached right h =
         let r : holds (relevant kind) right ≡ true = sym (meant right) ∙ h.relevant in
         in_granted right ∙ elim (or_split (not (restricts layer right)) (is_ruled s layer h.path right) h.granted) [
-          | inl a ↦ or_left (holds free right) (holds ruled.0 right) (in_free right (known (relevant kind) right (relevant_known kind) r) ∙ a)
-          | inr b ↦ or_right (holds free right) (holds ruled.0 right) ((found.1 right).1 (ruled_soon layer h.path right h.names b))
+          | inl a ↦ or_left (holds free right) (holds ruled.0 right)
+              (in_free right (known (relevant kind) right (relevant_known kind) r) ∙ a)
+          | inr b ↦ or_right (holds free right) (holds ruled.0 right)
+              ((found.1 right).1 (ruled_soon layer h.path right h.names b))
         ]
 
-    pub are_reached : (means : ℕ) → means ≡ relevant kind → (right : ℕ) → IsTrue (holds (bit_and granted means) right) ↔ InReach s layer inode right
+    pub are_reached : (means : ℕ) → means ≡ relevant kind → (right : ℕ) → IsTrue (holds (bit_and granted means) right)
+        ↔ InReach s layer inode right
     are_reached means same right =
         let parts : holds (bit_and granted means) right ≡ (holds granted right && holds (relevant kind) right) =
         holds-and granted means right ∙ ap (λ n. holds granted right && holds n right) same in (
-          λ h. let two = and_split (holds granted right) (holds (relevant kind) right) (sym parts ∙ h) in reaches right two.0 two.1,
-          λ h. parts ∙ and_both (holds granted right) (holds (relevant kind) right) (reached right h) (sym (meant right) ∙ h.relevant),
+          λ h. let two = and_split (holds granted right) (holds (relevant kind) right) (sym parts ∙ h) in
+              reaches right two.0 two.1,
+          λ h. parts ∙ and_both (holds granted right) (holds (relevant kind) right) (reached right h) (sym (meant right)
+              ∙ h.relevant),
         )

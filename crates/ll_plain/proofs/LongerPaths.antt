@@ -27,7 +27,8 @@ module _ (s : State) (name : Name) where
   itself None = refl
   itself (Some x) = refl
 
-  end_onward : (o : Option ℕ) (f g : ℕ → Option ℕ) → ((j : ℕ) → f j ≡ beneath (g j)) → option_and_then f o ≡ beneath (option_and_then g o)
+  end_onward : (o : Option ℕ) (f g : ℕ → Option ℕ) → ((j : ℕ) → f j ≡ beneath (g j))
+      → option_and_then f o ≡ beneath (option_and_then g o)
   end_onward None f g same = refl
   end_onward (Some j) f g same = same j
 
@@ -35,16 +36,20 @@ module _ (s : State) (name : Name) where
   end_push [] i = itself (child s i name)
   end_push (n ∷ path) i = end_onward (child s i n) (end_from s (path ++ name ∷ [])) (end_from s path) (end_push path)
 
-  chain_onward : (o : Option ℕ) (i : ℕ) (f g : ℕ → List ℕ) (e : ℕ → Option ℕ) → ((j : ℕ) → f j ≡ g j ++ alone (beneath (e j)))
+  chain_onward : (o : Option ℕ) (i : ℕ) (f g : ℕ → List ℕ) (e : ℕ → Option ℕ)
+      → ((j : ℕ) → f j ≡ g j ++ alone (beneath (e j)))
       → i ∷ option_map_or f o [] ≡ (i ∷ option_map_or g o []) ++ alone (beneath (option_and_then e o))
   chain_onward None i f g e same = refl
   chain_onward (Some j) i f g e same = ap (λ (l : List ℕ). i ∷ l) (same j)
 
-  pub chain_push : (path : Path) (i : ℕ) → chain_from s (path ++ name ∷ []) i ≡ chain_from s path i ++ alone (beneath (end_from s path i))
+  pub chain_push : (path : Path) (i : ℕ)
+      → chain_from s (path ++ name ∷ []) i ≡ chain_from s path i ++ alone (beneath (end_from s path i))
   chain_push [] i = refl
-  chain_push (n ∷ path) i = chain_onward (child s i n) i (chain_from s (path ++ name ∷ [])) (chain_from s path) (end_from s path) (chain_push path)
+  chain_push (n ∷ path) i = chain_onward (child s i n) i (chain_from s (path ++ name ∷ [])) (chain_from s path)
+      (end_from s path) (chain_push path)
 
-  way_onward : (o : Option ℕ) (k : List Errno) (f g : ℕ → List Errno) (e : ℕ → Option ℕ) → ((j : ℕ) → f j ≡ g j ++ block (e j))
+  way_onward : (o : Option ℕ) (k : List Errno) (f g : ℕ → List Errno) (e : ℕ → Option ℕ)
+      → ((j : ℕ) → f j ≡ g j ++ block (e j))
       → k ++ option_map_or f o [] ≡ (k ++ option_map_or g o []) ++ block (option_and_then e o)
   way_onward None k f g e same = sym (no_more (k ++ []))
   way_onward (Some j) k f g e same = ap (λ (l : List Errno). k ++ l) (same j) ∙ sym (append_assoc k (g j) (block (e j)))
@@ -53,6 +58,8 @@ module _ (s : State) (name : Name) where
   last_way k None = no_more k
   last_way k (Some j) = no_more k
 
-  pub way_push : (path : Path) (i : ℕ) → in_the_way s (path ++ name ∷ []) i ≡ in_the_way s path i ++ block (end_from s path i)
+  pub way_push : (path : Path) (i : ℕ)
+      → in_the_way s (path ++ name ∷ []) i ≡ in_the_way s path i ++ block (end_from s path i)
   way_push [] i = last_way (no_directory (kind_of_child s (child s i name))) (child s i name)
-  way_push (n ∷ path) i = way_onward (child s i n) (no_directory (kind_of_child s (child s i n))) (in_the_way s (path ++ name ∷ [])) (in_the_way s path) (end_from s path) (way_push path)
+  way_push (n ∷ path) i = way_onward (child s i n) (no_directory (kind_of_child s (child s i n)))
+      (in_the_way s (path ++ name ∷ [])) (in_the_way s path) (end_from s path) (way_push path)

@@ -1,5 +1,6 @@
 -- Calls on a client's own record.
-use Rattle.std.specs.Prelude.{◌≡◌, ℕ, ◌+◌, zero, suc, ◌<◌, Bool, true, false, List, [], ◌∷◌, ◌++◌, Some, None, is_some, length, slice_get, refl}
+use Rattle.std.specs.Prelude.{◌≡◌, ℕ, ◌+◌, zero, suc, ◌<◌, Bool, true, false, List, [], ◌∷◌, ◌++◌, Some, None, is_some}
+use Rattle.std.specs.Prelude.{length, slice_get, refl}
 use Rattle.std.proofs.Common.{ap, sym, ◌∙◌, arith}
 use Rattle.std.specs.List.{flat_map, enumerate_from}
 use Rattle.ll_rights.specs.declared.errno.Errno.{Errno}
@@ -30,10 +31,13 @@ nothing_asked n [] = refl
 nothing_asked n (l ∷ layers) = nothing_asked (n + 1) layers
 
 pub no_denials : (s : State) (layers : List Layer) → slice_get (all_denials (grants s) layers [] []) 0 ≡ None
-no_denials s layers = ap (λ ds. slice_get ds 0) (λ i. nothing_asked 1 layers i ++ nothing_asked 1 layers i ++ nothing_asked 1 layers i)
+no_denials s layers = ap (λ ds. slice_get ds 0)
+    (λ i. nothing_asked 1 layers i ++ nothing_asked 1 layers i ++ nothing_asked 1 layers i)
 
 -- a ruleset that is there has a number below their count
-pub number_below : (a s : State) (n rs : ℕ) → a ≡ s → has s.clients n ≡ true → is_some (slice_get (client_of s n).rulesets rs) ≡ true → (c : ClientRecord) → get a.clients n ≡ Some c → rs < length c.rulesets
+pub number_below : (a s : State) (n rs : ℕ) → a ≡ s → has s.clients n ≡ true
+    → is_some (slice_get (client_of s n).rulesets rs) ≡ true → (c : ClientRecord) → get a.clients n ≡ Some c
+    → rs < length c.rulesets
 number_below a s n rs is there some c got =
     let same : client_of s n ≡ c = same_some (got_client a s n is there) got in
     within c.rulesets rs (ap (λ (x : ClientRecord). is_some (slice_get x.rulesets rs)) (sym same) ∙ some)

@@ -1,5 +1,6 @@
 -- What some path names, a path of no more names than there are entries names.
-use Rattle.std.specs.Prelude.{◌≡◌, ◌⊎◌, ℕ, zero, suc, ◌≤◌, ◌<◌, true, false, cond, List, [], ◌∷◌, map, length, Option, Some, None, option_and_then, ◌==◌, refl}
+use Rattle.std.specs.Prelude.{◌≡◌, ◌⊎◌, ℕ, zero, suc, ◌≤◌, ◌<◌, true, false, cond, List, [], ◌∷◌, map, length, Option}
+use Rattle.std.specs.Prelude.{Some, None, option_and_then, ◌==◌, refl}
 use Rattle.std.specs.FinMap.Entries.{find}
 use Rattle.std.specs.Ordering.{eq_by_cmp}
 use Rattle.std.proofs.Common.{ap, sym, subst, ◌∙◌, inl, inr, arith}
@@ -38,17 +39,19 @@ no_longer k [] = omega (arith, none)
     none = refl
 no_longer k (y ∷ ys) =
     let rest = no_longer k ys in
-    elim (y == k) as (λ b. length (cond b (without k ys) (y ∷ without k ys)) ≤ length (y ∷ ys)) [ true ↦ omega arith | false ↦ omega arith ]
+    elim (y == k) as (λ b. length (cond b (without k ys) (y ∷ without k ys)) ≤ length (y ∷ ys))
+    [ true ↦ omega arith | false ↦ omega arith ]
 
 shorter : (k : ℕ) (ys : List ℕ) → Among ys k → length (without k ys) < length ys
 shorter k [] a = absurd a
-shorter k (y ∷ ys) a = elim (y == k) as (λ b. (y == k) ≡ b → length (cond b (without k ys) (y ∷ without k ys)) < length (y ∷ ys)) [
-  | true ↦ λ e. let rest = no_longer k ys in omega arith
-  | false ↦ λ e. elim a [
-    | inl h ↦ (let same = eq-eqb y k (back h) in absurd (cc))
-    | inr h ↦ let rest = shorter k ys h in omega arith
-  ]
-] refl
+shorter k (y ∷ ys) a = elim (y == k) as (λ b. (y == k) ≡ b
+    → length (cond b (without k ys) (y ∷ without k ys)) < length (y ∷ ys)) [
+      | true ↦ λ e. let rest = no_longer k ys in omega arith
+      | false ↦ λ e. elim a [
+        | inl h ↦ (let same = eq-eqb y k (back h) in absurd (cc))
+        | inr h ↦ let rest = shorter k ys h in omega arith
+      ]
+    ] refl
   where
     back : k ≡ y → y ≡ k
     back h = cc
@@ -73,12 +76,14 @@ module _ (s : State) where
     leads : end_from s path k ≡ Some y
     into : Into (without k ys) path k
 
-  past : (k y : ℕ) (ys : List ℕ) (p : Path) (i : ℕ) → end_from s p i ≡ Some y → Into ys p i → Into (without k ys) p i ⊎ Past k y ys
+  past : (k y : ℕ) (ys : List ℕ) (p : Path) (i : ℕ) → end_from s p i ≡ Some y → Into ys p i → Into (without k ys) p i
+      ⊎ Past k y ys
   past k y ys [] i e h = inl tt
   past k y ys (name ∷ p) i e h = of (child s i name) refl e (λ j. past k y ys p j)
     where
       of : (o : Option ℕ) → child s i name ≡ o → option_and_then (end_from s p) o ≡ Some y
-          → ((j : ℕ) → end_from s p j ≡ Some y → Into ys p j → Into (without k ys) p j ⊎ Past k y ys) → Into (without k ys) (name ∷ p) i ⊎ Past k y ys
+          → ((j : ℕ) → end_from s p j ≡ Some y → Into ys p j → Into (without k ys) p j ⊎ Past k y ys)
+          → Into (without k ys) (name ∷ p) i ⊎ Past k y ys
       of None is f later = absurd (cc f)
       of (Some j) is f later =
           let parts = h j is in
@@ -86,9 +91,16 @@ module _ (s : State) where
             | inr q ↦ inr q
             | inl rest ↦ elim (j == k) as (λ b. (j == k) ≡ b → Into (without k ys) (name ∷ p) i ⊎ Past k y ys) [
               | true ↦ λ t. let same : j ≡ k = eqb-true j k t in
-                  inr (record { path = p; leads = ap (end_from s p) (sym same) ∙ f; into = subst (λ z. Into (without k ys) p z) same rest })
-              | false ↦ λ t. inl (λ z here. let same : j ≡ z = cc (is, here) in
-                  (still k z ys (ap (λ w. w == k) (sym same) ∙ t) (subst (Among ys) same parts.0), subst (λ w. Into (without k ys) p w) same rest))
+                  inr (record {
+                    path = p;
+                    leads = ap (end_from s p) (sym same)
+                        ∙ f;
+                    into = subst (λ z. Into (without k ys) p z) same rest;
+                  })
+              | false ↦ λ t. inl (λ z here. let same : j ≡ z = cc (is, here) in (
+                still k z ys (ap (λ w. w == k) (sym same) ∙ t) (subst (Among ys) same parts.0),
+                subst (λ w. Into (without k ys) p w) same rest,
+              ))
             ] refl
           ]
 
@@ -99,7 +111,8 @@ module _ (s : State) where
     short = let at_most = q.short in omega arith;
   }
 
-  pub cut_down : (n : ℕ) (ys : List ℕ) → length ys ≤ n → (p : Path) (i y : ℕ) → end_from s p i ≡ Some y → Into ys p i → Short n i y
+  pub cut_down : (n : ℕ) (ys : List ℕ) → length ys ≤ n → (p : Path) (i y : ℕ) → end_from s p i ≡ Some y → Into ys p i
+      → Short n i y
   cut_down n ys fits [] i y e h = record { path = []; leads = e; short = omega arith }
   cut_down zero ys fits (name ∷ p) i y e h = of (child s i name) refl e
     where
@@ -113,7 +126,8 @@ module _ (s : State) where
   cut_down (suc n) ys fits (name ∷ p) i y e h = of (child s i name) refl e (λ zs. cut_down n zs)
     where
       of : (o : Option ℕ) → child s i name ≡ o → option_and_then (end_from s p) o ≡ Some y
-          → ((zs : List ℕ) → length zs ≤ n → (q : Path) (k z : ℕ) → end_from s q k ≡ Some z → Into zs q k → Short n k z) → Short (suc n) i y
+          → ((zs : List ℕ) → length zs ≤ n → (q : Path) (k z : ℕ) → end_from s q k ≡ Some z → Into zs q k → Short n k z)
+          → Short (suc n) i y
       of None is f down = absurd (cc f)
       of (Some k) is f down =
           let parts = h k is in
@@ -128,12 +142,14 @@ module _ (s : State) where
   abbrev targets : List ℕ
   targets = map (λ (e : Dentry × ℕ). e.1) (entries s.entries)
 
-  found : (es : List (Dentry × ℕ)) (q : Dentry) (x : ℕ) → find dentry_cmp q es ≡ Some x → Among (map (λ (e : Dentry × ℕ). e.1) es) x
+  found : (es : List (Dentry × ℕ)) (q : Dentry) (x : ℕ) → find dentry_cmp q es ≡ Some x
+      → Among (map (λ (e : Dentry × ℕ). e.1) es) x
   found [] q x f = absurd (cc f)
-  found (e ∷ es) q x f = elim (eq_by_cmp dentry_cmp q e.0) as (λ b. cond b (Some e.1) (find dentry_cmp q es) ≡ Some x → (x ≡ e.1) ⊎ Among (map (λ (e : Dentry × ℕ). e.1) es) x) [
-    | true ↦ λ g. inl (cc g)
-    | false ↦ λ g. inr (found es q x g)
-  ] f
+  found (e ∷ es) q x f = elim (eq_by_cmp dentry_cmp q e.0) as (λ b. cond b (Some e.1) (find dentry_cmp q es) ≡ Some x
+      → (x ≡ e.1) ⊎ Among (map (λ (e : Dentry × ℕ). e.1) es) x) [
+        | true ↦ λ g. inl (cc g)
+        | false ↦ λ g. inr (found es q x g)
+      ] f
 
   is_target : (d : ℕ) (name : Name) (x : ℕ) → child s d name ≡ Some x → Among targets x
   unfolding get entries
@@ -144,4 +160,5 @@ module _ (s : State) where
   into_targets (name ∷ p) i = λ j is. (is_target i name j is, into_targets p j)
 
   pub shortcut : (p : Path) (i y : ℕ) → end_from s p i ≡ Some y → Short (length (entries s.entries)) i y
-  shortcut p i y e = cut_down (length (entries s.entries)) targets (omega (arith, length-map (entries s.entries) (λ (e : Dentry × ℕ). e.1))) p i y e (into_targets p i)
+  shortcut p i y e = cut_down (length (entries s.entries)) targets
+      (omega (arith, length-map (entries s.entries) (λ (e : Dentry × ℕ). e.1))) p i y e (into_targets p i)

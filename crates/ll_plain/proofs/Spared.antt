@@ -1,7 +1,9 @@
 -- Calls that take no memory.
 use Rattle.std.specs.Prelude.{◌≡◌, true, false, refl}
 use Rattle.ll_seq.specs.declared.call.Call.{Call}
-use Rattle.ll_seq.specs.declared.call.Call.TheVariants.{Make, Open, Read, Write, Ftruncate, Close, Truncate, ReadDir, Stat, Exec, Unlink, Rmdir, Rename, RenameNoreplace, Exchange, Link, Ruleset, Allow, Confine, Spawn, Connect}
+use Rattle.ll_seq.specs.declared.call.Call.TheVariants.{Make, Open, Read, Write, Ftruncate, Close, Truncate, ReadDir}
+use Rattle.ll_seq.specs.declared.call.Call.TheVariants.{Stat, Exec, Unlink, Rmdir, Rename, RenameNoreplace, Exchange}
+use Rattle.ll_seq.specs.declared.call.Call.TheVariants.{Link, Ruleset, Allow, Confine, Spawn, Connect}
 use Rattle.ll_answer.specs.Lean.{spares_memory}
 use Rattle.ll_seq.specs.Memory.{takes_memory}
 use Rattle.ll_answer.specs.Passed.{has_path}

@@ -1,5 +1,5 @@
--- What a call comes to, by its three parts: what refuses it before policy is asked, what policy denies, and what refuses
--- it afterwards.
+-- What a call comes to, by its three parts: what refuses it before policy is asked, what policy denies, and what
+-- refuses it afterwards.
 use Rattle.std.specs.Prelude.{◌≡◌, ℕ, List, [], ◌∷◌, ◌++◌, Some, None, slice_get, refl}
 use Rattle.std.proofs.Common.{ap, sym, ◌∙◌, inl, inr}
 use Rattle.ll_rights.specs.declared.errno.Errno.{Errno}
@@ -30,17 +30,20 @@ module _ (s : State) (n : ℕ) (call : Call) where
     refused_after e h fresh = inl (parts.refused_late s n call free allowed e h fresh)
 
     module _ (fits : late s n call ≡ []) where
-      pub steps_done : (reply : Reply) (after : State) → ((fresh : ℕ) → ◌≡◌ {A = Reply × State} (reply, after) (does_so s n call fresh))
+      pub steps_done : (reply : Reply) (after : State)
+          → ((fresh : ℕ) → ◌≡◌ {A = Reply × State} (reply, after) (does_so s n call fresh))
           → Steps s n call reply after
       steps_done reply after same fresh =
           same fresh ∙ sym (parts.comes_to s n call fresh (parts.none_refused s n call free allowed fits))
 
-      pub does_by : (fresh : ℕ) (reply : Reply) (after : State) → ◌≡◌ {A = Reply × State} (reply, after) (does_so s n call fresh)
+      pub does_by : (fresh : ℕ) (reply : Reply) (after : State)
+          → ◌≡◌ {A = Reply × State} (reply, after) (does_so s n call fresh)
           → ComesBy fresh s n call reply after
       does_by fresh reply after same =
           inl (same ∙ sym (parts.comes_to s n call fresh (parts.none_refused s n call free allowed fits)))
 
-      pub does : (reply : Reply) (after : State) → ((fresh : ℕ) → ◌≡◌ {A = Reply × State} (reply, after) (does_so s n call fresh))
+      pub does : (reply : Reply) (after : State)
+          → ((fresh : ℕ) → ◌≡◌ {A = Reply × State} (reply, after) (does_so s n call fresh))
           → Comes s n call reply after
       does reply after same fresh = does_by fresh reply after (same fresh)
 

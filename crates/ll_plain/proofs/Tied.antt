@@ -1,5 +1,6 @@
 -- What changes of the tree do to what its tables keep.
-use Rattle.std.proofs.Common.{◌≡◌, ◌≢◌, ◌==◌, ℕ, ◌+◌, ◌-◌, ◌≤◌, Bool, true, false, cond, not, ◌||◌, List, [], ◌∷◌, length, filter, Option, Some, None, is_some, refl, ap, sym, ◌∙◌, subst, inl, inr, arith}
+use Rattle.std.proofs.Common.{◌≡◌, ◌≢◌, ◌==◌, ℕ, ◌+◌, ◌-◌, ◌≤◌, Bool, true, false, cond, not, ◌||◌, List, [], ◌∷◌}
+use Rattle.std.proofs.Common.{length, filter, Option, Some, None, is_some, refl, ap, sym, ◌∙◌, subst, inl, inr, arith}
 use Rattle.std.specs.Prelude.{◌⊎◌, if◌then◌else◌, option_map, option_and_then}
 use Rattle.std.specs.Ordering.{nat_cmp, eq_by_cmp}
 use Rattle.std.specs.Cmp.{nat_cmp_total}
@@ -10,12 +11,14 @@ use Rattle.ll_rights.specs.declared.kind.Kind.{Kind}
 use Rattle.ll_rights.specs.declared.kind.Kind.TheVariants.{Dir}
 use Rattle.ll_rights.specs.MapCodes.{same_list_map}
 use Rattle.ll_rights.specs.Map.{Map, empty, entries, get, has, insert, remove}
-use Rattle.ll_rights.proofs.Maps.{equal_at, get-insert, get-insert_same, get-remove, get-remove_other, get-insert_other, insert_cases, same_map}
+use Rattle.ll_rights.proofs.Maps.{equal_at, get-insert, get-insert_same, get-remove, get-remove_other, get-insert_other}
+use Rattle.ll_rights.proofs.Maps.{insert_cases, same_map}
 use Rattle.ll_path.specs.Path.{Path}
 use Rattle.ll_seq.specs.declared.client.ClientRecord.{ClientRecord}
 use Rattle.ll_seq.specs.declared.dentries.Dentry.{Dentry}
 use Rattle.ll_seq.specs.declared.node.Node.{Node}
-use Rattle.ll_seq.specs.State.{State, bytes_of, child, dentry, dentry_cmp, empty_node, is_open, kind_of, name_count, root, start}
+use Rattle.ll_seq.specs.State.{State, bytes_of, child, dentry, dentry_cmp, empty_node, is_open, kind_of, name_count}
+use Rattle.ll_seq.specs.State.{root, start}
 use Rattle.ll_seq.specs.Tree.{end_from}
 use Rattle.ll_seq.specs.Reach.{HasName}
 use Rattle.ll_seq.specs.Effects.{with_bytes, with_node, with_name, without_name, with_moved, lives, let_go}
@@ -71,12 +74,14 @@ module _ (s : State) (h : HasNodes s) where
         omega arith)
   ]
 
-  along : (inode : ℕ) (path : Path) (from : ℕ) → has s.nodes from ≡ true → end_from s path from ≡ Some inode → has s.nodes inode ≡ true
+  along : (inode : ℕ) (path : Path) (from : ℕ) → has s.nodes from ≡ true → end_from s path from ≡ Some inode
+      → has s.nodes inode ≡ true
   along inode [] from there e = let same : from ≡ inode = cc e in ap (has s.nodes) (sym same) ∙ there
   along inode (name ∷ path) from there e = of (child s from name) refl e (along inode path)
     where
       of : (o : Option ℕ) → child s from name ≡ o → option_and_then (end_from s path) o ≡ Some inode
-          → ((j : ℕ) → has s.nodes j ≡ true → end_from s path j ≡ Some inode → has s.nodes inode ≡ true) → has s.nodes inode ≡ true
+          → ((j : ℕ) → has s.nodes j ≡ true → end_from s path j ≡ Some inode → has s.nodes inode ≡ true)
+          → has s.nodes inode ≡ true
       of None is f rest = absurd (cc f)
       of (Some j) is f rest = rest j (child_there (dentry from name) j is) f
 
@@ -86,13 +91,15 @@ module _ (s : State) (h : HasNodes s) where
 -- ---- other names
 
 -- the same kinds, and names for what has a node alone
-nodes_alike : (s t : State) → HasNodes s → ((q : ℕ) → kind_of t q ≡ kind_of s q) → ((q : ℕ) → get s.nodes q ≡ None → name_count t q ≡ 0) → HasNodes t
+nodes_alike : (s t : State) → HasNodes s → ((q : ℕ) → kind_of t q ≡ kind_of s q)
+    → ((q : ℕ) → get s.nodes q ≡ None → name_count t q ≡ 0) → HasNodes t
 nodes_alike s t h kinds named = record {
   root = kinds root ∙ h.root;
   named = λ q none. named q (no_node (get s.nodes q) (sym (kinds q) ∙ ap (option_map (λ (n : Node). n.kind)) none));
 }
 
-pub nodes_name : (s : State) (at : Dentry) (inode : ℕ) → HasNodes s → has s.nodes inode ≡ true → get s.entries at ≡ None → HasNodes (with_name s at inode)
+pub nodes_name : (s : State) (at : Dentry) (inode : ℕ) → HasNodes s → has s.nodes inode ≡ true → get s.entries at ≡ None
+    → HasNodes (with_name s at inode)
 nodes_name s at inode h there free =
     nodes_alike s (with_name s at inode) h (λ q. refl) (λ q none.
     let before = h.named q none in
@@ -100,7 +107,8 @@ nodes_name s at inode h there free =
     let other = ap bit (differ s inode q there none) in
     omega arith)
 
-pub nodes_taken : (s : State) (at : Dentry) (inode : ℕ) → HasNodes s → get s.entries at ≡ Some inode → HasNodes (record s { entries = remove s.entries at })
+pub nodes_taken : (s : State) (at : Dentry) (inode : ℕ) → HasNodes s → get s.entries at ≡ Some inode
+    → HasNodes (record s { entries = remove s.entries at })
 nodes_taken s at inode h there =
     nodes_alike s (record s { entries = remove s.entries at }) h (λ q. refl) (λ q none.
     let before = h.named q none in
@@ -114,21 +122,32 @@ still_none false o none = none
 module _ (s : State) (old new : Dentry) (inode : ℕ) (h : HasNodes s) (there : get s.entries old ≡ Some inode) where
   pub nodes_moved : get s.entries new ≡ None → HasNodes (with_moved s old new inode)
   nodes_moved free =
-      nodes_name (record s { entries = remove s.entries old }) new inode (nodes_taken s old inode h there) (child_there s h old inode there)
-      (get-remove dentry_total dentry_exact s.entries old new ∙ still_none (eq_by_cmp dentry_cmp new old) (get s.entries new) free)
+      nodes_name (record s { entries = remove s.entries old }) new inode (nodes_taken s old inode h there)
+      (child_there s h old inode there)
+      (get-remove dentry_total dentry_exact s.entries old new
+      ∙ still_none (eq_by_cmp dentry_cmp new old) (get s.entries new) free)
 
-  pub nodes_over : (replaced : ℕ) → get s.entries new ≡ Some replaced → inode ≢ replaced → HasNodes (with_moved s old new inode)
+  pub nodes_over : (replaced : ℕ) → get s.entries new ≡ Some replaced → inode ≢ replaced
+      → HasNodes (with_moved s old new inode)
   nodes_over replaced taken unequal =
-      let other : get (remove s.entries old) new ≡ Some replaced = get-remove_other dentry_total dentry_exact s.entries old new (two_keys s.entries new old (Some replaced) (Some inode) taken there (λ e. unequal (cc e))) ∙ taken in
+      let other : get (remove s.entries old) new ≡ Some replaced =
+      get-remove_other dentry_total dentry_exact s.entries old new
+      (two_keys s.entries new old (Some replaced) (Some inode) taken there (λ e. unequal (cc e))) ∙ taken in
       nodes_alike s (with_moved s old new inode) h (λ q. refl) (λ q none.
       let before = h.named q none in
       let less = links-less s.entries old q inode there in
       let over = links-over (remove s.entries old) new q inode replaced other in
       omega arith)
 
-  pub nodes_exchanged : (second : ℕ) → get s.entries new ≡ Some second → HasNodes (with_name (with_name s new inode) old second)
+  pub nodes_exchanged : (second : ℕ) → get s.entries new ≡ Some second
+      → HasNodes (with_name (with_name s new inode) old second)
   nodes_exchanged second beside =
-      let still : get (insert s.entries new inode) old ≡ Some inode = elim (insert_cases dentry_total dentry_exact s.entries new inode old) [ inl here ↦ here.1 | inr away ↦ away.1 ∙ there ] in
+      let still : get (insert s.entries new inode) old ≡ Some inode =
+      elim (insert_cases dentry_total dentry_exact s.entries new inode old) [
+        | inl here ↦ here.1
+        | inr away ↦ away.1
+            ∙ there
+      ] in
       nodes_alike s (with_name (with_name s new inode) old second) h (λ q. refl) (λ q none.
       let before = h.named q none in
       let one = links-over s.entries new q inode second beside in
@@ -139,10 +158,12 @@ module _ (s : State) (old new : Dentry) (inode : ℕ) (h : HasNodes s) (there : 
 
 -- ---- other nodes
 
-pub nodes_node : (s : State) (kind : Kind) (at : Dentry) → HasNodes s → get s.nodes s.next ≡ None → get s.entries at ≡ None → HasNodes (with_node s kind at)
+pub nodes_node : (s : State) (kind : Kind) (at : Dentry) → HasNodes s → get s.nodes s.next ≡ None
+    → get s.entries at ≡ None → HasNodes (with_node s kind at)
 nodes_node s kind at h new free = record {
   root = ap (option_map (λ (n : Node). n.kind))
-      (get-insert_other nat_cmp_total nat_cmp-IsAntisymmetric s.nodes s.next (empty_node kind) root (λ e. absurd (cc (sym (root_there s h) ∙ ap is_some (ap (get s.nodes) e ∙ new)))))
+      (get-insert_other nat_cmp_total nat_cmp-IsAntisymmetric s.nodes s.next (empty_node kind) root
+      (λ e. absurd (cc (sym (root_there s h) ∙ ap is_some (ap (get s.nodes) e ∙ new)))))
       ∙ h.root;
   named = λ q none. elim (insert_cases nat_cmp_total nat_cmp-IsAntisymmetric s.nodes s.next (empty_node kind) q) [
     | inl here ↦ absurd (cc (sym here.1 ∙ none))
@@ -162,7 +183,8 @@ unkept false false o e = absurd (cc e)
 pub nodes_let_go : (s : State) (inode : ℕ) → HasNodes s → HasNodes (let_go s inode)
 nodes_let_go s inode h = of (lives s inode) refl
   where
-    left : lives s inode ≡ false → (q : ℕ) (b : Bool) → eq_by_cmp nat_cmp q inode ≡ b → cond b None (get s.nodes q) ≡ None → name_count s q ≡ 0
+    left : lives s inode ≡ false → (q : ℕ) (b : Bool) → eq_by_cmp nat_cmp q inode ≡ b
+        → cond b None (get s.nodes q) ≡ None → name_count s q ≡ 0
     left dead q true tied none =
         ap (name_count s) (nat_cmp-IsAntisymmetric q inode (equal_at _ tied))
         ∙ eqb-true (name_count s inode) 0 (unkept (inode == root) (name_count s inode == 0) (is_open s inode) dead).1
@@ -173,9 +195,11 @@ nodes_let_go s inode h = of (lives s inode) refl
     of false dead = record {
       root = ap (option_map (λ (n : Node). n.kind))
           (get-remove_other nat_cmp_total nat_cmp-IsAntisymmetric s.nodes inode root
-          (λ e. absurd (cc (sym (eq-eqb inode root (sym e)) ∙ (unkept (inode == root) (name_count s inode == 0) (is_open s inode) dead).0))))
+          (λ e. absurd (cc (sym (eq-eqb inode root (sym e))
+          ∙ (unkept (inode == root) (name_count s inode == 0) (is_open s inode) dead).0))))
           ∙ h.root;
-      named = λ q none. left dead q (eq_by_cmp nat_cmp q inode) refl (sym (get-remove nat_cmp_total nat_cmp-IsAntisymmetric s.nodes inode q) ∙ none);
+      named = λ q none. left dead q (eq_by_cmp nat_cmp q inode) refl
+          (sym (get-remove nat_cmp_total nat_cmp-IsAntisymmetric s.nodes inode q) ∙ none);
     }
 
 -- ---- a node taken away where nothing keeps it
@@ -185,7 +209,8 @@ module _ (s : State) (inode : ℕ) (goes : Bool) (is : has s.nodes inode ≡ tru
   taken_away = record s { nodes = remove s.nodes inode }
 
   same_nodes : get s.nodes inode ≡ None → taken_away ≡ s
-  same_nodes none = ap (λ m. record s { nodes = m }) (remove-absent nat_cmp_total nat_cmp-IsAntisymmetric s.nodes inode none)
+  same_nodes none = ap (λ m. record s { nodes = m })
+      (remove-absent nat_cmp_total nat_cmp-IsAntisymmetric s.nodes inode none)
 
   goes_so : goes ≡ true → taken_away ≡ let_go s inode
   goes_so true_is = elim (there_or_not s inode) [
@@ -215,43 +240,59 @@ module _ (s : State) (inode : ℕ) (goes : Bool) (is : has s.nodes inode ≡ tru
       absent true none = refl
       absent false none = sym (same_nodes none)
 
-  pub left_so : (nodes : Map nat_cmp Node) → nodes ≡ (if goes then remove s.nodes inode else s.nodes) → record s { nodes = nodes } ≡ let_go s inode
+  pub left_so : (nodes : Map nat_cmp Node) → nodes ≡ (if goes then remove s.nodes inode else s.nodes)
+      → record s { nodes = nodes } ≡ let_go s inode
   left_so nodes left = of goes refl
     where
       of : (b : Bool) → goes ≡ b → record s { nodes = nodes } ≡ let_go s inode
-      of true e = ap (λ m. record s { nodes = m }) (left ∙ ap (λ b. if b then remove s.nodes inode else s.nodes) e) ∙ goes_so e
-      of false e = ap (λ m. record s { nodes = m }) (left ∙ ap (λ b. if b then remove s.nodes inode else s.nodes) e) ∙ stays_so e
+      of true e = ap (λ m. record s { nodes = m }) (left ∙ ap (λ b. if b then remove s.nodes inode else s.nodes) e)
+          ∙ goes_so e
+      of false e = ap (λ m. record s { nodes = m }) (left ∙ ap (λ b. if b then remove s.nodes inode else s.nodes) e)
+          ∙ stays_so e
 
 -- ---- other bytes
 
 nodes_bytes : (s : State) (inode : ℕ) (bytes : List ℕ) → HasNodes s → HasNodes (with_bytes s inode bytes)
 nodes_bytes s inode bytes h = of (get s.nodes inode) refl
   where
-    of : (o : Option Node) → get s.nodes inode ≡ o → HasNodes (option_map_or (λ (n : Node). record s { nodes = insert s.nodes inode (record n { bytes = bytes }) }) o s)
+    of : (o : Option Node) → get s.nodes inode ≡ o
+        → HasNodes (option_map_or (λ (n : Node). record s { nodes = insert s.nodes inode (record n { bytes = bytes }) })
+        o s)
     of None is = h
     of (Some n) is =
         nodes_alike s (record s { nodes = insert s.nodes inode (record n { bytes = bytes }) }) h
         (λ q. elim (insert_cases nat_cmp_total nat_cmp-IsAntisymmetric s.nodes inode (record n { bytes = bytes }) q) [
-          | inl here ↦ ap (option_map (λ (m : Node). m.kind)) here.1 ∙ sym (ap (option_map (λ (m : Node). m.kind)) (ap (get s.nodes) here.0 ∙ is))
+          | inl here ↦ ap (option_map (λ (m : Node). m.kind)) here.1
+              ∙ sym (ap (option_map (λ (m : Node). m.kind)) (ap (get s.nodes) here.0 ∙ is))
           | inr away ↦ ap (option_map (λ (m : Node). m.kind)) away.1
         ])
         h.named
 
-pub tied_bytes : (s : State) (f : Map nat_cmp Fact) (inode : ℕ) (change : List ℕ → List ℕ) (nodes : Map nat_cmp Node) → IsTied s f
-    → nodes ≡ option_map_or (λ (n : Node). insert s.nodes inode (record n { bytes = change n.bytes })) (get s.nodes inode) s.nodes → IsTied (record s { nodes = nodes }) f
+pub tied_bytes : (s : State) (f : Map nat_cmp Fact) (inode : ℕ) (change : List ℕ → List ℕ) (nodes : Map nat_cmp Node)
+    → IsTied s f
+    → nodes ≡ option_map_or (λ (n : Node). insert s.nodes inode (record n { bytes = change n.bytes }))
+    (get s.nodes inode) s.nodes → IsTied (record s { nodes = nodes }) f
 tied_bytes s f inode change nodes tied is =
     subst (λ z. IsTied z f) (sym (bytes_changed s s nodes inode change refl is))
-    (record { kept = kept_bytes s f inode (change (bytes_of s inode)) tied.kept; nodes = nodes_bytes s inode (change (bytes_of s inode)) tied.nodes })
+    (record {
+      kept = kept_bytes s f inode (change (bytes_of s inode)) tied.kept;
+      nodes = nodes_bytes s inode (change (bytes_of s inode)) tied.nodes;
+    })
 
 -- ---- other clients
 
-pub tied_with : (s : State) (g : Map nat_cmp Fact) (after clients : Map nat_cmp ClientRecord) → HasNodes s → after ≡ clients → AreKept (record s { clients = clients }) g → IsTied (record s { clients = after }) g
-tied_with s g after clients h is kept = subst (λ m. IsTied (record s { clients = m }) g) (sym is) (record { kept = kept; nodes = record { root = h.root; named = h.named } })
+pub tied_with : (s : State) (g : Map nat_cmp Fact) (after clients : Map nat_cmp ClientRecord) → HasNodes s
+    → after ≡ clients → AreKept (record s { clients = clients }) g → IsTied (record s { clients = after }) g
+tied_with s g after clients h is kept =
+    subst (λ m. IsTied (record s { clients = m }) g) (sym is)
+    (record { kept = kept; nodes = record { root = h.root; named = h.named } })
 
 -- a record with the same descriptors
-pub tied_client : (s : State) (f : Map nat_cmp Fact) (n : ℕ) (after : Map nat_cmp ClientRecord) (c d : ClientRecord) → IsTied s f → get s.clients n ≡ Some c → after ≡ insert s.clients n d → d.descriptors ≡ c.descriptors
+pub tied_client : (s : State) (f : Map nat_cmp Fact) (n : ℕ) (after : Map nat_cmp ClientRecord) (c d : ClientRecord)
+    → IsTied s f → get s.clients n ≡ Some c → after ≡ insert s.clients n d → d.descriptors ≡ c.descriptors
     → IsTied (record s { clients = after }) f
-tied_client s f n after c d tied there is same = tied_with s f after (insert s.clients n d) tied.nodes is (kept_client s f f n c tied.kept there d same)
+tied_client s f n after c d tied there is same =
+    tied_with s f after (insert s.clients n d) tied.nodes is (kept_client s f f n c tied.kept there d same)
 
 -- ---- the root alone
 
@@ -261,13 +302,15 @@ no_links q = refl
 
 pub nodes_start : (rules : Rules) (room : ℕ) → HasNodes (start rules room)
 nodes_start rules room = record {
-  root = ap (option_map (λ (n : Node). n.kind)) (get-insert_same nat_cmp_total nat_cmp-IsAntisymmetric empty root (empty_node Dir));
+  root = ap (option_map (λ (n : Node). n.kind))
+      (get-insert_same nat_cmp_total nat_cmp-IsAntisymmetric empty root (empty_node Dir));
   named = λ q none. no_links q;
 }
 
 -- ---- a node made, and its one name taken again
 
-back_again : (m : Map dentry_cmp ℕ) (k q : Dentry) (v : ℕ) (b : Bool) → get m k ≡ None → eq_by_cmp dentry_cmp q k ≡ b → cond b None (cond b (Some v) (get m q)) ≡ get m q
+back_again : (m : Map dentry_cmp ℕ) (k q : Dentry) (v : ℕ) (b : Bool) → get m k ≡ None → eq_by_cmp dentry_cmp q k ≡ b
+    → cond b None (cond b (Some v) (get m q)) ≡ get m q
 back_again m k q v true none tied = sym none ∙ ap (get m) (sym (dentry_exact q k (equal_at _ tied)))
 back_again m k q v false none tied = refl
 
@@ -280,7 +323,8 @@ name_back m k v none =
 
 module _ (s : State) (h : HasNodes s) (unused : IsUnused s s.next) where
   not_root : (s.next == root) ≡ false
-  not_root = unlike s.next root (λ e. absurd (cc (sym (root_there s h) ∙ ap is_some (ap (get s.nodes) e ∙ unused.node))))
+  not_root = unlike s.next root
+      (λ e. absurd (cc (sym (root_there s h) ∙ ap is_some (ap (get s.nodes) e ∙ unused.node))))
 
   abbrev with_bare : Kind → State
   with_bare kind = record s { nodes = insert s.nodes s.next (empty_node kind); next = s.next + 1 }
@@ -292,29 +336,39 @@ module _ (s : State) (h : HasNodes s) (unused : IsUnused s s.next) where
       ∙ opens_is s s.next ∙ ap (λ n. not (n == 0)) unused.opens
 
   -- nothing but the number is left of it
-  unmade : (kind : Kind) (at : Dentry) → get s.entries at ≡ None → without_name (with_node s kind at) at s.next ≡ record s { next = s.next + 1 }
+  unmade : (kind : Kind) (at : Dentry) → get s.entries at ≡ None
+      → without_name (with_node s kind at) at s.next ≡ record s { next = s.next + 1 }
   unmade kind at free =
       ap (λ m. let_go (record (with_bare kind) { entries = m }) s.next) (name_back s.entries at s.next free)
-      ∙ ap (λ b. if b then with_bare kind else record (with_bare kind) { nodes = remove (with_bare kind).nodes s.next }) (dead kind)
+      ∙ ap (λ b. if b then with_bare kind else record (with_bare kind) { nodes = remove (with_bare kind).nodes s.next })
+      (dead kind)
       ∙ ap (λ m. record s { nodes = m; next = s.next + 1 }) (remove-insert s.nodes s.next (empty_node kind) unused.node)
 
   -- and it is given back
-  number_back : (z : State) (g : Map nat_cmp Fact) → z ≡ record s { next = s.next + 1 } → IsTied z g → (record z { next = z.next - 1 } ≡ s) × IsTied (record z { next = z.next - 1 }) g
+  number_back : (z : State) (g : Map nat_cmp Fact) → z ≡ record s { next = s.next + 1 } → IsTied z g
+      → (record z { next = z.next - 1 } ≡ s) × IsTied (record z { next = z.next - 1 }) g
   number_back z g is tied =
       let less : s.next + 1 - 1 ≡ s.next = omega arith in
-      let same : record z { next = z.next - 1 } ≡ s = ap (λ (y : State). record y { next = y.next - 1 }) is ∙ ap (λ n. record s { next = n }) less in
+      let same : record z { next = z.next - 1 } ≡ s =
+      ap (λ (y : State). record y { next = y.next - 1 }) is ∙ ap (λ n. record s { next = n }) less in
       (same, subst (λ y. IsTied y g) (sym same) (before (subst (λ y. IsTied y g) is tied)))
     where
       later : AreKept (record s { next = s.next + 1 }) g → (q : ℕ) → s.next ≤ q → IsUnused s q
       later kept q past = elim (cases_lt s.next q) [
-        | inl more ↦ (let u = kept.unused q (omega arith) in record { node = u.node; names = u.names; links = u.links; opens = u.opens })
+        | inl more ↦ (let u = kept.unused q (omega arith)
+            in record { node = u.node; names = u.names; links = u.links; opens = u.opens })
         | inr less ↦ (let same : s.next ≡ q = omega arith in subst (IsUnused s) same unused)
       ]
 
       before : IsTied (record s { next = s.next + 1 }) g → IsTied s g
-      before t = record { kept = record { told = t.kept.told; unused = later t.kept }; nodes = record { root = t.nodes.root; named = t.nodes.named } }
+      before t = record {
+        kept = record { told = t.kept.told; unused = later t.kept };
+        nodes = record { root = t.nodes.root; named = t.nodes.named };
+      }
 
   -- so all is as before where a node is made, and its name taken again
-  pub as_before : (kind : Kind) (at : Dentry) → get s.entries at ≡ None → (made left : State) (g : Map nat_cmp Fact) → made ≡ with_node s kind at → left ≡ without_name made at s.next → IsTied left g
+  pub as_before : (kind : Kind) (at : Dentry) → get s.entries at ≡ None → (made left : State) (g : Map nat_cmp Fact)
+      → made ≡ with_node s kind at → left ≡ without_name made at s.next → IsTied left g
       → (record left { next = left.next - 1 } ≡ s) × IsTied (record left { next = left.next - 1 }) g
-  as_before kind at free made left g is taken tied = number_back left g (taken ∙ ap (λ z. without_name z at s.next) is ∙ unmade kind at free) tied
+  as_before kind at free made left g is taken tied =
+      number_back left g (taken ∙ ap (λ z. without_name z at s.next) is ∙ unmade kind at free) tied

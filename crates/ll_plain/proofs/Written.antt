@@ -1,5 +1,6 @@
 -- The files of descriptors, and what is written to them.
-use Rattle.std.specs.Prelude.{◌≡◌, ℕ, zero, suc, ◌<◌, ◌==◌, ◌&&◌, nat_lt, Bool, true, false, if◌then◌else◌, Option, Some, None, List, [], length, refl}
+use Rattle.std.specs.Prelude.{◌≡◌, ℕ, zero, suc, ◌<◌, ◌==◌, ◌&&◌, nat_lt, Bool, true, false, if◌then◌else◌, Option}
+use Rattle.std.specs.Prelude.{Some, None, List, [], length, refl}
 use Rattle.std.proofs.Common.{ap, sym, ◌∙◌, arith}
 use Rattle.std.proofs.lemmas.Bool.{eqb-true, eqb-false, lt-ltb}
 use Rattle.std.specs.Option.{option_map_or}
@@ -17,7 +18,8 @@ use Rattle.ll_seq.specs.Effects.{inode_at, overwritten, with_bytes, written}
 
 -- ---- the file of a descriptor
 
-pub file_is : (c : ClientRecord) (number : ℕ) (d : Descriptor) → get c.descriptors number ≡ Some d → d.inode ≡ inode_at c number
+pub file_is : (c : ClientRecord) (number : ℕ) (d : Descriptor) → get c.descriptors number ≡ Some d
+    → d.inode ≡ inode_at c number
 file_is c number d there = sym (ap (λ o. option_map_or (λ (e : Descriptor). e.inode) o 0) there)
 
 -- ---- how much is written
@@ -35,15 +37,22 @@ some_bytes n e = let other = eqb-false n 0 e in lt-ltb 0 n (above n other)
     above zero none = absurd (none refl)
     above (suc n) none = omega arith
 
-pub too_long_if : (n : ℕ) (test answer : Bool) → (n == 0) ≡ false → test ≡ answer → refuse (nat_lt 0 n && test) EFBIG ≡ refuse answer EFBIG
+pub too_long_if : (n : ℕ) (test answer : Bool) → (n == 0) ≡ false → test ≡ answer
+    → refuse (nat_lt 0 n && test) EFBIG ≡ refuse answer EFBIG
 too_long_if n test answer some is = λ i. refuse (some_bytes n some i && is i) EFBIG
 
-pub writes_nothing : (s : State) (inode offset : ℕ) (bytes : List ℕ) → (length bytes == 0) ≡ true → ◌≡◌ {A = Reply × State} (Wrote 0, s) (Wrote (length bytes), written s inode offset bytes)
+pub writes_nothing : (s : State) (inode offset : ℕ) (bytes : List ℕ) → (length bytes == 0) ≡ true
+    → ◌≡◌ {A = Reply × State} (Wrote 0, s) (Wrote (length bytes), written s inode offset bytes)
 writes_nothing s inode offset bytes e =
-    λ i. (Wrote (sym (no_bytes (length bytes) e) i), if sym e i then s else with_bytes s inode (overwritten (bytes_of s inode) offset bytes))
+    λ i. (
+      Wrote (sym (no_bytes (length bytes) e) i),
+      if sym e i then s else with_bytes s inode (overwritten (bytes_of s inode) offset bytes),
+    )
 
-pub writes_some : (s after : State) (inode file offset : ℕ) (bytes put : List ℕ) (n : ℕ) → (length bytes == 0) ≡ false → n ≡ length bytes → put ≡ bytes → file ≡ inode
-    → after ≡ with_bytes s file (overwritten (bytes_of s file) offset put) → ◌≡◌ {A = Reply × State} (Wrote n, after) (Wrote (length bytes), written s inode offset bytes)
+pub writes_some : (s after : State) (inode file offset : ℕ) (bytes put : List ℕ) (n : ℕ) → (length bytes == 0) ≡ false
+    → n ≡ length bytes → put ≡ bytes → file ≡ inode
+    → after ≡ with_bytes s file (overwritten (bytes_of s file) offset put)
+    → ◌≡◌ {A = Reply × State} (Wrote n, after) (Wrote (length bytes), written s inode offset bytes)
 writes_some s after inode file offset bytes put n e len same here is =
     λ i. (
       Wrote (len i),
@@ -54,11 +63,19 @@ writes_some s after inode file offset bytes put n e len same here is =
 -- ---- other bytes in the table
 
 pub bytes_changed : (a s : State) (nodes : Map nat_cmp Node) (inode : ℕ) (f : List ℕ → List ℕ) → a ≡ s
-    → nodes ≡ option_map_or (λ (n : Node). insert a.nodes inode (record n { bytes = f n.bytes })) (get a.nodes inode) a.nodes
+    → nodes ≡ option_map_or (λ (n : Node). insert a.nodes inode (record n { bytes = f n.bytes })) (get a.nodes inode)
+    a.nodes
     → record a { nodes = nodes } ≡ with_bytes s inode (f (bytes_of s inode))
-bytes_changed a s nodes inode f is same = ap (λ m. record a { nodes = m }) same ∙ ap (λ (z : State). record z { nodes = option_map_or (λ (n : Node). insert z.nodes inode (record n { bytes = f n.bytes })) (get z.nodes inode) z.nodes }) is ∙ of (get s.nodes inode)
+bytes_changed a s nodes inode f is same =
+    ap (λ m. record a { nodes = m }) same
+    ∙ ap (λ (z : State). record z {
+      nodes = option_map_or (λ (n : Node). insert z.nodes inode (record n { bytes = f n.bytes })) (get z.nodes inode)
+          z.nodes;
+    }) is ∙ of (get s.nodes inode)
   where
-    of : (o : Option Node) → record s { nodes = option_map_or (λ (n : Node). insert s.nodes inode (record n { bytes = f n.bytes })) o s.nodes }
-        ≡ option_map_or (λ (n : Node). record s { nodes = insert s.nodes inode (record n { bytes = f (option_map_or (λ (m : Node). m.bytes) o []) }) }) o s
+    of : (o : Option Node) → record s
+        { nodes = option_map_or (λ (n : Node). insert s.nodes inode (record n { bytes = f n.bytes })) o s.nodes }
+        ≡ option_map_or (λ (n : Node). record s
+        { nodes = insert s.nodes inode (record n { bytes = f (option_map_or (λ (m : Node). m.bytes) o []) }) }) o s
     of None = refl
     of (Some n) = refl

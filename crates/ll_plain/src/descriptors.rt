@@ -40,9 +40,12 @@ impl Plain {
 
     /// The client's descriptor, if it may read.
     fn readable(&self, client: u64, number: u64) -> Result<Descriptor, Errno>
-        ensures free { IfOk result (λ file. without (client_of self.now client) number (λ d. d.reads) Errno.EBADF ≡ []) }
+        ensures free { IfOk result (λ file. without (client_of self.now client) number (λ d. d.reads) Errno.EBADF
+            ≡ []) }
         ensures there { IfOk result (λ file. get (client_of self.now client).descriptors number ≡ Some file) }
-        ensures refused { IfErr result (λ errno. slice_get (without (client_of self.now client) number (λ d. d.reads) Errno.EBADF) 0 ≡ Some errno) }
+        ensures refused { IfErr result
+            (λ errno. slice_get (without (client_of self.now client) number (λ d. d.reads) Errno.EBADF) 0
+            ≡ Some errno) }
     {
         match self.descriptor(client, number) {
             None => Err(Errno::EBADF),
@@ -55,7 +58,8 @@ impl Plain {
     fn writable(&self, client: u64, number: u64, otherwise: Errno) -> Result<Descriptor, Errno>
         ensures free { IfOk result (λ file. without (client_of self.now client) number (λ d. d.writes) otherwise ≡ []) }
         ensures there { IfOk result (λ file. get (client_of self.now client).descriptors number ≡ Some file) }
-        ensures refused { IfErr result (λ errno. slice_get (without (client_of self.now client) number (λ d. d.writes) otherwise) 0 ≡ Some errno) }
+        ensures refused { IfErr result
+            (λ errno. slice_get (without (client_of self.now client) number (λ d. d.writes) otherwise) 0 ≡ Some errno) }
     {
         match self.descriptor(client, number) {
             None => Err(Errno::EBADF),

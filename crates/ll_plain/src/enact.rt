@@ -50,7 +50,8 @@ impl Plain {
         requires next { self.old.next < 2 ^ 64 - 1 }
         requires free { lowest_free (client_of self.old client).descriptors ≡ Some opening.now.number }
         requires room { HasRoom self.old opening.now.at }
-        ensures ok { OnOk result (self.new ≡ with_opening self.old client (client_of self.old client) opening.now None) }
+        ensures ok { OnOk result (self.new
+            ≡ with_opening self.old client (client_of self.old client) opening.now None) }
         ensures err { OnErr result (self.new ≡ self.old) }
     {
         let inode = self.next;
@@ -73,7 +74,8 @@ impl Plain {
         requires caller { has self.old.clients client ≡ true }
         requires free { lowest_free (client_of self.old client).descriptors ≡ Some opening.now.number }
         requires named { HasName self.old inode }
-        ensures ok { OnOk result (self.new ≡ with_opening self.old client (client_of self.old client) opening.now (Some inode)) }
+        ensures ok { OnOk result (self.new
+            ≡ with_opening self.old client (client_of self.old client) opening.now (Some inode)) }
         ensures err { OnErr result (self.new ≡ self.old) }
     {
         // What has a name has a node, by what the tables keep.
@@ -89,7 +91,8 @@ impl Plain {
     fn allow(&mut self, client: u64, rule: &Rule) -> Result<(), AllocError>
         requires caller { has self.old.clients client ≡ true }
         requires fits { FitsRule self.old (client_of self.old client) rule.now }
-        ensures ok { OnOk result (self.new ≡ with_client self.old client (with_rule_of (client_of self.old client) rule.now)) }
+        ensures ok { OnOk result (self.new
+            ≡ with_client self.old client (with_rule_of (client_of self.old client) rule.now)) }
         ensures err { OnErr result (self.new ≡ self.old) }
     {
         if let Err(_) = self

@@ -50,9 +50,25 @@ impl Model for Plain {
 
     ghost coded = { coded_state };
 
-    ghost view = { λ tree. record { entries = tree.entries; nodes = tree.nodes; next = tree.next; room = tree.room; rules = tree.rules; clients = tree.clients } };
+    ghost view = { λ tree.
+        record {
+          entries = tree.entries;
+          nodes = tree.nodes;
+          next = tree.next;
+          room = tree.room;
+          rules = tree.rules;
+          clients = tree.clients;
+        } };
 
-    ghost invariant = { λ tree. IsTied (record { entries = tree.entries; nodes = tree.nodes; next = tree.next; room = tree.room; rules = tree.rules; clients = tree.clients }) tree.facts };
+    ghost invariant = { λ tree. IsTied
+        (record {
+          entries = tree.entries;
+          nodes = tree.nodes;
+          next = tree.next;
+          room = tree.room;
+          rules = tree.rules;
+          clients = tree.clients;
+        }) tree.facts };
 }
 
 impl Plain {
@@ -87,11 +103,13 @@ impl Plain {
         requires fresh { call.now ≡ Call.Spawn → has self.old.clients fresh ≡ false }
         requires next { self.old.next < 2 ^ 64 - 1 }
 
-        ensures step { result ≢ Reply.Refused Errno.NoMemory → ◌≡◌ {A = Reply × State} (result, self.new) (step self.old client call.now fresh) }
+        ensures step { result ≢ Reply.Refused Errno.NoMemory
+            → ◌≡◌ {A = Reply × State} (result, self.new) (step self.old client call.now fresh) }
         ensures no_memory { result ≡ Reply.Refused Errno.NoMemory → self.new ≡ self.old }
 
         // Want of memory comes only where nothing else refuses the call.
-        ensures starved { result ≡ Reply.Refused Errno.NoMemory → refusals self.old (client_of self.old client) call.now ≡ [] }
+        ensures starved { result ≡ Reply.Refused Errno.NoMemory
+            → refusals self.old (client_of self.old client) call.now ≡ [] }
 
         // A call that takes no memory never answers for want of it.
         ensures memory { takes_memory call.now ≡ false → result ≢ Reply.Refused Errno.NoMemory }
@@ -100,8 +118,10 @@ impl Plain {
         ensures answers { IsAnswer result }
         ensures kept { is_refusal result ≡ true → self.new ≡ self.old }
         ensures clients_stay { (other : ℕ) → has self.old.clients other ≡ true → has self.new.clients other ≡ true }
-        ensures no_other_client { (other : ℕ) → other ≢ client → result ≢ Reply.Spawned other → has self.new.clients other ≡ has self.old.clients other }
-        ensures spawned { (number : ℕ) → result ≡ Reply.Spawned number → (number ≡ fresh) × (has self.new.clients number ≡ true) }
+        ensures no_other_client { (other : ℕ) → other ≢ client → result ≢ Reply.Spawned other
+            → has self.new.clients other ≡ has self.old.clients other }
+        ensures spawned { (number : ℕ) → result ≡ Reply.Spawned number → (number ≡ fresh)
+            × (has self.new.clients number ≡ true) }
         ensures numbers { self.new.next ≤ self.old.next + 1 }
     {
         let told = self.reply(client, call, fresh);

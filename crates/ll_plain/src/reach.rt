@@ -21,7 +21,8 @@ impl Plain {
         ensures unnamed { IfNone result (HasName self.now inode → ⊥) }
         ensures named { IfSome result (λ rights. HasName self.now inode) }
         ensures known { IfSome result (λ rights. rights.0 < 2 ^ 15) }
-        ensures rights { IfSome result (λ rights. (layer : layers.Layer) → slice_get domain.now (number - 1) ≡ Some layer →
+        ensures rights { IfSome result (λ rights. (layer : layers.Layer)
+            → slice_get domain.now (number - 1) ≡ Some layer →
             (right : ℕ) → IsTrue (holds rights.0 right) ↔ InReach self.now layer inode right) }
     {
         let layer = &domain.layers()[number - 1];

@@ -30,7 +30,8 @@ impl Plain {
     /// The walk along the call's path, or those along both.
     fn walks(&self, domain: &Domain, call: &Call) -> (PathWalk, Option<PathWalk>)
         ensures first { IsPathWalk self.now domain.now (first_path call.now) result.0 }
-        ensures second { MatchOption result.1 (second_path call.now ≡ first_path call.now) (IsPathWalk self.now domain.now (second_path call.now)) }
+        ensures second { MatchOption result.1 (second_path call.now ≡ first_path call.now)
+            (IsPathWalk self.now domain.now (second_path call.now)) }
     {
         match targets_of(call) {
             Targets::No => (self.walk_root(domain), None),
@@ -53,7 +54,8 @@ impl Plain {
         requires path { has_path call.now ≡ true }
         requires first { IsPathWalk self.now caller.now.domain (first_path call.now) first.now }
         requires second { IsPathWalk self.now caller.now.domain (second_path call.now) second.now }
-        ensures { (client : ℕ) → client_of self.now client ≡ caller.now → MatchResult result (IsDone self.now client call.now) (IsRefused self.now client call.now) }
+        ensures { (client : ℕ) → client_of self.now client ≡ caller.now
+            → MatchResult result (IsDone self.now client call.now) (IsRefused self.now client call.now) }
     {
         let found = Found {
             first: first.spot,

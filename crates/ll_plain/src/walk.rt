@@ -41,7 +41,8 @@ pub struct PathWalk {
 
 /// The first of two refusals.
 fn first(one: Option<Errno>, other: Option<Errno>) -> Option<Errno>
-    ensures { (ones others : List errno.Errno) → one ≡ slice_get ones 0 → other ≡ slice_get others 0 → result ≡ slice_get (ones ++ others) 0 }
+    ensures { (ones others : List errno.Errno) → one ≡ slice_get ones 0 → other ≡ slice_get others 0
+        → result ≡ slice_get (ones ++ others) 0 }
 {
     match one {
         Some(errno) => Some(errno),
@@ -52,7 +53,8 @@ fn first(one: Option<Errno>, other: Option<Errno>) -> Option<Errno>
 /// What is granted with one node more on the chain, if there is one.
 fn granted_at(domain: &Domain, mut masks: Masks, node: Option<u64>) -> Masks
     requires { length masks ≡ length domain.now }
-    ensures masks { (inodes : List ℕ) → AreMasks masks domain.now inodes → AreMasks result domain.now (inodes ++ option_map_or (λ j. j ∷ []) node []) }
+    ensures masks { (inodes : List ℕ) → AreMasks masks domain.now inodes
+        → AreMasks result domain.now (inodes ++ option_map_or (λ j. j ∷ []) node []) }
     ensures len { length result ≡ length domain.now }
 {
     if let Some(inode) = node {
@@ -96,7 +98,8 @@ impl Plain {
     /// The walk along one name more.
     fn step(&self, domain: &Domain, walk: Walk, name: &str) -> Walk
         requires { length walk.masks ≡ length domain.now }
-        ensures { (names : Path) → IsWalk self.now domain.now names walk → IsWalk self.now domain.now (names ++ name.now ∷ []) result }
+        ensures { (names : Path) → IsWalk self.now domain.now names walk
+            → IsWalk self.now domain.now (names ++ name.now ∷ []) result }
     {
         let Some(directory) = walk.end else {
             return walk;

@@ -1,9 +1,11 @@
 //! What one change writes into the tables.
 
-ghost use Rattle.std.specs.Prelude.{◌≡◌, ◌<◌, ◌-◌, ◌+◌, ◌^◌, [], Some, true, OnOk, OnErr, IfOk, if◌then◌else◌, is_some, length};
+ghost use Rattle.std.specs.Prelude.{◌≡◌, ◌<◌, ◌-◌, ◌+◌, ◌^◌, [], Some, true, OnOk, OnErr, IfOk, if◌then◌else◌, is_some};
+ghost use Rattle.std.specs.Prelude.{length};
 ghost use Rattle.ll_rights.specs.Map.{get, has, insert, remove};
 ghost use Rattle.ll_seq.specs.State.{bytes_of, child};
-ghost use Rattle.ll_seq.specs.Effects.{let_go, overwritten, resized, with_bytes, with_client, with_moved, with_name, with_node, without_name};
+ghost use Rattle.ll_seq.specs.Effects.{let_go, overwritten, resized, with_bytes, with_client, with_moved, with_name};
+ghost use Rattle.ll_seq.specs.Effects.{with_node, without_name};
 ghost use Rattle.ll_seq.specs.Stages.{lowest_free};
 ghost use Rattle.ll_seq.specs.Step.{client_of};
 ghost use Rattle.ll_answer.specs.Effect.{FitsExchange, FitsMove, FitsName, FitsReplace, HasRoom, dentry_at};
@@ -91,8 +93,8 @@ impl Plain {
         Ok(())
     }
 
-    /// The node has the new name in the place of the old one, and another node loses it, and goes where nothing keeps it
-    /// alive.
+    /// The node has the new name in the place of the old one, and another node loses it, and goes where nothing keeps
+    /// it alive.
     pub(crate) fn move_over(&mut self, old: &At<'_>, new: &At<'_>, inode: u64, replaced: u64)
         requires { FitsReplace self.old old.now new.now inode replaced }
         ensures { self.new ≡ let_go (with_moved self.old (dentry_at old.now) (dentry_at new.now) inode) replaced }
@@ -133,7 +135,8 @@ impl Plain {
     /// These bytes come into the node's, from the offset on.
     pub(crate) fn put(&mut self, inode: u64, offset: usize, bytes: &[u8]) -> Result<(), AllocError>
         requires { offset + length bytes.now < 2 ^ 64 }
-        ensures ok { OnOk result (self.new ≡ with_bytes self.old inode (overwritten (bytes_of self.old inode) offset bytes.now)) }
+        ensures ok { OnOk result (self.new
+            ≡ with_bytes self.old inode (overwritten (bytes_of self.old inode) offset bytes.now)) }
         ensures err { OnErr result (self.new ≡ self.old) }
     {
         self.nodes.write(inode, offset, bytes)?;
@@ -146,7 +149,10 @@ impl Plain {
         requires free { is_some (lowest_free (client_of self.old client).descriptors) ≡ true }
         requires there { has self.old.nodes file.inode ≡ true }
         ensures free { IfOk result (λ number. lowest_free (client_of self.old client).descriptors ≡ Some number) }
-        ensures ok { IfOk result (λ number. self.new ≡ with_client self.old client (record (client_of self.old client) { descriptors = insert (client_of self.old client).descriptors number file })) }
+        ensures ok { IfOk result (λ number. self.new
+            ≡ with_client self.old client
+            (record (client_of self.old client)
+            { descriptors = insert (client_of self.old client).descriptors number file })) }
         ensures err { OnErr result (self.new ≡ self.old) }
     {
         if !self.facts.has_room(file.inode) {
@@ -163,7 +169,9 @@ impl Plain {
     pub(crate) fn free(&mut self, client: u64, number: u64, file: Descriptor)
         requires caller { has self.old.clients client ≡ true }
         requires there { get (client_of self.old client).descriptors number ≡ Some file }
-        ensures { self.new ≡ let_go (with_client self.old client (record (client_of self.old client) { descriptors = remove (client_of self.old client).descriptors number })) file.inode }
+        ensures { self.new ≡ let_go (with_client self.old client
+            (record (client_of self.old client)
+            { descriptors = remove (client_of self.old client).descriptors number })) file.inode }
     {
         self.clients.close(client, number);
         let goes = self.facts.close(file.inode);

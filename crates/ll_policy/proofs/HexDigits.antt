@@ -1,5 +1,6 @@
 -- Bytes by their digits.
-use Rattle.std.proofs.Common.{arith, ◌≡◌, ◌==◌, ◌%◌, ℕ, true, ◌&&◌, nat_le, List, [], ◌∷◌, length, None, Ok, refl, ap, ◌∙◌}
+use Rattle.std.proofs.Common.{arith, ◌≡◌, ◌==◌, ◌%◌, ℕ, true, ◌&&◌, nat_le, List, [], ◌∷◌, length, None, Ok, refl, ap}
+use Rattle.std.proofs.Common.{◌∙◌}
 use Rattle.std.specs.Prelude.{unwrap_or, option_and_then}
 use Rattle.std.specs.List.{list_all}
 use Rattle.std.specs.Result.{result_unwrap_or}
@@ -18,14 +19,16 @@ decode_of-nothing = refl
 
 pub bytes_of_nothing : (key : List ℕ) (t : Members) → get_member key t ≡ None → bytes_at key t ≡ []
 bytes_of_nothing key t none =
-    ap (λ o. result_unwrap_or (decode_of (unwrap_or (option_and_then as_str o) [])) []) none ∙ ap (λ r. result_unwrap_or r []) decode_of-nothing
+    ap (λ o. result_unwrap_or (decode_of (unwrap_or (option_and_then as_str o) [])) []) none
+    ∙ ap (λ r. result_unwrap_or r []) decode_of-nothing
 
 hex_digit : (b : ℕ) → is_digit b ≡ true → is_hex_digit b ≡ true
 hex_digit b e = grind (arith, nat_tests)
 
 all_hex : (text : List ℕ) → list_all is_digit text ≡ true → list_all is_hex_digit text ≡ true
 all_hex [] e = refl
-all_hex (b ∷ text) e = let parts = and_parts (is_digit b) (list_all is_digit text) e in rw (hex_digit b parts.0) (all_hex text parts.1)
+all_hex (b ∷ text) e = let parts = and_parts (is_digit b) (list_all is_digit text) e in
+    rw (hex_digit b parts.0) (all_hex text parts.1)
 
 pub decodes : (text : List ℕ) → are_bytes text ≡ true → (bytes : List ℕ) × (decode_of text ≡ Ok bytes)
 decodes text e =

@@ -15,9 +15,11 @@ abbrev pub tables_in : List Value → List Members
 tables_in values = tables_of (items_view values)
 
 pub tables_in-drop : (values : List Value) (i : ℕ) (d : Value) → i < length values
-    → tables_in (drop i values) ≡ option_to_list (as_table (view (get_or values i d))) ++ tables_in (drop (i + 1) values)
+    → tables_in (drop i values) ≡ option_to_list (as_table (view (get_or values i d)))
+    ++ tables_in (drop (i + 1) values)
 tables_in-drop values i d low = ap tables_of (items_view-drop values i d low)
 
-pub known_names : (key : List ℕ) (known : List (Bor (List ℕ))) → list_any (bytes_eq key) (map (λ name. name.now) known) ≡ list_any (λ name. bytes_eq key name.now) known
+pub known_names : (key : List ℕ) (known : List (Bor (List ℕ)))
+    → list_any (bytes_eq key) (map (λ name. name.now) known) ≡ list_any (λ name. bytes_eq key name.now) known
 known_names key [] = refl
 known_names key (name ∷ known) = ap (λ b. bytes_eq key name.now || b) (known_names key known)

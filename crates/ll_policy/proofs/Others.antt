@@ -24,11 +24,16 @@ writing bytes (piece ∷ pieces) = (refl, writing bytes pieces)
 
 filling : (path bytes : List ℕ) → Others (fill path bytes)
 filling path [] = tt
-filling path (b ∷ bytes) = (refl, joined (writes (b ∷ bytes)) (Close 0 ∷ []) (writing (b ∷ bytes) (range_with_len 0 ((length (b ∷ bytes) + 4095) / 4096))) (refl, tt))
+filling path (b ∷ bytes) = (
+  refl,
+  joined (writes (b ∷ bytes)) (Close 0 ∷ [])
+      (writing (b ∷ bytes) (range_with_len 0 ((length (b ∷ bytes) + 4095) / 4096))) (refl, tt),
+)
 
 pub opens : (nodes : List Node) → Others (opening_of nodes)
 opens [] = tt
-opens (node ∷ nodes) = joined (calls_of_node node) (opening_of nodes) (refl, filling node.path node.bytes.items) (opens nodes)
+opens (node ∷ nodes) = joined (calls_of_node node) (opening_of nodes) (refl, filling node.path node.bytes.items)
+    (opens nodes)
 
 ruling : (number : ℕ) (rules : List Rule) → Others (map (call_of_rule number) rules)
 ruling number [] = tt
@@ -37,5 +42,8 @@ ruling number (rule ∷ rules) = (refl, ruling number rules)
 pub layers_add : (number : ℕ) (layers : List Layer) → Others (calls_of_layers number layers)
 layers_add number [] = tt
 layers_add number (layer ∷ layers) =
-    let rules : Others (map (call_of_rule number) layer.rules.items ++ Confine number ∷ []) = joined (map (call_of_rule number) layer.rules.items) (Confine number ∷ []) (ruling number layer.rules.items) (refl, tt) in
-    joined (calls_of_layer number layer) (calls_of_layers (number + 1) layers) (refl, rules) (layers_add (number + 1) layers)
+    let rules : Others (map (call_of_rule number) layer.rules.items ++ Confine number ∷ []) =
+    joined (map (call_of_rule number) layer.rules.items) (Confine number ∷ []) (ruling number layer.rules.items)
+    (refl, tt) in
+    joined (calls_of_layer number layer) (calls_of_layers (number + 1) layers) (refl, rules)
+    (layers_add (number + 1) layers)

@@ -1,5 +1,6 @@
 -- Which texts spell a path.
-use Rattle.std.proofs.Common.{◌≡◌, ◌==◌, ℕ, suc, ◌<◌, ◌≤◌, Bool, true, false, ◌&&◌, List, [], ◌∷◌, length, drop, nat_le, refl, ap, arith, inl, inr}
+use Rattle.std.proofs.Common.{◌≡◌, ◌==◌, ℕ, suc, ◌<◌, ◌≤◌, Bool, true, false, ◌&&◌, List, [], ◌∷◌, length, drop, nat_le}
+use Rattle.std.proofs.Common.{refl, ap, arith, inl, inr}
 use Rattle.std.specs.List.{AllByRecursion, list_all}
 use Rattle.std.proofs.lemmas.Bool.{and_parts, cases_Bool, eqb-true}
 use Rattle.std.proofs.lemmas.Bool.Decides.{nat_tests}
@@ -16,7 +17,8 @@ is_visible-yes : (b : ℕ) → 0x21 ≤ b → b ≤ 0x7e → is_visible b ≡ tr
 is_visible-yes b low high = grind (arith, nat_tests)
 
 visible_from_test : (b : ℕ) → is_visible b ≡ true → IsVisible b
-visible_from_test b e = let parts = and_parts (nat_le 0x21 b) (nat_le b 0x7e) e in let (low, high) = parts in (grind (arith, nat_tests), grind (arith, nat_tests))
+visible_from_test b e = let parts = and_parts (nat_le 0x21 b) (nat_le b 0x7e) e in let (low, high) = parts in
+    (grind (arith, nat_tests), grind (arith, nat_tests))
 
 all_tested : (text : List ℕ) → AllByRecursion IsVisible text → list_all is_visible text ≡ true
 all_tested [] h = refl
@@ -24,7 +26,8 @@ all_tested (b ∷ text) h = rw (is_visible-yes b h.0.0 h.0.1) (all_tested text h
 
 all_visible : (text : List ℕ) → list_all is_visible text ≡ true → AllByRecursion IsVisible text
 all_visible [] e = tt
-all_visible (b ∷ text) e = let parts = and_parts (is_visible b) (list_all is_visible text) e in (visible_from_test b parts.0, all_visible text parts.1)
+all_visible (b ∷ text) e = let parts = and_parts (is_visible b) (list_all is_visible text) e in
+    (visible_from_test b parts.0, all_visible text parts.1)
 
 no_refusals : (errnos : List Errno) → (length errnos == 0) ≡ true → errnos ≡ []
 no_refusals [] e = refl

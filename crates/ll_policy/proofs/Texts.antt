@@ -1,5 +1,6 @@
 -- Texts that a policy takes.
-use Rattle.std.proofs.Common.{◌≡◌, ◌≢◌, ◌==◌, ℕ, zero, suc, ◌^◌, ◌<◌, Bool, true, false, ◌||◌, List, [], ◌∷◌, refl, ap, sym, ◌∙◌, arith, inl, inr}
+use Rattle.std.proofs.Common.{◌≡◌, ◌≢◌, ◌==◌, ℕ, zero, suc, ◌^◌, ◌<◌, Bool, true, false, ◌||◌, List, [], ◌∷◌, refl, ap}
+use Rattle.std.proofs.Common.{sym, ◌∙◌, arith, inl, inr}
 use Rattle.std.specs.List.{list_any}
 use Rattle.std.specs.Str.{bytes_eq}
 use Rattle.std.proofs.lemmas.Slice.Eq.{bytes_eq-Decides}
@@ -21,7 +22,8 @@ bytes_eq-other a b other = elim (cases_Bool (bytes_eq a b)) [
 
 -- ---- kinds
 
-no_kind : (text : List ℕ) (kinds : List Kind) → ((kind : Kind) → text ≢ kind_text kind) → list_any (λ kind. bytes_eq text (kind_text kind)) kinds ≡ false
+no_kind : (text : List ℕ) (kinds : List Kind) → ((kind : Kind) → text ≢ kind_text kind)
+    → list_any (λ kind. bytes_eq text (kind_text kind)) kinds ≡ false
 no_kind text [] other = refl
 no_kind text (kind ∷ kinds) other = rw (bytes_eq-other text (kind_text kind) (other kind)) (no_kind text kinds other)
 
@@ -39,7 +41,8 @@ unfolding some_below
 some_passes zero k passes low e = absurd (omega arith)
 some_passes (suc n) k passes low e = elim (cases_Bool (k == n)) [
   | inl same ↦ (let here : passes n ≡ true = ap passes (sym (eqb-true k n same)) ∙ e in rw here refl)
-  | inr other ↦ (let ne : k ≢ n = eqb-false k n other in or_true (passes n) (some_below n passes) (some_passes n k passes (omega arith) e))
+  | inr other ↦ (let ne : k ≢ n = eqb-false k n other
+      in or_true (passes n) (some_below n passes) (some_passes n k passes (omega arith) e))
 ]
 
 none_passes : (n : ℕ) (passes : ℕ → Bool) → ((k : ℕ) → k < n → passes k ≡ false) → some_below n passes ≡ false
@@ -48,7 +51,9 @@ none_passes zero passes none = refl
 none_passes (suc n) passes none = rw (none n (omega arith)) (none_passes n passes (λ k low. none k (omega arith)))
 
 pub is_rights-text : (set : ℕ) → set < 2 ^ 64 → is_rights (access_text set) ≡ true
-is_rights-text set low = some_passes (2 ^ 64) set (λ other. bytes_eq (access_text set) (access_text other)) low (bytes_eq-same (access_text set) (access_text set) refl)
+is_rights-text set low = some_passes (2 ^ 64) set (λ other. bytes_eq (access_text set) (access_text other)) low
+    (bytes_eq-same (access_text set) (access_text set) refl)
 
 pub is_rights-other : (text : List ℕ) → ((set : ℕ) → set < 2 ^ 64 → text ≢ access_text set) → is_rights text ≡ false
-is_rights-other text other = none_passes (2 ^ 64) (λ set. bytes_eq text (access_text set)) (λ set low. bytes_eq-other text (access_text set) (other set low))
+is_rights-other text other = none_passes (2 ^ 64) (λ set. bytes_eq text (access_text set))
+    (λ set low. bytes_eq-other text (access_text set) (other set low))

@@ -1,9 +1,13 @@
 -- What is wrong with a policy's document: all that is, in the order in which the first of it is told. own
-use Rattle.std.specs.Prelude.{ℕ, ℤ, Bool, false, not, ◌==◌, List, [], ◌∷◌, ◌++◌, Option, Some, None, pos, negsuc, codes, flat_map, if◌then◌else◌}
+use Rattle.std.specs.Prelude.{ℕ, ℤ, Bool, false, not, ◌==◌, List, [], ◌∷◌, ◌++◌, Option, Some, None, pos, negsuc, codes}
+use Rattle.std.specs.Prelude.{flat_map, if◌then◌else◌}
 use Rattle.toml.specs.Data.{Data, Members, get_member, as_str, as_integer, as_array, as_table}
 use Rattle.ll_policy.specs.declared.fault.PolicyFault.{PolicyFault}
-use Rattle.ll_policy.specs.declared.fault.PolicyFault.TheVariants.{NotToml, UnknownKey, MissingKey, WrongType, BadVersion, BadAbi, BadName, BadPath, BadKind, BadRights, BadData}
-use Rattle.ll_policy.specs.Table.{has_other_key, are_tables, hold_tables, tables_at, named_tables_at, text_at, integer_at}
+use Rattle.ll_policy.specs.declared.fault.PolicyFault.TheVariants.{NotToml, UnknownKey, MissingKey, WrongType}
+use Rattle.ll_policy.specs.declared.fault.PolicyFault.TheVariants.{BadVersion, BadAbi, BadName, BadPath, BadKind}
+use Rattle.ll_policy.specs.declared.fault.PolicyFault.TheVariants.{BadRights, BadData}
+use Rattle.ll_policy.specs.Table.{has_other_key, are_tables, hold_tables, tables_at, named_tables_at, text_at}
+use Rattle.ll_policy.specs.Table.{integer_at}
 use Rattle.ll_policy.specs.Value.{is_version, is_level, is_path, is_kind, is_rights, is_data, is_name}
 
 -- the fault, where the test says so

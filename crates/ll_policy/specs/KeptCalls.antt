@@ -1,5 +1,6 @@
 -- The calls of what a policy keeps of its document. (Support of the crate's own functions)
-use Rattle.std.specs.Prelude.{◌≡◌, ◌≤◌, pos, codes, ℕ, ◌+◌, Option, Some, None, String, List, [], ◌∷◌, ◌++◌, map, flat_map, string_bytes}
+use Rattle.std.specs.Prelude.{◌≡◌, ◌≤◌, pos, codes, ℕ, ◌+◌, Option, Some, None, String, List, [], ◌∷◌, ◌++◌, map}
+use Rattle.std.specs.Prelude.{flat_map, string_bytes}
 use Rattle.std.specs.Borrow.{Bor}
 use Rattle.std.specs.BTreeMap.{BTreeMap}
 use Rattle.std.specs.declared.alloc.Global.{Global}

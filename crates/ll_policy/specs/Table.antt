@@ -1,8 +1,10 @@
 -- A table of a document: its keys and what stands at them. TOML 1.1, "Table" and "Array of Tables"
-use Rattle.std.specs.Prelude.{bytes_eq, ℕ, ℤ, Bool, true, false, not, ◌&&◌, ◌||◌, List, [], ◌++◌, Option, is_some, unwrap_or, option_map, option_and_then, option_to_list}
+use Rattle.std.specs.Prelude.{bytes_eq, ℕ, ℤ, Bool, true, false, not, ◌&&◌, ◌||◌, List, [], ◌++◌, Option, is_some}
+use Rattle.std.specs.Prelude.{unwrap_or, option_map, option_and_then, option_to_list}
 use Rattle.std.specs.Option.{option_map_or}
 use Rattle.std.specs.List.{list_any}
-use Rattle.toml.specs.Data.{Items, no_items, item, Members, no_members, member, get_member, as_str, as_integer, as_array, as_table}
+use Rattle.toml.specs.Data.{Items, no_items, item, Members, no_members, member, get_member, as_str, as_integer}
+use Rattle.toml.specs.Data.{as_array, as_table}
 
 -- the table has a key that is none of these
 abbrev pub has_other_key : List (List ℕ) → Members → Bool

@@ -1,5 +1,6 @@
 -- Which values a policy takes. own
-use Rattle.std.specs.Prelude.{bytes_eq, ℕ, zero, suc, ◌%◌, ◌^◌, ℤ, pos, negsuc, Bool, false, ◌==◌, ◌&&◌, ◌||◌, nat_le, List, [], ◌∷◌, length}
+use Rattle.std.specs.Prelude.{bytes_eq, ℕ, zero, suc, ◌%◌, ◌^◌, ℤ, pos, negsuc, Bool, false, ◌==◌, ◌&&◌, ◌||◌, nat_le}
+use Rattle.std.specs.Prelude.{List, [], ◌∷◌, length}
 use Rattle.std.specs.List.{list_any, list_all}
 use Rattle.ll_rights.specs.declared.kind.Kind.TheVariants.{Reg, Dir, Sym, Fifo, Sock, Char, Block}
 use Rattle.ll_rights.specs.Kind.{kind_text}

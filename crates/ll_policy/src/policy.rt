@@ -1,13 +1,15 @@
 //! Policies.
 
-ghost use Rattle.std.specs.Prelude.{bytes_eq, ⊤, ◌≡◌, ◌⊎◌, ◌≤◌, [], Some, pos, option_map, slice_get, OnOk, IfOk, IfErr, IfSome, false};
+ghost use Rattle.std.specs.Prelude.{bytes_eq, ⊤, ◌≡◌, ◌⊎◌, ◌≤◌, [], Some, pos, option_map, slice_get, OnOk, IfOk};
+ghost use Rattle.std.specs.Prelude.{IfErr, IfSome, false};
 ghost use Rattle.std.specs.List.{AllByRecursion};
 ghost use Rattle.std.specs.Map.{lookup};
 ghost use Rattle.toml.specs.Parse.{parse_document};
 ghost use Rattle.toml.specs.View.{table_view};
 ghost use Rattle.ll_seq.specs.History.{is_connect};
 ghost use Rattle.ll_policy.specs.Answers.{Checks, Reads};
-ghost use Rattle.ll_policy.specs.Faults.{document_faults, level_faults, other_keys, policy_faults, top_faults, top_keys};
+ghost use Rattle.ll_policy.specs.Faults.{document_faults, level_faults, other_keys, policy_faults, top_faults};
+ghost use Rattle.ll_policy.specs.Faults.{top_keys};
 ghost use Rattle.ll_policy.specs.KeptCalls.{IsTop};
 ghost use Rattle.ll_policy.specs.Plan.{IsPlan, IsPlanOf, level_by};
 ghost use Rattle.ll_policy.specs.declared.fault.PolicyFault.TheVariants.{NoMemory};
@@ -82,7 +84,12 @@ impl Model for Policy {
 
     ghost use Rattle.ll_policy.specs.KeptCalls.{opening_of, named_calls};
 
-    ghost view = { λ policy. record { abi = policy.abi; opening = opening_of policy.nodes.items; profiles = map named_calls policy.profiles.items } };
+    ghost view = { λ policy.
+        record {
+          abi = policy.abi;
+          opening = opening_of policy.nodes.items;
+          profiles = map named_calls policy.profiles.items;
+        } };
 }
 
 impl Policy {

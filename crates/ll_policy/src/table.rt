@@ -1,13 +1,15 @@
 //! What stands at the keys of a table.
 
-ghost use Rattle.std.specs.Prelude.{bytes_eq, ◌≡◌, ⊤, ℕ, Bool, List, [], ◌∷◌, Some, option_map, option_and_then, map, IfOk, IfErr};
+ghost use Rattle.std.specs.Prelude.{bytes_eq, ◌≡◌, ⊤, ℕ, Bool, List, [], ◌∷◌, Some, option_map, option_and_then, map};
+ghost use Rattle.std.specs.Prelude.{IfOk, IfErr};
 ghost use Rattle.std.specs.List.{list_any};
 ghost use Rattle.toml.specs.Data.{get_member, as_str, as_array, as_table};
 ghost use Rattle.toml.specs.View.{view, table_view, items_view};
 ghost use Rattle.ll_policy.specs.Answers.{Checks};
 ghost use Rattle.ll_policy.specs.Faults.{required, optional, other_keys};
 ghost use Rattle.ll_policy.specs.KeptCalls.{named_in};
-ghost use Rattle.ll_policy.specs.Table.{has_other_key, are_tables, hold_tables, tables_of, named_tables, tables_at, named_tables_at};
+ghost use Rattle.ll_policy.specs.Table.{has_other_key, are_tables, hold_tables, tables_of, named_tables, tables_at};
+ghost use Rattle.ll_policy.specs.Table.{named_tables_at};
 ghost use Rattle.ll_policy.specs.declared.fault.PolicyFault.{PolicyFault};
 ghost use Rattle.ll_policy.specs.declared.fault.PolicyFault.TheVariants.{WrongType};
 

@@ -10,9 +10,11 @@ ghost use Rattle.ll_policy.specs.Answers.{Checks, Reads};
 ghost use Rattle.ll_policy.specs.Calls.{bytes_at};
 ghost use Rattle.ll_policy.specs.Faults.{required, optional, is_two};
 ghost use Rattle.ll_policy.specs.Table.{text_at, integer_at};
-ghost use Rattle.ll_policy.specs.Value.{is_version, is_level, is_path, is_kind, is_rights, is_digit, are_bytes, is_data, is_name_byte, is_name};
+ghost use Rattle.ll_policy.specs.Value.{is_version, is_level, is_path, is_kind, is_rights, is_digit, are_bytes};
+ghost use Rattle.ll_policy.specs.Value.{is_data, is_name_byte, is_name};
 ghost use Rattle.ll_policy.specs.declared.fault.PolicyFault.{PolicyFault};
-ghost use Rattle.ll_policy.specs.declared.fault.PolicyFault.TheVariants.{BadVersion, BadAbi, BadPath, BadKind, BadRights, BadData};
+ghost use Rattle.ll_policy.specs.declared.fault.PolicyFault.TheVariants.{BadVersion, BadAbi, BadPath, BadKind};
+ghost use Rattle.ll_policy.specs.declared.fault.PolicyFault.TheVariants.{BadRights, BadData};
 
 use crate::fault::PolicyFault;
 use crate::path_text::PathText;
@@ -133,7 +135,8 @@ fn are_bytes(text: &str) -> bool
 
 /// The bytes of a node of this kind. Without the key there are none.
 pub(crate) fn data(alloc: Global, table: &Table, kind: Kind) -> Result<Vec<u8>, PolicyFault>
-    ensures { Reads (optional as_str (is_data (kind_text kind)) BadData (get_member (codes "data") (table_view table.now)))
+    ensures { Reads (optional as_str (is_data (kind_text kind)) BadData
+        (get_member (codes "data") (table_view table.now)))
         (λ bytes. bytes.items ≡ bytes_at (codes "data") (table_view table.now)) result }
 {
     let Some(value) = member(table, "data") else {

@@ -10,7 +10,8 @@ use ll_seq::Rules;
 use ll_steps::World;
 use std::alloc::{AllocError, Global};
 
-/// Makes a schedule in a new tree of so many nodes, with a history of so many entries at most. Gives its picture, as SVG.
+/// Makes a schedule in a new tree of so many nodes, with a history of so many entries at most. Gives its picture, as
+/// SVG.
 pub fn draw(
     alloc: Global,
     rules: Rules,

@@ -7,8 +7,8 @@ use ll_journal::Station;
 use ll_picture::{Column, Row, Scene};
 use ll_seq::Call;
 use ll_steps::{Outcome, World};
-use ll_walks::Step;
 use ll_wire::{ScheduleLine, read_schedule_line};
+use ll_worlds::Step;
 use std::alloc::{AllocError, Global};
 
 /// The most bytes of a line that are kept to be shown.

@@ -1,7 +1,10 @@
 -- The refusals: the number that orders each, and its name. errno(3) for names in capitals; the rest is own
 use Rattle.std.specs.Prelude.{ℕ, Bool, List, [], ◌∷◌, codes, if◌then◌else◌}
 use Rattle.ll_rights.specs.declared.errno.Errno.{Errno}
-use Rattle.ll_rights.specs.declared.errno.Errno.TheVariants.{EACCES, EXDEV, ENOENT, EEXIST, ENOTDIR, EISDIR, ENOTEMPTY, EINVAL, EPERM, EBUSY, EBADF, EMFILE, ENOSPC, EMLINK, ENAMETOOLONG, EFBIG, ELOOP, ENXIO, E2BIG, ENOMSG, HistoryFull, NoMemory, BadLine, Stale}
+use Rattle.ll_rights.specs.declared.errno.Errno.TheVariants.{EACCES, EXDEV, ENOENT, EEXIST, ENOTDIR, EISDIR, ENOTEMPTY}
+use Rattle.ll_rights.specs.declared.errno.Errno.TheVariants.{EINVAL, EPERM, EBUSY, EBADF, EMFILE, ENOSPC, EMLINK}
+use Rattle.ll_rights.specs.declared.errno.Errno.TheVariants.{ENAMETOOLONG, EFBIG, ELOOP, ENXIO, E2BIG, ENOMSG}
+use Rattle.ll_rights.specs.declared.errno.Errno.TheVariants.{HistoryFull, NoMemory, BadLine, Stale}
 
 abbrev pub errno_row : Errno → ℕ × List ℕ
 errno_row EACCES = (1, codes "EACCES")

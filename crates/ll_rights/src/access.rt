@@ -1,6 +1,7 @@
 //! Sets of rights.
 
-ghost use Rattle.std.specs.Prelude.{⊤, ◌≡◌, ◌≢◌, ◌<◌, ◌≤◌, ◌==◌, ◌^◌, ℕ, [], ◌∷◌, map, codes, nat_le, ◌&&◌, ◌||◌, bit_or, string_bytes, IfOk, IfSome, IfNone};
+ghost use Rattle.std.specs.Prelude.{⊤, ◌≡◌, ◌≢◌, ◌<◌, ◌≤◌, ◌==◌, ◌^◌, ℕ, [], ◌∷◌, map, codes, nat_le, ◌&&◌, ◌||◌};
+ghost use Rattle.std.specs.Prelude.{bit_or, string_bytes, IfOk, IfSome, IfNone};
 ghost use Rattle.std.specs.List.{join_with_byte, slice_split, list_all};
 ghost use Rattle.std.specs.Char.{digit_char};
 ghost use Rattle.std.specs.Int.Digits.{digits_of};
@@ -41,9 +42,12 @@ impl Flags for Access {
 
     ghost exact = { ⊤ };
 
-    ghost table = { (codes "EXECUTE", 0x1) ∷ (codes "WRITE_FILE", 0x2) ∷ (codes "READ_FILE", 0x4) ∷ (codes "READ_DIR", 0x8)
-        ∷ (codes "REMOVE_DIR", 0x10) ∷ (codes "REMOVE_FILE", 0x20) ∷ (codes "MAKE_CHAR", 0x40) ∷ (codes "MAKE_DIR", 0x80)
-        ∷ (codes "MAKE_REG", 0x100) ∷ (codes "MAKE_SOCK", 0x200) ∷ (codes "MAKE_FIFO", 0x400) ∷ (codes "MAKE_BLOCK", 0x800)
+    ghost table = { (codes "EXECUTE", 0x1) ∷ (codes "WRITE_FILE", 0x2) ∷ (codes "READ_FILE", 0x4)
+        ∷ (codes "READ_DIR", 0x8)
+        ∷ (codes "REMOVE_DIR", 0x10) ∷ (codes "REMOVE_FILE", 0x20) ∷ (codes "MAKE_CHAR", 0x40)
+        ∷ (codes "MAKE_DIR", 0x80)
+        ∷ (codes "MAKE_REG", 0x100) ∷ (codes "MAKE_SOCK", 0x200) ∷ (codes "MAKE_FIFO", 0x400)
+        ∷ (codes "MAKE_BLOCK", 0x800)
         ∷ (codes "MAKE_SYM", 0x1000) ∷ (codes "REFER", 0x2000) ∷ (codes "TRUNCATE", 0x4000) ∷ [] };
 
     ghost set_of = { λ access. access.0 };
@@ -146,7 +150,8 @@ impl Access {
 
     // each name's right stands above those of the names before it
     fn parse_names(text: &str) -> Option<Access>
-        ensures found { IfSome result (λ access. (access.0 < 2 ^ 15) × (slice_split (λ b. b == 44) text.now ≡ set_names access.0)) }
+        ensures found { IfSome result (λ access. (access.0 < 2 ^ 15)
+            × (slice_split (λ b. b == 44) text.now ≡ set_names access.0)) }
         ensures none { IfNone result ((set : ℕ) → slice_split (λ b. b == 44) text.now ≢ set_names set) }
     {
         let mut set = Access(0);
@@ -162,8 +167,10 @@ impl Access {
 
     // the digits of a number with a bit that is no right's
     fn parse_number(digits: &str) -> Option<Access>
-        ensures found { IfSome result (λ access. (2 ^ 15 ≤ access.0) × (digits.now ≡ map digit_char (digits_of 16 access.0))) }
-        ensures none { IfNone result ((set : ℕ) → 2 ^ 15 ≤ set → set < 2 ^ 64 → digits.now ≢ map digit_char (digits_of 16 set)) }
+        ensures found { IfSome result (λ access. (2 ^ 15 ≤ access.0)
+            × (digits.now ≡ map digit_char (digits_of 16 access.0))) }
+        ensures none { IfNone result ((set : ℕ) → 2 ^ 15 ≤ set → set < 2 ^ 64
+            → digits.now ≢ map digit_char (digits_of 16 set)) }
     {
         if digits.starts_with('0') || !is_lower_hex(digits) {
             return None;

@@ -17,7 +17,9 @@ pub grants_on-none : (layer : Layer) (right : ℕ) → grants_on layer [] right 
 grants_on-none layer right = or-false (not (restricts layer right))
 
 -- with one inode more at the end of the chain
-pub grants_on-push : (layer : Layer) (inodes : List ℕ) (inode right : ℕ) → grants_on layer (inodes ++ inode ∷ []) right ≡ (grants_on layer inodes right || has_rule layer right inode)
+pub grants_on-push : (layer : Layer) (inodes : List ℕ) (inode right : ℕ)
+    → grants_on layer (inodes ++ inode ∷ []) right ≡ (grants_on layer inodes right || has_rule layer right inode)
 grants_on-push layer inodes inode right =
-    ap (λ b. not (restricts layer right) || b) (list_any-append (has_rule layer right) inodes (inode ∷ []) ∙ ap (λ b. list_any (has_rule layer right) inodes || b) (or-false (has_rule layer right inode)))
+    ap (λ b. not (restricts layer right) || b) (list_any-append (has_rule layer right) inodes (inode ∷ [])
+    ∙ ap (λ b. list_any (has_rule layer right) inodes || b) (or-false (has_rule layer right inode)))
     ∙ or-assoc (not (restricts layer right)) (list_any (has_rule layer right) inodes) (has_rule layer right inode)

@@ -14,32 +14,44 @@ use Rattle.ll_rights.specs.Map.{get, insert, entries, from_sorted}
 use Rattle.ll_rights.proofs.Maps.{get-from_sorted, entries-from_sorted, put_sorted, insert-from_sorted}
 use Rattle.ll_rules.specs.RuleTable.{rows_of, rules_of, IsTable}
 
-find-rows : (es : List (ℕ × Access)) (inode : ℕ) → find nat_cmp inode (rows_of es) ≡ option_map (λ (rights : Access). rights.0) (lookup (is_at (nat_cmp inode)) es)
+find-rows : (es : List (ℕ × Access)) (inode : ℕ)
+    → find nat_cmp inode (rows_of es) ≡ option_map (λ (rights : Access). rights.0) (lookup (is_at (nat_cmp inode)) es)
 find-rows [] inode = refl
 find-rows (e ∷ es) inode =
-    elim (is_eq (nat_cmp inode e.0)) as (λ b. cond b (Some e.1.0) (find nat_cmp inode (rows_of es)) ≡ option_map (λ (rights : Access). rights.0) (cond b (Some e.1) (lookup (is_at (nat_cmp inode)) es))) [
+    elim (is_eq (nat_cmp inode e.0)) as
+    (λ b. cond b (Some e.1.0) (find nat_cmp inode (rows_of es))
+    ≡ option_map (λ (rights : Access). rights.0) (cond b (Some e.1) (lookup (is_at (nat_cmp inode)) es))) [
       | true ↦ refl
       | false ↦ find-rows es inode
     ]
 
-rows-insert : (es : List (ℕ × Access)) (inode : ℕ) (rights : Access) → rows_of (insert_entry nat_cmp es inode rights) ≡ put nat_cmp inode rights.0 (rows_of es)
+rows-insert : (es : List (ℕ × Access)) (inode : ℕ) (rights : Access)
+    → rows_of (insert_entry nat_cmp es inode rights) ≡ put nat_cmp inode rights.0 (rows_of es)
 rows-insert [] inode rights = refl
 rows-insert (e ∷ es) inode rights =
-    elim (nat_cmp inode e.0) as (λ r. rows_of (match_ordering r ((inode, rights) ∷ e ∷ es) ((e.0, rights) ∷ es) (e ∷ insert_entry nat_cmp es inode rights))
-    ≡ by_order r ((inode, rights.0) ∷ (e.0, e.1.0) ∷ rows_of es) ((e.0, rights.0) ∷ rows_of es) ((e.0, e.1.0) ∷ put nat_cmp inode rights.0 (rows_of es))) [
+    elim (nat_cmp inode e.0) as (λ r. rows_of
+    (match_ordering r ((inode, rights) ∷ e ∷ es) ((e.0, rights) ∷ es) (e ∷ insert_entry nat_cmp es inode rights))
+    ≡ by_order r ((inode, rights.0) ∷ (e.0, e.1.0) ∷ rows_of es) ((e.0, rights.0) ∷ rows_of es)
+    ((e.0, e.1.0) ∷ put nat_cmp inode rights.0 (rows_of es))) [
       | Less ↦ refl
       | Equal ↦ refl
       | Greater ↦ ap (λ rest. (e.0, e.1.0) ∷ rest) (rows-insert es inode rights)
     ]
 
 -- the rights on an inode are those that the table finds
-pub get-rules_of : (table : BTreeMap ℕ Access) (inode : ℕ) → IsTable table → get (rules_of table) inode ≡ option_map (λ (rights : Access). rights.0) (get_by (nat_cmp inode) table)
-get-rules_of table inode sorted = get-from_sorted nat_cmp (rows_of table.entries) inode sorted ∙ find-rows table.entries inode
+pub get-rules_of : (table : BTreeMap ℕ Access) (inode : ℕ) → IsTable table
+    → get (rules_of table) inode ≡ option_map (λ (rights : Access). rights.0) (get_by (nat_cmp inode) table)
+get-rules_of table inode sorted =
+    get-from_sorted nat_cmp (rows_of table.entries) inode sorted ∙ find-rows table.entries inode
 
-pub length-rules_of : (table : BTreeMap ℕ Access) → IsTable table → length (entries (rules_of table)) ≡ length table.entries
-length-rules_of table sorted = ap length (entries-from_sorted nat_cmp (rows_of table.entries) sorted) ∙ length-map table.entries (λ (rule : ℕ × Access). (rule.0, rule.1.0))
+pub length-rules_of : (table : BTreeMap ℕ Access) → IsTable table
+    → length (entries (rules_of table)) ≡ length table.entries
+length-rules_of table sorted =
+    ap length (entries-from_sorted nat_cmp (rows_of table.entries) sorted)
+    ∙ length-map table.entries (λ (rule : ℕ × Access). (rule.0, rule.1.0))
 
-module _ (old new : BTreeMap ℕ Access) (inode : ℕ) (rights : Access) (inserted : new.entries ≡ insert_entry nat_cmp old.entries inode rights) (sorted : IsTable old) where
+module _ (old new : BTreeMap ℕ Access) (inode : ℕ) (rights : Access)
+    (inserted : new.entries ≡ insert_entry nat_cmp old.entries inode rights) (sorted : IsTable old) where
   -- to insert in the table is to insert in the map
   pub rules_of-insert : rules_of new ≡ insert (rules_of old) inode rights.0
   rules_of-insert =

@@ -1,6 +1,7 @@
 //! Domains.
 
-ghost use Rattle.std.specs.Prelude.{◌≡◌, ◌≢◌, ◌≤◌, [], ◌∷◌, ◌++◌, length, slice_get, Some, Err, OnOk, OnErr, IfOk, IfErr};
+ghost use Rattle.std.specs.Prelude.{◌≡◌, ◌≢◌, ◌≤◌, [], ◌∷◌, ◌++◌, length, slice_get, Some, Err, OnOk, OnErr, IfOk};
+ghost use Rattle.std.specs.Prelude.{IfErr};
 ghost use Rattle.ll_rules.specs.Rules.{layer_limit};
 
 use crate::layer::Layer;
@@ -46,7 +47,8 @@ impl Domain {
         ensures ok { OnOk result ((layer_limit self.old ≡ []) × (self.new ≡ self.old ++ made.now ∷ [])) }
 
         // Want of memory comes only where nothing else refuses the layer.
-        ensures refused { IfErr result (λ errno. errno ≢ Errno.NoMemory → slice_get (layer_limit self.old) 0 ≡ Some errno) }
+        ensures refused { IfErr result (λ errno. errno ≢ Errno.NoMemory
+            → slice_get (layer_limit self.old) 0 ≡ Some errno) }
         ensures starved { result ≡ Err Errno.NoMemory → layer_limit self.old ≡ [] }
         ensures err { OnErr result (self.new ≡ self.old) }
     {

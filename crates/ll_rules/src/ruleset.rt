@@ -78,7 +78,8 @@ impl Ruleset {
         // Want of memory comes only where nothing else refuses the rule.
         ensures refused { IfErr result (λ errno. errno ≢ Errno.NoMemory →
             slice_get (rule_refusals self.old kind rights.0 ++ rule_limit self.old inode) 0 ≡ Some errno) }
-        ensures starved { result ≡ Err Errno.NoMemory → rule_refusals self.old kind rights.0 ++ rule_limit self.old inode ≡ [] }
+        ensures starved { result ≡ Err Errno.NoMemory
+            → rule_refusals self.old kind rights.0 ++ rule_limit self.old inode ≡ [] }
         ensures err { OnErr result (self.new ≡ self.old) }
     {
         if let Some(errno) = self.refusal(kind, rights) {

@@ -1,5 +1,6 @@
 -- What a reader has told, and what follows from it.
-use Rattle.std.proofs.Common.{◌≡◌, ◌∙◌, ℕ, List, [], Option, None, Some, refl, sym, subst, option_map, is_some, false, inl, inr, ◌⊎◌}
+use Rattle.std.proofs.Common.{◌≡◌, ◌∙◌, ℕ, List, [], Option, None, Some, refl, sym, subst, option_map, is_some, false}
+use Rattle.std.proofs.Common.{inl, inr, ◌⊎◌}
 use Rattle.std.specs.Prelude.{IfSome, slice_get}
 use Rattle.std.specs.Str.{IsUtf8}
 use Rattle.std.specs.Borrow.{Bor}
@@ -25,22 +26,26 @@ same_text None x y e h = tt
 same_text (Some told) x y e h = e ∙ h
 
 -- the file can't be read
-pub unread : (order : RunOrder) (text : List ℕ) (failure : Failure) → (failure ≡ File) ⊎ (failure ≡ NoMemory) → Lacks order text failure
+pub unread : (order : RunOrder) (text : List ℕ) (failure : Failure) → (failure ≡ File) ⊎ (failure ≡ NoMemory)
+    → Lacks order text failure
 unread order text failure (inl e) = subst (Lacks order text) (sym e) tt
 unread order text failure (inr e) = subst (Lacks order text) (sym e) tt
 
 -- no policy is asked for
-pub set_by_level : (options : RunOptions) (text : List ℕ) (setup : Setup) → is_some options.policy ≡ false → ByLevel (order_in options) setup
+pub set_by_level : (options : RunOptions) (text : List ℕ) (setup : Setup) → is_some options.policy ≡ false
+    → ByLevel (order_in options) setup
     → IsSetBy (order_in options).policy (order_in options) text setup
 set_by_level options text setup none by = go options.policy none
   where
-    go : (file : Option (Bor (List ℕ))) → is_some file ≡ false → IsSetBy (option_map (λ (t : Bor (List ℕ)). t.now) file) (order_in options) text setup
+    go : (file : Option (Bor (List ℕ))) → is_some file ≡ false
+        → IsSetBy (option_map (λ (t : Bor (List ℕ)). t.now) file) (order_in options) text setup
     go None e = by
     go (Some file) e = absurd cc
 
 -- the text gives no policy
 pub not_given : (order : RunOrder) (text : List ℕ) (fault : PolicyFault) → IsUtf8 text
-    → (fault ≡ faults.NoMemory) ⊎ (slice_get (document_faults (parse_document text)) 0 ≡ Some fault) → Lacks order text (failure_in fault)
+    → (fault ≡ faults.NoMemory) ⊎ (slice_get (document_faults (parse_document text)) 0 ≡ Some fault)
+    → Lacks order text (failure_in fault)
 not_given order text faults.NoMemory utf8 h = tt
 not_given order text fault utf8 (inl e) = subst (λ (f : PolicyFault). Lacks order text (failure_in f)) (sym e) tt
 not_given order text fault utf8 (inr e) = inr (utf8, e)

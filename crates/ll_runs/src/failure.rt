@@ -2,7 +2,8 @@
 
 ghost use Rattle.std.specs.Prelude.{◌≡◌};
 ghost use Rattle.clap.specs.Words.{kind_of};
-ghost use Rattle.ll_runs.specs.Failure.{failure_at, failure_by, failure_by_saving, failure_in, failure_in_session, failure_of, line_of, status_of};
+ghost use Rattle.ll_runs.specs.Failure.{failure_at, failure_by, failure_by_saving, failure_in, failure_in_session};
+ghost use Rattle.ll_runs.specs.Failure.{failure_of, line_of, status_of};
 
 use clap::error::ErrorKind;
 use ll_lines::SessionFault;

@@ -5,7 +5,9 @@ use Rattle.ll_wire.specs.Pieces.{pieces}
 use Rattle.ll_saved.specs.Saved.{Judges}
 use Rattle.ll_saved.specs.declared.verdict.Verdict.{Verdict}
 
-pub judged_file : (told : Option (List ℕ)) (bytes slice : List ℕ) (verdict : Verdict) → IfSome told (λ text. bytes ≡ text) → slice ≡ bytes
+pub judged_file : (told : Option (List ℕ)) (bytes slice : List ℕ) (verdict : Verdict)
+    → IfSome told (λ text. bytes ≡ text) → slice ≡ bytes
     → Judges (pieces slice) verdict → IfSome told (λ text. Judges (pieces text) verdict)
 judged_file None bytes slice verdict read same judges = tt
-judged_file (Some text) bytes slice verdict read same judges = subst (λ (x : List ℕ). Judges (pieces x) verdict) (same ∙ read) judges
+judged_file (Some text) bytes slice verdict read same judges =
+    subst (λ (x : List ℕ). Judges (pieces x) verdict) (same ∙ read) judges

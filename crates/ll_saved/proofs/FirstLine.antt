@@ -1,5 +1,6 @@
 -- The first line of a file.
-use Rattle.std.proofs.Common.{◌≡◌, ◌≢◌, ℕ, zero, suc, ◌<◌, true, false, eqb, List, [], ◌∷◌, length, slice_index, take, drop, refl, ap, arith}
+use Rattle.std.proofs.Common.{◌≡◌, ◌≢◌, ℕ, zero, suc, ◌<◌, true, false, eqb, List, [], ◌∷◌, length, slice_index, take}
+use Rattle.std.proofs.Common.{drop, refl, ap, arith}
 use Rattle.std.specs.List.{onto_first}
 use Rattle.std.proofs.lemmas.Bool.{ne_eqb, eq-eqb}
 use Rattle.ll_wire.specs.Pieces.{pieces}
@@ -20,9 +21,11 @@ no_feed (b ∷ c ∷ bytes) some before =
     rw e (ap (onto_first b) (no_feed (c ∷ bytes) (omega arith) (later b (c ∷ bytes) (length (c ∷ bytes)) before)))
 
 -- up to the first one
-pub first_feed : (bytes : List ℕ) (end : ℕ) → Before bytes end → end < length bytes → slice_index bytes end ≡ 10 → pieces bytes ≡ take (suc end) bytes ∷ pieces (drop (suc end) bytes)
+pub first_feed : (bytes : List ℕ) (end : ℕ) → Before bytes end → end < length bytes → slice_index bytes end ≡ 10
+    → pieces bytes ≡ take (suc end) bytes ∷ pieces (drop (suc end) bytes)
 first_feed [] end before within is = absurd (omega (arith, within))
-first_feed (b ∷ bytes) zero before within is = let e : eqb b 10 ≡ true = eq-eqb b 10 is in let same : b ≡ 10 = is in rw e (ap (λ (x : ℕ). (x ∷ []) ∷ pieces bytes) refl)
+first_feed (b ∷ bytes) zero before within is = let e : eqb b 10 ≡ true = eq-eqb b 10 is in let same : b ≡ 10 = is in
+    rw e (ap (λ (x : ℕ). (x ∷ []) ∷ pieces bytes) refl)
 first_feed (b ∷ bytes) (suc end) before within is =
     let e : eqb b 10 ≡ false = ne_eqb b 10 (before 0 (omega arith)) in
     rw e (ap (onto_first b) (first_feed bytes end (later b bytes end before) (omega (arith, within)) is))

@@ -1,5 +1,6 @@
 -- Histories that are followed part after part.
-use Rattle.std.proofs.Common.{◌≡◌, ℕ, ◌+◌, ◌-◌, ◌<◌, ◌≤◌, List, [], ◌∷◌, ◌++◌, length, take, get_or, refl, sym, ap, subst, ◌∙◌, append_assoc, arith}
+use Rattle.std.proofs.Common.{◌≡◌, ℕ, ◌+◌, ◌-◌, ◌<◌, ◌≤◌, List, [], ◌∷◌, ◌++◌, length, take, get_or, refl, sym, ap}
+use Rattle.std.proofs.Common.{subst, ◌∙◌, append_assoc, arith}
 use Rattle.std.proofs.Math.Seq.{take-append-add}
 use Rattle.std.proofs.lemmas.List.{get_or-append-add, get_or_append_left, length-append, take-append-le}
 use Rattle.std.proofs.lemmas.Option.{get_or_from_slice_get, slice_get_read, slice_get_within}
@@ -34,12 +35,14 @@ module _ (s : State) (entries rest : List Entry) (t : State) (so_far : HasFollow
   has_numbers part more cut =
       let used = next_after s so_far.done in
       let now : t.next ≡ (state_after s so_far.done).next = ap (λ (z : State). z.next) so_far.state in
-      let all : length entries ≡ length so_far.done + length rest = ap length so_far.whole ∙ length-append so_far.done rest in
+      let all : length entries ≡ length so_far.done + length rest =
+      ap length so_far.whole ∙ length-append so_far.done rest in
       let left : length rest ≡ length part + length more = ap length cut ∙ length-append part more in
       omega (arith, used, now, all, left)
 
   pub ends : rest ≡ [] → IsLegal s entries
-  ends none = subst (IsLegal s) (sym (so_far.whole ∙ ap (λ (es : List Entry). so_far.done ++ es) none)) (legal_join s so_far.done [] so_far.legal tt)
+  ends none = subst (IsLegal s) (sym (so_far.whole ∙ ap (λ (es : List Entry). so_far.done ++ es) none))
+      (legal_join s so_far.done [] so_far.legal tt)
 
   module _ (part more : List Entry) (cut : rest ≡ part ++ more) where
     pub goes_on : (u : State) → IsLegal t part → u ≡ state_after t part → HasFollowed s entries more u
@@ -52,18 +55,21 @@ module _ (s : State) (entries rest : List Entry) (t : State) (so_far : HasFollow
 
     pub within_all : length entries - length rest + length part ≤ length entries
     within_all =
-        let all : length entries ≡ length so_far.done + length rest = ap length so_far.whole ∙ length-append so_far.done rest in
+        let all : length entries ≡ length so_far.done + length rest =
+        ap length so_far.whole ∙ length-append so_far.done rest in
         let left : length rest ≡ length part + length more = ap length cut ∙ length-append part more in
         omega (arith, all, left)
 
     -- so many of the part come after those before it
     up_to : (k : ℕ) → k ≤ length part → take (length so_far.done + k) entries ≡ so_far.done ++ take k part
     up_to k within = ap (take (length so_far.done + k)) (so_far.whole ∙ ap (λ (es : List Entry). so_far.done ++ es) cut)
-        ∙ take-append-add so_far.done (part ++ more) k ∙ ap (λ (es : List Entry). so_far.done ++ es) (take-append-le k part more within)
+        ∙ take-append-add so_far.done (part ++ more) k
+        ∙ ap (λ (es : List Entry). so_far.done ++ es) (take-append-le k part more within)
 
     pub stops : (k n : ℕ) → IsFirstIllegal t part k → n ≡ length entries - length rest + k → IsFirstIllegal s entries n
     stops k n bad is =
-        let all : length entries ≡ length so_far.done + length rest = ap length so_far.whole ∙ length-append so_far.done rest in
+        let all : length entries ≡ length so_far.done + length rest =
+        ap length so_far.whole ∙ length-append so_far.done rest in
         let left : length rest ≡ length part + length more = ap length cut ∙ length-append part more in
         let first = bad.first in
         let last = bad.last in
@@ -73,31 +79,39 @@ module _ (s : State) (entries rest : List Entry) (t : State) (so_far : HasFollow
           first = omega (arith, at, first);
           last = omega (arith, at, last, all, left);
           legal = subst (IsLegal s) (sym (ap (λ (m : ℕ). take m entries) before ∙ up_to (k - 1) (omega (arith, last))))
-              (legal_join s so_far.done (take (k - 1) part) so_far.legal (subst (λ (z : State). IsLegal z (take (k - 1) part)) so_far.state bad.legal));
+              (legal_join s so_far.done (take (k - 1) part) so_far.legal
+              (subst (λ (z : State). IsLegal z (take (k - 1) part)) so_far.state bad.legal));
           illegal = λ legal. bad.illegal (subst (λ (z : State). IsLegal z (take k part)) (sym so_far.state)
-              (legal_late s so_far.done (take k part) (subst (IsLegal s) (ap (λ (m : ℕ). take m entries) at ∙ up_to k last) legal)));
+              (legal_late s so_far.done (take k part)
+              (subst (IsLegal s) (ap (λ (m : ℕ). take m entries) at ∙ up_to k last) legal)));
         }
 
     pub starves : Starves t part → Starves s entries
     starves b =
         let within : b.done < length part = slice_get_within part b.done b.entry b.next in
-        let all : length entries ≡ length so_far.done + length rest = ap length so_far.whole ∙ length-append so_far.done rest in
+        let all : length entries ≡ length so_far.done + length rest =
+        ap length so_far.whole ∙ length-append so_far.done rest in
         let left : length rest ≡ length part + length more = ap length cut ∙ length-append part more in
-        let whole : entries ≡ so_far.done ++ (part ++ more) = so_far.whole ∙ ap (λ (es : List Entry). so_far.done ++ es) cut in
+        let whole : entries ≡ so_far.done ++ (part ++ more) =
+        so_far.whole ∙ ap (λ (es : List Entry). so_far.done ++ es) cut in
         let here : get_or entries (length so_far.done + b.done) b.entry ≡ b.entry
         = ap (λ (es : List Entry). get_or es (length so_far.done + b.done) b.entry) whole
-        ∙ get_or-append-add so_far.done (part ++ more) b.done b.entry ∙ get_or_append_left part more b.entry b.done within
+        ∙ get_or-append-add so_far.done (part ++ more) b.done b.entry
+        ∙ get_or_append_left part more b.entry b.done within
         ∙ get_or_from_slice_get part b.done b.entry b.entry b.next in
         let before = up_to b.done (omega (arith, within)) in
         let same : state_after t (take b.done part) ≡ state_after s (take (length so_far.done + b.done) entries)
-        = ap (λ (z : State). state_after z (take b.done part)) so_far.state ∙ sym (after_append s so_far.done (take b.done part))
+        = ap (λ (z : State). state_after z (take b.done part)) so_far.state
+        ∙ sym (after_append s so_far.done (take b.done part))
         ∙ ap (state_after s) (sym before) in
         record {
           done = length so_far.done + b.done;
           entry = b.entry;
-          next = slice_get_read entries (length entries) (length so_far.done + b.done) b.entry refl (omega (arith, within, all, left)) (sym here);
+          next = slice_get_read entries (length entries) (length so_far.done + b.done) b.entry refl
+              (omega (arith, within, all, left)) (sym here);
           legal = subst (IsLegal s) (sym before)
-              (legal_join s so_far.done (take b.done part) so_far.legal (subst (λ (z : State). IsLegal z (take b.done part)) so_far.state b.legal));
+              (legal_join s so_far.done (take b.done part) so_far.legal
+              (subst (λ (z : State). IsLegal z (take b.done part)) so_far.state b.legal));
           takes = b.takes;
           passes = subst (λ (z : State). refusals z (client_of z b.entry.client) b.entry.call ≡ []) same b.passes;
         }

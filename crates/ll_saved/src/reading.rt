@@ -40,7 +40,8 @@ fn entry_of(alloc: Global, line: &[u8], number: usize) -> Result<Entry, ReadFaul
     ensures ok { IfOk result (λ e. SpellsEntry line.now e) }
     ensures bad { IfErr result (λ fault. (k : ℕ) → fault ≡ ReadFault.BadLine k
         → (k ≡ number) × ((e : entries.Entry) → SpellsEntry line.now e → ⊥)) }
-    ensures starved { IfErr result (λ fault. fault ≡ ReadFault.NoMemory → (e : entries.Entry) × SpellsEntry line.now e) }
+    ensures starved { IfErr result (λ fault. fault ≡ ReadFault.NoMemory → (e : entries.Entry)
+        × SpellsEntry line.now e) }
 {
     match read_entry(alloc, line) {
         Ok(entry) => Ok(entry),
@@ -55,7 +56,8 @@ fn take(told: &mut Vec<Entry>, alloc: Global, line: &[u8]) -> Result<(), ReadFau
         × (told.new.items ≡ told.old.items ++ e ∷ [])) }
     ensures bad { IfErr result (λ fault. (k : ℕ) → fault ≡ ReadFault.BadLine k
         → (k ≡ length told.old.items + 2) × ((e : entries.Entry) → SpellsEntry line.now e → ⊥)) }
-    ensures starved { IfErr result (λ fault. fault ≡ ReadFault.NoMemory → (e : entries.Entry) × SpellsEntry line.now e) }
+    ensures starved { IfErr result (λ fault. fault ≡ ReadFault.NoMemory → (e : entries.Entry)
+        × SpellsEntry line.now e) }
 {
     let entry = entry_of(alloc, line, told.len() + 2)?;
     match told.push(entry) {

@@ -4,7 +4,7 @@ use Rattle.std.specs.Prelude.{IfSome}
 use Rattle.std.specs.Io.KnownBytes.{Appends}
 use Rattle.ll_lines.specs.Reached.{AnswersAll, HasBegun, IsAnswered, IsStarted, IsWritten, StartsAll}
 use Rattle.ll_lines.specs.Transcript.{Writes}
-use Rattle.ll_walks.specs.World.{World}
+use Rattle.ll_worlds.specs.World.{World}
 use Rattle.ll_wire.proofs.WrittenText.{appends-more, front-more, front-none}
 use Rattle.ll_wire.specs.Writing.{AppendsFront}
 use Rattle.ll_schedule.specs.declared.setup.WorldSetup.{WorldSetup}
@@ -12,22 +12,24 @@ use Rattle.ll_schedule.specs.Tells.{IsWorld, Tells}
 use Rattle.ll_schedule.specs.Told.{IsBegun, IsTold, last_line, opened}
 
 module _ (setup : WorldSetup) (input : List ℕ) where
-  module _ (w : World) (old mid new : Option (List ℕ)) (all : IsWritten Tells (IsWorld w) (opened setup) input old mid) where
-    is_told : IsTold setup input (all.0 ++ last_line w)
-    is_told = (all.0, all.1, all.2, ap (λ (v : World). all.0 ++ last_line v) (sym all.3))
+  module _ (w : World) (old mid new : Option (List ℕ)) (all : IsWritten Tells (IsWorld w) (opened setup) input old mid)
+    where
+      is_told : IsTold setup input (all.0 ++ last_line w)
+      is_told = (all.0, all.1, all.2, ap (λ (v : World). all.0 ++ last_line v) (sym all.3))
 
-    -- all lines are answered, and the last one is written
-    told : Appends mid new (last_line w) → Writes old new (IsTold setup input)
-    told wrote = (all.0 ++ last_line w, is_told, appends-more old mid new all.0 (last_line w) all.4 wrote)
+      -- all lines are answered, and the last one is written
+      told : Appends mid new (last_line w) → Writes old new (IsTold setup input)
+      told wrote = (all.0 ++ last_line w, is_told, appends-more old mid new all.0 (last_line w) all.4 wrote)
 
-    -- a beginning of it is
-    told_in_part : AppendsFront mid new (last_line w) → Writes old new (IsBegun setup input)
-    told_in_part wrote =
-        let front = front-more old mid new all.0 (last_line w) all.4 wrote in
-        (front.0, inl (all.0 ++ last_line w, front.1, is_told, front.2), front.3)
+      -- a beginning of it is
+      told_in_part : AppendsFront mid new (last_line w) → Writes old new (IsBegun setup input)
+      told_in_part wrote =
+          let front = front-more old mid new all.0 (last_line w) all.4 wrote in
+          (front.0, inl (all.0 ++ last_line w, front.1, is_told, front.2), front.3)
 
   -- a line is not answered, or not wholly told
-  begun_only : (old new : Option (List ℕ)) → HasBegun Tells (opened setup) input old new → Writes old new (IsBegun setup input)
+  begun_only : (old new : Option (List ℕ)) → HasBegun Tells (opened setup) input old new
+      → Writes old new (IsBegun setup input)
   begun_only old new h = (h.6.0, inr (h.0, h.1, h.2, h.6.1, h.3, h.4, h.5, h.6.2), h.6.3)
 
   -- nothing is read

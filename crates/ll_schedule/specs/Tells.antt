@@ -6,9 +6,10 @@ use Rattle.ll_rights.specs.declared.errno.Errno.TheVariants.{NoMemory, BadLine}
 use Rattle.ll_rights.specs.Map.{len}
 use Rattle.ll_seq.specs.declared.reply.Entry.{Entry}
 use Rattle.ll_seq.specs.declared.reply.Reply.TheVariants as reply
-use Rattle.ll_walks.specs.World.{World, shown}
+use Rattle.ll_worlds.specs.World.{World, shown}
 use Rattle.ll_steps.specs.declared.outcome.Outcome.{Outcome}
-use Rattle.ll_steps.specs.declared.outcome.Outcome.TheVariants.{NotNow, Begun, Stands, Forked, Restarted, Joined, Replied, Refused}
+use Rattle.ll_steps.specs.declared.outcome.Outcome.TheVariants.{NotNow, Begun, Stands, Forked, Restarted, Joined}
+use Rattle.ll_steps.specs.declared.outcome.Outcome.TheVariants.{Replied, Refused}
 use Rattle.ll_steps.specs.Makes.{Makes}
 use Rattle.ll_steps.specs.Calling.{Calls}
 use Rattle.ll_wire.specs.Grammar.{line_of, reply_tokens, reply_line}

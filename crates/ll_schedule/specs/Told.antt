@@ -3,7 +3,7 @@ use Rattle.std.specs.Prelude.{◌≡◌, ◌⊎◌, ℕ, List, ◌++◌, length}
 use Rattle.ll_saved.specs.Saved.{verdict_line}
 use Rattle.ll_saved.specs.declared.verdict.Verdict.TheVariants.{Legal}
 use Rattle.ll_lines.specs.Transcript.{Transcript}
-use Rattle.ll_walks.specs.World.{World, new_world}
+use Rattle.ll_worlds.specs.World.{World, new_world}
 use Rattle.ll_wire.specs.Pieces.{pieces}
 use Rattle.ll_schedule.specs.declared.setup.WorldSetup.{WorldSetup}
 use Rattle.ll_schedule.specs.Tells.{Tells}

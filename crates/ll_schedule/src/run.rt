@@ -33,8 +33,8 @@ fn answer_all<R: Read, W: Write>(
     Ok(())
 }
 
-/// Reads a schedule to its end, does what each of its lines asks for in a tree of its own, and writes a line of what came
-/// of it; and then how many entries the history has.
+/// Reads a schedule to its end, does what each of its lines asks for in a tree of its own, and writes a line of what
+/// came of it; and then how many entries the history has.
 pub fn run_schedule<R: Read, W: Write>(
     alloc: Global,
     setup: WorldSetup,

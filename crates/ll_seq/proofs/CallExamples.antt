@@ -2,7 +2,8 @@
 use Rattle.std.specs.Prelude.{◌≡◌, ℕ, Bool, true, false, List, [], ◌∷◌, Some, codes, refl}
 use Rattle.ll_rights.specs.declared.kind.Kind.{Kind}
 use Rattle.ll_rights.specs.declared.kind.Kind.TheVariants.{Reg, Dir, Sym, Fifo, Sock, Char, Block}
-use Rattle.ll_rights.specs.declared.errno.Errno.TheVariants.{ENOENT, EEXIST, ENOTDIR, EISDIR, EINVAL, EBUSY, EBADF, ENOSPC, ELOOP, ENXIO, ENOMSG}
+use Rattle.ll_rights.specs.declared.errno.Errno.TheVariants.{ENOENT, EEXIST, ENOTDIR, EISDIR, EINVAL, EBUSY, EBADF}
+use Rattle.ll_rights.specs.declared.errno.Errno.TheVariants.{ENOSPC, ELOOP, ENXIO, ENOMSG}
 use Rattle.ll_rights.specs.declared.access.Access.{Access}
 use Rattle.ll_rights.specs.Right as right
 use Rattle.ll_rights.specs.Map.{empty, checked, get, insert, remove, entries}
@@ -19,9 +20,12 @@ use Rattle.ll_seq.specs.declared.call.Creation.TheVariants.{Never}
 use Rattle.ll_seq.specs.declared.call.Mode.{Mode}
 use Rattle.ll_seq.specs.declared.rules.Rules.{Rules}
 use Rattle.ll_seq.specs.declared.call.Call.{Call}
-use Rattle.ll_seq.specs.declared.call.Call.TheVariants.{Make, Open, Read, Write, Ftruncate, Close, Stat, Unlink, Rename, RenameNoreplace, Exchange, Ruleset, Allow, Confine, Spawn, Connect}
+use Rattle.ll_seq.specs.declared.call.Call.TheVariants.{Make, Open, Read, Write, Ftruncate, Close, Stat, Unlink, Rename}
+use Rattle.ll_seq.specs.declared.call.Call.TheVariants.{RenameNoreplace, Exchange, Ruleset, Allow, Confine, Spawn}
+use Rattle.ll_seq.specs.declared.call.Call.TheVariants.{Connect}
 use Rattle.ll_seq.specs.declared.reply.Reply.{Reply}
-use Rattle.ll_seq.specs.declared.reply.Reply.TheVariants.{Done, Opened, Bytes, Wrote, Found, Created, Spawned, Refused, Denied}
+use Rattle.ll_seq.specs.declared.reply.Reply.TheVariants.{Done, Opened, Bytes, Wrote, Found, Created, Spawned, Refused}
+use Rattle.ll_seq.specs.declared.reply.Reply.TheVariants.{Denied}
 use Rattle.ll_seq.specs.State.{State, start}
 use Rattle.ll_seq.specs.Tree.{named}
 use Rattle.ll_seq.specs.Stages.{numbers_from}
@@ -437,12 +441,13 @@ pub level_1_knows_no_refer : under 1 false 64 (
 unfolding empty checked get insert remove entries numbers_from
 level_1_knows_no_refer = refl
 
-pub level_2_knows_no_truncate : under 2 false 64 ((1, Ruleset (set 0x4000)) ∷ (1, Ruleset (set 0x2000)) ∷ []) ≡ Refused EINVAL ∷ Created 0 ∷ []
+pub level_2_knows_no_truncate : under 2 false 64 ((1, Ruleset (set 0x4000)) ∷ (1, Ruleset (set 0x2000)) ∷ [])
+    ≡ Refused EINVAL ∷ Created 0 ∷ []
 unfolding empty checked get insert remove entries numbers_from
 level_2_knows_no_truncate = refl
 
--- A spawned client writes through a copy what its parent reads, and keeps what the copy was opened under. It has none of its
--- parent's rulesets
+-- A spawned client writes through a copy what its parent reads, and keeps what the copy was opened under. It has none
+-- of its parent's rulesets
 pub a_spawned_client_has_copies : under 3 true 2 (
     (1, Make Reg (path (codes "/f")))
     ∷ (1, Open (mode way.Write) (path (codes "/f")))

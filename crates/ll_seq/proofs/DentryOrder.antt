@@ -11,7 +11,8 @@ use Rattle.ll_seq.specs.declared.dentries.Dentry.{Dentry}
 use Rattle.ll_seq.specs.State.{dentry_cmp}
 
 pub dentry_total : IsTotalOrder dentry_cmp
-dentry_total = then_total (on_total (λ (s : Dentry). s.directory) nat_cmp_total) (on_total (λ (s : Dentry). s.name) nat_list_cmp_total)
+dentry_total = then_total (on_total (λ (s : Dentry). s.directory) nat_cmp_total)
+    (on_total (λ (s : Dentry). s.name) nat_list_cmp_total)
 
 both_equal : (r s : Ordering) → ordering_then r s ≡ Equal → (r ≡ Equal) × (s ≡ Equal)
 both_equal Less s e = cc

@@ -1,5 +1,7 @@
 -- What changes of the tree do to the facts that are kept of it.
-use Rattle.std.proofs.Common.{◌≡◌, ◌≢◌, ◌==◌, ℕ, zero, suc, ◌+◌, ◌-◌, ◌^◌, ◌<◌, ◌≤◌, min, Bool, true, false, cond, not, ◌&&◌, ◌||◌, List, [], ◌∷◌, length, filter, take, get_or, Option, Some, None, is_some, refl, ap, sym, ◌∙◌, subst, inl, inr, arith}
+use Rattle.std.proofs.Common.{◌≡◌, ◌≢◌, ◌==◌, ℕ, zero, suc, ◌+◌, ◌-◌, ◌^◌, ◌<◌, ◌≤◌, min, Bool, true, false, cond, not}
+use Rattle.std.proofs.Common.{◌&&◌, ◌||◌, List, [], ◌∷◌, length, filter, take, get_or, Option, Some, None, is_some}
+use Rattle.std.proofs.Common.{refl, ap, sym, ◌∙◌, subst, inl, inr, arith}
 use Rattle.std.specs.Prelude.{◌⊎◌, if◌then◌else◌, option_map, nat_le, nat_lt}
 use Rattle.std.specs.Option.{option_map_or}
 use Rattle.std.specs.Ordering.{nat_cmp, eq_by_cmp}
@@ -22,7 +24,8 @@ use Rattle.ll_seq.specs.State.{State, dentry_cmp, kind_of, names_in, name_count,
 use Rattle.ll_seq.specs.Stages.{is_crowded, has_many_names}
 use Rattle.ll_seq.specs.Effects.{with_node, with_name, with_moved, with_client, lives, let_go, with_bytes}
 use Rattle.ll_seq.specs.Facts.{opens_in, open_count, AreKept, has_room, have_room}
-use Rattle.ll_seq.proofs.Counts.{bit, opens_is, names-new, links-new, names-over, links-over, names-less, links-less, opens-new, opens-less, clients-over, clients-new, client_among}
+use Rattle.ll_seq.proofs.Counts.{bit, opens_is, names-new, links-new, names-over, links-over, names-less, links-less}
+use Rattle.ll_seq.proofs.Counts.{opens-new, opens-less, clients-over, clients-new, client_among}
 use Rattle.ll_seq.proofs.DentryOrder.{dentry_total, dentry_exact}
 use Rattle.ll_seq.proofs.OrderedTables.{remove-absent, two_keys}
 
@@ -30,7 +33,12 @@ abbrev pub Facts : Type 0
 Facts = Map nat_cmp Fact
 
 abbrev pub fact_with : State → ℕ → Kind → Fact
-fact_with s q kind = record { kind = kind; names = length (names_in s q); links = name_count s q; opens = open_count s q }
+fact_with s q kind = record {
+  kind = kind;
+  names = length (names_in s q);
+  links = name_count s q;
+  opens = open_count s q;
+}
 
 -- ---- facts changed one by one
 
@@ -38,7 +46,8 @@ fact_with s q kind = record { kind = kind; names = length (names_in s q); links 
 abbrev pub Steps : Facts → Facts → (ℕ → Fact → Fact) → Type 0
 Steps before after change = (q : ℕ) → get after q ≡ option_map (change q) (get before q)
 
-pub both_steps : (f g h : Facts) (one other : ℕ → Fact → Fact) → Steps f g one → Steps g h other → Steps f h (λ q x. other q (one q x))
+pub both_steps : (f g h : Facts) (one other : ℕ → Fact → Fact) → Steps f g one → Steps g h other
+    → Steps f h (λ q x. other q (one q x))
 both_steps f g h one other a b q = b q ∙ ap (option_map (other q)) (a q) ∙ of (get f q)
   where
     of : (o : Option Fact) → option_map (other q) (option_map (one q) o) ≡ option_map (λ x. other q (one q x)) o
@@ -46,29 +55,35 @@ both_steps f g h one other a b q = b q ∙ ap (option_map (other q)) (a q) ∙ o
     of (Some x) = refl
 
 pub unlike : (k q : ℕ) → q ≢ k → (k == q) ≡ false
-unlike k q differ = elim (k == q) as (λ b. (k == q) ≡ b → b ≡ false) [ true ↦ λ e. absurd (differ (sym (eqb-true k q e))) | false ↦ λ e. refl ] refl
+unlike k q differ = elim (k == q) as (λ b. (k == q) ≡ b → b ≡ false)
+    [ true ↦ λ e. absurd (differ (sym (eqb-true k q e))) | false ↦ λ e. refl ] refl
 
 left_alone : (b : Bool) (x : Fact) (o : Option Fact) → b ≡ false → o ≡ option_map (λ (f : Fact). if b then x else f) o
 left_alone b x None is = refl
 left_alone b x (Some y) is = ap (λ c. Some (if c then x else y)) (sym is)
 
 -- the fact of a number that has one
-pub put_steps : (m : Facts) (k : ℕ) (v w : Fact) → get m k ≡ Some v → Steps m (insert m k w) (λ q f. if k == q then w else f)
+pub put_steps : (m : Facts) (k : ℕ) (v w : Fact) → get m k ≡ Some v
+    → Steps m (insert m k w) (λ q f. if k == q then w else f)
 put_steps m k v w there q = elim (insert_cases nat_cmp_total nat_cmp-IsAntisymmetric m k w q) [
-  | inl here ↦ here.1 ∙ sym (ap (λ o. option_map (λ (f : Fact). if k == q then w else f) o) (ap (get m) here.0 ∙ there) ∙ ap (λ b. Some (if b then w else v)) (eq-eqb k q (sym here.0)))
+  | inl here ↦ here.1 ∙ sym (ap (λ o. option_map (λ (f : Fact). if k == q then w else f) o) (ap (get m) here.0 ∙ there)
+      ∙ ap (λ b. Some (if b then w else v)) (eq-eqb k q (sym here.0)))
   | inr away ↦ away.1 ∙ left_alone (k == q) w (get m q) (unlike k q away.0)
 ]
 
 -- of one that has none
 pub no_steps : (m : Facts) (k : ℕ) (w : Fact) → get m k ≡ None → Steps m m (λ q f. if k == q then w else f)
-no_steps m k w none q = elim (k == q) as (λ b. (k == q) ≡ b → get m q ≡ option_map (λ (f : Fact). if b then w else f) (get m q)) [
-  | true ↦ λ e. (let gone : get m q ≡ None = ap (get m) (sym (eqb-true k q e)) ∙ none in gone ∙ sym (ap (option_map (λ (f : Fact). w)) gone))
-  | false ↦ λ e. left_alone false w (get m q) refl
-] refl
+no_steps m k w none q = elim (k == q) as (λ b. (k == q) ≡ b
+    → get m q ≡ option_map (λ (f : Fact). if b then w else f) (get m q)) [
+      | true ↦ λ e. (let gone : get m q ≡ None = ap (get m) (sym (eqb-true k q e)) ∙ none in gone
+          ∙ sym (ap (option_map (λ (f : Fact). w)) gone))
+      | false ↦ λ e. left_alone false w (get m q) refl
+    ] refl
 
 -- ---- counts up and down
 
-pub raised : (b : Bool) (n m : ℕ) → m ≡ n + bit b → (b ≡ true → n < 2 ^ 63) → (if b then min (n + 1) (2 ^ 64 - 1) else n) ≡ m
+pub raised : (b : Bool) (n m : ℕ) → m ≡ n + bit b → (b ≡ true → n < 2 ^ 63)
+    → (if b then min (n + 1) (2 ^ 64 - 1) else n) ≡ m
 raised true n m is fits = let less = fits refl in omega arith
 raised false n m is fits = omega arith
 
@@ -99,15 +114,19 @@ a_node (Some n) e = (n.kind, refl)
 -- a node that lives stands for no number that is yet to be given
 given_out : (s : State) (f : Facts) (i q : ℕ) → AreKept s f → has s.nodes i ≡ true → s.next ≤ q → (i == q) ≡ false
 given_out s f i q kept there past = elim (i == q) as (λ b. (i == q) ≡ b → b ≡ false) [
-  | true ↦ λ e. (let same : i ≡ q = eqb-true i q e in let none = (kept.unused i (omega arith)).node in absurd (cc (sym there ∙ ap is_some none)))
+  | true ↦ λ e. (let same : i ≡ q = eqb-true i q e in let none = (kept.unused i (omega arith)).node
+      in absurd (cc (sym there ∙ ap is_some none)))
   | false ↦ λ e. refl
 ] refl
 
-module _ (s t : State) (f g : Facts) (change : ℕ → Fact → Fact) (kept : AreKept s f) (steps : Steps f g change) (kinds : (q : ℕ) → kind_of t q ≡ kind_of s q) (next : t.next ≡ s.next) where
+module _ (s t : State) (f g : Facts) (change : ℕ → Fact → Fact) (kept : AreKept s f) (steps : Steps f g change)
+    (kinds : (q : ℕ) → kind_of t q ≡ kind_of s q) (next : t.next ≡ s.next) where
   pub kept_by : ((q : ℕ) (k : Kind) → kind_of s q ≡ Some k → change q (fact_with s q k) ≡ fact_with t q k)
-      → ((q : ℕ) → s.next ≤ q → (length (names_in t q) ≡ length (names_in s q)) × (name_count t q ≡ name_count s q) × (open_count t q ≡ open_count s q)) → AreKept t g
+      → ((q : ℕ) → s.next ≤ q → (length (names_in t q) ≡ length (names_in s q)) × (name_count t q ≡ name_count s q)
+      × (open_count t q ≡ open_count s q)) → AreKept t g
   kept_by changes stay = record {
-    told = λ q. steps q ∙ ap (option_map (change q)) (kept.told q) ∙ of q (kind_of s q) refl ∙ ap (option_map (fact_with t q)) (sym (kinds q));
+    told = λ q. steps q ∙ ap (option_map (change q)) (kept.told q) ∙ of q (kind_of s q) refl
+        ∙ ap (option_map (fact_with t q)) (sym (kinds q));
     unused = λ q past.
         let at : s.next ≤ q = omega arith in
         let before = kept.unused q at in
@@ -120,7 +139,8 @@ module _ (s t : State) (f g : Facts) (change : ℕ → Fact → Fact) (kept : Ar
         };
   }
     where
-      of : (q : ℕ) (o : Option Kind) → kind_of s q ≡ o → option_map (change q) (option_map (fact_with s q) o) ≡ option_map (fact_with t q) o
+      of : (q : ℕ) (o : Option Kind) → kind_of s q ≡ o
+          → option_map (change q) (option_map (fact_with s q) o) ≡ option_map (fact_with t q) o
       of q None is = refl
       of q (Some k) is = ap Some (changes q k is)
 
@@ -130,7 +150,8 @@ itself (Some x) = refl
 
 -- a tree of which every count is the same
 pub kept_same : (s t : State) (f : Facts) → AreKept s f → ((q : ℕ) → kind_of t q ≡ kind_of s q) → t.next ≡ s.next
-    → ((q : ℕ) → (length (names_in t q) ≡ length (names_in s q)) × (name_count t q ≡ name_count s q) × (open_count t q ≡ open_count s q)) → AreKept t f
+    → ((q : ℕ) → (length (names_in t q) ≡ length (names_in s q)) × (name_count t q ≡ name_count s q)
+    × (open_count t q ≡ open_count s q)) → AreKept t f
 kept_same s t f kept kinds next same =
     kept_by s t f f (λ q x. x) kept (λ q. itself (get f q)) kinds next
     (λ q k is. let e = same q in same_fact k _ _ _ _ _ _ (sym e.0) (sym e.1) (sym e.2)) (λ q past. same q)
@@ -168,16 +189,21 @@ not_many s i q free same =
     few : (n : ℕ) → nat_le 1000 n ≡ false → n < 2 ^ 63
     few n e = grind (arith, nat_tests)
 
-pub kept_name : (s : State) (f g : Facts) (at : Dentry) (inode : ℕ) → AreKept s f → Steps f g (λ q x. more_links inode q (more_names at.directory q x))
-    → has s.nodes at.directory ≡ true → has s.nodes inode ≡ true → get s.entries at ≡ None → is_crowded s at.directory ≡ false → has_many_names s inode ≡ false → AreKept (with_name s at inode) g
+pub kept_name : (s : State) (f g : Facts) (at : Dentry) (inode : ℕ) → AreKept s f
+    → Steps f g (λ q x. more_links inode q (more_names at.directory q x))
+    → has s.nodes at.directory ≡ true → has s.nodes inode ≡ true → get s.entries at ≡ None
+    → is_crowded s at.directory ≡ false → has_many_names s inode ≡ false → AreKept (with_name s at inode) g
 kept_name s f g at inode kept steps directory node new room few =
     kept_by s (with_name s at inode) f g _ kept steps (λ q. refl) refl
     (λ q k is. same_fact k _ _ _ _ _ _
-    (raised (at.directory == q) (length (names_in s q)) (length (names_in (with_name s at inode) q)) (names-new s.entries at q inode new) (not_crowded s at.directory q room))
-    (raised (inode == q) (name_count s q) (name_count (with_name s at inode) q) (links-new s.entries at q inode new) (not_many s inode q few))
+    (raised (at.directory == q) (length (names_in s q)) (length (names_in (with_name s at inode) q))
+    (names-new s.entries at q inode new) (not_crowded s at.directory q room))
+    (raised (inode == q) (name_count s q) (name_count (with_name s at inode) q) (links-new s.entries at q inode new)
+    (not_many s inode q few))
     refl)
     (λ q past. (
-      nothing_added _ (at.directory == q) _ (names-new s.entries at q inode new) (given_out s f at.directory q kept directory past),
+      nothing_added _ (at.directory == q) _ (names-new s.entries at q inode new)
+          (given_out s f at.directory q kept directory past),
       nothing_added _ (inode == q) _ (links-new s.entries at q inode new) (given_out s f inode q kept node past),
       refl,
     ))
@@ -189,11 +215,14 @@ module _ (s : State) (at : Dentry) where
   abbrev pub name_gone : State
   name_gone = record s { entries = remove s.entries at }
 
-  pub kept_taken : (f g : Facts) (inode : ℕ) → AreKept s f → Steps f g (λ q x. less_links inode q (less_names at.directory q x)) → get s.entries at ≡ Some inode → AreKept name_gone g
+  pub kept_taken : (f g : Facts) (inode : ℕ) → AreKept s f
+      → Steps f g (λ q x. less_links inode q (less_names at.directory q x)) → get s.entries at ≡ Some inode
+      → AreKept name_gone g
   kept_taken f g inode kept steps there =
       kept_by s name_gone f g _ kept steps (λ q. refl) refl
       (λ q k is. same_fact k _ _ _ _ _ _
-      (lowered (at.directory == q) (length (names_in s q)) (length (names_in name_gone q)) (names-less s.entries at q inode there))
+      (lowered (at.directory == q) (length (names_in s q)) (length (names_in name_gone q))
+      (names-less s.entries at q inode there))
       (lowered (inode == q) (name_count s q) (name_count name_gone q) (links-less s.entries at q inode there))
       refl)
       (λ q past. (
@@ -210,16 +239,21 @@ is_dead inode x = not ((inode == 1) || not (x.links == 0) || not (x.opens == 0))
 dead_is : (s : State) (inode : ℕ) (k : Kind) → is_dead inode (fact_with s inode k) ≡ not (lives s inode)
 dead_is s inode k = ap (λ b. not ((inode == 1) || not (name_count s inode == 0) || b)) (sym (opens_is s inode))
 
-module _ (s : State) (f g : Facts) (inode : ℕ) (gone : Bool) (kept : AreKept s f) (dead : gone ≡ option_map_or (is_dead inode) (get f inode) false) where
+module _ (s : State) (f g : Facts) (inode : ℕ) (gone : Bool) (kept : AreKept s f)
+    (dead : gone ≡ option_map_or (is_dead inode) (get f inode) false) where
   gone_is : (o : Option Kind) → kind_of s inode ≡ o → gone ≡ option_map_or (λ (k : Kind). not (lives s inode)) o false
-  gone_is None is = dead ∙ ap (λ o. option_map_or (is_dead inode) o false) (kept.told inode ∙ ap (option_map (fact_with s inode)) is)
-  gone_is (Some k) is = dead ∙ ap (λ o. option_map_or (is_dead inode) o false) (kept.told inode ∙ ap (option_map (fact_with s inode)) is) ∙ dead_is s inode k
+  gone_is None is = dead ∙ ap (λ o. option_map_or (is_dead inode) o false) (kept.told inode
+      ∙ ap (option_map (fact_with s inode)) is)
+  gone_is (Some k) is = dead ∙ ap (λ o. option_map_or (is_dead inode) o false) (kept.told inode
+      ∙ ap (option_map (fact_with s inode)) is) ∙ dead_is s inode k
 
   pub goes : has s.nodes inode ≡ true → gone ≡ not (lives s inode)
   goes there = let kind = a_node (get s.nodes inode) there in gone_is (Some kind.0) kind.1
 
-  kind_gone : (q : ℕ) → kind_of (record s { nodes = remove s.nodes inode }) q ≡ cond (eq_by_cmp nat_cmp q inode) None (kind_of s q)
-  kind_gone q = ap (option_map (λ (n : Node). n.kind)) (get-remove nat_cmp_total nat_cmp-IsAntisymmetric s.nodes inode q) ∙ of (eq_by_cmp nat_cmp q inode)
+  kind_gone : (q : ℕ) → kind_of (record s { nodes = remove s.nodes inode }) q
+      ≡ cond (eq_by_cmp nat_cmp q inode) None (kind_of s q)
+  kind_gone q = ap (option_map (λ (n : Node). n.kind))
+      (get-remove nat_cmp_total nat_cmp-IsAntisymmetric s.nodes inode q) ∙ of (eq_by_cmp nat_cmp q inode)
     where
       of : (b : Bool) → option_map (λ (n : Node). n.kind) (cond b None (get s.nodes q)) ≡ cond b None (kind_of s q)
       of true = refl
@@ -227,33 +261,43 @@ module _ (s : State) (f g : Facts) (inode : ℕ) (gone : Bool) (kept : AreKept s
 
   removed : AreKept (record s { nodes = remove s.nodes inode }) (remove f inode)
   removed = record {
-    told = λ q. get-remove nat_cmp_total nat_cmp-IsAntisymmetric f inode q ∙ ap (cond (eq_by_cmp nat_cmp q inode) None) (kept.told q) ∙ of q (eq_by_cmp nat_cmp q inode) ∙ ap (option_map (fact_with s q)) (sym (kind_gone q));
+    told = λ q. get-remove nat_cmp_total nat_cmp-IsAntisymmetric f inode q
+        ∙ ap (cond (eq_by_cmp nat_cmp q inode) None) (kept.told q) ∙ of q (eq_by_cmp nat_cmp q inode)
+        ∙ ap (option_map (fact_with s q)) (sym (kind_gone q));
     unused = λ q past.
         let before = kept.unused q past in
         record {
-          node = get-remove nat_cmp_total nat_cmp-IsAntisymmetric s.nodes inode q ∙ still_none (eq_by_cmp nat_cmp q inode) (get s.nodes q) before.node;
+          node = get-remove nat_cmp_total nat_cmp-IsAntisymmetric s.nodes inode q
+              ∙ still_none (eq_by_cmp nat_cmp q inode) (get s.nodes q) before.node;
           names = before.names;
           links = before.links;
           opens = before.opens;
         };
   }
     where
-      of : (q : ℕ) (b : Bool) → cond b None (option_map (fact_with s q) (kind_of s q)) ≡ option_map (fact_with s q) (cond b None (kind_of s q))
+      of : (q : ℕ) (b : Bool) → cond b None (option_map (fact_with s q) (kind_of s q))
+          ≡ option_map (fact_with s q) (cond b None (kind_of s q))
       of q true = refl
       of q false = refl
 
   pub kept_let_go : g ≡ (if gone then remove f inode else f) → AreKept (let_go s inode) g
   kept_let_go left = of (kind_of s inode) refl
     where
-      by : (b c : Bool) → lives s inode ≡ b → gone ≡ c → c ≡ not b → AreKept (if b then s else record s { nodes = remove s.nodes inode }) g
-      by true c lives is same = subst (AreKept s) (sym (left ∙ ap (λ x. if x then remove f inode else f) (is ∙ same))) kept
-      by false c lives is same = subst (AreKept (record s { nodes = remove s.nodes inode })) (sym (left ∙ ap (λ x. if x then remove f inode else f) (is ∙ same))) removed
+      by : (b c : Bool) → lives s inode ≡ b → gone ≡ c → c ≡ not b
+          → AreKept (if b then s else record s { nodes = remove s.nodes inode }) g
+      by true c lives is same = subst (AreKept s) (sym (left ∙ ap (λ x. if x then remove f inode else f) (is ∙ same)))
+          kept
+      by false c lives is same = subst (AreKept (record s { nodes = remove s.nodes inode }))
+          (sym (left ∙ ap (λ x. if x then remove f inode else f) (is ∙ same))) removed
 
-      absent : (b : Bool) → kind_of s inode ≡ None → gone ≡ false → AreKept (if b then s else record s { nodes = remove s.nodes inode }) g
+      absent : (b : Bool) → kind_of s inode ≡ None → gone ≡ false
+          → AreKept (if b then s else record s { nodes = remove s.nodes inode }) g
       absent true none stays = subst (AreKept s) (sym (left ∙ ap (λ x. if x then remove f inode else f) stays)) kept
       absent false none stays =
-          let same : remove s.nodes inode ≡ s.nodes = remove-absent nat_cmp_total nat_cmp-IsAntisymmetric s.nodes inode (no_node (get s.nodes inode) none) in
-          subst (λ m. AreKept (record s { nodes = m }) g) (sym same) (subst (AreKept s) (sym (left ∙ ap (λ x. if x then remove f inode else f) stays)) kept)
+          let same : remove s.nodes inode ≡ s.nodes =
+          remove-absent nat_cmp_total nat_cmp-IsAntisymmetric s.nodes inode (no_node (get s.nodes inode) none) in
+          subst (λ m. AreKept (record s { nodes = m }) g) (sym same)
+          (subst (AreKept s) (sym (left ∙ ap (λ x. if x then remove f inode else f) stays)) kept)
 
       of : (o : Option Kind) → kind_of s inode ≡ o → AreKept (let_go s inode) g
       of None is = absent (lives s inode) is (gone_is None is)
@@ -263,14 +307,21 @@ module _ (s : State) (f g : Facts) (inode : ℕ) (gone : Bool) (kept : AreKept s
 
 abbrev pub moved_names : ℕ → ℕ → ℕ → Fact → Fact
 moved_names from into q f =
-    if from == into then f else record f { names = if into == q then min ((if from == q then f.names - 1 else f.names) + 1) (2 ^ 64 - 1) else if from == q then f.names - 1 else f.names }
+    if from == into then f else record f {
+      names = if into == q then min ((if from == q then f.names - 1 else f.names) + 1) (2 ^ 64 - 1) else if from ==
+          q then f.names - 1 else f.names;
+    }
 
-module _ (s : State) (f g : Facts) (old new : Dentry) (inode : ℕ) (kept : AreKept s f) (there : get s.entries old ≡ Some inode) where
+module _ (s : State) (f g : Facts) (old new : Dentry) (inode : ℕ) (kept : AreKept s f)
+    (there : get s.entries old ≡ Some inode) where
   nothing_there : get s.entries new ≡ None → get (remove s.entries old) new ≡ None
-  nothing_there none = get-remove dentry_total dentry_exact s.entries old new ∙ still_none (eq_by_cmp dentry_cmp new old) (get s.entries new) none
+  nothing_there none = get-remove dentry_total dentry_exact s.entries old new
+      ∙ still_none (eq_by_cmp dentry_cmp new old) (get s.entries new) none
 
-  pub names_moved : (into : has s.nodes new.directory ≡ true) → get s.entries new ≡ None → Steps f g (λ q x. moved_names old.directory new.directory q x)
-      → (not (old.directory == new.directory) && is_crowded s new.directory) ≡ false → AreKept (with_moved s old new inode) g
+  pub names_moved : (into : has s.nodes new.directory ≡ true) → get s.entries new ≡ None
+      → Steps f g (λ q x. moved_names old.directory new.directory q x)
+      → (not (old.directory == new.directory) && is_crowded s new.directory) ≡ false
+      → AreKept (with_moved s old new inode) g
   names_moved into free steps room =
       kept_by s (with_moved s old new inode) f g _ kept steps (λ q. refl) refl
       (λ q k is. of q k (old.directory == new.directory) refl)
@@ -288,7 +339,12 @@ module _ (s : State) (f g : Facts) (old new : Dentry) (inode : ℕ) (kept : AreK
           omega arith
 
       of : (q : ℕ) (k : Kind) (b : Bool) → (old.directory == new.directory) ≡ b
-          → (if b then fact_with s q k else record (fact_with s q k) { names = if new.directory == q then min ((if old.directory == q then length (names_in s q) - 1 else length (names_in s q)) + 1) (2 ^ 64 - 1) else if old.directory == q then length (names_in s q) - 1 else length (names_in s q) })
+          → (if b then fact_with s q k else record (fact_with s q k) {
+            names = if new.directory == q then min
+                ((if old.directory == q then length (names_in s q) - 1 else length (names_in s q)) + 1) (2 ^ 64 - 1)
+                else
+                if old.directory == q then length (names_in s q) - 1 else length (names_in s q);
+          })
           ≡ fact_with (with_moved s old new inode) q k
       of q k true same =
           let taken = names-less s.entries old q inode there in
@@ -301,12 +357,17 @@ module _ (s : State) (f g : Facts) (old new : Dentry) (inode : ℕ) (kept : AreK
           let lower = lowered (old.directory == q) (length (names_in s q)) _ taken in
           same_fact k _ _ _ _ _ _
           (ap (λ n. if new.directory == q then min (n + 1) (2 ^ 64 - 1) else n) lower
-          ∙ raised (new.directory == q) _ _ put (λ same. let few = not_crowded s new.directory q (sym (ap (λ b. not b && is_crowded s new.directory) differ) ∙ room) same in omega arith))
+          ∙ raised (new.directory == q) _ _ put
+          (λ same. let few = not_crowded s new.directory q
+          (sym (ap (λ b. not b && is_crowded s new.directory) differ) ∙ room) same in omega arith))
           (sym (links q)) refl
 
-  pub name_over : (replaced : ℕ) → get s.entries new ≡ Some replaced → inode ≢ replaced → Steps f g (λ q x. less_links replaced q (less_names old.directory q x)) → AreKept (with_moved s old new inode) g
+  pub name_over : (replaced : ℕ) → get s.entries new ≡ Some replaced → inode ≢ replaced
+      → Steps f g (λ q x. less_links replaced q (less_names old.directory q x)) → AreKept (with_moved s old new inode) g
   name_over replaced taken differ steps =
-      let other : get (remove s.entries old) new ≡ Some replaced = get-remove_other dentry_total dentry_exact s.entries old new (two_keys s.entries new old (Some replaced) (Some inode) taken there (λ e. differ (cc e))) ∙ taken in
+      let other : get (remove s.entries old) new ≡ Some replaced =
+      get-remove_other dentry_total dentry_exact s.entries old new
+      (two_keys s.entries new old (Some replaced) (Some inode) taken there (λ e. differ (cc e))) ∙ taken in
       kept_by s (with_moved s old new inode) f g _ kept steps (λ q. refl) refl
       (λ q k is.
       let names = names-over (remove s.entries old) new q inode replaced other in
@@ -314,7 +375,8 @@ module _ (s : State) (f g : Facts) (old new : Dentry) (inode : ℕ) (kept : AreK
       let links = links-over (remove s.entries old) new q inode replaced other in
       let lost = links-less s.entries old q inode there in
       same_fact k _ _ _ _ _ _
-      (lowered (old.directory == q) (length (names_in s q)) (length (names_in (with_moved s old new inode) q)) (omega arith))
+      (lowered (old.directory == q) (length (names_in s q)) (length (names_in (with_moved s old new inode) q))
+      (omega arith))
       (lowered (replaced == q) (name_count s q) (name_count (with_moved s old new inode) q) (omega arith))
       refl)
       (λ q past.
@@ -329,7 +391,8 @@ module _ (s : State) (f g : Facts) (old new : Dentry) (inode : ℕ) (kept : AreK
 
 -- ---- two names that change places
 
-pub kept_exchange : (s : State) (f : Facts) (old new : Dentry) (i j : ℕ) → AreKept s f → get s.entries old ≡ Some i → get s.entries new ≡ Some j → AreKept (with_name (with_name s new i) old j) f
+pub kept_exchange : (s : State) (f : Facts) (old new : Dentry) (i j : ℕ) → AreKept s f → get s.entries old ≡ Some i
+    → get s.entries new ≡ Some j → AreKept (with_name (with_name s new i) old j) f
 kept_exchange s f old new i j kept at_old at_new =
     kept_same s (with_name (with_name s new i) old j) f kept (λ q. refl) refl (λ q.
     let names = names-over s.entries new q i j at_new in
@@ -339,7 +402,11 @@ kept_exchange s f old new i j kept at_old at_new =
     (omega arith, omega arith, refl))
   where
     still : get (insert s.entries new i) old ≡ Some i
-    still = elim (insert_cases dentry_total dentry_exact s.entries new i old) [ inl here ↦ here.1 | inr away ↦ away.1 ∙ at_old ]
+    still = elim (insert_cases dentry_total dentry_exact s.entries new i old) [
+      | inl here ↦ here.1
+      | inr away ↦ away.1
+          ∙ at_old
+    ]
 
 -- ---- clients and their descriptors
 
@@ -349,13 +416,17 @@ more_opens i q f = record f { opens = if i == q then min (f.opens + 1) (2 ^ 64 -
 abbrev pub less_opens : ℕ → ℕ → Fact → Fact
 less_opens i q f = record f { opens = if i == q then f.opens - 1 else f.opens }
 
-few_opens : (s : State) (f : Facts) (q : ℕ) (k : Kind) → AreKept s f → kind_of s q ≡ Some k → has_room f q ≡ true → open_count s q < 2 ^ 63
-few_opens s f q k kept is room = few (open_count s q) (sym (ap (λ o. option_map_or (λ (x : Fact). nat_lt x.opens 9223372036854775808) o true) (kept.told q ∙ ap (option_map (fact_with s q)) is)) ∙ room)
+few_opens : (s : State) (f : Facts) (q : ℕ) (k : Kind) → AreKept s f → kind_of s q ≡ Some k → has_room f q ≡ true
+    → open_count s q < 2 ^ 63
+few_opens s f q k kept is room =
+    few (open_count s q) (sym (ap (λ o. option_map_or (λ (x : Fact). nat_lt x.opens 9223372036854775808) o true)
+    (kept.told q ∙ ap (option_map (fact_with s q)) is)) ∙ room)
   where
     few : (n : ℕ) → nat_lt n 9223372036854775808 ≡ true → n < 2 ^ 63
     few n e = grind (arith, nat_tests)
 
-module _ (s : State) (f g : Facts) (client : ℕ) (c : ClientRecord) (kept : AreKept s f) (there : get s.clients client ≡ Some c) where
+module _ (s : State) (f g : Facts) (client : ℕ) (c : ClientRecord) (kept : AreKept s f)
+    (there : get s.clients client ≡ Some c) where
   -- the same descriptors
   pub kept_client : (d : ClientRecord) → d.descriptors ≡ c.descriptors → AreKept (with_client s client d) f
   kept_client d same =
@@ -364,27 +435,35 @@ module _ (s : State) (f g : Facts) (client : ℕ) (c : ClientRecord) (kept : Are
       let alike = ap (λ m. opens_in m q) same in
       (refl, refl, omega arith))
 
-  pub kept_open : (fd : ℕ) (d : Descriptor) → Steps f g (λ q x. more_opens d.inode q x) → get c.descriptors fd ≡ None → has s.nodes d.inode ≡ true → has_room f d.inode ≡ true
+  pub kept_open : (fd : ℕ) (d : Descriptor) → Steps f g (λ q x. more_opens d.inode q x) → get c.descriptors fd ≡ None
+      → has s.nodes d.inode ≡ true → has_room f d.inode ≡ true
       → AreKept (with_client s client (record c { descriptors = insert c.descriptors fd d })) g
   kept_open fd d steps free node room =
-      kept_by s (with_client s client (record c { descriptors = insert c.descriptors fd d })) f g _ kept steps (λ q. refl) refl
+      kept_by s (with_client s client (record c { descriptors = insert c.descriptors fd d })) f g _ kept steps
+      (λ q. refl) refl
       (λ q k is. same_fact k _ _ _ _ _ _ refl refl
-      (raised (d.inode == q) (open_count s q) _ (one_more q) (λ same. few_opens s f q k kept is (ap (has_room f) (sym (eqb-true d.inode q same)) ∙ room))))
+      (raised (d.inode == q) (open_count s q) _ (one_more q)
+      (λ same. few_opens s f q k kept is (ap (has_room f) (sym (eqb-true d.inode q same)) ∙ room))))
       (λ q past. (refl, refl, nothing_added _ (d.inode == q) _ (one_more q) (given_out s f d.inode q kept node past)))
     where
-      one_more : (q : ℕ) → open_count (with_client s client (record c { descriptors = insert c.descriptors fd d })) q ≡ open_count s q + bit (d.inode == q)
+      one_more : (q : ℕ) → open_count (with_client s client (record c { descriptors = insert c.descriptors fd d })) q
+          ≡ open_count s q + bit (d.inode == q)
       one_more q =
           let all = clients-over s.clients client q (record c { descriptors = insert c.descriptors fd d }) c there in
           let own = opens-new c.descriptors fd q d free in
           omega arith
 
-  pub kept_closed : (fd : ℕ) (d : Descriptor) → Steps f g (λ q x. less_opens d.inode q x) → get c.descriptors fd ≡ Some d → AreKept (with_client s client (record c { descriptors = remove c.descriptors fd })) g
+  pub kept_closed : (fd : ℕ) (d : Descriptor) → Steps f g (λ q x. less_opens d.inode q x)
+      → get c.descriptors fd ≡ Some d
+      → AreKept (with_client s client (record c { descriptors = remove c.descriptors fd })) g
   kept_closed fd d steps was =
-      kept_by s (with_client s client (record c { descriptors = remove c.descriptors fd })) f g _ kept steps (λ q. refl) refl
+      kept_by s (with_client s client (record c { descriptors = remove c.descriptors fd })) f g _ kept steps (λ q. refl)
+      refl
       (λ q k is. same_fact k _ _ _ _ _ _ refl refl (lowered (d.inode == q) (open_count s q) _ (one_less q)))
       (λ q past. (refl, refl, nothing_taken _ (d.inode == q) _ (one_less q) (kept.unused q past).opens))
     where
-      one_less : (q : ℕ) → open_count (with_client s client (record c { descriptors = remove c.descriptors fd })) q + bit (d.inode == q) ≡ open_count s q
+      one_less : (q : ℕ) → open_count (with_client s client (record c { descriptors = remove c.descriptors fd })) q +
+          bit (d.inode == q) ≡ open_count s q
       one_less q =
           let all = clients-over s.clients client q (record c { descriptors = remove c.descriptors fd }) c there in
           let own = opens-less c.descriptors fd q d was in
@@ -413,22 +492,29 @@ all_opens ds q f = record f { opens = more (among q ds) f.opens }
 
 among_few : (q : ℕ) (ds : List (ℕ × Descriptor)) → among q ds ≤ length ds
 among_few q [] = omega arith
-among_few q (d ∷ ds) = elim (d.1.inode == q) as (λ b. length (cond b (d ∷ filter (λ (x : ℕ × Descriptor). x.1.inode == q) ds) (filter (λ (x : ℕ × Descriptor). x.1.inode == q) ds)) ≤ suc (length ds)) [
-  | true ↦ (let rest = among_few q ds in omega arith)
-  | false ↦ (let rest = among_few q ds in omega arith)
-]
+among_few q (d ∷ ds) = elim (d.1.inode == q) as
+    (λ b. length (cond b (d ∷ filter (λ (x : ℕ × Descriptor). x.1.inode == q) ds)
+    (filter (λ (x : ℕ × Descriptor). x.1.inode == q) ds)) ≤ suc (length ds)) [
+      | true ↦ (let rest = among_few q ds in omega arith)
+      | false ↦ (let rest = among_few q ds in omega arith)
+    ]
 
 -- where one of them is the inode's, there is room for it
-room_at : (f : Facts) (q : ℕ) (ds : List (ℕ × Descriptor)) → list_all (λ (d : ℕ × Descriptor). has_room f d.1.inode) ds ≡ true → (among q ds ≡ 0) ⊎ (has_room f q ≡ true)
+room_at : (f : Facts) (q : ℕ) (ds : List (ℕ × Descriptor))
+    → list_all (λ (d : ℕ × Descriptor). has_room f d.1.inode) ds ≡ true → (among q ds ≡ 0) ⊎ (has_room f q ≡ true)
 room_at f q [] all = inl refl
-room_at f q (d ∷ ds) all = of (d.1.inode == q) refl (room_at f q ds) (and_parts (has_room f d.1.inode) (list_all (λ (x : ℕ × Descriptor). has_room f x.1.inode) ds) all)
+room_at f q (d ∷ ds) all = of (d.1.inode == q) refl (room_at f q ds)
+    (and_parts (has_room f d.1.inode) (list_all (λ (x : ℕ × Descriptor). has_room f x.1.inode) ds) all)
   where
     and_parts : (a b : Bool) → (a && b) ≡ true → (a ≡ true) × (b ≡ true)
     and_parts true b e = (refl, e)
     and_parts false b e = absurd (cc e)
 
-    of : (b : Bool) → (d.1.inode == q) ≡ b → (list_all (λ (x : ℕ × Descriptor). has_room f x.1.inode) ds ≡ true → (among q ds ≡ 0) ⊎ (has_room f q ≡ true)) → (has_room f d.1.inode ≡ true) × (list_all (λ (x : ℕ × Descriptor). has_room f x.1.inode) ds ≡ true)
-        → (length (cond b (d ∷ filter (λ (x : ℕ × Descriptor). x.1.inode == q) ds) (filter (λ (x : ℕ × Descriptor). x.1.inode == q) ds)) ≡ 0) ⊎ (has_room f q ≡ true)
+    of : (b : Bool) → (d.1.inode == q) ≡ b
+        → (list_all (λ (x : ℕ × Descriptor). has_room f x.1.inode) ds ≡ true → (among q ds ≡ 0) ⊎ (has_room f q ≡ true))
+        → (has_room f d.1.inode ≡ true) × (list_all (λ (x : ℕ × Descriptor). has_room f x.1.inode) ds ≡ true)
+        → (length (cond b (d ∷ filter (λ (x : ℕ × Descriptor). x.1.inode == q) ds)
+        (filter (λ (x : ℕ × Descriptor). x.1.inode == q) ds)) ≡ 0) ⊎ (has_room f q ≡ true)
     of true same rest parts = inr (ap (has_room f) (sym (eqb-true d.1.inode q same)) ∙ parts.0)
     of false differ rest parts = rest parts.1
 
@@ -439,7 +525,8 @@ none_yet f q = of (get f q)
     of None = refl
     of (Some x) = ap Some (same_fact x.kind _ _ _ _ _ _ refl refl (sym (no_more x.opens)))
 
-among_more : (q : ℕ) (ds : List (ℕ × Descriptor)) (i : ℕ) (d : ℕ × Descriptor) → i < length ds → among q (take (suc i) ds) ≡ among q (take i ds) + bit ((get_or ds i d).1.inode == q)
+among_more : (q : ℕ) (ds : List (ℕ × Descriptor)) (i : ℕ) (d : ℕ × Descriptor) → i < length ds
+    → among q (take (suc i) ds) ≡ among q (take i ds) + bit ((get_or ds i d).1.inode == q)
 among_more q [] i d lt = absurd (omega arith)
 among_more q (e ∷ ds) zero d lt = one (e.1.inode == q)
   where
@@ -449,8 +536,10 @@ among_more q (e ∷ ds) zero d lt = one (e.1.inode == q)
 among_more q (e ∷ ds) (suc i) d lt = of (e.1.inode == q) (among_more q ds i d (omega arith))
   where
     of : (b : Bool) → among q (take (suc i) ds) ≡ among q (take i ds) + bit ((get_or ds i d).1.inode == q)
-        → length (cond b (e ∷ filter (λ (x : ℕ × Descriptor). x.1.inode == q) (take (suc i) ds)) (filter (λ (x : ℕ × Descriptor). x.1.inode == q) (take (suc i) ds)))
-        ≡ length (cond b (e ∷ filter (λ (x : ℕ × Descriptor). x.1.inode == q) (take i ds)) (filter (λ (x : ℕ × Descriptor). x.1.inode == q) (take i ds))) + bit ((get_or ds i d).1.inode == q)
+        → length (cond b (e ∷ filter (λ (x : ℕ × Descriptor). x.1.inode == q) (take (suc i) ds))
+        (filter (λ (x : ℕ × Descriptor). x.1.inode == q) (take (suc i) ds)))
+        ≡ length (cond b (e ∷ filter (λ (x : ℕ × Descriptor). x.1.inode == q) (take i ds))
+        (filter (λ (x : ℕ × Descriptor). x.1.inode == q) (take i ds))) + bit ((get_or ds i d).1.inode == q)
     of true rest = omega arith
     of false rest = rest
 
@@ -459,22 +548,30 @@ unfolding more
 one_more a true n = let next : a + 1 ≡ suc a = omega arith in sym (ap (λ k. more k n) next)
 one_more a false n = let same : a + 0 ≡ a = omega arith in sym (ap (λ k. more k n) same)
 
-pub all_more : (f g h : Facts) (ds : List (ℕ × Descriptor)) (i : ℕ) (d : ℕ × Descriptor) → i < length ds → Steps f g (all_opens (take i ds)) → Steps g h (more_opens (get_or ds i d).1.inode) → Steps f h (all_opens (take (i + 1) ds))
-all_more f g h ds i d lt so_far step q = both_steps f g h (all_opens (take i ds)) (more_opens (get_or ds i d).1.inode) so_far step q ∙ of (get f q)
+pub all_more : (f g h : Facts) (ds : List (ℕ × Descriptor)) (i : ℕ) (d : ℕ × Descriptor) → i < length ds
+    → Steps f g (all_opens (take i ds)) → Steps g h (more_opens (get_or ds i d).1.inode)
+    → Steps f h (all_opens (take (i + 1) ds))
+all_more f g h ds i d lt so_far step q =
+    both_steps f g h (all_opens (take i ds)) (more_opens (get_or ds i d).1.inode) so_far step q ∙ of (get f q)
   where
-    of : (o : Option Fact) → option_map (λ x. more_opens (get_or ds i d).1.inode q (all_opens (take i ds) q x)) o ≡ option_map (all_opens (take (i + 1) ds) q) o
+    of : (o : Option Fact) → option_map (λ x. more_opens (get_or ds i d).1.inode q (all_opens (take i ds) q x)) o
+        ≡ option_map (all_opens (take (i + 1) ds) q) o
     of None = refl
     of (Some x) =
         let next : suc i ≡ i + 1 = omega arith in
         ap Some (same_fact x.kind _ _ _ _ _ _ refl refl
-        (one_more (among q (take i ds)) ((get_or ds i d).1.inode == q) x.opens ∙ ap (λ k. more k x.opens) (sym (among_more q ds i d lt)) ∙ ap (λ k. more (among q (take k ds)) x.opens) next))
+        (one_more (among q (take i ds)) ((get_or ds i d).1.inode == q) x.opens
+        ∙ ap (λ k. more k x.opens) (sym (among_more q ds i d lt))
+        ∙ ap (λ k. more (among q (take k ds)) x.opens) next))
 
 opens-empty : (q : ℕ) → opens_in empty q ≡ 0
 unfolding empty entries
 opens-empty q = refl
 
-pub kept_copies : (s : State) (f g : Facts) (client : ℕ) (c : ClientRecord) (fresh : ℕ) (child : ClientRecord) → AreKept s f → get s.clients client ≡ Some c → has s.clients fresh ≡ false
-    → (child.descriptors ≡ c.descriptors) ⊎ (child.descriptors ≡ empty) → length (entries child.descriptors) < 2 ^ 63 → have_room f child.descriptors ≡ true
+pub kept_copies : (s : State) (f g : Facts) (client : ℕ) (c : ClientRecord) (fresh : ℕ) (child : ClientRecord)
+    → AreKept s f → get s.clients client ≡ Some c → has s.clients fresh ≡ false
+    → (child.descriptors ≡ c.descriptors) ⊎ (child.descriptors ≡ empty) → length (entries child.descriptors) < 2 ^ 63
+    → have_room f child.descriptors ≡ true
     → Steps f g (all_opens (entries child.descriptors)) → AreKept (with_client s fresh child) g
 kept_copies s f g client c fresh child kept there unknown copies few room steps =
     kept_by s (with_client s fresh child) f g _ kept steps (λ q. refl) refl
@@ -488,20 +585,24 @@ kept_copies s f g client c fresh child kept there unknown copies few room steps 
     all : (q : ℕ) → open_count (with_client s fresh child) q ≡ open_count s q + opens_in child.descriptors q
     all q = clients-new s.clients fresh q child (absent (get s.clients fresh) unknown)
 
-    copied : (q : ℕ) (k : Kind) → kind_of s q ≡ Some k → more (opens_in child.descriptors q) (open_count s q) ≡ open_count s q + opens_in child.descriptors q
+    copied : (q : ℕ) (k : Kind) → kind_of s q ≡ Some k
+        → more (opens_in child.descriptors q) (open_count s q) ≡ open_count s q + opens_in child.descriptors q
     copied q k is = elim (room_at f q (entries child.descriptors) room) [
       | inl none ↦ ap (λ n. more n (open_count s q)) none ∙ no_more (open_count s q) ∙ (let same = none in omega arith)
-      | inr at ↦ (let own = few_opens s f q k kept is at in let most = among_few q (entries child.descriptors) in more_is (opens_in child.descriptors q) (open_count s q) (omega arith))
+      | inr at ↦ (let own = few_opens s f q k kept is at in let most = among_few q (entries child.descriptors)
+          in more_is (opens_in child.descriptors q) (open_count s q) (omega arith))
     ]
 
     nothing_copied : (q : ℕ) → s.next ≤ q → opens_in child.descriptors q ≡ 0
     nothing_copied q past = elim copies [
-      | inl own ↦ (let alike = ap (λ m. opens_in m q) own in let part = client_among s.clients client q c there in let sum = part.1 in let none = (kept.unused q past).opens in omega arith)
+      | inl own ↦ (let alike = ap (λ m. opens_in m q) own in let part = client_among s.clients client q c there
+          in let sum = part.1 in let none = (kept.unused q past).opens in omega arith)
       | inr none ↦ ap (λ m. opens_in m q) none ∙ opens-empty q
     ]
 
 -- a client that connects
-pub kept_connect : (s : State) (f : Facts) (number : ℕ) (c : ClientRecord) → AreKept s f → has s.clients number ≡ false → c.descriptors ≡ empty → AreKept (with_client s number c) f
+pub kept_connect : (s : State) (f : Facts) (number : ℕ) (c : ClientRecord) → AreKept s f → has s.clients number ≡ false
+    → c.descriptors ≡ empty → AreKept (with_client s number c) f
 kept_connect s f number c kept unknown none =
     kept_same s (with_client s number c) f kept (λ q. refl) refl (λ q.
     let opens = clients-new s.clients number q c (absent (get s.clients number) unknown) in
@@ -514,15 +615,19 @@ kept_connect s f number c kept unknown none =
 
 -- ---- other bytes
 
-pub kept_bytes : (s : State) (f : Facts) (inode : ℕ) (bytes : List ℕ) → AreKept s f → AreKept (with_bytes s inode bytes) f
+pub kept_bytes : (s : State) (f : Facts) (inode : ℕ) (bytes : List ℕ) → AreKept s f
+    → AreKept (with_bytes s inode bytes) f
 kept_bytes s f inode bytes kept = of (get s.nodes inode) refl
   where
-    of : (o : Option Node) → get s.nodes inode ≡ o → AreKept (option_map_or (λ (n : Node). record s { nodes = insert s.nodes inode (record n { bytes = bytes }) }) o s) f
+    of : (o : Option Node) → get s.nodes inode ≡ o
+        → AreKept (option_map_or (λ (n : Node). record s { nodes = insert s.nodes inode (record n { bytes = bytes }) })
+        o s) f
     of None is = kept
     of (Some n) is =
         kept_same s (record s { nodes = insert s.nodes inode (record n { bytes = bytes }) }) f kept
         (λ q. elim (insert_cases nat_cmp_total nat_cmp-IsAntisymmetric s.nodes inode (record n { bytes = bytes }) q) [
-          | inl here ↦ ap (option_map (λ (m : Node). m.kind)) here.1 ∙ sym (ap (λ i. kind_of s i) here.0 ∙ ap (option_map (λ (m : Node). m.kind)) is)
+          | inl here ↦ ap (option_map (λ (m : Node). m.kind)) here.1
+              ∙ sym (ap (λ i. kind_of s i) here.0 ∙ ap (option_map (λ (m : Node). m.kind)) is)
           | inr away ↦ ap (option_map (λ (m : Node). m.kind)) away.1
         ]) refl (λ q. (refl, refl, refl))
 
@@ -532,18 +637,26 @@ kept_bytes s f inode bytes kept = of (get s.nodes inode) refl
 abbrev pub with_bare_node : State → Kind → State
 with_bare_node s kind = record s { nodes = insert s.nodes s.next (empty_node kind); next = s.next + 1 }
 
-pub kept_node : (s : State) (f : Facts) (kind : Kind) → AreKept s f → AreKept (with_bare_node s kind) (insert f s.next (record { kind = kind; names = 0; links = 0; opens = 0 }))
+pub kept_node : (s : State) (f : Facts) (kind : Kind) → AreKept s f
+    → AreKept (with_bare_node s kind) (insert f s.next (record { kind = kind; names = 0; links = 0; opens = 0 }))
 kept_node s f kind kept = record {
   told = λ q. elim (insert_cases nat_cmp_total nat_cmp-IsAntisymmetric f s.next (the_fact kind 0 0 0) q) [
     | inl here ↦ here.1
-        ∙ ap Some (let none = kept.unused q (let e = here.0 in omega arith) in same_fact kind _ _ _ _ _ _ (sym none.names) (sym none.links) (sym none.opens))
-        ∙ sym (ap (option_map (fact_with (with_bare_node s kind) q)) (ap (λ i. option_map (λ (n : Node). n.kind) (get (insert s.nodes s.next (empty_node kind)) i)) here.0 ∙ ap (option_map (λ (n : Node). n.kind)) (get-insert_same nat_cmp_total nat_cmp-IsAntisymmetric s.nodes s.next (empty_node kind))))
-    | inr away ↦ away.1 ∙ kept.told q ∙ sym (ap (λ o. option_map (fact_with s q) (option_map (λ (n : Node). n.kind) o)) (get-insert_other nat_cmp_total nat_cmp-IsAntisymmetric s.nodes s.next (empty_node kind) q away.0))
+        ∙ ap Some (let none = kept.unused q (let e = here.0 in omega arith)
+        in same_fact kind _ _ _ _ _ _ (sym none.names) (sym none.links) (sym none.opens))
+        ∙ sym (ap (option_map (fact_with (with_bare_node s kind) q))
+        (ap (λ i. option_map (λ (n : Node). n.kind) (get (insert s.nodes s.next (empty_node kind)) i)) here.0
+        ∙ ap (option_map (λ (n : Node). n.kind))
+        (get-insert_same nat_cmp_total nat_cmp-IsAntisymmetric s.nodes s.next (empty_node kind))))
+    | inr away ↦ away.1 ∙ kept.told q
+        ∙ sym (ap (λ o. option_map (fact_with s q) (option_map (λ (n : Node). n.kind) o))
+        (get-insert_other nat_cmp_total nat_cmp-IsAntisymmetric s.nodes s.next (empty_node kind) q away.0))
   ];
   unused = λ q past.
       let before = kept.unused q (omega arith) in
       record {
-        node = get-insert_other nat_cmp_total nat_cmp-IsAntisymmetric s.nodes s.next (empty_node kind) q (λ e. omega arith) ∙ before.node;
+        node = get-insert_other nat_cmp_total nat_cmp-IsAntisymmetric s.nodes s.next (empty_node kind) q
+            (λ e. omega arith) ∙ before.node;
         names = before.names;
         links = before.links;
         opens = before.opens;
@@ -551,11 +664,14 @@ kept_node s f kind kept = record {
 }
 
 pub has-insert : {V : Type 0} (m : Map nat_cmp V) (k q : ℕ) (v : V) → has m q ≡ true → has (insert m k v) q ≡ true
-has-insert m k q v there = elim (insert_cases nat_cmp_total nat_cmp-IsAntisymmetric m k v q) [ inl here ↦ ap is_some here.1 | inr away ↦ ap is_some away.1 ∙ there ]
+has-insert m k q v there = elim (insert_cases nat_cmp_total nat_cmp-IsAntisymmetric m k v q)
+    [ inl here ↦ ap is_some here.1 | inr away ↦ ap is_some away.1 ∙ there ]
 
 pub kept_make : (s : State) (f g : Facts) (kind : Kind) (at : Dentry) → AreKept s f
-    → (AreKept (with_bare_node s kind) (insert f s.next (record { kind = kind; names = 0; links = 0; opens = 0 })) → has (with_bare_node s kind).nodes at.directory ≡ true
-    → has (with_bare_node s kind).nodes s.next ≡ true → has_many_names (with_bare_node s kind) s.next ≡ false → AreKept (with_node s kind at) g)
+    → (AreKept (with_bare_node s kind) (insert f s.next (record { kind = kind; names = 0; links = 0; opens = 0 }))
+    → has (with_bare_node s kind).nodes at.directory ≡ true
+    → has (with_bare_node s kind).nodes s.next ≡ true → has_many_names (with_bare_node s kind) s.next ≡ false
+    → AreKept (with_node s kind at) g)
     → has s.nodes at.directory ≡ true → AreKept (with_node s kind at) g
 kept_make s f g kind at kept named there =
     named (kept_node s f kind kept) (has-insert s.nodes s.next at.directory (empty_node kind) there)
@@ -574,6 +690,7 @@ kept_nowhere rules room = record {
   unused = λ q past. record { node = refl; names = refl; links = refl; opens = refl };
 }
 
-pub kept_start : (rules : Rules) (room : ℕ) → AreKept (start rules room) (insert empty 1 (record { kind = Dir; names = 0; links = 0; opens = 0 }))
+pub kept_start : (rules : Rules) (room : ℕ)
+    → AreKept (start rules room) (insert empty 1 (record { kind = Dir; names = 0; links = 0; opens = 0 }))
 unfolding nowhere
 kept_start rules room = kept_node (nowhere rules room) empty Dir (kept_nowhere rules room)

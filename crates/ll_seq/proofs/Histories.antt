@@ -5,7 +5,8 @@ use Rattle.ll_seq.specs.State.{State}
 use Rattle.ll_seq.specs.History.{MayStand, IsLegal, state_after, after}
 
 -- the state after two parts, one after the other
-pub after_append : (s : State) (early late : List Entry) → state_after s (early ++ late) ≡ state_after (state_after s early) late
+pub after_append : (s : State) (early late : List Entry)
+    → state_after s (early ++ late) ≡ state_after (state_after s early) late
 after_append s [] late = refl
 after_append s (e ∷ early) late = after_append (after s e) early late
 
@@ -22,10 +23,12 @@ pub legal_late : (s : State) (early late : List Entry) → IsLegal s (early ++ l
 legal_late s [] late l = l
 legal_late s (e ∷ early) late l = legal_late (after s e) early late l.1
 
-pub legal_join : (s : State) (early late : List Entry) → IsLegal s early → IsLegal (state_after s early) late → IsLegal s (early ++ late)
+pub legal_join : (s : State) (early late : List Entry) → IsLegal s early → IsLegal (state_after s early) late
+    → IsLegal s (early ++ late)
 legal_join s [] late l m = m
 legal_join s (e ∷ early) late l m = (l.0, legal_join (after s e) early late l.1 m)
 
 -- a legal history goes on by an entry that may stand there
-pub legal_append : (s : State) (es : List Entry) (e : Entry) → IsLegal s es → MayStand (state_after s es) e → IsLegal s (es ++ e ∷ [])
+pub legal_append : (s : State) (es : List Entry) (e : Entry) → IsLegal s es → MayStand (state_after s es) e
+    → IsLegal s (es ++ e ∷ [])
 legal_append s es e l m = legal_join s es (e ∷ []) l (m, tt)

@@ -1,14 +1,17 @@
 -- The lowest free descriptor, sought from below.
-use Rattle.std.proofs.Common.{◌≡◌, ℕ, suc, ◌+◌, ◌-◌, ◌<◌, ◌≤◌, Bool, true, false, cond, not, List, [], ◌∷◌, Option, Some, None, is_some, add-one, ap, ◌∙◌, sym, arith, refl}
+use Rattle.std.proofs.Common.{◌≡◌, ℕ, suc, ◌+◌, ◌-◌, ◌<◌, ◌≤◌, Bool, true, false, cond, not, List, [], ◌∷◌, Option}
+use Rattle.std.proofs.Common.{Some, None, is_some, add-one, ap, ◌∙◌, sym, arith, refl}
 use Rattle.std.specs.Prelude.{find}
 use Rattle.std.specs.Ordering.{nat_cmp}
 use Rattle.ll_rights.specs.Map.{Map, get, has}
 use Rattle.ll_seq.specs.declared.client.Descriptor.{Descriptor}
 use Rattle.ll_seq.specs.Stages.{numbers_from, lowest_free}
 
-split : (p : ℕ → Bool) (n m : ℕ) → m ≡ suc (64 - (n + 1)) → find p (numbers_from n m) ≡ cond (p n) (Some n) (find p (numbers_from (n + 1) (64 - (n + 1))))
+split : (p : ℕ → Bool) (n m : ℕ) → m ≡ suc (64 - (n + 1))
+    → find p (numbers_from n m) ≡ cond (p n) (Some n) (find p (numbers_from (n + 1) (64 - (n + 1))))
 unfolding numbers_from
-split p n m more = ap (λ k. find p (numbers_from n k)) more ∙ ap (λ k. cond (p n) (Some n) (find p (numbers_from k (64 - (n + 1))))) (sym (add-one n))
+split p n m more = ap (λ k. find p (numbers_from n k)) more
+    ∙ ap (λ k. cond (p n) (Some n) (find p (numbers_from k (64 - (n + 1))))) (sym (add-one n))
 
 nothing : (p : ℕ → Bool) (n m : ℕ) → m ≡ 0 → find p (numbers_from n m) ≡ None
 unfolding numbers_from
@@ -18,11 +21,17 @@ module _ (descriptors : Map nat_cmp Descriptor) where
   abbrev is_free : ℕ → Bool
   is_free fd = not (has descriptors fd)
 
-  pub free_here : (o : Option ℕ) (n : ℕ) → n < 64 → has descriptors n ≡ false → o ≡ find is_free (numbers_from n (64 - n)) → Some n ≡ o
-  free_here o n below free is = sym (is ∙ split is_free n (64 - n) (omega arith) ∙ ap (λ b. cond (not b) (Some n) (find is_free (numbers_from (n + 1) (64 - (n + 1))))) free)
+  pub free_here : (o : Option ℕ) (n : ℕ) → n < 64 → has descriptors n ≡ false
+      → o ≡ find is_free (numbers_from n (64 - n)) → Some n ≡ o
+  free_here o n below free is =
+      sym (is ∙ split is_free n (64 - n) (omega arith)
+      ∙ ap (λ b. cond (not b) (Some n) (find is_free (numbers_from (n + 1) (64 - (n + 1))))) free)
 
-  pub free_later : (o : Option ℕ) (n : ℕ) → n < 64 → has descriptors n ≡ true → o ≡ find is_free (numbers_from n (64 - n)) → o ≡ find is_free (numbers_from (n + 1) (64 - (n + 1)))
-  free_later o n below taken is = is ∙ split is_free n (64 - n) (omega arith) ∙ ap (λ b. cond (not b) (Some n) (find is_free (numbers_from (n + 1) (64 - (n + 1))))) taken
+  pub free_later : (o : Option ℕ) (n : ℕ) → n < 64 → has descriptors n ≡ true
+      → o ≡ find is_free (numbers_from n (64 - n)) → o ≡ find is_free (numbers_from (n + 1) (64 - (n + 1)))
+  free_later o n below taken is =
+      is ∙ split is_free n (64 - n) (omega arith)
+      ∙ ap (λ b. cond (not b) (Some n) (find is_free (numbers_from (n + 1) (64 - (n + 1))))) taken
 
   pub free_nowhere : (o : Option ℕ) (n : ℕ) → 64 ≤ n → o ≡ find is_free (numbers_from n (64 - n)) → None ≡ o
   free_nowhere o n past is = sym (is ∙ nothing is_free n (64 - n) (omega arith))

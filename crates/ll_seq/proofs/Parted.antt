@@ -1,5 +1,6 @@
 -- Chains of entries and their parts, and what is on them.
-use Rattle.std.specs.Prelude.{◌≡◌, ◌⊎◌, ℕ, ◌+◌, Bool, true, false, ◌||◌, [], ◌∷◌, ◌++◌, length, Option, Some, None, option_and_then, refl}
+use Rattle.std.specs.Prelude.{◌≡◌, ◌⊎◌, ℕ, ◌+◌, Bool, true, false, ◌||◌, [], ◌∷◌, ◌++◌, length, Option, Some, None}
+use Rattle.std.specs.Prelude.{option_and_then, refl}
 use Rattle.std.specs.Option.{option_map_or}
 use Rattle.std.specs.List.{list_any}
 use Rattle.std.proofs.Common.{ap, ◌∙◌, inl, inr, arith}
@@ -23,7 +24,8 @@ or_right false b e = e
 
 module _ (s : State) where
   -- a path with one name more
-  pub end_push : (p : Path) (n : Name) (i x y : ℕ) → end_from s p i ≡ Some x → child s x n ≡ Some y → end_from s (p ++ n ∷ []) i ≡ Some y
+  pub end_push : (p : Path) (n : Name) (i x y : ℕ) → end_from s p i ≡ Some x → child s x n ≡ Some y
+      → end_from s (p ++ n ∷ []) i ≡ Some y
   end_push p n i x y e c = end_append s p (n ∷ []) i x e ∙ ap (option_and_then (λ z. Some z)) c
 
   -- where the path ends before its last name
@@ -41,7 +43,9 @@ module _ (s : State) where
   last [] i y e = inl (refl, cc)
   last (name ∷ path) i y e = of (child s i name) refl e (λ j. last path j y)
     where
-      of : (o : Option ℕ) → child s i name ≡ o → option_and_then (end_from s path) o ≡ Some y → ((j : ℕ) → end_from s path j ≡ Some y → ((path ≡ []) × (j ≡ y)) ⊎ Last path j y) → ((name ∷ path ≡ []) × (i ≡ y)) ⊎ Last (name ∷ path) i y
+      of : (o : Option ℕ) → child s i name ≡ o → option_and_then (end_from s path) o ≡ Some y
+          → ((j : ℕ) → end_from s path j ≡ Some y → ((path ≡ []) × (j ≡ y)) ⊎ Last path j y)
+          → ((name ∷ path ≡ []) × (i ≡ y)) ⊎ Last (name ∷ path) i y
       of None is f rest = absurd (cc f)
       of (Some j) is f rest = elim (rest j f) [
         | inl a ↦ inr (record {
@@ -65,10 +69,14 @@ module _ (s : State) where
       ]
 
   -- its chain has one inode more
-  pub chain_push : (p : Path) (n : Name) (i x y : ℕ) → end_from s p i ≡ Some x → child s x n ≡ Some y → chain_from s (p ++ n ∷ []) i ≡ chain_from s p i ++ y ∷ []
-  chain_push [] n i x y e c = let same : i ≡ x = cc in ap (λ z. i ∷ option_map_or (λ (z : ℕ). z ∷ []) (child s z n) []) same ∙ ap (λ (o : Option ℕ). i ∷ option_map_or (λ (z : ℕ). z ∷ []) o []) c
+  pub chain_push : (p : Path) (n : Name) (i x y : ℕ) → end_from s p i ≡ Some x → child s x n ≡ Some y
+      → chain_from s (p ++ n ∷ []) i ≡ chain_from s p i ++ y ∷ []
+  chain_push [] n i x y e c = let same : i ≡ x = cc in
+      ap (λ z. i ∷ option_map_or (λ (z : ℕ). z ∷ []) (child s z n) []) same
+      ∙ ap (λ (o : Option ℕ). i ∷ option_map_or (λ (z : ℕ). z ∷ []) o []) c
   chain_push (m ∷ p) n i x y e c =
-      elim (child s i m) as (λ o. option_and_then (end_from s p) o ≡ Some x → i ∷ option_map_or (chain_from s (p ++ n ∷ [])) o [] ≡ i ∷ option_map_or (chain_from s p) o [] ++ y ∷ []) [
+      elim (child s i m) as (λ o. option_and_then (end_from s p) o ≡ Some x
+      → i ∷ option_map_or (chain_from s (p ++ n ∷ [])) o [] ≡ i ∷ option_map_or (chain_from s p) o [] ++ y ∷ []) [
         | None ↦ λ f. absurd (cc f)
         | Some j ↦ λ f. ap (λ zs. i ∷ zs) (chain_push p n j x y f c)
       ] e
@@ -78,20 +86,25 @@ module _ (s : State) where
   only false = refl
 
   -- what is on the chain with one name more is on the chain, or is its new end
-  pub any_push : (f : ℕ → Bool) (p : Path) (n : Name) (i x y : ℕ) → end_from s p i ≡ Some x → child s x n ≡ Some y → list_any f (chain_from s (p ++ n ∷ []) i) ≡ (list_any f (chain_from s p i) || f y)
-  any_push f p n i x y e c = ap (list_any f) (chain_push p n i x y e c) ∙ list_any-append f (chain_from s p i) (y ∷ []) ∙ ap (λ b. list_any f (chain_from s p i) || b) (only (f y))
+  pub any_push : (f : ℕ → Bool) (p : Path) (n : Name) (i x y : ℕ) → end_from s p i ≡ Some x → child s x n ≡ Some y
+      → list_any f (chain_from s (p ++ n ∷ []) i) ≡ (list_any f (chain_from s p i) || f y)
+  any_push f p n i x y e c = ap (list_any f) (chain_push p n i x y e c) ∙ list_any-append f (chain_from s p i) (y ∷ [])
+      ∙ ap (λ b. list_any f (chain_from s p i) || b) (only (f y))
 
   -- what is at the end of a chain is on it
-  pub any_end : (f : ℕ → Bool) (p : Path) (i x : ℕ) → end_from s p i ≡ Some x → f x ≡ true → list_any f (chain_from s p i) ≡ true
+  pub any_end : (f : ℕ → Bool) (p : Path) (i x : ℕ) → end_from s p i ≡ Some x → f x ≡ true
+      → list_any f (chain_from s p i) ≡ true
   any_end f [] i x e h = let same : i ≡ x = cc in or_left (f i) false (ap f same ∙ h)
   any_end f (n ∷ p) i x e h =
-      elim (child s i n) as (λ o. option_and_then (end_from s p) o ≡ Some x → (f i || list_any f (option_map_or (chain_from s p) o [])) ≡ true) [
+      elim (child s i n) as (λ o. option_and_then (end_from s p) o ≡ Some x
+      → (f i || list_any f (option_map_or (chain_from s p) o [])) ≡ true) [
         | None ↦ λ g. absurd (cc g)
         | Some j ↦ λ g. or_right (f i) (list_any f (chain_from s p j)) (any_end f p j x g h)
       ] e
 
   -- and also where the chain goes on
-  pub any_front : (f : ℕ → Bool) (p q : Path) (i x : ℕ) → end_from s p i ≡ Some x → f x ≡ true → list_any f (chain_from s (p ++ q) i) ≡ true
+  pub any_front : (f : ℕ → Bool) (p q : Path) (i x : ℕ) → end_from s p i ≡ Some x → f x ≡ true
+      → list_any f (chain_from s (p ++ q) i) ≡ true
   any_front f [] q i x e h = first q
     where
       here : f i ≡ true
@@ -101,7 +114,8 @@ module _ (s : State) where
       first [] = or_left (f i) false here
       first (n ∷ q) = or_left (f i) (list_any f (option_map_or (chain_from s q) (child s i n) [])) here
   any_front f (n ∷ p) q i x e h =
-      elim (child s i n) as (λ o. option_and_then (end_from s p) o ≡ Some x → (f i || list_any f (option_map_or (chain_from s (p ++ q)) o [])) ≡ true) [
+      elim (child s i n) as (λ o. option_and_then (end_from s p) o ≡ Some x
+      → (f i || list_any f (option_map_or (chain_from s (p ++ q)) o [])) ≡ true) [
         | None ↦ λ g. absurd (cc g)
         | Some j ↦ λ g. or_right (f i) (list_any f (chain_from s (p ++ q) j)) (any_front f p q j x g h)
       ] e
@@ -115,7 +129,8 @@ module _ (s : State) where
     pub back : Path
     pub ends : end_from s back at ≡ Some y
 
-  pub cut : (f : ℕ → Bool) (p : Path) (i y : ℕ) → end_from s p i ≡ Some y → list_any f (chain_from s p i) ≡ true → Cut f i y
+  pub cut : (f : ℕ → Bool) (p : Path) (i y : ℕ) → end_from s p i ≡ Some y → list_any f (chain_from s p i) ≡ true
+      → Cut f i y
   cut f [] i y e h = elim (or_split (f i) false h) [
     | inl a ↦ record { at = i; passes = a; front = []; leads = refl; back = []; ends = e }
     | inr b ↦ absurd (cc b)
@@ -125,9 +140,17 @@ module _ (s : State) where
     | inr b ↦ of (child s i n) refl e b (λ j. cut f p j y)
   ]
     where
-      of : (o : Option ℕ) → child s i n ≡ o → option_and_then (end_from s p) o ≡ Some y → list_any f (option_map_or (chain_from s p) o []) ≡ true
+      of : (o : Option ℕ) → child s i n ≡ o → option_and_then (end_from s p) o ≡ Some y
+          → list_any f (option_map_or (chain_from s p) o []) ≡ true
           → ((j : ℕ) → end_from s p j ≡ Some y → list_any f (chain_from s p j) ≡ true → Cut f j y) → Cut f i y
       of None is g b rest = absurd (cc g)
       of (Some j) is g b rest =
           let c = rest j g b in
-          record { at = c.at; passes = c.passes; front = n ∷ c.front; leads = ap (option_and_then (end_from s c.front)) is ∙ c.leads; back = c.back; ends = c.ends }
+          record {
+            at = c.at;
+            passes = c.passes;
+            front = n ∷ c.front;
+            leads = ap (option_and_then (end_from s c.front)) is ∙ c.leads;
+            back = c.back;
+            ends = c.ends;
+          }

@@ -26,7 +26,8 @@ last [] l = refl
 last (x ∷ k) l = ap (λ z. Refused x ∷ z) (last k l)
 
 by_parts : (t n r w e : List Errno) (d : List Denial) (k l : List Errno) →
-    map Refused t ++ map Refused n ++ map Refused r ++ map Refused w ++ map Refused e ++ map Denied d ++ map Refused k ++ map Refused l
+    map Refused t ++ map Refused n ++ map Refused r ++ map Refused w ++ map Refused e ++ map Denied d ++ map Refused k
+    ++ map Refused l
     ≡ parts (t ++ (n ++ (r ++ (w ++ e)))) d (k ++ l)
 by_parts [] [] [] [] [] [] k l = last k l
 by_parts [] [] [] [] [] (x ∷ d) k l = ap (λ z. Denied x ∷ z) (by_parts [] [] [] [] [] d k l)
@@ -73,7 +74,8 @@ module _ (s : State) (n : ℕ) (call : Call) where
 
   step_in_parts : (fresh : ℕ) (b : List Errno) (d : List Denial) (a : List Errno) → early ≡ b → policy ≡ d → late ≡ a
       → step s n call fresh ≡ first_or s (parts b d a) (does_so fresh)
-  step_in_parts fresh b d a eb ed ea = ap (λ rs. first_or s rs (does_so fresh)) (in_parts ∙ (λ i. parts (eb i) (ed i) (ea i)))
+  step_in_parts fresh b d a eb ed ea =
+      ap (λ rs. first_or s rs (does_so fresh)) (in_parts ∙ (λ i. parts (eb i) (ed i) (ea i)))
 
   first_errno : (b : List Errno) (rest : List Reply) (o : Reply × State) (e : Errno) → slice_get b 0 ≡ Some e
       → first_or s (map Refused b ++ rest) o ≡ (Refused e, s)
@@ -93,7 +95,8 @@ module _ (s : State) (n : ℕ) (call : Call) where
   pub refused_early : (e : Errno) → slice_get early 0 ≡ Some e
       → (fresh : ℕ) → ◌≡◌ {A = Reply × State} (Refused e, s) (step s n call fresh)
   refused_early e h fresh =
-      sym (step_in_parts fresh early policy late refl refl refl ∙ first_errno early (map Denied policy ++ map Refused late) _ e h)
+      sym (step_in_parts fresh early policy late refl refl refl
+      ∙ first_errno early (map Denied policy ++ map Refused late) _ e h)
 
   module _ (free : early ≡ []) where
     pub denied : (x : Denial) → slice_get policy 0 ≡ Some x

@@ -8,7 +8,9 @@ use Rattle.ll_seq.specs.declared.call.Creation.TheVariants.{Never, Exclusive}
 use Rattle.ll_seq.specs.declared.call.AccessMode.{AccessMode}
 use Rattle.ll_seq.specs.declared.call.AccessMode.TheVariants as way
 use Rattle.ll_seq.specs.declared.call.Call.{Call}
-use Rattle.ll_seq.specs.declared.call.Call.TheVariants.{Make, Open, Read, Write, Ftruncate, Close, Truncate, ReadDir, Stat, Exec, Unlink, Rmdir, Rename, RenameNoreplace, Exchange, Link, Ruleset, Allow, Confine, Spawn, Connect}
+use Rattle.ll_seq.specs.declared.call.Call.TheVariants.{Make, Open, Read, Write, Ftruncate, Close, Truncate, ReadDir}
+use Rattle.ll_seq.specs.declared.call.Call.TheVariants.{Stat, Exec, Unlink, Rmdir, Rename, RenameNoreplace, Exchange}
+use Rattle.ll_seq.specs.declared.call.Call.TheVariants.{Link, Ruleset, Allow, Confine, Spawn, Connect}
 
 abbrev pub reads : AccessMode → Bool
 reads way.Write = false

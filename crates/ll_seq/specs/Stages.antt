@@ -1,14 +1,18 @@
 -- When a call is refused apart from policy. Each stage lists the refusals that hold, and the first of all decides. The
 -- order is own. `at` and `new` are a call's first path and its second
-use Rattle.std.specs.Prelude.{ℕ, zero, suc, ◌+◌, Bool, true, false, not, ◌||◌, List, [], ◌∷◌, ◌++◌, length, Option, Some, None, nat_lt, nat_le, is_some, is_none, unwrap_or, option_and_then, slice_get, find, ◌==◌, ◌&&◌}
+use Rattle.std.specs.Prelude.{ℕ, zero, suc, ◌+◌, Bool, true, false, not, ◌||◌, List, [], ◌∷◌, ◌++◌, length, Option}
+use Rattle.std.specs.Prelude.{Some, None, nat_lt, nat_le, is_some, is_none, unwrap_or, option_and_then, slice_get, find}
+use Rattle.std.specs.Prelude.{◌==◌, ◌&&◌}
 use Rattle.std.specs.List.{flat_map}
 use Rattle.std.specs.Option.{option_map_or}
 use Rattle.std.specs.Ordering.{nat_cmp}
 use Rattle.ll_rights.specs.declared.kind.Kind.{Kind}
 use Rattle.ll_rights.specs.declared.kind.Kind.TheVariants.{Reg, Dir, Sym}
 use Rattle.ll_rights.specs.declared.errno.Errno.{Errno}
-use Rattle.ll_rights.specs.declared.errno.Errno.TheVariants.{ENOENT, EEXIST, ENOTDIR, EISDIR, ENOTEMPTY, EINVAL, EBUSY, EBADF, EMFILE, EMLINK, ENOSPC, EPERM, EFBIG, ELOOP, ENXIO}
-use Rattle.ll_rights.specs.declared.limits.TheConstants.{DATA_BYTES, DIRECTORY_ENTRIES, NODE_NAMES, FILE_BYTES, CLIENT_DESCRIPTORS, CLIENT_RULESETS, TREE_CLIENTS}
+use Rattle.ll_rights.specs.declared.errno.Errno.TheVariants.{ENOENT, EEXIST, ENOTDIR, EISDIR, ENOTEMPTY, EINVAL, EBUSY}
+use Rattle.ll_rights.specs.declared.errno.Errno.TheVariants.{EBADF, EMFILE, EMLINK, ENOSPC, EPERM, EFBIG, ELOOP, ENXIO}
+use Rattle.ll_rights.specs.declared.limits.TheConstants.{DATA_BYTES, DIRECTORY_ENTRIES, NODE_NAMES, FILE_BYTES}
+use Rattle.ll_rights.specs.declared.limits.TheConstants.{CLIENT_DESCRIPTORS, CLIENT_RULESETS, TREE_CLIENTS}
 use Rattle.ll_rights.specs.Errno.{refuse}
 use Rattle.ll_rights.specs.Kind.{is_dir}
 use Rattle.ll_rights.specs.Map.{Map, get, has, len}
@@ -21,13 +25,15 @@ use Rattle.ll_rules.specs.Rules.{create_refusals, new_ruleset, rule_refusals, ru
 use Rattle.ll_seq.specs.declared.client.ClientRecord.{ClientRecord}
 use Rattle.ll_seq.specs.declared.client.Descriptor.{Descriptor}
 use Rattle.ll_seq.specs.declared.call.Call.{Call}
-use Rattle.ll_seq.specs.declared.call.Call.TheVariants.{Make, Open, Read, Write, Ftruncate, Close, Truncate, ReadDir, Stat, Exec, Unlink, Rmdir, Rename, RenameNoreplace, Exchange, Link, Ruleset, Allow, Confine, Spawn, Connect}
+use Rattle.ll_seq.specs.declared.call.Call.TheVariants.{Make, Open, Read, Write, Ftruncate, Close, Truncate, ReadDir}
+use Rattle.ll_seq.specs.declared.call.Call.TheVariants.{Stat, Exec, Unlink, Rmdir, Rename, RenameNoreplace, Exchange}
+use Rattle.ll_seq.specs.declared.call.Call.TheVariants.{Link, Ruleset, Allow, Confine, Spawn, Connect}
 use Rattle.ll_seq.specs.Call.{creates, first_path, is_exclusive, path_of, second_path, targets}
 use Rattle.ll_seq.specs.State.{State, child, kind_of, names_in, name_count, new_client, root, start}
 use Rattle.ll_seq.specs.Tree.{named, inode_of, directory_of, kind_or_file, kind_at}
 
--- What refuses a call, stage by stage: the caller's numbers; how the paths lie; (here stands the walk;) whether the last
--- names are there; (here stands policy;) kinds; limits
+-- What refuses a call, stage by stage: the caller's numbers; how the paths lie; (here stands the walk;) whether the
+-- last names are there; (here stands policy;) kinds; limits
 pub record Stages : Type 0 where
   pub numbers : List Errno
   pub relation : List Errno

@@ -61,7 +61,8 @@ pub struct Mode {
     pub creation: Creation,
 }
 
-/// What a client asks of the tree. A number is a descriptor's or a ruleset's, counted from 0; offsets and lengths are in bytes.
+/// What a client asks of the tree. A number is a descriptor's or a ruleset's, counted from 0; offsets and lengths are
+/// in bytes.
 #[derive(Drop)]
 pub enum Call {
     /// A new empty node.

@@ -1,6 +1,7 @@
 //! Clients.
 
-ghost use Rattle.std.specs.Prelude.{◌≡◌, ◌+◌, ◌<◌, [], ◌∷◌, ◌++◌, length, nat_le, IfOk, IfErr, OnOk, OnErr, Some, slice_get, slice_set, is_none};
+ghost use Rattle.std.specs.Prelude.{◌≡◌, ◌+◌, ◌<◌, [], ◌∷◌, ◌++◌, length, nat_le, IfOk, IfErr, OnOk, OnErr, Some};
+ghost use Rattle.std.specs.Prelude.{slice_get, slice_set, is_none};
 ghost use Rattle.std.specs.Option.{option_copied};
 ghost use Rattle.ll_rights.specs.Errno.{refuse};
 ghost use Rattle.ll_rights.specs.Map.{empty, insert};
@@ -153,7 +154,8 @@ impl ClientRecord {
     pub fn open(&mut self, descriptor: Descriptor) -> Result<u64, Errno>
         ensures ok { IfOk result (λ number. (lowest_free self.old.descriptors ≡ Some number)
             × (self.new ≡ record self.old { descriptors = insert self.old.descriptors number descriptor })) }
-        ensures refused { IfErr result (λ errno. Fails (refuse (is_none (lowest_free self.old.descriptors)) Errno.EMFILE) errno) }
+        ensures refused { IfErr result
+            (λ errno. Fails (refuse (is_none (lowest_free self.old.descriptors)) Errno.EMFILE) errno) }
         ensures err { OnErr result (self.new ≡ self.old) }
     {
         let Some(number) = self.lowest_free() else {
@@ -167,10 +169,14 @@ impl ClientRecord {
 
     /// Makes a ruleset that handles these rights, at an ABI level.
     pub fn create_ruleset(&mut self, alloc: Global, abi: Abi, handled: Access) -> Result<u64, Errno>
-        ensures ok { IfOk result (λ number. (create_refusals abi handled.0 ++ refuse (nat_le CLIENT_RULESETS (length self.old.rulesets)) Errno.EMFILE ≡ [])
+        ensures ok { IfOk result (λ number.
+            (create_refusals abi handled.0 ++ refuse (nat_le CLIENT_RULESETS (length self.old.rulesets)) Errno.EMFILE
+            ≡ [])
             × (number ≡ length self.old.rulesets)
             × (self.new ≡ record self.old { rulesets = self.old.rulesets ++ new_ruleset handled.0 ∷ [] })) }
-        ensures refused { IfErr result (λ errno. Fails (create_refusals abi handled.0 ++ refuse (nat_le CLIENT_RULESETS (length self.old.rulesets)) Errno.EMFILE) errno) }
+        ensures refused { IfErr result
+            (λ errno. Fails (create_refusals abi handled.0
+            ++ refuse (nat_le CLIENT_RULESETS (length self.old.rulesets)) Errno.EMFILE) errno) }
         ensures err { OnErr result (self.new ≡ self.old) }
     {
         let made = match Ruleset::create(alloc, abi, handled) {

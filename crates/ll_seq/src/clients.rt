@@ -1,6 +1,7 @@
 //! What clients do to their own records.
 
-ghost use Rattle.std.specs.Prelude.{◌≡◌, ◌+◌, ◌<◌, [], ◌∷◌, ◌++◌, length, nat_le, IfOk, IfErr, OnOk, OnErr, Some, true, slice_get, slice_set, is_none};
+ghost use Rattle.std.specs.Prelude.{◌≡◌, ◌+◌, ◌<◌, [], ◌∷◌, ◌++◌, length, nat_le, IfOk, IfErr, OnOk, OnErr, Some, true};
+ghost use Rattle.std.specs.Prelude.{slice_get, slice_set, is_none};
 ghost use Rattle.ll_rights.specs.Errno.{refuse};
 ghost use Rattle.ll_rights.specs.Map.{get, has, insert, remove};
 ghost use Rattle.ll_rules.specs.Layer.{Layer};
@@ -20,7 +21,9 @@ impl NumberMap<ClientRecord> {
     pub fn open(&mut self, client: u64, descriptor: Descriptor) -> Result<u64, Errno>
         requires { has self.old client ≡ true }
         ensures ok { IfOk result (λ number. (c : record_of.ClientRecord) → get self.old client ≡ Some c
-            → (lowest_free c.descriptors ≡ Some number) × (self.new ≡ insert self.old client (record c { descriptors = insert c.descriptors number descriptor }))) }
+            → (lowest_free c.descriptors ≡ Some number)
+            × (self.new ≡ insert self.old client
+            (record c { descriptors = insert c.descriptors number descriptor }))) }
         ensures refused { IfErr result (λ errno. (c : record_of.ClientRecord) → get self.old client ≡ Some c
             → Fails (refuse (is_none (lowest_free c.descriptors)) Errno.EMFILE) errno) }
         ensures err { OnErr result (self.new ≡ self.old) }
@@ -35,7 +38,8 @@ impl NumberMap<ClientRecord> {
     /// Frees the client's descriptor.
     pub fn close(&mut self, client: u64, number: u64)
         requires { has self.old client ≡ true }
-        ensures { (c : record_of.ClientRecord) → get self.old client ≡ Some c → self.new ≡ insert self.old client (record c { descriptors = remove c.descriptors number }) }
+        ensures { (c : record_of.ClientRecord) → get self.old client ≡ Some c
+            → self.new ≡ insert self.old client (record c { descriptors = remove c.descriptors number }) }
     {
         let Some(i) = index_of(&self.rows, client) else {
             unreachable!();
@@ -54,10 +58,12 @@ impl NumberMap<ClientRecord> {
     ) -> Result<u64, Errno>
         requires { has self.old client ≡ true }
         ensures ok { IfOk result (λ number. (c : record_of.ClientRecord) → get self.old client ≡ Some c
-            → (create_refusals abi handled.0 ++ refuse (nat_le CLIENT_RULESETS (length c.rulesets)) Errno.EMFILE ≡ []) × (number ≡ length c.rulesets)
+            → (create_refusals abi handled.0 ++ refuse (nat_le CLIENT_RULESETS (length c.rulesets)) Errno.EMFILE ≡ [])
+            × (number ≡ length c.rulesets)
             × (self.new ≡ insert self.old client (record c { rulesets = c.rulesets ++ new_ruleset handled.0 ∷ [] }))) }
         ensures refused { IfErr result (λ errno. (c : record_of.ClientRecord) → get self.old client ≡ Some c
-            → Fails (create_refusals abi handled.0 ++ refuse (nat_le CLIENT_RULESETS (length c.rulesets)) Errno.EMFILE) errno) }
+            → Fails (create_refusals abi handled.0 ++ refuse (nat_le CLIENT_RULESETS (length c.rulesets)) Errno.EMFILE)
+            errno) }
         ensures err { OnErr result (self.new ≡ self.old) }
     {
         let Some(i) = index_of(&self.rows, client) else {
@@ -78,11 +84,14 @@ impl NumberMap<ClientRecord> {
     ) -> Result<(), Errno>
         requires there { has self.old client ≡ true }
         requires made { (c : record_of.ClientRecord) → get self.old client ≡ Some c → number < length c.rulesets }
-        ensures ok { OnOk result ((c : record_of.ClientRecord) → get self.old client ≡ Some c → (made : Layer) × (slice_get c.rulesets number ≡ Some made)
+        ensures ok { OnOk result ((c : record_of.ClientRecord) → get self.old client ≡ Some c → (made : Layer)
+            × (slice_get c.rulesets number ≡ Some made)
             × (rule_refusals made kind rights.0 ++ rule_limit made inode ≡ [])
-            × (self.new ≡ insert self.old client (record c { rulesets = slice_set c.rulesets number (with_rule made inode rights.0) }))) }
+            × (self.new ≡ insert self.old client
+            (record c { rulesets = slice_set c.rulesets number (with_rule made inode rights.0) }))) }
         ensures refused { IfErr result (λ errno. (c : record_of.ClientRecord) → get self.old client ≡ Some c
-            → (made : Layer) → slice_get c.rulesets number ≡ Some made → Fails (rule_refusals made kind rights.0 ++ rule_limit made inode) errno) }
+            → (made : Layer) → slice_get c.rulesets number ≡ Some made
+            → Fails (rule_refusals made kind rights.0 ++ rule_limit made inode) errno) }
         ensures err { OnErr result (self.new ≡ self.old) }
     {
         let Some(i) = index_of(&self.rows, client) else {
@@ -96,9 +105,11 @@ impl NumberMap<ClientRecord> {
     pub fn confine(&mut self, client: u64, number: u64) -> Result<(), Errno>
         requires there { has self.old client ≡ true }
         requires made { (c : record_of.ClientRecord) → get self.old client ≡ Some c → number < length c.rulesets }
-        ensures ok { OnOk result ((c : record_of.ClientRecord) → get self.old client ≡ Some c → (layer_limit c.domain ≡ [])
+        ensures ok { OnOk result ((c : record_of.ClientRecord) → get self.old client ≡ Some c
+            → (layer_limit c.domain ≡ [])
             × (self.new ≡ insert self.old client (record c { domain = c.domain ++ ruleset_at c number ∷ [] }))) }
-        ensures refused { IfErr result (λ errno. (c : record_of.ClientRecord) → get self.old client ≡ Some c → Fails (layer_limit c.domain) errno) }
+        ensures refused { IfErr result (λ errno. (c : record_of.ClientRecord) → get self.old client ≡ Some c
+            → Fails (layer_limit c.domain) errno) }
         ensures err { OnErr result (self.new ≡ self.old) }
     {
         let Some(i) = index_of(&self.rows, client) else {

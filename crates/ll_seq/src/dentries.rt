@@ -1,6 +1,7 @@
 //! Directory entries.
 
-ghost use Rattle.std.specs.Prelude.{◌≡◌, ◌^◌, ◌<◌, ◌≤◌, ℕ, Some, None, IsTrue, IfSome, IfNone, IfOk, IfErr, OnOk, OnErr, length, slice_get};
+ghost use Rattle.std.specs.Prelude.{◌≡◌, ◌^◌, ◌<◌, ◌≤◌, ℕ, Some, None, IsTrue, IfSome, IfNone, IfOk, IfErr, OnOk};
+ghost use Rattle.std.specs.Prelude.{OnErr, length, slice_get};
 ghost use Rattle.std.specs.FinMap.Entries.{find, is_sorted};
 ghost use Rattle.ll_rights.proofs.Places.{place};
 ghost use Rattle.ll_seq.specs.State.{dentry, dentry_cmp};
@@ -54,7 +55,8 @@ fn order(row: &(Dentry, u64), directory: u64, name: &str) -> Ordering
 fn search(rows: &[(Dentry, u64)], directory: u64, name: &str) -> Result<usize, usize>
     requires { IsTrue (is_sorted dentry_cmp rows.now) }
     ensures within { IfOk result (λ i. i < length rows.now) }
-    ensures row { IfOk result (λ i. (inode : ℕ) × (find dentry_cmp (dentry directory name.now) rows.now ≡ Some inode) × (slice_get rows.now i ≡ Some (dentry directory name.now, inode))) }
+    ensures row { IfOk result (λ i. (inode : ℕ) × (find dentry_cmp (dentry directory name.now) rows.now ≡ Some inode)
+        × (slice_get rows.now i ≡ Some (dentry directory name.now, inode))) }
     ensures none { IfErr result (λ i. find dentry_cmp (dentry directory name.now) rows.now ≡ None) }
     ensures place { IfErr result (λ i. i ≡ place dentry_cmp (dentry directory name.now) rows.now) }
     ensures most { IfErr result (λ i. i ≤ length rows.now) }
@@ -67,7 +69,8 @@ fn index_of(rows: &[(Dentry, u64)], directory: u64, name: &str) -> Option<usize>
     requires { IsTrue (is_sorted dentry_cmp rows.now) }
     ensures none { IfNone result (find dentry_cmp (dentry directory name.now) rows.now ≡ None) }
     ensures within { IfSome result (λ i. i < length rows.now) }
-    ensures row { IfSome result (λ i. (inode : ℕ) × (find dentry_cmp (dentry directory name.now) rows.now ≡ Some inode) × (slice_get rows.now i ≡ Some (dentry directory name.now, inode))) }
+    ensures row { IfSome result (λ i. (inode : ℕ) × (find dentry_cmp (dentry directory name.now) rows.now ≡ Some inode)
+        × (slice_get rows.now i ≡ Some (dentry directory name.now, inode))) }
 {
     search(rows, directory, name).ok()
 }
@@ -122,14 +125,17 @@ impl Dentries {
 
     /// How many names the directory has.
     pub fn count_in(&self, directory: u64) -> usize
-        ensures { result ≡ length (filter (λ (e : dentries_of.Dentry × ℕ). e.0.directory == directory) (entries self.now)) }
+        ensures { result ≡ length (filter (λ (e : dentries_of.Dentry × ℕ). e.0.directory == directory)
+            (entries self.now)) }
     {
         self.rows_of(directory).len()
     }
 
     /// The names in the directory, rising by bytes.
     pub fn names_in(&self, alloc: Global, directory: u64) -> Result<Listing, AllocError>
-        ensures { IfOk result (λ listing. listing ≡ map (λ (e : dentries_of.Dentry × ℕ). e.0.name) (filter (λ (e : dentries_of.Dentry × ℕ). e.0.directory == directory) (entries self.now))) }
+        ensures { IfOk result (λ listing. listing
+            ≡ map (λ (e : dentries_of.Dentry × ℕ). e.0.name)
+            (filter (λ (e : dentries_of.Dentry × ℕ). e.0.directory == directory) (entries self.now))) }
     {
         let mut listing = Listing::new(alloc);
         for row in self.rows_of(directory) {
@@ -154,7 +160,8 @@ impl Dentries {
 
     /// Another inode under a name that the directory has. Without the name nothing happens.
     pub fn replace(&mut self, directory: u64, name: &str, inode: u64)
-        ensures { self.new ≡ option_map_or (λ (old : ℕ). insert self.old (dentry directory name.now) inode) (get self.old (dentry directory name.now)) self.old }
+        ensures { self.new ≡ option_map_or (λ (old : ℕ). insert self.old (dentry directory name.now) inode)
+            (get self.old (dentry directory name.now)) self.old }
     {
         if let Some(i) = index_of(&self.rows, directory, name) {
             let row = &mut self.rows[i];

@@ -1,11 +1,13 @@
 //! What is counted of each node, so that no call counts it again.
 
-ghost use Rattle.std.specs.Prelude.{◌≡◌, ◌&&◌, ◌||◌, ◌==◌, ◌+◌, ◌-◌, ◌^◌, ℕ, Some, None, true, false, not, min, is_none, if◌then◌else◌, option_map, IfOk, OnOk, OnErr};
+ghost use Rattle.std.specs.Prelude.{◌≡◌, ◌&&◌, ◌||◌, ◌==◌, ◌+◌, ◌-◌, ◌^◌, ℕ, Some, None, true, false, not, min};
+ghost use Rattle.std.specs.Prelude.{is_none, if◌then◌else◌, option_map, IfOk, OnOk, OnErr};
 ghost use Rattle.std.specs.Option.{option_map_or};
 ghost use Rattle.ll_rights.specs.Map.{get, has, insert, remove};
 ghost use Rattle.ll_seq.specs.State.{State, start};
 ghost use Rattle.ll_seq.specs.Stages.{is_crowded, has_many_names};
-ghost use Rattle.ll_seq.specs.Effects.{with_node, with_name, without_name, with_moved, renamed, with_client, child_of, lives, let_go};
+ghost use Rattle.ll_seq.specs.Effects.{with_node, with_name, without_name, with_moved, renamed, with_client, child_of};
+ghost use Rattle.ll_seq.specs.Effects.{lives, let_go};
 ghost use Rattle.ll_seq.specs.Facts.{AreKept, has_room, have_room};
 ghost use Rattle.ll_seq.specs.declared.client.ClientRecord as record_of;
 ghost use Rattle.ll_seq.specs.declared.client.Descriptor as file;
@@ -42,7 +44,8 @@ impl NumberMap<Fact> {
 
     /// Other counts of the node. Without such a node nothing happens.
     fn put(&mut self, inode: u64, fact: Fact)
-        ensures { (q : ℕ) → get self.new q ≡ option_map (λ (f : fact_type.Fact). if inode == q then fact else f) (get self.old q) }
+        ensures { (q : ℕ) → get self.new q
+            ≡ option_map (λ (f : fact_type.Fact). if inode == q then fact else f) (get self.old q) }
     {
         if let Some(i) = index_of(&self.rows, inode) {
             let row = &mut self.rows[i];
@@ -51,7 +54,9 @@ impl NumberMap<Fact> {
     }
 
     fn add_name(&mut self, directory: u64)
-        ensures { (q : ℕ) → get self.new q ≡ option_map (λ (f : fact_type.Fact). record f { names = if directory == q then min (f.names + 1) (2 ^ 64 - 1) else f.names }) (get self.old q) }
+        ensures { (q : ℕ) → get self.new q
+            ≡ option_map (λ (f : fact_type.Fact). record f
+            { names = if directory == q then min (f.names + 1) (2 ^ 64 - 1) else f.names }) (get self.old q) }
     {
         if let Some(mut fact) = self.fact(directory) {
             fact.names = fact.names.saturating_add(1);
@@ -60,7 +65,9 @@ impl NumberMap<Fact> {
     }
 
     fn take_name(&mut self, directory: u64)
-        ensures { (q : ℕ) → get self.new q ≡ option_map (λ (f : fact_type.Fact). record f { names = if directory == q then f.names - 1 else f.names }) (get self.old q) }
+        ensures { (q : ℕ) → get self.new q
+            ≡ option_map (λ (f : fact_type.Fact). record f { names = if directory == q then f.names - 1 else f.names })
+            (get self.old q) }
     {
         if let Some(mut fact) = self.fact(directory) {
             fact.names = fact.names.saturating_sub(1);
@@ -69,7 +76,9 @@ impl NumberMap<Fact> {
     }
 
     fn add_link(&mut self, inode: u64)
-        ensures { (q : ℕ) → get self.new q ≡ option_map (λ (f : fact_type.Fact). record f { links = if inode == q then min (f.links + 1) (2 ^ 64 - 1) else f.links }) (get self.old q) }
+        ensures { (q : ℕ) → get self.new q
+            ≡ option_map (λ (f : fact_type.Fact). record f
+            { links = if inode == q then min (f.links + 1) (2 ^ 64 - 1) else f.links }) (get self.old q) }
     {
         if let Some(mut fact) = self.fact(inode) {
             fact.links = fact.links.saturating_add(1);
@@ -78,7 +87,9 @@ impl NumberMap<Fact> {
     }
 
     fn take_link(&mut self, inode: u64)
-        ensures { (q : ℕ) → get self.new q ≡ option_map (λ (f : fact_type.Fact). record f { links = if inode == q then f.links - 1 else f.links }) (get self.old q) }
+        ensures { (q : ℕ) → get self.new q
+            ≡ option_map (λ (f : fact_type.Fact). record f { links = if inode == q then f.links - 1 else f.links })
+            (get self.old q) }
     {
         if let Some(mut fact) = self.fact(inode) {
             fact.links = fact.links.saturating_sub(1);
@@ -87,7 +98,9 @@ impl NumberMap<Fact> {
     }
 
     fn add_open(&mut self, inode: u64)
-        ensures { (q : ℕ) → get self.new q ≡ option_map (λ (f : fact_type.Fact). record f { opens = if inode == q then min (f.opens + 1) (2 ^ 64 - 1) else f.opens }) (get self.old q) }
+        ensures { (q : ℕ) → get self.new q
+            ≡ option_map (λ (f : fact_type.Fact). record f
+            { opens = if inode == q then min (f.opens + 1) (2 ^ 64 - 1) else f.opens }) (get self.old q) }
     {
         if let Some(mut fact) = self.fact(inode) {
             fact.opens = fact.opens.saturating_add(1);
@@ -96,7 +109,9 @@ impl NumberMap<Fact> {
     }
 
     fn take_open(&mut self, inode: u64)
-        ensures { (q : ℕ) → get self.new q ≡ option_map (λ (f : fact_type.Fact). record f { opens = if inode == q then f.opens - 1 else f.opens }) (get self.old q) }
+        ensures { (q : ℕ) → get self.new q
+            ≡ option_map (λ (f : fact_type.Fact). record f { opens = if inode == q then f.opens - 1 else f.opens })
+            (get self.old q) }
     {
         if let Some(mut fact) = self.fact(inode) {
             fact.opens = fact.opens.saturating_sub(1);
@@ -106,7 +121,9 @@ impl NumberMap<Fact> {
 
     /// Forgets the node where nothing is left that keeps it. Whether it does.
     fn let_go(&mut self, inode: u64) -> bool
-        ensures dead { result ≡ option_map_or (λ (f : fact_type.Fact). not ((inode == 1) || not (f.links == 0) || not (f.opens == 0))) (get self.old inode) false }
+        ensures dead { result ≡ option_map_or
+            (λ (f : fact_type.Fact). not ((inode == 1) || not (f.links == 0) || not (f.opens == 0)))
+            (get self.old inode) false }
         ensures left { self.new ≡ (if result then remove self.old inode else self.old) }
     {
         let Some(fact) = self.fact(inode) else {
@@ -122,7 +139,8 @@ impl NumberMap<Fact> {
     /// A new node without a name.
     fn add(&mut self, inode: u64, kind: Kind) -> Result<(), AllocError>
         requires { get self.old inode ≡ None }
-        ensures ok { OnOk result (self.new ≡ insert self.old inode (record { kind = kind; names = 0; links = 0; opens = 0 })) }
+        ensures ok { OnOk result (self.new
+            ≡ insert self.old inode (record { kind = kind; names = 0; links = 0; opens = 0 })) }
         ensures err { OnErr result (self.new ≡ self.old) }
     {
         let fact = Fact {
@@ -136,8 +154,10 @@ impl NumberMap<Fact> {
 
     /// A name goes from one directory into another.
     fn move_name(&mut self, from: u64, into: u64)
-        ensures { (q : ℕ) → get self.new q ≡ option_map (λ (f : fact_type.Fact). if from == into then f else record f
-            { names = if into == q then min ((if from == q then f.names - 1 else f.names) + 1) (2 ^ 64 - 1) else if from == q then f.names - 1 else f.names }) (get self.old q) }
+        ensures { (q : ℕ) → get self.new q ≡ option_map (λ (f : fact_type.Fact). if from == into then f else record f {
+          names = if into == q then min ((if from == q then f.names - 1 else f.names) + 1) (2 ^ 64 - 1) else
+              if from == q then f.names - 1 else f.names;
+        }) (get self.old q) }
     {
         if from != into {
             self.take_name(from);
@@ -157,8 +177,10 @@ impl NumberMap<Fact> {
     /// A new node of this kind has this number, and a name in the directory.
     pub fn make(&mut self, directory: u64, inode: u64, kind: Kind) -> Result<(), AllocError>
         requires { get self.old inode ≡ None }
-        ensures ok { OnOk result ((s : State) (at : place_of.Dentry) → AreKept s self.old → s.next ≡ inode → at.directory ≡ directory
-            → has s.nodes directory ≡ true → get s.entries at ≡ None → is_crowded s directory ≡ false → AreKept (with_node s kind at) self.new) }
+        ensures ok { OnOk result ((s : State) (at : place_of.Dentry) → AreKept s self.old → s.next ≡ inode
+            → at.directory ≡ directory
+            → has s.nodes directory ≡ true → get s.entries at ≡ None → is_crowded s directory ≡ false
+            → AreKept (with_node s kind at) self.new) }
         ensures err { OnErr result (self.new ≡ self.old) }
     {
         self.add(inode, kind)?;
@@ -168,8 +190,10 @@ impl NumberMap<Fact> {
 
     /// The inode has a further name, in the directory.
     pub fn name(&mut self, directory: u64, inode: u64)
-        ensures { (s : State) (at : place_of.Dentry) → AreKept s self.old → at.directory ≡ directory → has s.nodes directory ≡ true → has s.nodes inode ≡ true
-            → get s.entries at ≡ None → is_crowded s directory ≡ false → has_many_names s inode ≡ false → AreKept (with_name s at inode) self.new }
+        ensures { (s : State) (at : place_of.Dentry) → AreKept s self.old → at.directory ≡ directory
+            → has s.nodes directory ≡ true → has s.nodes inode ≡ true
+            → get s.entries at ≡ None → is_crowded s directory ≡ false → has_many_names s inode ≡ false
+            → AreKept (with_name s at inode) self.new }
     {
         self.add_name(directory);
         self.add_link(inode);
@@ -177,9 +201,11 @@ impl NumberMap<Fact> {
 
     /// The inode loses a name, which the directory had. Whether its node goes with it.
     pub fn unname(&mut self, directory: u64, inode: u64) -> bool
-        ensures kept { (s : State) (at : place_of.Dentry) → AreKept s self.old → at.directory ≡ directory → get s.entries at ≡ Some inode
+        ensures kept { (s : State) (at : place_of.Dentry) → AreKept s self.old → at.directory ≡ directory
+            → get s.entries at ≡ Some inode
             → AreKept (without_name s at inode) self.new }
-        ensures goes { (s : State) (at : place_of.Dentry) → AreKept s self.old → at.directory ≡ directory → get s.entries at ≡ Some inode → has s.nodes inode ≡ true
+        ensures goes { (s : State) (at : place_of.Dentry) → AreKept s self.old → at.directory ≡ directory
+            → get s.entries at ≡ Some inode → has s.nodes inode ≡ true
             → result ≡ not (lives (record s { entries = remove s.entries at }) inode) }
     {
         self.take_name(directory);
@@ -187,14 +213,18 @@ impl NumberMap<Fact> {
         self.let_go(inode)
     }
 
-    /// The inode's name in the one directory becomes one in the other, where it may replace another inode's. Whether the replaced
-    /// node goes.
+    /// The inode's name in the one directory becomes one in the other, where it may replace another inode's. Whether
+    /// the replaced node goes.
     pub fn rename(&mut self, from: u64, into: u64, inode: u64, replaced: Option<u64>) -> bool
-        ensures kept { (s : State) (old new : place_of.Dentry) → AreKept s self.old → old.directory ≡ from → new.directory ≡ into → has s.nodes into ≡ true
-            → get s.entries old ≡ Some inode → get s.entries new ≡ replaced → (is_none replaced && not (from == into) && is_crowded s into) ≡ false
+        ensures kept { (s : State) (old new : place_of.Dentry) → AreKept s self.old → old.directory ≡ from
+            → new.directory ≡ into → has s.nodes into ≡ true
+            → get s.entries old ≡ Some inode → get s.entries new ≡ replaced
+            → (is_none replaced && not (from == into) && is_crowded s into) ≡ false
             → AreKept (renamed s old new inode replaced) self.new }
-        ensures goes { (s : State) (old new : place_of.Dentry) → AreKept s self.old → old.directory ≡ from → new.directory ≡ into
-            → get s.entries old ≡ Some inode → get s.entries new ≡ replaced → (node : ℕ) → replaced ≡ Some node → has s.nodes node ≡ true
+        ensures goes { (s : State) (old new : place_of.Dentry) → AreKept s self.old → old.directory ≡ from
+            → new.directory ≡ into
+            → get s.entries old ≡ Some inode → get s.entries new ≡ replaced → (node : ℕ) → replaced ≡ Some node
+            → has s.nodes node ≡ true
             → result ≡ (not (inode == node) && not (lives (with_moved s old new inode) node)) }
         ensures stays { replaced ≡ None → result ≡ false }
     {
@@ -225,7 +255,8 @@ impl NumberMap<Fact> {
     /// The inode has one descriptor more.
     pub fn open(&mut self, inode: u64)
         requires { has_room self.old inode ≡ true }
-        ensures { (s : State) (client : ℕ) (c : record_of.ClientRecord) (fd : ℕ) (d : file.Descriptor) → AreKept s self.old → get s.clients client ≡ Some c
+        ensures { (s : State) (client : ℕ) (c : record_of.ClientRecord) (fd : ℕ) (d : file.Descriptor)
+            → AreKept s self.old → get s.clients client ≡ Some c
             → get c.descriptors fd ≡ None → d.inode ≡ inode → has s.nodes inode ≡ true
             → AreKept (with_client s client (record c { descriptors = insert c.descriptors fd d })) self.new }
     {
@@ -234,10 +265,13 @@ impl NumberMap<Fact> {
 
     /// The inode loses a descriptor. Whether its node goes with it.
     pub fn close(&mut self, inode: u64) -> bool
-        ensures kept { (s : State) (client : ℕ) (c : record_of.ClientRecord) (fd : ℕ) (d : file.Descriptor) → AreKept s self.old → get s.clients client ≡ Some c
+        ensures kept { (s : State) (client : ℕ) (c : record_of.ClientRecord) (fd : ℕ) (d : file.Descriptor)
+            → AreKept s self.old → get s.clients client ≡ Some c
             → get c.descriptors fd ≡ Some d → d.inode ≡ inode
-            → AreKept (let_go (with_client s client (record c { descriptors = remove c.descriptors fd })) inode) self.new }
-        ensures goes { (s : State) (client : ℕ) (c : record_of.ClientRecord) (fd : ℕ) (d : file.Descriptor) → AreKept s self.old → get s.clients client ≡ Some c
+            → AreKept (let_go (with_client s client (record c { descriptors = remove c.descriptors fd })) inode)
+            self.new }
+        ensures goes { (s : State) (client : ℕ) (c : record_of.ClientRecord) (fd : ℕ) (d : file.Descriptor)
+            → AreKept s self.old → get s.clients client ≡ Some c
             → get c.descriptors fd ≡ Some d → d.inode ≡ inode → has s.nodes inode ≡ true
             → result ≡ not (lives (with_client s client (record c { descriptors = remove c.descriptors fd })) inode) }
     {
@@ -260,8 +294,10 @@ impl NumberMap<Fact> {
     /// A spawned client has these descriptors.
     pub fn open_all(&mut self, descriptors: &NumberMap<Descriptor>)
         requires { have_room self.old descriptors.now ≡ true }
-        ensures { (s : State) (client : ℕ) (c : record_of.ClientRecord) (fresh : ℕ) → AreKept s self.old → get s.clients client ≡ Some c → has s.clients fresh ≡ false
-            → (child_of s.rules c).descriptors ≡ descriptors.now → AreKept (with_client s fresh (child_of s.rules c)) self.new }
+        ensures { (s : State) (client : ℕ) (c : record_of.ClientRecord) (fresh : ℕ) → AreKept s self.old
+            → get s.clients client ≡ Some c → has s.clients fresh ≡ false
+            → (child_of s.rules c).descriptors ≡ descriptors.now
+            → AreKept (with_client s fresh (child_of s.rules c)) self.new }
     {
         for row in &descriptors.rows {
             self.add_open(row.1.inode);

@@ -13,7 +13,9 @@ use std::alloc::AllocError;
 impl NumberMap<Node> {
     /// Cuts the node's bytes to this length, or fills them with zeros to it. Without such a node nothing happens.
     pub fn set_len(&mut self, inode: u64, len: usize) -> Result<(), AllocError>
-        ensures ok { OnOk result (self.new ≡ option_map_or (λ (n : record_of.Node). insert self.old inode (record n { bytes = resized n.bytes len })) (get self.old inode) self.old) }
+        ensures ok { OnOk result (self.new
+            ≡ option_map_or (λ (n : record_of.Node). insert self.old inode (record n { bytes = resized n.bytes len }))
+            (get self.old inode) self.old) }
         ensures err { OnErr result (self.new ≡ self.old) }
     {
         let Some(i) = index_of(&self.rows, inode) else {
@@ -26,7 +28,9 @@ impl NumberMap<Node> {
     /// Puts the bytes into the node's from the offset on. Without such a node nothing happens.
     pub fn write(&mut self, inode: u64, offset: usize, bytes: &[u8]) -> Result<(), AllocError>
         requires { offset + length bytes.now < 2 ^ 64 }
-        ensures ok { OnOk result (self.new ≡ option_map_or (λ (n : record_of.Node). insert self.old inode (record n { bytes = overwritten n.bytes offset bytes.now })) (get self.old inode) self.old) }
+        ensures ok { OnOk result (self.new
+            ≡ option_map_or (λ (n : record_of.Node). insert self.old inode
+            (record n { bytes = overwritten n.bytes offset bytes.now })) (get self.old inode) self.old) }
         ensures err { OnErr result (self.new ≡ self.old) }
     {
         let Some(i) = index_of(&self.rows, inode) else {
@@ -38,7 +42,8 @@ impl NumberMap<Node> {
 
     /// Takes the node's bytes away. Without such a node nothing happens.
     pub fn clear(&mut self, inode: u64)
-        ensures { self.new ≡ option_map_or (λ (n : record_of.Node). insert self.old inode (record n { bytes = [] })) (get self.old inode) self.old }
+        ensures { self.new ≡ option_map_or (λ (n : record_of.Node). insert self.old inode (record n { bytes = [] }))
+            (get self.old inode) self.old }
     {
         if let Some(i) = index_of(&self.rows, inode) {
             let row = &mut self.rows[i];

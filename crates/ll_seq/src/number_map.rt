@@ -1,6 +1,7 @@
 //! Tables by number.
 
-ghost use Rattle.std.specs.Prelude.{◌≡◌, ◌<◌, ◌≤◌, false, Some, None, IsTrue, IfSome, IfNone, IfOk, IfErr, OnOk, OnErr, length, slice_get};
+ghost use Rattle.std.specs.Prelude.{◌≡◌, ◌<◌, ◌≤◌, false, Some, None, IsTrue, IfSome, IfNone, IfOk, IfErr, OnOk, OnErr};
+ghost use Rattle.std.specs.Prelude.{length, slice_get};
 ghost use Rattle.std.specs.Ordering.{nat_cmp};
 ghost use Rattle.std.specs.Option.{option_copied};
 ghost use Rattle.std.specs.FinMap.Entries.{find, is_sorted};
@@ -36,7 +37,8 @@ impl<V> Model for NumberMap<V> {
 fn search<V>(rows: &[(u64, V)], number: u64) -> Result<usize, usize>
     requires { IsTrue (is_sorted nat_cmp rows.now) }
     ensures within { IfOk result (λ i. i < length rows.now) }
-    ensures row { IfOk result (λ i. (v : V) × (find nat_cmp number rows.now ≡ Some v) × (slice_get rows.now i ≡ Some (number, v))) }
+    ensures row { IfOk result (λ i. (v : V) × (find nat_cmp number rows.now ≡ Some v)
+        × (slice_get rows.now i ≡ Some (number, v))) }
     ensures none { IfErr result (λ i. find nat_cmp number rows.now ≡ None) }
     ensures place { IfErr result (λ i. i ≡ place nat_cmp number rows.now) }
     ensures most { IfErr result (λ i. i ≤ length rows.now) }
@@ -49,7 +51,8 @@ pub(crate) fn index_of<V>(rows: &[(u64, V)], number: u64) -> Option<usize>
     requires { IsTrue (is_sorted nat_cmp rows.now) }
     ensures none { IfNone result (find nat_cmp number rows.now ≡ None) }
     ensures within { IfSome result (λ i. i < length rows.now) }
-    ensures row { IfSome result (λ i. (v : V) × (find nat_cmp number rows.now ≡ Some v) × (slice_get rows.now i ≡ Some (number, v))) }
+    ensures row { IfSome result (λ i. (v : V) × (find nat_cmp number rows.now ≡ Some v)
+        × (slice_get rows.now i ≡ Some (number, v))) }
 {
     search(rows, number).ok()
 }

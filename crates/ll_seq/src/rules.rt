@@ -2,7 +2,8 @@
 
 use ll_rights::Abi;
 
-/// The ABI level whose rights a ruleset may handle, and whether a spawned client gets copies of its parent's descriptors.
+/// The ABI level whose rights a ruleset may handle, and whether a spawned client gets copies of its parent's
+/// descriptors.
 #[derive(Clone, Copy, Debug, PartialEq, Eq)]
 pub struct Rules {
     pub abi: Abi,

@@ -1,5 +1,6 @@
 -- The entries of a run are a legal history.
-use Rattle.std.proofs.Common.{◌≡◌, ℕ, zero, suc, ◌-◌, true, false, true≢false, List, [], ◌∷◌, ◌++◌, ◌⊎◌, Some, refl, sym, ap, subst, ◌∙◌, inl, inr}
+use Rattle.std.proofs.Common.{◌≡◌, ℕ, zero, suc, ◌-◌, true, false, true≢false, List, [], ◌∷◌, ◌++◌, ◌⊎◌, Some, refl}
+use Rattle.std.proofs.Common.{sym, ap, subst, ◌∙◌, inl, inr}
 use Rattle.std.specs.Prelude.{drop, length, slice_get, not, IfSome, Option, None}
 use Rattle.std.specs.List.{AllByRecursion}
 use Rattle.std.specs.declared.alloc.Global.{Global}
@@ -7,10 +8,13 @@ use Rattle.std.specs.declared.vec.Vec.{Vec}
 use Rattle.std.proofs.lemmas.List.Elements.{recursion_from_All}
 use Rattle.ll_rights.specs.Map.{has}
 use Rattle.ll_seq.specs.declared.call.Call.{Call}
-use Rattle.ll_seq.specs.declared.call.Call.TheVariants.{Make, Open, Read, Write, Ftruncate, Close, Truncate, ReadDir, Stat, Exec, Unlink, Rmdir, Rename, RenameNoreplace, Exchange, Link, Ruleset, Allow, Confine, Spawn, Connect}
+use Rattle.ll_seq.specs.declared.call.Call.TheVariants.{Make, Open, Read, Write, Ftruncate, Close, Truncate, ReadDir}
+use Rattle.ll_seq.specs.declared.call.Call.TheVariants.{Stat, Exec, Unlink, Rmdir, Rename, RenameNoreplace, Exchange}
+use Rattle.ll_seq.specs.declared.call.Call.TheVariants.{Link, Ruleset, Allow, Confine, Spawn, Connect}
 use Rattle.ll_seq.specs.declared.reply.Entry.{Entry}
 use Rattle.ll_seq.specs.declared.reply.Reply.{Reply}
-use Rattle.ll_seq.specs.declared.reply.Reply.TheVariants.{Done, Opened, Bytes, Wrote, Listed, Found, Created, Spawned, Refused, Denied}
+use Rattle.ll_seq.specs.declared.reply.Reply.TheVariants.{Done, Opened, Bytes, Wrote, Listed, Found, Created, Spawned}
+use Rattle.ll_seq.specs.declared.reply.Reply.TheVariants.{Refused, Denied}
 use Rattle.ll_seq.specs.Call.{first_path, second_path}
 use Rattle.ll_seq.specs.CallParts.{done}
 use Rattle.ll_seq.specs.History.{is_connect, fresh_of, Log, MayStand, IsLegal}
@@ -22,12 +26,14 @@ use Rattle.ll_wire.specs.Grammar.{IsCall}
 use Rattle.ll_session.proofs.Connecting.{paired, there_by}
 use Rattle.ll_session.specs.declared.setup.Setup.{Setup}
 use Rattle.ll_session.specs.declared.tree.SessionTree.{SessionTree}
-use Rattle.ll_session.specs.Opening.{Comes, Loads, Makes, Opens, Stops, begun, following, fresh, joined, made, refused, unconnected, unmade}
+use Rattle.ll_session.specs.Opening.{Comes, Loads, Makes, Opens, Stops, begun, following, fresh, joined, made, refused}
+use Rattle.ll_session.specs.Opening.{unconnected, unmade}
 use Rattle.ll_session.specs.Progress.{AreThere, IsSound, StandsAt, StaysSound}
 use Rattle.ll_session.specs.Run.{RunsLegally}
 use Rattle.ll_session.proofs.Replies.{CalledAt}
 use Rattle.ll_lines.specs.Transcript.{Transcript}
-use Rattle.ll_session.specs.Session.{Session, AreOthers, Called, Answers, Tells, answered, full, starved, calls, unread, bad, brought}
+use Rattle.ll_session.specs.Session.{Session, AreOthers, Called, Answers, Tells, answered, full, starved, calls, unread}
+use Rattle.ll_session.specs.Session.{bad, brought}
 
 -- a call that has a spelling is no connect
 pub no_connect : (call : Call) → IsCall call → is_connect call ≡ false
@@ -55,7 +61,8 @@ no_connect Connect is = absurd is
 
 -- the number that the reply tells is all that a step needs of the fresh one
 module _ (s : State) (n : ℕ) where
-  by_reply : (call : Call) (fresh : ℕ) → ◌≡◌ {A = Reply × State} (step s n call (fresh_of (step s n call fresh).0)) (step s n call fresh)
+  by_reply : (call : Call) (fresh : ℕ)
+      → ◌≡◌ {A = Reply × State} (step s n call (fresh_of (step s n call fresh).0)) (step s n call fresh)
   by_reply (Make kind target) fresh = refl
   by_reply (Open mode target) fresh = refl
   by_reply (Read fd offset count) fresh = refl
@@ -80,26 +87,35 @@ module _ (s : State) (n : ℕ) where
       spawned : ℕ → Reply × State
       spawned = done s n (client_of s n) Spawn (first_path Spawn) (second_path Spawn)
 
-      of : (replies : List Reply) → ◌≡◌ {A = Reply × State} (first_or s replies (done s n (client_of s n) Spawn (first_path Spawn) (second_path Spawn) (fresh_of (first_or s replies (done s n (client_of s n) Spawn (first_path Spawn) (second_path Spawn) fresh)).0)))
+      of : (replies : List Reply) → ◌≡◌ {A = Reply × State}
+          (first_or s replies (done s n (client_of s n) Spawn (first_path Spawn) (second_path Spawn)
+          (fresh_of (first_or s replies
+          (done s n (client_of s n) Spawn (first_path Spawn) (second_path Spawn) fresh)).0)))
           (first_or s replies (done s n (client_of s n) Spawn (first_path Spawn) (second_path Spawn) fresh))
       of [] = refl
       of (reply ∷ replies) = refl
   by_reply Connect fresh = refl
 
-there_at : (tree : State) (clients : List ℕ) (i number : ℕ) → AreThere tree clients → slice_get clients i ≡ Some number → has tree.clients number ≡ true
+there_at : (tree : State) (clients : List ℕ) (i number : ℕ) → AreThere tree clients → slice_get clients i ≡ Some number
+    → has tree.clients number ≡ true
 there_at tree [] i number all e = absurd cc
-there_at tree (k ∷ clients) zero number all e = let same : k ≡ number = cc in subst (λ j. has tree.clients j ≡ true) same all.0
+there_at tree (k ∷ clients) zero number all e = let same : k ≡ number = cc in
+    subst (λ j. has tree.clients j ≡ true) same all.0
 there_at tree (k ∷ clients) (suc i) number all e = there_at tree clients i number all.1 e
 
-there_more : (tree : State) (clients more : List ℕ) → AreThere tree clients → AreThere tree more → AreThere tree (clients ++ more)
+there_more : (tree : State) (clients more : List ℕ) → AreThere tree clients → AreThere tree more
+    → AreThere tree (clients ++ more)
 there_more tree [] more all others = others
 there_more tree (k ∷ clients) more all others = (all.0, there_more tree clients more all.1 others)
 
-still_there : (tree later : State) (clients : List ℕ) → ((number : ℕ) → has tree.clients number ≡ true → has later.clients number ≡ true) → AreThere tree clients → AreThere later clients
+still_there : (tree later : State) (clients : List ℕ)
+    → ((number : ℕ) → has tree.clients number ≡ true → has later.clients number ≡ true) → AreThere tree clients
+    → AreThere later clients
 still_there tree later [] stay all = tt
 still_there tree later (k ∷ clients) stay all = (stay k all.0, still_there tree later clients stay all.1)
 
-brought_there : (tree : State) (reply : Reply) → ((number : ℕ) → reply ≡ Spawned number → has tree.clients number ≡ true) → AreThere tree (brought reply)
+brought_there : (tree : State) (reply : Reply)
+    → ((number : ℕ) → reply ≡ Spawned number → has tree.clients number ≡ true) → AreThere tree (brought reply)
 brought_there tree Done there = tt
 brought_there tree (Opened number) there = tt
 brought_there tree (Bytes bytes) there = tt
@@ -112,12 +128,15 @@ brought_there tree (Refused errno) there = tt
 brought_there tree (Denied denial) there = tt
 
 module _ (empty : State) where
-  by_call : (s t : Session) (client : ℕ) (call : Call) (reply : Reply) → is_connect call ≡ false → has s.tree.clients client ≡ true → Called s client call reply t
+  by_call : (s t : Session) (client : ℕ) (call : Call) (reply : Reply) → is_connect call ≡ false
+      → has s.tree.clients client ≡ true → Called s client call reply t
       → IsSound empty s → IsSound empty t
   by_call s t client call answer other there (answered reply tree fresh vacant free is) sound =
       let outcome : ◌≡◌ {A = Reply × State} (step s.tree client call (fresh_of reply)) (reply, tree) =
-      ap (λ (p : Reply × State). step s.tree client call (fresh_of p.0)) is ∙ by_reply s.tree client call fresh ∙ sym is in
-      let told : (number : ℕ) → reply ≡ Spawned number → (number ≡ fresh) × (has tree.clients number ≡ true) = λ number e.
+      ap (λ (p : Reply × State). step s.tree client call (fresh_of p.0)) is ∙ by_reply s.tree client call fresh
+      ∙ sym is in
+      let told : (number : ℕ) → reply ≡ Spawned number → (number ≡ fresh) × (has tree.clients number ≡ true) =
+      λ number e.
       let spawned = step-spawned s.tree client call fresh number (ap (λ (p : Reply × State). p.0) (sym is) ∙ e) in
       (spawned.0, ap (λ (p : Reply × State). has p.1.clients number) is ∙ spawned.1) in
       let entry : Entry = record { client = client; call = call; reply = reply } in
@@ -128,17 +147,23 @@ module _ (empty : State) where
         answered = ap (λ (p : Reply × State). p.0) outcome;
       } in
       record {
-        legal = legal_append empty s.entries entry sound.legal (subst (λ (z : State). MayStand z entry) sound.tree stands);
-        tree = ap (λ (p : Reply × State). p.1) (sym outcome) ∙ ap (λ (z : State). (step z client call (fresh_of reply)).1) sound.tree ∙ sym (after_push empty s.entries entry);
+        legal = legal_append empty s.entries entry sound.legal
+            (subst (λ (z : State). MayStand z entry) sound.tree stands);
+        tree = ap (λ (p : Reply × State). p.1) (sym outcome)
+            ∙ ap (λ (z : State). (step z client call (fresh_of reply)).1) sound.tree
+            ∙ sym (after_push empty s.entries entry);
         there = there_more tree s.clients (brought reply)
-            (still_there s.tree tree s.clients (λ number e. ap (λ (p : Reply × State). has p.1.clients number) is ∙ step-clients_stay s.tree client call fresh number e) sound.there)
+            (still_there s.tree tree s.clients (λ number e. ap (λ (p : Reply × State). has p.1.clients number) is
+            ∙ step-clients_stay s.tree client call fresh number e) sound.there)
             (brought_there tree reply (λ number e. (told number e).1));
       }
   by_call s t client call reply other there (full filled) sound = sound
   by_call s t client call reply other there (starved room takes none) sound = sound
 
-  stays : (s t : Session) (n k : ℕ) (call : Call) (reply : Reply) → Called s n call reply t → has s.tree.clients k ≡ true → has t.tree.clients k ≡ true
-  stays s t n k call reply (answered answer tree fresh vacant free is) there = ap (λ (p : Reply × State). has p.1.clients k) is ∙ step-clients_stay s.tree n call fresh k there
+  stays : (s t : Session) (n k : ℕ) (call : Call) (reply : Reply) → Called s n call reply t
+      → has s.tree.clients k ≡ true → has t.tree.clients k ≡ true
+  stays s t n k call reply (answered answer tree fresh vacant free is) there =
+      ap (λ (p : Reply × State). has p.1.clients k) is ∙ step-clients_stay s.tree n call fresh k there
   stays s t n k call reply (full filled) there = there
   stays s t n k call reply (starved room takes none) there = there
 
@@ -146,7 +171,8 @@ module _ (empty : State) where
   abbrev Came : Session → ℕ → Session → Type 0
   Came s n t = IsSound empty (record t { clients = t.clients ++ n ∷ [] }) × (has t.tree.clients n ≡ true)
 
-  by_connect : (s t : Session) (n : ℕ) (call : Call) (reply : Reply) → call ≡ Connect → reply ≡ Done → has s.tree.clients n ≡ false → Called s n call reply t
+  by_connect : (s t : Session) (n : ℕ) (call : Call) (reply : Reply) → call ≡ Connect → reply ≡ Done
+      → has s.tree.clients n ≡ false → Called s n call reply t
       → IsSound empty s → Came s n t
   by_connect s t n call reply connects done vacant (full filled) sound = absurd cc
   by_connect s t n call reply connects done vacant (starved room takes none) sound = absurd cc
@@ -163,48 +189,66 @@ module _ (empty : State) where
       let here : has tree.clients n ≡ true = there_by s.tree tree n fresh vacant
       (sym (ap (λ (r : Reply). paired r tree) done) ∙ is ∙ ap (λ (c : Call). step s.tree n c fresh) connects) in
       let others : AreThere tree s.clients = still_there s.tree tree s.clients
-      (λ k e. ap (λ (p : Reply × State). has p.1.clients k) is ∙ step-clients_stay s.tree n call fresh k e) sound.there in
-      let brings : AreThere tree (brought reply) = brought_there tree reply (λ number e. absurd (let both : Done ≡ Spawned number = sym done ∙ e in cc)) in (
+      (λ k e. ap (λ (p : Reply × State). has p.1.clients k) is ∙ step-clients_stay s.tree n call fresh k e) sound.there
+      in
+      let brings : AreThere tree (brought reply) =
+      brought_there tree reply (λ number e. absurd (let both : Done ≡ Spawned number = sym done ∙ e in cc)) in (
         record {
-          legal = legal_append empty s.entries entry sound.legal (subst (λ (z : State). MayStand z entry) sound.tree stands);
-          tree = ap (λ (p : Reply × State). p.1) (sym outcome) ∙ ap (λ (z : State). (step z n call (fresh_of reply)).1) sound.tree ∙ sym (after_push empty s.entries entry);
-          there = there_more tree (s.clients ++ brought reply) (n ∷ []) (there_more tree s.clients (brought reply) others brings) (here, tt);
+          legal = legal_append empty s.entries entry sound.legal
+              (subst (λ (z : State). MayStand z entry) sound.tree stands);
+          tree = ap (λ (p : Reply × State). p.1) (sym outcome)
+              ∙ ap (λ (z : State). (step z n call (fresh_of reply)).1) sound.tree
+              ∙ sym (after_push empty s.entries entry);
+          there = there_more tree (s.clients ++ brought reply) (n ∷ [])
+              (there_more tree s.clients (brought reply) others brings) (here, tt);
         },
         here,
       )
 
-  by_makes : (client : ℕ) (s t : Session) (list : List Call) → AllByRecursion (λ call. is_connect call ≡ false) list → has s.tree.clients client ≡ true → Makes client s list t → IsSound empty s → IsSound empty t
+  by_makes : (client : ℕ) (s t : Session) (list : List Call) → AllByRecursion (λ call. is_connect call ≡ false) list
+      → has s.tree.clients client ≡ true → Makes client s list t → IsSound empty s → IsSound empty t
   by_makes client s t [] others there h sound = subst (IsSound empty) (sym h) sound
   by_makes client s t (call ∷ rest) others there h sound =
-      by_makes client h.1 t rest others.1 (stays s h.1 client client call h.0 h.2 there) h.4 (by_call s h.1 client call h.0 others.0 there h.2 sound)
+      by_makes client h.1 t rest others.1 (stays s h.1 client client call h.0 h.2 there) h.4
+      (by_call s h.1 client call h.0 others.0 there h.2 sound)
 
-  by_coming : (s t : Session) (list : List Call) → AreOthers list → Comes s list (made t) → IsSound empty s → IsSound empty t
+  by_coming : (s t : Session) (list : List Call) → AreOthers list → Comes s list (made t) → IsSound empty s
+      → IsSound empty t
   by_coming s t list others h sound =
       let came = by_connect s h.0 (following s) Connect Done refl refl h.1.0 h.1.1 sound in
-      by_makes (following s) (joined s h.0) t list (recursion_from_All (λ call. is_connect call ≡ false) list others) came.1 h.2 came.0
+      by_makes (following s) (joined s h.0) t list (recursion_from_All (λ call. is_connect call ≡ false) list others)
+      came.1 h.2 came.0
 
-  by_stops : (client : ℕ) (s t : Session) (list : List Call) (reply : Reply) → AllByRecursion (λ call. is_connect call ≡ false) list → has s.tree.clients client ≡ true → Stops client s list reply t
+  by_stops : (client : ℕ) (s t : Session) (list : List Call) (reply : Reply)
+      → AllByRecursion (λ call. is_connect call ≡ false) list → has s.tree.clients client ≡ true
+      → Stops client s list reply t
       → IsSound empty s → IsSound empty t
   by_stops client s t [] reply others there h sound = absurd h
   by_stops client s t (call ∷ rest) reply others there h sound =
       let mid = by_call s h.1 client call h.0 others.0 there h.2 sound in elim h.3 [
         | inl now ↦ subst (IsSound empty) (sym now.2) mid
-        | inr later ↦ by_stops client h.1 t rest reply others.1 (stays s h.1 client client call h.0 h.2 there) later.1 mid
+        | inr later ↦ by_stops client h.1 t rest reply others.1 (stays s h.1 client client call h.0 h.2 there) later.1
+            mid
       ]
 
-  by_refusal : (s t : Session) (list : List Call) (reply : Reply) → AreOthers list → Comes s list (unconnected reply t) ⊎ Comes s list (unmade reply t) → IsSound empty s → IsSound empty t
+  by_refusal : (s t : Session) (list : List Call) (reply : Reply) → AreOthers list → Comes s list (unconnected reply t)
+      ⊎ Comes s list (unmade reply t) → IsSound empty s → IsSound empty t
   by_refusal s t list reply others (inl h) sound = subst (IsSound empty) (sym h.3) sound
   by_refusal s t list reply others (inr h) sound =
       let came = by_connect s h.0 (following s) Connect Done refl refl h.1.0 h.1.1 sound in
-      by_stops (following s) (joined s h.0) t list reply (recursion_from_All (λ call. is_connect call ≡ false) list others) came.1 h.2 came.0
+      by_stops (following s) (joined s h.0) t list reply
+      (recursion_from_All (λ call. is_connect call ≡ false) list others) came.1 h.2 came.0
 
-  by_answer : (s t : Session) (piece : List ℕ) (reply : Reply) → Answers s piece reply t → IsSound empty s → IsSound empty t
+  by_answer : (s t : Session) (piece : List ℕ) (reply : Reply) → Answers s piece reply t → IsSound empty s
+      → IsSound empty t
   by_answer s t piece reply (calls n client call told u spells at was) sound =
-      by_call s u client call told (no_connect call spells.is_call) (there_at s.tree s.clients (n - 1) client sound.there at) was sound
+      by_call s u client call told (no_connect call spells.is_call)
+      (there_at s.tree s.clients (n - 1) client sound.there at) was sound
   by_answer s t piece reply (unread n client call spells at holds) sound = sound
   by_answer s t piece reply (bad none) sound = sound
 
-  by_lines : (s t : Session) (done : List (List ℕ)) (text : List ℕ) → Transcript Tells s done text t → IsSound empty s → IsSound empty t
+  by_lines : (s t : Session) (done : List (List ℕ)) (text : List ℕ) → Transcript Tells s done text t → IsSound empty s
+      → IsSound empty t
   by_lines s t [] text h sound = subst (IsSound empty) (sym h.1) sound
   by_lines s t (piece ∷ done) text h sound = by_lines h.1 t done h.2 h.4 (by_answer s h.1 piece h.3.0 h.3.1 sound)
 
@@ -213,51 +257,75 @@ those_left tree zero clients all = all
 those_left tree (suc n) [] all = tt
 those_left tree (suc n) (k ∷ clients) all = those_left tree n clients all.1
 
-by_loading : (empty : State) (s t : Session) (loader : Option (Vec Call Global)) → IfSome loader (λ list. AreOthers list.items) → Loads s loader (made t) → IsSound empty s → IsSound empty t
+by_loading : (empty : State) (s t : Session) (loader : Option (Vec Call Global))
+    → IfSome loader (λ list. AreOthers list.items) → Loads s loader (made t) → IsSound empty s → IsSound empty t
 by_loading empty s t (Some list) others h sound = by_coming empty s t list.items others h sound
 by_loading empty s t None others h sound = subst (IsSound empty) (sym h) sound
 
-pub by_opening : (setup : Setup) (first : Session) → Opens setup (begun first) → IsSound (start setup.rules setup.nodes) first
+pub by_opening : (setup : Setup) (first : Session) → Opens setup (begun first)
+    → IsSound (start setup.rules setup.nodes) first
 by_opening setup first h =
     let empty = start setup.rules setup.nodes in
-    let loaded = by_loading empty (fresh setup) h.0 setup.loader setup.loads h.2 (record { legal = tt; tree = refl; there = tt }) in
+    let loaded = by_loading empty (fresh setup) h.0 setup.loader setup.loads h.2
+    (record { legal = tt; tree = refl; there = tt }) in
     let came = by_coming empty h.0 h.1 setup.profile.items setup.makes h.3 loaded in
-    subst (IsSound empty) (sym h.4) (record { legal = came.legal; tree = came.tree; there = those_left h.1.tree (length h.0.clients) h.1.clients came.there })
+    subst (IsSound empty) (sym h.4)
+    (record {
+      legal = came.legal;
+      tree = came.tree;
+      there = those_left h.1.tree (length h.0.clients) h.1.clients came.there;
+    })
 
-by_refused_loader : (empty : State) (s t : Session) (loader : Option (Vec Call Global)) (reply : Reply) → IfSome loader (λ list. AreOthers list.items) → Loads s loader (unconnected reply t)
+by_refused_loader : (empty : State) (s t : Session) (loader : Option (Vec Call Global)) (reply : Reply)
+    → IfSome loader (λ list. AreOthers list.items) → Loads s loader (unconnected reply t)
     → IsSound empty s → IsSound empty t
-by_refused_loader empty s t (Some list) reply others h sound = by_refusal empty s t list.items reply others (inl h) sound
+by_refused_loader empty s t (Some list) reply others h sound =
+    by_refusal empty s t list.items reply others (inl h) sound
 by_refused_loader empty s t None reply others h sound = absurd h
 
-by_refused_opening : (setup : Setup) (reply : Reply) (last : Session) → Opens setup (refused reply last) → IsSound (start setup.rules setup.nodes) last
+by_refused_opening : (setup : Setup) (reply : Reply) (last : Session) → Opens setup (refused reply last)
+    → IsSound (start setup.rules setup.nodes) last
 by_refused_opening setup reply last opens =
     let empty = start setup.rules setup.nodes in
     let begins : IsSound empty (fresh setup) = record { legal = tt; tree = refl; there = tt } in
     elim opens [
       | inl h ↦ by_refused_loader empty (fresh setup) last setup.loader reply setup.loads h begins
-      | inr h ↦ by_refusal empty h.0 last setup.profile.items reply setup.makes h.2 (by_loading empty (fresh setup) h.0 setup.loader setup.loads h.1 begins)
+      | inr h ↦ by_refusal empty h.0 last setup.profile.items reply setup.makes h.2
+          (by_loading empty (fresh setup) h.0 setup.loader setup.loads h.1 begins)
     ]
 
 pub legally : RunsLegally
 legally setup done left text last (inl h) =
-    let sound = by_lines (start setup.rules setup.nodes) h.0 last done text h.3 (by_opening setup h.0 h.1) in (sound.legal, sound.tree)
-legally setup done left text last (inr h) = let sound = by_refused_opening setup h.0 last h.1 in (sound.legal, sound.tree)
+    let sound = by_lines (start setup.rules setup.nodes) h.0 last done text h.3 (by_opening setup h.0 h.1) in
+    (sound.legal, sound.tree)
+legally setup done left text last (inr h) = let sound = by_refused_opening setup h.0 last h.1 in
+    (sound.legal, sound.tree)
 
 -- ---- sessions under way
 
 pub then_sound : (one two three : SessionTree) → StaysSound one two → StaysSound two three → StaysSound one three
-then_sound one two three first then empty s stands sound = let mid = first empty s stands sound in then empty mid.0 mid.1 mid.2
+then_sound one two three first then empty s stands sound = let mid = first empty s stands sound in
+    then empty mid.0 mid.1 mid.2
 
-pub call_stays_sound : (before after : SessionTree) (place : ℕ) (call : Call) (reply : Reply) → is_connect call ≡ false → ((s : Session) → StandsAt before s → CalledAt s place call reply after)
+pub call_stays_sound : (before after : SessionTree) (place : ℕ) (call : Call) (reply : Reply) → is_connect call ≡ false
+    → ((s : Session) → StandsAt before s → CalledAt s place call reply after)
     → StaysSound before after
 call_stays_sound before after place call reply other called empty s stands sound =
-    let c = called s stands in (c.2, c.6, by_call empty s c.2 c.0 call c.1 other (there_at s.tree s.clients (place - 1) c.0 sound.there c.3) c.4 sound)
+    let c = called s stands in (
+      c.2,
+      c.6,
+      by_call empty s c.2 c.0 call c.1 other (there_at s.tree s.clients (place - 1) c.0 sound.there c.3) c.4 sound,
+    )
 
 -- what such a session leaves is a legal history
-pub leaves_legally : (empty : State) (tree : SessionTree) (log : Log) (t : Session) → StandsAt tree t → IsSound empty t → log ≡ tree.history → IsLegal empty log.entries
-leaves_legally empty tree log t stands sound same = subst (IsLegal empty) (stands.entries ∙ sym (ap (λ (l : Log). l.entries) same)) sound.legal
+pub leaves_legally : (empty : State) (tree : SessionTree) (log : Log) (t : Session) → StandsAt tree t → IsSound empty t
+    → log ≡ tree.history → IsLegal empty log.entries
+leaves_legally empty tree log t stands sound same =
+    subst (IsLegal empty) (stands.entries ∙ sym (ap (λ (l : Log). l.entries) same)) sound.legal
 
-pub leaves_refused : (setup : Setup) (reply : Reply) (tree : SessionTree) (log : Log) → (last : Session) × Opens setup (refused reply last) × StandsAt tree last → log ≡ tree.history
+pub leaves_refused : (setup : Setup) (reply : Reply) (tree : SessionTree) (log : Log) → (last : Session)
+    × Opens setup (refused reply last) × StandsAt tree last → log ≡ tree.history
     → IsLegal (start setup.rules setup.nodes) log.entries
 leaves_refused setup reply tree log is same =
-    subst (IsLegal (start setup.rules setup.nodes)) (is.2.entries ∙ sym (ap (λ (l : Log). l.entries) same)) (by_refused_opening setup reply is.0 is.1).legal
+    subst (IsLegal (start setup.rules setup.nodes)) (is.2.entries ∙ sym (ap (λ (l : Log). l.entries) same))
+    (by_refused_opening setup reply is.0 is.1).legal

@@ -1,6 +1,7 @@
 //! The tree of a session, its history and its clients.
 
-ghost use Rattle.std.specs.Prelude.{◌≡◌, ◌<◌, ◌≤◌, ◌+◌, ◌-◌, ◌*◌, ◌^◌, ℕ, All, Some, true, false, [], length, drop, option_map, slice_get, string_bytes, IfErr, IfOk, IfSome, OnOk};
+ghost use Rattle.std.specs.Prelude.{◌≡◌, ◌<◌, ◌≤◌, ◌+◌, ◌-◌, ◌*◌, ◌^◌, ℕ, All, Some, true, false, [], length, drop};
+ghost use Rattle.std.specs.Prelude.{option_map, slice_get, string_bytes, IfErr, IfOk, IfSome, OnOk};
 ghost use Rattle.ll_rights.specs.Map.{has};
 ghost use Rattle.ll_seq.specs.State.{start};
 ghost use Rattle.ll_seq.specs.History.{is_connect};

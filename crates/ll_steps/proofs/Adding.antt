@@ -1,5 +1,6 @@
 -- What each outcome tells of the history, and what holds of every world.
-use Rattle.std.specs.Prelude.{◌≡◌, ◌≢◌, ◌⊎◌, ℕ, ◌+◌, ◌<◌, ◌≤◌, false, List, [], ◌∷◌, ◌++◌, length, take, Some, slice_get, Result, Ok, Err, IfOk, OnErr, refl}
+use Rattle.std.specs.Prelude.{◌≡◌, ◌≢◌, ◌⊎◌, ℕ, ◌+◌, ◌<◌, ◌≤◌, false, List, [], ◌∷◌, ◌++◌, length, take, Some}
+use Rattle.std.specs.Prelude.{slice_get, Result, Ok, Err, IfOk, OnErr, refl}
 use Rattle.std.proofs.Common.{sym, ap, subst, ◌∙◌, inl, inr, arith, append_assoc, get_or}
 use Rattle.std.proofs.lemmas.List.{append-nil, length-append, take_more, take_all}
 use Rattle.ll_laws.proofs.Gain.{no_gain}
@@ -16,11 +17,12 @@ use Rattle.ll_seq.specs.Step.{step}
 use Rattle.ll_seq.proofs.Consequences.{answered}
 use Rattle.ll_seq.specs.History.{IsLegal}
 use Rattle.ll_seq.proofs.Histories.{legal_early}
-use Rattle.ll_walks.specs.declared.step.Step.{Step}
-use Rattle.ll_walks.specs.declared.step.Step.TheVariants.{Join, Begin, Descend, Fork, Commit, Restart, FdCommit, ClientStep}
-use Rattle.ll_walks.specs.Sound.{IsSound}
-use Rattle.ll_walks.specs.World as world
-use Rattle.ll_walks.specs.World.{World, advance, is_full, shown, next_number}
+use Rattle.ll_worlds.specs.declared.step.Step.{Step}
+use Rattle.ll_worlds.specs.declared.step.Step.TheVariants.{Join, Begin, Descend, Fork, Commit, Restart, FdCommit}
+use Rattle.ll_worlds.specs.declared.step.Step.TheVariants.{ClientStep}
+use Rattle.ll_worlds.specs.Sound.{IsSound}
+use Rattle.ll_worlds.specs.World as world
+use Rattle.ll_worlds.specs.World.{World, advance, is_full, shown, next_number}
 use Rattle.ll_steps.specs.declared.outcome.Outcome.{Outcome}
 use Rattle.ll_steps.specs.declared.outcome.Outcome.TheVariants as outcome
 use Rattle.ll_steps.specs.Makes.{Makes, Adds, IsUntold, starved}
@@ -40,7 +42,8 @@ same_world w w' e = subst (λ (v : World). Grows w v []) (sym e) (still w)
 
 -- no call is answered so where there is room
 never_full : (s : State) (number : ℕ) (call : Call) (fresh : ℕ) → Refused HistoryFull ≡ (step s number call fresh).0 → ⊥
-never_full s number call fresh e = by (answered s number call fresh (Refused HistoryFull) (λ f. absurd (f HistoryFull refl)) (λ _. e))
+never_full s number call fresh e =
+    by (answered s number call fresh (Refused HistoryFull) (λ f. absurd (f HistoryFull refl)) (λ _. e))
   where
     by : ((3 ≤ errno_number HistoryFull) × (errno_number HistoryFull ≤ 20)) ⊎ (HistoryFull ≡ NoMemory) → ⊥
     by (inl b) = omega (arith, b.1)
@@ -53,16 +56,24 @@ pub unchanged : (w w' : World) (step' : Step) → advance w step' ≡ (world.Not
 unchanged w w' step' e = subst (Went w step') e (went w step')
 
 -- where the history has room, the reply is that of the entry which comes
-pub replied_makes : (w w' : World) (step' : Step) (reply : Reply) → is_full w ≡ false → step' ≢ Join → advance w step' ≡ (world.Replied reply, w') → Makes w step' (outcome.Replied (length w.history)) w'
+pub replied_makes : (w w' : World) (step' : Step) (reply : Reply) → is_full w ≡ false → step' ≢ Join
+    → advance w step' ≡ (world.Replied reply, w') → Makes w step' (outcome.Replied (length w.history)) w'
 replied_makes w w' step' reply room other e = by (subst (Went w step') e (went w step'))
   where
     by : Went w step' (world.Replied reply, w') → Makes w step' (outcome.Replied (length w.history)) w'
     by (inl g) = absurd (cc (sym g.0 ∙ room))
     by (inr (inl g)) = absurd (other g.0)
-    by (inr (inr g)) = (refl, entry_of g.1.0 g.1.1 reply, ap (λ es. slice_get es (length w.history)) g.5.came ∙ last_of_more w.history (entry_of g.1.0 g.1.1 reply), e)
+    by (inr (inr g)) = (
+      refl,
+      entry_of g.1.0 g.1.1 reply,
+      ap (λ es. slice_get es (length w.history)) g.5.came
+          ∙ last_of_more w.history (entry_of g.1.0 g.1.1 reply),
+      e,
+    )
 
 -- a full history
-pub full_told : (w w' : World) (step' : Step) → advance w step' ≡ (world.Replied (Refused HistoryFull), w') → IsUntold w step'
+pub full_told : (w w' : World) (step' : Step) → advance w step' ≡ (world.Replied (Refused HistoryFull), w')
+    → IsUntold w step'
 full_told w w' step' e = by (subst (Went w step') e (went w step'))
   where
     by : Went w step' (world.Replied (Refused HistoryFull), w') → IsUntold w step'
@@ -82,7 +93,8 @@ starved_grows w (FdCommit number call) = still w
 starved_grows w (ClientStep number call) = still w
 
 -- what a step adds
-pub adds : (w w' : World) (step' : Step) (o : Outcome) → Makes w step' o w' → (its : List Entry) × Adds w step' o its × Grows w w' its
+pub adds : (w w' : World) (step' : Step) (o : Outcome) → Makes w step' o w' → (its : List Entry) × Adds w step' o its
+    × Grows w w' its
 adds w w' step' outcome.NotNow m = ([], refl, same_world w w' (unchanged w w' step' m))
 adds w w' step' outcome.Begun m = ([], refl, subst (Went w step') m (went w step'))
 adds w w' step' (outcome.Stands inode) m = ([], refl, subst (Went w step') m (went w step'))
@@ -93,9 +105,11 @@ adds w w' step' (outcome.Joined number) m =
 adds w w' step' (outcome.Replied k) m = by (subst (Went w step') m.3 (went w step'))
   where
     old : (es : List Entry) → es ≡ w.history → slice_get es k ≡ Some m.1 → ⊥
-    old es e is = none_past w.history m.1 (subst (λ n. slice_get w.history n ≡ Some m.1) m.0 (subst (λ fs. slice_get fs k ≡ Some m.1) e is))
+    old es e is = none_past w.history m.1
+        (subst (λ n. slice_get w.history n ≡ Some m.1) m.0 (subst (λ fs. slice_get fs k ≡ Some m.1) e is))
 
-    by : Went w step' (world.Replied m.1.reply, w') → (its : List Entry) × Adds w step' (outcome.Replied k) its × Grows w w' its
+    by : Went w step' (world.Replied m.1.reply, w') → (its : List Entry) × Adds w step' (outcome.Replied k) its
+        × Grows w w' its
     by (inl g) = absurd (old w'.history (g.1.came ∙ append-nil w.history) m.2)
     by (inr (inl g)) = absurd (old w'.history (ap (λ (v : World). v.history) g.1) m.2)
     by (inr (inr g)) = (entry_of g.1.0 g.1.1 m.1.reply ∷ [], (entry_of g.1.0 g.1.1 m.1.reply, g.2, refl), g.5)
@@ -106,7 +120,8 @@ adds w w' step' (outcome.Refused errno) (inl m) = ([], refl, by (subst (Went w s
     by (inr (inl g)) u = same_world w w' g.1
     by (inr (inr g)) (inl full) = absurd (cc (sym full ∙ g.0))
     by (inr (inr g)) (inr joins) = absurd (g.3 joins)
-adds w w' step' (outcome.Refused errno) (inr m) = ([], refl, subst (λ (v : World). Grows w v []) (sym m.1.left) (starved_grows w step'))
+adds w w' step' (outcome.Refused errno) (inr m) =
+    ([], refl, subst (λ (v : World). Grows w v []) (sym m.1.left) (starved_grows w step'))
 
 -- ---- all steps
 
@@ -119,7 +134,8 @@ lawful w h within = record {
   few = h.few;
   gate = h.gate;
   between = λ early late rest e.
-      let legal = legal_early (start w.rules w.room) (early ++ late) rest (subst (IsLegal (start w.rules w.room)) e h.legal) in
+      let legal = legal_early (start w.rules w.room) (early ++ late) rest
+      (subst (IsLegal (start w.rules w.room)) e h.legal) in
       (no_gain w.rules w.room early late legal, bytes_are_withheld w.rules w.room early late legal);
 }
 
@@ -135,27 +151,44 @@ pub no_steps : (w : World) → Runs w [] [] [] w
 no_steps w = (refl, refl)
 
 -- one step more
-pub runs_on : (u v w : World) (steps : List Step) (outcomes : List Outcome) (added its : List Entry) (step' : Step) (o : Outcome)
-    → Runs u steps outcomes added v → Makes v step' o w → Adds v step' o its → Grows v w its → Runs u (steps ++ step' ∷ []) (outcomes ++ o ∷ []) (added ++ its) w
+pub runs_on : (u v w : World) (steps : List Step) (outcomes : List Outcome) (added its : List Entry) (step' : Step)
+    (o : Outcome)
+    → Runs u steps outcomes added v → Makes v step' o w → Adds v step' o its → Grows v w its
+    → Runs u (steps ++ step' ∷ []) (outcomes ++ o ∷ []) (added ++ its) w
 runs_on u v w [] [] added its step' o r m a g =
     let one : Runs v (step' ∷ []) (o ∷ []) its w = (w, its, [], sym (append-nil its), m, a, g, (refl, refl)) in
-    subst (λ (x : World). Runs x (step' ∷ []) (o ∷ []) (added ++ its) w) r.1 (subst (λ es. Runs v (step' ∷ []) (o ∷ []) (es ++ its) w) (sym r.0) one)
+    subst (λ (x : World). Runs x (step' ∷ []) (o ∷ []) (added ++ its) w) r.1
+    (subst (λ es. Runs v (step' ∷ []) (o ∷ []) (es ++ its) w) (sym r.0) one)
 runs_on u v w [] (x ∷ outcomes) added its step' o r m a g = absurd r
 runs_on u v w (x ∷ steps) [] added its step' o r m a g = absurd r
-runs_on u v w (x ∷ steps) (y ∷ outcomes) added its step' o r m a g =
-    (r.0, r.1, r.2 ++ its, ap (λ es. es ++ its) r.3 ∙ append_assoc r.1 r.2 its, r.4, r.5, r.6, runs_on r.0 v w steps outcomes r.2 its step' o r.7 m a g)
+runs_on u v w (x ∷ steps) (y ∷ outcomes) added its step' o r m a g = (
+  r.0,
+  r.1,
+  r.2 ++ its,
+  ap (λ es. es ++ its) r.3
+      ∙ append_assoc r.1 r.2 its,
+  r.4,
+  r.5,
+  r.6,
+  runs_on r.0 v w steps outcomes r.2 its step' o r.7 m a g,
+)
 
 -- ---- the step that is asked for
 
-pub told_step : (w v v' : World) (s s' : Step) (o o' : Outcome) → s ≡ s' → o ≡ o' → v ≡ v' → Makes w s' o' v' → Makes w s o v
-told_step w v v' s s' o o' e f g m = subst (λ (t : Step × (Outcome × World)). Makes w t.0 t.1.0 t.1.1) (λ i. (sym e i, (sym f i, sym g i))) m
+pub told_step : (w v v' : World) (s s' : Step) (o o' : Outcome) → s ≡ s' → o ≡ o' → v ≡ v' → Makes w s' o' v'
+    → Makes w s o v
+told_step w v v' s s' o o' e f g m =
+    subst (λ (t : Step × (Outcome × World)). Makes w t.0 t.1.0 t.1.1) (λ i. (sym e i, (sym f i, sym g i))) m
 
 -- of a call that came back
-pub back_makes : (w v : World) (s : Step) (made : Result Outcome Call) (o : Outcome) → IfOk made (λ p. o ≡ p) → OnErr made (o ≡ outcome.NotNow) → IfOk made (λ p. Makes w s p v) → OnErr made (Makes w s outcome.NotNow w) → OnErr made (v ≡ w)
+pub back_makes : (w v : World) (s : Step) (made : Result Outcome Call) (o : Outcome) → IfOk made (λ p. o ≡ p)
+    → OnErr made (o ≡ outcome.NotNow) → IfOk made (λ p. Makes w s p v) → OnErr made (Makes w s outcome.NotNow w)
+    → OnErr made (v ≡ w)
     → Makes w s o v
 back_makes w v s (Ok p) o is back m not_now same = subst (λ (q : Outcome). Makes w s q v) (sym is) m
 back_makes w v s (Err c) o is back m not_now same =
-    subst (λ (q : Outcome). Makes w s q v) (sym back) (subst (λ (u : World). Makes w s outcome.NotNow u) (sym same) not_now)
+    subst (λ (q : Outcome). Makes w s q v) (sym back)
+    (subst (λ (u : World). Makes w s outcome.NotNow u) (sym same) not_now)
 
 -- ---- a run
 
@@ -165,22 +198,28 @@ HasRun w steps outcomes v = (added : List Entry) × Runs w steps outcomes added 
 pub ran_none : (w : World) (outcomes : List Outcome) → outcomes ≡ [] → HasRun w [] outcomes w
 ran_none w outcomes e = subst (λ (os : List Outcome). HasRun w [] os w) (sym e) ([], no_steps w, still w)
 
-ran_more : (u v w : World) (steps : List Step) (outcomes : List Outcome) (step' : Step) (o : Outcome) → HasRun u steps outcomes v → Makes v step' o w → HasRun u (steps ++ step' ∷ []) (outcomes ++ o ∷ []) w
+ran_more : (u v w : World) (steps : List Step) (outcomes : List Outcome) (step' : Step) (o : Outcome)
+    → HasRun u steps outcomes v → Makes v step' o w → HasRun u (steps ++ step' ∷ []) (outcomes ++ o ∷ []) w
 ran_more u v w steps outcomes step' o h m =
     let a = adds v w step' o m in
     (h.0 ++ a.0, runs_on u v w steps outcomes h.0 a.0 step' o h.1 m a.1 a.2, grows_on u v w h.0 a.0 h.2 a.2)
 
 -- with the next of the items
-pub ran_on : (u v w : World) (items yielded : List Step) (outcomes more : List Outcome) (step' : Step) (o : Outcome) → HasRun u (take (length yielded) items) outcomes v
-    → (length yielded < length items) × (step' ≡ get_or items (length yielded) step') → more ≡ outcomes ++ o ∷ [] → Makes v step' o w → HasRun u (take (length (yielded ++ step' ∷ [])) items) more w
+pub ran_on : (u v w : World) (items yielded : List Step) (outcomes more : List Outcome) (step' : Step) (o : Outcome)
+    → HasRun u (take (length yielded) items) outcomes v
+    → (length yielded < length items) × (step' ≡ get_or items (length yielded) step') → more ≡ outcomes ++ o ∷ []
+    → Makes v step' o w → HasRun u (take (length (yielded ++ step' ∷ [])) items) more w
 ran_on u v w items yielded outcomes more step' o h turn e m =
     let one : length (yielded ++ step' ∷ []) ≡ length yielded + 1 = length-append yielded (step' ∷ []) in
     let next : take (length (yielded ++ step' ∷ [])) items ≡ take (length yielded) items ++ step' ∷ [] =
-    ap (λ n. take n items) one ∙ take_more items (length yielded) step' turn.0 ∙ ap (λ s. take (length yielded) items ++ s ∷ []) (sym turn.1) in
+    ap (λ n. take n items) one ∙ take_more items (length yielded) step' turn.0
+    ∙ ap (λ s. take (length yielded) items ++ s ∷ []) (sym turn.1) in
     subst (λ (os : List Outcome). HasRun u (take (length (yielded ++ step' ∷ [])) items) os w) (sym e)
-    (subst (λ (ss : List Step). HasRun u ss (outcomes ++ o ∷ []) w) (sym next) (ran_more u v w (take (length yielded) items) outcomes step' o h m))
+    (subst (λ (ss : List Step). HasRun u ss (outcomes ++ o ∷ []) w) (sym next)
+    (ran_more u v w (take (length yielded) items) outcomes step' o h m))
 
-pub ran_all : (u v : World) (items : List Step) (n : ℕ) (outcomes : List Outcome) → length items ≤ n → HasRun u (take n items) outcomes v → IsLawful v → IsHeadline u items outcomes v
+pub ran_all : (u v : World) (items : List Step) (n : ℕ) (outcomes : List Outcome) → length items ≤ n
+    → HasRun u (take n items) outcomes v → IsLawful v → IsHeadline u items outcomes v
 ran_all u v items n outcomes all h law =
     let r = subst (λ (ss : List Step). HasRun u ss outcomes v) (take_all n items all) h in
     record { added = r.0; runs = r.1; grows = r.2; lawful = law }

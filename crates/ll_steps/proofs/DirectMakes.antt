@@ -1,5 +1,6 @@
 -- What comes of calls that don't walk, and of the coming of clients.
-use Rattle.std.specs.Prelude.{◌≡◌, ◌≢◌, ℕ, ◌<◌, ◌≤◌, Bool, true, false, cond, not, ◌&&◌, List, [], ◌∷◌, length, slice_set, Option, Some, None, is_some, unwrap_or, Result, Ok, Err, IfOk, OnErr, refl}
+use Rattle.std.specs.Prelude.{◌≡◌, ◌≢◌, ℕ, ◌<◌, ◌≤◌, Bool, true, false, cond, not, ◌&&◌, List, [], ◌∷◌, length}
+use Rattle.std.specs.Prelude.{slice_set, Option, Some, None, is_some, unwrap_or, Result, Ok, Err, IfOk, OnErr, refl}
 use Rattle.std.specs.Option.{option_map_or}
 use Rattle.std.proofs.Common.{sym, ap, subst, ◌∙◌, inl, inr}
 use Rattle.ll_laws.proofs.Chains.{same_Some}
@@ -16,13 +17,13 @@ use Rattle.ll_seq.specs.declared.reply.Reply.TheVariants.{Refused}
 use Rattle.ll_seq.specs.State.{new_client}
 use Rattle.ll_seq.specs.Step.{client_of}
 use Rattle.ll_seq.proofs.Results.{wants_memory}
-use Rattle.ll_walks.specs.declared.step.Step.{Step}
-use Rattle.ll_walks.specs.declared.step.Step.TheVariants.{Join, Begin, FdCommit, ClientStep}
-use Rattle.ll_walks.specs.Sound.{IsSound}
-use Rattle.ll_walks.specs.World as world
-use Rattle.ll_walks.specs.World.{World, advance, shown, is_full, is_idle, is_on_descriptor, descriptor_of, next_number}
-use Rattle.ll_walks.proofs.Shapes.{replied}
-use Rattle.ll_walks.proofs.Tests.{both}
+use Rattle.ll_worlds.specs.declared.step.Step.{Step}
+use Rattle.ll_worlds.specs.declared.step.Step.TheVariants.{Join, Begin, FdCommit, ClientStep}
+use Rattle.ll_worlds.specs.Sound.{IsSound}
+use Rattle.ll_worlds.specs.World as world
+use Rattle.ll_worlds.specs.World.{World, advance, shown, is_full, is_idle, is_on_descriptor, descriptor_of, next_number}
+use Rattle.ll_worlds.proofs.Shapes.{replied}
+use Rattle.ll_worlds.proofs.Tests.{both}
 use Rattle.ll_journal.specs.Book.{Book, Spares, inode_in, slot_of}
 use Rattle.ll_journal.specs.Direct.{Answers, ComesBack, IsOpen, TakesMemory}
 use Rattle.ll_journal.specs.declared.direct.Made.{Made}
@@ -42,11 +43,16 @@ use Rattle.ll_steps.proofs.LentContents.{put_one}
 
 -- ---- the coming of a client
 
-pub join_keeps : (b b' : Book) (slots : List Held) (r : Result ℕ Errno) → IsKept b slots → IfOk r (λ number. advance b.world Join ≡ (world.Joined number, b'.world)) → OnErr r (b' ≡ b) → Spares b b' [] → IsKept b' slots
-join_keeps b b' slots (Ok number) h joined same spares = kept_alone b b' slots Join (world.Joined number) h joined spares
+pub join_keeps : (b b' : Book) (slots : List Held) (r : Result ℕ Errno) → IsKept b slots
+    → IfOk r (λ number. advance b.world Join ≡ (world.Joined number, b'.world)) → OnErr r (b' ≡ b) → Spares b b' []
+    → IsKept b' slots
+join_keeps b b' slots (Ok number) h joined same spares =
+    kept_alone b b' slots Join (world.Joined number) h joined spares
 join_keeps b b' slots (Err errno) h joined same spares = kept_same b b' slots h same
 
-pub join_refused : (w : World) (errno : Errno) → (errno ≢ NoMemory → advance w Join ≡ (world.Replied (Refused errno), w)) → (errno ≡ NoMemory → (after : World) × (advance w Join ≡ (world.Joined (next_number w), after)))
+pub join_refused : (w : World) (errno : Errno)
+    → (errno ≢ NoMemory → advance w Join ≡ (world.Replied (Refused errno), w))
+    → (errno ≡ NoMemory → (after : World) × (advance w Join ≡ (world.Joined (next_number w), after)))
     → Makes w Join (outcome.Refused errno) w
 join_refused w errno refused starves = elim (wants_memory errno) [
   | inl memory ↦ inr (
@@ -75,10 +81,14 @@ takes_so c (inl (rights, e)) = (ap spares_memory e, λ number f. cc (sym e ∙ f
 takes_so c (inr (inl (layer, e))) = (ap spares_memory e, λ number f. cc (sym e ∙ f))
 takes_so c (inr (inr e)) = (ap spares_memory e, λ number f. cc (sym e ∙ f))
 
-pub answer_makes : (b b' : Book) (step' : Step) (client : ℕ) (c : Call) (a : Made) → step' ≢ Join → called b.world step' ≡ Some (client, c) → starved b.world step' ≡ b.world
-    → (a ≡ answer.NoMemory → MayTake c) → Answers b step' a b' → Makes b.world step' (answered_as (length b.world.history) a) b'.world
-answer_makes b b' step' client c (answer.Replied reply) other is same takes d = replied_makes b.world b'.world step' reply d.0 other d.1
-answer_makes b b' step' client c answer.HistoryFull other is same takes d = inl (full_told b.world b'.world step' d.0, d.0)
+pub answer_makes : (b b' : Book) (step' : Step) (client : ℕ) (c : Call) (a : Made) → step' ≢ Join
+    → called b.world step' ≡ Some (client, c) → starved b.world step' ≡ b.world
+    → (a ≡ answer.NoMemory → MayTake c) → Answers b step' a b'
+    → Makes b.world step' (answered_as (length b.world.history) a) b'.world
+answer_makes b b' step' client c (answer.Replied reply) other is same takes d =
+    replied_makes b.world b'.world step' reply d.0 other d.1
+answer_makes b b' step' client c answer.HistoryFull other is same takes d =
+    inl (full_told b.world b'.world step' d.0, d.0)
 answer_makes b b' step' client c answer.NoMemory other is same takes d = inr (
   refl,
   record {
@@ -92,9 +102,12 @@ answer_makes b b' step' client c answer.NoMemory other is same takes d = inr (
   },
 )
 
-pub answer_keeps : (b b' : Book) (slots new : List Held) (step' : Step) (a : Made) → IsKept b slots → Answers b step' a b' → new ≡ accounts_of b' → IsKept b' new
-answer_keeps b b' slots new step' (answer.Replied reply) h d e = kept_on b b' slots new step' (world.Replied reply) h d.1 e
-answer_keeps b b' slots new step' answer.HistoryFull h d e = kept_on b b' slots new step' (world.Replied (Refused HistoryFull)) h d.0 e
+pub answer_keeps : (b b' : Book) (slots new : List Held) (step' : Step) (a : Made) → IsKept b slots
+    → Answers b step' a b' → new ≡ accounts_of b' → IsKept b' new
+answer_keeps b b' slots new step' (answer.Replied reply) h d e =
+    kept_on b b' slots new step' (world.Replied reply) h d.1 e
+answer_keeps b b' slots new step' answer.HistoryFull h d e =
+    kept_on b b' slots new step' (world.Replied (Refused HistoryFull)) h d.0 e
 answer_keeps b b' slots new step' answer.NoMemory h d e = record {
   accounts = e;
   sound = subst (λ (b : Book). IsSound b.world) (sym d.0) h.sound;
@@ -108,8 +121,10 @@ answered_made number answer.NoMemory e = cc e
 
 -- ---- a call for the client alone
 
-pub alone_keeps : (b b' : Book) (slots : List Held) (client : ℕ) (c : Call) (r : Result Made Call) → IsKept b slots → IfOk r (λ a. Answers b (ClientStep client c) a b') → OnErr r (b' ≡ b) → Spares b b' [] → IsKept b' slots
-alone_keeps b b' slots client c (Ok a) h does same spares = answer_keeps b b' slots slots (ClientStep client c) a h does (h.accounts ∙ same_accounts b b' spares)
+pub alone_keeps : (b b' : Book) (slots : List Held) (client : ℕ) (c : Call) (r : Result Made Call) → IsKept b slots
+    → IfOk r (λ a. Answers b (ClientStep client c) a b') → OnErr r (b' ≡ b) → Spares b b' [] → IsKept b' slots
+alone_keeps b b' slots client c (Ok a) h does same spares =
+    answer_keeps b b' slots slots (ClientStep client c) a h does (h.accounts ∙ same_accounts b b' spares)
 alone_keeps b b' slots client c (Err back) h does same spares = kept_same b b' slots h same
 
 -- ---- a call that is on no descriptor
@@ -174,12 +189,15 @@ module _ (w : World) (client : ℕ) (c : Call) where
   never false = refl
 
   pub no_descriptor : descriptor_of c ≡ None → advance w (FdCommit client c) ≡ (world.NotNow, w)
-  no_descriptor e = ap (λ o. here (is_idle w client) (option_map_or (has (client_of (shown w) client).descriptors) o false)) e ∙ never (is_idle w client)
+  no_descriptor e = ap (λ o. here (is_idle w client)
+      (option_map_or (has (client_of (shown w) client).descriptors) o false)) e ∙ never (is_idle w client)
 
-  pub not_open : (fd : ℕ) → descriptor_of c ≡ Some fd → ((file : Descriptor) → IsOpen w client fd file → ⊥) → advance w (FdCommit client c) ≡ (world.NotNow, w)
+  pub not_open : (fd : ℕ) → descriptor_of c ≡ Some fd → ((file : Descriptor) → IsOpen w client fd file → ⊥)
+      → advance w (FdCommit client c) ≡ (world.NotNow, w)
   not_open fd e closed = by (is_idle w client && is_on_descriptor (client_of (shown w) client) c) refl
     where
-      open_of : (o : Option ClientRecord) → get (shown w).clients client ≡ o → is_some o ≡ true → has (unwrap_or o new_client).descriptors fd ≡ true → ⊥
+      open_of : (o : Option ClientRecord) → get (shown w).clients client ≡ o → is_some o ≡ true
+          → has (unwrap_or o new_client).descriptors fd ≡ true → ⊥
       open_of None is there on = cc there
       open_of (Some caller) is there on = at (get caller.descriptors fd) refl on
         where
@@ -187,7 +205,8 @@ module _ (w : World) (client : ℕ) (c : Call) where
           at None f g = cc g
           at (Some file) f g = closed file (record { caller = caller; there = is; holds = f })
 
-      by : (t : Bool) → (is_idle w client && is_on_descriptor (client_of (shown w) client) c) ≡ t → unwrap_or (cond t (Some (replied w client c)) None) (world.NotNow, w) ≡ (world.NotNow, w)
+      by : (t : Bool) → (is_idle w client && is_on_descriptor (client_of (shown w) client) c) ≡ t
+          → unwrap_or (cond t (Some (replied w client c)) None) (world.NotNow, w) ≡ (world.NotNow, w)
       by false is = refl
       by true is =
           let idle = both (is_idle w client) (is_on_descriptor (client_of (shown w) client) c) is in
@@ -195,23 +214,35 @@ module _ (w : World) (client : ℕ) (c : Call) where
           (sym (ap (λ o. option_map_or (has (client_of (shown w) client).descriptors) o false) e) ∙ idle.1))
 
 -- the slot of the file that is open is lent
-pub file_near : (b : Book) (client : ℕ) (c back : Call) (slot fd : ℕ) (file : Descriptor) → descriptor_of c ≡ Some fd → IsOpen b.world client fd file → inode_in b slot ≡ file.inode → ComesBack b client c slot (unmade.Astray back) → ⊥
+pub file_near : (b : Book) (client : ℕ) (c back : Call) (slot fd : ℕ) (file : Descriptor) → descriptor_of c ≡ Some fd
+    → IsOpen b.world client fd file → inode_in b slot ≡ file.inode → ComesBack b client c slot (unmade.Astray back) → ⊥
 file_near b client c back slot fd file e opened there comes =
     let astray = comes.1 in
     let one : fd ≡ astray.number = same_Some fd astray.number (sym e ∙ astray.on) in
-    let caller : opened.caller ≡ astray.is_open.caller = same_Some opened.caller astray.is_open.caller (sym opened.there ∙ astray.is_open.there) in
-    let held : file ≡ astray.file = same_Some file astray.file (sym opened.holds ∙ (λ i. get (caller i).descriptors (one i)) ∙ astray.is_open.holds) in
+    let caller : opened.caller ≡ astray.is_open.caller =
+    same_Some opened.caller astray.is_open.caller (sym opened.there ∙ astray.is_open.there) in
+    let held : file ≡ astray.file =
+    same_Some file astray.file (sym opened.holds ∙ (λ i. get (caller i).descriptors (one i)) ∙ astray.is_open.holds)
+    in
     astray.elsewhere (there ∙ ap (λ (f : Descriptor). f.inode) held)
 
-pub file_keeps : (b b' : Book) (slots : List Held) (client : ℕ) (c : Call) (slot : ℕ) (file : Held) (r : Result Made Unmade) (F : Type 0) → IsKept b slots → slot < length b.inodes → IfOk r (λ a. Answers b (FdCommit client c) a b')
+pub file_keeps : (b b' : Book) (slots : List Held) (client : ℕ) (c : Call) (slot : ℕ) (file : Held)
+    (r : Result Made Unmade) (F : Type 0) → IsKept b slots → slot < length b.inodes
+    → IfOk r (λ a. Answers b (FdCommit client c) a b')
     → OnErr r ((b' ≡ b) × F) → file ≡ slot_of b' slot → Spares b b' (slot ∷ []) → IsKept b' (slice_set slots slot file)
-file_keeps b b' slots client c slot file (Ok a) F h there does same lent spares = answer_keeps b b' slots (slice_set slots slot file) (FdCommit client c) a h does (put_one b b' slots slot file h.accounts there spares lent)
+file_keeps b b' slots client c slot file (Ok a) F h there does same lent spares =
+    answer_keeps b b' slots (slice_set slots slot file) (FdCommit client c) a h does
+    (put_one b b' slots slot file h.accounts there spares lent)
 file_keeps b b' slots client c slot file (Err back) F h there does same lent spares = record {
   accounts = put_one b b' slots slot file h.accounts there spares lent;
   sound = subst (λ (b : Book). IsSound b.world) (sym same.0) h.sound;
   within = subst (λ (b : Book). length b.world.history ≤ b.world.limit) (sym same.0) h.within;
 }
 
-pub join_makes : (b b' : Book) (errno : Errno) → b' ≡ b → (errno ≢ NoMemory → advance b.world Join ≡ (world.Replied (Refused errno), b.world))
-    → (errno ≡ NoMemory → (after : World) × (advance b.world Join ≡ (world.Joined (next_number b.world), after))) → Makes b.world Join (outcome.Refused errno) b'.world
-join_makes b b' errno same refused starves = subst (λ (b' : Book). Makes b.world Join (outcome.Refused errno) b'.world) (sym same) (join_refused b.world errno refused starves)
+pub join_makes : (b b' : Book) (errno : Errno) → b' ≡ b
+    → (errno ≢ NoMemory → advance b.world Join ≡ (world.Replied (Refused errno), b.world))
+    → (errno ≡ NoMemory → (after : World) × (advance b.world Join ≡ (world.Joined (next_number b.world), after)))
+    → Makes b.world Join (outcome.Refused errno) b'.world
+join_makes b b' errno same refused starves =
+    subst (λ (b' : Book). Makes b.world Join (outcome.Refused errno) b'.world) (sym same)
+    (join_refused b.world errno refused starves)

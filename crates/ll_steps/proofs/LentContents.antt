@@ -13,33 +13,44 @@ use Rattle.ll_steps.proofs.ContentsKept.{account_at, length_accounts, filled_so}
 use Rattle.ll_steps.proofs.Trading.{elsewhere}
 
 -- what is lent of slots of these numbers
-pub lent_accounts : (b : Book) (slots : List Held) (ks : List ℕ) → slots ≡ accounts_of b → AllByRecursion (λ k. k < length b.inodes) ks → map (held_at slots) ks ≡ map (slot_of b) ks
+pub lent_accounts : (b : Book) (slots : List Held) (ks : List ℕ) → slots ≡ accounts_of b
+    → AllByRecursion (λ k. k < length b.inodes) ks → map (held_at slots) ks ≡ map (slot_of b) ks
 lent_accounts b slots [] e there = refl
 lent_accounts b slots (k ∷ ks) e there = λ i. account_at b slots k e there.0 i ∷ lent_accounts b slots ks e there.1 i
 
-pub bounds_of : (b : Book) (slots : List Held) (ks : List ℕ) → slots ≡ accounts_of b → AllByRecursion (λ k. k < length b.inodes) ks → AllByRecursion (λ k. k < length slots) ks
+pub bounds_of : (b : Book) (slots : List Held) (ks : List ℕ) → slots ≡ accounts_of b
+    → AllByRecursion (λ k. k < length b.inodes) ks → AllByRecursion (λ k. k < length slots) ks
 bounds_of b slots ks e there = subst (λ n. AllByRecursion (λ k. k < n) ks) (sym (ap length e ∙ length_accounts b)) there
 
 pub bound_of : (b : Book) (slots : List Held) (k : ℕ) → slots ≡ accounts_of b → k < length b.inodes → k < length slots
 bound_of b slots k e there = subst (λ n. k < n) (sym (ap length e ∙ length_accounts b)) there
 
-pub lent_in : (b : Book) (slots : List Held) (ks : List ℕ) → slots ≡ accounts_of b → AllByRecursion (λ k. k < length slots) ks → map (held_at slots) ks ≡ map (slot_of b) ks
-lent_in b slots ks e there = lent_accounts b slots ks e (subst (λ n. AllByRecursion (λ k. k < n) ks) (ap length e ∙ length_accounts b) there)
+pub lent_in : (b : Book) (slots : List Held) (ks : List ℕ) → slots ≡ accounts_of b
+    → AllByRecursion (λ k. k < length slots) ks → map (held_at slots) ks ≡ map (slot_of b) ks
+lent_in b slots ks e there = lent_accounts b slots ks e
+    (subst (λ n. AllByRecursion (λ k. k < n) ks) (ap length e ∙ length_accounts b) there)
 
 -- where the slots and the numbers are read again
-pub bounds_again : (b : Book) (slots read : List Held) (ks numbers : List ℕ) → slots ≡ accounts_of b → read ≡ slots → numbers ≡ ks → AllByRecursion (λ k. k < length b.inodes) ks → AllByRecursion (λ k. k < length read) numbers
+pub bounds_again : (b : Book) (slots read : List Held) (ks numbers : List ℕ) → slots ≡ accounts_of b → read ≡ slots
+    → numbers ≡ ks → AllByRecursion (λ k. k < length b.inodes) ks → AllByRecursion (λ k. k < length read) numbers
 bounds_again b slots read ks numbers e same all there =
-    subst (λ (xs : List Held). AllByRecursion (λ k. k < length xs) numbers) (sym same) (bounds_of b slots numbers e (subst (AllByRecursion (λ k. k < length b.inodes)) (sym all) there))
+    subst (λ (xs : List Held). AllByRecursion (λ k. k < length xs) numbers) (sym same)
+    (bounds_of b slots numbers e (subst (AllByRecursion (λ k. k < length b.inodes)) (sym all) there))
 
-pub bound_again : (b : Book) (slots read : List Held) (k : ℕ) → slots ≡ accounts_of b → read ≡ slots → k < length b.inodes → k < length read
-bound_again b slots read k e same there = subst (λ (xs : List Held). k < length xs) (sym same) (bound_of b slots k e there)
+pub bound_again : (b : Book) (slots read : List Held) (k : ℕ) → slots ≡ accounts_of b → read ≡ slots
+    → k < length b.inodes → k < length read
+bound_again b slots read k e same there =
+    subst (λ (xs : List Held). k < length xs) (sym same) (bound_of b slots k e there)
 
 -- what is read at an index
-pub at_index : (b : Book) (slots : List Held) (k : ℕ) (held : Held) → slots ≡ accounts_of b → k < length b.inodes → held ≡ slice_index_or slots k held → held ≡ slot_of b k
-at_index b slots k held e lt is = is ∙ get_or_default slots k held vacant (bound_of b slots k e lt) ∙ account_at b slots k e lt
+pub at_index : (b : Book) (slots : List Held) (k : ℕ) (held : Held) → slots ≡ accounts_of b → k < length b.inodes
+    → held ≡ slice_index_or slots k held → held ≡ slot_of b k
+at_index b slots k held e lt is =
+    is ∙ get_or_default slots k held vacant (bound_of b slots k e lt) ∙ account_at b slots k e lt
 
 -- and within the slots
-pub within_accounts : (b : Book) (slots : List Held) (k : ℕ) → slots ≡ accounts_of b → k < length slots → k < length b.inodes
+pub within_accounts : (b : Book) (slots : List Held) (k : ℕ) → slots ≡ accounts_of b → k < length slots
+    → k < length b.inodes
 within_accounts b slots k e lt = subst (λ n. k < n) (ap length e ∙ length_accounts b) lt
 
 same_head : (x y : Held) (xs ys : List Held) → (x ∷ xs) ≡ (y ∷ ys) → x ≡ y
@@ -53,12 +64,15 @@ each_or_out : (f g : ℕ → Held) (ks : List ℕ) (j : ℕ) → map f ks ≡ ma
 each_or_out f g [] j e = inr tt
 each_or_out f g (k ∷ ks) j e = elim (same_or_not j k) [
   | inl same ↦ inl (subst (λ i. f i ≡ g i) (sym same) (same_head (f k) (g k) (map f ks) (map g ks) e))
-  | inr other ↦ elim (each_or_out f g ks j (same_tail (f k) (g k) (map f ks) (map g ks) e)) [ inl h ↦ inl h | inr out ↦ inr (other, out) ]
+  | inr other ↦ elim (each_or_out f g ks j (same_tail (f k) (g k) (map f ks) (map g ks) e))
+      [ inl h ↦ inl h | inr out ↦ inr (other, out) ]
 ]
 
 -- what was lent is put back as it has to be, and the others were spared
-pub put_back : (b b' : Book) (slots new : List Held) (ks : List ℕ) → slots ≡ accounts_of b → Spares b b' ks → length new ≡ length slots
-    → map (held_at new) ks ≡ map (slot_of b') ks → ((j : ℕ) → NotIn j ks → held_at new j ≡ held_at slots j) → new ≡ accounts_of b'
+pub put_back : (b b' : Book) (slots new : List Held) (ks : List ℕ) → slots ≡ accounts_of b → Spares b b' ks
+    → length new ≡ length slots
+    → map (held_at new) ks ≡ map (slot_of b') ks → ((j : ℕ) → NotIn j ks → held_at new j ≡ held_at slots j)
+    → new ≡ accounts_of b'
 put_back b b' slots new ks e spares size put others =
     filled_so b' new (size ∙ ap length e ∙ length_accounts b ∙ sym spares.size)
     (λ j lt. elim (each_or_out (held_at new) (slot_of b') ks j put) [
@@ -67,7 +81,8 @@ put_back b b' slots new ks e spares size put others =
     ])
 
 -- one slot
-pub put_one : (b b' : Book) (slots : List Held) (k : ℕ) (held : Held) → slots ≡ accounts_of b → k < length b.inodes → Spares b b' (k ∷ []) → held ≡ slot_of b' k
+pub put_one : (b b' : Book) (slots : List Held) (k : ℕ) (held : Held) → slots ≡ accounts_of b → k < length b.inodes
+    → Spares b b' (k ∷ []) → held ≡ slot_of b' k
     → slice_set slots k held ≡ accounts_of b'
 put_one b b' slots k held e there spares is =
     put_back b b' slots (slice_set slots k held) (k ∷ []) e spares (length-set slots k held)
@@ -75,13 +90,16 @@ put_one b b' slots k held e there spares is =
     (λ j out. elsewhere slots k j held out.0)
 
 -- two, of which the second was taken out meanwhile
-pub put_two : (b b' : Book) (slots : List Held) (k l : ℕ) (out first second : Held) → slots ≡ accounts_of b → k < length b.inodes → l < length b.inodes → k ≢ l
-    → Spares b b' (k ∷ l ∷ []) → first ≡ slot_of b' k → second ≡ slot_of b' l → slice_set (slice_set (slice_set slots l out) k first) l second ≡ accounts_of b'
+pub put_two : (b b' : Book) (slots : List Held) (k l : ℕ) (out first second : Held) → slots ≡ accounts_of b
+    → k < length b.inodes → l < length b.inodes → k ≢ l
+    → Spares b b' (k ∷ l ∷ []) → first ≡ slot_of b' k → second ≡ slot_of b' l
+    → slice_set (slice_set (slice_set slots l out) k first) l second ≡ accounts_of b'
 put_two b b' slots k l out first second e here there other spares f s =
     put_back b b' slots (slice_set (slice_set taken k first) l second) (k ∷ l ∷ []) e spares
     (length-set (slice_set taken k first) l second ∙ length-set taken k first ∙ length-set slots l out)
     (λ i. at_first i ∷ at_second i ∷ [])
-    (λ j absent. elsewhere (slice_set taken k first) l j second absent.1.0 ∙ elsewhere taken k j first absent.0 ∙ elsewhere slots l j out absent.1.0)
+    (λ j absent. elsewhere (slice_set taken k first) l j second absent.1.0 ∙ elsewhere taken k j first absent.0
+    ∙ elsewhere slots l j out absent.1.0)
   where
     taken : List Held
     taken = slice_set slots l out
@@ -89,9 +107,11 @@ put_two b b' slots k l out first second e here there other spares f s =
     at_first : held_at (slice_set (slice_set (slice_set slots l out) k first) l second) k ≡ slot_of b' k
     at_first =
         elsewhere (slice_set (slice_set slots l out) k first) l k second other
-        ∙ get_or-set_same (slice_set slots l out) k first vacant (subst (λ n. k < n) (sym (length-set slots l out)) (bound_of b slots k e here)) ∙ f
+        ∙ get_or-set_same (slice_set slots l out) k first vacant
+        (subst (λ n. k < n) (sym (length-set slots l out)) (bound_of b slots k e here)) ∙ f
 
     at_second : held_at (slice_set (slice_set (slice_set slots l out) k first) l second) l ≡ slot_of b' l
     at_second =
         get_or-set_same (slice_set (slice_set slots l out) k first) l second vacant
-        (subst (λ n. l < n) (sym (length-set (slice_set slots l out) k first ∙ length-set slots l out)) (bound_of b slots l e there)) ∙ s
+        (subst (λ n. l < n) (sym (length-set (slice_set slots l out) k first ∙ length-set slots l out))
+        (bound_of b slots l e there)) ∙ s

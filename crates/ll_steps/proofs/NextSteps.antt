@@ -1,5 +1,6 @@
 -- Where one step of a walk comes next, no other may be made.
-use Rattle.std.specs.Prelude.{◌≡◌, ◌≢◌, ◌⊎◌, ℕ, Bool, true, false, cond, not, ◌&&◌, List, [], ◌∷◌, Option, Some, None, is_none, unwrap_or, option_map, option_and_then, IfSome, IfNone, refl}
+use Rattle.std.specs.Prelude.{◌≡◌, ◌≢◌, ◌⊎◌, ℕ, Bool, true, false, cond, not, ◌&&◌, List, [], ◌∷◌, Option, Some, None}
+use Rattle.std.specs.Prelude.{is_none, unwrap_or, option_map, option_and_then, IfSome, IfNone, refl}
 use Rattle.std.specs.Option.{option_map_or}
 use Rattle.std.proofs.Common.{sym, ap, subst, ◌∙◌, inl, inr}
 use Rattle.ll_rights.specs.Map.{get}
@@ -9,20 +10,22 @@ use Rattle.ll_seq.specs.declared.call.Call.{Call}
 use Rattle.ll_seq.specs.Call.{first_path, second_path}
 use Rattle.ll_seq.specs.State.{Name, State}
 use Rattle.ll_laws.proofs.Chains.{same_Some}
-use Rattle.ll_walks.specs.declared.step.Step.TheVariants.{Commit, Descend, Fork, Restart}
-use Rattle.ll_walks.specs.Walk.{Walk, Leg, Position, Above, Down, Split, at_ends, directory_under, forked, further, further_by, has_two_paths, is_above, is_blocked, leg_below, toward, turn}
-use Rattle.ll_walks.specs.Walks.{AreFew}
-use Rattle.ll_walks.specs.World as world
-use Rattle.ll_walks.specs.World.{World, domain_of, fork, restart, shown, stand, with_walk}
-use Rattle.ll_walks.proofs.Shapes.{leg_is_blocked, restarted}
-use Rattle.ll_walks.proofs.Tests.{both, not_true}
+use Rattle.ll_worlds.specs.declared.step.Step.TheVariants.{Commit, Descend, Fork, Restart}
+use Rattle.ll_worlds.specs.Walk.{Walk, Leg, Position, Above, Down, Split, at_ends, directory_under, forked, further}
+use Rattle.ll_worlds.specs.Walk.{further_by, has_two_paths, is_above, is_blocked, leg_below, toward, turn}
+use Rattle.ll_worlds.specs.Walks.{AreFew}
+use Rattle.ll_worlds.specs.World as world
+use Rattle.ll_worlds.specs.World.{World, domain_of, fork, restart, shown, stand, with_walk}
+use Rattle.ll_worlds.proofs.Shapes.{leg_is_blocked, restarted}
+use Rattle.ll_worlds.proofs.Tests.{both, not_true}
 use Rattle.ll_journal.specs.Book.{Book}
 use Rattle.ll_journal.specs.NextStep.{IsAtStop}
 use Rattle.ll_journal.specs.Stations.{station_at, station_in, station_of}
 use Rattle.ll_journal.specs.Steps.{IsNext}
 use Rattle.ll_journal.specs.declared.station.Station.{Station}
 use Rattle.ll_journal.specs.declared.station.Station.TheVariants as station
-use Rattle.ll_journal.proofs.Advancing.{commit_none, commit_not_now, descend_none, descend_stale, may_commit_on_the_way, may_commit_stale}
+use Rattle.ll_journal.proofs.Advancing.{commit_none, commit_not_now, descend_none, descend_stale, may_commit_on_the_way}
+use Rattle.ll_journal.proofs.Advancing.{may_commit_stale}
 use Rattle.ll_steps.specs.Calling.{IsStuck, Leads, Waits, answered, waits}
 use Rattle.ll_steps.specs.Left.{StepsOn}
 use Rattle.ll_steps.specs.Makes.{Makes}
@@ -67,12 +70,14 @@ module _ (w : World) (client : ℕ) where
         ap (λ o. done_or_not (option_and_then (restart w client) o)) is
         ∙ ap (λ b. done_or_not (cond b (Some (world.Restarted, restarted w client walk)) None)) e
 
-    descend_away : walk.stale ≡ false → (leg : Leg) → turn walk.at ≡ Some leg → further (shown w) (domain_of w client) leg ≡ None → Waits w (Descend client)
+    descend_away : walk.stale ≡ false → (leg : Leg) → turn walk.at ≡ Some leg
+        → further (shown w) (domain_of w client) leg ≡ None → Waits w (Descend client)
     descend_away fresh leg turned e =
         goes_further w client walk is fresh leg turned
         ∙ ap (λ o. done_or_not (option_and_then (stand w client walk) o)) e
 
-    commit_away : option_map_or (leg_is_blocked (shown w)) (turn walk.at) false ≡ false → at_ends walk.call walk.at ≡ false → Waits w (Commit client)
+    commit_away : option_map_or (leg_is_blocked (shown w)) (turn walk.at) false ≡ false
+        → at_ends walk.call walk.at ≡ false → Waits w (Commit client)
     commit_away free more = commit_not_now w client walk is (may_commit_on_the_way w client walk is free more)
 
 -- ---- where a walk is
@@ -115,30 +120,37 @@ none_idle w client e = by (get w.walks client) e
   where
     by : (o : Option Walk) → station_of o ≡ station.Idle → o ≡ None
     by None f = refl
-    by (Some walk) f = elim walk.stale as (λ b. cond b station.Stale (station_at walk.call walk.at) ≡ station.Idle → Some walk ≡ None) [
-      | true ↦ λ g. absurd (cc g)
-      | false ↦ λ g. absurd (cc (sym (station_goes walk.call walk.at) ∙ ap goes g))
-    ] f
+    by (Some walk) f = elim walk.stale as (λ b. cond b station.Stale (station_at walk.call walk.at) ≡ station.Idle
+        → Some walk ≡ None) [
+          | true ↦ λ g. absurd (cc g)
+          | false ↦ λ g. absurd (cc (sym (station_goes walk.call walk.at) ∙ ap goes g))
+        ] f
 
-is_stale : (w : World) (client : ℕ) → station_in w client ≡ station.Stale → (walk : Walk) × (get w.walks client ≡ Some walk) × (walk.stale ≡ true)
+is_stale : (w : World) (client : ℕ) → station_in w client ≡ station.Stale → (walk : Walk)
+    × (get w.walks client ≡ Some walk) × (walk.stale ≡ true)
 is_stale w client e = by (get w.walks client) refl e
   where
-    by : (o : Option Walk) → get w.walks client ≡ o → station_of o ≡ station.Stale → (walk : Walk) × (get w.walks client ≡ Some walk) × (walk.stale ≡ true)
+    by : (o : Option Walk) → get w.walks client ≡ o → station_of o ≡ station.Stale → (walk : Walk)
+        × (get w.walks client ≡ Some walk) × (walk.stale ≡ true)
     by None is f = absurd (cc f)
-    by (Some walk) is f = elim walk.stale as (λ b. walk.stale ≡ b → cond b station.Stale (station_at walk.call walk.at) ≡ station.Stale → (walk : Walk) × (get w.walks client ≡ Some walk) × (walk.stale ≡ true)) [
-      | true ↦ λ stale g. (walk, is, stale)
-      | false ↦ λ fresh g. absurd (cc (sym (station_goes walk.call walk.at) ∙ ap goes g))
-    ] refl f
+    by (Some walk) is f = elim walk.stale as (λ b. walk.stale ≡ b
+        → cond b station.Stale (station_at walk.call walk.at) ≡ station.Stale → (walk : Walk)
+        × (get w.walks client ≡ Some walk) × (walk.stale ≡ true)) [
+          | true ↦ λ stale g. (walk, is, stale)
+          | false ↦ λ fresh g. absurd (cc (sym (station_goes walk.call walk.at) ∙ ap goes g))
+        ] refl f
 
-stands_so : (w : World) (client : ℕ) (place : Station) → station_in w client ≡ place → goes place ≡ true → Stands w client place
+stands_so : (w : World) (client : ℕ) (place : Station) → station_in w client ≡ place → goes place ≡ true
+    → Stands w client place
 stands_so w client place e moves = by (get w.walks client) refl e
   where
     by : (o : Option Walk) → get w.walks client ≡ o → station_of o ≡ place → Stands w client place
     by None is f = absurd (cc (ap goes f ∙ moves))
-    by (Some walk) is f = elim walk.stale as (λ b. walk.stale ≡ b → cond b station.Stale (station_at walk.call walk.at) ≡ place → Stands w client place) [
-      | true ↦ λ stale g. absurd (cc (ap goes g ∙ moves))
-      | false ↦ λ fresh g. record { walk = walk; is = is; fresh = fresh; there = g }
-    ] refl f
+    by (Some walk) is f = elim walk.stale as (λ b. walk.stale ≡ b
+        → cond b station.Stale (station_at walk.call walk.at) ≡ place → Stands w client place) [
+          | true ↦ λ stale g. absurd (cc (ap goes g ∙ moves))
+          | false ↦ λ fresh g. record { walk = walk; is = is; fresh = fresh; there = g }
+        ] refl f
 
 -- ---- what is next
 
@@ -159,11 +171,13 @@ record OnlyRestart (w : World) (client : ℕ) : Type 0 where
   pub descend : Waits w (Descend client)
 
 -- at the fork
-at_fork : (call : Call) (at : Position) → station_at call at ≡ station.Fork → (trunk : Leg) × (at ≡ Down trunk) × (is_root trunk.ahead ≡ true) × (has_two_paths call ≡ true)
+at_fork : (call : Call) (at : Position) → station_at call at ≡ station.Fork → (trunk : Leg) × (at ≡ Down trunk)
+    × (is_root trunk.ahead ≡ true) × (has_two_paths call ≡ true)
 at_fork call Above e = absurd (cc e)
 at_fork call (Down trunk) e = by (is_root trunk.ahead) refl (has_two_paths call) refl e
   where
-    by : (a : Bool) → is_root trunk.ahead ≡ a → (b : Bool) → has_two_paths call ≡ b → cond a (cond b station.Fork station.End) station.Trunk ≡ station.Fork
+    by : (a : Bool) → is_root trunk.ahead ≡ a → (b : Bool) → has_two_paths call ≡ b
+        → cond a (cond b station.Fork station.End) station.Trunk ≡ station.Fork
         → (leg : Leg) × (Down trunk ≡ Down leg) × (is_root leg.ahead ≡ true) × (has_two_paths call ≡ true)
     by true r true t f = (trunk, refl, r, t)
     by true r false t f = absurd (cc f)
@@ -175,7 +189,8 @@ at_fork call (Split trunk old new) e = absurd (by (is_root old.ahead) (is_root n
     by true false f = cc f
     by false b f = cc f
 
-ended_leg : (s : State) (domain : List Layer) (leg : Leg) → is_root leg.ahead ≡ true → (further s domain leg ≡ None) × (leg_is_blocked s leg ≡ false)
+ended_leg : (s : State) (domain : List Layer) (leg : Leg) → is_root leg.ahead ≡ true → (further s domain leg ≡ None)
+    × (leg_is_blocked s leg ≡ false)
 ended_leg s domain leg e = by leg.ahead e
   where
     by : (p : Path) → is_root p ≡ true → (further_by s domain leg p ≡ None) × (is_blocked s leg.here p ≡ false)
@@ -226,10 +241,12 @@ only_enter w client e =
     }
 
 -- with a directory to go to
-has_more : (s : State) (domain : List Layer) (leg next : Leg) → further s domain leg ≡ Some next → (is_root leg.ahead ≡ false) × (leg_is_blocked s leg ≡ false)
+has_more : (s : State) (domain : List Layer) (leg next : Leg) → further s domain leg ≡ Some next
+    → (is_root leg.ahead ≡ false) × (leg_is_blocked s leg ≡ false)
 has_more s domain leg next e = by leg.ahead e
   where
-    found : (name : Name) (rest : Path) (o : Option ℕ) → option_map (leg_below domain leg name rest) o ≡ Some next → is_none o ≡ false
+    found : (name : Name) (rest : Path) (o : Option ℕ) → option_map (leg_below domain leg name rest) o ≡ Some next
+        → is_none o ≡ false
     found name rest None f = absurd (cc f)
     found name rest (Some i) f = refl
 
@@ -246,7 +263,8 @@ neither true = refl
 neither false = refl
 
 -- neither at its ends nor at the fork
-on_the_way : (call : Call) (at : Position) (leg : Leg) → turn at ≡ Some leg → is_root leg.ahead ≡ false → (at_ends call at ≡ false) × (forked call at ≡ None)
+on_the_way : (call : Call) (at : Position) (leg : Leg) → turn at ≡ Some leg → is_root leg.ahead ≡ false
+    → (at_ends call at ≡ false) × (forked call at ≡ None)
 on_the_way call Above leg turned more = absurd (cc turned)
 on_the_way call (Down trunk) leg turned more =
     let on : is_root trunk.ahead ≡ false = ap (λ (l : Leg). is_root l.ahead) (same_Some trunk leg turned) ∙ more in (
@@ -261,7 +279,8 @@ on_the_way call (Split trunk old new) leg turned more = (
   refl,
 )
 
-going : (b : Book) (client from to : ℕ) → IsNext b client from to → (walk : Walk) × (get b.world.walks client ≡ Some walk)
+going : (b : Book) (client from to : ℕ) → IsNext b client from to → (walk : Walk)
+    × (get b.world.walks client ≡ Some walk)
 going b client from to next = by (get b.world.walks client) refl
   where
     by : (o : Option Walk) → get b.world.walks client ≡ o → (walk : Walk) × (get b.world.walks client ≡ Some walk)
@@ -272,12 +291,15 @@ only_descend : (b : Book) (client from to : ℕ) → IsNext b client from to →
 only_descend b client from to next =
     let here = going b client from to next in
     let walk = here.0 in
-    let turned : turn walk.at ≡ Some next.leg = sym (ap (option_and_then (λ (v : Walk). turn v.at)) here.1) ∙ next.in_turn in
-    let fresh : walk.stale ≡ false = not_true walk.stale (sym (ap (λ o. option_map_or (λ (v : Walk). not v.stale) o false) here.1) ∙ next.going) in
+    let turned : turn walk.at ≡ Some next.leg =
+    sym (ap (option_and_then (λ (v : Walk). turn v.at)) here.1) ∙ next.in_turn in
+    let fresh : walk.stale ≡ false =
+    not_true walk.stale (sym (ap (λ o. option_map_or (λ (v : Walk). not v.stale) o false) here.1) ∙ next.going) in
     let more = has_more (shown b.world) (domain_of b.world client) next.leg next.next next.further_is in
     let way = on_the_way walk.call walk.at next.leg turned more.0 in
     record {
-      commit = commit_away b.world client walk here.1 (ap (λ o. option_map_or (leg_is_blocked (shown b.world)) o false) turned ∙ more.1) way.0;
+      commit = commit_away b.world client walk here.1
+          (ap (λ o. option_map_or (leg_is_blocked (shown b.world)) o false) turned ∙ more.1) way.0;
       fork = fork_away b.world client walk here.1 way.1;
       restart = restart_fresh b.world client walk here.1 fresh;
     }
@@ -291,10 +313,12 @@ only_restart w client e =
     }
 
 -- with its next name in the way
-blocked_leg : (s : State) (domain : List Layer) (leg : Leg) → is_blocked s leg.here leg.ahead ≡ true → (is_root leg.ahead ≡ false) × (further s domain leg ≡ None)
+blocked_leg : (s : State) (domain : List Layer) (leg : Leg) → is_blocked s leg.here leg.ahead ≡ true
+    → (is_root leg.ahead ≡ false) × (further s domain leg ≡ None)
 blocked_leg s domain leg e = by leg.ahead e
   where
-    found : (name : Name) (rest : Path) (o : Option ℕ) → is_none o ≡ true → option_map (leg_below domain leg name rest) o ≡ None
+    found : (name : Name) (rest : Path) (o : Option ℕ) → is_none o ≡ true
+        → option_map (leg_below domain leg name rest) o ≡ None
     found name rest None f = refl
     found name rest (Some i) f = absurd (cc f)
 
@@ -303,7 +327,8 @@ blocked_leg s domain leg e = by leg.ahead e
     by (name ∷ rest) f = (refl, found name rest (directory_under s leg.here name) f)
 
 -- at its ends: with no name ahead, and past the fork if there is one
-at_its_ends : (call : Call) (at : Position) (leg : Leg) → turn at ≡ Some leg → at_ends call at ≡ true → (is_root leg.ahead ≡ true) × (forked call at ≡ None)
+at_its_ends : (call : Call) (at : Position) (leg : Leg) → turn at ≡ Some leg → at_ends call at ≡ true
+    → (is_root leg.ahead ≡ true) × (forked call at ≡ None)
 at_its_ends call Above leg turned e = absurd (cc turned)
 at_its_ends call (Down trunk) leg turned e =
     let ends = both (not (has_two_paths call)) (is_root trunk.ahead) e in (
@@ -325,7 +350,8 @@ only_commit b client slots stop =
     )
   where
     by : (is_blocked (shown b.world) stop.leg.here stop.leg.ahead ≡ true) ⊎ (at_ends stop.walk.call stop.walk.at ≡ true)
-        → (further (shown b.world) (domain_of b.world client) stop.leg ≡ None) × (forked stop.walk.call stop.walk.at ≡ None)
+        → (further (shown b.world) (domain_of b.world client) stop.leg ≡ None)
+        × (forked stop.walk.call stop.walk.at ≡ None)
     by (inl blocked) =
         let no = blocked_leg (shown b.world) (domain_of b.world client) stop.leg blocked in
         (no.1, (on_the_way stop.walk.call stop.walk.at stop.leg stop.in_turn no.0).1)
@@ -339,15 +365,18 @@ only_commit b client slots stop =
 pub nothing_comes : (w : World) (client : ℕ) → station_in w client ≡ station.Idle → Leads client w outcome.NotNow w
 nothing_comes w client e =
     let none = none_idle w client e in
-    waits w (commit_none w client none) (fork_none w client none, descend_none w client none, restart_none w client none)
+    waits w (commit_none w client none)
+    (fork_none w client none, descend_none w client none, restart_none w client none)
 
-pub commit_comes : (b : Book) (client : ℕ) (slots : List ℕ) (v : World) (o : Outcome) → IsAtStop b client slots → Makes b.world (Commit client) o v → Leads client b.world o v
+pub commit_comes : (b : Book) (client : ℕ) (slots : List ℕ) (v : World) (o : Outcome) → IsAtStop b client slots
+    → Makes b.world (Commit client) o v → Leads client b.world o v
 commit_comes b client slots v o stop m = by o m
   where
     by : (o : Outcome) → Makes b.world (Commit client) o v → Leads client b.world o v
     by outcome.NotNow m =
         let idle = waits_so b.world v (Commit client) outcome.NotNow m refl in
-        subst (λ (u : World). Leads client b.world outcome.NotNow u) (sym idle.1) (waits b.world idle.0 (only_commit b client slots stop))
+        subst (λ (u : World). Leads client b.world outcome.NotNow u) (sym idle.1)
+        (waits b.world idle.0 (only_commit b client slots stop))
     by outcome.Begun m = answered b.world v outcome.Begun m (λ e. cc e)
     by (outcome.Stands inode) m = answered b.world v (outcome.Stands inode) m (λ e. cc e)
     by outcome.Forked m = answered b.world v outcome.Forked m (λ e. cc e)
@@ -362,7 +391,8 @@ pub record Told (o : Outcome) (r : Option Outcome) : Type 0 where
   pub idle : IfSome r (λ t. (t ≡ outcome.NotNow) × (o ≡ outcome.NotNow))
 
 -- the walk waits
-waiting : (w v : World) (client : ℕ) (t : Outcome) → t ≡ outcome.NotNow → v ≡ w → Waits w (Commit client) → IsStuck w client → Leads client w t v
+waiting : (w v : World) (client : ℕ) (t : Outcome) → t ≡ outcome.NotNow → v ≡ w → Waits w (Commit client)
+    → IsStuck w client → Leads client w t v
 waiting w v client t is same commit stuck =
     subst (λ (p : Outcome × World). Leads client w p.0 p.1) (λ i. (sym is i, sym same i)) (waits w commit stuck)
 
@@ -375,7 +405,8 @@ module _ (w v : World) (client : ℕ) (o : Outcome) where
       let idle = waits_so w v (Fork client) o m t.idle.1 in
       waiting w v client p t.idle.0 idle.1 only.commit (idle.0, only.descend, only.restart)
 
-  descend_tells : (r : Option Outcome) → OnlyDescend w client → Makes w (Descend client) o v → Told o r → StepsOn w client r v
+  descend_tells : (r : Option Outcome) → OnlyDescend w client → Makes w (Descend client) o v → Told o r
+      → StepsOn w client r v
   descend_tells None only m t =
       let step = stands w v client o m t.made in
       (only.commit, inr (inl (only.fork, step.0, step.1)), after_descent w v client step.0 step.1)
@@ -383,7 +414,8 @@ module _ (w v : World) (client : ℕ) (o : Outcome) where
       let idle = waits_so w v (Descend client) o m t.idle.1 in
       waiting w v client p t.idle.0 idle.1 only.commit (only.fork, idle.0, only.restart)
 
-  restart_tells : (r : Option Outcome) → OnlyRestart w client → AreFew v → Makes w (Restart client) o v → Told o r → StepsOn w client r v
+  restart_tells : (r : Option Outcome) → OnlyRestart w client → AreFew v → Makes w (Restart client) o v → Told o r
+      → StepsOn w client r v
   restart_tells None only few m t =
       let step = restarts w v client o m t.made in
       (only.commit, inr (inr (only.fork, only.descend, step)), after_restart w v client few step)
@@ -398,8 +430,11 @@ module _ (w v : World) (client : ℕ) (o : Outcome) where
     pub entry_comes : station_in w client ≡ station.Above → Makes w (Descend client) o v → StepsOn w client r v
     entry_comes e m = descend_tells r (only_enter w client e) m told
 
-    pub descent_comes : (b : Book) (from to : ℕ) → b.world ≡ w → IsNext b client from to → Makes w (Descend client) o v → StepsOn w client r v
-    descent_comes b from to is next m = descend_tells r (subst (λ (u : World). OnlyDescend u client) is (only_descend b client from to next)) m told
+    pub descent_comes : (b : Book) (from to : ℕ) → b.world ≡ w → IsNext b client from to → Makes w (Descend client) o v
+        → StepsOn w client r v
+    descent_comes b from to is next m =
+        descend_tells r (subst (λ (u : World). OnlyDescend u client) is (only_descend b client from to next)) m told
 
-    pub restart_comes : station_in w client ≡ station.Stale → AreFew v → Makes w (Restart client) o v → StepsOn w client r v
+    pub restart_comes : station_in w client ≡ station.Stale → AreFew v → Makes w (Restart client) o v
+        → StepsOn w client r v
     restart_comes e few m = restart_tells r (only_restart w client e) few m told

@@ -4,7 +4,7 @@ use Rattle.std.specs.List.{range_with_len}
 use Rattle.ll_held.specs.declared.held.Held.{Held}
 use Rattle.ll_held.specs.Lent.{vacant}
 use Rattle.ll_journal.specs.Book.{Book, slot_of}
-use Rattle.ll_walks.specs.Sound.{IsSound}
+use Rattle.ll_worlds.specs.Sound.{IsSound}
 use Rattle.ll_journal.specs.declared.outcome.Outcome as journal
 use Rattle.ll_journal.specs.declared.outcome.Outcome.TheVariants as told
 use Rattle.ll_journal.specs.declared.outcome.Ending.{Ending}

@@ -5,10 +5,10 @@ use Rattle.ll_laws.specs.Withheld.{Withholds}
 use Rattle.ll_seq.specs.declared.reply.Entry.{Entry}
 use Rattle.ll_seq.specs.State.{start}
 use Rattle.ll_seq.specs.History.{IsLegal}
-use Rattle.ll_walks.specs.declared.step.Step.{Step}
-use Rattle.ll_walks.specs.World.{World}
-use Rattle.ll_walks.specs.Growing.{Came}
-use Rattle.ll_walks.specs.Walks.{AreValid, AreApart, AreFew, GateIsHeld}
+use Rattle.ll_worlds.specs.declared.step.Step.{Step}
+use Rattle.ll_worlds.specs.World.{World}
+use Rattle.ll_worlds.specs.Growing.{Came}
+use Rattle.ll_worlds.specs.Walks.{AreValid, AreApart, AreFew, GateIsHeld}
 use Rattle.ll_steps.specs.declared.outcome.Outcome.{Outcome}
 use Rattle.ll_steps.specs.Makes.{Makes, Adds}
 

@@ -80,8 +80,8 @@ impl World {
         }
     }
 
-    /// All steps of a call to its reply. NotNow where it may not begin, or where its walk waits for other walks: then it
-    /// stays under way.
+    /// All steps of a call to its reply. NotNow where it may not begin, or where its walk waits for other walks: then
+    /// it stays under way.
     pub fn make(&mut self, client: u64, call: Call) -> Outcome
         ensures makes { Calls self.old client call result self.new }
         ensures lawful { IsLawful self.new }

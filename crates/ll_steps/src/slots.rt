@@ -29,7 +29,8 @@ pub(crate) fn vacant(alloc: Global) -> Held
 /// The slots of a tree of the root alone.
 pub(crate) fn new_slots(alloc: Global, nodes: usize) -> Result<Vec<Held>, AllocError>
     requires { nodes ≤ TREE_NODES }
-    ensures { IfOk result (λ slots. slots.items ≡ lent.filled root Dir ∷ replicate (nodes + TREE_CLIENTS - 1) lent.vacant) }
+    ensures { IfOk result (λ slots. slots.items ≡ lent.filled root Dir
+        ∷ replicate (nodes + TREE_CLIENTS - 1) lent.vacant) }
 {
     let count = nodes + TREE_CLIENTS;
     let mut slots = Vec::with_capacity(alloc, count)?;

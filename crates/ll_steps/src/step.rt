@@ -7,7 +7,7 @@ ghost use Rattle.ll_steps.specs.Makes.{Makes};
 use crate::outcome::Outcome;
 use crate::world::World;
 use ll_seq::Call;
-use ll_walks::Step;
+use ll_worlds::Step;
 use std::alloc::AllocError;
 
 /// Of a call that came back.
@@ -48,7 +48,8 @@ impl World {
         outcome
     }
 
-    /// All these steps, in their order. Room for the outcomes is taken first. Errors: there is none, and no step was made.
+    /// All these steps, in their order. Room for the outcomes is taken first. Errors: there is none, and no step was
+    /// made.
     pub fn run(&mut self, steps: Vec<Step>) -> Result<Vec<Outcome>, AllocError>
         ensures ran { IfOk result (λ outcomes. IsHeadline self.old steps.items outcomes.items self.new) }
         ensures not_run { OnErr result (self.new ≡ self.old) }

@@ -4,11 +4,11 @@ ghost use Rattle.std.specs.Prelude.{◌≡◌, ◌≢◌, ℕ, ◌<◌, ◌≤�
 ghost use Rattle.std.specs.List.{AllByRecursion};
 ghost use Rattle.ll_rights.specs.Map.{get};
 ghost use Rattle.ll_inodes.specs.InodeTable.{AreDistinct};
-ghost use Rattle.ll_walks.specs.Walk as walks;
+ghost use Rattle.ll_worlds.specs.Walk as walks;
 ghost use Rattle.ll_seq.specs.State.{root};
 ghost use Rattle.ll_journal.specs.Book.{has_mark, inode_in};
 ghost use Rattle.ll_journal.specs.WalkEnds.{AreEnough, is_lent};
-ghost use Rattle.ll_walks.specs.declared.step.Step.TheVariants as steps;
+ghost use Rattle.ll_worlds.specs.declared.step.Step.TheVariants as steps;
 ghost use Rattle.ll_steps.specs.Contents.{IsKept, ended_as, told_as};
 ghost use Rattle.ll_journal.specs.Steps.{IsNext, is_at_top};
 ghost use Rattle.ll_steps.specs.Makes.{Makes};

@@ -10,7 +10,7 @@ use ll_seq::{History, Rules};
 use std::alloc::{AllocError, Global};
 use std::marker::Model;
 
-/// A tree that clients share, and what is under way in it. Contracts see it as ll_walks' world.
+/// A tree that clients share, and what is under way in it. Contracts see it as ll_worlds' world.
 #[derive(Drop)]
 pub struct World {
     pub(crate) alloc: Global,
@@ -19,7 +19,7 @@ pub struct World {
 }
 
 impl Model for World {
-    ghost use Rattle.ll_walks.specs.World as world;
+    ghost use Rattle.ll_worlds.specs.World as world;
     ghost use Rattle.ll_journal.specs.SeatCodes.{coded_world};
 
     ghost Value = { world.World };
@@ -35,11 +35,11 @@ impl Model for World {
 
 impl World {
     ghost use Rattle.ll_rights.specs.Map.{len};
-    ghost use Rattle.ll_walks.specs.World.{new_world, shown};
+    ghost use Rattle.ll_worlds.specs.World.{new_world, shown};
     ghost use Rattle.ll_journal.specs.Stations.{station_in};
 
-    /// A tree of the root alone, in which so many nodes may live, without a client. Room is taken for so many entries of
-    /// the history.
+    /// A tree of the root alone, in which so many nodes may live, without a client. Room is taken for so many entries
+    /// of the history.
     pub fn new(
         alloc: Global,
         rules: Rules,

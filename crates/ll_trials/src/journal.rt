@@ -1,4 +1,5 @@
-//! A journal, by hand, as far as a step is lent no slot: two clients would rename, and the first of them holds the gate.
+//! A journal, by hand, as far as a step is lent no slot: two clients would rename, and the first of them holds the
+//! gate.
 
 use crate::calls::target;
 use ll_journal::{Journal, Made, Outcome, Station};

@@ -21,7 +21,7 @@
 //! | ll_journal | | `Journal::new`, `connect`, `client_step`; `begin`, which takes none: `journal` |
 //! | ll_lines | `Line::new` and `push` | |
 //! | ll_session | `run_script` | with devices that fail: `session` |
-//! | ll_steps | `World::new`, `step`, `make` | `World::run`: `steps`; `read` and `list`, whose replies are copied: `replies` |
+//! | ll_steps | `World::new`, `step`, `make` | `World::run`: `steps`; `read`, `list`, whose replies are copied: `replies` |
 //!
 //! ll_decide and ll_answer take no memory that may be missing.
 #![tactic(auto)]

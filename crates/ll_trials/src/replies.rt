@@ -5,7 +5,7 @@ use ll_path::Data;
 use ll_rights::Abi;
 use ll_seq::{AccessMode, Call, Creation, Mode, Reply, Rules};
 use ll_steps::{Outcome, World};
-use ll_walks::Step;
+use ll_worlds::Step;
 use std::alloc::{AllocError, Global};
 
 const RULES: Rules = Rules {

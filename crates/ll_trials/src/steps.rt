@@ -1,5 +1,5 @@
-//! Worked schedules, whose steps are made by `run`: those that stand in a row are one list. A call that a line has made at
-//! once, by `do`, stands between two lists.
+//! Worked schedules, whose steps are made by `run`: those that stand in a row are one list. A call that a line has made
+//! at once, by `do`, stands between two lists.
 //!
 //! The schedules and what comes of them are those of worked/schedule-*, but for one whose lines spell nothing.
 
@@ -9,8 +9,8 @@ ghost use Rattle.ll_rights.specs.declared.limits.TheConstants.{HISTORY_ENTRIES};
 use ll_rights::Abi;
 use ll_seq::{Entry, Reply, Rules};
 use ll_steps::{Outcome, World};
-use ll_walks::Step;
 use ll_wire::{ScheduleLine, line_text, read_schedule_line, reply_text_behind};
+use ll_worlds::Step;
 use std::alloc::{AllocError, Global};
 use std::test::Fail;
 

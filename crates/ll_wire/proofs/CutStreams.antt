@@ -15,11 +15,13 @@ open-append (p ∷ part) b ne h = (h.0, open-append part b ne h.1)
 
 pub pieces-line : (part rest : List ℕ) → IsOpen part → pieces (part ++ 10 ∷ rest) ≡ (part ++ 10 ∷ []) ∷ pieces rest
 pieces-line [] rest h = refl
-pieces-line (b ∷ part) rest h = let e : eqb b 10 ≡ false = ne_eqb b 10 h.0 in rw e (ap (onto_first b) (pieces-line part rest h.1))
+pieces-line (b ∷ part) rest h = let e : eqb b 10 ≡ false = ne_eqb b 10 h.0 in
+    rw e (ap (onto_first b) (pieces-line part rest h.1))
 
 pieces-open : (b : ℕ) (part : List ℕ) → IsOpen (b ∷ part) → pieces (b ∷ part) ≡ (b ∷ part) ∷ []
 pieces-open b [] h = let e : eqb b 10 ≡ false = ne_eqb b 10 h.0 in rw e refl
-pieces-open b (c ∷ part) h = let e : eqb b 10 ≡ false = ne_eqb b 10 h.0 in rw e (ap (onto_first b) (pieces-open c part h.1))
+pieces-open b (c ∷ part) h = let e : eqb b 10 ≡ false = ne_eqb b 10 h.0 in
+    rw e (ap (onto_first b) (pieces-open c part h.1))
 
 pub pieces-last : (part : List ℕ) → 0 < length part → IsOpen part → pieces (part ++ []) ≡ part ∷ []
 pieces-last [] more h = absurd (omega arith)

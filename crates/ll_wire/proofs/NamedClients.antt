@@ -1,5 +1,6 @@
 -- Which client a command names.
-use Rattle.std.proofs.Common.{◌≡◌, ℕ, ◌≤◌, ◌⊎◌, Bool, true, false, List, [], ◌∷◌, ◌++◌, length, refl, ap, sym, ◌∙◌, arith, inl, inr, Result, Ok, Err, length-append}
+use Rattle.std.proofs.Common.{◌≡◌, ℕ, ◌≤◌, ◌⊎◌, Bool, true, false, List, [], ◌∷◌, ◌++◌, length, refl, ap, sym, ◌∙◌}
+use Rattle.std.proofs.Common.{arith, inl, inr, Result, Ok, Err, length-append}
 use Rattle.std.specs.Prelude.{◌==◌, if◌then◌else◌}
 use Rattle.std.specs.Result.{MatchResult}
 use Rattle.std.specs.Fmt.{decimal}
@@ -16,17 +17,20 @@ use Rattle.ll_wire.proofs.FirstTokens.{whole_reads}
 of_other : (client : ℕ) → 2 ≤ client → client_tokens client ≡ (64 ∷ decimal client) ∷ []
 of_other client h = ap (λ (b : Bool). if b then [] else (64 ∷ decimal client) ∷ []) (ne_eqb client 1 (λ e. omega arith))
 
-pub not_named : (token : List ℕ) → ((rest : List ℕ) → token ≡ 64 ∷ rest → ⊥) → (client : ℕ) → SpellsClient token client → ⊥
+pub not_named : (token : List ℕ) → ((rest : List ℕ) → token ≡ 64 ∷ rest → ⊥) → (client : ℕ) → SpellsClient token client
+    → ⊥
 not_named token none client is = none (decimal client) is.1
 
 -- the number behind the sign is the client's
-pub number_named : (token digits : List ℕ) (number client : ℕ) → token ≡ 64 ∷ digits → SpellsNumber digits number → SpellsClient token client → number ≡ client
+pub number_named : (token digits : List ℕ) (number client : ℕ) → token ≡ 64 ∷ digits → SpellsNumber digits number
+    → SpellsClient token client → number ≡ client
 number_named token digits number client starts n is =
     let same : decimal number ≡ decimal client = cc in
     decimal_injective number client n.0 (omega (arith, is.0.1)) same
 
 -- where the first client is named, no other is
-pub first_named : (token : List ℕ) (client other : ℕ) → SpellsClient token client → client ≡ 1 → NamesClient token other → ⊥
+pub first_named : (token : List ℕ) (client other : ℕ) → SpellsClient token client → client ≡ 1 → NamesClient token other
+    → ⊥
 first_named token client other h one is =
     let texts : 64 ∷ decimal client ≡ 64 ∷ decimal other = sym h.1 ∙ is.2 in
     let numbers : decimal client ≡ decimal other = cc in
@@ -64,43 +68,70 @@ no_call_named calls.Connect = refl
 -- a command's tokens by whether a client is named
 by_client : (tokens : List (List ℕ)) (client : ℕ) (call : Call) → SpellsTokens tokens client call
     → ((client ≡ 1) × SpellsCall tokens call × (starts_named tokens ≡ false))
-    ⊎ ((rest : List (List ℕ)) × (first : List ℕ) × (tokens ≡ first ∷ rest) × NamesClient first client × SpellsCall rest call)
+    ⊎ ((rest : List (List ℕ)) × (first : List ℕ) × (tokens ≡ first ∷ rest) × NamesClient first client
+    × SpellsCall rest call)
 by_client tokens client call h = elim (cases_eq client 1) [
   | inl one ↦ (
       let same : tokens ≡ call_tokens call = h.2 ∙ ap (λ (n : ℕ). client_tokens n ++ call_tokens call) one in
       inl (one, (h.1, same), ap starts_named same ∙ no_call_named call))
   | inr more ↦ (
       let other : 2 ≤ client = omega arith in
-      inr (call_tokens call, 64 ∷ decimal client, h.2 ∙ ap (λ (t : List (List ℕ)). t ++ call_tokens call) (of_other client other), (other, h.0.1, refl), (h.1, refl)))
+      inr (
+        call_tokens call,
+        64 ∷ decimal client,
+        h.2
+            ∙ ap (λ (t : List (List ℕ)). t ++ call_tokens call) (of_other client other),
+        (other, h.0.1, refl),
+        (h.1, refl),
+      ))
 ]
 
 -- ---- reading
 
 -- what stands after a client's name
-after_name : (tokens others : List (List ℕ)) (first : List ℕ) (client : ℕ) → tokens ≡ first ∷ others → NamesClient first client → (n : ℕ) (call : Call) → SpellsTokens tokens n call → SpellsCall others call
+after_name : (tokens others : List (List ℕ)) (first : List ℕ) (client : ℕ) → tokens ≡ first ∷ others
+    → NamesClient first client → (n : ℕ) (call : Call) → SpellsTokens tokens n call → SpellsCall others call
 after_name tokens others first client parts name n call h = elim (by_client tokens n call h) [
-  | inl unnamed ↦ (let named : starts_named tokens ≡ true = ap starts_named (parts ∙ ap (λ (t : List ℕ). t ∷ others) name.2) in absurd (false≢true (sym unnamed.2 ∙ named)))
+  | inl unnamed ↦ (let named : starts_named tokens
+      ≡ true = ap starts_named (parts ∙ ap (λ (t : List ℕ). t ∷ others) name.2) in
+      absurd (false≢true (sym unnamed.2 ∙ named)))
   | inr named ↦ (named.4.0, (let same : others ≡ named.0 = cc in same ∙ named.4.1))
 ]
 
-pub named_reads : (tokens others : List (List ℕ)) (first : List ℕ) (client : ℕ) (r : Result Call Errno) (s : Result (ℕ × Call) Errno) → tokens ≡ first ∷ others → NamesClient first client
-    → MatchResult r (λ call. s ≡ Ok (client, call)) (λ e. s ≡ Err e) → ReadsCall others r → ReadsBy (λ (v : ℕ × Call). SpellsTokens tokens v.0 v.1) (λ v. holds_text v.1 ≡ true) s
-named_reads tokens others first client r s parts name made h = whole_reads (SpellsCall others) (λ call. holds_text call ≡ true) (λ (v : ℕ × Call). SpellsTokens tokens v.0 v.1) (λ (v : ℕ × Call). holds_text v.1 ≡ true) (λ call. (client, call))
+pub named_reads : (tokens others : List (List ℕ)) (first : List ℕ) (client : ℕ) (r : Result Call Errno)
+    (s : Result (ℕ × Call) Errno) → tokens ≡ first ∷ others → NamesClient first client
+    → MatchResult r (λ call. s ≡ Ok (client, call)) (λ e. s ≡ Err e) → ReadsCall others r
+    → ReadsBy (λ (v : ℕ × Call). SpellsTokens tokens v.0 v.1) (λ v. holds_text v.1 ≡ true) s
+named_reads tokens others first client r s parts name made h =
+    whole_reads (SpellsCall others) (λ call. holds_text call ≡ true) (λ (v : ℕ × Call). SpellsTokens tokens v.0 v.1)
+    (λ (v : ℕ × Call). holds_text v.1 ≡ true) (λ call. (client, call))
     (λ v is. (v.1, after_name tokens others first client parts name v.0 v.1 is))
-    (λ call is. ((omega arith, name.1), is.0, parts ∙ ap (λ (t : List ℕ). t ∷ others) name.2 ∙ ap (λ (ts : List (List ℕ)). (64 ∷ decimal client) ∷ ts) is.1 ∙ ap (λ (ts : List (List ℕ)). ts ++ call_tokens call) (sym (of_other client name.0))))
+    (λ call is. (
+      (omega arith, name.1),
+      is.0,
+      parts ∙ ap (λ (t : List ℕ). t ∷ others) name.2
+          ∙ ap (λ (ts : List (List ℕ)). (64 ∷ decimal client) ∷ ts) is.1
+          ∙ ap (λ (ts : List (List ℕ)). ts ++ call_tokens call) (sym (of_other client name.0)),
+    ))
     (λ call is takes. takes)
     r s made h
 
 -- where the first token names no client, the first client calls
-unnamed_call : (tokens others : List (List ℕ)) (first : List ℕ) → tokens ≡ first ∷ others → ((client : ℕ) → NamesClient first client → ⊥) → (n : ℕ) (call : Call) → SpellsTokens tokens n call → SpellsCall tokens call
+unnamed_call : (tokens others : List (List ℕ)) (first : List ℕ) → tokens ≡ first ∷ others
+    → ((client : ℕ) → NamesClient first client → ⊥) → (n : ℕ) (call : Call) → SpellsTokens tokens n call
+    → SpellsCall tokens call
 unnamed_call tokens others first parts none n call h = elim (by_client tokens n call h) [
   | inl unnamed ↦ unnamed.1
   | inr named ↦ (let same : first ≡ named.1 = cc in absurd (none n (named.3.0, named.3.1, same ∙ named.3.2)))
 ]
 
-pub unnamed_reads : (tokens others : List (List ℕ)) (first : List ℕ) (r : Result Call Errno) (s : Result (ℕ × Call) Errno) → tokens ≡ first ∷ others → ((client : ℕ) → NamesClient first client → ⊥)
-    → MatchResult r (λ call. s ≡ Ok (1, call)) (λ e. s ≡ Err e) → ReadsCall tokens r → ReadsBy (λ (v : ℕ × Call). SpellsTokens tokens v.0 v.1) (λ v. holds_text v.1 ≡ true) s
-unnamed_reads tokens others first r s parts none made h = whole_reads (SpellsCall tokens) (λ call. holds_text call ≡ true) (λ (v : ℕ × Call). SpellsTokens tokens v.0 v.1) (λ (v : ℕ × Call). holds_text v.1 ≡ true) (λ call. (1, call))
+pub unnamed_reads : (tokens others : List (List ℕ)) (first : List ℕ) (r : Result Call Errno)
+    (s : Result (ℕ × Call) Errno) → tokens ≡ first ∷ others → ((client : ℕ) → NamesClient first client → ⊥)
+    → MatchResult r (λ call. s ≡ Ok (1, call)) (λ e. s ≡ Err e) → ReadsCall tokens r
+    → ReadsBy (λ (v : ℕ × Call). SpellsTokens tokens v.0 v.1) (λ v. holds_text v.1 ≡ true) s
+unnamed_reads tokens others first r s parts none made h =
+    whole_reads (SpellsCall tokens) (λ call. holds_text call ≡ true) (λ (v : ℕ × Call). SpellsTokens tokens v.0 v.1)
+    (λ (v : ℕ × Call). holds_text v.1 ≡ true) (λ call. (1, call))
     (λ v is. (v.1, unnamed_call tokens others first parts none v.0 v.1 is))
     (λ call is. ((omega arith, omega arith), is.0, is.1))
     (λ call is takes. takes)
@@ -109,23 +140,29 @@ unnamed_reads tokens others first r s parts none made h = whole_reads (SpellsCal
 -- ---- clients that there are
 
 -- the first token names the client
-pub client_is : (tokens others : List (List ℕ)) (first : List ℕ) (client : ℕ) → tokens ≡ first ∷ others → NamesClient first client → (n : ℕ) (call : Call) → SpellsTokens tokens n call → n ≡ client
+pub client_is : (tokens others : List (List ℕ)) (first : List ℕ) (client : ℕ) → tokens ≡ first ∷ others
+    → NamesClient first client → (n : ℕ) (call : Call) → SpellsTokens tokens n call → n ≡ client
 client_is tokens others first client parts name n call h = elim (by_client tokens n call h) [
-  | inl unnamed ↦ (let named : starts_named tokens ≡ true = ap starts_named (parts ∙ ap (λ (t : List ℕ). t ∷ others) name.2) in absurd (false≢true (sym unnamed.2 ∙ named)))
+  | inl unnamed ↦ (let named : starts_named tokens
+      ≡ true = ap starts_named (parts ∙ ap (λ (t : List ℕ). t ∷ others) name.2) in
+      absurd (false≢true (sym unnamed.2 ∙ named)))
   | inr named ↦ (
       let same : first ≡ named.1 = cc in
-      let numbers : decimal n ≡ decimal client = (let texts : 64 ∷ decimal n ≡ 64 ∷ decimal client = sym named.3.2 ∙ sym same ∙ name.2 in cc) in
+      let numbers : decimal n ≡ decimal client =
+      (let texts : 64 ∷ decimal n ≡ 64 ∷ decimal client = sym named.3.2 ∙ sym same ∙ name.2 in cc) in
       decimal_injective n client (omega arith) (omega arith) numbers)
 ]
 
 -- it names none
-pub first_is : (tokens others : List (List ℕ)) (first : List ℕ) → tokens ≡ first ∷ others → ((client : ℕ) → NamesClient first client → ⊥) → (n : ℕ) (call : Call) → SpellsTokens tokens n call → n ≡ 1
+pub first_is : (tokens others : List (List ℕ)) (first : List ℕ) → tokens ≡ first ∷ others
+    → ((client : ℕ) → NamesClient first client → ⊥) → (n : ℕ) (call : Call) → SpellsTokens tokens n call → n ≡ 1
 first_is tokens others first parts none n call h = elim (by_client tokens n call h) [
   | inl unnamed ↦ unnamed.0
   | inr named ↦ (let same : first ≡ named.1 = cc in absurd (none n (named.3.0, named.3.1, same ∙ named.3.2)))
 ]
 
-pub within : {V : Type 0} (P Q T : V → Type 0) (r : Result V Errno) → ReadsBy P T r → ((v : V) → P v → Q v) → ReadsBy (λ v. P v × Q v) T r
+pub within : {V : Type 0} (P Q T : V → Type 0) (r : Result V Errno) → ReadsBy P T r → ((v : V) → P v → Q v)
+    → ReadsBy (λ v. P v × Q v) T r
 within P Q T (Ok v) h also = (h, also v h)
 within P Q T (Err e) (inl h) also = inl (h.0, λ v is. h.1 v is.0)
 within P Q T (Err e) (inr h) also = inr (h.0, h.1, (h.2, also h.1 h.2), h.3)
@@ -175,15 +212,18 @@ at_most_five client call =
 -- ---- one client
 
 -- two commands that the same tokens spell are of one client, and their calls have the same tokens
-pub same_client : (tokens : List (List ℕ)) (n m : ℕ) (call other : Call) → SpellsTokens tokens n call → SpellsTokens tokens m other
+pub same_client : (tokens : List (List ℕ)) (n m : ℕ) (call other : Call) → SpellsTokens tokens n call
+    → SpellsTokens tokens m other
     → (n ≡ m) × (call_tokens call ≡ call_tokens other)
 same_client tokens n m call other h k = elim (by_client tokens n call h) [
   | inl unnamed ↦ elim (by_client tokens m other k) [
     | inl neither ↦ (unnamed.0 ∙ sym neither.0, sym unnamed.1.1 ∙ neither.1.1)
-    | inr named ↦ absurd (false≢true (sym unnamed.2 ∙ ap starts_named (named.2 ∙ ap (λ (t : List ℕ). t ∷ named.0) named.3.2)))
+    | inr named ↦ absurd (false≢true (sym unnamed.2
+        ∙ ap starts_named (named.2 ∙ ap (λ (t : List ℕ). t ∷ named.0) named.3.2)))
   ]
   | inr named ↦ elim (by_client tokens m other k) [
-    | inl unnamed ↦ absurd (false≢true (sym unnamed.2 ∙ ap starts_named (named.2 ∙ ap (λ (t : List ℕ). t ∷ named.0) named.3.2)))
+    | inl unnamed ↦ absurd (false≢true (sym unnamed.2
+        ∙ ap starts_named (named.2 ∙ ap (λ (t : List ℕ). t ∷ named.0) named.3.2)))
     | inr both ↦ (
         let firsts : 64 ∷ decimal n ≡ 64 ∷ decimal m = cc in
         let rests : named.0 ≡ both.0 = cc in

@@ -5,9 +5,12 @@ use Rattle.ll_path.specs.Target.{target_text}
 use Rattle.ll_path.specs.declared.target.Target.{Target}
 use Rattle.ll_path.specs.declared.target.Target.TheVariants.{Good, Bad}
 use Rattle.ll_seq.specs.declared.call.Call.{Call}
-use Rattle.ll_seq.specs.declared.call.Call.TheVariants.{Make, Open, Read, Write, Ftruncate, Close, Truncate, ReadDir, Stat, Exec, Unlink, Rmdir, Rename, RenameNoreplace, Exchange, Link, Ruleset, Allow, Confine, Spawn, Connect}
+use Rattle.ll_seq.specs.declared.call.Call.TheVariants.{Make, Open, Read, Write, Ftruncate, Close, Truncate, ReadDir}
+use Rattle.ll_seq.specs.declared.call.Call.TheVariants.{Stat, Exec, Unlink, Rmdir, Rename, RenameNoreplace, Exchange}
+use Rattle.ll_seq.specs.declared.call.Call.TheVariants.{Link, Ruleset, Allow, Confine, Spawn, Connect}
 use Rattle.ll_seq.specs.declared.reply.Reply.{Reply}
-use Rattle.ll_seq.specs.declared.reply.Reply.TheVariants.{Done, Opened, Bytes, Wrote, Listed, Found, Created, Spawned, Refused, Denied}
+use Rattle.ll_seq.specs.declared.reply.Reply.TheVariants.{Done, Opened, Bytes, Wrote, Listed, Found, Created, Spawned}
+use Rattle.ll_seq.specs.declared.reply.Reply.TheVariants.{Refused, Denied}
 use Rattle.ll_wire.specs.Entries.{IsEntryCall}
 use Rattle.ll_wire.specs.Grammar.{IsCall, IsReply, IsSpelled, SpellsTarget}
 
@@ -62,6 +65,7 @@ exclusive a b apart (inr x) (inl y) = absurd (apart y x)
 exclusive a b apart (inr x) (inr y) = ap inr (b x y)
 
 pub entry_call_prop : (call : Call) → IsProp (IsEntryCall call)
-entry_call_prop call = exclusive (call_prop call) (Prim.hlevel props) (λ is connects. subst (λ (c : Call). IsCall c) connects is)
+entry_call_prop call = exclusive (call_prop call) (Prim.hlevel props)
+    (λ is connects. subst (λ (c : Call). IsCall c) connects is)
 
 pub ruleset spelled_props = (entry_call_prop, reply_prop, props)

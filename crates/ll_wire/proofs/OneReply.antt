@@ -1,5 +1,6 @@
 -- A line spells one reply.
-use Rattle.std.proofs.Common.{◌≡◌, ◌≢◌, ℕ, ◌^◌, ◌<◌, ◌≤◌, true, List, [], ◌∷◌, length, codes, refl, ap, sym, subst, ◌∙◌, arith}
+use Rattle.std.proofs.Common.{◌≡◌, ◌≢◌, ℕ, ◌^◌, ◌<◌, ◌≤◌, true, List, [], ◌∷◌, length, codes, refl, ap, sym, subst, ◌∙◌}
+use Rattle.std.proofs.Common.{arith}
 use Rattle.std.specs.Prelude.{◌==◌, if◌then◌else◌, slice_index_or}
 use Rattle.std.specs.Str.{bytes_eq}
 use Rattle.std.specs.List.{AllByRecursion, join_with_byte, position_or_len, slice_split}
@@ -22,7 +23,8 @@ use Rattle.ll_decide.specs.declared.denial.Denial.{Denial}
 use Rattle.ll_seq.specs.Listed.{IsData, AreListed}
 use Rattle.ll_seq.specs.declared.reply.Status.{Status}
 use Rattle.ll_seq.specs.declared.reply.Reply.{Reply}
-use Rattle.ll_seq.specs.declared.reply.Reply.TheVariants.{Done, Opened, Bytes, Wrote, Listed, Found, Created, Spawned, Refused, Denied}
+use Rattle.ll_seq.specs.declared.reply.Reply.TheVariants.{Done, Opened, Bytes, Wrote, Listed, Found, Created, Spawned}
+use Rattle.ll_seq.specs.declared.reply.Reply.TheVariants.{Refused, Denied}
 use Rattle.ll_wire.specs.Grammar.{data_text, reply_tokens, IsReply, SpellsReply}
 use Rattle.ll_wire.specs.Parts.{SpellsReplyTokens}
 use Rattle.ll_wire.proofs.Tokens.{IsToken, visible, visible_is, number_token, kind_token, data_token}
@@ -64,7 +66,8 @@ errno_token : (errno : Errno) → IsToken (errno_text errno)
 errno_token errno = visible_is (errno_text errno) (errno_visible errno)
 
 right_token : (right : ℕ) → right < 15 → IsToken (right_text right)
-right_token right known = visible_is (right_text right) (agree_below_at (λ k. visible (right_text k)) (λ _. true) 15 right refl known)
+right_token right known = visible_is (right_text right)
+    (agree_below_at (λ k. visible (right_text k)) (λ _. true) 15 right refl known)
 
 place_token : (place : Place) → IsToken (place_text place)
 place_token places.At = visible_is (codes "at") refl
@@ -85,21 +88,38 @@ reply_is_tokens (Opened number) h = (visible_is (codes "fd") refl, (number_token
 reply_is_tokens (Bytes bytes) h = (visible_is (codes "data") refl, (data_token bytes h, tt))
 reply_is_tokens (Wrote count) h = (visible_is (codes "wrote") refl, (number_token count h, tt))
 reply_is_tokens (Listed names) h = (visible_is (codes "names") refl, names_tokens names h.0)
-reply_is_tokens (Found s) h =
-    (visible_is (codes "stat") refl, (number_token s.inode h.0, (kind_token s.kind, (number_token s.size h.1, (number_token s.links h.2, tt)))))
+reply_is_tokens (Found s) h = (
+  visible_is (codes "stat") refl,
+  (number_token s.inode h.0, (kind_token s.kind, (number_token s.size h.1, (number_token s.links h.2, tt)))),
+)
 reply_is_tokens (Created number) h = (visible_is (codes "ruleset") refl, (number_token number h, tt))
 reply_is_tokens (Spawned number) h = (visible_is (codes "client") refl, (number_token number h, tt))
-reply_is_tokens (Refused errno) h = (visible_is (codes "refused") refl, (number_token (errno_number errno) (omega (arith, h.1)), (errno_token errno, tt)))
-reply_is_tokens (Denied d) h =
-    (visible_is (codes "denied") refl, (errno_token (cause_errno d.cause), (visible_is (codes "layer") refl, (number_token d.layer h.0, (right_token d.right h.1, (place_token d.place, tt))))))
+reply_is_tokens (Refused errno) h = (
+  visible_is (codes "refused") refl,
+  (number_token (errno_number errno) (omega (arith, h.1)), (errno_token errno, tt)),
+)
+reply_is_tokens (Denied d) h = (
+  visible_is (codes "denied") refl,
+  (
+    errno_token (cause_errno d.cause),
+    (
+      visible_is (codes "layer") refl,
+      (number_token d.layer h.0, (right_token d.right h.1, (place_token d.place, tt))),
+    ),
+  ),
+)
 
 -- ---- each word
 
 abbrev all_errnos : List Errno
-all_errnos = errnos.EACCES ∷ errnos.EXDEV ∷ errnos.ENOENT ∷ errnos.EEXIST ∷ errnos.ENOTDIR ∷ errnos.EISDIR ∷ errnos.ENOTEMPTY ∷ errnos.EINVAL ∷ errnos.EPERM ∷ errnos.EBUSY ∷ errnos.EBADF ∷ errnos.EMFILE ∷ errnos.ENOSPC ∷ errnos.EMLINK ∷ errnos.ENAMETOOLONG ∷ errnos.EFBIG ∷ errnos.ELOOP ∷ errnos.ENXIO ∷ errnos.E2BIG ∷ errnos.ENOMSG ∷ errnos.HistoryFull ∷ errnos.NoMemory ∷ errnos.BadLine ∷ errnos.Stale ∷ []
+all_errnos = errnos.EACCES ∷ errnos.EXDEV ∷ errnos.ENOENT ∷ errnos.EEXIST ∷ errnos.ENOTDIR ∷ errnos.EISDIR
+    ∷ errnos.ENOTEMPTY ∷ errnos.EINVAL ∷ errnos.EPERM ∷ errnos.EBUSY ∷ errnos.EBADF ∷ errnos.EMFILE ∷ errnos.ENOSPC
+    ∷ errnos.EMLINK ∷ errnos.ENAMETOOLONG ∷ errnos.EFBIG ∷ errnos.ELOOP ∷ errnos.ENXIO ∷ errnos.E2BIG ∷ errnos.ENOMSG
+    ∷ errnos.HistoryFull ∷ errnos.NoMemory ∷ errnos.BadLine ∷ errnos.Stale ∷ []
 
 errno_of : List ℕ → Errno
-errno_of text = slice_index_or all_errnos (position_or_len (λ errno. bytes_eq (errno_text errno) text) all_errnos) errnos.Stale
+errno_of text = slice_index_or all_errnos (position_or_len (λ errno. bytes_eq (errno_text errno) text) all_errnos)
+    errnos.Stale
 
 errno_of_text : (errno : Errno) → errno_of (errno_text errno) ≡ errno
 unfolding errno_of
@@ -142,7 +162,8 @@ same_cause : (some other : Cause) → errno_text (cause_errno some) ≡ errno_te
 same_cause some other e = sym (cause_of_text some) ∙ ap cause_of e ∙ cause_of_text other
 
 abbrev place_of : List ℕ → Place
-place_of text = if bytes_eq text (codes "at") then places.At else if bytes_eq text (codes "old") then places.Old else places.New
+place_of text = if bytes_eq text (codes "at") then places.At else if bytes_eq text (codes "old") then places.Old else
+    places.New
 
 place_of_text : (place : Place) → place_of (place_text place) ≡ place
 place_of_text places.At = refl
@@ -154,7 +175,8 @@ same_place some other e = sym (place_of_text some) ∙ ap place_of e ∙ place_o
 
 -- ---- what a reply is whose first token is known
 
-pub done_is : (args : List (List ℕ)) (reply : Reply) → SpellsReplyTokens (codes "ok" ∷ args) reply → (args ≡ []) × (reply ≡ Done)
+pub done_is : (args : List (List ℕ)) (reply : Reply) → SpellsReplyTokens (codes "ok" ∷ args) reply → (args ≡ [])
+    × (reply ≡ Done)
 done_is args Done h = (cc, refl)
 done_is args reply h = absurd (false≢true (sym (ap (first_is (codes "ok")) h.1)))
 
@@ -184,35 +206,41 @@ pub bytes_is : (args : List (List ℕ)) (reply : Reply) → SpellsReplyTokens (c
 bytes_is args (Bytes bytes) h = (bytes, h.0, cc, refl)
 bytes_is args reply h = absurd (false≢true (sym (ap (first_is (codes "data")) h.1)))
 
-pub listed_is : (args : List (List ℕ)) (reply : Reply) → SpellsReplyTokens (codes "names" ∷ args) reply → AreListed args × (reply ≡ Listed args)
+pub listed_is : (args : List (List ℕ)) (reply : Reply) → SpellsReplyTokens (codes "names" ∷ args) reply → AreListed args
+    × (reply ≡ Listed args)
 listed_is args (Listed names) h = let same : names ≡ args = cc in (subst AreListed same h.0, ap Listed same)
 listed_is args reply h = absurd (false≢true (sym (ap (first_is (codes "names")) h.1)))
 
 pub found_is : (args : List (List ℕ)) (reply : Reply) → SpellsReplyTokens (codes "stat" ∷ args) reply
-    → (s : Status) × IsReply (Found s) × (args ≡ decimal s.inode ∷ kind_text s.kind ∷ decimal s.size ∷ decimal s.links ∷ []) × (reply ≡ Found s)
+    → (s : Status) × IsReply (Found s)
+    × (args ≡ decimal s.inode ∷ kind_text s.kind ∷ decimal s.size ∷ decimal s.links ∷ []) × (reply ≡ Found s)
 found_is args (Found s) h = (s, h.0, cc, refl)
 found_is args reply h = absurd (false≢true (sym (ap (first_is (codes "stat")) h.1)))
 
 pub refused_is : (args : List (List ℕ)) (reply : Reply) → SpellsReplyTokens (codes "refused" ∷ args) reply
-    → (errno : Errno) × IsReply (Refused errno) × (args ≡ decimal (errno_number errno) ∷ errno_text errno ∷ []) × (reply ≡ Refused errno)
+    → (errno : Errno) × IsReply (Refused errno) × (args ≡ decimal (errno_number errno) ∷ errno_text errno ∷ [])
+    × (reply ≡ Refused errno)
 refused_is args (Refused errno) h = (errno, h.0, cc, refl)
 refused_is args reply h = absurd (false≢true (sym (ap (first_is (codes "refused")) h.1)))
 
 pub denied_is : (args : List (List ℕ)) (reply : Reply) → SpellsReplyTokens (codes "denied" ∷ args) reply
     → (d : Denial) × IsReply (Denied d)
-    × (args ≡ errno_text (cause_errno d.cause) ∷ codes "layer" ∷ decimal d.layer ∷ right_text d.right ∷ place_text d.place ∷ []) × (reply ≡ Denied d)
+    × (args ≡ errno_text (cause_errno d.cause) ∷ codes "layer" ∷ decimal d.layer ∷ right_text d.right
+    ∷ place_text d.place ∷ []) × (reply ≡ Denied d)
 denied_is args (Denied d) h = (d, h.0, cc, refl)
 denied_is args reply h = absurd (false≢true (sym (ap (first_is (codes "denied")) h.1)))
 
 -- ---- replies
 
-same_number_by : (name : List ℕ) (make : ℕ → Reply) → IsOfNumber name make → (number : ℕ) (other : Reply) → number < 2 ^ 64 → IsReply other
+same_number_by : (name : List ℕ) (make : ℕ → Reply) → IsOfNumber name make → (number : ℕ) (other : Reply)
+    → number < 2 ^ 64 → IsReply other
     → name ∷ decimal number ∷ [] ≡ reply_tokens other → make number ≡ other
 same_number_by name make is number other h k e =
     let o = is (decimal number ∷ []) other (k, e) in
     ap make (decimal_injective number o.0 h o.1 cc) ∙ sym o.3
 
-pub same_reply : (some other : Reply) → IsReply some → IsReply other → reply_tokens some ≡ reply_tokens other → some ≡ other
+pub same_reply : (some other : Reply) → IsReply some → IsReply other → reply_tokens some ≡ reply_tokens other
+    → some ≡ other
 same_reply Done other h k e = sym (done_is [] other (k, e)).1
 same_reply (Opened number) other h k e = same_number_by (codes "fd") Opened opened_is number other h k e
 same_reply (Bytes bytes) other h k e =
@@ -233,7 +261,8 @@ same_reply (Refused errno) other h k e =
     let o = refused_is (decimal (errno_number errno) ∷ errno_text errno ∷ []) other (k, e) in
     ap Refused (same_errno errno o.0 cc) ∙ sym o.3
 same_reply (Denied d) other h k e =
-    let o = denied_is (errno_text (cause_errno d.cause) ∷ codes "layer" ∷ decimal d.layer ∷ right_text d.right ∷ place_text d.place ∷ []) other (k, e) in
+    let o = denied_is (errno_text (cause_errno d.cause) ∷ codes "layer" ∷ decimal d.layer ∷ right_text d.right
+    ∷ place_text d.place ∷ []) other (k, e) in
     let reasons = same_cause d.cause o.0.cause cc in
     let layers = decimal_injective d.layer o.0.layer h.0 o.1.0 cc in
     let rights = same_right d.right o.0.right h.1 o.1.1 cc in
@@ -252,10 +281,14 @@ some_tokens (Spawned number) = omega arith
 some_tokens (Refused errno) = omega arith
 some_tokens (Denied d) = omega arith
 
-pub cut_reply : (reply : Reply) → IsReply reply → slice_split (λ b. b == 32) (join_with_byte 32 (reply_tokens reply)) ≡ reply_tokens reply
+pub cut_reply : (reply : Reply) → IsReply reply
+    → slice_split (λ b. b == 32) (join_with_byte 32 (reply_tokens reply)) ≡ reply_tokens reply
 cut_reply reply h = cut (reply_tokens reply) (some_tokens reply) (reply_is_tokens reply h)
 
-pub spells_one_reply : (line : List ℕ) (reply other : Reply) → SpellsReply line reply → SpellsReply line other → reply ≡ other
+pub spells_one_reply : (line : List ℕ) (reply other : Reply) → SpellsReply line reply → SpellsReply line other
+    → reply ≡ other
 spells_one_reply line reply other h k =
-    let same = same_front (join_with_byte 32 (reply_tokens reply)) (join_with_byte 32 (reply_tokens other)) 10 10 (sym h.1 ∙ k.1) in
-    same_reply reply other h.0 k.0 (sym (cut_reply reply h.0) ∙ ap (slice_split (λ b. b == 32)) same ∙ cut_reply other k.0)
+    let same = same_front (join_with_byte 32 (reply_tokens reply)) (join_with_byte 32 (reply_tokens other)) 10 10
+    (sym h.1 ∙ k.1) in
+    same_reply reply other h.0 k.0 (sym (cut_reply reply h.0) ∙ ap (slice_split (λ b. b == 32)) same
+    ∙ cut_reply other k.0)

@@ -1,5 +1,6 @@
 -- Lines of schedules: their tokens.
-use Rattle.std.proofs.Common.{◌≡◌, ◌≢◌, ℕ, ◌<◌, ◌≤◌, true, false, List, [], ◌∷◌, ◌++◌, length, codes, Option, Some, None, Result, Ok, Err, refl, ap, sym, ◌∙◌, subst, arith, length-append}
+use Rattle.std.proofs.Common.{◌≡◌, ◌≢◌, ℕ, ◌<◌, ◌≤◌, true, false, List, [], ◌∷◌, ◌++◌, length, codes, Option, Some}
+use Rattle.std.proofs.Common.{None, Result, Ok, Err, refl, ap, sym, ◌∙◌, subst, arith, length-append}
 use Rattle.std.specs.Prelude.{IfSome, option_map, unwrap_or, if◌then◌else◌}
 use Rattle.std.specs.Str.{bytes_eq, IsAscii}
 use Rattle.std.specs.List.{AllByRecursion, join_with_byte}
@@ -10,11 +11,13 @@ use Rattle.std.proofs.lemmas.Fmt.{decimal_injective}
 use Rattle.ll_rights.specs.declared.errno.Errno.{Errno}
 use Rattle.ll_seq.specs.declared.call.Call.{Call}
 use Rattle.ll_seq.specs.declared.call.Call.TheVariants.{Spawn}
-use Rattle.ll_walks.specs.declared.step.Step.TheVariants.{Join, Begin, Descend, Fork, Commit, Restart, FdCommit, ClientStep}
+use Rattle.ll_worlds.specs.declared.step.Step.TheVariants.{Join, Begin, Descend, Fork, Commit, Restart, FdCommit}
+use Rattle.ll_worlds.specs.declared.step.Step.TheVariants.{ClientStep}
 use Rattle.ll_wire.specs.Grammar.{call_tokens, IsCall, IsClient}
 use Rattle.ll_wire.specs.Parts.{ReadsCall, SpellsCall, SpellsClient}
 use Rattle.ll_wire.specs.Reads.{ReadsBy, holds_text}
-use Rattle.ll_wire.specs.ScheduleLines.{form, client_in, call_in, name_tokens, line_tokens, IsScheduleLine, SpellsScheduleLine, line_holds_text}
+use Rattle.ll_wire.specs.ScheduleLines.{form, client_in, call_in, name_tokens, line_tokens, IsScheduleLine}
+use Rattle.ll_wire.specs.ScheduleLines.{SpellsScheduleLine, line_holds_text}
 use Rattle.ll_wire.specs.ScheduleParts.{SpellsLineTokens, SpellsBehind}
 use Rattle.ll_wire.specs.declared.schedule.ScheduleLine.{ScheduleLine}
 use Rattle.ll_wire.specs.declared.schedule.ScheduleLine.TheVariants as lines

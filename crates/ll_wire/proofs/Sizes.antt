@@ -1,5 +1,6 @@
 -- How long the line of an entry is at most.
-use Rattle.std.proofs.Common.{◌≡◌, ℕ, ◌+◌, ◌*◌, ◌^◌, ◌<◌, ◌≤◌, Bool, true, false, leb, List, [], ◌∷◌, ◌++◌, length, codes, inl, inr, refl, sym, subst, arith, length-append}
+use Rattle.std.proofs.Common.{◌≡◌, ℕ, ◌+◌, ◌*◌, ◌^◌, ◌<◌, ◌≤◌, Bool, true, false, leb, List, [], ◌∷◌, ◌++◌, length}
+use Rattle.std.proofs.Common.{codes, inl, inr, refl, sym, subst, arith, length-append}
 use Rattle.std.specs.List.{AllByRecursion, join_with_byte}
 use Rattle.std.specs.Fmt.{decimal}
 use Rattle.std.specs.Char.{digit_char}
@@ -31,10 +32,12 @@ use Rattle.ll_seq.specs.declared.call.Mode.{Mode}
 use Rattle.ll_seq.specs.declared.call.Call.{Call}
 use Rattle.ll_seq.specs.declared.call.Call.TheVariants as calls
 use Rattle.ll_seq.specs.declared.reply.Reply.{Reply}
-use Rattle.ll_seq.specs.declared.reply.Reply.TheVariants.{Done, Opened, Bytes, Wrote, Listed, Found, Created, Spawned, Refused, Denied}
+use Rattle.ll_seq.specs.declared.reply.Reply.TheVariants.{Done, Opened, Bytes, Wrote, Listed, Found, Created, Spawned}
+use Rattle.ll_seq.specs.declared.reply.Reply.TheVariants.{Refused, Denied}
 use Rattle.ll_seq.specs.declared.reply.Entry.{Entry}
 use Rattle.ll_seq.specs.Listed.{IsData}
-use Rattle.ll_wire.specs.Grammar.{way_text, truncate_text, creation_text, mode_text, data_text, call_tokens, IsCall, reply_tokens, IsReply}
+use Rattle.ll_wire.specs.Grammar.{way_text, truncate_text, creation_text, mode_text, data_text, call_tokens, IsCall}
+use Rattle.ll_wire.specs.Grammar.{reply_tokens, IsReply}
 use Rattle.ll_wire.specs.Entries.{IsEntryCall, IsEntry, entry_tokens, entry_line, SpellsEntry}
 
 -- the bytes of the tokens, and one more for each
@@ -49,7 +52,8 @@ size_append (x ∷ xs) ys = omega (arith, size_append xs ys)
 joined_size : (c : ℕ) (tokens : List (List ℕ)) → length (join_with_byte c tokens) ≤ size tokens
 joined_size c [] = omega arith
 joined_size c (x ∷ []) = omega arith
-joined_size c (x ∷ y ∷ tokens) = omega (arith, length-append x (c ∷ join_with_byte c (y ∷ tokens)), joined_size c (y ∷ tokens))
+joined_size c (x ∷ y ∷ tokens) =
+    omega (arith, length-append x (c ∷ join_with_byte c (y ∷ tokens)), joined_size c (y ∷ tokens))
 
 -- ---- words
 
@@ -114,8 +118,10 @@ rights_size : (set : ℕ) → set < 2 ^ 64 → length (access_text set) ≤ 300
 rights_size set h = elim (cases_lt 0 set) [
   | inr le ↦ (let none : set ≡ 0 = omega arith in rw (none, text_none) (omega arith))
   | inl some ↦ elim (cases_lt set 32768) [
-    | inl known ↦ rw (text_names set some known) (omega (arith, joined_size 44 (set_names set), among_size all_rights set, few_rights))
-    | inr unknown ↦ rw (text_number set unknown) (omega (arith, length-map (digits_of 16 set) digit_char, length-digits_of-le 16 16 set (omega arith) h))
+    | inl known ↦ rw (text_names set some known)
+        (omega (arith, joined_size 44 (set_names set), among_size all_rights set, few_rights))
+    | inr unknown ↦ rw (text_number set unknown)
+        (omega (arith, length-map (digits_of 16 set) digit_char, length-digits_of-le 16 16 set (omega arith) h))
   ]
 ]
 
@@ -149,7 +155,8 @@ errno_size : (errno : Errno) → length (errno_text errno) ≤ 12
 errno_size errno = leb-true _ _ (errno_short errno)
 
 right_size : (right : ℕ) → right < 15 → length (right_text right) ≤ 20
-right_size right known = leb-true _ _ (agree_below_at (λ k. leb (length (right_text k)) 20) (λ _. true) 15 right refl known)
+right_size right known = leb-true _ _
+    (agree_below_at (λ k. leb (length (right_text k)) 20) (λ _. true) 15 right refl known)
 
 place_size : (place : Place) → length (place_text place) ≤ 3
 place_size places.At = omega arith
@@ -165,8 +172,10 @@ names_bytes (name ∷ names) h = (let short : length name ≤ 255 = h.0.1 in ome
 call_size : (call : Call) → IsCall call → size (call_tokens call) ≤ 17000
 call_size (calls.Make kind target) h = omega (arith, kind_size kind, h.0.1)
 call_size (calls.Open mode target) h = omega (arith, mode_size mode, h.0.1)
-call_size (calls.Read fd offset count) h = omega (arith, number_size fd h.0, number_size offset h.1, number_size count h.2)
-call_size (calls.Write fd offset bytes) h = omega (arith, number_size fd h.0, number_size offset h.1, data_size bytes h.2)
+call_size (calls.Read fd offset count) h =
+    omega (arith, number_size fd h.0, number_size offset h.1, number_size count h.2)
+call_size (calls.Write fd offset bytes) h =
+    omega (arith, number_size fd h.0, number_size offset h.1, data_size bytes h.2)
 call_size (calls.Ftruncate fd len) h = omega (arith, number_size fd h.0, number_size len h.1)
 call_size (calls.Close fd) h = omega (arith, number_size fd h)
 call_size (calls.Truncate target len) h = omega (arith, h.0.0.1, number_size len h.1)
@@ -180,7 +189,8 @@ call_size (calls.RenameNoreplace old new) h = omega (arith, h.0.0.1, h.1.0.1)
 call_size (calls.Exchange old new) h = omega (arith, h.0.0.1, h.1.0.1)
 call_size (calls.Link old new) h = omega (arith, h.0.0.1, h.1.0.1)
 call_size (calls.Ruleset rights) h = omega (arith, rights_size rights.0 h)
-call_size (calls.Allow number target rights) h = omega (arith, number_size number h.0, h.1.0.1, rights_size rights.0 h.2)
+call_size (calls.Allow number target rights) h =
+    omega (arith, number_size number h.0, h.1.0.1, rights_size rights.0 h.2)
 call_size (calls.Confine number) h = omega (arith, number_size number h)
 call_size calls.Spawn h = omega arith
 call_size calls.Connect h = absurd h
@@ -189,19 +199,24 @@ entry_call_size : (call : Call) → IsEntryCall call → size (call_tokens call)
 entry_call_size call (inl is) = call_size call is
 entry_call_size call (inr same) = subst (λ (c : Call). size (call_tokens c) ≤ 17000) (sym same) (leb-true _ _ refl)
 
-reply_size : (reply : Reply) → IsReply reply → ((names : List (List ℕ)) → reply ≡ Listed names → length names ≤ 1024) → size (reply_tokens reply) ≤ 262200
+reply_size : (reply : Reply) → IsReply reply → ((names : List (List ℕ)) → reply ≡ Listed names → length names ≤ 1024)
+    → size (reply_tokens reply) ≤ 262200
 reply_size Done h few = omega arith
 reply_size (Opened number) h few = omega (arith, number_size number h)
 reply_size (Bytes bytes) h few = omega (arith, data_size bytes h)
 reply_size (Wrote count) h few = omega (arith, number_size count h)
 reply_size (Listed names) h few = omega (arith, names_bytes names h.0, few names refl)
-reply_size (Found s) h few = omega (arith, number_size s.inode h.0, kind_size s.kind, number_size s.size h.1, number_size s.links h.2)
+reply_size (Found s) h few = omega
+    (arith, number_size s.inode h.0, kind_size s.kind, number_size s.size h.1, number_size s.links h.2)
 reply_size (Created number) h few = omega (arith, number_size number h)
 reply_size (Spawned number) h few = omega (arith, number_size number h)
-reply_size (Refused errno) h few = omega (arith, number_size (errno_number errno) (omega (arith, h.1)), errno_size errno)
-reply_size (Denied d) h few = omega (arith, errno_size (cause_errno d.cause), number_size d.layer h.0, right_size d.right h.1, place_size d.place)
+reply_size (Refused errno) h few =
+    omega (arith, number_size (errno_number errno) (omega (arith, h.1)), errno_size errno)
+reply_size (Denied d) h few =
+    omega (arith, errno_size (cause_errno d.cause), number_size d.layer h.0, right_size d.right h.1, place_size d.place)
 
-pub entries_fit : (e : Entry) → IsEntry e → ((names : List (List ℕ)) → e.reply ≡ Listed names → length names ≤ 1024) → SpellsEntry (entry_line e) e
+pub entries_fit : (e : Entry) → IsEntry e → ((names : List (List ℕ)) → e.reply ≡ Listed names → length names ≤ 1024)
+    → SpellsEntry (entry_line e) e
 entries_fit e h few = record {
   is_entry = h;
   short = omega (

@@ -14,7 +14,8 @@ text_is word target h = target_of_text word target h.1
 pub own_text : (word : List ℕ) (target : Target) → SpellsTarget word target → SpellsTarget (target_text target) target
 own_text word target h = subst (λ (text : List ℕ). SpellsTarget text target) (sym (text_is word target h)) h
 
-target_by : (text : List ℕ) (errnos : List Errno) → path_refusals text ≡ errnos → (target : Target) × IsTarget text target
+target_by : (text : List ℕ) (errnos : List Errno) → path_refusals text ≡ errnos → (target : Target)
+    × IsTarget text target
 target_by text [] e = (Good (path_of_text text), (e, refl))
 target_by text (errno ∷ errnos) e =
     let refused : slice_get (path_refusals text) 0 ≡ Some errno = ap (λ (es : List Errno). slice_get es 0) e in

@@ -1,5 +1,6 @@
 -- The tokens of a call are visible bytes, so a line is cut at its spaces.
-use Rattle.std.proofs.Common.{◌≡◌, ℕ, suc, zero, ◌+◌, ◌^◌, ◌<◌, ◌≤◌, Bool, true, false, ◌&&◌, leb, List, [], ◌∷◌, ◌++◌, map, refl, ap, ◌∙◌, arith, codes, inl, inr}
+use Rattle.std.proofs.Common.{◌≡◌, ℕ, suc, zero, ◌+◌, ◌^◌, ◌<◌, ◌≤◌, Bool, true, false, ◌&&◌, leb, List, [], ◌∷◌, ◌++◌}
+use Rattle.std.proofs.Common.{map, refl, ap, ◌∙◌, arith, codes, inl, inr}
 use Rattle.std.specs.Prelude.{◌==◌, if◌then◌else◌, nat_lt}
 use Rattle.std.specs.List.{slice_split, AllByRecursion, join_with_byte}
 use Rattle.std.specs.Fmt.{decimal}
@@ -28,7 +29,8 @@ use Rattle.ll_seq.specs.declared.call.Mode.{Mode}
 use Rattle.ll_seq.specs.declared.call.Call.{Call}
 use Rattle.ll_seq.specs.declared.call.Call.TheVariants as calls
 use Rattle.ll_seq.specs.Listed.{IsData}
-use Rattle.ll_wire.specs.Grammar.{way_text, truncate_text, creation_text, mode_text, data_text, call_tokens, IsCall, client_tokens, IsClient}
+use Rattle.ll_wire.specs.Grammar.{way_text, truncate_text, creation_text, mode_text, data_text, call_tokens, IsCall}
+use Rattle.ll_wire.specs.Grammar.{client_tokens, IsClient}
 use Rattle.ll_wire.specs.Parts.{IsDigit}
 use Rattle.ll_wire.proofs.Digits.{data_digits}
 
@@ -66,7 +68,8 @@ digits_token (d ∷ ds) h = let r = digit_from_value d h.0 in ((omega arith, ome
 pub number_token : (n : ℕ) → n < 2 ^ 64 → IsToken (decimal n)
 number_token n h = digits_token (decimal n) (decimal_is_IsNumeral n h).0.1
 
-pub all_append : {A : Type 0} (P : A → Type 0) (xs ys : List A) → AllByRecursion P xs → AllByRecursion P ys → AllByRecursion P (xs ++ ys)
+pub all_append : {A : Type 0} (P : A → Type 0) (xs ys : List A) → AllByRecursion P xs → AllByRecursion P ys
+    → AllByRecursion P (xs ++ ys)
 all_append P [] ys h k = k
 all_append P (x ∷ xs) ys h k = (h.0, all_append P xs ys h.1 k)
 
@@ -87,8 +90,10 @@ creation_token IfMissing = visible_is (codes "c") refl
 creation_token Exclusive = visible_is (codes "cx") refl
 
 mode_token : (mode : Mode) → IsToken (mode_text mode)
-mode_token mode = all_append IsVisible (way_text mode.access ++ truncate_text mode.truncate) (creation_text mode.creation)
-    (all_append IsVisible (way_text mode.access) (truncate_text mode.truncate) (way_token mode.access) (truncate_token mode.truncate))
+mode_token mode = all_append IsVisible (way_text mode.access ++ truncate_text mode.truncate)
+    (creation_text mode.creation)
+    (all_append IsVisible (way_text mode.access) (truncate_text mode.truncate) (way_token mode.access)
+    (truncate_token mode.truncate))
     (creation_token mode.creation)
 
 -- ---- bytes
@@ -112,7 +117,9 @@ data_token bytes h = elim (data_digits bytes h) [
 join_token : (names : List (List ℕ)) → AllByRecursion IsToken names → IsToken (join_with_byte 44 names)
 join_token [] h = tt
 join_token (name ∷ []) h = h.0
-join_token (name ∷ next ∷ names) h = all_append IsVisible name (44 ∷ join_with_byte 44 (next ∷ names)) h.0 ((omega arith, omega arith), join_token (next ∷ names) h.1)
+join_token (name ∷ next ∷ names) h =
+    all_append IsVisible name (44 ∷ join_with_byte 44 (next ∷ names)) h.0
+    ((omega arith, omega arith), join_token (next ∷ names) h.1)
 
 abbrev all_visible : List ℕ → Bool
 all_visible [] = true
@@ -123,7 +130,8 @@ names_tokens [] set e = rw (names_end set) tt
 names_tokens (right ∷ rights) set e =
     let p = and_parts (visible (right_text right)) (all_visible rights) e in
     elim (cases_Bool (holds set right)) [
-      | inl there ↦ rw (names_yes right rights set there) (visible_is (right_text right) p.0, names_tokens rights set p.1)
+      | inl there ↦ rw (names_yes right rights set there)
+          (visible_is (right_text right) p.0, names_tokens rights set p.1)
       | inr missing ↦ rw (names_no right rights set missing) (names_tokens rights set p.1)
     ]
 
@@ -144,7 +152,8 @@ rights_token set = elim (cases_lt 0 set) [
   | inl some ↦ elim (cases_lt set 32768) [
     | inl known ↦ rw (text_names set some known) (join_token (set_names set) (names_tokens all_rights set refl))
     | inr unknown ↦ rw (text_number set unknown)
-        (all_append IsVisible (codes "0x") (map digit_char (digits_of 16 set)) (visible_is (codes "0x") refl) (hex_token (digits_of 16 set) (all_below_base_digits_of 16 set (omega arith))))
+        (all_append IsVisible (codes "0x") (map digit_char (digits_of 16 set)) (visible_is (codes "0x") refl)
+        (hex_token (digits_of 16 set) (all_below_base_digits_of 16 set (omega arith))))
   ]
 ]
 
@@ -153,22 +162,28 @@ rights_token set = elim (cases_lt 0 set) [
 pub call_is_tokens : (call : Call) → IsCall call → AllByRecursion IsToken (call_tokens call)
 call_is_tokens (calls.Make kind target) h = (visible_is (codes "make") refl, (kind_token kind, (h.0.2, tt)))
 call_is_tokens (calls.Open mode target) h = (visible_is (codes "open") refl, (mode_token mode, (h.0.2, tt)))
-call_is_tokens (calls.Read fd offset count) h = (visible_is (codes "read") refl, (number_token fd h.0, (number_token offset h.1, (number_token count h.2, tt))))
-call_is_tokens (calls.Write fd offset bytes) h = (visible_is (codes "write") refl, (number_token fd h.0, (number_token offset h.1, (data_token bytes h.2, tt))))
-call_is_tokens (calls.Ftruncate fd size) h = (visible_is (codes "ftruncate") refl, (number_token fd h.0, (number_token size h.1, tt)))
+call_is_tokens (calls.Read fd offset count) h =
+    (visible_is (codes "read") refl, (number_token fd h.0, (number_token offset h.1, (number_token count h.2, tt))))
+call_is_tokens (calls.Write fd offset bytes) h =
+    (visible_is (codes "write") refl, (number_token fd h.0, (number_token offset h.1, (data_token bytes h.2, tt))))
+call_is_tokens (calls.Ftruncate fd size) h =
+    (visible_is (codes "ftruncate") refl, (number_token fd h.0, (number_token size h.1, tt)))
 call_is_tokens (calls.Close fd) h = (visible_is (codes "close") refl, (number_token fd h, tt))
-call_is_tokens (calls.Truncate target size) h = (visible_is (codes "truncate") refl, (h.0.0.2, (number_token size h.1, tt)))
+call_is_tokens (calls.Truncate target size) h =
+    (visible_is (codes "truncate") refl, (h.0.0.2, (number_token size h.1, tt)))
 call_is_tokens (calls.ReadDir target) h = (visible_is (codes "list") refl, (h.0.2, tt))
 call_is_tokens (calls.Stat target) h = (visible_is (codes "stat") refl, (h.0.2, tt))
 call_is_tokens (calls.Exec target) h = (visible_is (codes "exec") refl, (h.0.2, tt))
 call_is_tokens (calls.Unlink target) h = (visible_is (codes "unlink") refl, (h.0.2, tt))
 call_is_tokens (calls.Rmdir target) h = (visible_is (codes "rmdir") refl, (h.0.2, tt))
 call_is_tokens (calls.Rename old new) h = (visible_is (codes "rename") refl, (h.0.0.2, (h.1.0.2, tt)))
-call_is_tokens (calls.RenameNoreplace old new) h = (visible_is (codes "rename_noreplace") refl, (h.0.0.2, (h.1.0.2, tt)))
+call_is_tokens (calls.RenameNoreplace old new) h =
+    (visible_is (codes "rename_noreplace") refl, (h.0.0.2, (h.1.0.2, tt)))
 call_is_tokens (calls.Exchange old new) h = (visible_is (codes "exchange") refl, (h.0.0.2, (h.1.0.2, tt)))
 call_is_tokens (calls.Link old new) h = (visible_is (codes "link") refl, (h.0.0.2, (h.1.0.2, tt)))
 call_is_tokens (calls.Ruleset rights) h = (visible_is (codes "ruleset") refl, (rights_token rights.0, tt))
-call_is_tokens (calls.Allow number target rights) h = (visible_is (codes "allow") refl, (number_token number h.0, (h.1.0.2, (rights_token rights.0, tt))))
+call_is_tokens (calls.Allow number target rights) h =
+    (visible_is (codes "allow") refl, (number_token number h.0, (h.1.0.2, (rights_token rights.0, tt))))
 call_is_tokens (calls.Confine number) h = (visible_is (codes "confine") refl, (number_token number h, tt))
 call_is_tokens calls.Spawn h = (visible_is (codes "spawn") refl, tt)
 call_is_tokens calls.Connect h = absurd h
@@ -180,8 +195,10 @@ client_is_tokens client h = of (client == 1)
     of true = tt
     of false = (((omega arith, omega arith), number_token client (omega arith)), tt)
 
-pub command_is_tokens : (client : ℕ) (call : Call) → IsClient client → IsCall call → AllByRecursion IsToken (client_tokens client ++ call_tokens call)
-command_is_tokens client call h k = all_append IsToken (client_tokens client) (call_tokens call) (client_is_tokens client h.1) (call_is_tokens call k)
+pub command_is_tokens : (client : ℕ) (call : Call) → IsClient client → IsCall call
+    → AllByRecursion IsToken (client_tokens client ++ call_tokens call)
+command_is_tokens client call h k =
+    all_append IsToken (client_tokens client) (call_tokens call) (client_is_tokens client h.1) (call_is_tokens call k)
 
 -- ---- lines
 
@@ -189,20 +206,26 @@ no_space : (token : List ℕ) → IsToken token → AllByRecursion (λ b. (b == 
 no_space [] h = tt
 no_space (b ∷ bs) h = (ne_eqb b 32 (λ e. omega arith), no_space bs h.1)
 
-pub cut_at_spaces : (token : List ℕ) (tokens : List (List ℕ)) → AllByRecursion IsToken (token ∷ tokens) → slice_split (λ b. b == 32) (join_with_byte 32 (token ∷ tokens)) ≡ token ∷ tokens
-cut_at_spaces token [] h = slice_split_none (λ b. b == 32) token (All-from_recursion (λ b. (b == 32) ≡ false) token (no_space token h.0))
+pub cut_at_spaces : (token : List ℕ) (tokens : List (List ℕ)) → AllByRecursion IsToken (token ∷ tokens)
+    → slice_split (λ b. b == 32) (join_with_byte 32 (token ∷ tokens)) ≡ token ∷ tokens
+cut_at_spaces token [] h = slice_split_none (λ b. b == 32) token
+    (All-from_recursion (λ b. (b == 32) ≡ false) token (no_space token h.0))
 cut_at_spaces token (next ∷ tokens) h =
-    slice_split_at (λ b. b == 32) token 32 (join_with_byte 32 (next ∷ tokens)) (All-from_recursion (λ b. (b == 32) ≡ false) token (no_space token h.0)) refl
+    slice_split_at (λ b. b == 32) token 32 (join_with_byte 32 (next ∷ tokens))
+    (All-from_recursion (λ b. (b == 32) ≡ false) token (no_space token h.0)) refl
     ∙ ap (λ (ts : List (List ℕ)). token ∷ ts) (cut_at_spaces next tokens h.1)
 
 small : (token : List ℕ) → IsToken token → AllByRecursion (λ b. b < 128) token
 small [] h = tt
 small (b ∷ bs) h = (omega arith, small bs h.1)
 
-join_small : (tokens : List (List ℕ)) → AllByRecursion IsToken tokens → AllByRecursion (λ b. b < 128) (join_with_byte 32 tokens)
+join_small : (tokens : List (List ℕ)) → AllByRecursion IsToken tokens
+    → AllByRecursion (λ b. b < 128) (join_with_byte 32 tokens)
 join_small [] h = tt
 join_small (token ∷ []) h = small token h.0
-join_small (token ∷ next ∷ tokens) h = all_append (λ b. b < 128) token (32 ∷ join_with_byte 32 (next ∷ tokens)) (small token h.0) (omega arith, join_small (next ∷ tokens) h.1)
+join_small (token ∷ next ∷ tokens) h =
+    all_append (λ b. b < 128) token (32 ∷ join_with_byte 32 (next ∷ tokens)) (small token h.0)
+    (omega arith, join_small (next ∷ tokens) h.1)
 
 ascii : (bs : List ℕ) → AllByRecursion (λ b. b < 128) bs → IsAscii bs
 ascii [] h i = omega arith

@@ -21,9 +21,13 @@ use Rattle.ll_seq.specs.declared.call.Creation.TheVariants.{Never, IfMissing, Ex
 use Rattle.ll_seq.specs.declared.call.Mode.{Mode}
 use Rattle.ll_seq.specs.declared.call.Call.{Call}
 use Rattle.ll_seq.specs.declared.call.Call.TheVariants as calls
-use Rattle.ll_wire.specs.Grammar.{way_text, truncate_text, creation_text, mode_text, SpellsTarget, data_text, client_tokens, call_tokens, IsCall, SpellsCommand}
+use Rattle.ll_wire.specs.Grammar.{way_text, truncate_text, creation_text, mode_text, SpellsTarget, data_text}
+use Rattle.ll_wire.specs.Grammar.{client_tokens, call_tokens, IsCall, SpellsCommand}
 use Rattle.ll_wire.proofs.Rights.{same_set}
-use Rattle.ll_wire.proofs.FirstTokens.{IsOfTarget, make_is, open_is, read_is, write_is, ftruncate_is, close_is, truncate_is, list_is, stat_is, exec_is, unlink_is, rmdir_is, IsOfTargets, rename_is, rename_noreplace_is, exchange_is, link_is, ruleset_is, allow_is, confine_is, spawn_is}
+use Rattle.ll_wire.proofs.FirstTokens.{IsOfTarget, make_is, open_is, read_is, write_is, ftruncate_is, close_is}
+use Rattle.ll_wire.proofs.FirstTokens.{truncate_is, list_is, stat_is, exec_is, unlink_is, rmdir_is, IsOfTargets}
+use Rattle.ll_wire.proofs.FirstTokens.{rename_is, rename_noreplace_is, exchange_is, link_is, ruleset_is, allow_is}
+use Rattle.ll_wire.proofs.FirstTokens.{confine_is, spawn_is}
 use Rattle.ll_wire.proofs.NamedClients.{same_client}
 use Rattle.ll_wire.proofs.Digits.{same_data}
 use Rattle.ll_wire.proofs.Lines.{tokens_are}
@@ -31,8 +35,10 @@ use Rattle.ll_wire.proofs.Lines.{tokens_are}
 -- ---- each word
 
 abbrev kind_of : List ℕ → Kind
-kind_of text = if bytes_eq text (codes "reg") then Reg else if bytes_eq text (codes "dir") then Dir else if bytes_eq text (codes "sym") then Sym
-    else if bytes_eq text (codes "fifo") then Fifo else if bytes_eq text (codes "sock") then Sock else if bytes_eq text (codes "char") then Char else Block
+kind_of text = if bytes_eq text (codes "reg") then Reg else if bytes_eq text (codes "dir") then Dir else if bytes_eq
+    text (codes "sym") then Sym
+    else if bytes_eq text (codes "fifo") then Fifo else if bytes_eq text (codes "sock") then Sock else if bytes_eq text
+    (codes "char") then Char else Block
 
 kind_of_text : (kind : Kind) → kind_of (kind_text kind) ≡ kind
 kind_of_text Reg = refl
@@ -55,7 +61,8 @@ way_of [] = Read
 way_of (b ∷ bs) = if b == 119 then Write else if starts_with_w bs then ReadWrite else Read
 
 -- the letters after the ways don't start with w, so they are no part of the ways
-way_of_text : (way : AccessMode) (letters : List ℕ) → starts_with_w letters ≡ false → way_of (way_text way ++ letters) ≡ way
+way_of_text : (way : AccessMode) (letters : List ℕ) → starts_with_w letters ≡ false
+    → way_of (way_text way ++ letters) ≡ way
 way_of_text Read letters e = rw e refl
 way_of_text Write letters e = refl
 way_of_text ReadWrite letters e = refl
@@ -64,7 +71,8 @@ way_of_text ReadWrite letters e = refl
 abbrev letters : Mode → List ℕ
 letters mode = truncate_text mode.truncate ++ creation_text mode.creation
 
-no_w : (truncate : Bool) (creation : Creation) → starts_with_w (truncate_text truncate ++ creation_text creation) ≡ false
+no_w : (truncate : Bool) (creation : Creation)
+    → starts_with_w (truncate_text truncate ++ creation_text creation) ≡ false
 no_w true creation = refl
 no_w false Never = refl
 no_w false IfMissing = refl
@@ -74,7 +82,8 @@ abbrev starts_with_t : List ℕ → Bool
 starts_with_t [] = false
 starts_with_t (b ∷ bs) = b == 116
 
-has_t : (truncate : Bool) (creation : Creation) → starts_with_t (truncate_text truncate ++ creation_text creation) ≡ truncate
+has_t : (truncate : Bool) (creation : Creation)
+    → starts_with_t (truncate_text truncate ++ creation_text creation) ≡ truncate
 has_t true creation = refl
 has_t false Never = refl
 has_t false IfMissing = refl
@@ -93,11 +102,16 @@ creation_of_text Exclusive = refl
 same_creation : (some other : Creation) → creation_text some ≡ creation_text other → some ≡ other
 same_creation some other e = sym (creation_of_text some) ∙ ap creation_of e ∙ creation_of_text other
 
-same_letters : (some other : Mode) → letters some ≡ letters other → (some.truncate ≡ other.truncate) × (some.creation ≡ other.creation)
+same_letters : (some other : Mode) → letters some ≡ letters other → (some.truncate ≡ other.truncate)
+    × (some.creation ≡ other.creation)
 same_letters some other e =
-    let truncates = sym (has_t some.truncate some.creation) ∙ ap starts_with_t e ∙ has_t other.truncate other.creation in
-    let front = ap (λ truncate. truncate_text truncate ++ creation_text some.creation) (sym truncates) in
-    (truncates, same_creation some.creation other.creation (append_cancel_left (truncate_text other.truncate) _ _ (front ∙ e)))
+    let truncates = sym (has_t some.truncate some.creation) ∙ ap starts_with_t e
+    ∙ has_t other.truncate other.creation in
+    let front = ap (λ truncate. truncate_text truncate ++ creation_text some.creation) (sym truncates) in (
+      truncates,
+      same_creation some.creation other.creation
+          (append_cancel_left (truncate_text other.truncate) _ _ (front ∙ e)),
+    )
 
 in_two : (mode : Mode) → mode_text mode ≡ way_text mode.access ++ letters mode
 in_two mode = append_assoc (way_text mode.access) (truncate_text mode.truncate) (creation_text mode.creation)
@@ -105,13 +119,16 @@ in_two mode = append_assoc (way_text mode.access) (truncate_text mode.truncate) 
 same_mode : (some other : Mode) → mode_text some ≡ mode_text other → some ≡ other
 same_mode some other e =
     let both = sym (in_two some) ∙ e ∙ in_two other in
-    let ways = sym (way_of_text some.access _ (no_w some.truncate some.creation)) ∙ ap way_of both ∙ way_of_text other.access _ (no_w other.truncate other.creation) in
+    let ways = sym (way_of_text some.access _ (no_w some.truncate some.creation)) ∙ ap way_of both
+    ∙ way_of_text other.access _ (no_w other.truncate other.creation) in
     let front = ap (λ way. way_text way ++ letters some) (sym ways) in
     let rest = same_letters some other (append_cancel_left (way_text other.access) _ _ (front ∙ both)) in
     λ i. record { access = ways i; truncate = rest.0 i; creation = rest.1 i }
 
-same_target : (some other : Target) → SpellsTarget (target_text some) some → SpellsTarget (target_text other) other → target_text some ≡ target_text other → some ≡ other
-same_target some other h k e = target_unique (target_text other) some other (subst (λ (text : List ℕ). SpellsTarget text some) e h).1 k.1
+same_target : (some other : Target) → SpellsTarget (target_text some) some → SpellsTarget (target_text other) other
+    → target_text some ≡ target_text other → some ≡ other
+same_target some other h k e =
+    target_unique (target_text other) some other (subst (λ (text : List ℕ). SpellsTarget text some) e h).1 k.1
 
 same_rights : (some other : Access) → access_text some.0 ≡ access_text other.0 → some ≡ other
 same_rights some other e = let same = same_set some.0 other.0 e in λ i. record { 0 = same i }
@@ -119,14 +136,16 @@ same_rights some other e = let same = same_set some.0 other.0 e in λ i. record 
 -- ---- calls and commands
 
 -- a call of one target alone
-same_by : (name : List ℕ) (make : Target → Call) → IsOfTarget name make → (target : Target) (other : Call) → SpellsTarget (target_text target) target → IsCall other
+same_by : (name : List ℕ) (make : Target → Call) → IsOfTarget name make → (target : Target) (other : Call)
+    → SpellsTarget (target_text target) target → IsCall other
     → name ∷ target_text target ∷ [] ≡ call_tokens other → make target ≡ other
 same_by name make is target other h k e =
     let o = is (target_text target ∷ []) other (k, e) in
     ap make (same_target target o.0 h o.1.0 cc) ∙ sym o.2
 
 -- a call of two targets
-same_pair_by : (name : List ℕ) (make : Target × Target → Call) → IsOfTargets name make → (old new : Target) (other : Call)
+same_pair_by : (name : List ℕ) (make : Target × Target → Call) → IsOfTargets name make
+    → (old new : Target) (other : Call)
     → SpellsTarget (target_text old) old → SpellsTarget (target_text new) new → IsCall other
     → name ∷ target_text old ∷ target_text new ∷ [] ≡ call_tokens other → make (old, new) ≡ other
 same_pair_by name make is old new other h g k e =
@@ -177,10 +196,16 @@ same_call (calls.Stat target) other h k e = same_by (codes "stat") calls.Stat st
 same_call (calls.Exec target) other h k e = same_by (codes "exec") calls.Exec exec_is target other h k e
 same_call (calls.Unlink target) other h k e = same_by (codes "unlink") calls.Unlink unlink_is target other h k e
 same_call (calls.Rmdir target) other h k e = same_by (codes "rmdir") calls.Rmdir rmdir_is target other h k e
-same_call (calls.Rename old new) other h k e = same_pair_by (codes "rename") (λ targets. calls.Rename targets.0 targets.1) rename_is old new other h.0 h.1 k e
-same_call (calls.RenameNoreplace old new) other h k e = same_pair_by (codes "rename_noreplace") (λ targets. calls.RenameNoreplace targets.0 targets.1) rename_noreplace_is old new other h.0 h.1 k e
-same_call (calls.Exchange old new) other h k e = same_pair_by (codes "exchange") (λ targets. calls.Exchange targets.0 targets.1) exchange_is old new other h.0 h.1 k e
-same_call (calls.Link old new) other h k e = same_pair_by (codes "link") (λ targets. calls.Link targets.0 targets.1) link_is old new other h.0 h.1 k e
+same_call (calls.Rename old new) other h k e =
+    same_pair_by (codes "rename") (λ targets. calls.Rename targets.0 targets.1) rename_is old new other h.0 h.1 k e
+same_call (calls.RenameNoreplace old new) other h k e =
+    same_pair_by (codes "rename_noreplace") (λ targets. calls.RenameNoreplace targets.0 targets.1) rename_noreplace_is
+    old new other h.0 h.1 k e
+same_call (calls.Exchange old new) other h k e =
+    same_pair_by (codes "exchange") (λ targets. calls.Exchange targets.0 targets.1) exchange_is old new other h.0 h.1 k
+    e
+same_call (calls.Link old new) other h k e =
+    same_pair_by (codes "link") (λ targets. calls.Link targets.0 targets.1) link_is old new other h.0 h.1 k e
 same_call (calls.Ruleset rights) other h k e =
     let o = ruleset_is (access_text rights.0 ∷ []) other (k, e) in
     let sets = same_rights rights o.0 cc in
@@ -198,7 +223,8 @@ same_call (calls.Confine number) other h k e =
 same_call calls.Spawn other h k e = sym (spawn_is [] other (k, e)).1
 same_call calls.Connect other h k e = absurd h
 
-pub spells_one : (line : List ℕ) (n m : ℕ) (call other : Call) → SpellsCommand line n call → SpellsCommand line m other → (n ≡ m) × (call ≡ other)
+pub spells_one : (line : List ℕ) (n m : ℕ) (call other : Call) → SpellsCommand line n call → SpellsCommand line m other
+    → (n ≡ m) × (call ≡ other)
 spells_one line n m call other h k =
     let body = join_with_byte 32 (client_tokens n ++ call_tokens call) in
     let own = tokens_are line body n call h.text h in

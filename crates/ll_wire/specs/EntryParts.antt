@@ -6,7 +6,8 @@ use Rattle.ll_seq.specs.declared.call.Call.{Call}
 use Rattle.ll_seq.specs.declared.reply.Reply.{Reply}
 use Rattle.ll_seq.specs.declared.reply.Entry.{Entry}
 use Rattle.ll_wire.specs.Grammar.{call_tokens, reply_tokens}
-use Rattle.ll_wire.specs.Entries.{IsEntryCall, IsEntryReply, IsEntry, entry_tokens, IsVersion, version_text, level_tokens, IsHeader, header_tokens}
+use Rattle.ll_wire.specs.Entries.{IsEntryCall, IsEntryReply, IsEntry, entry_tokens, IsVersion, version_text}
+use Rattle.ll_wire.specs.Entries.{level_tokens, IsHeader, header_tokens}
 use Rattle.ll_wire.specs.declared.header.Version.{Version}
 use Rattle.ll_wire.specs.declared.header.Header.{Header}
 

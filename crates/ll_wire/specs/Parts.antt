@@ -10,7 +10,8 @@ use Rattle.ll_path.specs.Target.{target_text}
 use Rattle.ll_seq.specs.declared.call.Call.{Call}
 use Rattle.ll_seq.specs.declared.reply.Reply.{Reply}
 use Rattle.ll_seq.specs.Listed.{IsData, AreListed}
-use Rattle.ll_wire.specs.Grammar.{SpellsTarget, data_text, call_tokens, IsCall, client_tokens, IsClient, reply_tokens, IsReply}
+use Rattle.ll_wire.specs.Grammar.{SpellsTarget, data_text, call_tokens, IsCall, client_tokens, IsClient, reply_tokens}
+use Rattle.ll_wire.specs.Grammar.{IsReply}
 use Rattle.ll_wire.specs.Reads.{ReadsBy, holds_text}
 
 abbrev pub Reads : {V : Type 0} → (V → Type 0) → Result V Errno → Type 0

@@ -19,7 +19,8 @@ fn are_digits(token: &str) -> bool
 }
 
 fn spells_data(token: &str) -> bool
-    ensures { MatchBool result ((bytes : List ℕ) × SpellsData token.now bytes) ((bytes : List ℕ) → SpellsData token.now bytes → ⊥) }
+    ensures { MatchBool result ((bytes : List ℕ) × SpellsData token.now bytes) ((bytes : List ℕ)
+        → SpellsData token.now bytes → ⊥) }
 {
     if token == "-" {
         return true;

@@ -1,6 +1,7 @@
 //! Entries of histories, read and written.
 
-ghost use Rattle.std.specs.Prelude.{◌≡◌, ◌≤◌, ◌∷◌, ◌||◌, true, ℕ, List, length, map, take, IfOk, IfSome, IfNone, string_bytes};
+ghost use Rattle.std.specs.Prelude.{◌≡◌, ◌≤◌, ◌∷◌, ◌||◌, true, ℕ, List, length, map, take, IfOk, IfSome, IfNone};
+ghost use Rattle.std.specs.Prelude.{string_bytes};
 ghost use Rattle.ll_seq.specs.declared.call.Call.{Call};
 ghost use Rattle.ll_seq.specs.declared.reply.Reply.{Reply};
 ghost use Rattle.ll_wire.specs.Grammar.{call_tokens};

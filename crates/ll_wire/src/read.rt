@@ -269,7 +269,8 @@ pub(crate) fn call_of(alloc: Global, tokens: &[&str]) -> Result<Call, Errno>
 // The client whose name comes first, or the first client, and its call, if there is such a client.
 fn command_of(alloc: Global, tokens: &[&str], clients: u64) -> Result<(u64, Call), Errno>
     requires { 1 ≤ clients }
-    ensures { ReadsBy (λ v. SpellsTokens (map (λ t. t.now) tokens.now) v.0 v.1 × (v.0 ≤ clients)) (λ v. holds_text v.1 ≡ true) result }
+    ensures { ReadsBy (λ v. SpellsTokens (map (λ t. t.now) tokens.now) v.0 v.1 × (v.0 ≤ clients))
+        (λ v. holds_text v.1 ≡ true) result }
 {
     let [first, others @ ..] = tokens else {
         return Err(Errno::BadLine);

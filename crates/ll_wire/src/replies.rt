@@ -19,7 +19,8 @@ use std::cmp::Ordering;
 
 // The empty text comes before each name.
 fn are_listed(text: &str) -> bool
-    ensures { MatchBool result (AreListed (slice_split (λ b. b == 32) text.now)) (AreListed (slice_split (λ b. b == 32) text.now) → ⊥) }
+    ensures { MatchBool result (AreListed (slice_split (λ b. b == 32) text.now))
+        (AreListed (slice_split (λ b. b == 32) text.now) → ⊥) }
 {
     let mut last = "";
     for name in text.split(' ') {
@@ -86,7 +87,8 @@ fn status_of(args: &[&str]) -> Option<Status>
 
 // What policy refuses is a denial, and no reply tells that a walk is stale.
 fn refusal_of(args: &[&str]) -> Option<Errno>
-    ensures { Finds (λ errno. SpellsReplyTokens (codes "refused" ∷ map (λ t. t.now) args.now) (Reply.Refused errno)) result }
+    ensures { Finds (λ errno. SpellsReplyTokens (codes "refused" ∷ map (λ t. t.now) args.now) (Reply.Refused errno))
+        result }
 {
     let [number, name] = args else {
         return None;
@@ -117,7 +119,8 @@ fn denial_of(args: &[&str]) -> Option<Denial>
 }
 
 fn done(args: &[&str]) -> Option<Reply>
-    ensures { Finds (λ reply. SpellsReplyTokens (codes "ok" ∷ map (λ t. t.now) args.now) reply × (tells_text reply ≡ false)) result }
+    ensures { Finds (λ reply. SpellsReplyTokens (codes "ok" ∷ map (λ t. t.now) args.now) reply
+        × (tells_text reply ≡ false)) result }
 {
     if !args.is_empty() {
         return None;
@@ -127,7 +130,8 @@ fn done(args: &[&str]) -> Option<Reply>
 
 // A reply that takes no memory to be read.
 fn short_reply(tokens: &[&str]) -> Option<Reply>
-    ensures { Finds (λ reply. SpellsReplyTokens (map (λ t. t.now) tokens.now) reply × (tells_text reply ≡ false)) result }
+    ensures { Finds (λ reply. SpellsReplyTokens (map (λ t. t.now) tokens.now) reply × (tells_text reply ≡ false))
+        result }
 {
     let [name, args @ ..] = tokens else {
         return None;
@@ -164,8 +168,8 @@ pub(crate) fn reply_of(alloc: Global, body: &str) -> Result<Reply, Errno>
     }
 }
 
-/// The reply that a line spells. `BadLine` where it spells none, and `NoMemory` where it spells one whose names or bytes
-/// find no room.
+/// The reply that a line spells. `BadLine` where it spells none, and `NoMemory` where it spells one whose names or
+/// bytes find no room.
 pub fn read_reply(alloc: Global, line: &[u8]) -> Result<Reply, Errno>
     ensures { ReadsBy (SpellsReply line.now) (λ reply. tells_text reply ≡ true) result }
 {

@@ -1,6 +1,7 @@
 //! Lines and their tokens.
 
-ghost use Rattle.std.specs.Prelude.{◌≡◌, ◌≢◌, ◌<◌, ◌≤◌, ◌==◌, ◌∷◌, [], ◌++◌, ℕ, List, map, length, take, slice_index, MatchBool, IfSome, IfNone};
+ghost use Rattle.std.specs.Prelude.{◌≡◌, ◌≢◌, ◌<◌, ◌≤◌, ◌==◌, ◌∷◌, [], ◌++◌, ℕ, List, map, length, take, slice_index};
+ghost use Rattle.std.specs.Prelude.{MatchBool, IfSome, IfNone};
 ghost use Rattle.std.specs.List.{slice_split};
 ghost use Rattle.std.specs.Str.{IsAscii};
 ghost use Rattle.ll_wire.specs.Parts.{SpellsNumber, SpellsClient, NamesClient};
@@ -25,7 +26,8 @@ pub(crate) fn body_of(line: &[u8]) -> Option<&str>
 
 // How many tokens there are, if they find room. Two spaces have an empty token between them.
 pub(crate) fn tokens_of<'a>(body: &'a str, tokens: &mut [&'a str]) -> Option<usize>
-    ensures found { IfSome result (λ n. (n ≤ length tokens.new) × (map (λ s. s.now) (take n tokens.new) ≡ slice_split (λ b. b == 32) body.entry.now)) }
+    ensures found { IfSome result (λ n. (n ≤ length tokens.new)
+        × (map (λ s. s.now) (take n tokens.new) ≡ slice_split (λ b. b == 32) body.entry.now)) }
     ensures none { IfNone result (length tokens.old < length (slice_split (λ b. b == 32) body.entry.now)) }
 {
     let mut count = 0;
@@ -66,8 +68,10 @@ pub(crate) fn front_of<'a>(text: &'a str, count: usize, tokens: &mut [&'a str]) 
 
 // No sign, and no zero in front.
 fn is_plain(token: &str) -> bool
-    ensures { MatchBool result ((0 < length token.now) × (slice_index token.now 0 ≢ 43) × (slice_index token.now 0 ≡ 48 → length token.now ≡ 1))
-        ((0 < length token.now) × (slice_index token.now 0 ≢ 43) × (slice_index token.now 0 ≡ 48 → length token.now ≡ 1) → ⊥) }
+    ensures { MatchBool result ((0 < length token.now) × (slice_index token.now 0 ≢ 43)
+        × (slice_index token.now 0 ≡ 48 → length token.now ≡ 1))
+        ((0 < length token.now) × (slice_index token.now 0 ≢ 43)
+        × (slice_index token.now 0 ≡ 48 → length token.now ≡ 1) → ⊥) }
 {
     match token.as_bytes() {
         [] => false,

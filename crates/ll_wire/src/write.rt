@@ -2,7 +2,8 @@
 
 ghost use Rattle.std.specs.Prelude.{◌≡◌, [], ◌∷◌, ◌++◌, map, decimal, codes, IfOk, OnOk, string_bytes};
 ghost use Rattle.std.specs.List.{join_with_byte};
-ghost use Rattle.ll_wire.specs.Grammar.{line_of, mode_text, call_tokens, IsCall, client_tokens, IsClient, reply_tokens, IsReply, reply_line};
+ghost use Rattle.ll_wire.specs.Grammar.{line_of, mode_text, call_tokens, IsCall, client_tokens, IsClient, reply_tokens};
+ghost use Rattle.ll_wire.specs.Grammar.{IsReply, reply_line};
 
 use crate::bytes::data_text;
 use ll_decide::Denial;
@@ -90,7 +91,8 @@ fn three_args<'a>(
     two: &'a str,
     three: &'a str,
 ) -> Result<String, AllocError>
-    ensures { IfOk result (λ text. string_bytes text ≡ join_with_byte 32 (name.now ∷ one.now ∷ two.now ∷ three.now ∷ [])) }
+    ensures { IfOk result (λ text. string_bytes text
+        ≡ join_with_byte 32 (name.now ∷ one.now ∷ two.now ∷ three.now ∷ [])) }
 {
     spaced_text(alloc, name, &[one, two, three])
 }
@@ -112,7 +114,8 @@ fn read_text(alloc: Global, fd: u64, offset: u64, count: u64) -> Result<String, 
 }
 
 fn write_text(alloc: Global, fd: u64, offset: u64, bytes: &Data) -> Result<String, AllocError>
-    ensures { IfOk result (λ text. string_bytes text ≡ join_with_byte 32 (call_tokens (Call.Write fd offset bytes.now))) }
+    ensures { IfOk result (λ text. string_bytes text
+        ≡ join_with_byte 32 (call_tokens (Call.Write fd offset bytes.now))) }
 {
     let fd = fd.to_string(alloc)?;
     let offset = offset.to_string(alloc)?;
@@ -129,7 +132,8 @@ fn ftruncate_text(alloc: Global, fd: u64, size: u64) -> Result<String, AllocErro
 }
 
 fn truncate_text(alloc: Global, target: &Target, size: u64) -> Result<String, AllocError>
-    ensures { IfOk result (λ text. string_bytes text ≡ join_with_byte 32 (call_tokens (Call.Truncate target.now size))) }
+    ensures { IfOk result (λ text. string_bytes text
+        ≡ join_with_byte 32 (call_tokens (Call.Truncate target.now size))) }
 {
     let size = size.to_string(alloc)?;
     two_args(alloc, "truncate", target.as_str(), size.as_str())
@@ -148,7 +152,8 @@ fn allow_text(
     target: &Target,
     rights: Access,
 ) -> Result<String, AllocError>
-    ensures { IfOk result (λ text. string_bytes text ≡ join_with_byte 32 (call_tokens (Call.Allow number target.now rights))) }
+    ensures { IfOk result (λ text. string_bytes text
+        ≡ join_with_byte 32 (call_tokens (Call.Allow number target.now rights))) }
 {
     let number = number.to_string(alloc)?;
     let rights = rights.text(alloc)?;

@@ -13,8 +13,13 @@ returns-clause-asks c =
     let write = when c.writes.result (ask_on Itself right.write_file ∷ []) in
     let cut : c.if-mode.ask_if ≡ (c.args.mode.truncate && c.args.exists) = search rules in
     subst (AreAsks c.ask_if-4.result)
-    (λ i. make ++ when (c.reads.ensures i) (ask_on Itself right.read_file ∷ []) ++ when (c.writes.ensures i) (ask_on Itself right.write_file ∷ []) ++ when (cut i) (ask_on Itself right.truncate ∷ []))
-    (c.ask_if-4.ensures.asks (make ++ read ++ write) (c.ask_if-3.ensures.asks (make ++ read) (c.ask_if-2.ensures.asks make (c.ask_if.ensures.asks [] c.none.ensures.asks))))
+    (λ i. make ++ when (c.reads.ensures i) (ask_on Itself right.read_file ∷ [])
+    ++ when (c.writes.ensures i) (ask_on Itself right.write_file ∷ [])
+    ++ when (cut i) (ask_on Itself right.truncate ∷ []))
+    (c.ask_if-4.ensures.asks (make ++ read ++ write)
+    (c.ask_if-3.ensures.asks (make ++ read)
+    (c.ask_if-2.ensures.asks make (c.ask_if.ensures.asks [] c.none.ensures.asks))))
 
 pub returns-clause-moves : goal.returns-clause-moves
-returns-clause-moves c = c.ask_if-4.ensures.moves [] (c.ask_if-3.ensures.moves [] (c.ask_if-2.ensures.moves [] (c.ask_if.ensures.moves [] c.none.ensures.moves)))
+returns-clause-moves c = c.ask_if-4.ensures.moves []
+    (c.ask_if-3.ensures.moves [] (c.ask_if-2.ensures.moves [] (c.ask_if.ensures.moves [] c.none.ensures.moves)))

@@ -2,17 +2,20 @@ use Rattle.std.specs.Prelude.{map, slice_set, refl}
 use Rattle.std.proofs.Common.{ap, ◌∙◌}
 use Rattle.ll_answer.specs.Effect.{dentry_at}
 use Rattle.ll_held.specs.Lent.{named_in, unnamed_in, filled}
-use Rattle.ll_changes.proofs.MadeSlots.{listed, apart_given, spare_within, directory_some, directory_has, few_nodes, not_crowded, lent_takes, lent_lacks, all_back, made}
+use Rattle.ll_changes.proofs.MadeSlots.{listed, apart_given, spare_within, directory_some, directory_has, few_nodes}
+use Rattle.ll_changes.proofs.MadeSlots.{not_crowded, lent_takes, lent_lacks, all_back, made}
 use Rattle.ll_changes.proofs.making.make.Goals as goal
 
 pub name-requires-clause-apart : goal.name-requires-clause-apart
 name-requires-clause-apart c = apart_given _ _ _ _ _ _ _ _ _ _ c.requires.1.given
 
 pub name-requires-clause-directory : goal.name-requires-clause-directory
-name-requires-clause-directory c = directory_some _ _ _ _ _ _ _ _ _ _ c.requires.1.given c.args.at.now c.args.kind c.requires.1.fits
+name-requires-clause-directory c =
+    directory_some _ _ _ _ _ _ _ _ _ _ c.requires.1.given c.args.at.now c.args.kind c.requires.1.fits
 
 pub name-requires-clause-takes : goal.name-requires-clause-takes
-name-requires-clause-takes c = lent_takes _ _ _ _ _ _ _ _ _ _ c.requires.1.given c.args.at.now c.args.kind c.requires.1.fits
+name-requires-clause-takes c =
+    lent_takes _ _ _ _ _ _ _ _ _ _ c.requires.1.given c.args.at.now c.args.kind c.requires.1.fits
 
 pub make-requires-clause-slot : goal.make-requires-clause-slot
 make-requires-clause-slot c = spare_within _ _ _ _ _ _ _ _ _ _ c.requires.1.given
@@ -29,7 +32,8 @@ returns-in-Err-clause-err c = (
 
 pub returns-in-Some-clause-ok : goal.returns-in-Some-clause-ok
 returns-in-Some-clause-ok c client s number marks spares at given fits covers =
-    made s number marks spares at client c.args.spare.now c.args.table.now c.args.slots.now c.args.lent.now given c.args.at.now c.args.kind fits covers
+    made s number marks spares at client c.args.spare.now c.args.table.now c.args.slots.now c.args.lent.now given
+    c.args.at.now c.args.kind fits covers
     c.in-Ok.fresh c.make.new.self c.fill.new.lent c.in-Some.place
     (c.in-Ok.ensures.table s spares at (dentry_at c.args.at.now) given.counted given.kept refl
     (directory_has s number marks spares at client _ _ _ _ given c.args.at.now c.args.kind fits) fits.lacks.child
@@ -39,7 +43,8 @@ returns-in-Some-clause-ok c client s number marks spares at given fits covers =
     c.in-Some.ensures.some
     (c.fill.ensures
     ∙ ap (λ l. slice_set l c.in-Some.place (filled c.next-inode.result c.args.kind)) c.in_ok-name.ensures.ok
-    ∙ ap (λ i. slice_set (map (named_in c.args.at.now.directory c.args.at.now.name.now i) c.args.lent.now) c.in-Some.place (filled i c.args.kind)) c.next-inode.ensures)
+    ∙ ap (λ i. slice_set (map (named_in c.args.at.now.directory c.args.at.now.name.now i) c.args.lent.now)
+    c.in-Some.place (filled i c.args.kind)) c.next-inode.ensures)
 
 pub returns-in_default-clause-ok : goal.returns-in_default-clause-ok
 returns-in_default-clause-ok c client s number marks spares at given fits covers =

@@ -7,7 +7,8 @@ use Rattle.ll_changes.proofs.making.place_of.Goals as goal
 
 place : (c : goal.After-position) → IsPlace c.args.slot c.args.slots.now c.position.result
 place c =
-    IsFirst-from_position _ _ c.position.result (λ (k : ℕ). k ≡ c.args.slot) (λ (k : ℕ). k ≢ c.args.slot) c.position.ensures.ran
+    IsFirst-from_position _ _ c.position.result (λ (k : ℕ). k ≡ c.args.slot) (λ (k : ℕ). k ≢ c.args.slot)
+    c.position.ensures.ran
     (YieldsList-from_slice c.args.slots.now cc) (λ x q k. search (rules, tests)) (λ x q k. search (rules, tests))
 
 pub returns-clause-some : goal.returns-clause-some

@@ -8,4 +8,5 @@ use Rattle.ll_decide.proofs.judge.missing.Goals as goal
 pub returns : goal.returns
 returns c right known =
     holds_missing c.args.rights.0 c.layer-granted.result.0 right (omega arith) known
-    ∙ ap (λ n. holds c.args.rights.0 right && not (holds n right)) (sym (get_or_from_slice_get c.args.masks.now c.args.layer c.layer-granted.result.0 0 c.layer-granted.ensures))
+    ∙ ap (λ n. holds c.args.rights.0 right && not (holds n right))
+    (sym (get_or_from_slice_get c.args.masks.now c.args.layer c.layer-granted.result.0 0 c.layer-granted.ensures))

@@ -6,6 +6,7 @@ use Rattle.ll_decide.proofs.masks.add_rules.Given as goal
 
 abbrev pub invariant-loop-i : goal.invariant-loop-i
 invariant-loop-i l = record {
-  done : (k : ℕ) → k < l.i → (d : Mask) (e : Layer) → IsNext (get_or l.layers k e) l.inode (get_or l.initial.masks k d).rights.0 (get_or l.masks k d).rights.0;
+  done : (k : ℕ) → k < l.i → (d : Mask) (e : Layer)
+      → IsNext (get_or l.layers k e) l.inode (get_or l.initial.masks k d).rights.0 (get_or l.masks k d).rights.0;
   left : (k : ℕ) → l.i ≤ k → (d : Mask) → get_or l.masks k d ≡ get_or l.initial.masks k d;
 }

@@ -8,7 +8,8 @@ use Rattle.ll_held.proofs.lent.find.Goals as goal
 
 place : (c : goal.After-position) → IsPlace c.args.inode c.args.lent.now c.position.result
 place c =
-    IsFirst-from_position _ _ c.position.result (λ (held : Held). held.inode ≡ c.args.inode) (λ (held : Held). held.inode ≢ c.args.inode) c.position.ensures.ran
+    IsFirst-from_position _ _ c.position.result (λ (held : Held). held.inode ≡ c.args.inode)
+    (λ (held : Held). held.inode ≢ c.args.inode) c.position.ensures.ran
     (YieldsList-from_slice c.args.lent.now cc) (λ x q k. search (rules, tests)) (λ x q k. search (rules, tests))
 
 pub returns-clause-some : goal.returns-clause-some

@@ -11,9 +11,13 @@ use Rattle.ll_held.proofs.lent.name.Goals as goal
 
 pub returns-in_default-clause-ok : goal.returns-in_default-clause-ok
 returns-in_default-clause-ok c =
-    no_slot (named_in c.args.directory c.args.name.now c.args.inode) c.args.directory (named_elsewhere c.args.directory c.args.name.now c.args.inode) c.args.lent.now c.in_default.ensures.none
+    no_slot (named_in c.args.directory c.args.name.now c.args.inode) c.args.directory
+    (named_elsewhere c.args.directory c.args.name.now c.args.inode) c.args.lent.now c.in_default.ensures.none
 
-takes : (c : goal.After-index-lent-place) → (is_dir (slice_index_or c.args.lent.now c.in-Some.place c.index-lent-place.result).node.kind ≡ true) × (insert_refusals (slice_index_or c.args.lent.now c.in-Some.place c.index-lent-place.result).node.names c.args.name.now ≡ [])
+takes : (c : goal.After-index-lent-place)
+    → (is_dir (slice_index_or c.args.lent.now c.in-Some.place c.index-lent-place.result).node.kind ≡ true)
+    × (insert_refusals (slice_index_or c.args.lent.now c.in-Some.place c.index-lent-place.result).node.names
+    c.args.name.now ≡ [])
 takes c =
     of_slot (λ (held : Held). (is_dir held.node.kind ≡ true) × (insert_refusals held.node.names c.args.name.now ≡ []))
     c.args.directory c.args.lent.now c.in-Some.place c.index-lent-place.result c.requires.takes c.in-Some.ensures.some
@@ -28,6 +32,7 @@ pub returns-clause-ok : goal.returns-clause-ok
 returns-clause-ok c =
     let held = slice_index_or c.args.lent.now c.in-Some.place c.index-lent-place.result in
     on_ok c.name.result c.name.ensures.ok (λ put.
-    one_slot (named_in c.args.directory c.args.name.now c.args.inode) c.args.directory (named_elsewhere c.args.directory c.args.name.now c.args.inode) c.requires.directory
+    one_slot (named_in c.args.directory c.args.name.now c.args.inode) c.args.directory
+    (named_elsewhere c.args.directory c.args.name.now c.args.inode) c.requires.directory
     c.args.lent.now c.in-Some.place c.name.new.self c.index-lent-place.result c.requires.apart c.in-Some.ensures.some
     (λ same. put ∙ named_here c.args.directory c.args.name.now c.args.inode held same))

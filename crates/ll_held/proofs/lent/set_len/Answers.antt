@@ -10,9 +10,13 @@ use Rattle.ll_held.proofs.InSlots.{resized_here, resized_elsewhere}
 use Rattle.ll_held.proofs.lent.set_len.Goals as goal
 
 pub returns-in_default-clause-ok : goal.returns-in_default-clause-ok
-returns-in_default-clause-ok c = no_slot (resized_in c.args.inode c.args.size) c.args.inode (resized_elsewhere c.args.inode c.args.size) c.args.lent.now c.in_default.ensures.none
+returns-in_default-clause-ok c =
+    no_slot (resized_in c.args.inode c.args.size) c.args.inode (resized_elsewhere c.args.inode c.args.size)
+    c.args.lent.now c.in_default.ensures.none
 
-takes : (c : goal.After-index-lent-place) → (is_dir (slice_index_or c.args.lent.now c.in-Some.place c.index-lent-place.result).node.kind ≡ false) × (len_refusals c.args.size ≡ [])
+takes : (c : goal.After-index-lent-place)
+    → (is_dir (slice_index_or c.args.lent.now c.in-Some.place c.index-lent-place.result).node.kind ≡ false)
+    × (len_refusals c.args.size ≡ [])
 takes c =
     of_slot (λ (held : Held). (is_dir held.node.kind ≡ false) × (len_refusals c.args.size ≡ []))
     c.args.inode c.args.lent.now c.in-Some.place c.index-lent-place.result c.requires.takes c.in-Some.ensures.some
@@ -27,6 +31,7 @@ pub returns-clause-ok : goal.returns-clause-ok
 returns-clause-ok c =
     let held = slice_index_or c.args.lent.now c.in-Some.place c.index-lent-place.result in
     on_ok c.set_len.result c.set_len.ensures.ok (λ put.
-    one_slot (resized_in c.args.inode c.args.size) c.args.inode (resized_elsewhere c.args.inode c.args.size) c.requires.inode
+    one_slot (resized_in c.args.inode c.args.size) c.args.inode (resized_elsewhere c.args.inode c.args.size)
+    c.requires.inode
     c.args.lent.now c.in-Some.place c.set_len.new.self c.index-lent-place.result c.requires.apart c.in-Some.ensures.some
     (λ same. put ∙ resized_here c.args.inode c.args.size held same))

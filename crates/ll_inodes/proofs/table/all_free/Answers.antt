@@ -9,7 +9,8 @@ loop-slot-preserved c =
     let before = c.loop-slot.invariant in
     let next : c.loop-slot.slot + 1 ≡ 1 + c.loop-slot.slot = omega arith in
     record {
-      items = c.push_reserved.ensures.items ∙ ap (λ ns. ns ++ (c.loop-slot.slot + 1) ∷ []) before.items ∙ ap (λ n. range_with_len 1 c.loop-slot.slot ++ n ∷ []) next ∙ sym (one_more 1 c.loop-slot.slot);
+      items = c.push_reserved.ensures.items ∙ ap (λ ns. ns ++ (c.loop-slot.slot + 1) ∷ []) before.items
+          ∙ ap (λ n. range_with_len 1 c.loop-slot.slot ++ n ∷ []) next ∙ sym (one_more 1 c.loop-slot.slot);
       len = c.push_reserved.ensures.len ∙ ap (λ n. n + 1) before.len;
       room = subst (λ n. c.args.others < n) (sym c.push_reserved.ensures.capacity) before.room;
     }

@@ -5,4 +5,5 @@ use Rattle.ll_journal.proofs.alone.answer.Goals as goal
 
 pub returns-in-Refused-clause-ok : goal.returns-in-Refused-clause-ok
 returns-in-Refused-clause-ok c =
-    if_copied _ c.new.result _ c.new.ensures.ok (comes_refused c.args.abi c.args.client.now _ c.args.asked c.in-Refused.errno c.in-Refused.is refl)
+    if_copied _ c.new.result _ c.new.ensures.ok
+    (comes_refused c.args.abi c.args.client.now _ c.args.asked c.in-Refused.errno c.in-Refused.is refl)

@@ -9,4 +9,5 @@ pub returns-in-Good-clause-masks : goal.returns-in-Good-clause-masks
 returns-in-Good-clause-masks c s stands end =
     granted_below s c.args.domain.now (path_of c.args.target.now) c.args.spot.now c.args.masks.now end
     (ap (λ (t : Target). is_root (path_of t)) c.in-Good.is ∙ sym c.is_root.ensures ∙ c.if-not-is_root.true)
-    c.node_there.result (c.node_there.ensures s (path_of c.args.target.now) stands) c.granted_at.result c.granted_at.ensures.masks
+    c.node_there.result (c.node_there.ensures s (path_of c.args.target.now) stands) c.granted_at.result
+    c.granted_at.ensures.masks

@@ -11,5 +11,6 @@ returns-in-None c s lends = absurd (c.in-None.ensures s lends)
 pub returns-in-Some : goal.returns-in-Some
 returns-in-Some c s lends =
     subst (λ (told : List (List ℕ)). IfOk c.names.result (λ names. names ≡ told))
-    (ap (λ (m : NameMap). map (λ (e : List ℕ × ℕ). e.0) (entries m)) (c.in-Some.ensures s lends).0 ∙ names-names_map s c.args.inode)
+    (ap (λ (m : NameMap). map (λ (e : List ℕ × ℕ). e.0) (entries m)) (c.in-Some.ensures s lends).0
+    ∙ names-names_map s c.args.inode)
     c.names.ensures

@@ -8,7 +8,8 @@ pub loop-seat-preserved : goal.loop-seat-preserved
 loop-seat-preserved c =
     let within : c.loop-seat.seat-index < length c.loop-seat.seat-items = omega arith in
     ap (slice_set c.loop-seat.seat-items c.loop-seat.seat-index) c.overtake.ensures
-    ∙ one_changed (overtaken_seat c.args.moved.now) c.deref_mut-seat-items.result.now c.loop-seat.seat-items c.loop-seat.seat-index _ c.loop-seat.invariant
+    ∙ one_changed (overtaken_seat c.args.moved.now) c.deref_mut-seat-items.result.now c.loop-seat.seat-items
+    c.loop-seat.seat-index _ c.loop-seat.invariant
     (slice_get-get_or c.loop-seat.seat-items c.loop-seat.seat-index c.seat-item.result within)
 
 pub returns : goal.returns

@@ -8,4 +8,5 @@ use Rattle.ll_journal.proofs.stop.may_make.Goals as goal
 pub returns : goal.returns
 returns c =
     c.may_make_at.ensures
-    ∙ ap (λ (last : Spot). near.may_make c.args.call.now (found_last last)) c.last_of.ensures ∙ same_made c.args.call.now c.args.found.now
+    ∙ ap (λ (last : Spot). near.may_make c.args.call.now (found_last last)) c.last_of.ensures
+    ∙ same_made c.args.call.now c.args.found.now

@@ -1,6 +1,6 @@
 use Rattle.std.proofs.Common.{rules, ℕ, nat_le, sym, subst, ◌∙◌, inr}
 use Rattle.ll_rights.specs.Map.{len}
-use Rattle.ll_walks.specs.World as world
+use Rattle.ll_worlds.specs.World as world
 use Rattle.ll_journal.specs.Looks.{StopsBetween}
 use Rattle.ll_journal.proofs.stop.stop_at_ends.Goals as goal
 
@@ -14,6 +14,8 @@ returns c = λ w s spares walks table.
       search rules,
       search rules,
       search rules,
-      subst (λ (spare : ℕ). StopsBetween c.args.sight.now.table.now.facts (nat_le c.args.sight.now.room (len s.nodes)) (world.is_marked_by_other w c.args.client) c.args.sight.now.slots.now c.args.sight.now.lent.now spare
-          c.in-Some.call.now c.in-Some-Some.first c.in-Some-Some.second c.stop_between.result) c.spare.ensures (c.stop_between.ensures w s spares walks table),
+      subst (λ (spare : ℕ). StopsBetween c.args.sight.now.table.now.facts (nat_le c.args.sight.now.room (len s.nodes))
+          (world.is_marked_by_other w c.args.client) c.args.sight.now.slots.now c.args.sight.now.lent.now spare
+          c.in-Some.call.now c.in-Some-Some.first c.in-Some-Some.second c.stop_between.result) c.spare.ensures
+          (c.stop_between.ensures w s spares walks table),
     )

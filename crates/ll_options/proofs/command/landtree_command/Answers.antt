@@ -12,8 +12,13 @@ demanding = on_top (λ (s : Shape). record s { subcommand_required = true })
 
 pub returns : goal.returns
 returns c =
-    let top_is : app_of c.subcommand_required.result ≡ demanding (versioned (new_app (codes "landtree"))) = ap app_of_fields c.subcommand_required.ensures
-    ∙ ap demanding (ap app_of_fields c.version.ensures ∙ ap versioned (ap app_of_fields c.about.ensures ∙ c.new.ensures.app)) in
-    let runs = c.in_ok-with_run.ensures.shape c.in_ok-run.ensures.local ∙ ap₂ with_subcommand top_is (ap (λ (a : App). a.top) c.in_ok-run.ensures.app) in
-    let audits = c.in_ok-with_audit.ensures.shape c.in_ok-audit.ensures.local ∙ ap₂ with_subcommand runs (ap (λ (a : App). a.top) c.in_ok-audit.ensures.app) in
-    IfOk-weaker c.subcommand-3.result _ _ (λ command adds. adds.shape c.in_ok-schedule.ensures.local ∙ ap₂ with_subcommand audits (ap (λ (a : App). a.top) c.in_ok-schedule.ensures.app)) c.subcommand-3.ensures
+    let top_is : app_of c.subcommand_required.result ≡ demanding (versioned (new_app (codes "landtree"))) =
+    ap app_of_fields c.subcommand_required.ensures
+    ∙ ap demanding (ap app_of_fields c.version.ensures
+    ∙ ap versioned (ap app_of_fields c.about.ensures ∙ c.new.ensures.app)) in
+    let runs = c.in_ok-with_run.ensures.shape c.in_ok-run.ensures.local
+    ∙ ap₂ with_subcommand top_is (ap (λ (a : App). a.top) c.in_ok-run.ensures.app) in
+    let audits = c.in_ok-with_audit.ensures.shape c.in_ok-audit.ensures.local
+    ∙ ap₂ with_subcommand runs (ap (λ (a : App). a.top) c.in_ok-audit.ensures.app) in
+    IfOk-weaker c.subcommand-3.result _ _ (λ command adds. adds.shape c.in_ok-schedule.ensures.local
+    ∙ ap₂ with_subcommand audits (ap (λ (a : App). a.top) c.in_ok-schedule.ensures.app)) c.subcommand-3.ensures

@@ -5,10 +5,16 @@ use Rattle.ll_options.proofs.command.run_command.Goals as goal
 
 pub returns-clause-app : goal.returns-clause-app
 returns-clause-app c =
-    let script_added = c.in_ok-arg.ensures.shape c.script_argument.ensures.local ∙ ap₂ with_rule (ap app_of_fields c.about.ensures ∙ c.new.ensures.app) c.script_argument.ensures.rule in
-    let nodes_added = c.in_ok-arg-2.ensures.shape c.nodes_option.ensures.local ∙ ap₂ with_rule script_added c.nodes_option.ensures.rule in
-    let abi_added = c.in_ok-by_level.ensures.shape c.abi_option.ensures.local ∙ ap₂ with_rule nodes_added c.abi_option.ensures.rule in
-    let policy_added = c.in_ok-arg-3.ensures.shape c.policy_option.ensures.local ∙ ap₂ with_rule abi_added c.policy_option.ensures.rule in
-    let profile_added = c.in_ok-by_policy.ensures.shape c.profile_option.ensures.local ∙ ap₂ with_rule policy_added c.profile_option.ensures.rule in
-    let history_added = c.in_ok-arg-4.ensures.shape c.history_option.ensures.local ∙ ap₂ with_rule profile_added c.history_option.ensures.rule in
+    let script_added = c.in_ok-arg.ensures.shape c.script_argument.ensures.local
+    ∙ ap₂ with_rule (ap app_of_fields c.about.ensures ∙ c.new.ensures.app) c.script_argument.ensures.rule in
+    let nodes_added = c.in_ok-arg-2.ensures.shape c.nodes_option.ensures.local
+    ∙ ap₂ with_rule script_added c.nodes_option.ensures.rule in
+    let abi_added = c.in_ok-by_level.ensures.shape c.abi_option.ensures.local
+    ∙ ap₂ with_rule nodes_added c.abi_option.ensures.rule in
+    let policy_added = c.in_ok-arg-3.ensures.shape c.policy_option.ensures.local
+    ∙ ap₂ with_rule abi_added c.policy_option.ensures.rule in
+    let profile_added = c.in_ok-by_policy.ensures.shape c.profile_option.ensures.local
+    ∙ ap₂ with_rule policy_added c.profile_option.ensures.rule in
+    let history_added = c.in_ok-arg-4.ensures.shape c.history_option.ensures.local
+    ∙ ap₂ with_rule profile_added c.history_option.ensures.rule in
     c.in_ok-run.ensures.shape c.save_option.ensures.local ∙ ap₂ with_rule history_added c.save_option.ensures.rule

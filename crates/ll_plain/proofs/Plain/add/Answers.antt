@@ -24,13 +24,16 @@ module _ (c : After-remove) where
   first = the_view c.self.inside
 
   as_before : c.remove.new.self ≡ first.nodes
-  as_before = c.remove.ensures ∙ ap (λ m. remove m first.next) c.in_ok-insert.ensures.ok ∙ remove-insert first.nodes first.next _ (c.self.invariant.kept.unused first.next (omega arith)).node
+  as_before = c.remove.ensures ∙ ap (λ m. remove m first.next) c.in_ok-insert.ensures.ok
+      ∙ remove-insert first.nodes first.next _ (c.self.invariant.kept.unused first.next (omega arith)).node
 
 pub returns-in-Err-clause-err : goal.returns-in-Err-clause-err
-returns-in-Err-clause-err c = (λ i. record (first c) { entries = c.in-Err.ensures.err i; nodes = as_before c i }) ∙ c.self.view_is
+returns-in-Err-clause-err c =
+    (λ i. record (first c) { entries = c.in-Err.ensures.err i; nodes = as_before c i }) ∙ c.self.view_is
 
 pub invariant_of-self-in-Err : goal.invariant_of-self-in-Err
-invariant_of-self-in-Err c = subst (λ z. IsTied z c.self.inside.facts) (λ i. record (first c) { entries = sym c.in-Err.ensures.err i; nodes = sym (as_before c) i }) c.self.invariant
+invariant_of-self-in-Err c = subst (λ z. IsTied z c.self.inside.facts)
+    (λ i. record (first c) { entries = sym c.in-Err.ensures.err i; nodes = sym (as_before c) i }) c.self.invariant
 
 -- ---- the name, and what is counted
 
@@ -38,14 +41,23 @@ pub invariant_of-self-2 : goal.invariant_of-self-2
 invariant_of-self-2 c =
     let before : State = the_view c.self.inside in
     let place : Dentry = dentry_at c.args.at.now in
-    let free : get before.entries place ≡ None = ap (λ (z : State). get z.entries place) c.self.view_is ∙ c.requires.room.lacks.child in
-    let named : c.insert-2.new.self ≡ insert before.entries place before.next = c.in_default.ensures.ok ∙ ap (λ (n : List ℕ). insert before.entries (dentry place.directory n) before.next) c.in_ok-name.ensures in
-    let node = c.in_ok-insert.ensures.ok ∙ ap (λ (b : List ℕ). insert before.nodes before.next (record { kind = c.args.kind; bytes = b })) c.empty.ensures in
+    let free : get before.entries place ≡ None =
+    ap (λ (z : State). get z.entries place) c.self.view_is ∙ c.requires.room.lacks.child in
+    let named : c.insert-2.new.self ≡ insert before.entries place before.next =
+    c.in_default.ensures.ok ∙ ap (λ (n : List ℕ). insert before.entries (dentry place.directory n) before.next)
+    c.in_ok-name.ensures in
+    let node = c.in_ok-insert.ensures.ok
+    ∙ ap (λ (b : List ℕ). insert before.nodes before.next (record { kind = c.args.kind; bytes = b }))
+    c.empty.ensures in
     let directory : has before.nodes place.directory ≡ true =
-    directory_there before c.self.invariant.nodes place.directory (subst (λ z. IsDirectory z place.directory) (sym c.self.view_is) c.requires.room.lacks.directory) in
-    subst (λ z. IsTied z c.make.new.self) (λ i. record before { entries = sym named i; nodes = sym node i; next = before.next + 1 }) (record {
-      kept = c.in_default-make.ensures.ok before place c.self.invariant.kept refl refl directory free (ap (λ z. is_crowded z place.directory) c.self.view_is ∙ not_first _ _ _ c.requires.room.space);
-      nodes = nodes_node before c.args.kind place c.self.invariant.nodes (c.self.invariant.kept.unused before.next (omega arith)).node free;
+    directory_there before c.self.invariant.nodes place.directory
+    (subst (λ z. IsDirectory z place.directory) (sym c.self.view_is) c.requires.room.lacks.directory) in
+    subst (λ z. IsTied z c.make.new.self)
+    (λ i. record before { entries = sym named i; nodes = sym node i; next = before.next + 1 }) (record {
+      kept = c.in_default-make.ensures.ok before place c.self.invariant.kept refl refl directory free
+          (ap (λ z. is_crowded z place.directory) c.self.view_is ∙ not_first _ _ _ c.requires.room.space);
+      nodes = nodes_node before c.args.kind place c.self.invariant.nodes
+          (c.self.invariant.kept.unused before.next (omega arith)).node free;
     })
 
 -- ---- no memory for what is counted
@@ -58,18 +70,25 @@ module _ (c : After-remove-in-Err-make-2) where
   spot = dentry_at c.args.at.now
 
   nodes_back : c.remove-in-Err-make-2.new.self ≡ start.nodes
-  nodes_back = c.remove-in-Err-make-2.ensures ∙ ap (λ m. remove m start.next) c.in_ok-insert.ensures.ok ∙ remove-insert start.nodes start.next _ (c.self.invariant.kept.unused start.next (omega arith)).node
+  nodes_back = c.remove-in-Err-make-2.ensures ∙ ap (λ m. remove m start.next) c.in_ok-insert.ensures.ok
+      ∙ remove-insert start.nodes start.next _ (c.self.invariant.kept.unused start.next (omega arith)).node
 
   names_back : c.remove-in-Err-make.new.self ≡ start.entries
   names_back =
       c.remove-in-Err-make.ensures
-      ∙ ap (λ m. remove m spot) (c.in_default.ensures.ok ∙ ap (λ (n : List ℕ). insert start.entries (dentry spot.directory n) start.next) c.in_ok-name.ensures)
-      ∙ name_back start.entries spot start.next (ap (λ (z : State). get z.entries spot) c.self.view_is ∙ c.requires.room.lacks.child)
+      ∙ ap (λ m. remove m spot) (c.in_default.ensures.ok
+      ∙ ap (λ (n : List ℕ). insert start.entries (dentry spot.directory n) start.next) c.in_ok-name.ensures)
+      ∙ name_back start.entries spot start.next (ap (λ (z : State). get z.entries spot) c.self.view_is
+      ∙ c.requires.room.lacks.child)
 
 pub returns-in-Err-make-clause-err : goal.returns-in-Err-make-clause-err
-returns-in-Err-make-clause-err c = (λ i. record (start c) { entries = names_back c i; nodes = nodes_back c i }) ∙ c.self.view_is
+returns-in-Err-make-clause-err c =
+    (λ i. record (start c) { entries = names_back c i; nodes = nodes_back c i }) ∙ c.self.view_is
 
 pub invariant_of-self-in-Err-make : goal.invariant_of-self-in-Err-make
 invariant_of-self-in-Err-make c =
-    subst (λ f. IsTied (record (start c) { entries = c.remove-in-Err-make.new.self; nodes = c.remove-in-Err-make-2.new.self }) f) (sym c.in-Err-make.ensures.err)
-    (subst (λ z. IsTied z c.self.inside.facts) (λ i. record (start c) { entries = sym (names_back c) i; nodes = sym (nodes_back c) i }) c.self.invariant)
+    subst (λ f. IsTied (record (start c)
+    { entries = c.remove-in-Err-make.new.self; nodes = c.remove-in-Err-make-2.new.self }) f)
+    (sym c.in-Err-make.ensures.err)
+    (subst (λ z. IsTied z c.self.inside.facts)
+    (λ i. record (start c) { entries = sym (names_back c) i; nodes = sym (nodes_back c) i }) c.self.invariant)

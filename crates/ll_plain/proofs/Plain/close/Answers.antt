@@ -14,7 +14,12 @@ use Rattle.ll_plain.proofs.Plain.close.Goals as goal
 
 pub returns : goal.returns
 returns c =
-    steps_done c.args.self.now c.args.client (Close c.args.number) (both_free _ [] (ap (λ o. refuse (is_none o) EBADF) (sym c.descriptor.ensures ∙ c.in-Some.is)) refl) (no_denials c.args.self.now (client_of c.args.self.now c.args.client).domain) refl Done _
+    steps_done c.args.self.now c.args.client (Close c.args.number)
+    (both_free _ [] (ap (λ o. refuse (is_none o) EBADF) (sym c.descriptor.ensures ∙ c.in-Some.is)) refl)
+    (no_denials c.args.self.now (client_of c.args.self.now c.args.client).domain) refl Done _
     (λ fresh. ap (λ z. (Done, z)) (c.free.ensures
-    ∙ ap (let_go (with_client c.args.self.now c.args.client (record (client_of c.args.self.now c.args.client) { descriptors = remove (client_of c.args.self.now c.args.client).descriptors c.args.number })))
-    (file_is (client_of c.args.self.now c.args.client) c.args.number c.in-Some.file (sym c.descriptor.ensures ∙ c.in-Some.is))))
+    ∙ ap (let_go (with_client c.args.self.now c.args.client
+    (record (client_of c.args.self.now c.args.client)
+    { descriptors = remove (client_of c.args.self.now c.args.client).descriptors c.args.number })))
+    (file_is (client_of c.args.self.now c.args.client) c.args.number c.in-Some.file (sym c.descriptor.ensures
+    ∙ c.in-Some.is))))

@@ -16,15 +16,24 @@ use Rattle.ll_plain.proofs.Tied.{tied_with}
 use Rattle.ll_plain.proofs.Plain.connect.Goals as goal
 
 pub returns-in-Err : goal.returns-in-Err
-returns-in-Err c = starves c.args.self.now c.args.client (Connect) refl (no_denials c.args.self.now (client_of c.args.self.now c.args.client).domain) (not_refused _ EMFILE (search rules)) _ (kept _ c.args.self.now c.insert.new.self c.self.view_is c.in-Err.ensures.err)
+returns-in-Err c = starves c.args.self.now c.args.client (Connect) refl
+    (no_denials c.args.self.now (client_of c.args.self.now c.args.client).domain) (not_refused _ EMFILE (search rules))
+    _ (kept _ c.args.self.now c.insert.new.self c.self.view_is c.in-Err.ensures.err)
 
 pub returns : goal.returns
 returns c =
-    does c.args.self.now c.args.client (Connect) refl (no_denials c.args.self.now (client_of c.args.self.now c.args.client).domain) (not_refused _ EMFILE (search rules)) Done _
-    (λ fresh. ap (λ z. (Done, z)) (client_changed _ c.args.self.now c.insert.new.self c.args.client _ c.self.view_is (c.in_default.ensures.ok ∙ ap (insert c.self.inside.clients c.args.client) c.new-record.ensures)))
+    does c.args.self.now c.args.client (Connect) refl
+    (no_denials c.args.self.now (client_of c.args.self.now c.args.client).domain)
+    (not_refused _ EMFILE (search rules)) Done _
+    (λ fresh. ap (λ z. (Done, z))
+    (client_changed _ c.args.self.now c.insert.new.self c.args.client _ c.self.view_is (c.in_default.ensures.ok
+    ∙ ap (insert c.self.inside.clients c.args.client) c.new-record.ensures)))
 
 pub invariant_of-self-2 : goal.invariant_of-self-2
 invariant_of-self-2 c =
     let before : State = the_view c.self.inside in
-    tied_with before c.self.inside.facts c.insert.new.self (insert before.clients c.args.client new_client) c.self.invariant.nodes (c.in_default.ensures.ok ∙ ap (insert c.self.inside.clients c.args.client) c.new-record.ensures)
-    (kept_connect before c.self.inside.facts c.args.client new_client c.self.invariant.kept (ap (λ (z : State). has z.clients c.args.client) c.self.view_is ∙ c.requires) refl)
+    tied_with before c.self.inside.facts c.insert.new.self (insert before.clients c.args.client new_client)
+    c.self.invariant.nodes (c.in_default.ensures.ok
+    ∙ ap (insert c.self.inside.clients c.args.client) c.new-record.ensures)
+    (kept_connect before c.self.inside.facts c.args.client new_client c.self.invariant.kept
+    (ap (λ (z : State). has z.clients c.args.client) c.self.view_is ∙ c.requires) refl)

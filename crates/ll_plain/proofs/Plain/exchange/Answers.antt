@@ -30,12 +30,15 @@ module _ (c : After-replace-2) where
 
   tied : IsTied (with_name (with_name before second c.args.inode) first c.args.other) c.self.inside.facts
   tied = record {
-    kept = kept_exchange before c.self.inside.facts first second c.args.inode c.args.other c.self.invariant.kept there beside;
+    kept = kept_exchange before c.self.inside.facts first second c.args.inode c.args.other c.self.invariant.kept there
+        beside;
     nodes = nodes_exchanged before first second c.args.inode c.self.invariant.nodes there c.args.other beside;
   }
 
-  same : record before { entries = c.replace-2.new.self } ≡ with_name (with_name before second c.args.inode) first c.args.other
-  same = exchanged_names before before first second c.args.inode c.args.other c.replace.new.self c.replace-2.new.self refl there beside c.replace.ensures c.replace-2.ensures
+  same : record before { entries = c.replace-2.new.self }
+      ≡ with_name (with_name before second c.args.inode) first c.args.other
+  same = exchanged_names before before first second c.args.inode c.args.other c.replace.new.self c.replace-2.new.self
+      refl there beside c.replace.ensures c.replace-2.ensures
 
 pub invariant_of-self : goal.invariant_of-self
 invariant_of-self c = subst (λ z. IsTied z c.self.inside.facts) (sym (same c)) (tied c)

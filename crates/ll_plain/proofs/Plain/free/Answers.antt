@@ -26,15 +26,19 @@ module _ (c : After-forget) where
 
   tied : IsTied (let_go (closed before) c.args.file.inode) c.close-goes.new.self
   tied = record {
-    kept = c.close-goes.ensures.kept before c.args.client holder c.args.number c.args.file c.self.invariant.kept there c.requires.there refl;
-    nodes = nodes_let_go (closed before) c.args.file.inode (record { root = c.self.invariant.nodes.root; named = c.self.invariant.nodes.named });
+    kept = c.close-goes.ensures.kept before c.args.client holder c.args.number c.args.file c.self.invariant.kept there
+        c.requires.there refl;
+    nodes = nodes_let_go (closed before) c.args.file.inode
+        (record { root = c.self.invariant.nodes.root; named = c.self.invariant.nodes.named });
   }
 
-  same : record before { clients = c.close.new.self; nodes = c.forget.new.nodes } ≡ let_go (closed before) c.args.file.inode
+  same : record before { clients = c.close.new.self; nodes = c.forget.new.nodes }
+      ≡ let_go (closed before) c.args.file.inode
   same =
       ap (λ m. record before { clients = m; nodes = c.forget.new.nodes }) (c.close.ensures holder there)
       ∙ left_so (closed before) c.args.file.inode c.close-goes.result
-      (λ node. c.close-goes.ensures.goes before c.args.client holder c.args.number c.args.file c.self.invariant.kept there c.requires.there refl node) c.forget.new.nodes c.forget.ensures
+      (λ node. c.close-goes.ensures.goes before c.args.client holder c.args.number c.args.file c.self.invariant.kept
+      there c.requires.there refl node) c.forget.new.nodes c.forget.ensures
 
 pub invariant_of-self : goal.invariant_of-self
 invariant_of-self c = subst (λ z. IsTied z c.close-goes.new.self) (sym (same c)) (tied c)

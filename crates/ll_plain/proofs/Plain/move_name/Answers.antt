@@ -29,19 +29,22 @@ module _ (c : After-rename) where
   free = ap (λ (z : State). get z.entries into) c.self.view_is ∙ c.requires.new.child
 
   directory : has before.nodes into.directory ≡ true
-  directory = directory_there before c.self.invariant.nodes into.directory (subst (λ z. IsDirectory z into.directory) (sym c.self.view_is) c.requires.new.directory)
+  directory = directory_there before c.self.invariant.nodes into.directory
+      (subst (λ z. IsDirectory z into.directory) (sym c.self.view_is) c.requires.new.directory)
 
   tied : IsTied (with_moved before from into c.args.inode) c.rename.new.self
   tied = record {
     kept = c.rename.ensures.kept before from into c.self.invariant.kept refl refl directory there free
-        (ap (λ z. not (from.directory == into.directory) && is_crowded z into.directory) c.self.view_is ∙ c.requires.room);
+        (ap (λ z. not (from.directory == into.directory) && is_crowded z into.directory) c.self.view_is
+        ∙ c.requires.room);
     nodes = nodes_moved before from into c.args.inode c.self.invariant.nodes there free;
   }
 
   same : record before { entries = c.remove.new.self } ≡ with_moved before from into c.args.inode
   same =
       moved_name (record before { entries = c.insert.new.self }) before from into c.args.inode c.remove.new.self
-      (ap (λ m. record before { entries = m }) (c.in_ok-insert.ensures.ok ∙ ap (λ (n : List ℕ). insert before.entries (dentry into.directory n) c.args.inode) c.in_ok-name.ensures))
+      (ap (λ m. record before { entries = m }) (c.in_ok-insert.ensures.ok
+      ∙ ap (λ (n : List ℕ). insert before.entries (dentry into.directory n) c.args.inode) c.in_ok-name.ensures))
       there free c.remove.ensures
 
 pub invariant_of-self-2 : goal.invariant_of-self-2

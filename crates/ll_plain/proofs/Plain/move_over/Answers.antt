@@ -34,7 +34,8 @@ module _ (c : After-forget) where
   beside = ap (λ (z : State). get z.entries into) c.self.view_is ∙ c.requires.new.child
 
   directory : has before.nodes into.directory ≡ true
-  directory = directory_there before c.self.invariant.nodes into.directory (subst (λ z. IsDirectory z into.directory) (sym c.self.view_is) c.requires.new.directory)
+  directory = directory_there before c.self.invariant.nodes into.directory
+      (subst (λ z. IsDirectory z into.directory) (sym c.self.view_is) c.requires.new.directory)
 
   unequal : (c.args.inode == c.args.replaced) ≡ false
   unequal = unlike c.args.inode c.args.replaced (λ e. c.requires.differ (sym e))
@@ -43,15 +44,19 @@ module _ (c : After-forget) where
   tied = record {
     kept = subst (λ b. AreKept (if b then before else let_go moved c.args.replaced) c.rename-goes.new.self) unequal
         (c.rename-goes.ensures.kept before from into c.self.invariant.kept refl refl directory there beside refl);
-    nodes = nodes_let_go moved c.args.replaced (nodes_over before from into c.args.inode c.self.invariant.nodes there c.args.replaced beside c.requires.differ);
+    nodes = nodes_let_go moved c.args.replaced
+        (nodes_over before from into c.args.inode c.self.invariant.nodes there c.args.replaced beside
+        c.requires.differ);
   }
 
   same : record before { entries = c.remove.new.self; nodes = c.forget.new.nodes } ≡ let_go moved c.args.replaced
   same =
       ap (λ (z : State). record z { nodes = c.forget.new.nodes })
-      (moved_over before before from into c.args.inode c.args.replaced c.replace.new.self c.remove.new.self refl there beside c.requires.differ c.replace.ensures c.remove.ensures)
+      (moved_over before before from into c.args.inode c.args.replaced c.replace.new.self c.remove.new.self refl there
+      beside c.requires.differ c.replace.ensures c.remove.ensures)
       ∙ left_so moved c.args.replaced c.rename-goes.result
-      (λ node. c.rename-goes.ensures.goes before from into c.self.invariant.kept refl refl there beside c.args.replaced refl node ∙ ap (λ b. not b && not (lives moved c.args.replaced)) unequal)
+      (λ node. c.rename-goes.ensures.goes before from into c.self.invariant.kept refl refl there beside c.args.replaced
+      refl node ∙ ap (λ b. not b && not (lives moved c.args.replaced)) unequal)
       c.forget.new.nodes c.forget.ensures
 
 pub invariant_of-self : goal.invariant_of-self

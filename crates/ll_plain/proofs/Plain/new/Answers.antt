@@ -13,7 +13,15 @@ insert-requires c = ap (λ m. get m 1) c.new-table.ensures ∙ get-empty Node na
 
 pub invariant_of-result-2 : goal.invariant_of-result-2
 invariant_of-result-2 c =
-    let nodes = c.table.view_is ∙ c.in_ok-insert.ensures.ok ∙ (λ i. insert (c.new-table.ensures i) 1 (record { kind = Dir; bytes = c.empty.ensures i })) in
+    let nodes = c.table.view_is ∙ c.in_ok-insert.ensures.ok
+    ∙ (λ i. insert (c.new-table.ensures i) 1 (record { kind = Dir; bytes = c.empty.ensures i })) in
     subst (λ z. IsTied z c.in_ok-of_root.field-0)
-    (λ i. record { entries = sym c.new.ensures i; nodes = sym nodes i; next = 2; room = c.args.nodes; rules = c.args.rules; clients = sym c.new-2.ensures i })
+    (λ i. record {
+      entries = sym c.new.ensures i;
+      nodes = sym nodes i;
+      next = 2;
+      room = c.args.nodes;
+      rules = c.args.rules;
+      clients = sym c.new-2.ensures i;
+    })
     (record { kept = c.in_ok-of_root.ensures c.args.rules c.args.nodes; nodes = nodes_start c.args.rules c.args.nodes })

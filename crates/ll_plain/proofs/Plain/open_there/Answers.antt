@@ -11,4 +11,5 @@ pub take-requires-clause-there : goal.take-requires-clause-there
 take-requires-clause-there c =
     ap (λ (d : Descriptor). has c.args.self.now.nodes d.inode) c.descriptor.ensures
     ∙ ap (λ (z : State). has z.nodes c.args.inode) (sym c.self.view_is)
-    ∙ named_there (the_view c.self.inside) c.self.invariant.nodes c.args.inode (subst (λ z. HasName z c.args.inode) (sym c.self.view_is) c.requires.named)
+    ∙ named_there (the_view c.self.inside) c.self.invariant.nodes c.args.inode
+    (subst (λ z. HasName z c.args.inode) (sym c.self.view_is) c.requires.named)

@@ -13,7 +13,8 @@ last false b e = absurd cc
 
 pub returns-in-Err-clause-memory : goal.returns-in-Err-clause-memory
 returns-in-Err-clause-memory c none starved =
-    step-not_starved c.args.self.now c.args.client c.args.call.now 0 (sym (ap (λ (z : Reply × State). z.0) (c.in-Err.ensures 0)) ∙ starved)
+    step-not_starved c.args.self.now c.args.client c.args.call.now 0
+    (sym (ap (λ (z : Reply × State). z.0) (c.in-Err.ensures 0)) ∙ starved)
 
 pub returns-in-Err-enact-clause-memory : goal.returns-in-Err-enact-clause-memory
 returns-in-Err-enact-clause-memory c none starved =

@@ -12,9 +12,17 @@ use Rattle.ll_plain.proofs.StepParts.{does, starves, both_free}
 use Rattle.ll_plain.proofs.Plain.read.Goals as goal
 
 pub returns-in-Err-bytes : goal.returns-in-Err-bytes
-returns-in-Err-bytes c = starves c.args.self.now c.args.client (Read c.args.number c.args.offset c.args.count) (both_free _ [] (both_free _ _ (not_refused (nat_lt DATA_BYTES c.args.count) EINVAL (search rules)) c.in-Ok.ensures.free) refl) (no_denials c.args.self.now (client_of c.args.self.now c.args.client).domain) refl _ refl
+returns-in-Err-bytes c = starves c.args.self.now c.args.client (Read c.args.number c.args.offset c.args.count)
+    (both_free _ [] (both_free _ _ (not_refused (nat_lt DATA_BYTES c.args.count) EINVAL (search rules))
+    c.in-Ok.ensures.free) refl) (no_denials c.args.self.now (client_of c.args.self.now c.args.client).domain) refl _
+    refl
 
 pub returns-in-Ok-bytes : goal.returns-in-Ok-bytes
 returns-in-Ok-bytes c =
-    does c.args.self.now c.args.client (Read c.args.number c.args.offset c.args.count) (both_free _ [] (both_free _ _ (not_refused (nat_lt DATA_BYTES c.args.count) EINVAL (search rules)) c.in-Ok.ensures.free) refl) (no_denials c.args.self.now (client_of c.args.self.now c.args.client).domain) refl (Bytes c.in-Ok-bytes.«data») _
-    (λ fresh. ap (λ b. (Bytes b, c.args.self.now)) (c.in-Ok-bytes.ensures ∙ ap (λ j. take c.args.count (drop c.args.offset (bytes_of c.args.self.now j))) (file_is (client_of c.args.self.now c.args.client) c.args.number c.in-Ok.file c.in-Ok.ensures.there)))
+    does c.args.self.now c.args.client (Read c.args.number c.args.offset c.args.count)
+    (both_free _ [] (both_free _ _ (not_refused (nat_lt DATA_BYTES c.args.count) EINVAL (search rules))
+    c.in-Ok.ensures.free) refl) (no_denials c.args.self.now (client_of c.args.self.now c.args.client).domain) refl
+    (Bytes c.in-Ok-bytes.«data») _
+    (λ fresh. ap (λ b. (Bytes b, c.args.self.now)) (c.in-Ok-bytes.ensures
+    ∙ ap (λ j. take c.args.count (drop c.args.offset (bytes_of c.args.self.now j)))
+    (file_is (client_of c.args.self.now c.args.client) c.args.number c.in-Ok.file c.in-Ok.ensures.there)))

@@ -7,10 +7,13 @@ use Rattle.ll_plain.proofs.Tied.{tied_bytes}
 use Rattle.ll_plain.proofs.Plain.set_len.Goals as goal
 
 pub invariant_of-self : goal.invariant_of-self
-invariant_of-self c = subst (λ m. IsTied (record (the_view c.self.inside) { nodes = m }) c.self.inside.facts) (sym c.in_err-set_len.ensures.err) c.self.invariant
+invariant_of-self c = subst (λ m. IsTied (record (the_view c.self.inside) { nodes = m }) c.self.inside.facts)
+    (sym c.in_err-set_len.ensures.err) c.self.invariant
 
 pub invariant_of-self-2 : goal.invariant_of-self-2
-invariant_of-self-2 c = tied_bytes (the_view c.self.inside) c.self.inside.facts c.args.inode (λ bytes. resized bytes c.args.len) c.set_len.new.self c.self.invariant c.in_ok-set_len.ensures.ok
+invariant_of-self-2 c = tied_bytes (the_view c.self.inside) c.self.inside.facts c.args.inode
+    (λ bytes. resized bytes c.args.len) c.set_len.new.self c.self.invariant c.in_ok-set_len.ensures.ok
 
 pub returns-clause-ok : goal.returns-clause-ok
-returns-clause-ok c = bytes_changed _ c.args.self.now c.set_len.new.self c.args.inode (λ bytes. resized bytes c.args.len) c.self.view_is c.in_ok-set_len.ensures.ok
+returns-clause-ok c = bytes_changed _ c.args.self.now c.set_len.new.self c.args.inode
+    (λ bytes. resized bytes c.args.len) c.self.view_is c.in_ok-set_len.ensures.ok

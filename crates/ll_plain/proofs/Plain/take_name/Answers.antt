@@ -29,10 +29,13 @@ module _ (c : After-forget) where
     nodes = nodes_let_go gone c.args.inode (nodes_taken before place c.args.inode c.self.invariant.nodes there);
   }
 
-  same : record before { entries = c.remove.new.self; nodes = c.forget.new.nodes } ≡ without_name before place c.args.inode
+  same : record before { entries = c.remove.new.self; nodes = c.forget.new.nodes }
+      ≡ without_name before place c.args.inode
   same =
       ap (λ m. record before { entries = m; nodes = c.forget.new.nodes }) c.remove.ensures
-      ∙ left_so gone c.args.inode c.unname-goes.result (λ node. c.unname-goes.ensures.goes before place c.self.invariant.kept refl there node) c.forget.new.nodes c.forget.ensures
+      ∙ left_so gone c.args.inode c.unname-goes.result
+      (λ node. c.unname-goes.ensures.goes before place c.self.invariant.kept refl there node) c.forget.new.nodes
+      c.forget.ensures
 
 pub invariant_of-self : goal.invariant_of-self
 invariant_of-self c = subst (λ z. IsTied z c.unname-goes.new.self) (sym (same c)) (tied c)

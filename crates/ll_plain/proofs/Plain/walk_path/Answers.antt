@@ -17,8 +17,11 @@ returns c =
     let name = c.in-Some.name.now in
     let above : front ≡ parent path = c.in-Some.ensures.parent in
     let whole : path ≡ front ++ name ∷ [] = c.in-Some.ensures.whole in
-    let node : c.beneath-node.result ≡ named s path = c.beneath-node.ensures ∙ ap (beneath s name) c.walk-walk.ensures.end ∙ sym (ap (named s) whole ∙ end_push s name front root) in
-    let directory : c.unwrap_or-directory.result ≡ directory_of s path = c.unwrap_or-directory.ensures ∙ ap (λ o. unwrap_or o 0) c.walk-walk.ensures.end ∙ ap (inode_of s) above in
+    let node : c.beneath-node.result ≡ named s path =
+    c.beneath-node.ensures ∙ ap (beneath s name) c.walk-walk.ensures.end
+    ∙ sym (ap (named s) whole ∙ end_push s name front root) in
+    let directory : c.unwrap_or-directory.result ≡ directory_of s path =
+    c.unwrap_or-directory.ensures ∙ ap (λ o. unwrap_or o 0) c.walk-walk.ensures.end ∙ ap (inode_of s) above in
     record {
       spot = record {
         way = c.walk-walk.ensures.way ∙ ap (λ p. slice_get (in_the_way s p root) 0) above;
@@ -28,10 +31,15 @@ returns c =
           there = c.there_if.ensures ∙ ap (option_map (there_in s)) node;
         };
       };
-      parent = subst (λ p. AreMasks c.walk-walk.result.masks c.args.domain.now (ancestors s p)) above c.walk-walk.ensures.masks;
+      parent = subst (λ p. AreMasks c.walk-walk.result.masks c.args.domain.now (ancestors s p)) above
+          c.walk-walk.ensures.masks;
       itself = subst (AreMasks c.granted_at.result c.args.domain.now)
-          (ap (λ o. ancestors s front ++ alone s name o) (c.beneath-node.ensures ∙ ap (beneath s name) c.walk-walk.ensures.end) ∙ sym (ap (ancestors s) whole ∙ chain_push s name front root))
-          (c.granted_at.ensures.masks (ancestors s front) (subst (λ m. AreMasks m c.args.domain.now (ancestors s front)) (sym c.copy.ensures) c.walk-walk.ensures.masks));
+          (ap (λ o. ancestors s front ++ alone s name o) (c.beneath-node.ensures
+          ∙ ap (beneath s name) c.walk-walk.ensures.end)
+          ∙ sym (ap (ancestors s) whole ∙ chain_push s name front root))
+          (c.granted_at.ensures.masks (ancestors s front)
+          (subst (λ m. AreMasks m c.args.domain.now (ancestors s front)) (sym c.copy.ensures)
+          c.walk-walk.ensures.masks));
       parent_len = c.walk-walk.ensures.len;
       itself_len = c.granted_at.ensures.len;
     }

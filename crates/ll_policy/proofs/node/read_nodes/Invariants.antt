@@ -10,5 +10,6 @@ use Rattle.ll_policy.proofs.node.read_nodes.Given as goal
 abbrev pub invariant-loop-value : goal.invariant-loop-value
 invariant-loop-value l = record {
   faults : flat_map node_faults (tables_in (drop l.value-index l.values)) ≡ flat_map node_faults (tables_in l.values);
-  calls : (rest : List Call) → Joined IsNode (tables_in (drop l.value-index l.values)) rest → Joined IsNode (tables_in l.values) (opening_of l.nodes.items ++ rest);
+  calls : (rest : List Call) → Joined IsNode (tables_in (drop l.value-index l.values)) rest
+      → Joined IsNode (tables_in l.values) (opening_of l.nodes.items ++ rest);
 }

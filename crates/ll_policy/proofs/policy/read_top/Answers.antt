@@ -31,7 +31,11 @@ returns-in_err-only_top c =
     let two = c.is_two-two.result in
     let fault = c.in_err-only_top.field-0.0 in
     let same : c.from_residual.result ≡ Err fault = search rules in
-    rw same (subst (Tells t fault) c.is_two-two.ensures (first (keys two t ++ version t ++ level_faults two t ++ nodes t) (profiles t) fault (first (keys two t ++ version t ++ level_faults two t) (nodes t) fault (first (keys two t ++ version t) (level_faults two t) fault (first (keys two t) (version t) fault c.in_err-only_top.ensures)))))
+    rw same (subst (Tells t fault) c.is_two-two.ensures
+    (first (keys two t ++ version t ++ level_faults two t ++ nodes t) (profiles t) fault
+    (first (keys two t ++ version t ++ level_faults two t) (nodes t) fault
+    (first (keys two t ++ version t) (level_faults two t) fault
+    (first (keys two t) (version t) fault c.in_err-only_top.ensures)))))
 
 pub returns-in_err-version : goal.returns-in_err-version
 returns-in_err-version c =
@@ -39,7 +43,11 @@ returns-in_err-version c =
     let two = c.is_two-two.result in
     let fault = c.in_err-version.field-0.0 in
     let same : c.from_residual-in_err-version.result ≡ Err fault = search rules in
-    rw same (subst (Tells t fault) c.is_two-two.ensures (first (keys two t ++ version t ++ level_faults two t ++ nodes t) (profiles t) fault (first (keys two t ++ version t ++ level_faults two t) (nodes t) fault (first (keys two t ++ version t) (level_faults two t) fault (first_after (keys two t) (version t) fault c.in_ok-only_top.ensures.0 c.in_err-version.ensures)))))
+    rw same (subst (Tells t fault) c.is_two-two.ensures
+    (first (keys two t ++ version t ++ level_faults two t ++ nodes t) (profiles t) fault
+    (first (keys two t ++ version t ++ level_faults two t) (nodes t) fault
+    (first (keys two t ++ version t) (level_faults two t) fault
+    (first_after (keys two t) (version t) fault c.in_ok-only_top.ensures.0 c.in_err-version.ensures)))))
 
 pub returns-in_err-abi : goal.returns-in_err-abi
 returns-in_err-abi c =
@@ -47,7 +55,12 @@ returns-in_err-abi c =
     let two = c.is_two-two.result in
     let fault = c.in_err-abi.field-0.0 in
     let same : c.from_residual-in_err-abi.result ≡ Err fault = search rules in
-    rw same (subst (Tells t fault) c.is_two-two.ensures (first (keys two t ++ version t ++ level_faults two t ++ nodes t) (profiles t) fault (first (keys two t ++ version t ++ level_faults two t) (nodes t) fault (first_after (keys two t ++ version t) (level_faults two t) fault (no_faults (keys two t) (version t) c.in_ok-only_top.ensures.0 c.in_ok-version.ensures.0) c.in_err-abi.ensures))))
+    rw same (subst (Tells t fault) c.is_two-two.ensures
+    (first (keys two t ++ version t ++ level_faults two t ++ nodes t) (profiles t) fault
+    (first (keys two t ++ version t ++ level_faults two t) (nodes t) fault
+    (first_after (keys two t ++ version t) (level_faults two t) fault
+    (no_faults (keys two t) (version t) c.in_ok-only_top.ensures.0 c.in_ok-version.ensures.0)
+    c.in_err-abi.ensures))))
 
 pub returns-in_err-nodes : goal.returns-in_err-nodes
 returns-in_err-nodes c =
@@ -55,7 +68,12 @@ returns-in_err-nodes c =
     let two = c.is_two-two.result in
     let fault = c.in_err-nodes.field-0.0 in
     let same : c.from_residual-in_err-nodes.result ≡ Err fault = search rules in
-    rw same (subst (Tells t fault) c.is_two-two.ensures (first (keys two t ++ version t ++ level_faults two t ++ nodes t) (profiles t) fault (first_after (keys two t ++ version t ++ level_faults two t) (nodes t) fault (no_faults (keys two t ++ version t) (level_faults two t) (no_faults (keys two t) (version t) c.in_ok-only_top.ensures.0 c.in_ok-version.ensures.0) c.in_ok-abi.ensures.0) c.in_err-nodes.ensures)))
+    rw same (subst (Tells t fault) c.is_two-two.ensures
+    (first (keys two t ++ version t ++ level_faults two t ++ nodes t) (profiles t) fault
+    (first_after (keys two t ++ version t ++ level_faults two t) (nodes t) fault
+    (no_faults (keys two t ++ version t) (level_faults two t)
+    (no_faults (keys two t) (version t) c.in_ok-only_top.ensures.0 c.in_ok-version.ensures.0) c.in_ok-abi.ensures.0)
+    c.in_err-nodes.ensures)))
 
 pub returns-in_err-profiles : goal.returns-in_err-profiles
 returns-in_err-profiles c =
@@ -63,4 +81,9 @@ returns-in_err-profiles c =
     let two = c.is_two-two.result in
     let fault = c.in_err-profiles.field-0.0 in
     let same : c.from_residual-in_err-profiles.result ≡ Err fault = search rules in
-    rw same (subst (Tells t fault) c.is_two-two.ensures (first_after (keys two t ++ version t ++ level_faults two t ++ nodes t) (profiles t) fault (no_faults (keys two t ++ version t ++ level_faults two t) (nodes t) (no_faults (keys two t ++ version t) (level_faults two t) (no_faults (keys two t) (version t) c.in_ok-only_top.ensures.0 c.in_ok-version.ensures.0) c.in_ok-abi.ensures.0) c.in_ok-nodes.ensures.0) c.in_err-profiles.ensures))
+    rw same (subst (Tells t fault) c.is_two-two.ensures
+    (first_after (keys two t ++ version t ++ level_faults two t ++ nodes t) (profiles t) fault
+    (no_faults (keys two t ++ version t ++ level_faults two t) (nodes t)
+    (no_faults (keys two t ++ version t) (level_faults two t)
+    (no_faults (keys two t) (version t) c.in_ok-only_top.ensures.0 c.in_ok-version.ensures.0) c.in_ok-abi.ensures.0)
+    c.in_ok-nodes.ensures.0) c.in_err-profiles.ensures))

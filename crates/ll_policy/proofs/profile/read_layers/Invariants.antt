@@ -11,6 +11,7 @@ use Rattle.ll_policy.proofs.profile.read_layers.Given as goal
 abbrev pub invariant-loop-value : goal.invariant-loop-value
 invariant-loop-value l = record {
   faults : flat_map layer_faults (tables_in (drop l.value-index l.values)) ≡ flat_map layer_faults (tables_in l.values);
-  calls : (rest : List Call) → Joined IsLayer (enumerate_from (length l.layers.items) (tables_in (drop l.value-index l.values))) rest
+  calls : (rest : List Call) → Joined IsLayer
+      (enumerate_from (length l.layers.items) (tables_in (drop l.value-index l.values))) rest
       → Joined IsLayer (enumerate_from 0 (tables_in l.values)) (calls_of_layers 0 l.layers.items ++ rest);
 }

@@ -11,7 +11,8 @@ use Rattle.ll_policy.proofs.profile.read_profiles.Given as goal
 
 abbrev pub invariant-loop-name : goal.invariant-loop-name
 invariant-loop-name l = record {
-  faults : flat_map profile_faults (named_tables (members_view l.name-iterator)) ≡ flat_map profile_faults (named_tables (members_view l.table.entries));
+  faults : flat_map profile_faults (named_tables (members_view l.name-iterator))
+      ≡ flat_map profile_faults (named_tables (members_view l.table.entries));
   calls : (rest : List (List ℕ × List Call)) → Each IsProfile (named_tables (members_view l.name-iterator)) rest
       → Each IsProfile (named_tables (members_view l.table.entries)) (map named_calls l.profiles.items ++ rest);
 }

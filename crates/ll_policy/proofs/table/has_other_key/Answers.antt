@@ -13,7 +13,9 @@ returns-then-not-is_known c =
     let known = map (λ name. name.now) c.args.known.now in
     let e : Entry = (c.in-Some.key.now, c.in-Some.field-0-1.now) in
     let next : c.loop-key.key-iterator ≡ e ∷ c.next.new.self = grind (arith, common_steps) in
-    let found : list_any (bytes_eq (string_bytes e.0)) known ≡ false = rw (← c.as_str.ensures.value) (known_names c.as_str.result.now c.args.known.now ∙ grind (arith, common_steps)) in
+    let found : list_any (bytes_eq (string_bytes e.0)) known ≡ false =
+    rw (← c.as_str.ensures.value) (known_names c.as_str.result.now c.args.known.now ∙ grind (arith, common_steps))
+    in
     sym (sym c.loop-key.invariant ∙ ap (λ es. has_other_key known (members_view es)) next ∙ rw found refl)
 
 pub loop-key-preserved : goal.loop-key-preserved
@@ -21,5 +23,7 @@ loop-key-preserved c =
     let known = map (λ name. name.now) c.args.known.now in
     let e : Entry = (c.in-Some.key.now, c.in-Some.field-0-1.now) in
     let next : c.loop-key.key-iterator ≡ e ∷ c.next.new.self = grind (arith, common_steps) in
-    let found : list_any (bytes_eq (string_bytes e.0)) known ≡ true = rw (← c.as_str.ensures.value) (known_names c.as_str.result.now c.args.known.now ∙ grind (arith, common_steps)) in
+    let found : list_any (bytes_eq (string_bytes e.0)) known ≡ true =
+    rw (← c.as_str.ensures.value) (known_names c.as_str.result.now c.args.known.now ∙ grind (arith, common_steps))
+    in
     sym (rw found refl) ∙ sym (ap (λ es. has_other_key known (members_view es)) next) ∙ c.loop-key.invariant

@@ -4,4 +4,5 @@ use Rattle.ll_policy.specs.Table.{has_other_key}
 use Rattle.ll_policy.proofs.table.has_other_key.Given as goal
 
 abbrev pub invariant-loop-key : goal.invariant-loop-key
-invariant-loop-key l = has_other_key (map (λ key. key.now) l.known) (members_view l.key-iterator) ≡ has_other_key (map (λ key. key.now) l.known) (members_view l.table.entries)
+invariant-loop-key l = has_other_key (map (λ key. key.now) l.known) (members_view l.key-iterator)
+    ≡ has_other_key (map (λ key. key.now) l.known) (members_view l.table.entries)

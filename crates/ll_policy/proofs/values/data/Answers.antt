@@ -10,8 +10,11 @@ use Rattle.ll_policy.proofs.values.data.Goals as goal
 
 pub returns-in_default : goal.returns-in_default
 returns-in_default c =
-    let none : get_member (codes "data") (table_view c.args.table.now) ≡ None = search rules in
-    (ap (optional as_str (is_data (kind_text c.args.kind)) BadData) none, c.new.ensures.items ∙ sym (bytes_of_nothing (codes "data") (table_view c.args.table.now) none))
+    let none : get_member (codes "data") (table_view c.args.table.now) ≡ None = search rules in (
+      ap (optional as_str (is_data (kind_text c.args.kind)) BadData) none,
+      c.new.ensures.items
+          ∙ sym (bytes_of_nothing (codes "data") (table_view c.args.table.now) none),
+    )
 
 pub unreachable-requires : goal.unreachable-requires
 unreachable-requires c =

@@ -6,4 +6,5 @@ use Rattle.ll_policy.proofs.Texts.{is_kind-other}
 use Rattle.ll_policy.proofs.values.kind.Goals as goal
 
 pub returns-in-None : goal.returns-in-None
-returns-in-None c = value_failed as_str is_kind BadKind _ c.in_ok-text.text.now c.in_ok-text.ensures.found (is_kind-other c.in_ok-text.text.now c.in-None.ensures.none)
+returns-in-None c = value_failed as_str is_kind BadKind _ c.in_ok-text.text.now c.in_ok-text.ensures.found
+    (is_kind-other c.in_ok-text.text.now c.in-None.ensures.none)

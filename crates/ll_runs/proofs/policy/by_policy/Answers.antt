@@ -7,4 +7,8 @@ abbrev rules_at : Abi → Rules
 rules_at abi = record { abi = abi; copies = true }
 
 pub returns-clause-setup : goal.returns-clause-setup
-returns-clause-setup c = record { rules = ap rules_at c.abi.ensures; loader = ap Some c.in-Ok.ensures.calls; profile = c.in_ok-profile.ensures.calls }
+returns-clause-setup c = record {
+  rules = ap rules_at c.abi.ensures;
+  loader = ap Some c.in-Ok.ensures.calls;
+  profile = c.in_ok-profile.ensures.calls;
+}

@@ -4,8 +4,15 @@ use Rattle.ll_runs.proofs.policy.setup_of.Goals as goal
 
 pub returns-then-is_none-clause-setup : goal.returns-then-is_none-clause-setup
 returns-then-is_none-clause-setup g c =
-    let text = a_text (g.R.Read.remaining c.args.file.now) in
-    (text.0, text.1, (c.by_level.ensures.nodes, c.by_level.ensures.history, set_by_level c.args.options.now text.0 c.by_level.result c.if-is_none.ensures c.by_level.ensures.setup))
+    let text = a_text (g.R.Read.remaining c.args.file.now) in (
+      text.0,
+      text.1,
+      (
+        c.by_level.ensures.nodes,
+        c.by_level.ensures.history,
+        set_by_level c.args.options.now text.0 c.by_level.result c.if-is_none.ensures c.by_level.ensures.setup,
+      ),
+    )
 
 pub returns-in-Err-clause-failure : goal.returns-in-Err-clause-failure
 returns-in-Err-clause-failure g c =
@@ -15,6 +22,7 @@ returns-in-Err-clause-failure g c =
 pub returns-clause-failure : goal.returns-clause-failure
 returns-clause-failure g c = (
   c.as_slice.result.now,
-  same_text (g.R.Read.remaining c.args.file.now) c.as_slice.result.now c.in-Ok.text.items c.as_slice.ensures.value c.in-Ok.ensures.text,
+  same_text (g.R.Read.remaining c.args.file.now) c.as_slice.result.now c.in-Ok.text.items c.as_slice.ensures.value
+      c.in-Ok.ensures.text,
   c.in-Err-policy_of.ensures.failure (order_in c.args.options.now),
 )

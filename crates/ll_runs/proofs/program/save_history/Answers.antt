@@ -6,5 +6,6 @@ use Rattle.ll_runs.proofs.program.save_history.Goals as goal
 
 pub returns-in-Ok-clause-saved : goal.returns-in-Ok-clause-saved
 returns-in-Ok-clause-saved g c =
-    subst (λ (es : List Entry). Appends (g.W.Write.contents c.args.file.now) (g.W.Write.contents c.save.new.writer) (saved_text c.args.header es))
+    subst (λ (es : List Entry). Appends (g.W.Write.contents c.args.file.now) (g.W.Write.contents c.save.new.writer)
+    (saved_text c.args.header es))
     c.entries.ensures.entries c.in-Ok.ensures.ok

@@ -21,7 +21,8 @@ returns-in_err-read_line-clause-err g c = on_err c.from_residual.result
 pub loop-schedule-preserved : goal.loop-schedule-preserved
 loop-schedule-preserved g c =
     let i = c.loop-schedule.invariant in record {
-      some = one_more Tells (IsWorld c.args.schedule.now.world) _ _ (IsWorld c.loop-schedule.schedule.world) _ _ _ i.some
+      some = one_more Tells (IsWorld c.args.schedule.now.world) _ _ (IsWorld c.loop-schedule.schedule.world) _ _ _
+          i.some
           c.read_line.new.self _ _ _ c.in_ok-read_line.ensures.line (IsWorld c.answer.new.self.world) _ c.if-branch.true
           c.in_ok-answer.ensures.ok;
       counted = counts_more unread c.loop-schedule.lines c.read_line.new.self _ _ _ i.counted
@@ -35,5 +36,6 @@ returns-in_err-answer-clause-err g c = on_err c.from_residual-in_err-answer.resu
     c.in_err-answer.ensures.err)
 
 pub returns-clause-ok : goal.returns-clause-ok
-returns-clause-ok g c = all_read Tells (IsWorld c.args.schedule.now.world) _ _ (IsWorld c.loop-schedule.schedule.world) _ _ _
+returns-clause-ok g c = all_read Tells (IsWorld c.args.schedule.now.world) _ _ (IsWorld c.loop-schedule.schedule.world)
+    _ _ _
     c.loop-schedule.invariant.some c.read_line.new.self _ _ _ c.in_ok-read_line.ensures.line c.if-branch.false

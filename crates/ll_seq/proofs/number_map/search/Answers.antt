@@ -9,5 +9,6 @@ pub returns : goal.returns
 returns g c =
     let facts = c.binary_search_by_key.ensures in
     let by_key = facts.position (λ row. row.0) (answers_always _ _ _ (λ f a r h called. search rules)) in
-    let is = searched nat_cmp_total nat_cmp-IsAntisymmetric c.args.number c.args.rows.now c.binary_search_by_key.result c.requires facts.bound by_key in
+    let is = searched nat_cmp_total nat_cmp-IsAntisymmetric c.args.number c.args.rows.now c.binary_search_by_key.result
+    c.requires facts.bound by_key in
     record { within = is.within; row = is.row; none = is.none; place = is.place; most = is.most }

@@ -46,5 +46,6 @@ returns-in_err-answer-clause-sound g c =
     then_sound _ c.loop-session.session.tree _ c.loop-session.invariant.sound c.in_err-answer.ensures.sound
 
 pub returns-clause-ok : goal.returns-clause-ok
-returns-clause-ok g c = all_read Tells (StandsAt c.args.session.now.tree) _ _ (StandsAt c.loop-session.session.tree) _ _ _
+returns-clause-ok g c = all_read Tells (StandsAt c.args.session.now.tree) _ _ (StandsAt c.loop-session.session.tree) _ _
+    _
     c.loop-session.invariant.some c.read_line.new.self _ _ _ c.in_ok-read_line.ensures.line c.if-branch.false

@@ -8,9 +8,16 @@ returns-in_default c = inl (refl, short_body c.args.body.now c.in_default.ensure
 
 pub returns-in_default-number_of : goal.returns-in_default-number_of
 returns-in_default-number_of c =
-    inl (refl, no_client c.args.body.now c.in-Some.client.now c.in-Some.text.now c.in-Some.ensures.found c.in_default-number_of.ensures)
+    inl (
+      refl,
+      no_client c.args.body.now c.in-Some.client.now c.in-Some.text.now c.in-Some.ensures.found
+          c.in_default-number_of.ensures,
+    )
 
 pub returns : goal.returns
 returns c =
-    let made : MatchResult c.answered_of.result (λ v. c.map.result ≡ Ok (record { client = c.in-Some-number_of.client; call = v.0; reply = v.1 })) (λ e. c.map.result ≡ Err e) = search rules in
-    entry_reads c.args.body.now c.in-Some.client.now c.in-Some.text.now c.in-Some-number_of.client c.answered_of.result c.map.result c.in-Some.ensures.found c.in-Some-number_of.ensures made c.answered_of.ensures
+    let made : MatchResult c.answered_of.result
+    (λ v. c.map.result ≡ Ok (record { client = c.in-Some-number_of.client; call = v.0; reply = v.1 }))
+    (λ e. c.map.result ≡ Err e) = search rules in
+    entry_reads c.args.body.now c.in-Some.client.now c.in-Some.text.now c.in-Some-number_of.client c.answered_of.result
+    c.map.result c.in-Some.ensures.found c.in-Some-number_of.ensures made c.answered_of.ensures

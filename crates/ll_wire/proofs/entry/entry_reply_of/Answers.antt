@@ -6,4 +6,8 @@ use Rattle.ll_wire.proofs.entry.entry_reply_of.Goals as goal
 pub returns-in-Ok-Refused : goal.returns-in-Ok-Refused
 returns-in-Ok-Refused c =
     let more : 20 < errno_number c.in-Ok-Refused.errno = omega (arith, c.number.ensures, c.if-number-gt20.true) in
-    inl (refl, not_kept c.args.body.now c.in-Ok-Refused.errno (rw c.in-Ok-Refused.field-0-is at c.in-Ok-Refused.ensures) more)
+    inl (
+      refl,
+      not_kept c.args.body.now c.in-Ok-Refused.errno (rw c.in-Ok-Refused.field-0-is at c.in-Ok-Refused.ensures)
+          more,
+    )

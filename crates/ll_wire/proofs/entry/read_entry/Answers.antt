@@ -6,4 +6,5 @@ pub returns-in_default : goal.returns-in_default
 returns-in_default c = inl (refl, no_entry c.args.line.now c.in_default.ensures.none)
 
 pub returns : goal.returns
-returns c = line_reads c.args.line.now c.in-Some.body.now c.entry_of.result (omega arith) c.in-Some.ensures.found c.entry_of.ensures
+returns c = line_reads c.args.line.now c.in-Some.body.now c.entry_of.result (omega arith) c.in-Some.ensures.found
+    c.entry_of.ensures

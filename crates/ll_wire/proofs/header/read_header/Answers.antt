@@ -6,7 +6,9 @@ returns-in_err-body c = rw c.from_residual.ensures (no_header c.args.line.now c.
 
 pub returns-in_err-count : goal.returns-in_err-count
 returns-in_err-count c =
-    rw c.from_residual-in_err-count.ensures (too_many c.args.line.now c.in_ok-body.body.now c.in_ok-body.ensures.found c.in_err-count.ensures.none)
+    rw c.from_residual-in_err-count.ensures
+    (too_many c.args.line.now c.in_ok-body.body.now c.in_ok-body.ensures.found c.in_err-count.ensures.none)
 
 pub returns : goal.returns
-returns c = line_finds c.args.line.now c.in_ok-body.body.now _ c.header_of.result c.in_ok-body.ensures.found c.in_ok-count.ensures.found.1 c.header_of.ensures
+returns c = line_finds c.args.line.now c.in_ok-body.body.now _ c.header_of.result c.in_ok-body.ensures.found
+    c.in_ok-count.ensures.found.1 c.header_of.ensures

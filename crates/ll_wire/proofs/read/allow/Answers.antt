@@ -10,4 +10,5 @@ returns-in-Ok c =
     ((c.in-Some.ensures.0, own_text _ _ c.in-Ok.ensures, omega arith), grind (arith, common_steps))
 
 pub returns-in-Err : goal.returns-in-Err
-returns-in-Err c = allow_fails _ _ _ _ c.in-Some.ruleset c.in-Some-parse.rights c.in-Err.errno (grind (arith, common_steps)) c.in-Some.ensures (omega arith, c.in-Some-parse.ensures.found) c.in-Err.ensures
+returns-in-Err c = allow_fails _ _ _ _ c.in-Some.ruleset c.in-Some-parse.rights c.in-Err.errno
+    (grind (arith, common_steps)) c.in-Some.ensures (omega arith, c.in-Some-parse.ensures.found) c.in-Err.ensures

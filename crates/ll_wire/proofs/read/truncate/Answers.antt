@@ -10,4 +10,5 @@ returns-in-Ok c =
     ((own_text _ _ c.in-Ok.ensures, c.in-Some.ensures.0), grind (arith, common_steps))
 
 pub returns-in-Err : goal.returns-in-Err
-returns-in-Err c = truncate_fails _ _ _ c.in-Some.size c.in-Err.errno (grind (arith, common_steps)) c.in-Some.ensures c.in-Err.ensures
+returns-in-Err c = truncate_fails _ _ _ c.in-Some.size c.in-Err.errno (grind (arith, common_steps)) c.in-Some.ensures
+    c.in-Err.ensures

@@ -12,19 +12,36 @@ returns-then-is_empty c = let none : length c.args.text.now ≡ 0 = search rules
 
 pub returns-in_default : goal.returns-in_default
 unfolding lib.Utf8.encode
-returns-in_default c = let some : 0 < length c.args.text.now = search rules in inl (refl, no_space _ some c.in_default.ensures.cases)
+returns-in_default c = let some : 0 < length c.args.text.now = search rules in
+    inl (refl, no_space _ some c.in_default.ensures.cases)
 
 pub returns-then-not-are_listed : goal.returns-then-not-are_listed
 returns-then-not-are_listed c =
-    let starts = behind 32 _ _ c.in-Some.names (strip_prefix_char 32 c.args.text.now c.strip_prefix.result c.strip_prefix.ensures.cases (lit< tt)) (search rules) in
-    inl (refl, λ names is. c.if-not-are_listed.ensures (subst AreListed (names_are c.args.text.now c.in-Some.names.now names starts is) is.0))
+    let starts = behind 32 _ _ c.in-Some.names
+    (strip_prefix_char 32 c.args.text.now c.strip_prefix.result c.strip_prefix.ensures.cases (lit< tt))
+    (search rules) in
+    inl (
+      refl,
+      λ names is. c.if-not-are_listed.ensures
+          (subst AreListed (names_are c.args.text.now c.in-Some.names.now names starts is) is.0),
+    )
 
 pub returns-in-Ok : goal.returns-in-Ok
 returns-in-Ok c =
-    let starts = behind 32 _ _ c.in-Some.names (strip_prefix_char 32 c.args.text.now c.strip_prefix.result c.strip_prefix.ensures.cases (lit< tt)) (search rules) in
-    subst (SpellsNames c.args.text.now) (sym c.in-Ok.ensures) (names_spelled c.args.text.now c.in-Some.names.now starts c.if-not-are_listed.ensures)
+    let starts = behind 32 _ _ c.in-Some.names
+    (strip_prefix_char 32 c.args.text.now c.strip_prefix.result c.strip_prefix.ensures.cases (lit< tt))
+    (search rules) in
+    subst (SpellsNames c.args.text.now) (sym c.in-Ok.ensures)
+    (names_spelled c.args.text.now c.in-Some.names.now starts c.if-not-are_listed.ensures)
 
 pub returns-in-Err : goal.returns-in-Err
 returns-in-Err c =
-    let starts = behind 32 _ _ c.in-Some.names (strip_prefix_char 32 c.args.text.now c.strip_prefix.result c.strip_prefix.ensures.cases (lit< tt)) (search rules) in
-    inr (refl, slice_split (λ b. b == 32) c.in-Some.names.now, names_spelled c.args.text.now c.in-Some.names.now starts c.if-not-are_listed.ensures, tt)
+    let starts = behind 32 _ _ c.in-Some.names
+    (strip_prefix_char 32 c.args.text.now c.strip_prefix.result c.strip_prefix.ensures.cases (lit< tt))
+    (search rules) in
+    inr (
+      refl,
+      slice_split (λ b. b == 32) c.in-Some.names.now,
+      names_spelled c.args.text.now c.in-Some.names.now starts c.if-not-are_listed.ensures,
+      tt,
+    )

@@ -4,7 +4,9 @@ use Rattle.ll_wire.proofs.Fronts.{first_found, first_none}
 use Rattle.ll_wire.proofs.token.first_of.Goals as goal
 
 pub returns-clause-found : goal.returns-clause-found
-returns-clause-found c = first_found c.args.text.now c.split_once.result (split_once_first 32 c.args.text.now c.split_once.result c.split_once.ensures.cases (lit< tt))
+returns-clause-found c = first_found c.args.text.now c.split_once.result
+    (split_once_first 32 c.args.text.now c.split_once.result c.split_once.ensures.cases (lit< tt))
 
 pub returns-clause-none : goal.returns-clause-none
-returns-clause-none c = first_none c.args.text.now c.split_once.result (split_parts 32 c.args.text.now c.split_once.result c.split_once.ensures.cases (lit< tt))
+returns-clause-none c = first_none c.args.text.now c.split_once.result
+    (split_parts 32 c.args.text.now c.split_once.result c.split_once.ensures.cases (lit< tt))

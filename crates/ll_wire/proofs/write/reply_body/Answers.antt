@@ -5,4 +5,6 @@ use Rattle.ll_wire.proofs.write.reply_body.Goals as goal
 
 pub returns-in-Listed : goal.returns-in-Listed
 returns-in-Listed c =
-    rw c.in-Listed.is (subst (λ (names : List (List ℕ)). IfOk c.names_text.result (λ text. string_bytes text ≡ join_with_byte 32 (codes "names" ∷ names))) c.names.ensures.names c.names_text.ensures)
+    rw c.in-Listed.is (subst (λ (names : List (List ℕ)). IfOk c.names_text.result
+    (λ text. string_bytes text ≡ join_with_byte 32 (codes "names" ∷ names))) c.names.ensures.names
+    c.names_text.ensures)

@@ -1,7 +1,7 @@
 use Rattle.std.proofs.Common.{◌≡◌, ℕ, ◌≤◌, ◌∷◌, [], length, List, Option, None, refl, sym, ap, ◌∙◌, subst, arith}
 use Rattle.std.specs.Prelude.{OnOk, OnErr}
 use Rattle.ll_seq.specs.declared.reply.Entry.{Entry}
-use Rattle.ll_walks.specs.declared.step.Step.TheVariants.{Descend, Fork}
+use Rattle.ll_worlds.specs.declared.step.Step.TheVariants.{Descend, Fork}
 use Rattle.ll_client.specs.Entries.{Knows, doing_in, knows, part_in}
 use Rattle.ll_client.specs.Gains.{Goes}
 use Rattle.ll_client.specs.Hands.{seen_of}

@@ -8,12 +8,20 @@ use Rattle.ll_decide.proofs.judge.Granted.first.Goals as goal
 
 pub returns-in-Some : goal.returns-in-Some
 returns-in-Some c =
-    sym (numbered_here (λ n. of_layer c.args.cause n.0 (fails c.args.self.now c.args.demands.now c.args.reason n.1) c.args.rights.now) c.loop-layer.layer (length c.args.self.now.itself.now) c.in-Some.denial _ (omega arith)
-    (ap (λ (ds : List Denial). slice_get ds 0) (sym (layer-same c.args.cause (c.loop-layer.layer + 1) (is_in c.denied-denied.result) (fails c.args.self.now c.args.demands.now c.args.reason c.loop-layer.layer) c.args.rights.now c.requires.known c.denied-denied.ensures))
+    sym (numbered_here (λ n. of_layer c.args.cause n.0 (fails c.args.self.now c.args.demands.now c.args.reason n.1)
+    c.args.rights.now) c.loop-layer.layer (length c.args.self.now.itself.now) c.in-Some.denial _ (omega arith)
+    (ap (λ (ds : List Denial). slice_get ds 0)
+    (sym (layer-same c.args.cause (c.loop-layer.layer + 1) (is_in c.denied-denied.result)
+    (fails c.args.self.now c.args.demands.now c.args.reason c.loop-layer.layer) c.args.rights.now c.requires.known
+    c.denied-denied.ensures))
     ∙ sym c.first.ensures ∙ c.in-Some.is) c.loop-layer.invariant)
 
 pub loop-layer-preserved : goal.loop-layer-preserved
 loop-layer-preserved c =
-    numbered_later (λ n. of_layer c.args.cause n.0 (fails c.args.self.now c.args.demands.now c.args.reason n.1) c.args.rights.now) c.loop-layer.layer (length c.args.self.now.itself.now) _ (omega arith)
-    (ap (λ (ds : List Denial). slice_get ds 0) (sym (layer-same c.args.cause (c.loop-layer.layer + 1) (is_in c.denied-denied.result) (fails c.args.self.now c.args.demands.now c.args.reason c.loop-layer.layer) c.args.rights.now c.requires.known c.denied-denied.ensures))
+    numbered_later (λ n. of_layer c.args.cause n.0 (fails c.args.self.now c.args.demands.now c.args.reason n.1)
+    c.args.rights.now) c.loop-layer.layer (length c.args.self.now.itself.now) _ (omega arith)
+    (ap (λ (ds : List Denial). slice_get ds 0)
+    (sym (layer-same c.args.cause (c.loop-layer.layer + 1) (is_in c.denied-denied.result)
+    (fails c.args.self.now c.args.demands.now c.args.reason c.loop-layer.layer) c.args.rights.now c.requires.known
+    c.denied-denied.ensures))
     ∙ sym c.first.ensures ∙ c.in_default.is) c.loop-layer.invariant

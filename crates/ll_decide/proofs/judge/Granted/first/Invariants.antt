@@ -8,4 +8,5 @@ use Rattle.ll_decide.proofs.judge.Granted.first.Given as goal
 abbrev pub invariant-loop-layer : goal.invariant-loop-layer
 invariant-loop-layer l =
     slice_get (of_all l.self l.demands l.reason l.cause l.rights) 0
-    ≡ slice_get (flat_map (λ n. of_layer l.cause n.0 (fails l.self l.demands l.reason n.1) l.rights) (enumerate_from (l.layer + 1) (range_with_len l.layer (length l.self.itself.now - l.layer)))) 0
+    ≡ slice_get (flat_map (λ n. of_layer l.cause n.0 (fails l.self l.demands l.reason n.1) l.rights)
+    (enumerate_from (l.layer + 1) (range_with_len l.layer (length l.self.itself.now - l.layer)))) 0

@@ -18,9 +18,11 @@ loop-layer-preserved c =
     let masks = c.loop-layer.masks in
     let layer = c.layer-item.result in
     let new = c.unrestricted.result.0 in
-    let last : take (i + 1) layers ≡ take i layers ++ layer ∷ [] = take_more layers i layer c.loop-layer-test.true ∙ ap (λ l. take i layers ++ l ∷ []) (sym c.layer-item.is) in
+    let last : take (i + 1) layers ≡ take i layers ++ layer ∷ [] =
+    take_more layers i layer c.loop-layer-test.true ∙ ap (λ l. take i layers ++ l ∷ []) (sym c.layer-item.is) in
     record {
-      so_far = rw (c.push.ensures, last) (masks-push masks (take i layers) [] new layer c.loop-layer.invariant.so_far c.unrestricted.ensures);
+      so_far = rw (c.push.ensures, last)
+          (masks-push masks (take i layers) [] new layer c.loop-layer.invariant.so_far c.unrestricted.ensures);
       len = ap length c.push.ensures ∙ length-append masks (new ∷ []) ∙ ap (λ n. n + 1) c.loop-layer.invariant.len;
       most = c.loop-layer.invariant.most;
     }

@@ -11,4 +11,5 @@ insert-requires c = ap (λ m. get m 1) c.new-places.ensures ∙ get-empty ℕ na
 pub returns-clause-table : goal.returns-clause-table
 returns-clause-table c =
     new_table _ c.args.nodes _ c.requires.some refl c.in_ok-of_root.ensures refl c.in_ok-root_alone.ensures
-    (c.places.view_is ∙ c.in_ok-insert.ensures.ok ∙ ap (λ m. insert m 1 0) c.new-places.ensures) c.in_ok-all_free.ensures.items
+    (c.places.view_is ∙ c.in_ok-insert.ensures.ok ∙ ap (λ m. insert m 1 0) c.new-places.ensures)
+    c.in_ok-all_free.ensures.items

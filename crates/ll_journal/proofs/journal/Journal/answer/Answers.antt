@@ -10,10 +10,10 @@ use Rattle.ll_seq.specs.declared.reply.Reply.TheVariants.{Refused}
 use Rattle.ll_rights.specs.declared.errno.Errno.TheVariants.{HistoryFull}
 use Rattle.ll_seq.specs.State.{State}
 use Rattle.ll_seq.specs.Step.{refusals, client_of}
-use Rattle.ll_walks.specs.Walk.{Walk}
-use Rattle.ll_walks.specs.World.{World, Replied, advance, is_full, moved_by, next_number, shown}
-use Rattle.ll_walks.specs.declared.step.Step.TheVariants.{Commit}
-use Rattle.ll_walks.proofs.Tests.{or_false}
+use Rattle.ll_worlds.specs.Walk.{Walk}
+use Rattle.ll_worlds.specs.World.{World, Replied, advance, is_full, moved_by, next_number, shown}
+use Rattle.ll_worlds.specs.declared.step.Step.TheVariants.{Commit}
+use Rattle.ll_worlds.proofs.Tests.{or_false}
 use Rattle.ll_journal.specs.declared.journal.Journal.TheInside.{Inside}
 use Rattle.ll_journal.specs.Book.{Book, Spares, mark_of, slot_of}
 use Rattle.ll_journal.specs.WalkEnds.{LeavesFree}
@@ -21,7 +21,8 @@ use Rattle.ll_journal.specs.Decidings.{moved_list}
 use Rattle.ll_journal.specs.Kept.{book_of, spares_of, world_of}
 use Rattle.ll_journal.specs.Performed.{Performs}
 use Rattle.ll_journal.proofs.AtAnswers.{EndedSo, at_end, ended_so, seat_idle}
-use Rattle.ll_journal.proofs.Committed.{committed_kept, committed_lent, committed_rest, committed_spares, committed_step, spares_both}
+use Rattle.ll_journal.proofs.Committed.{committed_kept, committed_lent, committed_rest, committed_spares}
+use Rattle.ll_journal.proofs.Committed.{committed_step, spares_both}
 use Rattle.ll_journal.proofs.DecidedCalls.{no_zero}
 use Rattle.ll_journal.proofs.Ended.{commit_gives_up}
 use Rattle.ll_journal.proofs.EndedWalks.{place_within}
@@ -33,21 +34,34 @@ use Rattle.ll_journal.proofs.journal.Journal.answer.Goals as goal
 pub returns-then-is_full-clause-does : goal.returns-then-is_full-clause-does
 returns-then-is_full-clause-does c =
     let r = c.requires.reached in
-    commit_gives_up c.args.self.now.world c.args.client r.walk r.ends.is r.ends.may (ap (λ (b : Book). is_full b.world) (sym c.self.view_is) ∙ sym c.is_full-is_full.ensures ∙ c.if-is_full.true)
+    commit_gives_up c.args.self.now.world c.args.client r.walk r.ends.is r.ends.may
+    (ap (λ (b : Book). is_full b.world) (sym c.self.view_is) ∙ sym c.is_full-is_full.ensures ∙ c.if-is_full.true)
     ∙ ap (λ w. (Replied (Refused HistoryFull), w)) (sym c.end_walk-walk.ensures.world)
 
 -- ---- the call is made
 
-ended : (c : goal.After-walk-1) → EndedSo c.self.inside c.self-2.inside c.args.client c.args.place c.args.slots.now c.args.found.now c.end_walk-walk.result.call c.end_walk-walk.result.first c.end_walk-walk.result.second c.end_walk-walk.new.lent c.index_mut-seat.result.now
+ended : (c : goal.After-walk-1)
+    → EndedSo c.self.inside c.self-2.inside c.args.client c.args.place c.args.slots.now c.args.found.now
+    c.end_walk-walk.result.call c.end_walk-walk.result.first c.end_walk-walk.result.second c.end_walk-walk.new.lent
+    c.index_mut-seat.result.now
 ended c =
-    ended_so c.self.inside c.self-2.inside c.args.self.now c.end_walk-walk.new.self c.self.view_is c.self-2.view_is c.args.client c.args.place c.args.slots.now c.args.found.now c.requires.reached
-    c.end_walk-walk.ensures.world c.end_walk-walk.ensures.rest c.end_walk-walk.result.call c.end_walk-walk.result.first c.end_walk-walk.result.second c.end_walk-walk.ensures.call c.end_walk-walk.ensures.first c.end_walk-walk.ensures.second
-    c.args.lent.now c.end_walk-walk.new.lent c.requires.lent c.end_walk-walk.ensures.lent c.index_mut-seat.result.now c.requires.place c.requires.numbered c.index_mut-seat.ensures.value
+    ended_so c.self.inside c.self-2.inside c.args.self.now c.end_walk-walk.new.self c.self.view_is c.self-2.view_is
+    c.args.client c.args.place c.args.slots.now c.args.found.now c.requires.reached
+    c.end_walk-walk.ensures.world c.end_walk-walk.ensures.rest c.end_walk-walk.result.call c.end_walk-walk.result.first
+    c.end_walk-walk.result.second c.end_walk-walk.ensures.call c.end_walk-walk.ensures.first
+    c.end_walk-walk.ensures.second
+    c.args.lent.now c.end_walk-walk.new.lent c.requires.lent c.end_walk-walk.ensures.lent c.index_mut-seat.result.now
+    c.requires.place c.requires.numbered c.index_mut-seat.ensures.value
 
 pub perform-requires-clause-idle : goal.perform-requires-clause-idle
 perform-requires-clause-idle c =
-    seat_idle c.self.inside c.self-2.inside c.self.invariant c.self-2.invariant c.args.client c.args.place c.args.slots.now c.requires.distinct c.args.found.now (ended c).reached (ended c).world (ended c).inodes (ended c).spares
-    c.end_walk-walk.result.call (ended c).call_is c.end_walk-walk.result.first c.end_walk-walk.result.second (ended c).first_masks (ended c).second_masks c.end_walk-walk.new.lent (ended c).told (ap is_full (ended c).world ∙ sym c.is_full-is_full.ensures ∙ c.if-is_full.false) c.index_mut-seat.result.now (ended c).at c.requires.numbered
+    seat_idle c.self.inside c.self-2.inside c.self.invariant c.self-2.invariant c.args.client c.args.place
+    c.args.slots.now c.requires.distinct c.args.found.now (ended c).reached (ended c).world (ended c).inodes
+    (ended c).spares
+    c.end_walk-walk.result.call (ended c).call_is c.end_walk-walk.result.first c.end_walk-walk.result.second
+    (ended c).first_masks (ended c).second_masks c.end_walk-walk.new.lent (ended c).told (ap is_full (ended c).world
+    ∙ sym c.is_full-is_full.ensures ∙ c.if-is_full.false) c.index_mut-seat.result.now (ended c).at
+    c.requires.numbered
 
 pub perform-requires-clause-end : goal.perform-requires-clause-end
 perform-requires-clause-end c = (
@@ -56,38 +70,59 @@ perform-requires-clause-end c = (
   mark_of (world_of c.self-2.inside),
   spares_of c.self-2.inside.seats.items,
   c.args.place,
-  at_end c.self.inside c.self-2.inside c.self.invariant c.self-2.invariant c.args.client c.args.place c.args.slots.now c.requires.distinct c.args.found.now (ended c).reached (ended c).world (ended c).inodes (ended c).spares
-      c.end_walk-walk.result.call (ended c).call_is c.end_walk-walk.result.first c.end_walk-walk.result.second (ended c).first_masks (ended c).second_masks c.end_walk-walk.new.lent (ended c).told (ap is_full (ended c).world ∙ sym c.is_full-is_full.ensures ∙ c.if-is_full.false) c.index_mut-seat.result.now (ended c).at c.requires.numbered,
+  at_end c.self.inside c.self-2.inside c.self.invariant c.self-2.invariant c.args.client c.args.place c.args.slots.now
+      c.requires.distinct c.args.found.now (ended c).reached (ended c).world (ended c).inodes (ended c).spares
+      c.end_walk-walk.result.call (ended c).call_is c.end_walk-walk.result.first c.end_walk-walk.result.second
+      (ended c).first_masks (ended c).second_masks c.end_walk-walk.new.lent (ended c).told
+      (ap is_full (ended c).world ∙ sym c.is_full-is_full.ensures ∙ c.if-is_full.false) c.index_mut-seat.result.now
+      (ended c).at c.requires.numbered,
 )
 
 -- ---- memory ran out
 
-ended_starved : (c : goal.After-drop-in_default) → EndedSo c.self.inside c.self-2.inside c.args.client c.args.place c.args.slots.now c.args.found.now c.end_walk-walk.result.call c.end_walk-walk.result.first c.end_walk-walk.result.second c.end_walk-walk.new.lent c.index_mut-seat.result.now
+ended_starved : (c : goal.After-drop-in_default)
+    → EndedSo c.self.inside c.self-2.inside c.args.client c.args.place c.args.slots.now c.args.found.now
+    c.end_walk-walk.result.call c.end_walk-walk.result.first c.end_walk-walk.result.second c.end_walk-walk.new.lent
+    c.index_mut-seat.result.now
 ended_starved c =
-    ended_so c.self.inside c.self-2.inside c.args.self.now c.end_walk-walk.new.self c.self.view_is c.self-2.view_is c.args.client c.args.place c.args.slots.now c.args.found.now c.requires.reached
-    c.end_walk-walk.ensures.world c.end_walk-walk.ensures.rest c.end_walk-walk.result.call c.end_walk-walk.result.first c.end_walk-walk.result.second c.end_walk-walk.ensures.call c.end_walk-walk.ensures.first c.end_walk-walk.ensures.second
-    c.args.lent.now c.end_walk-walk.new.lent c.requires.lent c.end_walk-walk.ensures.lent c.index_mut-seat.result.now c.requires.place c.requires.numbered c.index_mut-seat.ensures.value
+    ended_so c.self.inside c.self-2.inside c.args.self.now c.end_walk-walk.new.self c.self.view_is c.self-2.view_is
+    c.args.client c.args.place c.args.slots.now c.args.found.now c.requires.reached
+    c.end_walk-walk.ensures.world c.end_walk-walk.ensures.rest c.end_walk-walk.result.call c.end_walk-walk.result.first
+    c.end_walk-walk.result.second c.end_walk-walk.ensures.call c.end_walk-walk.ensures.first
+    c.end_walk-walk.ensures.second
+    c.args.lent.now c.end_walk-walk.new.lent c.requires.lent c.end_walk-walk.ensures.lent c.index_mut-seat.result.now
+    c.requires.place c.requires.numbered c.index_mut-seat.ensures.value
 
 abbrev starved : goal.After-drop-in_default → Inside
-starved c = record c.self-2.inside { seats = with_item c.self-2.inside.seats c.args.place c.perform.new.self; table = c.perform.new.table }
+starved c = record c.self-2.inside
+    { seats = with_item c.self-2.inside.seats c.args.place c.perform.new.self; table = c.perform.new.table }
 
 -- as the walk's end left it
 starved_is : (c : goal.After-drop-in_default) → book_of (starved c) ≡ c.end_walk-walk.new.self
 starved_is c =
     let err = c.in_default.ensures.err in
     book_unchanged c.self-2.inside (starved c) refl refl refl refl
-    (ap (slice_set c.self-2.inside.seats.items c.args.place) err.0 ∙ set_again c.self-2.inside.seats.items c.args.place c.index_mut-seat.result.now (ended_starved c).at) err.1
+    (ap (slice_set c.self-2.inside.seats.items c.args.place) err.0
+    ∙ set_again c.self-2.inside.seats.items c.args.place c.index_mut-seat.result.now (ended_starved c).at) err.1
     ∙ c.self-2.view_is
 
 -- nothing refuses the call
-free_then : (c : goal.After-drop-in_default) → refusals (shown c.args.self.now.world) (client_of (shown c.args.self.now.world) c.args.client) c.requires.reached.walk.call ≡ []
+free_then : (c : goal.After-drop-in_default)
+    → refusals (shown c.args.self.now.world) (client_of (shown c.args.self.now.world) c.args.client)
+    c.requires.reached.walk.call ≡ []
 free_then c =
     let e = ended_starved c in
-    let tree : shown (world_of c.self-2.inside) ≡ shown c.args.self.now.world = ap shown (ap (λ (b : Book). b.world) c.self-2.view_is ∙ c.end_walk-walk.ensures.world) in
-    subst (λ (p : State × Call). refusals p.0 (client_of p.0 c.args.client) p.1 ≡ []) (λ i. (tree i, c.end_walk-walk.ensures.call c.requires.reached.walk c.requires.reached.ends.is i))
-    (c.in_default.ensures.starved (shown (world_of c.self-2.inside)) c.args.client (mark_of (world_of c.self-2.inside)) (spares_of c.self-2.inside.seats.items) c.args.place
-    (at_end c.self.inside c.self-2.inside c.self.invariant c.self-2.invariant c.args.client c.args.place c.args.slots.now c.requires.distinct c.args.found.now e.reached e.world e.inodes e.spares
-    c.end_walk-walk.result.call e.call_is c.end_walk-walk.result.first c.end_walk-walk.result.second e.first_masks e.second_masks c.end_walk-walk.new.lent e.told (ap is_full e.world ∙ sym c.is_full-is_full.ensures ∙ c.if-is_full.false) c.index_mut-seat.result.now e.at c.requires.numbered))
+    let tree : shown (world_of c.self-2.inside) ≡ shown c.args.self.now.world =
+    ap shown (ap (λ (b : Book). b.world) c.self-2.view_is ∙ c.end_walk-walk.ensures.world) in
+    subst (λ (p : State × Call). refusals p.0 (client_of p.0 c.args.client) p.1 ≡ [])
+    (λ i. (tree i, c.end_walk-walk.ensures.call c.requires.reached.walk c.requires.reached.ends.is i))
+    (c.in_default.ensures.starved (shown (world_of c.self-2.inside)) c.args.client (mark_of (world_of c.self-2.inside))
+    (spares_of c.self-2.inside.seats.items) c.args.place
+    (at_end c.self.inside c.self-2.inside c.self.invariant c.self-2.invariant c.args.client c.args.place
+    c.args.slots.now c.requires.distinct c.args.found.now e.reached e.world e.inodes e.spares
+    c.end_walk-walk.result.call e.call_is c.end_walk-walk.result.first c.end_walk-walk.result.second e.first_masks
+    e.second_masks c.end_walk-walk.new.lent e.told (ap is_full e.world ∙ sym c.is_full-is_full.ensures
+    ∙ c.if-is_full.false) c.index_mut-seat.result.now e.at c.requires.numbered))
 
 pub returns-in_default-clause-does : goal.returns-in_default-clause-does
 returns-in_default-clause-does c =
@@ -96,15 +131,18 @@ returns-in_default-clause-does c =
         walk = r.walk;
         is = r.ends.is;
         may = r.ends.may;
-        room = ap (λ (b : Book). is_full b.world) (sym c.self.view_is) ∙ sym c.is_full-is_full.ensures ∙ c.if-is_full.false;
-        granted = step_granted (shown c.args.self.now.world) c.args.client r.walk.call (next_number c.args.self.now.world) (free_then c);
+        room = ap (λ (b : Book). is_full b.world) (sym c.self.view_is) ∙ sym c.is_full-is_full.ensures
+            ∙ c.if-is_full.false;
+        granted = step_granted (shown c.args.self.now.world) c.args.client r.walk.call
+            (next_number c.args.self.now.world) (free_then c);
       },
       ap (λ (b : Book). b.world) (starved_is c) ∙ c.end_walk-walk.ensures.world,
     )
 
 pub returns-in_default-clause-lent : goal.returns-in_default-clause-lent
 returns-in_default-clause-lent c =
-    c.in_default.ensures.err.2 ∙ c.end_walk-walk.ensures.lent c.args.slots.now c.requires.lent ∙ ap (λ (b : Book). map (slot_of b) c.args.slots.now) (sym (starved_is c))
+    c.in_default.ensures.err.2 ∙ c.end_walk-walk.ensures.lent c.args.slots.now c.requires.lent
+    ∙ ap (λ (b : Book). map (slot_of b) c.args.slots.now) (sym (starved_is c))
 
 pub returns-in_default-clause-spares : goal.returns-in_default-clause-spares
 returns-in_default-clause-spares c =
@@ -114,89 +152,140 @@ returns-in_default-clause-spares c =
 
 -- ---- the call is answered
 
-ended_then : (c : goal.Joined-walk-2) → EndedSo c.self.inside c.self-2.inside c.args.client c.args.place c.args.slots.now c.args.found.now c.end_walk-walk.result.call c.end_walk-walk.result.first c.end_walk-walk.result.second c.end_walk-walk.new.lent c.index_mut-seat.result.now
+ended_then : (c : goal.Joined-walk-2)
+    → EndedSo c.self.inside c.self-2.inside c.args.client c.args.place c.args.slots.now c.args.found.now
+    c.end_walk-walk.result.call c.end_walk-walk.result.first c.end_walk-walk.result.second c.end_walk-walk.new.lent
+    c.index_mut-seat.result.now
 ended_then c =
-    ended_so c.self.inside c.self-2.inside c.args.self.now c.end_walk-walk.new.self c.self.view_is c.self-2.view_is c.args.client c.args.place c.args.slots.now c.args.found.now c.requires.reached
-    c.end_walk-walk.ensures.world c.end_walk-walk.ensures.rest c.end_walk-walk.result.call c.end_walk-walk.result.first c.end_walk-walk.result.second c.end_walk-walk.ensures.call c.end_walk-walk.ensures.first c.end_walk-walk.ensures.second
-    c.args.lent.now c.end_walk-walk.new.lent c.requires.lent c.end_walk-walk.ensures.lent c.index_mut-seat.result.now c.requires.place c.requires.numbered c.index_mut-seat.ensures.value
+    ended_so c.self.inside c.self-2.inside c.args.self.now c.end_walk-walk.new.self c.self.view_is c.self-2.view_is
+    c.args.client c.args.place c.args.slots.now c.args.found.now c.requires.reached
+    c.end_walk-walk.ensures.world c.end_walk-walk.ensures.rest c.end_walk-walk.result.call c.end_walk-walk.result.first
+    c.end_walk-walk.result.second c.end_walk-walk.ensures.call c.end_walk-walk.ensures.first
+    c.end_walk-walk.ensures.second
+    c.args.lent.now c.end_walk-walk.new.lent c.requires.lent c.end_walk-walk.ensures.lent c.index_mut-seat.result.now
+    c.requires.place c.requires.numbered c.index_mut-seat.ensures.value
 
 abbrev after : goal.Joined-walk-2 → Inside
-after c = record c.self-2.inside { history = c.push.new.self; seats = c.overtake_moved.new.seats; table = c.perform.new.table }
+after c = record c.self-2.inside
+    { history = c.push.new.self; seats = c.overtake_moved.new.seats; table = c.perform.new.table }
 
 abbrev walk_then : goal.Joined-walk-2 → Walk
 walk_then c = (ended_then c).reached.walk
 
-performs : (c : goal.Joined-walk-2) → Performs (shown (world_of c.self-2.inside)) c.args.client (mark_of (world_of c.self-2.inside)) (spares_of c.self-2.inside.seats.items) c.args.place c.self-2.inside.table c.args.slots.now (walk_then c).call
+performs : (c : goal.Joined-walk-2)
+    → Performs (shown (world_of c.self-2.inside)) c.args.client (mark_of (world_of c.self-2.inside))
+    (spares_of c.self-2.inside.seats.items) c.args.place c.self-2.inside.table c.args.slots.now (walk_then c).call
     c.in-Ok.told c.perform.new.self.client c.perform.new.self.spare c.perform.new.table c.perform.new.lent
 performs c =
-    subst (λ (call : Call). Performs (shown (world_of c.self-2.inside)) c.args.client (mark_of (world_of c.self-2.inside)) (spares_of c.self-2.inside.seats.items) c.args.place c.self-2.inside.table c.args.slots.now call
-    c.in-Ok.told c.perform.new.self.client c.perform.new.self.spare c.perform.new.table c.perform.new.lent) (ended_then c).call_is
-    (c.in-Ok.ensures.ok (shown (world_of c.self-2.inside)) c.args.client (mark_of (world_of c.self-2.inside)) (spares_of c.self-2.inside.seats.items) c.args.place
-    (at_end c.self.inside c.self-2.inside c.self.invariant c.self-2.invariant c.args.client c.args.place c.args.slots.now c.requires.distinct c.args.found.now (ended_then c).reached (ended_then c).world (ended_then c).inodes (ended_then c).spares
-    c.end_walk-walk.result.call (ended_then c).call_is c.end_walk-walk.result.first c.end_walk-walk.result.second (ended_then c).first_masks (ended_then c).second_masks c.end_walk-walk.new.lent (ended_then c).told (ap is_full (ended_then c).world ∙ sym c.is_full-is_full.ensures ∙ c.if-is_full.false) c.index_mut-seat.result.now (ended_then c).at c.requires.numbered))
+    subst (λ (call : Call). Performs (shown (world_of c.self-2.inside)) c.args.client
+    (mark_of (world_of c.self-2.inside)) (spares_of c.self-2.inside.seats.items) c.args.place c.self-2.inside.table
+    c.args.slots.now call
+    c.in-Ok.told c.perform.new.self.client c.perform.new.self.spare c.perform.new.table c.perform.new.lent)
+    (ended_then c).call_is
+    (c.in-Ok.ensures.ok (shown (world_of c.self-2.inside)) c.args.client (mark_of (world_of c.self-2.inside))
+    (spares_of c.self-2.inside.seats.items) c.args.place
+    (at_end c.self.inside c.self-2.inside c.self.invariant c.self-2.invariant c.args.client c.args.place
+    c.args.slots.now c.requires.distinct c.args.found.now (ended_then c).reached (ended_then c).world
+    (ended_then c).inodes (ended_then c).spares
+    c.end_walk-walk.result.call (ended_then c).call_is c.end_walk-walk.result.first c.end_walk-walk.result.second
+    (ended_then c).first_masks (ended_then c).second_masks c.end_walk-walk.new.lent (ended_then c).told
+    (ap is_full (ended_then c).world ∙ sym c.is_full-is_full.ensures ∙ c.if-is_full.false)
+    c.index_mut-seat.result.now (ended_then c).at c.requires.numbered))
 
-moves : (c : goal.Joined-walk-2) → moved_list c.moved_by.result ≡ moved_by (shown (world_of c.self-2.inside)) (walk_then c).call c.in-Ok.told
+moves : (c : goal.Joined-walk-2)
+    → moved_list c.moved_by.result ≡ moved_by (shown (world_of c.self-2.inside)) (walk_then c).call c.in-Ok.told
 moves c =
     let r = (ended_then c).reached in
     let tree : shown (world_of c.self-2.inside) ≡ shown (world_of c.self.inside) = ap shown (ended_then c).world in
     c.moved_by.ensures (shown (world_of c.self-2.inside))
-    (subst (λ (p : State × Call). AreFacts p.0 p.1 c.args.found.now) (λ i. (sym tree i, sym (ended_then c).call_is i)) r.facts) r.old.way r.new.way
-    (no_zero (shown (world_of c.self-2.inside)) (spares_of c.self-2.inside.seats.items) c.self-2.inside.table c.self-2.invariant.table)
+    (subst (λ (p : State × Call). AreFacts p.0 p.1 c.args.found.now) (λ i. (sym tree i, sym (ended_then c).call_is i))
+    r.facts) r.old.way r.new.way
+    (no_zero (shown (world_of c.self-2.inside)) (spares_of c.self-2.inside.seats.items) c.self-2.inside.table
+    c.self-2.invariant.table)
     ∙ ap (moved_by (shown (world_of c.self-2.inside)) c.end_walk-walk.result.call) c.split-reply.ensures.entry
     ∙ ap (λ (call : Call). moved_by (shown (world_of c.self-2.inside)) call c.in-Ok.told) (ended_then c).call_is
 
-entry_is : (c : goal.Joined-walk-2) → c.push.new.self ≡ entered c.self-2.inside c.args.client (walk_then c).call c.in-Ok.told
+entry_is : (c : goal.Joined-walk-2)
+    → c.push.new.self ≡ entered c.self-2.inside c.args.client (walk_then c).call c.in-Ok.told
 entry_is c =
     c.push.ensures ∙ ap (entered c.self-2.inside c.args.client c.end_walk-walk.result.call) c.split-reply.ensures.entry
     ∙ ap (λ (call : Call). entered c.self-2.inside c.args.client call c.in-Ok.told) (ended_then c).call_is
 
 idle_then : (c : goal.Joined-walk-2) → c.index_mut-seat.result.now.walk ≡ None
 idle_then c =
-    seat_idle c.self.inside c.self-2.inside c.self.invariant c.self-2.invariant c.args.client c.args.place c.args.slots.now c.requires.distinct c.args.found.now (ended_then c).reached (ended_then c).world (ended_then c).inodes (ended_then c).spares
-    c.end_walk-walk.result.call (ended_then c).call_is c.end_walk-walk.result.first c.end_walk-walk.result.second (ended_then c).first_masks (ended_then c).second_masks c.end_walk-walk.new.lent (ended_then c).told (ap is_full (ended_then c).world ∙ sym c.is_full-is_full.ensures ∙ c.if-is_full.false) c.index_mut-seat.result.now (ended_then c).at c.requires.numbered
+    seat_idle c.self.inside c.self-2.inside c.self.invariant c.self-2.invariant c.args.client c.args.place
+    c.args.slots.now c.requires.distinct c.args.found.now (ended_then c).reached (ended_then c).world
+    (ended_then c).inodes (ended_then c).spares
+    c.end_walk-walk.result.call (ended_then c).call_is c.end_walk-walk.result.first c.end_walk-walk.result.second
+    (ended_then c).first_masks (ended_then c).second_masks c.end_walk-walk.new.lent (ended_then c).told
+    (ap is_full (ended_then c).world ∙ sym c.is_full-is_full.ensures ∙ c.if-is_full.false)
+    c.index_mut-seat.result.now (ended_then c).at c.requires.numbered
 
 pub invariant_of-self-2 : goal.invariant_of-self-2
 invariant_of-self-2 c =
-    committed_kept c.self.inside c.self-2.inside (after c) c.self.invariant c.self-2.invariant c.args.client c.args.place (walk_then c) (ended_then c).reached.ends.is (ended_then c).reached.ends.may
-    (ended_then c).world (ap is_full (ended_then c).world ∙ sym c.is_full-is_full.ensures ∙ c.if-is_full.false) c.index_mut-seat.result.now (ended_then c).at c.requires.numbered c.in-Ok.told c.perform.new.self.client c.perform.new.self.spare c.perform.new.lent c.args.slots.now (performs c)
-    c.perform.new.self refl refl (c.in-Ok.ensures.rest ∙ sym (idle_then c)) (moved_list c.moved_by.result) (moves c) c.overtake_moved.ensures (entry_is c) refl refl refl
+    committed_kept c.self.inside c.self-2.inside (after c) c.self.invariant c.self-2.invariant c.args.client
+    c.args.place (walk_then c) (ended_then c).reached.ends.is (ended_then c).reached.ends.may
+    (ended_then c).world (ap is_full (ended_then c).world ∙ sym c.is_full-is_full.ensures ∙ c.if-is_full.false)
+    c.index_mut-seat.result.now (ended_then c).at c.requires.numbered c.in-Ok.told c.perform.new.self.client
+    c.perform.new.self.spare c.perform.new.lent c.args.slots.now (performs c)
+    c.perform.new.self refl refl (c.in-Ok.ensures.rest ∙ sym (idle_then c)) (moved_list c.moved_by.result) (moves c)
+    c.overtake_moved.ensures (entry_is c) refl refl refl
 
 pub returns-clause-does : goal.returns-clause-does
 returns-clause-does c = (
   ap (λ (b : Book). is_full b.world) (sym c.self.view_is) ∙ sym c.is_full-is_full.ensures ∙ c.if-is_full.false,
   subst (λ (p : Book × Reply). advance p.0.world (Commit c.args.client) ≡ (Replied p.1, world_of (after c)))
       (λ i. (c.self.view_is i, sym c.split-reply.ensures.caller i))
-      (committed_step c.self.inside c.self-2.inside (after c) c.self.invariant c.self-2.invariant c.args.client c.args.place (walk_then c) (ended_then c).reached.ends.is (ended_then c).reached.ends.may
-      (ended_then c).world (ap is_full (ended_then c).world ∙ sym c.is_full-is_full.ensures ∙ c.if-is_full.false) c.index_mut-seat.result.now (ended_then c).at c.requires.numbered c.in-Ok.told c.perform.new.self.client c.perform.new.self.spare c.perform.new.lent c.args.slots.now (performs c)
-      c.perform.new.self refl refl (c.in-Ok.ensures.rest ∙ sym (idle_then c)) (moved_list c.moved_by.result) (moves c) c.overtake_moved.ensures (entry_is c) refl refl refl),
+      (committed_step c.self.inside c.self-2.inside (after c) c.self.invariant c.self-2.invariant c.args.client
+      c.args.place (walk_then c) (ended_then c).reached.ends.is (ended_then c).reached.ends.may
+      (ended_then c).world (ap is_full (ended_then c).world ∙ sym c.is_full-is_full.ensures ∙ c.if-is_full.false)
+      c.index_mut-seat.result.now (ended_then c).at c.requires.numbered c.in-Ok.told c.perform.new.self.client
+      c.perform.new.self.spare c.perform.new.lent c.args.slots.now (performs c)
+      c.perform.new.self refl refl (c.in-Ok.ensures.rest ∙ sym (idle_then c)) (moved_list c.moved_by.result) (moves c)
+      c.overtake_moved.ensures (entry_is c) refl refl refl),
 )
 
 pub returns-clause-lent : goal.returns-clause-lent
 returns-clause-lent c =
-    committed_lent c.self.inside c.self-2.inside (after c) c.self.invariant c.self-2.invariant c.args.client c.args.place (walk_then c) (ended_then c).reached.ends.is (ended_then c).reached.ends.may
-    (ended_then c).world (ap is_full (ended_then c).world ∙ sym c.is_full-is_full.ensures ∙ c.if-is_full.false) c.index_mut-seat.result.now (ended_then c).at c.requires.numbered c.in-Ok.told c.perform.new.self.client c.perform.new.self.spare c.perform.new.lent c.args.slots.now (performs c)
-    c.perform.new.self refl refl (c.in-Ok.ensures.rest ∙ sym (idle_then c)) (moved_list c.moved_by.result) (moves c) c.overtake_moved.ensures (entry_is c) refl refl refl
+    committed_lent c.self.inside c.self-2.inside (after c) c.self.invariant c.self-2.invariant c.args.client
+    c.args.place (walk_then c) (ended_then c).reached.ends.is (ended_then c).reached.ends.may
+    (ended_then c).world (ap is_full (ended_then c).world ∙ sym c.is_full-is_full.ensures ∙ c.if-is_full.false)
+    c.index_mut-seat.result.now (ended_then c).at c.requires.numbered c.in-Ok.told c.perform.new.self.client
+    c.perform.new.self.spare c.perform.new.lent c.args.slots.now (performs c)
+    c.perform.new.self refl refl (c.in-Ok.ensures.rest ∙ sym (idle_then c)) (moved_list c.moved_by.result) (moves c)
+    c.overtake_moved.ensures (entry_is c) refl refl refl
 
 pub returns-clause-spares : goal.returns-clause-spares
 returns-clause-spares c =
     let r = c.requires.reached in
-    spares_both c.args.self.now c.end_walk-walk.new.self (book_of (after c)) c.args.slots.now (c.end_walk-walk.ensures.spares c.args.slots.now r.walk r.ends.is r.ends.marked)
+    spares_both c.args.self.now c.end_walk-walk.new.self (book_of (after c)) c.args.slots.now
+    (c.end_walk-walk.ensures.spares c.args.slots.now r.walk r.ends.is r.ends.marked)
     (subst (λ (b : Book). Spares b (book_of (after c)) c.args.slots.now) c.self-2.view_is
-    (committed_spares c.self.inside c.self-2.inside (after c) c.self.invariant c.self-2.invariant c.args.client c.args.place (walk_then c) (ended_then c).reached.ends.is (ended_then c).reached.ends.may
-    (ended_then c).world (ap is_full (ended_then c).world ∙ sym c.is_full-is_full.ensures ∙ c.if-is_full.false) c.index_mut-seat.result.now (ended_then c).at c.requires.numbered c.in-Ok.told c.perform.new.self.client c.perform.new.self.spare c.perform.new.lent c.args.slots.now (performs c)
-    c.perform.new.self refl refl (c.in-Ok.ensures.rest ∙ sym (idle_then c)) (moved_list c.moved_by.result) (moves c) c.overtake_moved.ensures (entry_is c) refl refl refl))
+    (committed_spares c.self.inside c.self-2.inside (after c) c.self.invariant c.self-2.invariant c.args.client
+    c.args.place (walk_then c) (ended_then c).reached.ends.is (ended_then c).reached.ends.may
+    (ended_then c).world (ap is_full (ended_then c).world ∙ sym c.is_full-is_full.ensures ∙ c.if-is_full.false)
+    c.index_mut-seat.result.now (ended_then c).at c.requires.numbered c.in-Ok.told c.perform.new.self.client
+    c.perform.new.self.spare c.perform.new.lent c.args.slots.now (performs c)
+    c.perform.new.self refl refl (c.in-Ok.ensures.rest ∙ sym (idle_then c)) (moved_list c.moved_by.result) (moves c)
+    c.overtake_moved.ensures (entry_is c) refl refl refl))
 
 pub returns-in_default-clause-rest : goal.returns-in_default-clause-rest
 returns-in_default-clause-rest c =
-    inl (starved_is c ∙ c.end_walk-walk.ensures.rest ∙ ap (λ (w : World). record c.args.self.now { world = w }) (ap (λ (b : Book). b.world) (sym (starved_is c))))
+    inl (starved_is c ∙ c.end_walk-walk.ensures.rest
+    ∙ ap (λ (w : World). record c.args.self.now { world = w }) (ap (λ (b : Book). b.world) (sym (starved_is c))))
 
 pub returns-clause-rest : goal.returns-clause-rest
 returns-clause-rest c =
     subst (λ (b : Book). LeavesFree b c.args.client c.args.slots.now (book_of (after c))) c.self.view_is
-    (committed_rest c.self.inside c.self-2.inside (after c) c.self.invariant c.self-2.invariant c.args.client c.args.place (walk_then c) (ended_then c).reached.ends.is (ended_then c).reached.ends.may
-    (ended_then c).world (ap is_full (ended_then c).world ∙ sym c.is_full-is_full.ensures ∙ c.if-is_full.false) c.index_mut-seat.result.now (ended_then c).at c.requires.numbered c.in-Ok.told c.perform.new.self.client c.perform.new.self.spare c.perform.new.lent c.args.slots.now (performs c)
-    c.perform.new.self refl refl (c.in-Ok.ensures.rest ∙ sym (idle_then c)) (moved_list c.moved_by.result) (moves c) c.overtake_moved.ensures (entry_is c) refl refl refl
-    (ended_then c).inodes (ap (λ (b : Book). b.free) (c.self-2.view_is ∙ c.end_walk-walk.ensures.rest) ∙ ap (λ (b : Book). b.free) (sym c.self.view_is)) (ended_then c).spares)
+    (committed_rest c.self.inside c.self-2.inside (after c) c.self.invariant c.self-2.invariant c.args.client
+    c.args.place (walk_then c) (ended_then c).reached.ends.is (ended_then c).reached.ends.may
+    (ended_then c).world (ap is_full (ended_then c).world ∙ sym c.is_full-is_full.ensures ∙ c.if-is_full.false)
+    c.index_mut-seat.result.now (ended_then c).at c.requires.numbered c.in-Ok.told c.perform.new.self.client
+    c.perform.new.self.spare c.perform.new.lent c.args.slots.now (performs c)
+    c.perform.new.self refl refl (c.in-Ok.ensures.rest ∙ sym (idle_then c)) (moved_list c.moved_by.result) (moves c)
+    c.overtake_moved.ensures (entry_is c) refl refl refl
+    (ended_then c).inodes (ap (λ (b : Book). b.free) (c.self-2.view_is ∙ c.end_walk-walk.ensures.rest)
+    ∙ ap (λ (b : Book). b.free) (sym c.self.view_is)) (ended_then c).spares)
 
 -- ---- what is plain
 
@@ -205,28 +294,36 @@ end_walk-walk-requires-clause-walk c = (c.requires.reached.walk, c.requires.reac
 
 pub index_mut-seat-requires : goal.index_mut-seat-requires
 index_mut-seat-requires c =
-    let within : c.args.place < length c.self-2.inside.seats.items = place_within c.self-2.inside c.end_walk-walk.new.self c.self-2.view_is c.args.place
+    let within : c.args.place < length c.self-2.inside.seats.items =
+    place_within c.self-2.inside c.end_walk-walk.new.self c.self-2.view_is c.args.place
     (subst (λ (b : Book). c.args.place < length b.spares) (sym c.end_walk-walk.ensures.rest) c.requires.place) in
     search rules
 
 pub push-requires : goal.push-requires
 push-requires c =
     leb-false c.self-2.inside.history.limit (length c.self-2.inside.history.entries)
-    (ap (λ (b : Book). is_full b.world) c.self-2.view_is ∙ ap is_full c.end_walk-walk.ensures.world ∙ ap (λ (b : Book). is_full b.world) (sym c.self.view_is) ∙ sym c.is_full-is_full.ensures ∙ c.if-is_full.false)
+    (ap (λ (b : Book). is_full b.world) c.self-2.view_is ∙ ap is_full c.end_walk-walk.ensures.world
+    ∙ ap (λ (b : Book). is_full b.world) (sym c.self.view_is) ∙ sym c.is_full-is_full.ensures ∙ c.if-is_full.false)
 
 pub returns-then-is_full-clause-lent : goal.returns-then-is_full-clause-lent
 returns-then-is_full-clause-lent c = c.end_walk-walk.ensures.lent c.args.slots.now c.requires.lent
 
 pub returns-then-is_full-clause-spares : goal.returns-then-is_full-clause-spares
-returns-then-is_full-clause-spares c = c.end_walk-walk.ensures.spares c.args.slots.now c.requires.reached.walk c.requires.reached.ends.is c.requires.reached.ends.marked
+returns-then-is_full-clause-spares c =
+    c.end_walk-walk.ensures.spares c.args.slots.now c.requires.reached.walk c.requires.reached.ends.is
+    c.requires.reached.ends.marked
 
 pub returns-then-is_full-clause-rest : goal.returns-then-is_full-clause-rest
 returns-then-is_full-clause-rest c = inl c.end_walk-walk.ensures.rest
 
 pub returns-in_default-clause-calm : goal.returns-in_default-clause-calm
 returns-in_default-clause-calm c e =
-    let r = c.requires.reached in
-    (r.walk, r.ends.is, or_false (spares_memory r.walk.call) (λ h. cc (c.in_default.ensures.calm (ap spares_memory (c.end_walk-walk.ensures.call r.walk r.ends.is) ∙ h))))
+    let r = c.requires.reached in (
+      r.walk,
+      r.ends.is,
+      or_false (spares_memory r.walk.call)
+          (λ h. cc (c.in_default.ensures.calm (ap spares_memory (c.end_walk-walk.ensures.call r.walk r.ends.is) ∙ h))),
+    )
 
 pub returns-clause-calm : goal.returns-clause-calm
 returns-clause-calm c e = absurd (cc e)

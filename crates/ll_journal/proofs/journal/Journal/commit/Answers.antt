@@ -1,6 +1,6 @@
 use Rattle.std.proofs.Common.{◌≡◌, ◌<◌, length, ap, refl, sym, subst, ◌∙◌, inl}
-use Rattle.ll_walks.specs.World.{NotNow, advance}
-use Rattle.ll_walks.specs.declared.step.Step.TheVariants.{Commit}
+use Rattle.ll_worlds.specs.World.{NotNow, advance}
+use Rattle.ll_worlds.specs.declared.step.Step.TheVariants.{Commit}
 use Rattle.ll_journal.specs.Book.{Book}
 use Rattle.ll_journal.specs.Kept.{seat_at, world_of}
 use Rattle.ll_journal.proofs.Advancing.{commit_none}
@@ -12,14 +12,17 @@ use Rattle.ll_journal.proofs.journal.Journal.commit.Goals as goal
 pub returns-in_default-clause-does : goal.returns-in_default-clause-does
 returns-in_default-clause-does c =
     subst (λ (b : Book). advance b.world (Commit c.args.client) ≡ (NotNow, b.world)) c.self.view_is
-    (commit_none (world_of c.self.inside) c.args.client (no_walk c.self.inside c.args.client (ap (λ xs. seat_at xs c.args.client) (sym c.deref.ensures.value) ∙ c.in_default.ensures.none)))
+    (commit_none (world_of c.self.inside) c.args.client
+    (no_walk c.self.inside c.args.client (ap (λ xs. seat_at xs c.args.client) (sym c.deref.ensures.value)
+    ∙ c.in_default.ensures.none)))
 
 pub returns-in_default-clause-rest : goal.returns-in_default-clause-rest
 returns-in_default-clause-rest c = inl refl
 
 pub stop-requires-clause-place : goal.stop-requires-clause-place
 stop-requires-clause-place c =
-    subst (λ n. c.in-Some.place < n) (ap length c.deref.ensures.value ∙ sym (many_spares c.self.inside.seats.items) ∙ ap (λ (b : Book). length b.spares) c.self.view_is) c.in-Some.ensures.some.1
+    subst (λ n. c.in-Some.place < n) (ap length c.deref.ensures.value ∙ sym (many_spares c.self.inside.seats.items)
+    ∙ ap (λ (b : Book). length b.spares) c.self.view_is) c.in-Some.ensures.some.1
 
 -- the walk stays where it is
 pub returns-in-NotNow-clause-does : goal.returns-in-NotNow-clause-does
@@ -37,7 +40,8 @@ returns-in-Astray-clause-rest c = inl refl
 -- it can't go on
 pub refuse-requires-clause-place : goal.refuse-requires-clause-place
 refuse-requires-clause-place c =
-    subst (λ n. c.in-Some.place < n) (ap length c.deref.ensures.value ∙ sym (many_spares c.self.inside.seats.items) ∙ ap (λ (b : Book). length b.spares) c.self.view_is) c.in-Some.ensures.some.1
+    subst (λ n. c.in-Some.place < n) (ap length c.deref.ensures.value ∙ sym (many_spares c.self.inside.seats.items)
+    ∙ ap (λ (b : Book). length b.spares) c.self.view_is) c.in-Some.ensures.some.1
 
 pub returns-in-Blocked-clause-does : goal.returns-in-Blocked-clause-does
 returns-in-Blocked-clause-does c = c.refuse.ensures.does
@@ -54,7 +58,8 @@ returns-in-Blocked-clause-calm c e = absurd (c.refuse.ensures.calm e)
 -- it is answered
 pub answer-requires-clause-place : goal.answer-requires-clause-place
 answer-requires-clause-place c =
-    subst (λ n. c.in-Some.place < n) (ap length c.deref.ensures.value ∙ sym (many_spares c.self.inside.seats.items) ∙ ap (λ (b : Book). length b.spares) c.self.view_is) c.in-Some.ensures.some.1
+    subst (λ n. c.in-Some.place < n) (ap length c.deref.ensures.value ∙ sym (many_spares c.self.inside.seats.items)
+    ∙ ap (λ (b : Book). length b.spares) c.self.view_is) c.in-Some.ensures.some.1
 
 pub returns-in-Reached-clause-does : goal.returns-in-Reached-clause-does
 returns-in-Reached-clause-does c = c.answer.ensures.does

@@ -5,4 +5,6 @@ use Rattle.ll_journal.proofs.Opened.{kept}
 use Rattle.ll_journal.proofs.journal.Journal.new.Goals as goal
 
 pub invariant_of-result : goal.invariant_of-result
-invariant_of-result c = kept _ (ap (λ (log : Log). log.entries) c.in_ok-new.ensures) c.in_ok-with_capacity.ensures.items refl (subst (λ (log : Log). log.limit ≤ HISTORY_ENTRIES) (sym c.in_ok-new.ensures) c.requires.entries) c.in_ok-new-2.ensures.table
+invariant_of-result c = kept _ (ap (λ (log : Log). log.entries) c.in_ok-new.ensures) c.in_ok-with_capacity.ensures.items
+    refl (subst (λ (log : Log). log.limit ≤ HISTORY_ENTRIES) (sym c.in_ok-new.ensures) c.requires.entries)
+    c.in_ok-new-2.ensures.table

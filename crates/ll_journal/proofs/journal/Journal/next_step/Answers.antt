@@ -3,5 +3,6 @@ use Rattle.ll_journal.proofs.journal.Journal.next_step.Goals as goal
 
 pub returns-in-Trunk-clause-comes : goal.returns-in-Trunk-clause-comes
 returns-in-Trunk-clause-comes c here =
-    at_stop c.args.self.now c.args.client c.args.slot c.end_slots.result c.station.result c.station.ensures (leads_so c.station.result c.in-Trunk.is)
+    at_stop c.args.self.now c.args.client c.args.slot c.end_slots.result c.station.result c.station.ensures
+    (leads_so c.station.result c.in-Trunk.is)
     c.in_default.ensures.none c.end_slots.ensures.enough c.end_slots.ensures.only here

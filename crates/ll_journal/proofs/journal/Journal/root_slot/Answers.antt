@@ -10,8 +10,10 @@ unreachable-requires c = root_placed c.self.inside c.self.invariant (sym c.slot.
 
 pub returns-clause-root : goal.returns-clause-root
 returns-clause-root c =
-    subst (λ (b : Book). inode_in b c.in-Some.slot ≡ root) c.self.view_is (is_placed c.self.inside c.self.invariant root (Some c.in-Some.slot) (sym c.in-Some.is ∙ c.slot.ensures)).lies
+    subst (λ (b : Book). inode_in b c.in-Some.slot ≡ root) c.self.view_is
+    (is_placed c.self.inside c.self.invariant root (Some c.in-Some.slot) (sym c.in-Some.is ∙ c.slot.ensures)).lies
 
 pub returns-clause-within : goal.returns-clause-within
 returns-clause-within c =
-    subst (λ (b : Book). c.in-Some.slot < length b.inodes) c.self.view_is (is_placed c.self.inside c.self.invariant root (Some c.in-Some.slot) (sym c.in-Some.is ∙ c.slot.ensures)).within
+    subst (λ (b : Book). c.in-Some.slot < length b.inodes) c.self.view_is
+    (is_placed c.self.inside c.self.invariant root (Some c.in-Some.slot) (sym c.in-Some.is ∙ c.slot.ensures)).within

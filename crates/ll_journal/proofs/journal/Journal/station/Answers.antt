@@ -8,12 +8,15 @@ use Rattle.ll_journal.proofs.journal.Journal.station.Goals as goal
 
 pub returns-in-None : goal.returns-in-None
 returns-in-None c =
-    sym (ap station_of (no_walk c.self.inside c.args.client (ap (λ xs. seat_at xs c.args.client) (sym c.deref.ensures.value) ∙ c.in-None.ensures.none)))
+    sym (ap station_of (no_walk c.self.inside c.args.client
+    (ap (λ xs. seat_at xs c.args.client) (sym c.deref.ensures.value) ∙ c.in-None.ensures.none)))
     ∙ ap (λ (b : Book). station_in b.world c.args.client) c.self.view_is
 
 pub returns-in-Some : goal.returns-in-Some
 returns-in-Some c =
-    let at = at_place c.self.inside.seats.items c.deref.result.now c.args.client c.in-Some.place c.index.result.now c.deref.ensures.value c.in-Some.ensures.some c.index.ensures in
+    let at = at_place c.self.inside.seats.items c.deref.result.now c.args.client c.in-Some.place c.index.result.now
+    c.deref.ensures.value c.in-Some.ensures.some c.index.ensures in
     c.station.ensures
-    ∙ sym (ap station_of (walk_here c.self.inside c.self.invariant c.args.client c.in-Some.place c.index.result.now at c.in-Some.ensures.some.0))
+    ∙ sym (ap station_of (walk_here c.self.inside c.self.invariant c.args.client c.in-Some.place c.index.result.now at
+    c.in-Some.ensures.some.0))
     ∙ ap (λ (b : Book). station_in b.world c.args.client) c.self.view_is

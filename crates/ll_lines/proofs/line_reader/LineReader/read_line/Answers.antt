@@ -6,22 +6,27 @@ use Rattle.ll_lines.proofs.line_reader.LineReader.read_line.Goals as goal
 
 pub returns-then-byte-eq10-clause-line : goal.returns-then-byte-eq10-clause-line
 returns-then-byte-eq10-clause-line g c left is =
-    byte_last _ (IsLeft c.next_byte.new.self (g.R.Read.remaining c.next_byte.new.reader)) _ c.in_ok-byte.ensures.byte c.loop-byte.line _ left c.in-Some.byte c.in-Some.is c.if-byte-eq10.true c.in-Ok.ensures
+    byte_last _ (IsLeft c.next_byte.new.self (g.R.Read.remaining c.next_byte.new.reader)) _ c.in_ok-byte.ensures.byte
+    c.loop-byte.line _ left c.in-Some.byte c.in-Some.is c.if-byte-eq10.true c.in-Ok.ensures
     (c.loop-byte.invariant.line left is)
 
 pub loop-byte-preserved : goal.loop-byte-preserved
 loop-byte-preserved g c =
     let i = c.loop-byte.invariant in
-    let taken : most_left c.next_byte.new.self < most_left c.loop-byte.self = rw c.in-Some.is at c.in_ok-byte.ensures.fewer in
+    let taken : most_left c.next_byte.new.self < most_left c.loop-byte.self =
+    rw c.in-Some.is at c.in_ok-byte.ensures.fewer in
     let sooner : most_left c.next_byte.new.self < most_left c.args.self.now = omega (arith, taken, i.fewer) in record {
-      line = λ left is. byte_more _ (IsLeft c.next_byte.new.self (g.R.Read.remaining c.next_byte.new.reader)) _ c.in_ok-byte.ensures.byte c.loop-byte.line _ left c.in-Some.byte c.in-Some.is c.if-byte-eq10.false
+      line = λ left is. byte_more _ (IsLeft c.next_byte.new.self (g.R.Read.remaining c.next_byte.new.reader)) _
+          c.in_ok-byte.ensures.byte c.loop-byte.line _ left c.in-Some.byte c.in-Some.is c.if-byte-eq10.false
           c.in-Ok.ensures (i.line left is);
       some = inr sooner;
       fewer = omega (arith, sooner);
-      counted = counts_more c.args.self.now c.loop-byte.self c.next_byte.new.self _ _ _ i.counted c.in_ok-byte.ensures.counted;
+      counted = counts_more c.args.self.now c.loop-byte.self c.next_byte.new.self _ _ _ i.counted
+          c.in_ok-byte.ensures.counted;
     }
 
 pub returns-clause-line : goal.returns-clause-line
 returns-clause-line g c left is =
-    no_byte _ (IsLeft c.next_byte.new.self (g.R.Read.remaining c.next_byte.new.reader)) _ c.in_ok-byte.ensures.byte c.loop-byte.line c.loop-byte.line left c.is_empty.result c.in_default.is c.is_empty.ensures
+    no_byte _ (IsLeft c.next_byte.new.self (g.R.Read.remaining c.next_byte.new.reader)) _ c.in_ok-byte.ensures.byte
+    c.loop-byte.line c.loop-byte.line left c.is_empty.result c.in_default.is c.is_empty.ensures
     (c.loop-byte.invariant.line left is)

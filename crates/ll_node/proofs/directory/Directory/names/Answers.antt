@@ -24,8 +24,10 @@ loop-text-init c =
 -- the names so far and this one begin the table's, which are listed
 pub push-requires : goal.push-requires
 push-requires c =
-    let begins : c.loop-text.listing ++ c.in_ok-from_text.field-0 ∷ texts_told c.next.new.self ≡ texts_told (keys c.self.inside.rows) =
-    ap (λ (name : List ℕ). c.loop-text.listing ++ name ∷ texts_told c.next.new.self) (c.in_ok-from_text.ensures ∙ c.as_str.ensures.value)
+    let begins : c.loop-text.listing ++ c.in_ok-from_text.field-0 ∷ texts_told c.next.new.self
+    ≡ texts_told (keys c.self.inside.rows) =
+    ap (λ (name : List ℕ). c.loop-text.listing ++ name ∷ texts_told c.next.new.self) (c.in_ok-from_text.ensures
+    ∙ c.as_str.ensures.value)
     ∙ sym (ap (λ (texts : List (String Global)). c.loop-text.listing ++ texts_told texts) c.in-Some.ensures.steps)
     ∙ c.loop-text.invariant
     ∙ sym (ap names_told c.self.view_is)

@@ -5,7 +5,8 @@ use Rattle.ll_node.proofs.NameTable.{get-names_kept, names_kept-remove, AreRows-
 use Rattle.ll_node.proofs.directory.Directory.remove.Goals as goal
 
 pub invariant_of-self : goal.invariant_of-self
-invariant_of-self c = AreRows-remove c.self.inside.rows c.remove.new.self _ c.remove.ensures.entries c.remove.ensures.ordered c.self.invariant
+invariant_of-self c = AreRows-remove c.self.inside.rows c.remove.new.self _ c.remove.ensures.entries
+    c.remove.ensures.ordered c.self.invariant
 
 pub returns-clause-found : goal.returns-clause-found
 returns-clause-found c =
@@ -15,5 +16,6 @@ returns-clause-found c =
 
 pub returns-clause-left : goal.returns-clause-left
 returns-clause-left c =
-    names_kept-remove c.self.inside.rows c.remove.new.self c.args.name.now c.self.invariant (invariant_of-self c) c.remove.ensures.updates
+    names_kept-remove c.self.inside.rows c.remove.new.self c.args.name.now c.self.invariant (invariant_of-self c)
+    c.remove.ensures.updates
     ∙ ap (λ (names : NameMap). remove names c.args.name.now) c.self.view_is

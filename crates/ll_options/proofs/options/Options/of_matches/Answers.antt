@@ -6,18 +6,22 @@ use Rattle.ll_options.specs.Options.{run_order, schedule_order, to_audit, to_run
 use Rattle.ll_options.proofs.options.Options.of_matches.Goals as goal
 
 -- what is wanted by another name than `run` and `schedule`
-audits : (b d : Bool) (rows : List Row) (file : Option Text) → b ≡ false → d ≡ false → file ≡ first_of (codes "FILE") rows
-    → option_map to_audit file ≡ cond b (option_map to_run (run_order rows)) (cond d (option_map to_schedule (schedule_order rows)) (option_map to_audit (first_of (codes "FILE") rows)))
+audits : (b d : Bool) (rows : List Row) (file : Option Text) → b ≡ false → d ≡ false
+    → file ≡ first_of (codes "FILE") rows
+    → option_map to_audit file ≡ cond b (option_map to_run (run_order rows))
+    (cond d (option_map to_schedule (schedule_order rows)) (option_map to_audit (first_of (codes "FILE") rows)))
 audits b d rows file e f g = rw (e, f) (ap (option_map to_audit) g)
 
 pub returns-in-Some-get_str : goal.returns-in-Some-get_str
 returns-in-Some-get_str c =
     let f = found_of c.args.matches.now in
-    audits (bytes_eq c.args.name.now (codes "run")) (bytes_eq c.args.name.now (codes "schedule")) (rows_of f) (Some c.in-Some-get_str.file.now) (sym c.eq.ensures ∙ c.if-eq.false)
+    audits (bytes_eq c.args.name.now (codes "run")) (bytes_eq c.args.name.now (codes "schedule")) (rows_of f)
+    (Some c.in-Some-get_str.file.now) (sym c.eq.ensures ∙ c.if-eq.false)
     (sym c.eq-2.ensures ∙ c.if-eq-2.false) (c.in-Some-get_str.ensures ∙ first_value-rows f (codes "FILE"))
 
 pub returns-in-None-get_str : goal.returns-in-None-get_str
 returns-in-None-get_str c =
     let f = found_of c.args.matches.now in
-    audits (bytes_eq c.args.name.now (codes "run")) (bytes_eq c.args.name.now (codes "schedule")) (rows_of f) None (sym c.eq.ensures ∙ c.if-eq.false)
+    audits (bytes_eq c.args.name.now (codes "run")) (bytes_eq c.args.name.now (codes "schedule")) (rows_of f) None
+    (sym c.eq.ensures ∙ c.if-eq.false)
     (sym c.eq-2.ensures ∙ c.if-eq-2.false) (c.in-None-get_str.ensures ∙ first_value-rows f (codes "FILE"))

@@ -9,10 +9,12 @@ use Rattle.ll_options.proofs.options.RunOptions.level_of.Goals as goal
 pub returns-in-None : goal.returns-in-None
 returns-in-None c =
     let read = c.in-None.ensures in
-    number_read 1 3 _ None read.none (λ t e. (read.value t e).1.0) ∙ ap (option_and_then (number_in levels)) (one_text-rows (found_of c.args.run.now) (codes "abi"))
+    number_read 1 3 _ None read.none (λ t e. (read.value t e).1.0)
+    ∙ ap (option_and_then (number_in levels)) (one_text-rows (found_of c.args.run.now) (codes "abi"))
 
 pub returns-in-Some : goal.returns-in-Some
 returns-in-Some c =
     let read = c.in-Some.ensures in
     level_allowed c.new.result c.in-Some.number c.new.ensures
-    ∙ number_read 1 3 _ (Some c.in-Some.number) read.none (λ t e. (read.value t e).0) ∙ ap (option_and_then (number_in levels)) (one_text-rows (found_of c.args.run.now) (codes "abi"))
+    ∙ number_read 1 3 _ (Some c.in-Some.number) read.none (λ t e. (read.value t e).0)
+    ∙ ap (option_and_then (number_in levels)) (one_text-rows (found_of c.args.run.now) (codes "abi"))

@@ -9,13 +9,15 @@ abbrev fields : Option RunOptions → Option RunOrder
 fields = option_map order_in
 
 pub returns-in_err-script : goal.returns-in_err-script
-returns-in_err-script c = ap fields c.from_residual.ensures ∙ as_matched (found_of c.args.run.now) None _ _ c.in_err-script.ensures refl refl
+returns-in_err-script c = ap fields c.from_residual.ensures
+    ∙ as_matched (found_of c.args.run.now) None _ _ c.in_err-script.ensures refl refl
 
 pub returns-in_err-nodes : goal.returns-in_err-nodes
 returns-in_err-nodes c =
     let read = c.in_err-nodes.ensures in
     ap fields c.from_residual-in_err-nodes.ensures
-    ∙ as_matched (found_of c.args.run.now) (Some c.in_ok-script.script.now) None _ c.in_ok-script.ensures (number_read 1 4096 _ None read.none (λ t e. (read.value t e).1.0)) refl
+    ∙ as_matched (found_of c.args.run.now) (Some c.in_ok-script.script.now) None _ c.in_ok-script.ensures
+    (number_read 1 4096 _ None read.none (λ t e. (read.value t e).1.0)) refl
 
 pub returns-then-nodes-lt1 : goal.returns-then-nodes-lt1
 returns-then-nodes-lt1 c =
@@ -31,16 +33,20 @@ returns-in_err-history c =
     let nodes = c.in_ok-nodes.ensures in
     let read = c.in_err-history.ensures in
     ap fields c.from_residual-in_err-history.ensures
-    ∙ as_matched (found_of c.args.run.now) (Some c.in_ok-script.script.now) (Some c.in_ok-nodes.nodes) None c.in_ok-script.ensures
-    (within 1 4096 c.in_ok-nodes.nodes (search rules) (search rules) ∙ number_read 1 4096 _ (Some c.in_ok-nodes.nodes) nodes.none (λ t e. (nodes.value t e).0))
+    ∙ as_matched (found_of c.args.run.now) (Some c.in_ok-script.script.now) (Some c.in_ok-nodes.nodes) None
+    c.in_ok-script.ensures
+    (within 1 4096 c.in_ok-nodes.nodes (search rules) (search rules)
+    ∙ number_read 1 4096 _ (Some c.in_ok-nodes.nodes) nodes.none (λ t e. (nodes.value t e).0))
     (number_read 1 1000000 _ None read.none (λ t e. (read.value t e).1.0))
 
 pub returns-then-history-lt1 : goal.returns-then-history-lt1
 returns-then-history-lt1 c =
     let nodes = c.in_ok-nodes.ensures in
     let most = c.in_ok-history.ensures in
-    as_matched (found_of c.args.run.now) (Some c.in_ok-script.script.now) (Some c.in_ok-nodes.nodes) None c.in_ok-script.ensures
-    (within 1 4096 c.in_ok-nodes.nodes (search rules) (search rules) ∙ number_read 1 4096 _ (Some c.in_ok-nodes.nodes) nodes.none (λ t e. (nodes.value t e).0))
+    as_matched (found_of c.args.run.now) (Some c.in_ok-script.script.now) (Some c.in_ok-nodes.nodes) None
+    c.in_ok-script.ensures
+    (within 1 4096 c.in_ok-nodes.nodes (search rules) (search rules)
+    ∙ number_read 1 4096 _ (Some c.in_ok-nodes.nodes) nodes.none (λ t e. (nodes.value t e).0))
     (beyond 1 1000000 c.in_ok-history.history (λ h. elim c.then-history-lt1.either [
       | inl less ↦ (let a = h.0 in omega (arith, less))
       | inr more ↦ (let a = h.1 in omega (arith, more.1))
@@ -50,8 +56,12 @@ pub returns : goal.returns
 returns c =
     let nodes = c.in_ok-nodes.ensures in
     let most = c.in_ok-history.ensures in
-    with_parts (found_of c.args.run.now) (Some c.in_ok-script.script.now) (Some c.in_ok-nodes.nodes) (Some c.in_ok-history.history) c.level_of-level.result _ _ _
+    with_parts (found_of c.args.run.now) (Some c.in_ok-script.script.now) (Some c.in_ok-nodes.nodes)
+    (Some c.in_ok-history.history) c.level_of-level.result _ _ _
     c.level_of-level.ensures c.get_str-policy.ensures c.get_str-profile.ensures c.get_str-save.ensures
-    ∙ as_matched (found_of c.args.run.now) (Some c.in_ok-script.script.now) (Some c.in_ok-nodes.nodes) (Some c.in_ok-history.history) c.in_ok-script.ensures
-    (within 1 4096 c.in_ok-nodes.nodes (search rules) (search rules) ∙ number_read 1 4096 _ (Some c.in_ok-nodes.nodes) nodes.none (λ t e. (nodes.value t e).0))
-    (within 1 1000000 c.in_ok-history.history (search rules) (search rules) ∙ number_read 1 1000000 _ (Some c.in_ok-history.history) most.none (λ t e. (most.value t e).0))
+    ∙ as_matched (found_of c.args.run.now) (Some c.in_ok-script.script.now) (Some c.in_ok-nodes.nodes)
+    (Some c.in_ok-history.history) c.in_ok-script.ensures
+    (within 1 4096 c.in_ok-nodes.nodes (search rules) (search rules)
+    ∙ number_read 1 4096 _ (Some c.in_ok-nodes.nodes) nodes.none (λ t e. (nodes.value t e).0))
+    (within 1 1000000 c.in_ok-history.history (search rules) (search rules)
+    ∙ number_read 1 1000000 _ (Some c.in_ok-history.history) most.none (λ t e. (most.value t e).0))

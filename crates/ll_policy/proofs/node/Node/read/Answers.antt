@@ -28,7 +28,8 @@ returns-in_err-only c =
     let fault = c.in_err-only.field-0.0 in
     let same : c.from_residual.result ≡ Err fault = search rules in
     let told : Told (keys t) fault = inr c.in_err-only.ensures in
-    rw same (told_first (keys t ++ path t ++ kind t) (bytes t) fault (told_first (keys t ++ path t) (kind t) fault (told_first (keys t) (path t) fault told)))
+    rw same (told_first (keys t ++ path t ++ kind t) (bytes t) fault
+    (told_first (keys t ++ path t) (kind t) fault (told_first (keys t) (path t) fault told)))
 
 pub returns-in_err-path : goal.returns-in_err-path
 returns-in_err-path c =
@@ -36,7 +37,8 @@ returns-in_err-path c =
     let fault = c.in_err-path.field-0.0 in
     let same : c.from_residual-in_err-path.result ≡ Err fault = search rules in
     let told : Told (path t) fault = c.in_err-path.ensures in
-    rw same (told_first (keys t ++ path t ++ kind t) (bytes t) fault (told_first (keys t ++ path t) (kind t) fault (told_after (keys t) (path t) fault c.in_ok-only.ensures.0 told)))
+    rw same (told_first (keys t ++ path t ++ kind t) (bytes t) fault
+    (told_first (keys t ++ path t) (kind t) fault (told_after (keys t) (path t) fault c.in_ok-only.ensures.0 told)))
 
 pub returns-in_err-kind : goal.returns-in_err-kind
 returns-in_err-kind c =
@@ -44,17 +46,34 @@ returns-in_err-kind c =
     let fault = c.in_err-kind.field-0.0 in
     let same : c.from_residual-in_err-kind.result ≡ Err fault = search rules in
     let told : Told (kind t) fault = inr c.in_err-kind.ensures in
-    rw same (told_first (keys t ++ path t ++ kind t) (bytes t) fault (told_after (keys t ++ path t) (kind t) fault (no_faults (keys t) (path t) c.in_ok-only.ensures.0 c.in_ok-path.ensures.0) told))
+    rw same (told_first (keys t ++ path t ++ kind t) (bytes t) fault
+    (told_after (keys t ++ path t) (kind t) fault
+    (no_faults (keys t) (path t) c.in_ok-only.ensures.0 c.in_ok-path.ensures.0) told))
 
 pub returns-in_err-bytes : goal.returns-in_err-bytes
 returns-in_err-bytes c =
     let t = table_view c.args.table.now in
     let fault = c.in_err-bytes.field-0.0 in
     let same : c.from_residual-in_err-bytes.result ≡ Err fault = search rules in
-    let told : Told (bytes t) fault = subst (λ text. Told (optional as_str (is_data text) BadData (get_member (codes "data") t)) fault) c.in_ok-kind.ensures.1 c.in_err-bytes.ensures in
-    rw same (told_after (keys t ++ path t ++ kind t) (bytes t) fault (no_faults (keys t ++ path t) (kind t) (no_faults (keys t) (path t) c.in_ok-only.ensures.0 c.in_ok-path.ensures.0) c.in_ok-kind.ensures.0) told)
+    let told : Told (bytes t) fault =
+    subst (λ text. Told (optional as_str (is_data text) BadData (get_member (codes "data") t)) fault)
+    c.in_ok-kind.ensures.1 c.in_err-bytes.ensures in
+    rw same (told_after (keys t ++ path t ++ kind t) (bytes t) fault
+    (no_faults (keys t ++ path t) (kind t)
+    (no_faults (keys t) (path t) c.in_ok-only.ensures.0 c.in_ok-path.ensures.0) c.in_ok-kind.ensures.0) told)
 
 pub returns : goal.returns
 returns c =
-    let t = table_view c.args.table.now in
-    ((no_faults (keys t ++ path t ++ kind t) (bytes t) (no_faults (keys t ++ path t) (kind t) (no_faults (keys t) (path t) c.in_ok-only.ensures.0 c.in_ok-path.ensures.0) c.in_ok-kind.ensures.0) (ap (λ text. optional as_str (is_data text) BadData (get_member (codes "data") t)) (sym c.in_ok-kind.ensures.1) ∙ c.in_ok-bytes.ensures.0)), (c.in_ok-kind.kind, c.in_ok-kind.ensures.1, λ i. node_calls c.in_ok-kind.kind (c.in_ok-path.ensures.1 i) (c.in_ok-bytes.ensures.1 i)))
+    let t = table_view c.args.table.now in (
+      (no_faults (keys t ++ path t ++ kind t) (bytes t)
+          (no_faults (keys t ++ path t) (kind t)
+          (no_faults (keys t) (path t) c.in_ok-only.ensures.0 c.in_ok-path.ensures.0) c.in_ok-kind.ensures.0)
+          (ap (λ text. optional as_str (is_data text) BadData (get_member (codes "data") t))
+          (sym c.in_ok-kind.ensures.1)
+          ∙ c.in_ok-bytes.ensures.0)),
+      (
+        c.in_ok-kind.kind,
+        c.in_ok-kind.ensures.1,
+        λ i. node_calls c.in_ok-kind.kind (c.in_ok-path.ensures.1 i) (c.in_ok-bytes.ensures.1 i),
+      ),
+    )

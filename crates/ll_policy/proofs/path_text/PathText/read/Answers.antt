@@ -10,13 +10,16 @@ use Rattle.ll_policy.proofs.path_text.PathText.read.Goals as goal
 use Rattle.ll_policy.proofs.path_text.PathText.read.Goals.{In-Ok-parse}
 
 pub returns-then-not-fits : goal.returns-then-not-fits
-returns-then-not-fits c = inr (only_one _ BadPath (failed _ BadPath (is_path-no_word c.args.text.now (λ word. false≢true (c.if-not-fits.ensures.1 word)))))
+returns-then-not-fits c = inr
+    (only_one _ BadPath (failed _ BadPath
+    (is_path-no_word c.args.text.now (λ word. false≢true (c.if-not-fits.ensures.1 word)))))
 
 -- the path's text is the text that was read
 same_text : (c : In-Ok-parse) → path_text c.in-Ok-parse.path ≡ c.args.text.now
 same_text c =
     let read = c.in-Ok-parse.ensures.ok in
-    ap path_text read.1 ∙ path_text-path_of_text c.in-Ok.word read.0 ∙ c.in-Ok.ensures.ok.1 ∙ c.in_ok-from_str.ensures.ok
+    ap path_text read.1 ∙ path_text-path_of_text c.in-Ok.word read.0 ∙ c.in-Ok.ensures.ok.1
+    ∙ c.in_ok-from_str.ensures.ok
 
 is_word : (c : In-Ok-parse) → IsWord c.args.text.now
 is_word c = subst IsWord c.in_ok-from_str.ensures.ok c.in-Ok.ensures.ok.0

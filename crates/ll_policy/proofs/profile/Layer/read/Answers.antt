@@ -30,7 +30,8 @@ returns-in_err-only c =
     let fault = c.in_err-only.field-0.0 in
     let same : c.from_residual.result ≡ Err fault = search rules in
     let told : Told (keys t) fault = inr c.in_err-only.ensures in
-    rw same (told_first (keys t ++ handled t ++ array t) (rules_in t) fault (told_first (keys t ++ handled t) (array t) fault (told_first (keys t) (handled t) fault told)))
+    rw same (told_first (keys t ++ handled t ++ array t) (rules_in t) fault
+    (told_first (keys t ++ handled t) (array t) fault (told_first (keys t) (handled t) fault told)))
 
 pub returns-in_err-handled : goal.returns-in_err-handled
 returns-in_err-handled c =
@@ -38,7 +39,9 @@ returns-in_err-handled c =
     let fault = c.in_err-handled.field-0.0 in
     let same : c.from_residual-in_err-handled.result ≡ Err fault = search rules in
     let told : Told (handled t) fault = inr c.in_err-handled.ensures in
-    rw same (told_first (keys t ++ handled t ++ array t) (rules_in t) fault (told_first (keys t ++ handled t) (array t) fault (told_after (keys t) (handled t) fault c.in_ok-only.ensures.0 told)))
+    rw same (told_first (keys t ++ handled t ++ array t) (rules_in t) fault
+    (told_first (keys t ++ handled t) (array t) fault
+    (told_after (keys t) (handled t) fault c.in_ok-only.ensures.0 told)))
 
 pub returns-in_err-tables : goal.returns-in_err-tables
 returns-in_err-tables c =
@@ -46,25 +49,35 @@ returns-in_err-tables c =
     let fault = c.in_err-tables.field-0.0 in
     let same : c.from_residual-in_err-tables.result ≡ Err fault = search rules in
     let told : Told (array t) fault = inr c.in_err-tables.ensures in
-    rw same (told_first (keys t ++ handled t ++ array t) (rules_in t) fault (told_after (keys t ++ handled t) (array t) fault (no_faults (keys t) (handled t) c.in_ok-only.ensures.0 c.in_ok-handled.ensures.0) told))
+    rw same (told_first (keys t ++ handled t ++ array t) (rules_in t) fault
+    (told_after (keys t ++ handled t) (array t) fault
+    (no_faults (keys t) (handled t) c.in_ok-only.ensures.0 c.in_ok-handled.ensures.0) told))
 
 pub returns-in_err-rules : goal.returns-in_err-rules
 returns-in_err-rules c =
     let t = table_view c.args.table.now in
     let fault = c.in_err-rules.field-0.0 in
     let same : c.from_residual-in_err-rules.result ≡ Err fault = search rules in
-    let told : Told (rules_in t) fault = subst (λ ts. Told (flat_map rule_faults ts) fault) c.in_ok-tables.ensures.1 c.in_err-rules.ensures in
-    rw same (told_after (keys t ++ handled t ++ array t) (rules_in t) fault (no_faults (keys t ++ handled t) (array t) (no_faults (keys t) (handled t) c.in_ok-only.ensures.0 c.in_ok-handled.ensures.0) c.in_ok-tables.ensures.0) told)
+    let told : Told (rules_in t) fault =
+    subst (λ ts. Told (flat_map rule_faults ts) fault) c.in_ok-tables.ensures.1 c.in_err-rules.ensures in
+    rw same (told_after (keys t ++ handled t ++ array t) (rules_in t) fault
+    (no_faults (keys t ++ handled t) (array t)
+    (no_faults (keys t) (handled t) c.in_ok-only.ensures.0 c.in_ok-handled.ensures.0) c.in_ok-tables.ensures.0)
+    told)
 
 pub returns : goal.returns
 returns c =
     let t = table_view c.args.table.now in (
-      (no_faults (keys t ++ handled t ++ array t) (rules_in t) (no_faults (keys t ++ handled t) (array t) (no_faults (keys t) (handled t) c.in_ok-only.ensures.0 c.in_ok-handled.ensures.0) c.in_ok-tables.ensures.0) (ap (flat_map rule_faults) (sym c.in_ok-tables.ensures.1) ∙ c.in_ok-rules.ensures.0)),
+      (no_faults (keys t ++ handled t ++ array t) (rules_in t)
+          (no_faults (keys t ++ handled t) (array t)
+          (no_faults (keys t) (handled t) c.in_ok-only.ensures.0 c.in_ok-handled.ensures.0) c.in_ok-tables.ensures.0)
+          (ap (flat_map rule_faults) (sym c.in_ok-tables.ensures.1) ∙ c.in_ok-rules.ensures.0)),
       λ number. (
         c.in_ok-handled.handled,
         c.in_ok-handled.ensures.1,
         map (call_of_rule number) c.in_ok-rules.rules.items,
-        subst (λ ts. Joined (IsRule number) ts (map (call_of_rule number) c.in_ok-rules.rules.items)) c.in_ok-tables.ensures.1 (c.in_ok-rules.ensures.1 number),
+        subst (λ ts. Joined (IsRule number) ts (map (call_of_rule number) c.in_ok-rules.rules.items))
+            c.in_ok-tables.ensures.1 (c.in_ok-rules.ensures.1 number),
         refl,
       ),
     )

@@ -12,10 +12,13 @@ loop-layer-preserved c =
     let before = take i layers in
     let (number, calls) = c.loop-layer.invariant in
     let here : length before ≡ i = length-take-le i layers (omega arith) in
-    let whole : take (i + 1) layers ≡ before ++ layer ∷ [] = take_more layers i layer c.loop-layer-test.true ∙ ap (λ l. before ++ l ∷ []) (sym c.layer-item.is) in
+    let whole : take (i + 1) layers ≡ before ++ layer ∷ [] =
+    take_more layers i layer c.loop-layer-test.true ∙ ap (λ l. before ++ l ∷ []) (sym c.layer-item.is) in
     let named : 0 + length before ≡ c.loop-layer.number = omega (arith, here, number) in
-    let last : calls_of_layers (0 + length before) (layer ∷ []) ≡ calls_of_layer c.loop-layer.number layer = ap (λ n. calls_of_layers n (layer ∷ [])) named ∙ one_layer c.loop-layer.number layer in (
+    let last : calls_of_layers (0 + length before) (layer ∷ []) ≡ calls_of_layer c.loop-layer.number layer =
+    ap (λ n. calls_of_layers n (layer ∷ [])) named ∙ one_layer c.loop-layer.number layer in (
       omega arith,
       c.in_ok-push_calls.ensures ∙ ap (λ some. some ++ calls_of_layer c.loop-layer.number layer) calls
-          ∙ ap (λ some. calls_of_layers 0 before ++ some) (sym last) ∙ sym (calls_of_layers-append 0 before (layer ∷ [])) ∙ ap (calls_of_layers 0) (sym whole),
+          ∙ ap (λ some. calls_of_layers 0 before ++ some) (sym last)
+          ∙ sym (calls_of_layers-append 0 before (layer ∷ [])) ∙ ap (calls_of_layers 0) (sym whole),
     )

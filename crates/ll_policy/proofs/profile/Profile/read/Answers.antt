@@ -31,7 +31,10 @@ returns-in_err-only c =
     let fault = c.in_err-only.field-0.0 in
     let same : c.from_residual.result ≡ Err fault = search rules in
     let told : Told (keys t) fault = inr c.in_err-only.ensures in
-    rw same (told_first (name t ++ keys t ++ array t) (layers_in t) fault (told_first (name t ++ keys t) (array t) fault (told_after (name t) (keys t) fault (passed (is_name c.args.name.now) BadName (sym c.if-not-is_name.ensures)) told)))
+    rw same (told_first (name t ++ keys t ++ array t) (layers_in t) fault
+    (told_first (name t ++ keys t) (array t) fault
+    (told_after (name t) (keys t) fault (passed (is_name c.args.name.now) BadName (sym c.if-not-is_name.ensures))
+    told)))
 
 pub returns-in_err-tables : goal.returns-in_err-tables
 returns-in_err-tables c =
@@ -39,22 +42,34 @@ returns-in_err-tables c =
     let fault = c.in_err-tables.field-0.0 in
     let same : c.from_residual-in_err-tables.result ≡ Err fault = search rules in
     let told : Told (array t) fault = inr c.in_err-tables.ensures in
-    rw same (told_first (name t ++ keys t ++ array t) (layers_in t) fault (told_after (name t ++ keys t) (array t) fault (no_faults (name t) (keys t) (passed (is_name c.args.name.now) BadName (sym c.if-not-is_name.ensures)) c.in_ok-only.ensures.0) told))
+    rw same (told_first (name t ++ keys t ++ array t) (layers_in t) fault
+    (told_after (name t ++ keys t) (array t) fault
+    (no_faults (name t) (keys t) (passed (is_name c.args.name.now) BadName (sym c.if-not-is_name.ensures))
+    c.in_ok-only.ensures.0) told))
 
 pub returns-in_err-layers : goal.returns-in_err-layers
 returns-in_err-layers c =
     let t : List ℕ × Members = (c.args.name.now, table_view c.args.table.now) in
     let fault = c.in_err-layers.field-0.0 in
     let same : c.from_residual-in_err-layers.result ≡ Err fault = search rules in
-    let told : Told (layers_in t) fault = subst (λ ts. Told (flat_map layer_faults ts) fault) c.in_ok-tables.ensures.1 c.in_err-layers.ensures in
-    rw same (told_after (name t ++ keys t ++ array t) (layers_in t) fault (no_faults (name t ++ keys t) (array t) (no_faults (name t) (keys t) (passed (is_name c.args.name.now) BadName (sym c.if-not-is_name.ensures)) c.in_ok-only.ensures.0) c.in_ok-tables.ensures.0) told)
+    let told : Told (layers_in t) fault =
+    subst (λ ts. Told (flat_map layer_faults ts) fault) c.in_ok-tables.ensures.1 c.in_err-layers.ensures in
+    rw same (told_after (name t ++ keys t ++ array t) (layers_in t) fault
+    (no_faults (name t ++ keys t) (array t)
+    (no_faults (name t) (keys t) (passed (is_name c.args.name.now) BadName (sym c.if-not-is_name.ensures))
+    c.in_ok-only.ensures.0) c.in_ok-tables.ensures.0) told)
 
 pub returns : goal.returns
 returns c =
     let t : List ℕ × Members = (c.args.name.now, table_view c.args.table.now) in (
-      (no_faults (name t ++ keys t ++ array t) (layers_in t) (no_faults (name t ++ keys t) (array t) (no_faults (name t) (keys t) (passed (is_name c.args.name.now) BadName (sym c.if-not-is_name.ensures)) c.in_ok-only.ensures.0) c.in_ok-tables.ensures.0) (ap (flat_map layer_faults) (sym c.in_ok-tables.ensures.1) ∙ c.in_ok-layers.ensures.0)),
+      (no_faults (name t ++ keys t ++ array t) (layers_in t)
+          (no_faults (name t ++ keys t) (array t)
+          (no_faults (name t) (keys t) (passed (is_name c.args.name.now) BadName (sym c.if-not-is_name.ensures))
+          c.in_ok-only.ensures.0) c.in_ok-tables.ensures.0) (ap (flat_map layer_faults) (sym c.in_ok-tables.ensures.1)
+          ∙ c.in_ok-layers.ensures.0)),
       record {
         name = c.in_ok-name.ensures.ok;
-        calls = subst (λ ts. Joined IsLayer (enumerate_from 0 ts) (calls_of_layers 0 c.in_ok-layers.layers.items)) c.in_ok-tables.ensures.1 c.in_ok-layers.ensures.1;
+        calls = subst (λ ts. Joined IsLayer (enumerate_from 0 ts) (calls_of_layers 0 c.in_ok-layers.layers.items))
+            c.in_ok-tables.ensures.1 c.in_ok-layers.ensures.1;
       },
     )

@@ -33,7 +33,8 @@ returns-in_err-path c =
     let fault = c.in_err-path.field-0.0 in
     let same : c.from_residual-in_err-path.result ≡ Err fault = search rules in
     let told : Told (path t) fault = c.in_err-path.ensures in
-    rw same (told_first (keys t ++ path t) (rights t) fault (told_after (keys t) (path t) fault c.in_ok-only.ensures.0 told))
+    rw same (told_first (keys t ++ path t) (rights t) fault
+    (told_after (keys t) (path t) fault c.in_ok-only.ensures.0 told))
 
 pub returns-in_err-rights : goal.returns-in_err-rights
 returns-in_err-rights c =
@@ -41,9 +42,17 @@ returns-in_err-rights c =
     let fault = c.in_err-rights.field-0.0 in
     let same : c.from_residual-in_err-rights.result ≡ Err fault = search rules in
     let told : Told (rights t) fault = inr c.in_err-rights.ensures in
-    rw same (told_after (keys t ++ path t) (rights t) fault (no_faults (keys t) (path t) c.in_ok-only.ensures.0 c.in_ok-path.ensures.0) told)
+    rw same (told_after (keys t ++ path t) (rights t) fault
+    (no_faults (keys t) (path t) c.in_ok-only.ensures.0 c.in_ok-path.ensures.0) told)
 
 pub returns : goal.returns
 returns c =
-    let t = table_view c.args.table.now in
-    ((no_faults (keys t ++ path t) (rights t) (no_faults (keys t) (path t) c.in_ok-only.ensures.0 c.in_ok-path.ensures.0) c.in_ok-rights.ensures.0), λ number. (c.in_ok-rights.rights, c.in_ok-rights.ensures.1, ap (λ text. Allow number (path_to text) c.in_ok-rights.rights ∷ []) c.in_ok-path.ensures.1))
+    let t = table_view c.args.table.now in (
+      (no_faults (keys t ++ path t) (rights t)
+          (no_faults (keys t) (path t) c.in_ok-only.ensures.0 c.in_ok-path.ensures.0) c.in_ok-rights.ensures.0),
+      λ number. (
+        c.in_ok-rights.rights,
+        c.in_ok-rights.ensures.1,
+        ap (λ text. Allow number (path_to text) c.in_ok-rights.rights ∷ []) c.in_ok-path.ensures.1,
+      ),
+    )

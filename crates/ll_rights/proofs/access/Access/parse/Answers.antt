@@ -1,4 +1,5 @@
-use Rattle.std.proofs.Common.{◌≡◌, ◌≢◌, ℕ, ◌<◌, ◌≤◌, ◌^◌, List, ◌∷◌, ◌++◌, false, Option, Some, None, IfSome, IfNone, codes, drop, map, get_or, sym, ap, ◌∙◌, inl, inr, arith}
+use Rattle.std.proofs.Common.{◌≡◌, ◌≢◌, ℕ, ◌<◌, ◌≤◌, ◌^◌, List, ◌∷◌, ◌++◌, false, Option, Some, None, IfSome, IfNone}
+use Rattle.std.proofs.Common.{codes, drop, map, get_or, sym, ap, ◌∙◌, inl, inr, arith}
 use Rattle.std.specs.Prelude.{◌==◌}
 use Rattle.std.specs.Char.{digit_char}
 use Rattle.std.specs.Int.Digits.{digits_of}
@@ -12,10 +13,12 @@ use Rattle.ll_rights.proofs.RightNames.{text_none, text_number, text_from_names,
 use Rattle.ll_rights.proofs.access.Access.parse.Goals as goal
 
 pub returns-then-eq-clause-found : goal.returns-then-eq-clause-found
-returns-then-eq-clause-found c = (bytes_eq-Decides c.args.text.now (codes "none")).0 (sym c.if-eq.ensures) ∙ sym text_none
+returns-then-eq-clause-found c =
+    (bytes_eq-Decides c.args.text.now (codes "none")).0 (sym c.if-eq.ensures) ∙ sym text_none
 
 -- a text that is not `none` is no text where it is neither names nor a number
-no_text : (text : List ℕ) → bytes_eq text (codes "none") ≡ false → ((set : ℕ) → 0 < set → set < 2 ^ 15 → text ≢ access_text set)
+no_text : (text : List ℕ) → bytes_eq text (codes "none") ≡ false
+    → ((set : ℕ) → 0 < set → set < 2 ^ 15 → text ≢ access_text set)
     → ((set : ℕ) → 2 ^ 15 ≤ set → set < 2 ^ 64 → text ≢ codes "0x" ++ map digit_char (digits_of 16 set))
     → (set : ℕ) → set < 2 ^ 64 → text ≢ access_text set
 no_text text other not_names not_number set small same = elim (cases_lt 0 set) [
@@ -28,15 +31,20 @@ no_text text other not_names not_number set small same = elim (cases_lt 0 set) [
   ]
 ]
 
-whole : (text digits : List ℕ) (n : ℕ) → n ≡ 2 → text ≡ codes "0x" ++ drop n text → digits ≡ drop n text → text ≡ codes "0x" ++ digits
+whole : (text digits : List ℕ) (n : ℕ) → n ≡ 2 → text ≡ codes "0x" ++ drop n text → digits ≡ drop n text
+    → text ≡ codes "0x" ++ digits
 whole text digits n two front rest = front ∙ ap (λ (ds : List ℕ). codes "0x" ++ ds) (sym rest)
 
-number_text : (text digits : List ℕ) → text ≡ codes "0x" ++ digits → (r : Option Access) → IfSome r (λ access. (2 ^ 15 ≤ access.0) × (digits ≡ map digit_char (digits_of 16 access.0)))
+number_text : (text digits : List ℕ) → text ≡ codes "0x" ++ digits → (r : Option Access)
+    → IfSome r (λ access. (2 ^ 15 ≤ access.0) × (digits ≡ map digit_char (digits_of 16 access.0)))
     → IfSome r (λ access. text ≡ access_text access.0)
 number_text text digits front None found = tt
-number_text text digits front (Some access) found = front ∙ ap (λ (ds : List ℕ). codes "0x" ++ ds) found.1 ∙ sym (text_number access.0 found.0)
+number_text text digits front (Some access) found =
+    front ∙ ap (λ (ds : List ℕ). codes "0x" ++ ds) found.1 ∙ sym (text_number access.0 found.0)
 
-names_text : (text : List ℕ) (r : Option Access) → IfSome r (λ access. (access.0 < 2 ^ 15) × (slice_split (λ b. b == 44) text ≡ set_names access.0)) → IfSome r (λ access. text ≡ access_text access.0)
+names_text : (text : List ℕ) (r : Option Access)
+    → IfSome r (λ access. (access.0 < 2 ^ 15) × (slice_split (λ b. b == 44) text ≡ set_names access.0))
+    → IfSome r (λ access. text ≡ access_text access.0)
 names_text text None found = tt
 names_text text (Some access) found = text_from_names text access.0 found.0 found.1
 
@@ -60,7 +68,8 @@ returns-in-Some-clause-none c =
     let digit : get_or c.args.text.now 0 0 ≡ 48 = ap (λ (bs : List ℕ). get_or bs 0 0) text in
     none_then _
     (λ no_number. no_text c.args.text.now (sym c.if-eq.ensures)
-    (λ set some known same. omega (arith, digit, ap (λ (bs : List ℕ). get_or bs 0 0) same, letter_of_text set some known))
+    (λ set some known same. omega
+    (arith, digit, ap (λ (bs : List ℕ). get_or bs 0 0) same, letter_of_text set some known))
     (λ set unknown small same. no_number set unknown small (same_rest _ _ (sym text ∙ same))))
     c.parse_number.ensures.none
 

@@ -13,7 +13,8 @@ returns-in_default-clause-err g c first piece is held =
     let world = c.outcome-answer.new.self.world in
     let line = answer_line world.history c.outcome-answer.result in
     started_from c.args.self.now.world piece _ (g.W.Write.contents c.args.writer.now)
-    (world, line, c.outcome-answer.ensures.tells piece held, front-none (g.W.Write.contents c.args.writer.now) line) first is
+    (world, line, c.outcome-answer.ensures.tells piece held, front-none (g.W.Write.contents c.args.writer.now) line)
+    first is
 
 pub returns-clause-ok : goal.returns-clause-ok
 returns-clause-ok g c = on_ok_weaker c.write_line.result (λ wrote first piece is held.

@@ -6,4 +6,5 @@ use Rattle.ll_seq.proofs.client.ClientRecord.lowest_free.Given as goal
 
 -- the free one is among the numbers that are left
 abbrev pub invariant-loop-number : goal.invariant-loop-number
-invariant-loop-number l = lowest_free l.self.descriptors ≡ find (λ fd. not (has l.self.descriptors fd)) (numbers_from l.number (64 - l.number))
+invariant-loop-number l = lowest_free l.self.descriptors
+    ≡ find (λ fd. not (has l.self.descriptors fd)) (numbers_from l.number (64 - l.number))

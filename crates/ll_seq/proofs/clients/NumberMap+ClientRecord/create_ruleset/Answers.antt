@@ -13,23 +13,34 @@ use Rattle.ll_seq.proofs.OrderedTables.{changed, not_missing}
 use Rattle.ll_seq.proofs.clients.NumberMap+ClientRecord.create_ruleset.Goals as goal
 
 pub unreachable-requires : goal.unreachable-requires
-unreachable-requires c = not_missing c.self.inside.rows.items c.deref.result.now c.args.self.now c.args.client c.self.view_is c.self.invariant c.deref.ensures.value c.requires c.in_default.ensures.none
+unreachable-requires c = not_missing c.self.inside.rows.items c.deref.result.now c.args.self.now c.args.client
+    c.self.view_is c.self.invariant c.deref.ensures.value c.requires c.in_default.ensures.none
 
 pub invariant_of-self : goal.invariant_of-self
 invariant_of-self c =
-    (changed nat_cmp_total c.self.inside.rows.items c.deref.result.now c.args.self.now c.args.client c.in-Some.i c.index_mut-row.result.now c.create_ruleset.new.self c.self.view_is c.self.invariant c.deref.ensures.value c.in-Some.ensures.row c.index_mut-row.ensures.value).sorted
+    (changed nat_cmp_total c.self.inside.rows.items c.deref.result.now c.args.self.now c.args.client c.in-Some.i
+    c.index_mut-row.result.now c.create_ruleset.new.self c.self.view_is c.self.invariant c.deref.ensures.value
+    c.in-Some.ensures.row c.index_mut-row.ensures.value).sorted
 
 pub returns-clause-ok : goal.returns-clause-ok
 returns-clause-ok c =
-    let over = changed nat_cmp_total c.self.inside.rows.items c.deref.result.now c.args.self.now c.args.client c.in-Some.i c.index_mut-row.result.now c.create_ruleset.new.self c.self.view_is c.self.invariant c.deref.ensures.value c.in-Some.ensures.row c.index_mut-row.ensures.value in
+    let over = changed nat_cmp_total c.self.inside.rows.items c.deref.result.now c.args.self.now c.args.client
+    c.in-Some.i c.index_mut-row.result.now c.create_ruleset.new.self c.self.view_is c.self.invariant
+    c.deref.ensures.value c.in-Some.ensures.row c.index_mut-row.ensures.value in
     if_ok c.create_ruleset.result c.create_ruleset.ensures.ok (λ number ok c' there.
-    let Told : ClientRecord → Type 0 = λ x. (create_refusals c.args.abi c.args.handled.0 ++ refuse (nat_le CLIENT_RULESETS (length x.rulesets)) EMFILE ≡ []) × (number ≡ length x.rulesets)
+    let Told : ClientRecord → Type 0 =
+    λ x. (create_refusals c.args.abi c.args.handled.0 ++ refuse (nat_le CLIENT_RULESETS (length x.rulesets)) EMFILE
+    ≡ []) × (number ≡ length x.rulesets)
     × (c.create_ruleset.new.self ≡ record x { rulesets = x.rulesets ++ new_ruleset c.args.handled.0 ∷ [] }) in
     let told = subst Told (same_some over.got there) ok in
     (told.0, told.1, over.whole ∙ ap (insert c.args.self.now c.args.client) told.2))
 
 pub returns-clause-refused : goal.returns-clause-refused
 returns-clause-refused c =
-    let over = changed nat_cmp_total c.self.inside.rows.items c.deref.result.now c.args.self.now c.args.client c.in-Some.i c.index_mut-row.result.now c.create_ruleset.new.self c.self.view_is c.self.invariant c.deref.ensures.value c.in-Some.ensures.row c.index_mut-row.ensures.value in
+    let over = changed nat_cmp_total c.self.inside.rows.items c.deref.result.now c.args.self.now c.args.client
+    c.in-Some.i c.index_mut-row.result.now c.create_ruleset.new.self c.self.view_is c.self.invariant
+    c.deref.ensures.value c.in-Some.ensures.row c.index_mut-row.ensures.value in
     if_err c.create_ruleset.result c.create_ruleset.ensures.refused (λ errno why c' there.
-    subst (λ (x : ClientRecord). Fails (create_refusals c.args.abi c.args.handled.0 ++ refuse (nat_le CLIENT_RULESETS (length x.rulesets)) EMFILE) errno) (same_some over.got there) why)
+    subst (λ (x : ClientRecord). Fails
+    (create_refusals c.args.abi c.args.handled.0 ++ refuse (nat_le CLIENT_RULESETS (length x.rulesets)) EMFILE)
+    errno) (same_some over.got there) why)

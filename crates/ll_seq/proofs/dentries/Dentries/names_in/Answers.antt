@@ -15,21 +15,31 @@ names es = map (λ (e : Dentry × ℕ). e.0.name) es
 pub returns : goal.returns
 returns c =
     let all : length c.rows_of-row-items.result.now ≤ c.loop-row.row-index = omega arith in
-    c.loop-row.invariant.told ∙ ap names (take_all c.loop-row.row-index c.rows_of-row-items.result.now all) ∙ ap names c.rows_of-row-items.ensures
+    c.loop-row.invariant.told ∙ ap names (take_all c.loop-row.row-index c.rows_of-row-items.result.now all)
+    ∙ ap names c.rows_of-row-items.ensures
 
 pub push-requires : goal.push-requires
 push-requires c =
-    listed_more c.loop-row.listing c.in_ok-from_text.field-0 c.rows_of-row-items.result.now c.loop-row.row-index c.row-item.result c.loop-row.invariant.listed
-    (subst IsName (sym (c.in_ok-from_text.ensures ∙ c.as_str.ensures.text)) c.as_str.ensures.name) c.loop-row.invariant.told (c.in_ok-from_text.ensures ∙ c.as_str.ensures.text) c.row-item.is c.loop-row-test.true
-    (subst (IsStrictlySortedBy (slice_cmp nat_cmp)) (sym (ap names c.rows_of-row-items.ensures)) (listed_rise c.args.self.now c.args.directory))
+    listed_more c.loop-row.listing c.in_ok-from_text.field-0 c.rows_of-row-items.result.now c.loop-row.row-index
+    c.row-item.result c.loop-row.invariant.listed
+    (subst IsName (sym (c.in_ok-from_text.ensures ∙ c.as_str.ensures.text)) c.as_str.ensures.name)
+    c.loop-row.invariant.told (c.in_ok-from_text.ensures ∙ c.as_str.ensures.text) c.row-item.is c.loop-row-test.true
+    (subst (IsStrictlySortedBy (slice_cmp nat_cmp)) (sym (ap names c.rows_of-row-items.ensures))
+    (listed_rise c.args.self.now c.args.directory))
 
 pub loop-row-preserved : goal.loop-row-preserved
 loop-row-preserved c =
     let more : AreListed (c.loop-row.listing ++ c.in_ok-from_text.field-0 ∷ []) =
-    listed_more c.loop-row.listing c.in_ok-from_text.field-0 c.rows_of-row-items.result.now c.loop-row.row-index c.row-item.result c.loop-row.invariant.listed
-    (subst IsName (sym (c.in_ok-from_text.ensures ∙ c.as_str.ensures.text)) c.as_str.ensures.name) c.loop-row.invariant.told (c.in_ok-from_text.ensures ∙ c.as_str.ensures.text) c.row-item.is c.loop-row-test.true
-    (subst (IsStrictlySortedBy (slice_cmp nat_cmp)) (sym (ap names c.rows_of-row-items.ensures)) (listed_rise c.args.self.now c.args.directory)) in
+    listed_more c.loop-row.listing c.in_ok-from_text.field-0 c.rows_of-row-items.result.now c.loop-row.row-index
+    c.row-item.result c.loop-row.invariant.listed
+    (subst IsName (sym (c.in_ok-from_text.ensures ∙ c.as_str.ensures.text)) c.as_str.ensures.name)
+    c.loop-row.invariant.told (c.in_ok-from_text.ensures ∙ c.as_str.ensures.text) c.row-item.is c.loop-row-test.true
+    (subst (IsStrictlySortedBy (slice_cmp nat_cmp)) (sym (ap names c.rows_of-row-items.ensures))
+    (listed_rise c.args.self.now c.args.directory)) in
     record {
-      told = c.in_ok-push.ensures.ok ∙ told_more c.loop-row.listing c.in_ok-from_text.field-0 c.rows_of-row-items.result.now c.loop-row.row-index c.row-item.result c.loop-row.invariant.told (c.in_ok-from_text.ensures ∙ c.as_str.ensures.text) c.row-item.is c.loop-row-test.true;
+      told = c.in_ok-push.ensures.ok
+          ∙ told_more c.loop-row.listing c.in_ok-from_text.field-0 c.rows_of-row-items.result.now c.loop-row.row-index
+          c.row-item.result c.loop-row.invariant.told (c.in_ok-from_text.ensures ∙ c.as_str.ensures.text) c.row-item.is
+          c.loop-row-test.true;
       listed = subst AreListed (sym c.in_ok-push.ensures.ok) more;
     }

@@ -7,5 +7,6 @@ use Rattle.ll_seq.proofs.facts.NumberMap+Fact.have_room.Goals as goal
 
 pub loop-row-init : goal.loop-row-init
 loop-row-init c =
-    of_rows (list_all (λ (d : ℕ × Descriptor). has_room c.args.self.now d.1.inode)) c.descriptors.inside.rows.items c.deref-row-items.result.now c.args.descriptors.now
+    of_rows (list_all (λ (d : ℕ × Descriptor). has_room c.args.self.now d.1.inode)) c.descriptors.inside.rows.items
+    c.deref-row-items.result.now c.args.descriptors.now
     c.descriptors.view_is c.descriptors.invariant c.deref-row-items.ensures.value

@@ -14,4 +14,6 @@ add-requires c = ap (λ m. get m 1) c.new-facts.ensures ∙ get-empty Fact nat_c
 
 pub returns : goal.returns
 returns c rules room =
-    subst (AreKept (start rules room)) (ap (λ m. insert m 1 (record { kind = Dir; names = 0; links = 0; opens = 0 })) (sym c.new-facts.ensures) ∙ sym c.in_ok-add.ensures.ok) (kept_start rules room)
+    subst (AreKept (start rules room))
+    (ap (λ m. insert m 1 (record { kind = Dir; names = 0; links = 0; opens = 0 })) (sym c.new-facts.ensures)
+    ∙ sym c.in_ok-add.ensures.ok) (kept_start rules room)

@@ -11,6 +11,8 @@ invariant-loop-call l = record {
   alone : l.self.before ≡ 0;
   clients : l.fn.self.clients ≤ l.self.clients;
   goes : (s : Session) → StandsAt l.fn.self s → (mid : Session) × StandsAt l.self mid
-      × ((t : Session) → Makes l.client mid (drop (length l.yielded) l.fn.calls.items) t → Makes l.client s l.fn.calls.items t)
-      × ((reply : Reply) (t : Session) → Stops l.client mid (drop (length l.yielded) l.fn.calls.items) reply t → Stops l.client s l.fn.calls.items reply t);
+      × ((t : Session) → Makes l.client mid (drop (length l.yielded) l.fn.calls.items) t
+      → Makes l.client s l.fn.calls.items t)
+      × ((reply : Reply) (t : Session) → Stops l.client mid (drop (length l.yielded) l.fn.calls.items) reply t
+      → Stops l.client s l.fn.calls.items reply t);
 }

@@ -11,5 +11,6 @@ pub invariant_of-result : goal.invariant_of-result
 invariant_of-result c = record {
   connected = λ number first last. absurd (omega arith);
   spelled = subst (All IsEntry) (sym c.requires.empty) (All-nil IsEntry);
-  free = λ number more. ap (λ (s : State). has s.clients number) c.requires.fresh ∙ nobody c.args.plain.rules c.args.plain.room number;
+  free = λ number more. ap (λ (s : State). has s.clients number) c.requires.fresh
+      ∙ nobody c.args.plain.rules c.args.plain.room number;
 }

@@ -4,4 +4,5 @@ use Rattle.ll_steps.proofs.Adding.{lawful}
 use Rattle.ll_steps.proofs.world.World.by_law.Goals as goal
 
 pub returns : goal.returns
-returns c = subst IsLawful c.self.view_is (lawful c.self.inside.journal.world c.self.invariant.sound c.self.invariant.within)
+returns c = subst IsLawful c.self.view_is
+    (lawful c.self.inside.journal.world c.self.invariant.sound c.self.invariant.within)

@@ -1,6 +1,6 @@
 use Rattle.std.proofs.Common.{Err, ap, sym, subst}
-use Rattle.ll_walks.specs.World.{World}
-use Rattle.ll_walks.specs.declared.step.Step.TheVariants.{Join}
+use Rattle.ll_worlds.specs.World.{World}
+use Rattle.ll_worlds.specs.declared.step.Step.TheVariants.{Join}
 use Rattle.ll_steps.specs.Makes.{Makes}
 use Rattle.ll_steps.specs.declared.outcome.Outcome.{Outcome}
 use Rattle.ll_steps.proofs.DirectMakes.{join_keeps, join_makes}
@@ -8,12 +8,17 @@ use Rattle.ll_steps.proofs.world.World.join.Goals as goal
 use Rattle.ll_steps.proofs.world.World.join.Goals.{in-Ok, in-Err}
 
 pub invariant_of-self : goal.invariant_of-self
-invariant_of-self c = join_keeps _ _ _ c.connect.result c.self.invariant c.connect.ensures.joined c.connect.ensures.same c.connect.ensures.spares
+invariant_of-self c = join_keeps _ _ _ c.connect.result c.self.invariant c.connect.ensures.joined c.connect.ensures.same
+    c.connect.ensures.spares
 
 pub returns : goal.returns
-returns c = subst (λ (w : World). Makes w Join c.match-connect.result c.connect.new.self.world) c.self.view_is (elim c.match-connect.branch [
-  | in-Ok w ↦ subst (λ (o : Outcome). Makes c.self.inside.journal.world Join o c.connect.new.self.world) (sym w.result-is) w.in-Ok.ensures.joined
-  | in-Err w ↦
-      subst (λ (o : Outcome). Makes c.self.inside.journal.world Join o c.connect.new.self.world) (sym w.result-is)
-      (join_makes c.self.inside.journal c.connect.new.self w.in-Err.errno w.in-Err.ensures.same w.in-Err.ensures.refused (λ e. w.in-Err.ensures.starved (ap Err e)))
-])
+returns c = subst (λ (w : World). Makes w Join c.match-connect.result c.connect.new.self.world) c.self.view_is
+    (elim c.match-connect.branch [
+      | in-Ok w ↦ subst (λ (o : Outcome). Makes c.self.inside.journal.world Join o c.connect.new.self.world)
+          (sym w.result-is) w.in-Ok.ensures.joined
+      | in-Err w ↦
+          subst (λ (o : Outcome). Makes c.self.inside.journal.world Join o c.connect.new.self.world) (sym w.result-is)
+          (join_makes c.self.inside.journal c.connect.new.self w.in-Err.errno w.in-Err.ensures.same
+          w.in-Err.ensures.refused
+          (λ e. w.in-Err.ensures.starved (ap Err e)))
+    ])

@@ -14,9 +14,11 @@ returns-in-Some c =
     (subst (λ (r : Option Outcome). StepsOn c.steps.self c.args.client r c.go_on.new.self) c.in-Some.is c.go_on.ensures)
 
 pub steps-smaller : goal.steps-smaller
-steps-smaller c = (subst (λ (r : Option Outcome). StepsOn c.steps.self c.args.client r c.go_on.new.self) c.in_default.is c.go_on.ensures).2
+steps-smaller c = (subst (λ (r : Option Outcome). StepsOn c.steps.self c.args.client r c.go_on.new.self) c.in_default.is
+    c.go_on.ensures).2
 
 pub steps-preserved : goal.steps-preserved
 steps-preserved c =
-    let went = subst (λ (r : Option Outcome). StepsOn c.steps.self c.args.client r c.go_on.new.self) c.in_default.is c.go_on.ensures in
+    let went = subst (λ (r : Option Outcome). StepsOn c.steps.self c.args.client r c.go_on.new.self) c.in_default.is
+    c.go_on.ensures in
     λ o v leads. c.steps.invariant o v (goes_on c.steps.self c.go_on.new.self v o went.0 went.1 leads)

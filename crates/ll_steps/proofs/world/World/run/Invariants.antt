@@ -7,5 +7,6 @@ abbrev pub invariant-loop-step : goal.invariant-loop-step
 invariant-loop-step l = record {
   room : vec_capacity l.outcomes ≡ length l.fn.steps.items;
   count : vec_len l.outcomes ≡ length l.yielded;
-  ran : (added : List Entry) × Runs l.fn.self (take (length l.yielded) l.fn.steps.items) l.outcomes.items added l.self × Grows l.fn.self l.self added;
+  ran : (added : List Entry) × Runs l.fn.self (take (length l.yielded) l.fn.steps.items) l.outcomes.items added l.self
+      × Grows l.fn.self l.self added;
 }

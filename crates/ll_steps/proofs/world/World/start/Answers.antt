@@ -1,7 +1,7 @@
 use Rattle.std.proofs.Common.{◌≡◌, List, length, ap, sym, subst, ◌∙◌}
 use Rattle.ll_seq.specs.declared.reply.Entry.{Entry}
-use Rattle.ll_walks.specs.World.{World}
-use Rattle.ll_walks.specs.declared.step.Step.TheVariants.{FdCommit}
+use Rattle.ll_worlds.specs.World.{World}
+use Rattle.ll_worlds.specs.declared.step.Step.TheVariants.{FdCommit}
 use Rattle.ll_journal.specs.declared.start.Start.TheVariants as start
 use Rattle.ll_steps.specs.Calling.{Calls, Waits}
 use Rattle.ll_steps.specs.Contents.{answered_as}
@@ -38,4 +38,5 @@ returns-clause-stops c =
     subst (λ (v : World).
     Waits v (FdCommit c.args.client c.args.call) → Calls v c.args.client c.args.call NotNow c.start.new.self.world)
     c.self.view_is
-    (back_calls c.self.inside.journal c.start.new.self c.args.client c.args.call c.in-Back.field-0 c.in-Back.ensures.starts)
+    (back_calls c.self.inside.journal c.start.new.self c.args.client c.args.call c.in-Back.field-0
+    c.in-Back.ensures.starts)

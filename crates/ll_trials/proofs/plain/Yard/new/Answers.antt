@@ -20,8 +20,10 @@ apply-requires-clause-caller c = ap (λ (s : State). has s.clients 1) c.in_ok-tr
 
 pub invariant_of-result : goal.invariant_of-result
 invariant_of-result c =
-    let after = ap (λ (p : Reply × State). p.1) (c.in-Done.ensures.step (λ e. absurd cc) ∙ ap (λ (s : State). step s 1 Connect 2) c.in_ok-tree.ensures) in
+    let after = ap (λ (p : Reply × State). p.1) (c.in-Done.ensures.step (λ e. absurd cc)
+    ∙ ap (λ (s : State). step s 1 Connect 2) c.in_ok-tree.ensures) in
     record {
       connected = ap (λ (s : State). has s.clients 1) after ∙ somebody c.args.rules 64;
-      numbers = subst (λ (s : State). c.apply.new.self.next ≤ s.next + 1) c.in_ok-tree.ensures c.in-Done.ensures.numbers;
+      numbers = subst (λ (s : State). c.apply.new.self.next ≤ s.next + 1) c.in_ok-tree.ensures
+          c.in-Done.ensures.numbers;
     }

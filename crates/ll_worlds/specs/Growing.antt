@@ -1,0 +1,26 @@
+-- What holds between one world and a later one. own
+use Rattle.std.specs.Prelude.{◌≡◌, ℕ, ◌≤◌, List, ◌++◌, length}
+use Rattle.ll_seq.specs.declared.reply.Entry.{Entry}
+use Rattle.ll_seq.specs.declared.rules.Rules.{Rules}
+use Rattle.ll_worlds.specs.World.{World, new_world, world_after}
+use Rattle.ll_worlds.specs.declared.step.Step.{Step}
+
+-- the entries came to the first world's history
+abbrev pub Came : World → World → List Entry → Type 0
+Came w v added = v.history ≡ w.history ++ added
+
+-- steps only add entries to a history, and never more than its limit
+abbrev pub HistoryGrows : Type 0
+HistoryGrows =
+    (rules : Rules) (room limit : ℕ) (early late : List Step) →
+    let w = world_after (new_world rules room limit) early in
+    let v = world_after w late in
+    ((added : List Entry) × Came w v added) × (length v.history ≤ limit)
+
+-- so of two histories, where the second world comes after the first by steps
+abbrev pub OfBoth : (Rules → ℕ → List Entry → List Entry → Type 0) → Type 0
+OfBoth P =
+    (rules : Rules) (room limit : ℕ) (early late : List Step) →
+    let w = world_after (new_world rules room limit) early in
+    let v = world_after w late in
+    (added : List Entry) → Came w v added → P rules room w.history added

@@ -1,0 +1,62 @@
+//! Laws about a tree that many clients share: of the walks of their calls, and the steps by which these go on.
+#![tactic(auto)]
+
+mod step;
+
+ghost use Rattle.ll_worlds.specs.Commits.{BlockedAreRefused, EndsAreReached};
+ghost use Rattle.ll_laws.specs.NoGain.{GainsNothing};
+ghost use Rattle.ll_laws.specs.Withheld.{Withholds};
+ghost use Rattle.ll_worlds.specs.Growing.{HistoryGrows, OfBoth};
+ghost use Rattle.ll_worlds.specs.Walks.{AfterSteps, AreApart, AreFew, AreValid, GateIsHeld, HistoryIsLegal};
+
+pub use step::Step;
+
+/// Whatever steps are made, in whatever order, the history is one of the sequential tree.
+pub fn history_is_legal()
+    ensures { HistoryIsLegal }
+{}
+
+/// What a walk has found, of which no directory was moved since, is so in the tree as it is shown.
+pub fn walks_are_valid()
+    ensures { AfterSteps AreValid }
+{}
+
+/// No directory carries two marks.
+pub fn marks_are_apart()
+    ensures { AfterSteps AreApart }
+{}
+
+/// No walk starts more than four times.
+pub fn starts_are_few()
+    ensures { AfterSteps AreFew }
+{}
+
+/// Neither a call that takes the move gate nor a walk on its fourth start is overtaken.
+pub fn gate_holder_is_never_stale()
+    ensures { AfterSteps GateIsHeld }
+{}
+
+/// A walk at its ends stands in the directories of its call's last names.
+pub fn ends_are_reached()
+    ensures { EndsAreReached }
+{}
+
+/// A walk that can't go on is refused for the name that stops it.
+pub fn blocked_are_refused()
+    ensures { BlockedAreRefused }
+{}
+
+/// A history only grows, and never beyond its limit.
+pub fn history_grows()
+    ensures { HistoryGrows }
+{}
+
+/// What `ll_laws::reach_never_grows` says of histories, between any two worlds.
+pub fn reach_never_grows()
+    ensures { OfBoth GainsNothing }
+{}
+
+/// What `ll_laws::bytes_stay_withheld` says of histories, between any two worlds.
+pub fn bytes_stay_withheld()
+    ensures { OfBoth Withholds }
+{}
