@@ -21,8 +21,8 @@ use Rattle.ll_worlds.specs.Sound.{IsSound}
 use Rattle.ll_worlds.proofs.SoundSteps.{sound_kept}
 use Rattle.ll_journal.specs.Book.{Book, Spares}
 use Rattle.ll_journal.specs.Steps.{Does}
-use Rattle.ll_journal.specs.declared.outcome.Outcome as told
-use Rattle.ll_journal.specs.declared.outcome.Outcome.TheVariants as tells
+use Rattle.ll_journal.specs.declared.progress.Progress as told
+use Rattle.ll_journal.specs.declared.progress.Progress.TheVariants as tells
 use Rattle.ll_client.specs.declared.account.Account.{Account}
 use Rattle.ll_client.specs.declared.account.Numbered.{Numbered}
 use Rattle.ll_client.specs.Entries.{AreAccounts, IsDesk, Knows, doing_of, knows, numbered, part_from, part_of}
@@ -175,7 +175,7 @@ not_now b b' s h fits e =
       doing = ap (λ (x : World). doing_of x (client_in b.world s)) same;
     }
 
-pub does_goes : (b b' : Book) (s : Step) (o : told.Outcome) → IsSound b.world → length b.world.history ≤ b.world.limit
+pub does_goes : (b b' : Book) (s : Step) (o : told.Progress) → IsSound b.world → length b.world.history ≤ b.world.limit
     → doing_after b.world s ≡ doing_of b.world (client_in b.world s) → Does b s o b' → GoesOn b b' (client_in b.world s)
 does_goes b b' s tells.NotNow h fits after d = not_now b b' s h fits d
 does_goes b b' s tells.Astray h fits after d = same_goes b b' (client_in b.world s) h fits d

@@ -22,10 +22,10 @@ use Rattle.ll_worlds.proofs.Shapes.{walking, restarted}
 use Rattle.ll_journal.specs.Book.{Book}
 use Rattle.ll_journal.specs.Steps.{Does}
 use Rattle.ll_journal.specs.WalkEnds.{Ends}
-use Rattle.ll_journal.specs.declared.outcome.Ending.{Ending}
-use Rattle.ll_journal.specs.declared.outcome.Ending.TheVariants as ending
-use Rattle.ll_journal.specs.declared.outcome.Outcome as told
-use Rattle.ll_journal.specs.declared.outcome.Outcome.TheVariants as tells
+use Rattle.ll_journal.specs.declared.progress.Ending.{Ending}
+use Rattle.ll_journal.specs.declared.progress.Ending.TheVariants as ending
+use Rattle.ll_journal.specs.declared.progress.Progress as told
+use Rattle.ll_journal.specs.declared.progress.Progress.TheVariants as tells
 use Rattle.ll_journal.proofs.Ended.{gives_up}
 use Rattle.ll_client.specs.declared.account.Numbered.{Numbered}
 use Rattle.ll_client.specs.declared.left.Leaving.{Leaving}
@@ -79,7 +79,7 @@ restarts w c = by (get w.walks c)
 no_other : (w v : World) (c : ℕ) (o : world.Outcome) → advance w (steps.Restart c) ≡ (o, v) → may_restart o ≡ false → ⊥
 no_other w v c o e f = cc (sym (restarts w c) ∙ ap (λ (p : world.Outcome × World). may_restart p.0) e ∙ f)
 
-pub leaves_restarted : (b b' : Book) (c : ℕ) (o : told.Outcome) → Does b (steps.Restart c) o b'
+pub leaves_restarted : (b b' : Book) (c : ℕ) (o : told.Progress) → Does b (steps.Restart c) o b'
     → Leaves Restart b c (restarted_as o) b'
 leaves_restarted b b' c tells.NotNow d = d
 leaves_restarted b b' c tells.Astray d = d
@@ -87,7 +87,7 @@ leaves_restarted b b' c tells.Restarted d = d
 leaves_restarted b b' c (tells.Stands inode) d = absurd (no_other b.world b'.world c (world.Stands inode) d refl)
 leaves_restarted b b' c tells.Forked d = absurd (no_other b.world b'.world c world.Forked d refl)
 
-pub astray_restarted : (o : told.Outcome) → restarted_as o ≡ left.Astray → o ≡ tells.Astray
+pub astray_restarted : (o : told.Progress) → restarted_as o ≡ left.Astray → o ≡ tells.Astray
 astray_restarted tells.NotNow f = absurd (cc f)
 astray_restarted tells.Astray f = refl
 astray_restarted tells.Restarted f = absurd (cc f)

@@ -8,7 +8,7 @@ use Rattle.ll_worlds.specs.declared.step.Step.TheVariants as steps
 use Rattle.ll_journal.specs.Book.{Book}
 use Rattle.ll_journal.specs.declared.direct.Made.{Made}
 use Rattle.ll_journal.specs.declared.direct.Made.TheVariants as made
-use Rattle.ll_journal.specs.declared.outcome.Ending.TheVariants as ending
+use Rattle.ll_journal.specs.declared.progress.Ending.TheVariants as ending
 use Rattle.ll_journal.specs.Steps.{IsAstrayAt}
 use Rattle.ll_journal.specs.WalkEnds.{Ends, IsAstrayAtEnd}
 use Rattle.ll_client.specs.declared.left.Leaving.{Leaving}

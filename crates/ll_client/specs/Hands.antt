@@ -5,10 +5,10 @@ use Rattle.ll_rights.specs.Map.{Map, get}
 use Rattle.ll_inodes.specs.InodeTable.{NotIn}
 use Rattle.ll_journal.specs.declared.direct.Made.{Made}
 use Rattle.ll_journal.specs.declared.direct.Made.TheVariants as made
-use Rattle.ll_journal.specs.declared.outcome.Ending.{Ending}
-use Rattle.ll_journal.specs.declared.outcome.Ending.TheVariants as ending
-use Rattle.ll_journal.specs.declared.outcome.Outcome.{Outcome}
-use Rattle.ll_journal.specs.declared.outcome.Outcome.TheVariants as outcome
+use Rattle.ll_journal.specs.declared.progress.Ending.{Ending}
+use Rattle.ll_journal.specs.declared.progress.Ending.TheVariants as ending
+use Rattle.ll_journal.specs.declared.progress.Progress.{Progress}
+use Rattle.ll_journal.specs.declared.progress.Progress.TheVariants as outcome
 use Rattle.ll_client.specs.declared.account.Account.{Account}
 use Rattle.ll_client.specs.declared.left.Left.{Left}
 use Rattle.ll_client.specs.declared.left.Left.TheVariants as left
@@ -42,7 +42,7 @@ ended_as ending.HistoryFull = left.HistoryFull
 ended_as ending.NoMemory = left.NoMemory
 
 -- a restart neither stands nor forks
-abbrev pub restarted_as : Outcome → Left
+abbrev pub restarted_as : Progress → Left
 restarted_as outcome.NotNow = left.NotNow
 restarted_as outcome.Astray = left.Astray
 restarted_as outcome.Restarted = left.Again

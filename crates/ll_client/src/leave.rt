@@ -15,7 +15,7 @@ use crate::locked::Locked;
 use crate::rider::Rider;
 use crate::shape::Shape;
 use ll_held::Held;
-use ll_journal::{Ending, Journal, Outcome};
+use ll_journal::{Ending, Journal, Progress};
 use ll_node::Slot;
 use ll_rights::Kind;
 use ll_tie::Tie;
@@ -58,15 +58,15 @@ fn ended(ending: Ending) -> Left
     }
 }
 
-fn restarted(outcome: Outcome) -> Left
+fn restarted(outcome: Progress) -> Left
     ensures { result ≡ restarted_as outcome }
 {
     match outcome {
-        Outcome::NotNow => Left::NotNow,
-        Outcome::Astray => Left::Astray,
-        Outcome::Restarted => Left::Again,
-        Outcome::Stands(_) => Left::NotNow,
-        Outcome::Forked => Left::NotNow,
+        Progress::NotNow => Left::NotNow,
+        Progress::Astray => Left::Astray,
+        Progress::Restarted => Left::Again,
+        Progress::Stands(_) => Left::NotNow,
+        Progress::Forked => Left::NotNow,
     }
 }
 

@@ -9,7 +9,7 @@ use crate::hand::{give_client, put_slot, take_client, take_slot};
 use crate::locked::Locked;
 use crate::rider::Rider;
 use crate::shape::Shape;
-use ll_journal::Outcome;
+use ll_journal::Progress;
 use ll_seq::Call;
 use ll_tie::Tie;
 
@@ -47,10 +47,10 @@ impl<N: Shape> Desk<N> {
     }
 
     /// The client's walk leaves what is common to both paths. Takes no memory and no slot.
-    pub fn fork(&mut self, tie: &Tie<N, Account>, me: &mut Rider<N>) -> Outcome
+    pub fn fork(&mut self, tie: &Tie<N, Account>, me: &mut Rider<N>) -> Progress
         ensures does { Does self.old (Fork me.old.number) result self.new }
         ensures spares { Spares self.old self.new [] }
-        ensures not_astray { result ≢ Outcome.Astray }
+        ensures not_astray { result ≢ Progress.Astray }
         ensures mine { me.new ≡ me.old }
     {
         let Desk {
@@ -71,9 +71,9 @@ impl<N: Shape> Desk<N> {
         tie: &Tie<N, Account>,
         me: &mut Rider<N>,
         root: &mut Locked<N>,
-    ) -> Outcome
+    ) -> Progress
         ensures does { Does self.old (Descend me.old.number) result self.new }
-        ensures astray { result ≡ Outcome.Astray → IsAstrayAtTop self.old me.old.number root.old.number }
+        ensures astray { result ≡ Progress.Astray → IsAstrayAtTop self.old me.old.number root.old.number }
         ensures before { root.old.held ≡ slot_of self.old root.old.number }
         ensures after { root.new ≡ record root.old { held = slot_of self.new root.old.number } }
         ensures spares { Spares self.old self.new (root.old.number ∷ []) }
@@ -116,9 +116,9 @@ impl<N: Shape> Desk<N> {
         me: &mut Rider<N>,
         from: &mut Locked<N>,
         to: &mut Locked<N>,
-    ) -> Outcome
+    ) -> Progress
         ensures does { Does self.old (Descend me.old.number) result self.new }
-        ensures astray { result ≡ Outcome.Astray → IsAstrayBelow self.old me.old.number from.old.number to.old.number }
+        ensures astray { result ≡ Progress.Astray → IsAstrayBelow self.old me.old.number from.old.number to.old.number }
         ensures from_before { from.old.held ≡ slot_of self.old from.old.number }
         ensures to_before { to.old.held ≡ slot_of self.old to.old.number }
         ensures from_after { from.new ≡ record from.old { held = slot_of self.new from.old.number } }

@@ -16,7 +16,7 @@ use Rattle.ll_worlds.specs.Walk.{Walk}
 use Rattle.ll_worlds.specs.World.{overtaken}
 use Rattle.ll_journal.specs.Book as book
 use Rattle.ll_journal.specs.Decidings.{IsEndAt, moved_list}
-use Rattle.ll_journal.specs.declared.decided.Moved.{Moved}
+use Rattle.ll_journal.specs.declared.decide_end.Moved.{Moved}
 use Rattle.ll_journal.proofs.AtEnds.{chain_last}
 use Rattle.ll_journal.proofs.Overtaking.{or_false, overtaken_seat}
 

@@ -28,12 +28,12 @@ use Rattle.ll_worlds.specs.Sound.{IsSound}
 use Rattle.ll_worlds.proofs.Shapes.{if_directory, stood}
 use Rattle.ll_held.specs.declared.held.Held.{Held}
 use Rattle.ll_journal.specs.declared.journal.Journal.TheInside.{Inside}
-use Rattle.ll_journal.specs.declared.look.Look.{Look}
-use Rattle.ll_journal.specs.declared.look.Look.TheVariants.{NotNow, Astray, Go}
+use Rattle.ll_journal.specs.declared.check_step.StepCheck.{StepCheck}
+use Rattle.ll_journal.specs.declared.check_step.StepCheck.TheVariants.{NotNow, Astray, Go}
 use Rattle.ll_journal.specs.Book.{Seat, Book, Spares, inode_in, slot_of, has_mark, mark_of}
 use Rattle.ll_changes.specs.Accounts.{names_map}
 use Rattle.ll_journal.specs.Kept.{IsKept, world_of, book_of}
-use Rattle.ll_journal.specs.Looks.{look_down, look_from, look_for, look_into, is_directory}
+use Rattle.ll_journal.specs.Checks.{check_descend, look_from, check_next, check_into, is_directory}
 use Rattle.ll_journal.specs.Seated.{gone_down, lower, next_in}
 use Rattle.ll_journal.specs.Steps.{IsAstrayBelow, is_going, leg_in_turn}
 use Rattle.ll_changes.proofs.NameMaps.{get-names_map}
@@ -172,7 +172,7 @@ module _ (j : Inside) (h : IsKept j) (number place : ℕ) (seat : Seat) (at : sl
   answer o = unwrap_or o (world.NotNow, w)
 
   -- what is found
-  abbrev Seen : Look → Type 0
+  abbrev Seen : StepCheck → Type 0
   Seen NotNow = advance w (Descend number) ≡ (world.NotNow, w)
   Seen Astray = IsAstrayBelow (book_of j) number k l
   Seen Go = GoesDown j number seat from to
@@ -319,7 +319,7 @@ module _ (j : Inside) (h : IsKept j) (number place : ℕ) (seat : Seat) (at : sl
                           astray_there
                     ] refl
 
-              seen_inode : Seen (look_into j.table.facts (Some i) to)
+              seen_inode : Seen (check_into j.table.facts (Some i) to)
               seen_inode = elim (is_directory j.table.facts i) as (λ b. is_directory j.table.facts i ≡ b
                   → Seen (cond (not b) NotNow (cond (not (to.inode == i)) Astray
                   (cond (is_none to.node.mark) Go NotNow)))) [
@@ -327,23 +327,23 @@ module _ (j : Inside) (h : IsKept j) (number place : ℕ) (seat : Seat) (at : sl
                     | false ↦ λ e. stepped None (if_dir false e)
                   ] refl
 
-            seen_child : Seen (look_into j.table.facts (child s leg.here name) to)
+            seen_child : Seen (check_into j.table.facts (child s leg.here name) to)
             seen_child = elim (child s leg.here name) as (λ o. child s leg.here name ≡ o
-                → Seen (look_into j.table.facts o to)) [
+                → Seen (check_into j.table.facts o to)) [
                   | None ↦ λ e. stepped None (one_more None e)
                   | Some i ↦ λ e. seen_inode i e
                 ] refl
 
-          seen_name : Seen (look_for j.table.facts (slice_get leg.ahead 0) from to)
-          seen_name = elim leg.ahead as (λ p. leg.ahead ≡ p → Seen (look_for j.table.facts (slice_get p 0) from to)) [
+          seen_name : Seen (check_next j.table.facts (slice_get leg.ahead 0) from to)
+          seen_name = elim leg.ahead as (λ p. leg.ahead ≡ p → Seen (check_next j.table.facts (slice_get p 0) from to)) [
             | [] ↦ λ e. stepped None (ap (further_by s domain leg) e)
-            | name ∷ rest ↦ λ e. subst (λ o. Seen (look_into j.table.facts o to)) (sym (looked_up name))
+            | name ∷ rest ↦ λ e. subst (λ o. Seen (check_into j.table.facts o to)) (sym (looked_up name))
                 (seen_child name rest e)
           ] refl
 
         seen_here : Seen (look_from j.table.facts (Some leg.here) (slice_get leg.ahead 0) from to)
         seen_here = elim (from.inode == leg.here) as (λ b. (from.inode == leg.here) ≡ b
-            → Seen (cond b (look_for j.table.facts (slice_get leg.ahead 0) from to) Astray)) [
+            → Seen (cond b (check_next j.table.facts (slice_get leg.ahead 0) from to) Astray)) [
               | true ↦
                   seen_name
               | false ↦ astray_here
@@ -358,7 +358,7 @@ module _ (j : Inside) (h : IsKept j) (number place : ℕ) (seat : Seat) (at : sl
             | Some leg ↦ λ e. seen_here leg e
           ] refl
 
-    seen_walk : Seen (look_down j.table.facts (record seat { walk = Some walk }) from to)
+    seen_walk : Seen (check_descend j.table.facts (record seat { walk = Some walk }) from to)
     seen_walk = elim walk.stale as (λ b. walk.stale ≡ b
         → Seen (cond (not (not b)) NotNow
         (look_from j.table.facts (option_map (λ (v : Leg). v.here) (turn walk.at))
@@ -367,19 +367,20 @@ module _ (j : Inside) (h : IsKept j) (number place : ℕ) (seat : Seat) (at : sl
           | false ↦ seen_turn
         ] refl
 
-  seen : Seen (look_down j.table.facts seat from to)
-  seen = elim seat.walk as (λ o. seat.walk ≡ o → Seen (look_down j.table.facts (record seat { walk = o }) from to)) [
-    | None ↦ λ e. found None e
-    | Some walk ↦ seen_walk walk
-  ] refl
+  seen : Seen (check_descend j.table.facts seat from to)
+  seen =
+      elim seat.walk as (λ o. seat.walk ≡ o → Seen (check_descend j.table.facts (record seat { walk = o }) from to)) [
+        | None ↦ λ e. found None e
+        | Some walk ↦ seen_walk walk
+      ] refl
 
-  pub down_not_now : look_down j.table.facts seat from to ≡ NotNow → advance w (Descend number) ≡ (world.NotNow, w)
+  pub down_not_now : check_descend j.table.facts seat from to ≡ NotNow → advance w (Descend number) ≡ (world.NotNow, w)
   down_not_now e = subst Seen e seen
 
-  pub down_astray : look_down j.table.facts seat from to ≡ Astray → IsAstrayBelow (book_of j) number k l
+  pub down_astray : check_descend j.table.facts seat from to ≡ Astray → IsAstrayBelow (book_of j) number k l
   down_astray e = subst Seen e seen
 
-  pub down_goes : look_down j.table.facts seat from to ≡ Go → GoesDown j number seat from to
+  pub down_goes : check_descend j.table.facts seat from to ≡ Go → GoesDown j number seat from to
   down_goes e = subst Seen e seen
 
   -- ---- when it goes

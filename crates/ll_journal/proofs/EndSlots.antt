@@ -28,7 +28,7 @@ use Rattle.ll_held.specs.declared.held.Held.{Held}
 use Rattle.ll_journal.specs.declared.journal.Journal.TheInside.{Inside}
 use Rattle.ll_journal.specs.Book.{Book, Seat, has_mark, held_of, inode_in, slot_of}
 use Rattle.ll_journal.specs.Kept.{IsKept, book_of, spares_of, world_of}
-use Rattle.ll_journal.specs.Looks.{found_at, spot_at}
+use Rattle.ll_journal.specs.Checks.{found_at, spot_at}
 use Rattle.ll_journal.specs.Needs.{IsBesides, slot_besides, with_slot}
 use Rattle.ll_journal.specs.Steps.{IsInTurn}
 use Rattle.ll_journal.specs.WalkEnds.{AreEnough, IsNeeded, nodes_at_end, spare_of}

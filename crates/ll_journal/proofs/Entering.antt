@@ -20,10 +20,10 @@ use Rattle.ll_worlds.proofs.Shapes as shapes
 use Rattle.ll_worlds.proofs.Shapes.{may_hold}
 use Rattle.ll_held.specs.declared.held.Held.{Held}
 use Rattle.ll_journal.specs.declared.journal.Journal.TheInside.{Inside}
-use Rattle.ll_journal.specs.declared.look.Look.TheVariants.{NotNow, Astray, Go}
+use Rattle.ll_journal.specs.declared.check_step.StepCheck.TheVariants.{NotNow, Astray, Go}
 use Rattle.ll_journal.specs.Book.{Seat, Book, Spares, inode_in, slot_of, mark_of}
 use Rattle.ll_journal.specs.Kept.{IsKept, seat_at, walks_from, world_of, book_of}
-use Rattle.ll_journal.specs.Looks.{look_at_root}
+use Rattle.ll_journal.specs.Checks.{check_enter}
 use Rattle.ll_journal.specs.Seated.{entered}
 use Rattle.ll_journal.specs.Steps.{IsAstrayAtTop}
 use Rattle.ll_journal.proofs.Begun.{walk_at, walks_put}
@@ -105,7 +105,7 @@ module _ (j : Inside) (h : IsKept j) (number place : ℕ) (seat : Seat) (at : sl
   found o e = ap (λ (v : Option Walk). answer (option_and_then (descend w number) v))
       (walk_here j h number place seat at numbered ∙ e)
 
-  not_now_by : (o : Option Walk) → look_at_root (record seat { walk = o }) j.gate number slot ≡ NotNow
+  not_now_by : (o : Option Walk) → check_enter (record seat { walk = o }) j.gate number slot ≡ NotNow
       → answer (option_and_then (descend w number) o) ≡ (world.NotNow, w)
   not_now_by None l = refl
   not_now_by (Some walk) l = by walk.stale (is_above walk.at) (slot.inode == root) refl refl refl l
@@ -132,10 +132,10 @@ module _ (j : Inside) (h : IsKept j) (number place : ℕ) (seat : Seat) (at : sl
       by false true false e f g l = absurd (cc l)
       by false false t e f g l = absurd (cc l)
 
-  pub root_not_now : look_at_root seat j.gate number slot ≡ NotNow → advance w (Descend number) ≡ (world.NotNow, w)
+  pub root_not_now : check_enter seat j.gate number slot ≡ NotNow → advance w (Descend number) ≡ (world.NotNow, w)
   root_not_now l = found seat.walk refl ∙ not_now_by seat.walk l
 
-  goes_by : (o : Option Walk) → seat.walk ≡ o → look_at_root (record seat { walk = o }) j.gate number slot ≡ Go
+  goes_by : (o : Option Walk) → seat.walk ≡ o → check_enter (record seat { walk = o }) j.gate number slot ≡ Go
       → GoesToRoot j number seat slot
   goes_by None is l = absurd (cc l)
   goes_by (Some walk) is l = by walk.stale (is_above walk.at) (slot.inode == root) refl refl refl l
@@ -166,10 +166,10 @@ module _ (j : Inside) (h : IsKept j) (number place : ℕ) (seat : Seat) (at : sl
       by false true false e f g l = absurd (cc l)
       by false false t e f g l = absurd (cc l)
 
-  pub root_goes : look_at_root seat j.gate number slot ≡ Go → GoesToRoot j number seat slot
+  pub root_goes : check_enter seat j.gate number slot ≡ Go → GoesToRoot j number seat slot
   root_goes l = goes_by seat.walk refl l
 
-  astray_by : (o : Option Walk) → look_at_root (record seat { walk = o }) j.gate number slot ≡ Astray
+  astray_by : (o : Option Walk) → check_enter (record seat { walk = o }) j.gate number slot ≡ Astray
       → (option_map_or (λ (walk : Walk). not walk.stale) o false ≡ true)
       × (option_map_or (λ (walk : Walk). is_above walk.at) o false ≡ true → slot.inode ≢ root)
   astray_by None l = absurd (cc l)
@@ -196,7 +196,7 @@ module _ (j : Inside) (h : IsKept j) (number place : ℕ) (seat : Seat) (at : sl
       by false false t e f m = cc e
       by false true false e f m = cc f
 
-  pub root_astray : look_at_root seat j.gate number slot ≡ Astray → IsAstrayAtTop (book_of j) number k
+  pub root_astray : check_enter seat j.gate number slot ≡ Astray → IsAstrayAtTop (book_of j) number k
   root_astray l =
       let astray = astray_by seat.walk l in
       let walk = walk_here j h number place seat at numbered in (

@@ -11,7 +11,7 @@ use Rattle.ll_worlds.specs.Sound.{IsSound}
 use Rattle.ll_journal.specs.declared.journal.Journal.TheInside.{Inside}
 use Rattle.ll_journal.specs.Book.{Seat, Book, Spares, inode_in}
 use Rattle.ll_journal.specs.Kept.{IsKept, world_of, book_of}
-use Rattle.ll_journal.specs.Looks.{goes_on}
+use Rattle.ll_journal.specs.Checks.{goes_on}
 use Rattle.ll_journal.specs.Seated.{split}
 use Rattle.ll_journal.proofs.MarkOf.{AreClients, are_clients, has_mark_of, fork_leaves}
 use Rattle.ll_journal.proofs.LentAfter.{spares_moved}

@@ -11,7 +11,7 @@ use Rattle.ll_seq.specs.declared.call.Call.TheVariants.{Stat, Exec, Unlink, Rmdi
 use Rattle.ll_seq.specs.declared.call.Call.TheVariants.{Link, Ruleset, Allow, Confine, Spawn, Connect}
 use Rattle.ll_seq.specs.Call.{second_path}
 use Rattle.ll_seq.specs.declared.facts.Fact.{Fact}
-use Rattle.ll_journal.specs.Looks.{found_at, found_last, last_found, spot_at}
+use Rattle.ll_journal.specs.Checks.{found_at, found_last, last_found, spot_at}
 use Rattle.ll_journal.specs.Needs.{slot_besides}
 
 pub same_nodes : (call : Call) (found : Found)

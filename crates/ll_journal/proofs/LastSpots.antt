@@ -38,8 +38,8 @@ use Rattle.ll_worlds.proofs.Tests.{itself_in}
 use Rattle.ll_held.specs.declared.held.Held.{Held}
 use Rattle.ll_changes.specs.Accounts.{names_map}
 use Rattle.ll_journal.specs.WalkEnds.{nodes_at_end, would_make}
-use Rattle.ll_journal.specs.Looks.{crowded_at, found_at, is_marked_at, is_marked_there, last_in, spot_at, there_at}
-use Rattle.ll_journal.specs.Looks.{there_by}
+use Rattle.ll_journal.specs.Checks.{crowded_at, found_at, is_marked_at, is_marked_there, last_in, spot_at, there_at}
+use Rattle.ll_journal.specs.Checks.{there_by}
 use Rattle.ll_journal.proofs.AtEnds.{IsEnd, any_last, crowded_is, end_look_up, end_spot, has_fact, there_is}
 
 -- under the path's last name stands what the spot tells

@@ -19,7 +19,7 @@ use Rattle.ll_held.specs.Lent.{Misses}
 use Rattle.ll_journal.specs.declared.journal.Journal.TheInside.{Inside}
 use Rattle.ll_journal.specs.Book.{Seat, Book, inode_in, slot_of, held_of}
 use Rattle.ll_journal.specs.Kept.{IsKept, world_of, book_of}
-use Rattle.ll_journal.specs.Looks.{Lies, lends, is_all_lent}
+use Rattle.ll_journal.specs.Checks.{Lies, lends, is_all_lent}
 use Rattle.ll_journal.specs.WalkEnds.{AreEnough, IsAstrayAtEnd, is_lent}
 use Rattle.ll_journal.proofs.LentSlots.{slot_holds, slot_inode}
 use Rattle.ll_journal.proofs.Entering.{walk_here}

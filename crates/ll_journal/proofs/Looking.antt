@@ -13,7 +13,7 @@ use Rattle.ll_held.specs.declared.held.Held.{Held}
 use Rattle.ll_journal.specs.declared.journal.Journal.TheInside.{Inside}
 use Rattle.ll_journal.specs.Book.{Seat, inode_in, slot_of}
 use Rattle.ll_journal.specs.Kept.{IsKept, seat_at, world_of, book_of}
-use Rattle.ll_journal.specs.Looks.{directory_below, directory_from, directory_for, directory_at, is_directory}
+use Rattle.ll_journal.specs.Checks.{directory_below, directory_from, directory_for, directory_at, is_directory}
 use Rattle.ll_journal.specs.Steps.{GoesDown, IsNext, leg_in_turn}
 use Rattle.ll_journal.proofs.LentAfter.{inode_is}
 use Rattle.ll_journal.proofs.Entering.{walk_here, no_walk}

@@ -19,7 +19,7 @@ use Rattle.ll_worlds.specs.Walk.{Walk}
 use Rattle.ll_worlds.specs.World.{World, is_full, next_number, overtaken, reply_to, shown, without_walk}
 use Rattle.ll_journal.specs.declared.journal.Journal.TheInside.{Inside}
 use Rattle.ll_journal.specs.Book.{Seat, Spares, mark_of, slot_of}
-use Rattle.ll_journal.specs.declared.outcome.Ending.TheVariants.{Replied}
+use Rattle.ll_journal.specs.declared.progress.Ending.TheVariants.{Replied}
 use Rattle.ll_journal.specs.WalkEnds.{Ends}
 use Rattle.ll_journal.specs.Kept.{IsKept, book_of, spares_of, world_of}
 use Rattle.ll_journal.specs.Performed.{Performs}

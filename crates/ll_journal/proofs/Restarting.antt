@@ -13,13 +13,13 @@ use Rattle.ll_worlds.specs.Sound.{IsSound}
 use Rattle.ll_worlds.proofs.Shapes.{restarted}
 use Rattle.ll_held.specs.declared.held.Held.{Held}
 use Rattle.ll_journal.specs.declared.journal.Journal.TheInside.{Inside}
-use Rattle.ll_journal.specs.declared.look.Look.{Look}
-use Rattle.ll_journal.specs.declared.look.Look.TheVariants.{NotNow, Astray, Go}
+use Rattle.ll_journal.specs.declared.check_step.StepCheck.{StepCheck}
+use Rattle.ll_journal.specs.declared.check_step.StepCheck.TheVariants.{NotNow, Astray, Go}
 use Rattle.ll_journal.specs.Book.{Seat, Book, Spares, inode_in, slot_of, held_of, has_mark, mark_of}
 use Rattle.ll_inodes.specs.InodeTable.{NotIn}
 use Rattle.ll_held.specs.Lent.{vacant}
 use Rattle.ll_journal.specs.Kept.{IsKept, world_of, book_of}
-use Rattle.ll_journal.specs.Looks.{is_all_lent, look_again}
+use Rattle.ll_journal.specs.Checks.{is_all_lent, check_restart}
 use Rattle.ll_journal.specs.WalkEnds.{is_lent}
 use Rattle.ll_journal.specs.Seated.{again}
 use Rattle.ll_journal.specs.Steps.{IsAstrayAt}
@@ -48,7 +48,7 @@ module _ (j : Inside) (h : IsKept j) (number place : ℕ) (seat : Seat) (at : sl
   answer o = unwrap_or o (world.NotNow, w)
 
   -- what is found
-  abbrev Seen : Look → Type 0
+  abbrev Seen : StepCheck → Type 0
   Seen NotNow = advance w (Restart number) ≡ (world.NotNow, w)
   Seen Astray = IsAstrayAt (book_of j) number slots
   Seen Go = StartsAgain j number seat slots
@@ -83,27 +83,27 @@ module _ (j : Inside) (h : IsKept j) (number place : ℕ) (seat : Seat) (at : sl
           → advance w (Restart number) ≡ answer (cond t (Some (Restarted, restarted w number walk)) None)
       stepped t e = found (Some walk) is ∙ ap (λ t. answer (cond t (Some (Restarted, restarted w number walk)) None)) e
 
-  seen : Seen (look_again lent seat)
+  seen : Seen (check_restart lent seat)
   seen = by seat.walk refl
     where
       stale_as : (o : Option Walk) → seat.walk ≡ o
           → Seen (cond (not (option_map_or (λ (v : Walk). v.stale) o false)) NotNow
-          (cond (is_all_lent lent seat) Go Astray)) → Seen (look_again lent seat)
+          (cond (is_all_lent lent seat) Go Astray)) → Seen (check_restart lent seat)
       stale_as o e s = subst (λ (o : Option Walk). Seen
           (cond (not (option_map_or (λ (v : Walk). v.stale) o false)) NotNow (cond (is_all_lent lent seat) Go Astray)))
           (sym e) s
 
-      by : (o : Option Walk) → seat.walk ≡ o → Seen (look_again lent seat)
+      by : (o : Option Walk) → seat.walk ≡ o → Seen (check_restart lent seat)
       by None e = stale_as None e (found None e)
       by (Some walk) e = stale_as (Some walk) e (seen_walk walk e)
 
-  pub again_not_now : look_again lent seat ≡ NotNow → advance w (Restart number) ≡ (world.NotNow, w)
+  pub again_not_now : check_restart lent seat ≡ NotNow → advance w (Restart number) ≡ (world.NotNow, w)
   again_not_now e = subst Seen e seen
 
-  pub again_astray : look_again lent seat ≡ Astray → IsAstrayAt (book_of j) number slots
+  pub again_astray : check_restart lent seat ≡ Astray → IsAstrayAt (book_of j) number slots
   again_astray e = subst Seen e seen
 
-  pub again_goes : look_again lent seat ≡ Go → StartsAgain j number seat slots
+  pub again_goes : check_restart lent seat ≡ Go → StartsAgain j number seat slots
   again_goes e = subst Seen e seen
 
   -- ---- when it starts

@@ -6,10 +6,10 @@ use Rattle.ll_seq.specs.State.{Name}
 use Rattle.ll_worlds.specs.World.{shown, is_marked_by_other}
 use Rattle.ll_held.specs.declared.held.Held.{Held}
 use Rattle.ll_journal.specs.declared.journal.Journal.TheInside.{Inside}
-use Rattle.ll_journal.specs.declared.stop.Stop.{Stop}
+use Rattle.ll_journal.specs.declared.check_commit.CommitCheck.{CommitCheck}
 use Rattle.ll_journal.specs.Book.{Seat, slot_of}
 use Rattle.ll_journal.specs.Kept.{IsKept, book_of, world_of}
-use Rattle.ll_journal.specs.Looks.{Stops, StopsBy, goes_on, is_all_lent}
+use Rattle.ll_journal.specs.Checks.{Stops, StopsBy, goes_on, is_all_lent}
 use Rattle.ll_journal.specs.Seated.{next_in}
 use Rattle.ll_journal.specs.Stopped.{IsStop}
 use Rattle.ll_journal.proofs.LentMarks.{not_all_marked}
@@ -20,7 +20,7 @@ module _ (j : Inside) (h : IsKept j) (number place : ℕ) (seat : Seat) (at : sl
     (numbered : number ≡ suc place)
     (slots : List ℕ) (lent : List Held) (told : lent ≡ map (slot_of (book_of j)) slots) where
   -- with the next name, if there is one
-  by_next : goes_on seat ≡ true → is_all_lent lent seat ≡ true → (stop : Stop) → (next : Option Name)
+  by_next : goes_on seat ≡ true → is_all_lent lent seat ≡ true → (stop : CommitCheck) → (next : Option Name)
       → next_in seat ≡ next
       → StopsBy j.table.facts (nat_le j.room (len (shown (world_of j)).nodes)) (is_marked_by_other (world_of j) number)
       slots lent seat next stop → IsStop (book_of j) number slots stop
@@ -29,7 +29,7 @@ module _ (j : Inside) (h : IsKept j) (number place : ℕ) (seat : Seat) (at : sl
   by_next goes all stop (Some name) is stops =
       stops_on_way j h number place seat at numbered slots lent told goes all name is stops.0 stops.1 stop stops.2
 
-  pub stop_means : (stop : Stop)
+  pub stop_means : (stop : CommitCheck)
       → Stops j.table.facts (nat_le j.room (len (shown (world_of j)).nodes)) (is_marked_by_other (world_of j) number)
       slots lent seat stop → IsStop (book_of j) number slots stop
   stop_means stop stops = elim stops [

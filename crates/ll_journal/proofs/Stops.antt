@@ -10,8 +10,8 @@ use Rattle.ll_seq.specs.declared.call.Call.{Call}
 use Rattle.ll_seq.specs.declared.facts.Fact.{Fact}
 use Rattle.ll_seq.specs.State.{Name}
 use Rattle.ll_held.specs.declared.held.Held.{Held}
-use Rattle.ll_journal.specs.declared.stop.Stop.{Stop}
-use Rattle.ll_journal.specs.Looks.{StopsBefore, StopsBetween, stop_by, stop_there, found_at, blocked_at}
+use Rattle.ll_journal.specs.declared.check_commit.CommitCheck.{CommitCheck}
+use Rattle.ll_journal.specs.Checks.{StopsBefore, StopsBetween, stop_by, check_there, found_at, blocked_at}
 
 -- an element is the one at its place
 at_place : (lent : List Held) (place : ℕ) (d held : Held) → slice_get lent place ≡ Some held
@@ -22,7 +22,7 @@ at_place (x ∷ lent) (suc place) d held e = at_place lent place d held e
 
 module _ (facts : Map nat_cmp Fact) (lent : List Held) (here place : ℕ) (d : Held) (name : Name) (lies : (held : Held)
     × (slice_get lent place ≡ Some held) × (held.inode ≡ here)) where
-  pub stops_before : (found : Option ℕ) (errno : Option Errno) (stop : Stop)
+  pub stops_before : (found : Option ℕ) (errno : Option Errno) (stop : CommitCheck)
       → found ≡ get (slice_index_or lent place d).node.names name → errno ≡ blocked_at facts found
       → stop ≡ stop_by errno → StopsBefore facts lent here name stop
   stops_before found errno stop looked blocked is =
@@ -38,9 +38,9 @@ module _ (facts : Map nat_cmp Fact) (full : Bool) (marked : ℕ → Bool) (slots
     (call : Call) (first second : ℕ) (i j : ℕ) (d e : Held)
     (one : (held : Held) × (slice_get lent i ≡ Some held) × (held.inode ≡ first)) (other : (held : Held)
     × (slice_get lent j ≡ Some held) × (held.inode ≡ second)) where
-  pub stops_between : (found : Found) (stop : Stop)
+  pub stops_between : (found : Found) (stop : CommitCheck)
       → found ≡ found_at facts full (slice_index_or lent i d) (slice_index_or lent j e) call
-      → stop ≡ stop_there marked slots lent spare call found
+      → stop ≡ check_there marked slots lent spare call found
       → StopsBetween facts full marked slots lent spare call first second stop
   stops_between found stop is stopped =
       inl (
@@ -48,6 +48,6 @@ module _ (facts : Map nat_cmp Fact) (full : Bool) (marked : ℕ → Bool) (slots
         other.0,
         record { place = i; there = one.1; is = one.2 },
         record { place = j; there = other.1; is = other.2 },
-        stopped ∙ ap (stop_there marked slots lent spare call) (is
+        stopped ∙ ap (check_there marked slots lent spare call) (is
             ∙ (λ k. found_at facts full (at_place lent i d one.0 one.1 k) (at_place lent j e other.0 other.1 k) call)),
       )

@@ -30,13 +30,13 @@ use Rattle.ll_changes.specs.Accounts.{names_map}
 use Rattle.ll_held.specs.declared.held.Held.{Held}
 use Rattle.ll_held.specs.Lent.{Misses}
 use Rattle.ll_journal.specs.declared.journal.Journal.TheInside.{Inside}
-use Rattle.ll_journal.specs.declared.stop.Stop.{Stop}
-use Rattle.ll_journal.specs.declared.stop.Stop.TheVariants as stops
+use Rattle.ll_journal.specs.declared.check_commit.CommitCheck.{CommitCheck}
+use Rattle.ll_journal.specs.declared.check_commit.CommitCheck.TheVariants as stops
 use Rattle.ll_journal.specs.Book.{Book, Seat, slot_of}
 use Rattle.ll_journal.specs.WalkEnds.{AreEnough, IsAstrayAtEnd, spare_of}
 use Rattle.ll_journal.specs.Kept.{IsKept, book_of, spares_of, world_of}
-use Rattle.ll_journal.specs.Looks.{Lies, StopsAtEnds, StopsBetween, found_at, goes_on, is_all_lent, is_enough}
-use Rattle.ll_journal.specs.Looks.{is_marked_there, lends, spot_at, stop_there}
+use Rattle.ll_journal.specs.Checks.{Lies, StopsAtEnds, StopsBetween, found_at, goes_on, is_all_lent, is_enough}
+use Rattle.ll_journal.specs.Checks.{is_marked_there, lends, spot_at, check_there}
 use Rattle.ll_journal.specs.Seated.{is_at_ends, next_in, next_of}
 use Rattle.ll_journal.specs.Stopped.{IsEndOf, IsReachedEnd, IsStop}
 use Rattle.ll_journal.proofs.Advancing.{commit_not_now, may_commit_at_ends, may_commit_marked, may_commit_on_the_way}
@@ -276,7 +276,7 @@ module _ (j : Inside) (h : IsKept j) (number place : ℕ) (seat : Seat) (at : sl
         astray : is_enough slots lent seat.spare walk.call found ≡ false → IsAstrayAtEnd b number slots
         astray e = (walk, here, fresh, λ (enough : AreEnough b number walk slots). cc (sym e ∙ suffices enough))
 
-        stops_there : IsStop b number slots (stop_there marked slots lent seat.spare walk.call found)
+        stops_there : IsStop b number slots (check_there marked slots lent seat.spare walk.call found)
         stops_there = elim (is_marked_there marked walk.call found) as (λ t. is_marked_there marked walk.call found ≡ t
             → IsStop b number slots (cond t stops.NotNow
             (cond (is_enough slots lent seat.spare walk.call found) (stops.Reached found) stops.Astray))) [
@@ -293,14 +293,14 @@ module _ (j : Inside) (h : IsKept j) (number place : ℕ) (seat : Seat) (at : sl
             same : is_marked_there marked walk.call found ≡ list_any marked (last_nodes s walk.call)
             same = marked_there s walk.call found marked one_there other_there
 
-      stops_between : (stop : Stop)
+      stops_between : (stop : CommitCheck)
           → StopsBetween j.table.facts full marked slots lent seat.spare walk.call first.here other.here stop
           → IsStop b number slots stop
       stops_between stop (inl p) = subst (IsStop b number slots) (sym p.4) (stops_there p.0 p.1 p.2 p.3)
       stops_between stop (inr p) = absurd
           (elim p.0 [ inl away ↦ not_missed first one_stands away | inr away ↦ not_missed other other_stands away ])
 
-    stops_at_ends : (stop : Stop) → StopsAtEnds j.table.facts full marked slots lent seat stop
+    stops_at_ends : (stop : CommitCheck) → StopsAtEnds j.table.facts full marked slots lent seat stop
         → IsStop b number slots stop
     stops_at_ends stop (inl p) = subst (IsStop b number slots) (sym p.1) (on_the_way p.0)
     stops_at_ends stop (inr p) =
@@ -315,6 +315,6 @@ module _ (j : Inside) (h : IsKept j) (number place : ℕ) (seat : Seat) (at : sl
         (subst (λ (k : Call × ℕ × ℕ). StopsBetween j.table.facts full marked slots lent seat.spare k.0 k.1 k.2 stop)
         (λ i. (sym call i, sym one.2 i, sym other.2 i)) p.7)
 
-  pub stops_at_last : goes_on seat ≡ true → is_all_lent lent seat ≡ true → next_in seat ≡ None → (stop : Stop)
+  pub stops_at_last : goes_on seat ≡ true → is_all_lent lent seat ≡ true → next_in seat ≡ None → (stop : CommitCheck)
       → StopsAtEnds j.table.facts full marked slots lent seat stop → IsStop b number slots stop
   stops_at_last goes all last = let walk = walking seat.walk goes in stops_at_ends walk.0 walk.1 walk.2 all last

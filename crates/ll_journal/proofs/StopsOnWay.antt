@@ -27,11 +27,11 @@ use Rattle.ll_changes.specs.Accounts.{names_map}
 use Rattle.ll_changes.proofs.NameMaps.{get-names_map}
 use Rattle.ll_held.specs.declared.held.Held.{Held}
 use Rattle.ll_journal.specs.declared.journal.Journal.TheInside.{Inside}
-use Rattle.ll_journal.specs.declared.stop.Stop.{Stop}
-use Rattle.ll_journal.specs.declared.stop.Stop.TheVariants as stops
+use Rattle.ll_journal.specs.declared.check_commit.CommitCheck.{CommitCheck}
+use Rattle.ll_journal.specs.declared.check_commit.CommitCheck.TheVariants as stops
 use Rattle.ll_journal.specs.Book.{Seat, slot_of}
 use Rattle.ll_journal.specs.Kept.{IsKept, world_of, book_of}
-use Rattle.ll_journal.specs.Looks.{Lies, StopsBefore, blocked_at, goes_on, is_all_lent, stop_by}
+use Rattle.ll_journal.specs.Checks.{Lies, StopsBefore, blocked_at, goes_on, is_all_lent, stop_by}
 use Rattle.ll_journal.specs.Seated.{here_in, next_in, next_of}
 use Rattle.ll_journal.specs.Stopped.{IsStop}
 use Rattle.ll_journal.proofs.Advancing.{commit_none, commit_not_now, may_commit_blocked, may_commit_on_the_way}
@@ -222,7 +222,7 @@ module _ (j : Inside) (h : IsKept j) (number place : ℕ) (seat : Seat) (at : sl
       (lies_held j h number place seat at numbered slots lent told held here lies some_here)
       ∙ ap (names_map s) (sym way.stands))
 
-  pub stops_on_way : (stop : Stop) → StopsBefore j.table.facts lent here name stop
+  pub stops_on_way : (stop : CommitCheck) → StopsBefore j.table.facts lent here name stop
       → IsStop (book_of j) number slots stop
   stops_on_way stop found = elim found [
     | inl it ↦ subst (IsStop (book_of j) number slots) (sym (it.2 ∙ ap stop_by (refused it.0 it.1)))

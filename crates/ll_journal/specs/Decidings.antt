@@ -12,7 +12,7 @@ use Rattle.ll_held.specs.declared.held.Held.{Held}
 use Rattle.ll_held.specs.Lent.{Misses}
 use Rattle.ll_changes.specs.Accounts.{names_map}
 use Rattle.ll_answer.specs.declared.found.Spot.{Spot}
-use Rattle.ll_journal.specs.declared.decided.Moved.{Moved}
+use Rattle.ll_journal.specs.declared.decide_end.Moved.{Moved}
 
 -- a walk has ended in the directory where the path's last name stands, or would, with these masks
 pub record IsEndAt (s : State) (domain : List Layer) (path : Path) (spot : Spot) (granted : List ℕ) : Type 0 where

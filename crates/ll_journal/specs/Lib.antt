@@ -5,7 +5,7 @@ pub mod Direct
 pub mod Own
 pub mod SeatCodes
 pub mod Seated
-pub mod Looks
+pub mod Checks
 pub mod Starving
 pub mod WalkEnds
 pub mod Stopped

@@ -7,17 +7,17 @@ use Rattle.ll_worlds.specs.Walk.{Walk, Leg, is_in, further, turn, marks, is_abov
 use Rattle.ll_worlds.specs.World as world
 use Rattle.ll_worlds.specs.World.{World, advance, shown, domain_of}
 use Rattle.ll_worlds.specs.declared.step.Step.{Step}
-use Rattle.ll_journal.specs.declared.outcome.Outcome.{Outcome}
-use Rattle.ll_journal.specs.declared.outcome.Outcome.TheVariants as outcome
+use Rattle.ll_journal.specs.declared.progress.Progress.{Progress}
+use Rattle.ll_journal.specs.declared.progress.Progress.TheVariants as progress
 use Rattle.ll_journal.specs.Book.{Book, inode_in}
 
--- The outcome is the step's, and so is the world after. Astray is none of its outcomes: then nothing changes
-abbrev pub Does : Book → Step → Outcome → Book → Type 0
-Does b step' outcome.NotNow b' = advance b.world step' ≡ (world.NotNow, b'.world)
-Does b step' outcome.Astray b' = b' ≡ b
-Does b step' (outcome.Stands inode) b' = advance b.world step' ≡ (world.Stands inode, b'.world)
-Does b step' outcome.Forked b' = advance b.world step' ≡ (world.Forked, b'.world)
-Does b step' outcome.Restarted b' = advance b.world step' ≡ (world.Restarted, b'.world)
+-- What is told is the step's outcome, and so is the world after. Astray is none of its outcomes: then nothing changes
+abbrev pub Does : Book → Step → Progress → Book → Type 0
+Does b step' progress.NotNow b' = advance b.world step' ≡ (world.NotNow, b'.world)
+Does b step' progress.Astray b' = b' ≡ b
+Does b step' (progress.Stands inode) b' = advance b.world step' ≡ (world.Stands inode, b'.world)
+Does b step' progress.Forked b' = advance b.world step' ≡ (world.Forked, b'.world)
+Does b step' progress.Restarted b' = advance b.world step' ≡ (world.Restarted, b'.world)
 
 -- the client's walk is above the root
 abbrev pub is_at_top : World → ℕ → Bool

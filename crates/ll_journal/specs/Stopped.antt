@@ -17,8 +17,8 @@ use Rattle.ll_worlds.specs.Walk.{Walk, Leg, is_in, marks}
 use Rattle.ll_worlds.specs.World as world
 use Rattle.ll_worlds.specs.World.{advance, shown, may_commit, reply_to}
 use Rattle.ll_worlds.specs.declared.step.Step.TheVariants.{Commit}
-use Rattle.ll_journal.specs.declared.stop.Stop.{Stop}
-use Rattle.ll_journal.specs.declared.stop.Stop.TheVariants as stops
+use Rattle.ll_journal.specs.declared.check_commit.CommitCheck.{CommitCheck}
+use Rattle.ll_journal.specs.declared.check_commit.CommitCheck.TheVariants as stops
 use Rattle.ll_journal.specs.Book.{Book}
 use Rattle.ll_journal.specs.WalkEnds.{IsAstrayAtEnd, is_lent, spare_of}
 
@@ -54,7 +54,7 @@ pub record IsReachedEnd (b : Book) (number : ℕ) (slots : List ℕ) (found : Fo
   pub nodes : (inode : ℕ) → is_in (nodes_of walk.call found) inode ≡ true → inode ≢ 0 → is_lent b slots inode ≡ true
   pub spare : may_make walk.call found ≡ true → is_in slots (spare_of b number) ≡ true
 
-abbrev pub IsStop : Book → ℕ → List ℕ → Stop → Type 0
+abbrev pub IsStop : Book → ℕ → List ℕ → CommitCheck → Type 0
 IsStop b number slots stops.NotNow = advance b.world (Commit number) ≡ (world.NotNow, b.world)
 IsStop b number slots stops.Astray = IsAstrayAtEnd b number slots
 IsStop b number slots (stops.Blocked errno) = IsBlockedEnd b number slots errno

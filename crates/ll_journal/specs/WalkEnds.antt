@@ -15,8 +15,8 @@ use Rattle.ll_worlds.specs.Walk.{Walk, at_ends, is_in, marks}
 use Rattle.ll_worlds.specs.World as world
 use Rattle.ll_worlds.specs.World.{World, advance, shown, is_full, last_node, without_walk}
 use Rattle.ll_worlds.specs.declared.step.Step.TheVariants.{Commit}
-use Rattle.ll_journal.specs.declared.outcome.Ending.{Ending}
-use Rattle.ll_journal.specs.declared.outcome.Ending.TheVariants as ending
+use Rattle.ll_journal.specs.declared.progress.Ending.{Ending}
+use Rattle.ll_journal.specs.declared.progress.Ending.TheVariants as ending
 use Rattle.ll_journal.specs.Book.{Book, inode_in}
 use Rattle.ll_journal.specs.Direct.{FreesSlot}
 use Rattle.ll_journal.specs.Starving.{StarvesAtEnd}

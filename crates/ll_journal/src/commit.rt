@@ -4,12 +4,12 @@ ghost use Rattle.std.specs.Prelude.{◌≡◌, ◌≢◌, ◌<◌, ℕ, List, su
 ghost use Rattle.ll_rights.specs.Map.{get};
 ghost use Rattle.ll_worlds.specs.Walk as walks;
 
-use crate::decided::{moved_by, overtake_moved};
+use crate::check_commit::{CommitCheck, Sight, check_commit};
+use crate::decide_end::{moved_by, overtake_moved};
 use crate::ending::released;
 use crate::journal::{Journal, place_of};
-use crate::outcome::Ending;
+use crate::progress::Ending;
 use crate::seat::Ended;
-use crate::stop::{Sight, Stop, stop_of};
 use ll_answer::Found;
 use ll_held::{Held, unmark};
 use ll_rights::Errno;
@@ -52,7 +52,7 @@ impl Journal {
     }
 
     /// Whether the walk of the client at the place may be answered, and for what.
-    fn stop(&self, place: usize, client: u64, slots: &[u64], lent: &[Held]) -> Stop
+    fn check_end(&self, place: usize, client: u64, slots: &[u64], lent: &[Held]) -> CommitCheck
         requires numbered { client ≡ suc place }
         requires place { place < length self.now.spares }
         requires lent { lent.now ≡ map (slot_of self.now) slots.now }
@@ -65,7 +65,7 @@ impl Journal {
             slots,
             lent,
         };
-        stop_of(&sight, client, &self.seats[place])
+        check_commit(&sight, client, &self.seats[place])
     }
 
     /// The walk can't go on: its call is refused so.
@@ -161,11 +161,11 @@ impl Journal {
         let Some(place) = place_of(&self.seats, client) else {
             return Ending::NotNow;
         };
-        match self.stop(place, client, slots, lent) {
-            Stop::NotNow => Ending::NotNow,
-            Stop::Astray => Ending::Astray,
-            Stop::Blocked(errno) => self.refuse(place, client, slots, lent, errno),
-            Stop::Reached(found) => self.answer(place, client, slots, lent, &found),
+        match self.check_end(place, client, slots, lent) {
+            CommitCheck::NotNow => Ending::NotNow,
+            CommitCheck::Astray => Ending::Astray,
+            CommitCheck::Blocked(errno) => self.refuse(place, client, slots, lent, errno),
+            CommitCheck::Reached(found) => self.answer(place, client, slots, lent, &found),
         }
     }
 }

@@ -8,11 +8,11 @@ ghost use Rattle.ll_seq.specs.Call.{targets};
 ghost use Rattle.ll_seq.specs.State.{root};
 ghost use Rattle.ll_worlds.specs.Walk.{Walk, forked, marks};
 ghost use Rattle.ll_worlds.specs.World.{has_any};
-ghost use Rattle.ll_journal.specs.Looks.{goes_on};
+ghost use Rattle.ll_journal.specs.Checks.{goes_on};
 ghost use Rattle.ll_journal.specs.Kept.{seat_at};
 
-use crate::look::{Look, directory_below, look_again, look_at_root, look_down};
-use crate::outcome::Outcome;
+use crate::check_step::{StepCheck, check_descend, check_enter, check_restart, directory_below};
+use crate::progress::Progress;
 use crate::seat::Seat;
 use crate::station::Station;
 use crate::walked::{is_free, names_path, next_gate};
@@ -182,28 +182,28 @@ impl Journal {
     }
 
     /// The first descent of the client's walk, to the root, for which the root's slot is lent. Takes no memory.
-    pub fn enter(&mut self, client: u64, slot: u64, root: &mut Held) -> Outcome
+    pub fn enter(&mut self, client: u64, slot: u64, root: &mut Held) -> Progress
         requires { root.old ≡ slot_of self.old slot }
         ensures does { Does self.old (Descend client) result self.new }
         ensures lent { root.new ≡ slot_of self.new slot }
         ensures spares { Spares self.old self.new (slot ∷ []) }
         ensures rest { self.new ≡ record self.old { world = self.new.world } }
-        ensures astray { result ≡ Outcome.Astray → IsAstrayAtTop self.old client slot }
+        ensures astray { result ≡ Progress.Astray → IsAstrayAtTop self.old client slot }
     {
         let Some(place) = place_of(&self.seats, client) else {
-            return Outcome::NotNow;
+            return Progress::NotNow;
         };
-        match look_at_root(&self.seats[place], self.gate, client, root) {
-            Look::NotNow => return Outcome::NotNow,
-            Look::Astray => return Outcome::Astray,
-            Look::Go => {}
+        match check_enter(&self.seats[place], self.gate, client, root) {
+            StepCheck::NotNow => return Progress::NotNow,
+            StepCheck::Astray => return Progress::Astray,
+            StepCheck::Go => {}
         }
         self.gate = gate_at_root(&self.seats[place], self.gate, client);
         let alloc = self.alloc;
         let seat = &mut self.seats[place];
         seat.enter(alloc);
         root.node.set_mark(Some(client));
-        Outcome::Stands(ROOT)
+        Progress::Stands(ROOT)
     }
 
     /// A descent of the client's walk: the slots are those of the directory where its leg in turn stands, and of the
@@ -215,7 +215,7 @@ impl Journal {
         from: &mut Held,
         to_slot: u64,
         to: &mut Held,
-    ) -> Outcome
+    ) -> Progress
         requires from { from.old ≡ slot_of self.old from_slot }
         requires to { to.old ≡ slot_of self.old to_slot }
         ensures does { Does self.old (Descend client) result self.new }
@@ -223,22 +223,22 @@ impl Journal {
         ensures to { to.new ≡ slot_of self.new to_slot }
         ensures spares { Spares self.old self.new (from_slot ∷ to_slot ∷ []) }
         ensures rest { self.new ≡ record self.old { world = self.new.world } }
-        ensures astray { result ≡ Outcome.Astray → IsAstrayBelow self.old client from_slot to_slot }
+        ensures astray { result ≡ Progress.Astray → IsAstrayBelow self.old client from_slot to_slot }
     {
         let Some(place) = place_of(&self.seats, client) else {
-            return Outcome::NotNow;
+            return Progress::NotNow;
         };
-        match look_down(&self.table, &self.seats[place], from, to) {
-            Look::NotNow => return Outcome::NotNow,
-            Look::Astray => return Outcome::Astray,
-            Look::Go => {}
+        match check_descend(&self.table, &self.seats[place], from, to) {
+            StepCheck::NotNow => return Progress::NotNow,
+            StepCheck::Astray => return Progress::Astray,
+            StepCheck::Go => {}
         }
         let inode = to.inode;
         let seat = &mut self.seats[place];
         seat.descend(inode);
         from.node.set_mark(mark_in(seat, client, from.inode));
         to.node.set_mark(Some(client));
-        Outcome::Stands(inode)
+        Progress::Stands(inode)
     }
 
     /// Where the client's walk is.
@@ -269,44 +269,44 @@ impl Journal {
     }
 
     /// The client's walk leaves what is common to both paths. Takes no memory and no slot.
-    pub fn fork(&mut self, client: u64) -> Outcome
+    pub fn fork(&mut self, client: u64) -> Progress
         ensures does { Does self.old (Fork client) result self.new }
         ensures spares { Spares self.old self.new [] }
         ensures rest { self.new ≡ record self.old { world = self.new.world } }
-        ensures not_astray { result ≢ Outcome.Astray }
+        ensures not_astray { result ≢ Progress.Astray }
     {
         let Some(place) = place_of(&self.seats, client) else {
-            return Outcome::NotNow;
+            return Progress::NotNow;
         };
         if !may_fork(&self.seats[place]) {
-            return Outcome::NotNow;
+            return Progress::NotNow;
         }
         let seat = &mut self.seats[place];
         seat.fork();
-        Outcome::Forked
+        Progress::Forked
     }
 
     /// The client's stale walk starts again, above the root. What is lent lies in these slots: those of the directories
     /// where it stands. Takes no memory.
-    pub fn restart(&mut self, client: u64, slots: &[u64], lent: &mut [Held]) -> Outcome
+    pub fn restart(&mut self, client: u64, slots: &[u64], lent: &mut [Held]) -> Progress
         requires { lent.old ≡ map (slot_of self.old) slots.now }
         ensures does { Does self.old (Restart client) result self.new }
         ensures lent { lent.new ≡ map (slot_of self.new) slots.now }
         ensures spares { Spares self.old self.new slots.now }
         ensures rest { self.new ≡ record self.old { world = self.new.world } }
-        ensures astray { result ≡ Outcome.Astray → IsAstrayAt self.old client slots.now }
+        ensures astray { result ≡ Progress.Astray → IsAstrayAt self.old client slots.now }
     {
         let Some(place) = place_of(&self.seats, client) else {
-            return Outcome::NotNow;
+            return Progress::NotNow;
         };
-        match look_again(&self.seats[place], lent) {
-            Look::NotNow => return Outcome::NotNow,
-            Look::Astray => return Outcome::Astray,
-            Look::Go => {}
+        match check_restart(&self.seats[place], lent) {
+            StepCheck::NotNow => return Progress::NotNow,
+            StepCheck::Astray => return Progress::Astray,
+            StepCheck::Go => {}
         }
         let seat = &mut self.seats[place];
         seat.restart();
         unmark(lent, client);
-        Outcome::Restarted
+        Progress::Restarted
     }
 }

@@ -2,28 +2,28 @@
 #![tactic(auto)]
 
 mod alone;
+mod check_commit;
+mod check_step;
 mod commit;
-mod decided;
+mod decide_end;
 mod direct;
 mod ending;
 mod files;
-mod found;
+mod find_ends;
 mod journal;
 mod leg;
-mod look;
 mod needs;
 mod next;
 mod open_file;
-mod outcome;
 mod pair;
 mod perform;
+mod progress;
 mod seat;
 mod slots;
 mod stage;
 mod standing;
 mod start;
 mod station;
-mod stop;
 mod walked;
 mod way;
 
@@ -31,7 +31,7 @@ pub use direct::Made;
 pub use journal::Journal;
 pub use next::Next;
 pub use open_file::Unmade;
-pub use outcome::{Ending, Outcome};
+pub use progress::{Ending, Progress};
 pub use slots::Slots;
 pub use start::Start;
 pub use station::Station;

@@ -5,13 +5,13 @@ ghost use Rattle.std.specs.List.{AllByRecursion};
 ghost use Rattle.ll_rights.specs.Map.{get};
 ghost use Rattle.ll_seq.specs.State.{root};
 ghost use Rattle.ll_worlds.specs.Walk.{Leg, Walk};
-ghost use Rattle.ll_journal.specs.Looks.{found_last};
+ghost use Rattle.ll_journal.specs.Checks.{found_last};
 ghost use Rattle.ll_journal.specs.Needs as needs;
 
-use crate::found::last_spot;
+use crate::check_commit::{may_make_at, node_at};
+use crate::find_ends::last_spot;
 use crate::journal::{Journal, place_of};
 use crate::slots::Slots;
-use crate::stop::{may_make_at, node_at};
 use ll_answer::Spot;
 use ll_held::Held;
 use ll_inodes::Inodes;

@@ -5,7 +5,7 @@ ghost use Rattle.ll_answer.specs.Lean.{spares_memory};
 ghost use Rattle.ll_seq.specs.State.{State};
 ghost use Rattle.ll_journal.specs.Performed.{IsAtEnd, IsFreeAtEnd, Performs};
 
-use crate::decided::{decided, tell};
+use crate::decide_end::{decide_end, tell};
 use crate::pair::ReplyPair;
 use crate::seat::Ended;
 use ll_answer::Found;
@@ -41,7 +41,7 @@ pub(crate) fn perform(
         found.now) }
     ensures calm { spares_memory walk.now.call ≡ true → is_ok result ≡ true }
 {
-    let effect = match decided(client, walk, found) {
+    let effect = match decide_end(client, walk, found) {
         Err(reply) => return ReplyPair::new(alloc, reply),
         Ok(effect) => effect,
     };

@@ -4,7 +4,7 @@ ghost use Rattle.std.specs.Prelude.{◌≡◌, false};
 ghost use Rattle.std.specs.List.{list_any};
 ghost use Rattle.std.specs.Option.{option_map_or};
 ghost use Rattle.ll_worlds.specs.Walk as walks;
-ghost use Rattle.ll_journal.specs.Looks as looks;
+ghost use Rattle.ll_journal.specs.Checks as checks;
 ghost use Rattle.ll_journal.specs.Needs.{slots_in};
 
 use crate::seat::Seat;
@@ -21,7 +21,7 @@ pub(crate) fn is_in(inodes: &[u64], inode: u64) -> bool
 
 /// Whether the inode lies in what is lent.
 pub(crate) fn is_lent(lent: &[Held], inode: u64) -> bool
-    ensures { result ≡ looks.lends lent.now inode }
+    ensures { result ≡ checks.lends lent.now inode }
 {
     lent.iter().any(|held| held.inode == inode)
 }
@@ -64,7 +64,7 @@ impl Seat {
 
     /// Whether each directory where the walk stands is lent.
     pub(crate) fn is_all_lent(&self, lent: &[Held]) -> bool
-        ensures { result ≡ looks.is_all_lent lent.now self.now }
+        ensures { result ≡ checks.is_all_lent lent.now self.now }
     {
         if self.call.is_none() {
             return true;

@@ -20,8 +20,8 @@ use Rattle.ll_worlds.specs.World.{World, Outcome, NotNow, Begun, Stands, Forked,
 use Rattle.ll_worlds.proofs.SoundSteps.{sound_start, sound_kept}
 use Rattle.ll_journal.specs.Book.{Book, Spares, new_book, slot_of, held_of}
 use Rattle.ll_journal.specs.Steps.{Does}
-use Rattle.ll_journal.specs.declared.outcome.Outcome as told
-use Rattle.ll_journal.specs.declared.outcome.Outcome.TheVariants as tells
+use Rattle.ll_journal.specs.declared.progress.Progress as told
+use Rattle.ll_journal.specs.declared.progress.Progress.TheVariants as tells
 use Rattle.ll_steps.specs.Contents.{held_at, accounts_of, told_as, IsKept}
 use Rattle.ll_steps.specs.Makes.{Makes}
 use Rattle.ll_steps.proofs.Going.{still_within}
@@ -100,7 +100,7 @@ kept_same b b' slots h e = subst (λ (b : Book). IsKept b slots) (sym e) h
 
 -- ---- what the journal tells
 
-pub does_advance : (b b' : Book) (step' : Step) (o : told.Outcome) → o ≢ tells.Astray → Does b step' o b'
+pub does_advance : (b b' : Book) (step' : Step) (o : told.Progress) → o ≢ tells.Astray → Does b step' o b'
     → (p : Outcome) × (advance b.world step' ≡ (p, b'.world))
 does_advance b b' step' tells.NotNow near d = (NotNow, d)
 does_advance b b' step' tells.Astray near d = absurd (near refl)
@@ -108,7 +108,7 @@ does_advance b b' step' (tells.Stands inode) near d = (Stands inode, d)
 does_advance b b' step' tells.Forked near d = (Forked, d)
 does_advance b b' step' tells.Restarted near d = (Restarted, d)
 
-pub does_make : (b b' : Book) (step' : Step) (o : told.Outcome) → o ≢ tells.Astray → Does b step' o b'
+pub does_make : (b b' : Book) (step' : Step) (o : told.Progress) → o ≢ tells.Astray → Does b step' o b'
     → Makes b.world step' (told_as o) b'.world
 does_make b b' step' tells.NotNow near d = d
 does_make b b' step' tells.Astray near d = absurd (near refl)
@@ -116,7 +116,8 @@ does_make b b' step' (tells.Stands inode) near d = d
 does_make b b' step' tells.Forked near d = d
 does_make b b' step' tells.Restarted near d = d
 
-pub fork_keeps : (b b' : Book) (slots : List Held) (step' : Step) (o : told.Outcome) → IsKept b slots → o ≢ tells.Astray
+pub fork_keeps : (b b' : Book) (slots : List Held) (step' : Step) (o : told.Progress) → IsKept b slots
+    → o ≢ tells.Astray
     → Does b step' o b' → Spares b b' [] → IsKept b' slots
 fork_keeps b b' slots step' o h near d s = let a = does_advance b b' step' o near d in
     kept_alone b b' slots step' a.0 h a.1 s

@@ -33,10 +33,10 @@ use Rattle.ll_journal.specs.Book.{Book, Spares, inode_in, slot_of, has_mark}
 use Rattle.ll_journal.specs.Steps.{Does, GoesDown, IsNext, IsInTurn, IsAstrayAt, IsAstrayAtTop, IsAstrayBelow}
 use Rattle.ll_journal.specs.Steps.{is_at_top, leg_in_turn}
 use Rattle.ll_journal.specs.WalkEnds.{AreEnough, Ends, IsAstrayAtEnd, MayTakeMemory, is_lent}
-use Rattle.ll_journal.specs.declared.outcome.Ending.{Ending}
-use Rattle.ll_journal.specs.declared.outcome.Ending.TheVariants as ending
-use Rattle.ll_journal.specs.declared.outcome.Outcome as told
-use Rattle.ll_journal.specs.declared.outcome.Outcome.TheVariants as tells
+use Rattle.ll_journal.specs.declared.progress.Ending.{Ending}
+use Rattle.ll_journal.specs.declared.progress.Ending.TheVariants as ending
+use Rattle.ll_journal.specs.declared.progress.Progress as told
+use Rattle.ll_journal.specs.declared.progress.Progress.TheVariants as tells
 use Rattle.ll_journal.specs.Stations.{station_at, station_of, station_in}
 use Rattle.ll_journal.specs.declared.station.Station.TheVariants as station
 use Rattle.ll_journal.proofs.Advancing.{descend_none, descend_stale, commit_none, commit_not_now, commit_replies}
@@ -275,7 +275,7 @@ near_start b number slots marked astray =
 
 -- ---- a step that is lent some slots
 
-pub told_keeps : (b b' : Book) (slots new : List Held) (step' : Step) (o : told.Outcome) → IsKept b slots
+pub told_keeps : (b b' : Book) (slots new : List Held) (step' : Step) (o : told.Progress) → IsKept b slots
     → o ≢ tells.Astray → Does b step' o b' → new ≡ accounts_of b' → IsKept b' new
 told_keeps b b' slots new step' o h near d e = let a = does_advance b b' step' o near d in
     kept_on b b' slots new step' a.0 h a.1 e

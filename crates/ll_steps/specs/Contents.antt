@@ -5,10 +5,10 @@ use Rattle.ll_held.specs.declared.held.Held.{Held}
 use Rattle.ll_held.specs.Lent.{vacant}
 use Rattle.ll_journal.specs.Book.{Book, slot_of}
 use Rattle.ll_worlds.specs.Sound.{IsSound}
-use Rattle.ll_journal.specs.declared.outcome.Outcome as journal
-use Rattle.ll_journal.specs.declared.outcome.Outcome.TheVariants as told
-use Rattle.ll_journal.specs.declared.outcome.Ending.{Ending}
-use Rattle.ll_journal.specs.declared.outcome.Ending.TheVariants as ending
+use Rattle.ll_journal.specs.declared.progress.Progress as journal
+use Rattle.ll_journal.specs.declared.progress.Progress.TheVariants as told
+use Rattle.ll_journal.specs.declared.progress.Ending.{Ending}
+use Rattle.ll_journal.specs.declared.progress.Ending.TheVariants as ending
 use Rattle.ll_journal.specs.declared.direct.Made.{Made}
 use Rattle.ll_journal.specs.declared.direct.Made.TheVariants as answer
 use Rattle.ll_rights.specs.declared.errno.Errno.TheVariants.{HistoryFull, NoMemory}
@@ -28,7 +28,7 @@ pub record IsKept (b : Book) (slots : List Held) : Type 0 where
   pub within : length b.world.history ≤ b.world.limit
 
 -- what the journal tells of a step
-abbrev pub told_as : journal.Outcome → Outcome
+abbrev pub told_as : journal.Progress → Outcome
 told_as told.NotNow = NotNow
 told_as told.Astray = NotNow
 told_as (told.Stands inode) = Stands inode

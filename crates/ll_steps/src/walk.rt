@@ -17,22 +17,22 @@ use crate::outcome::Outcome;
 use crate::slots::{trade, vacant};
 use crate::world::World;
 use ll_held::Held;
-use ll_journal::{Ending, Journal, Outcome as Told, Station};
+use ll_journal::{Ending, Journal, Progress, Station};
 use ll_rights::Errno;
 use ll_seq::Call;
 use std::alloc::Global;
 
 /// The same, where enough was lent.
-fn told(outcome: Told) -> Outcome
-    requires { outcome ≢ Told.Astray }
+fn told(outcome: Progress) -> Outcome
+    requires { outcome ≢ Progress.Astray }
     ensures { result ≡ told_as outcome }
 {
     match outcome {
-        Told::NotNow => Outcome::NotNow,
-        Told::Stands(inode) => Outcome::Stands(inode),
-        Told::Forked => Outcome::Forked,
-        Told::Restarted => Outcome::Restarted,
-        Told::Astray => unreachable!(),
+        Progress::NotNow => Outcome::NotNow,
+        Progress::Stands(inode) => Outcome::Stands(inode),
+        Progress::Forked => Outcome::Forked,
+        Progress::Restarted => Outcome::Restarted,
+        Progress::Astray => unreachable!(),
     }
 }
 

@@ -2,7 +2,7 @@
 //! gate.
 
 use crate::calls::target;
-use ll_journal::{Journal, Made, Outcome, Station};
+use ll_journal::{Journal, Made, Progress, Station};
 use ll_rights::Abi;
 use ll_seq::{Call, Reply, Rules};
 use std::alloc::Global;
@@ -43,7 +43,7 @@ fn begins(journal: &mut Journal, alloc: Global) -> bool {
         && renames(journal, alloc, 1)
         && !renames(journal, alloc, 2)
         && journal.station(1) == Station::Above
-        && journal.fork(1) == Outcome::NotNow
+        && journal.fork(1) == Progress::NotNow
 }
 
 #[test]

@@ -6,14 +6,14 @@ use Rattle.ll_journal.proofs.PerformedCalls.{takes_if_told, may_enact, told_lie,
 use Rattle.ll_journal.proofs.Starved.{never_err, when_err}
 use Rattle.ll_journal.proofs.perform.perform.Goals as goal
 
-pub decided-requires-clause-early : goal.decided-requires-clause-early
-decided-requires-clause-early c = c.requires.5.early
+pub decide_end-requires-clause-early : goal.decide_end-requires-clause-early
+decide_end-requires-clause-early c = c.requires.5.early
 
-pub decided-requires-clause-first : goal.decided-requires-clause-first
-decided-requires-clause-first c = first_long c.requires.5
+pub decide_end-requires-clause-first : goal.decide_end-requires-clause-first
+decide_end-requires-clause-first c = first_long c.requires.5
 
-pub decided-requires-clause-second : goal.decided-requires-clause-second
-decided-requires-clause-second c = second_long c.requires.5
+pub decide_end-requires-clause-second : goal.decide_end-requires-clause-second
+decide_end-requires-clause-second c = second_long c.requires.5
 
 -- ---- the call is refused
 

@@ -19,8 +19,8 @@ returns-in_default-clause-does c =
 pub returns-in_default-clause-rest : goal.returns-in_default-clause-rest
 returns-in_default-clause-rest c = inl refl
 
-pub stop-requires-clause-place : goal.stop-requires-clause-place
-stop-requires-clause-place c =
+pub check_end-requires-clause-place : goal.check_end-requires-clause-place
+check_end-requires-clause-place c =
     subst (λ n. c.in-Some.place < n) (ap length c.deref.ensures.value ∙ sym (many_spares c.self.inside.seats.items)
     ∙ ap (λ (b : Book). length b.spares) c.self.view_is) c.in-Some.ensures.some.1
 

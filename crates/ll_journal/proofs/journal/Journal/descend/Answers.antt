@@ -5,7 +5,7 @@ use Rattle.ll_worlds.specs.declared.step.Step.TheVariants.{Descend}
 use Rattle.ll_worlds.specs.World as world
 use Rattle.ll_journal.specs.Book.{Book, Seat, slot_of}
 use Rattle.ll_journal.specs.Kept.{seat_at, world_of}
-use Rattle.ll_journal.specs.Looks.{look_down}
+use Rattle.ll_journal.specs.Checks.{check_descend}
 use Rattle.ll_journal.specs.Steps.{IsAstrayBelow}
 use Rattle.ll_journal.proofs.Starting.{at_place, changed_world, kept_by, over_spares, rest_kept}
 use Rattle.ll_journal.proofs.Entering.{no_walk, one_seat}
@@ -31,7 +31,7 @@ returns-in-NotNow-clause-does c =
     subst (λ (b : Book). advance b.world (Descend c.args.client) ≡ (NotNow, b.world)) c.self.view_is
     (down_not_now c.self.inside c.self.invariant c.args.client c.in-Some.place c.index.result.now first
     c.in-Some.ensures.some.0 c.args.from_slot c.args.to_slot c.args.from.now c.args.to.now lent_from lent_to
-    (sym c.look_down.ensures ∙ c.in-NotNow.is))
+    (sym c.check_descend.ensures ∙ c.in-NotNow.is))
 
 pub returns-in-Astray-clause-astray : goal.returns-in-Astray-clause-astray
 returns-in-Astray-clause-astray c e =
@@ -43,7 +43,7 @@ returns-in-Astray-clause-astray c e =
     subst (λ (b : Book). IsAstrayBelow b c.args.client c.args.from_slot c.args.to_slot) c.self.view_is
     (down_astray c.self.inside c.self.invariant c.args.client c.in-Some.place c.index.result.now first
     c.in-Some.ensures.some.0 c.args.from_slot c.args.to_slot c.args.from.now c.args.to.now lent_from lent_to
-    (sym c.look_down.ensures ∙ c.in-Astray.is))
+    (sym c.check_descend.ensures ∙ c.in-Astray.is))
 
 pub descend-requires : goal.descend-requires
 descend-requires c =
@@ -56,8 +56,8 @@ descend-requires c =
     c.index_mut-seat.result.now c.deref.ensures.value c.in-Some.ensures.some c.index_mut-seat.ensures.value in
     let go = down_goes c.self.inside c.self.invariant c.args.client c.in-Some.place c.index_mut-seat.result.now at
     c.in-Some.ensures.some.0 c.args.from_slot c.args.to_slot c.args.from.now c.args.to.now lent_from lent_to
-    (ap (λ (s : Seat). look_down c.self.inside.table.facts s c.args.from.now c.args.to.now)
-    (sym (one_seat c.self.inside c.in-Some.place _ _ first at)) ∙ sym c.look_down.ensures ∙ c.in-Go.is) in
+    (ap (λ (s : Seat). check_descend c.self.inside.table.facts s c.args.from.now c.args.to.now)
+    (sym (one_seat c.self.inside c.in-Some.place _ _ first at)) ∙ sym c.check_descend.ensures ∙ c.in-Go.is) in
     has_next c.self.inside c.self.invariant c.args.client c.in-Some.place c.index_mut-seat.result.now at
     c.in-Some.ensures.some.0 c.args.from_slot c.args.to_slot c.args.from.now c.args.to.now lent_from lent_to go
 
@@ -72,8 +72,8 @@ invariant_of-self c =
     c.index_mut-seat.result.now c.deref.ensures.value c.in-Some.ensures.some c.index_mut-seat.ensures.value in
     let go = down_goes c.self.inside c.self.invariant c.args.client c.in-Some.place c.index_mut-seat.result.now at
     c.in-Some.ensures.some.0 c.args.from_slot c.args.to_slot c.args.from.now c.args.to.now lent_from lent_to
-    (ap (λ (s : Seat). look_down c.self.inside.table.facts s c.args.from.now c.args.to.now)
-    (sym (one_seat c.self.inside c.in-Some.place _ _ first at)) ∙ sym c.look_down.ensures ∙ c.in-Go.is) in
+    (ap (λ (s : Seat). check_descend c.self.inside.table.facts s c.args.from.now c.args.to.now)
+    (sym (one_seat c.self.inside c.in-Some.place _ _ first at)) ∙ sym c.check_descend.ensures ∙ c.in-Go.is) in
     kept_by c.self.inside _ c.in-Some.place c.index_mut-seat.result.now c.descend.new.self c.self.inside.gate
     c.self.invariant at
     (ap (λ (s : Seat). s.client) c.descend.ensures) (ap (λ (s : Seat). s.spare) c.descend.ensures)
@@ -93,8 +93,8 @@ returns-clause-does c =
     c.index_mut-seat.result.now c.deref.ensures.value c.in-Some.ensures.some c.index_mut-seat.ensures.value in
     let go = down_goes c.self.inside c.self.invariant c.args.client c.in-Some.place c.index_mut-seat.result.now at
     c.in-Some.ensures.some.0 c.args.from_slot c.args.to_slot c.args.from.now c.args.to.now lent_from lent_to
-    (ap (λ (s : Seat). look_down c.self.inside.table.facts s c.args.from.now c.args.to.now)
-    (sym (one_seat c.self.inside c.in-Some.place _ _ first at)) ∙ sym c.look_down.ensures ∙ c.in-Go.is) in
+    (ap (λ (s : Seat). check_descend c.self.inside.table.facts s c.args.from.now c.args.to.now)
+    (sym (one_seat c.self.inside c.in-Some.place _ _ first at)) ∙ sym c.check_descend.ensures ∙ c.in-Go.is) in
     subst (λ (b : Book). advance b.world (Descend c.args.client)
     ≡ (
       Stands c.args.to.now.inode,
@@ -115,8 +115,8 @@ returns-clause-from c =
     c.index_mut-seat.result.now c.deref.ensures.value c.in-Some.ensures.some c.index_mut-seat.ensures.value in
     let go = down_goes c.self.inside c.self.invariant c.args.client c.in-Some.place c.index_mut-seat.result.now at
     c.in-Some.ensures.some.0 c.args.from_slot c.args.to_slot c.args.from.now c.args.to.now lent_from lent_to
-    (ap (λ (s : Seat). look_down c.self.inside.table.facts s c.args.from.now c.args.to.now)
-    (sym (one_seat c.self.inside c.in-Some.place _ _ first at)) ∙ sym c.look_down.ensures ∙ c.in-Go.is) in
+    (ap (λ (s : Seat). check_descend c.self.inside.table.facts s c.args.from.now c.args.to.now)
+    (sym (one_seat c.self.inside c.in-Some.place _ _ first at)) ∙ sym c.check_descend.ensures ∙ c.in-Go.is) in
     down_from c.self.inside c.self.invariant c.args.client c.in-Some.place c.index_mut-seat.result.now at
     c.in-Some.ensures.some.0 c.args.from_slot c.args.to_slot c.args.from.now c.args.to.now lent_from lent_to go
     c.descend.new.self c.descend.ensures c.mark_in.result c.set_mark.new.self c.mark_in.ensures c.set_mark.ensures
@@ -132,8 +132,8 @@ returns-clause-to c =
     c.index_mut-seat.result.now c.deref.ensures.value c.in-Some.ensures.some c.index_mut-seat.ensures.value in
     let go = down_goes c.self.inside c.self.invariant c.args.client c.in-Some.place c.index_mut-seat.result.now at
     c.in-Some.ensures.some.0 c.args.from_slot c.args.to_slot c.args.from.now c.args.to.now lent_from lent_to
-    (ap (λ (s : Seat). look_down c.self.inside.table.facts s c.args.from.now c.args.to.now)
-    (sym (one_seat c.self.inside c.in-Some.place _ _ first at)) ∙ sym c.look_down.ensures ∙ c.in-Go.is) in
+    (ap (λ (s : Seat). check_descend c.self.inside.table.facts s c.args.from.now c.args.to.now)
+    (sym (one_seat c.self.inside c.in-Some.place _ _ first at)) ∙ sym c.check_descend.ensures ∙ c.in-Go.is) in
     down_to c.self.inside c.self.invariant c.args.client c.in-Some.place c.index_mut-seat.result.now at
     c.in-Some.ensures.some.0 c.args.from_slot c.args.to_slot c.args.from.now c.args.to.now lent_from lent_to go
     c.descend.new.self c.descend.ensures c.set_mark-2.new.self c.set_mark-2.ensures
@@ -149,8 +149,8 @@ returns-clause-spares c =
     c.index_mut-seat.result.now c.deref.ensures.value c.in-Some.ensures.some c.index_mut-seat.ensures.value in
     let go = down_goes c.self.inside c.self.invariant c.args.client c.in-Some.place c.index_mut-seat.result.now at
     c.in-Some.ensures.some.0 c.args.from_slot c.args.to_slot c.args.from.now c.args.to.now lent_from lent_to
-    (ap (λ (s : Seat). look_down c.self.inside.table.facts s c.args.from.now c.args.to.now)
-    (sym (one_seat c.self.inside c.in-Some.place _ _ first at)) ∙ sym c.look_down.ensures ∙ c.in-Go.is) in
+    (ap (λ (s : Seat). check_descend c.self.inside.table.facts s c.args.from.now c.args.to.now)
+    (sym (one_seat c.self.inside c.in-Some.place _ _ first at)) ∙ sym c.check_descend.ensures ∙ c.in-Go.is) in
     over_spares _ _ _ (c.args.from_slot ∷ c.args.to_slot ∷ []) c.self.view_is
     (down_spares c.self.inside c.self.invariant c.args.client c.in-Some.place c.index_mut-seat.result.now at
     c.in-Some.ensures.some.0 c.args.from_slot c.args.to_slot c.args.from.now c.args.to.now lent_from lent_to go

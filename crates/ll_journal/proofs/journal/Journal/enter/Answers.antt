@@ -2,7 +2,7 @@ use Rattle.std.proofs.Common.{◌≡◌, ap, sym, subst, ◌∙◌, refl}
 use Rattle.std.specs.Prelude.{option_and_then, unwrap_or, cond, ◌==◌, false, Some, ◌∷◌, []}
 use Rattle.std.specs.Option.{option_map_or}
 use Rattle.ll_worlds.specs.Walk.{Walk}
-use Rattle.ll_journal.specs.Looks.{look_at_root}
+use Rattle.ll_journal.specs.Checks.{check_enter}
 use Rattle.ll_worlds.specs.World.{Stands, NotNow, advance}
 use Rattle.ll_worlds.specs.declared.step.Step.TheVariants.{Descend}
 use Rattle.ll_worlds.specs.World as world
@@ -30,7 +30,7 @@ returns-in-NotNow-clause-does c =
     (root_not_now c.self.inside c.self.invariant c.args.client c.in-Some.place c.index.result.now first
     c.in-Some.ensures.some.0 c.args.slot c.args.root.now
     (subst (λ (b : Book). c.args.root.now ≡ slot_of b c.args.slot) (sym c.self.view_is) c.requires)
-    (sym c.look_at_root.ensures ∙ c.in-NotNow.is))
+    (sym c.check_enter.ensures ∙ c.in-NotNow.is))
 
 pub returns-in-Astray-clause-astray : goal.returns-in-Astray-clause-astray
 returns-in-Astray-clause-astray c e =
@@ -40,7 +40,7 @@ returns-in-Astray-clause-astray c e =
     (root_astray c.self.inside c.self.invariant c.args.client c.in-Some.place c.index.result.now first
     c.in-Some.ensures.some.0 c.args.slot c.args.root.now
     (subst (λ (b : Book). c.args.root.now ≡ slot_of b c.args.slot) (sym c.self.view_is) c.requires)
-    (sym c.look_at_root.ensures ∙ c.in-Astray.is))
+    (sym c.check_enter.ensures ∙ c.in-Astray.is))
 
 pub invariant_of-self : goal.invariant_of-self
 invariant_of-self c =
@@ -53,8 +53,8 @@ invariant_of-self c =
     let lent = subst (λ (b : Book). c.args.root.now ≡ slot_of b c.args.slot) (sym c.self.view_is) c.requires in
     let go = root_goes c.self.inside c.self.invariant c.args.client c.in-Some.place c.index_mut-seat.result.now at
     c.in-Some.ensures.some.0 c.args.slot c.args.root.now lent
-    (ap (λ (s : Seat). look_at_root s c.self.inside.gate c.args.client c.args.root.now)
-    (sym (one_seat c.self.inside c.in-Some.place _ _ first at)) ∙ sym c.look_at_root.ensures ∙ c.in-Go.is) in
+    (ap (λ (s : Seat). check_enter s c.self.inside.gate c.args.client c.args.root.now)
+    (sym (one_seat c.self.inside c.in-Some.place _ _ first at)) ∙ sym c.check_enter.ensures ∙ c.in-Go.is) in
     let gate = c.gate_at_root-self-inside.ensures
     ∙ ap (λ (s : Seat). cond (option_map_or (λ (walk : Walk). walk.starts == 4) s.walk false) (Some c.args.client)
     c.self.inside.gate) (one_seat c.self.inside c.in-Some.place _ _ then at) in
@@ -77,8 +77,8 @@ returns-clause-does c =
     let lent = subst (λ (b : Book). c.args.root.now ≡ slot_of b c.args.slot) (sym c.self.view_is) c.requires in
     let go = root_goes c.self.inside c.self.invariant c.args.client c.in-Some.place c.index_mut-seat.result.now at
     c.in-Some.ensures.some.0 c.args.slot c.args.root.now lent
-    (ap (λ (s : Seat). look_at_root s c.self.inside.gate c.args.client c.args.root.now)
-    (sym (one_seat c.self.inside c.in-Some.place _ _ first at)) ∙ sym c.look_at_root.ensures ∙ c.in-Go.is) in
+    (ap (λ (s : Seat). check_enter s c.self.inside.gate c.args.client c.args.root.now)
+    (sym (one_seat c.self.inside c.in-Some.place _ _ first at)) ∙ sym c.check_enter.ensures ∙ c.in-Go.is) in
     let gate = c.gate_at_root-self-inside.ensures
     ∙ ap (λ (s : Seat). cond (option_map_or (λ (walk : Walk). walk.starts == 4) s.walk false) (Some c.args.client)
     c.self.inside.gate) (one_seat c.self.inside c.in-Some.place _ _ then at) in
@@ -100,8 +100,8 @@ returns-clause-lent c =
     let lent = subst (λ (b : Book). c.args.root.now ≡ slot_of b c.args.slot) (sym c.self.view_is) c.requires in
     let go = root_goes c.self.inside c.self.invariant c.args.client c.in-Some.place c.index_mut-seat.result.now at
     c.in-Some.ensures.some.0 c.args.slot c.args.root.now lent
-    (ap (λ (s : Seat). look_at_root s c.self.inside.gate c.args.client c.args.root.now)
-    (sym (one_seat c.self.inside c.in-Some.place _ _ first at)) ∙ sym c.look_at_root.ensures ∙ c.in-Go.is) in
+    (ap (λ (s : Seat). check_enter s c.self.inside.gate c.args.client c.args.root.now)
+    (sym (one_seat c.self.inside c.in-Some.place _ _ first at)) ∙ sym c.check_enter.ensures ∙ c.in-Go.is) in
     let gate = c.gate_at_root-self-inside.ensures
     ∙ ap (λ (s : Seat). cond (option_map_or (λ (walk : Walk). walk.starts == 4) s.walk false) (Some c.args.client)
     c.self.inside.gate) (one_seat c.self.inside c.in-Some.place _ _ then at) in
@@ -120,8 +120,8 @@ returns-clause-spares c =
     let lent = subst (λ (b : Book). c.args.root.now ≡ slot_of b c.args.slot) (sym c.self.view_is) c.requires in
     let go = root_goes c.self.inside c.self.invariant c.args.client c.in-Some.place c.index_mut-seat.result.now at
     c.in-Some.ensures.some.0 c.args.slot c.args.root.now lent
-    (ap (λ (s : Seat). look_at_root s c.self.inside.gate c.args.client c.args.root.now)
-    (sym (one_seat c.self.inside c.in-Some.place _ _ first at)) ∙ sym c.look_at_root.ensures ∙ c.in-Go.is) in
+    (ap (λ (s : Seat). check_enter s c.self.inside.gate c.args.client c.args.root.now)
+    (sym (one_seat c.self.inside c.in-Some.place _ _ first at)) ∙ sym c.check_enter.ensures ∙ c.in-Go.is) in
     let gate = c.gate_at_root-self-inside.ensures
     ∙ ap (λ (s : Seat). cond (option_map_or (λ (walk : Walk). walk.starts == 4) s.walk false) (Some c.args.client)
     c.self.inside.gate) (one_seat c.self.inside c.in-Some.place _ _ then at) in

@@ -5,7 +5,7 @@ use Rattle.ll_worlds.specs.declared.step.Step.TheVariants.{Restart}
 use Rattle.ll_worlds.specs.World as world
 use Rattle.ll_journal.specs.Book.{Book, Seat, slot_of}
 use Rattle.ll_journal.specs.Kept.{book_of, seat_at, world_of}
-use Rattle.ll_journal.specs.Looks.{look_again}
+use Rattle.ll_journal.specs.Checks.{check_restart}
 use Rattle.ll_journal.specs.Steps.{IsAstrayAt}
 use Rattle.ll_journal.proofs.Starting.{at_place, changed_world, kept_by, over_spares, rest_kept}
 use Rattle.ll_journal.proofs.Entering.{no_walk, one_seat}
@@ -28,7 +28,7 @@ returns-in-NotNow-clause-does c =
     let told = c.requires ∙ ap (λ (b : Book). map (slot_of b) c.args.slots.now) (sym c.self.view_is) in
     subst (λ (b : Book). advance b.world (Restart c.args.client) ≡ (NotNow, b.world)) c.self.view_is
     (again_not_now c.self.inside c.self.invariant c.args.client c.in-Some.place c.index.result.now first
-    c.in-Some.ensures.some.0 c.args.slots.now c.args.lent.now told (sym c.look_again.ensures ∙ c.in-NotNow.is))
+    c.in-Some.ensures.some.0 c.args.slots.now c.args.lent.now told (sym c.check_restart.ensures ∙ c.in-NotNow.is))
 
 pub returns-in-Astray-clause-astray : goal.returns-in-Astray-clause-astray
 returns-in-Astray-clause-astray c e =
@@ -37,7 +37,7 @@ returns-in-Astray-clause-astray c e =
     let told = c.requires ∙ ap (λ (b : Book). map (slot_of b) c.args.slots.now) (sym c.self.view_is) in
     subst (λ (b : Book). IsAstrayAt b c.args.client c.args.slots.now) c.self.view_is
     (again_astray c.self.inside c.self.invariant c.args.client c.in-Some.place c.index.result.now first
-    c.in-Some.ensures.some.0 c.args.slots.now c.args.lent.now told (sym c.look_again.ensures ∙ c.in-Astray.is))
+    c.in-Some.ensures.some.0 c.args.slots.now c.args.lent.now told (sym c.check_restart.ensures ∙ c.in-Astray.is))
 
 pub restart-requires : goal.restart-requires
 restart-requires c =
@@ -48,8 +48,8 @@ restart-requires c =
     let told = c.requires ∙ ap (λ (b : Book). map (slot_of b) c.args.slots.now) (sym c.self.view_is) in
     let go = again_goes c.self.inside c.self.invariant c.args.client c.in-Some.place c.index_mut-seat.result.now at
     c.in-Some.ensures.some.0 c.args.slots.now c.args.lent.now told
-    (ap (look_again c.args.lent.now) (sym (one_seat c.self.inside c.in-Some.place _ _ first at))
-    ∙ sym c.look_again.ensures ∙ c.in-Go.is) in
+    (ap (check_restart c.args.lent.now) (sym (one_seat c.self.inside c.in-Some.place _ _ first at))
+    ∙ sym c.check_restart.ensures ∙ c.in-Go.is) in
     few_starts c.self.inside c.self.invariant c.args.client c.in-Some.place c.index_mut-seat.result.now at
     c.in-Some.ensures.some.0 c.args.slots.now c.args.lent.now told go
 
@@ -68,8 +68,8 @@ starts c =
     c.deref.ensures.value c.in-Some.ensures.some c.index.ensures in
     again_goes c.self.inside c.self.invariant c.args.client c.in-Some.place c.index_mut-seat.result.now (at_start c)
     c.in-Some.ensures.some.0 c.args.slots.now c.args.lent.now (told_then c)
-    (ap (look_again c.args.lent.now) (sym (one_seat c.self.inside c.in-Some.place _ _ first (at_start c)))
-    ∙ sym c.look_again.ensures ∙ c.in-Go.is)
+    (ap (check_restart c.args.lent.now) (sym (one_seat c.self.inside c.in-Some.place _ _ first (at_start c)))
+    ∙ sym c.check_restart.ensures ∙ c.in-Go.is)
 
 pub invariant_of-self : goal.invariant_of-self
 invariant_of-self c =

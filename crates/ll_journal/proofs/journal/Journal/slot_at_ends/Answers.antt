@@ -10,7 +10,7 @@ use Rattle.ll_worlds.specs.World.{shown}
 use Rattle.ll_journal.specs.Book.{Book, slot_of}
 use Rattle.ll_journal.specs.Kept.{seat_at, world_of}
 use Rattle.ll_answer.specs.declared.found.Spot.{Spot}
-use Rattle.ll_journal.specs.Looks.{found_at, found_last}
+use Rattle.ll_journal.specs.Checks.{found_at, found_last}
 use Rattle.ll_journal.proofs.LastNodes.{same_besides}
 use Rattle.ll_journal.specs.Needs.{IsBesides}
 use Rattle.ll_journal.specs.Needs as needs

@@ -1,0 +1,221 @@
+-- What the journal finds before a step: whether it may be made. No public contract cites it. own
+use Rattle.std.specs.Prelude.{◌≡◌, ◌⊎◌, ℕ, ◌==◌, Bool, true, false, not, ◌&&◌, ◌||◌, List, Option, Some, None, is_none}
+use Rattle.std.specs.Prelude.{nat_lt, nat_le, option_map, option_and_then, slice_get, if◌then◌else◌}
+use Rattle.std.specs.List.{list_all, list_any}
+use Rattle.std.specs.Option.{option_map_or}
+use Rattle.std.specs.Ordering.{nat_cmp}
+use Rattle.ll_rights.specs.declared.errno.Errno.{Errno}
+use Rattle.ll_rights.specs.declared.limits.TheConstants.{DIRECTORY_ENTRIES, NODE_NAMES}
+use Rattle.ll_rights.specs.Kind.{is_dir}
+use Rattle.ll_rights.specs.Map.{Map, get}
+use Rattle.ll_seq.specs.declared.facts.Fact.{Fact}
+use Rattle.ll_path.specs.Path.{Path, is_root, last_name}
+use Rattle.ll_answer.specs.Near.{nodes_of, may_make}
+use Rattle.ll_answer.specs.declared.found.Found.{Found}
+use Rattle.ll_answer.specs.declared.found.Spot.{Spot}
+use Rattle.ll_answer.specs.declared.found.There.{There}
+use Rattle.ll_held.specs.Lent.{Misses}
+use Rattle.ll_seq.specs.declared.call.Call.{Call}
+use Rattle.ll_seq.specs.Call.{first_path, second_path}
+use Rattle.ll_seq.specs.Stages.{no_directory}
+use Rattle.ll_seq.specs.State.{Name, root}
+use Rattle.ll_worlds.specs.Walk.{Walk, Leg, has_two_paths, is_in, legs, is_above}
+use Rattle.ll_held.specs.declared.held.Held.{Held}
+use Rattle.ll_journal.specs.declared.check_step.StepCheck.{StepCheck}
+use Rattle.ll_journal.specs.declared.check_step.StepCheck.TheVariants.{NotNow, Astray, Go}
+use Rattle.ll_journal.specs.declared.check_commit.CommitCheck.{CommitCheck}
+use Rattle.ll_journal.specs.declared.check_commit.CommitCheck.TheVariants as stops
+use Rattle.ll_journal.specs.Book.{Seat}
+use Rattle.ll_journal.specs.Seated.{call_in, first_here_in, here_in, is_at_ends, next_in, second_here_in}
+
+abbrev pub goes_on : Seat → Bool
+goes_on seat = option_map_or (λ (walk : Walk). not walk.stale) seat.walk false
+
+-- on its fourth start a walk takes the gate
+abbrev pub has_gate : Seat → Option ℕ → ℕ → Bool
+has_gate seat gate number =
+    not (option_map_or (λ (walk : Walk). walk.starts == 4) seat.walk false)
+    || option_map_or (λ holder. holder == number) gate true
+
+abbrev pub check_enter : Seat → Option ℕ → ℕ → Held → StepCheck
+check_enter seat gate number slot =
+    if not (goes_on seat) then NotNow
+    else if not (option_map_or (λ (walk : Walk). is_above walk.at) seat.walk false && (slot.inode == root)) then Astray
+    else if is_none slot.node.mark && has_gate seat gate number then Go
+    else NotNow
+
+abbrev pub is_directory : Map nat_cmp Fact → ℕ → Bool
+is_directory facts inode = option_map_or (λ (fact : Fact). is_dir fact.kind) (get facts inode) false
+
+-- the directory that the name names
+abbrev pub check_into : Map nat_cmp Fact → Option ℕ → Held → StepCheck
+check_into facts None to = NotNow
+check_into facts (Some inode) to =
+    if not (is_directory facts inode) then NotNow
+    else if not (to.inode == inode) then Astray
+    else if is_none to.node.mark then Go
+    else NotNow
+
+abbrev pub check_next : Map nat_cmp Fact → Option Name → Held → Held → StepCheck
+check_next facts None from to = NotNow
+check_next facts (Some name) from to = check_into facts (get from.node.names name) to
+
+abbrev pub look_from : Map nat_cmp Fact → Option ℕ → Option Name → Held → Held → StepCheck
+look_from facts None next from to = Astray
+look_from facts (Some here) next from to = if from.inode == here then check_next facts next from to else Astray
+
+-- where the last name of the call's one path stands, or that of its second
+abbrev pub last_found : Call → Found → Spot
+last_found call found = if has_two_paths call then found.second else found.first
+
+-- with this for both paths: of a call with two the second's tells which node it may change or tell of
+abbrev pub found_last : Spot → Found
+found_last last = record { first = last; second = last; is_full = false }
+
+-- the inode lies in what is lent
+abbrev pub lends : List Held → ℕ → Bool
+lends lent inode = list_any (λ (held : Held). held.inode == inode) lent
+
+-- each directory where the seat's walk stands is lent
+abbrev pub is_all_lent : List Held → Seat → Bool
+is_all_lent lent seat =
+    option_map_or (λ (walk : Walk). list_all (λ (leg : Leg). lends lent leg.here) (legs walk.at)) seat.walk true
+
+abbrev pub check_restart : List Held → Seat → StepCheck
+check_restart lent seat =
+    if not (option_map_or (λ (walk : Walk). walk.stale) seat.walk false) then NotNow
+    else if is_all_lent lent seat then Go
+    else Astray
+
+abbrev pub check_descend : Map nat_cmp Fact → Seat → Held → Held → StepCheck
+check_descend facts seat from to =
+    if not (goes_on seat) then NotNow else look_from facts (here_in seat) (next_in seat) from to
+
+-- ---- The directory to which a walk would go down
+
+abbrev pub directory_at : Map nat_cmp Fact → Option ℕ → Option ℕ
+directory_at facts None = None
+directory_at facts (Some inode) = if is_directory facts inode then Some inode else None
+
+abbrev pub directory_for : Map nat_cmp Fact → Option Name → Held → Option ℕ
+directory_for facts None from = None
+directory_for facts (Some name) from = directory_at facts (get from.node.names name)
+
+abbrev pub directory_from : Map nat_cmp Fact → Option ℕ → Option Name → Held → Option ℕ
+directory_from facts None next from = None
+directory_from facts (Some here) next from = if from.inode == here then directory_for facts next from else None
+
+abbrev pub directory_below : Map nat_cmp Fact → Seat → Held → Option ℕ
+directory_below facts seat from =
+    if goes_on seat then directory_from facts (here_in seat) (next_in seat) from else None
+
+-- ---- What a walk finds at its ends
+
+abbrev pub there_by : ℕ → Fact → There
+there_by inode fact = record {
+  inode = inode;
+  kind = fact.kind;
+  has_names = nat_lt 0 fact.names;
+  has_many_names = nat_le NODE_NAMES fact.links;
+}
+
+-- the node of this inode, by what is counted of it
+abbrev pub there_at : Map nat_cmp Fact → ℕ → Option There
+there_at facts inode = option_map (there_by inode) (get facts inode)
+
+abbrev pub crowded_at : Map nat_cmp Fact → ℕ → Bool
+crowded_at facts inode = option_map_or (λ (fact : Fact). nat_le DIRECTORY_ENTRIES fact.names) (get facts inode) false
+
+-- what the last name stands for in the directory; the root for the root's path
+abbrev pub last_in : Held → Path → Option ℕ
+last_in held path = if is_root path then Some root else get held.node.names (last_name path)
+
+abbrev pub spot_at : Map nat_cmp Fact → Held → Path → Spot
+spot_at facts held path = record {
+  way = None;
+  directory = held.inode;
+  is_crowded = crowded_at facts held.inode;
+  there = option_and_then (there_at facts) (last_in held path);
+}
+
+-- why the leg in turn can't go on: what its next name stands for is no directory
+abbrev pub blocked_at : Map nat_cmp Fact → Option ℕ → Option Errno
+blocked_at facts found =
+    slice_get
+    (no_directory (option_and_then (λ inode. option_map (λ (fact : Fact). fact.kind) (get facts inode)) found)) 0
+
+-- it is lent, and this inode lies in it
+pub record Lies (lent : List Held) (inode : ℕ) (held : Held) : Type 0 where
+  pub place : ℕ
+  pub there : slice_get lent place ≡ Some held
+  pub is : held.inode ≡ inode
+
+-- ---- Why a commit stops, or what it finds
+
+abbrev pub stop_by : Option Errno → CommitCheck
+stop_by None = stops.NotNow
+stop_by (Some errno) = stops.Blocked errno
+
+-- with this name ahead, in the directory that is lent
+abbrev pub StopsBefore : Map nat_cmp Fact → List Held → ℕ → Name → CommitCheck → Type 0
+StopsBefore facts lent here name stop =
+    ((held : Held) × Lies lent here held × (stop ≡ stop_by (blocked_at facts (get held.node.names name))))
+    ⊎ (Misses here lent × (stop ≡ stops.Astray))
+
+-- a walk of another client stands in the node of the last name
+abbrev pub is_marked_at : (ℕ → Bool) → Path → Spot → Bool
+is_marked_at marked path spot =
+    not (is_root path) && option_map_or (λ (there : There). marked there.inode) spot.there false
+
+abbrev pub is_marked_there : (ℕ → Bool) → Call → Found → Bool
+is_marked_there marked call found =
+    is_marked_at marked (first_path call) found.first || is_marked_at marked (second_path call) found.second
+
+-- besides the directories, what the call may need is lent
+abbrev pub is_enough : List ℕ → List Held → ℕ → Call → Found → Bool
+is_enough slots lent spare call found =
+    list_all (λ inode. (inode == 0) || lends lent inode) (nodes_of call found)
+    && (not (may_make call found) || is_in slots spare)
+
+abbrev pub check_there : (ℕ → Bool) → List ℕ → List Held → ℕ → Call → Found → CommitCheck
+check_there marked slots lent spare call found =
+    if is_marked_there marked call found then stops.NotNow
+    else if is_enough slots lent spare call found then stops.Reached found
+    else stops.Astray
+
+abbrev pub found_at : Map nat_cmp Fact → Bool → Held → Held → Call → Found
+found_at facts full first second call = record {
+  first = spot_at facts first (first_path call);
+  second = spot_at facts second (second_path call);
+  is_full = full;
+}
+
+-- with both legs at their ends, in these directories
+abbrev pub StopsBetween : Map nat_cmp Fact → Bool → (ℕ → Bool) → List ℕ → List Held → ℕ → Call → ℕ → ℕ → CommitCheck
+    → Type 0
+StopsBetween facts full marked slots lent spare call first second stop =
+    ((a b : Held) × Lies lent first a × Lies lent second b
+    × (stop ≡ check_there marked slots lent spare call (found_at facts full a b call)))
+    ⊎ ((Misses first lent ⊎ Misses second lent) × (stop ≡ stops.Astray))
+
+abbrev pub StopsAtEnds : Map nat_cmp Fact → Bool → (ℕ → Bool) → List ℕ → List Held → Seat → CommitCheck → Type 0
+StopsAtEnds facts full marked slots lent seat stop =
+    ((is_at_ends seat ≡ false) × (stop ≡ stops.NotNow))
+    ⊎ ((is_at_ends seat ≡ true) × (call : Call) × (first second : ℕ) × (call_in seat ≡ Some call)
+    × (first_here_in seat ≡ Some first) × (second_here_in seat ≡ Some second)
+    × StopsBetween facts full marked slots lent seat.spare call first second stop)
+
+-- with the next name of the leg in turn, if there is one
+abbrev pub StopsBy : Map nat_cmp Fact → Bool → (ℕ → Bool) → List ℕ → List Held → Seat → Option Name → CommitCheck
+    → Type 0
+StopsBy facts full marked slots lent seat None stop = StopsAtEnds facts full marked slots lent seat stop
+StopsBy facts full marked slots lent seat (Some name) stop =
+    (here : ℕ) × (here_in seat ≡ Some here) × StopsBefore facts lent here name stop
+
+-- marked: where a walk of another client stands
+abbrev pub Stops : Map nat_cmp Fact → Bool → (ℕ → Bool) → List ℕ → List Held → Seat → CommitCheck → Type 0
+Stops facts full marked slots lent seat stop =
+    ((goes_on seat ≡ false) × (stop ≡ stops.NotNow))
+    ⊎ ((goes_on seat ≡ true) × (is_all_lent lent seat ≡ false) × (stop ≡ stops.Astray))
+    ⊎ ((goes_on seat ≡ true) × (is_all_lent lent seat ≡ true)
+    × StopsBy facts full marked slots lent seat (next_in seat) stop)

@@ -1,0 +1,278 @@
+//! Whether a walk may be answered, and for what: seen from what is lent.
+
+ghost use Rattle.std.specs.Prelude.{◌≡◌, ◌==◌, ◌||◌, ◌&&◌, ℕ, Bool, List, true, not, nat_le, slice_index_or};
+ghost use Rattle.std.specs.List.{list_all};
+ghost use Rattle.ll_answer.specs.Near as near;
+ghost use Rattle.ll_inodes.specs.InodeTable.{IsTable};
+ghost use Rattle.ll_path.specs.Path as paths;
+ghost use Rattle.ll_path.specs.Path.{Path};
+ghost use Rattle.ll_rights.specs.Map.{len};
+ghost use Rattle.ll_seq.specs.Call.{first_path, path_of, second_path};
+ghost use Rattle.ll_seq.specs.State.{State};
+ghost use Rattle.ll_worlds.specs.Walk.{is_in};
+ghost use Rattle.ll_worlds.specs.World as world;
+ghost use Rattle.ll_journal.specs.Kept.{walks_from};
+ghost use Rattle.ll_journal.specs.Checks as checks;
+
+use crate::ending::is_marked_by_other;
+use crate::find_ends::{blocked, find_ends};
+use crate::seat::Seat;
+use crate::standing::{is_in, is_lent};
+use crate::way::has_two_paths;
+use ll_answer::{Found, Spot, Targets, targets_of};
+use ll_held::{Held, find};
+use ll_inodes::Inodes;
+use ll_path::Target;
+use ll_rights::Errno;
+use ll_seq::Call;
+
+/// Why a commit isn't made, or what it finds.
+#[derive(Clone, Copy)]
+pub(crate) enum CommitCheck {
+    NotNow,
+    /// Other slots are lent than the commit may need.
+    Astray,
+    /// The leg in turn can't go on, which is refused so.
+    Blocked(Errno),
+    /// Each branch is at its end.
+    Reached(Found),
+}
+
+/// With this name ahead of the leg in turn, which stands here.
+fn check_before(table: &Inodes, lent: &[Held], here: u64, name: &str) -> CommitCheck
+    ensures { checks.StopsBefore table.now.facts lent.now here name.now result }
+{
+    let Some(place) = find(lent, here) else {
+        return CommitCheck::Astray;
+    };
+    match blocked(table, lent[place].node.look_up(name)) {
+        None => CommitCheck::NotNow,
+        Some(errno) => CommitCheck::Blocked(errno),
+    }
+}
+
+/// The node that the call may change or tell of besides the directories of its paths, or 0, where its one path or its
+/// second has its last name here.
+pub(crate) fn node_at(call: &Call, last: &Spot) -> u64
+    ensures first { result ≡ slice_index_or (near.nodes_of call.now (checks.found_last last.now)) 0 0 }
+    ensures alone { (p : ℕ → Bool) → p 0 ≡ true
+        → list_all p (near.nodes_of call.now (checks.found_last last.now)) ≡ p result }
+{
+    match call {
+        Call::Open(..) | Call::Truncate(..) | Call::ReadDir(_) => {}
+        Call::Stat(_) | Call::Unlink(_) | Call::Rmdir(_) => {}
+        Call::Rename(..) | Call::RenameNoreplace(..) => {}
+        Call::Make(..) | Call::Exec(_) | Call::Exchange(..) | Call::Link(..) | Call::Allow(..) => {
+            return 0;
+        }
+        Call::Read(..) | Call::Write(..) | Call::Ftruncate(..) | Call::Close(_) => return 0,
+        Call::Ruleset(_) | Call::Confine(_) | Call::Spawn | Call::Connect => return 0,
+    }
+    match last.there {
+        None => 0,
+        Some(there) => there.inode,
+    }
+}
+
+/// Whether the call may make a node, where its one path or its second has its last name here.
+pub(crate) fn may_make_at(call: &Call, last: &Spot) -> bool
+    ensures { result ≡ near.may_make call.now (checks.found_last last.now) }
+{
+    match call {
+        Call::Make(..) => true,
+        Call::Open(..) => last.there.is_none(),
+        Call::Truncate(..) | Call::ReadDir(_) | Call::Stat(_) | Call::Exec(_) => false,
+        Call::Unlink(_) | Call::Rmdir(_) | Call::Rename(..) | Call::RenameNoreplace(..) => false,
+        Call::Exchange(..) | Call::Link(..) | Call::Allow(..) => false,
+        Call::Read(..) | Call::Write(..) | Call::Ftruncate(..) | Call::Close(_) => false,
+        Call::Ruleset(_) | Call::Confine(_) | Call::Spawn | Call::Connect => false,
+    }
+}
+
+/// Where the last name of the call's one path stands, or that of its second.
+fn last_of<'a>(call: &Call, found: &'a Found) -> &'a Spot
+    ensures { result.now ≡ checks.last_found call.now found.now }
+{
+    if has_two_paths(call) {
+        &found.second
+    } else {
+        &found.first
+    }
+}
+
+/// The node besides the directories of its paths that the call may change or tell of, or 0.
+pub(crate) fn other_node(call: &Call, found: &Found) -> u64
+    ensures first { result ≡ slice_index_or (near.nodes_of call.now found.now) 0 0 }
+    ensures alone { (p : ℕ → Bool) → p 0 ≡ true → list_all p (near.nodes_of call.now found.now) ≡ p result }
+{
+    node_at(call, last_of(call, found))
+}
+
+/// Whether the call may make a node.
+fn may_make(call: &Call, found: &Found) -> bool
+    ensures { result ≡ near.may_make call.now found.now }
+{
+    may_make_at(call, last_of(call, found))
+}
+
+fn is_other_lent(lent: &[Held], call: &Call, found: &Found) -> bool
+    ensures { result ≡ list_all (λ inode. (inode == 0) || checks.lends lent.now inode)
+        (near.nodes_of call.now found.now) }
+{
+    let other = other_node(call, found);
+    other == 0 || is_lent(lent, other)
+}
+
+fn is_spare_lent(slots: &[u64], spare: u64, call: &Call, found: &Found) -> bool
+    ensures { result ≡ (not (near.may_make call.now found.now) || is_in slots.now spare) }
+{
+    !may_make(call, found) || is_in(slots, spare)
+}
+
+/// Whether the slots besides those of directories are there which the call may need.
+fn is_enough(slots: &[u64], lent: &[Held], spare: u64, call: &Call, found: &Found) -> bool
+    ensures { result ≡ checks.is_enough slots.now lent.now spare call.now found.now }
+{
+    is_other_lent(lent, call, found) && is_spare_lent(slots, spare, call, found)
+}
+
+/// What is seen of a journal where a walk has ended: all seats, the table of inodes, how many nodes may live, and the
+/// slots that are lent.
+#[derive(Clone, Copy)]
+pub(crate) struct Sight<'a> {
+    pub seats: &'a [Seat],
+    pub table: &'a Inodes,
+    pub room: usize,
+    pub slots: &'a [u64],
+    pub lent: &'a [Held],
+}
+
+fn is_root(target: &Target) -> bool
+    ensures { result ≡ paths.is_root (path_of target.now) }
+{
+    match target {
+        Target::Good(path) => path.is_root(),
+        Target::Bad(_) => true,
+    }
+}
+
+/// Whether the first path is the root's, and the second one.
+fn are_roots(call: &Call) -> (bool, bool)
+    ensures first { result.0 ≡ paths.is_root (first_path call.now) }
+    ensures second { result.1 ≡ paths.is_root (second_path call.now) }
+{
+    match targets_of(call) {
+        Targets::No => (true, true),
+        Targets::One(target) => (is_root(target), is_root(target)),
+        Targets::Two(old, new) => (is_root(old), is_root(new)),
+    }
+}
+
+/// Whether another client's walk stands in the node under the last name.
+fn is_marked_at(seats: &[Seat], client: u64, is_root: bool, spot: &Spot) -> bool
+    ensures { (w : world.World) (path : Path) → w.walks ≡ walks_from 1 seats.now → is_root ≡ paths.is_root path
+        → result ≡ checks.is_marked_at (world.is_marked_by_other w client) path spot.now }
+{
+    if is_root {
+        return false;
+    }
+    match spot.there {
+        None => false,
+        Some(there) => is_marked_by_other(seats, client, there.inode),
+    }
+}
+
+fn is_marked_there(seats: &[Seat], client: u64, call: &Call, found: &Found) -> bool
+    ensures { (w : world.World) → w.walks ≡ walks_from 1 seats.now
+        → result ≡ checks.is_marked_there (world.is_marked_by_other w client) call.now found.now }
+{
+    let (first, second) = are_roots(call);
+    is_marked_at(seats, client, first, &found.first)
+        || is_marked_at(seats, client, second, &found.second)
+}
+
+/// With this found at the ends.
+fn check_there(sight: &Sight<'_>, client: u64, spare: u64, call: &Call, found: Found) -> CommitCheck
+    ensures { (w : world.World) → w.walks ≡ walks_from 1 sight.now.seats.now
+        → result ≡ checks.check_there (world.is_marked_by_other w client) sight.now.slots.now sight.now.lent.now spare
+        call.now found }
+{
+    if is_marked_there(sight.seats, client, call, &found) {
+        CommitCheck::NotNow
+    } else if is_enough(sight.slots, sight.lent, spare, call, &found) {
+        CommitCheck::Reached(found)
+    } else {
+        CommitCheck::Astray
+    }
+}
+
+/// With the legs of both paths at their ends, in these directories.
+fn check_between(
+    sight: &Sight<'_>,
+    client: u64,
+    spare: u64,
+    call: &Call,
+    first: u64,
+    second: u64,
+) -> CommitCheck
+    ensures { (w : world.World) (s : State) (spares : List ℕ) → w.walks ≡ walks_from 1 sight.now.seats.now
+        → IsTable s spares sight.now.table.now
+        → checks.StopsBetween sight.now.table.now.facts (nat_le sight.now.room (len s.nodes))
+        (world.is_marked_by_other w client) sight.now.slots.now sight.now.lent.now spare call.now first second result }
+{
+    let Some(old) = find(sight.lent, first) else {
+        return CommitCheck::Astray;
+    };
+    let Some(new) = find(sight.lent, second) else {
+        return CommitCheck::Astray;
+    };
+    let found = find_ends(
+        sight.table,
+        sight.room,
+        &sight.lent[old],
+        &sight.lent[new],
+        call,
+    );
+    check_there(sight, client, spare, call, found)
+}
+
+/// With no name ahead of the leg in turn.
+fn check_at_ends(sight: &Sight<'_>, client: u64, seat: &Seat) -> CommitCheck
+    ensures { (w : world.World) (s : State) (spares : List ℕ) → w.walks ≡ walks_from 1 sight.now.seats.now
+        → IsTable s spares sight.now.table.now
+        → checks.StopsAtEnds sight.now.table.now.facts (nat_le sight.now.room (len s.nodes))
+        (world.is_marked_by_other w client) sight.now.slots.now sight.now.lent.now seat.now result }
+{
+    if !seat.is_at_ends() {
+        return CommitCheck::NotNow;
+    }
+    let (Some(first), Some(second)) = (seat.first_here(), seat.second_here()) else {
+        unreachable!()
+    };
+    let Some(call) = seat.call() else {
+        unreachable!()
+    };
+    check_between(sight, client, seat.spare(), call, first, second)
+}
+
+/// Whether the client's walk may be answered.
+pub(crate) fn check_commit(sight: &Sight<'_>, client: u64, seat: &Seat) -> CommitCheck
+    ensures { (w : world.World) (s : State) (spares : List ℕ) → w.walks ≡ walks_from 1 sight.now.seats.now
+        → IsTable s spares sight.now.table.now
+        → checks.Stops sight.now.table.now.facts (nat_le sight.now.room (len s.nodes))
+        (world.is_marked_by_other w client) sight.now.slots.now sight.now.lent.now seat.now result }
+{
+    if !seat.goes_on() {
+        return CommitCheck::NotNow;
+    }
+    if !seat.is_all_lent(sight.lent) {
+        return CommitCheck::Astray;
+    }
+    match seat.next_name() {
+        None => check_at_ends(sight, client, seat),
+        Some(name) => match seat.here() {
+            None => unreachable!(),
+            Some(here) => check_before(sight.table, sight.lent, here, name),
+        },
+    }
+}

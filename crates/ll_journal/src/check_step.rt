@@ -1,0 +1,142 @@
+//! Whether a step may be made, seen from what is lent.
+
+ghost use Rattle.std.specs.Prelude.{◌≡◌, ◌==◌, true};
+ghost use Rattle.std.specs.Option.{option_map_or};
+ghost use Rattle.ll_journal.specs.Checks as checks;
+ghost use Rattle.ll_journal.specs.Seated.{next_in};
+
+use crate::seat::Seat;
+use ll_held::Held;
+use ll_inodes::Inodes;
+use ll_seq::ROOT;
+
+/// What is found: the step may be made; or not now; or it is lent other slots than it names.
+#[derive(Clone, Copy)]
+pub(crate) enum StepCheck {
+    NotNow,
+    Astray,
+    Go,
+}
+
+/// Whether the client may hold the gate that is held so.
+fn may_hold(gate: Option<u64>, client: u64) -> bool
+    ensures { result ≡ option_map_or (λ holder. holder == client) gate true }
+{
+    match gate {
+        None => true,
+        Some(holder) => holder == client,
+    }
+}
+
+/// Of the first descent, to the root.
+pub(crate) fn check_enter(seat: &Seat, gate: Option<u64>, client: u64, root: &Held) -> StepCheck
+    ensures { result ≡ checks.check_enter seat.now gate client root.now }
+{
+    if !seat.goes_on() {
+        return StepCheck::NotNow;
+    }
+    if !(seat.is_above() && root.inode == ROOT) {
+        return StepCheck::Astray;
+    }
+    if root.node.mark().is_none() && (!seat.starts_last() || may_hold(gate, client)) {
+        StepCheck::Go
+    } else {
+        StepCheck::NotNow
+    }
+}
+
+fn is_directory(table: &Inodes, inode: u64) -> bool
+    ensures { result ≡ checks.is_directory table.now.facts inode }
+{
+    match table.fact(inode) {
+        None => false,
+        Some(fact) => fact.kind.is_dir(),
+    }
+}
+
+/// Of a descent to what the name names.
+fn check_into(table: &Inodes, found: Option<u64>, to: &Held) -> StepCheck
+    ensures { result ≡ checks.check_into table.now.facts found to.now }
+{
+    let Some(inode) = found else {
+        return StepCheck::NotNow;
+    };
+    if !is_directory(table, inode) {
+        return StepCheck::NotNow;
+    }
+    if to.inode != inode {
+        return StepCheck::Astray;
+    }
+    if to.node.mark().is_none() {
+        StepCheck::Go
+    } else {
+        StepCheck::NotNow
+    }
+}
+
+fn check_next(table: &Inodes, seat: &Seat, from: &Held, to: &Held) -> StepCheck
+    ensures { result ≡ checks.check_next table.now.facts (next_in seat.now) from.now to.now }
+{
+    match seat.next_name() {
+        None => StepCheck::NotNow,
+        Some(name) => check_into(table, from.node.look_up(name), to),
+    }
+}
+
+/// Of a descent from one directory to the next.
+pub(crate) fn check_descend(table: &Inodes, seat: &Seat, from: &Held, to: &Held) -> StepCheck
+    ensures { result ≡ checks.check_descend table.now.facts seat.now from.now to.now }
+{
+    if !seat.goes_on() {
+        return StepCheck::NotNow;
+    }
+    match seat.here() {
+        Some(here) if here == from.inode => check_next(table, seat, from, to),
+        _ => StepCheck::Astray,
+    }
+}
+
+/// Of a new start, where this is lent.
+pub(crate) fn check_restart(seat: &Seat, lent: &[Held]) -> StepCheck
+    ensures { result ≡ checks.check_restart lent.now seat.now }
+{
+    if !seat.is_stale() {
+        return StepCheck::NotNow;
+    }
+    if seat.is_all_lent(lent) {
+        StepCheck::Go
+    } else {
+        StepCheck::Astray
+    }
+}
+
+fn directory_at(table: &Inodes, found: Option<u64>) -> Option<u64>
+    ensures { result ≡ checks.directory_at table.now.facts found }
+{
+    match found {
+        Some(inode) if is_directory(table, inode) => Some(inode),
+        _ => None,
+    }
+}
+
+fn directory_for(table: &Inodes, seat: &Seat, from: &Held) -> Option<u64>
+    ensures { result ≡ checks.directory_for table.now.facts (next_in seat.now) from.now }
+{
+    match seat.next_name() {
+        None => None,
+        Some(name) => directory_at(table, from.node.look_up(name)),
+    }
+}
+
+/// The directory to which the walk would go down from here, if it stands here.
+pub(crate) fn directory_below(table: &Inodes, seat: &Seat, from: &Held) -> Option<u64>
+    ensures { result ≡ checks.directory_below table.now.facts seat.now from.now }
+{
+    if !seat.goes_on() {
+        return None;
+    }
+    match seat.here() {
+        Some(here) if here == from.inode => directory_for(table, seat, from),
+        _ => None,
+    }
+}

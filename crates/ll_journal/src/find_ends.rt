@@ -1,0 +1,134 @@
+//! What a walk finds where it ends.
+
+ghost use Rattle.std.specs.Prelude.{◌≡◌, ℕ, List, false, [], None, Some, nat_le};
+ghost use Rattle.ll_rights.specs.Map.{len};
+ghost use Rattle.ll_seq.specs.Call.{first_path, path_of, second_path};
+ghost use Rattle.ll_seq.specs.State.{State};
+ghost use Rattle.ll_inodes.specs.InodeTable.{IsTable};
+ghost use Rattle.ll_journal.specs.Checks.{blocked_at, crowded_at, found_at, last_in, spot_at, there_at};
+
+use ll_answer::{Found, Spot, Targets, There, no_directory, targets_of};
+use ll_held::Held;
+use ll_inodes::Inodes;
+use ll_path::Target;
+use ll_rights::Errno;
+use ll_rights::limits::{DIRECTORY_ENTRIES, NODE_NAMES};
+use ll_seq::{Call, ROOT};
+
+/// The node of this inode, if it is there.
+fn there(table: &Inodes, inode: u64) -> Option<There>
+    ensures { result ≡ there_at table.now.facts inode }
+{
+    let fact = table.fact(inode)?;
+    Some(There {
+        inode,
+        kind: fact.kind,
+        has_names: 0 < fact.names,
+        has_many_names: NODE_NAMES <= fact.links,
+    })
+}
+
+fn is_crowded(table: &Inodes, directory: u64) -> bool
+    ensures { result ≡ crowded_at table.now.facts directory }
+{
+    match table.fact(directory) {
+        None => false,
+        Some(fact) => DIRECTORY_ENTRIES <= fact.names,
+    }
+}
+
+/// What the word's last name stands for in the directory.
+fn last_in(here: &Held, target: &Target) -> Option<u64>
+    ensures { result ≡ last_in here.now (path_of target.now) }
+{
+    match target {
+        Target::Bad(_) => Some(ROOT),
+        Target::Good(path) => match path.split_last() {
+            None => Some(ROOT),
+            Some((_, name)) => here.node.look_up(name),
+        },
+    }
+}
+
+/// Where the word's last name stands, or would.
+fn spot(table: &Inodes, here: &Held, target: &Target) -> Spot
+    ensures { result ≡ spot_at table.now.facts here.now (path_of target.now) }
+{
+    let last = last_in(here, target);
+    Spot {
+        way: None,
+        directory: here.inode,
+        is_crowded: is_crowded(table, here.inode),
+        there: match last {
+            None => None,
+            Some(inode) => there(table, inode),
+        },
+    }
+}
+
+/// Where a call without a path would end.
+fn nowhere(table: &Inodes, here: &Held) -> Spot
+    ensures { result ≡ spot_at table.now.facts here.now [] }
+{
+    Spot {
+        way: None,
+        directory: here.inode,
+        is_crowded: is_crowded(table, here.inode),
+        there: there(table, ROOT),
+    }
+}
+
+/// The spots of both paths, which end in these directories.
+fn spots(table: &Inodes, first: &Held, second: &Held, call: &Call) -> (Spot, Spot)
+    ensures first { result.0 ≡ spot_at table.now.facts first.now (first_path call.now) }
+    ensures second { result.1 ≡ spot_at table.now.facts second.now (second_path call.now) }
+{
+    match targets_of(call) {
+        Targets::No => (nowhere(table, first), nowhere(table, second)),
+        Targets::One(target) => (spot(table, first, target), spot(table, second, target)),
+        Targets::Two(old, new) => (spot(table, first, old), spot(table, second, new)),
+    }
+}
+
+/// Where the last name of the call's one path, or of its second, stands in the directory.
+pub(crate) fn last_spot(table: &Inodes, here: &Held, call: &Call) -> Spot
+    ensures { result ≡ spot_at table.now.facts here.now (second_path call.now) }
+{
+    match targets_of(call) {
+        Targets::No => nowhere(table, here),
+        Targets::One(target) => spot(table, here, target),
+        Targets::Two(_, new) => spot(table, here, new),
+    }
+}
+
+/// What is found for the call, whose paths end in these directories, where so many nodes may live.
+pub(crate) fn find_ends(
+    table: &Inodes,
+    room: usize,
+    first: &Held,
+    second: &Held,
+    call: &Call,
+) -> Found
+    ensures { (s : State) (spares : List ℕ) → IsTable s spares table.now
+        → result ≡ found_at table.now.facts (nat_le room (len s.nodes)) first.now second.now call.now }
+{
+    let (first, second) = spots(table, first, second, call);
+    Found {
+        first,
+        second,
+        is_full: room <= table.living(),
+    }
+}
+
+/// Why the walk can't go on to what its next name stands for, if it can't.
+pub(crate) fn blocked(table: &Inodes, next: Option<u64>) -> Option<Errno>
+    ensures { result ≡ blocked_at table.now.facts next }
+{
+    let Some(inode) = next else {
+        return no_directory(None);
+    };
+    match table.fact(inode) {
+        None => no_directory(None),
+        Some(fact) => no_directory(Some(fact.kind)),
+    }
+}
