@@ -44,6 +44,7 @@ impl<N: Shape> Desk<N> {
         ensures apart { AreApart self.now.world }
         ensures few { AreFew self.now.world }
         ensures gate { GateIsHeld self.now.world }
+        ensures slots { length self.now.inodes ≡ N.slots }
     {
         let _journal = &self.journal;
     }

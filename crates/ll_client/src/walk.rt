@@ -1,7 +1,7 @@
 //! The steps of a walk, but for its end: each takes back the passes of the client and of the slots that it is lent,
 //! makes one step of the journal, and gives them out again.
 
-ghost use Rattle.std.specs.Prelude.{◌≡◌, ◌≢◌, [], ◌∷◌, Some, IfErr, OnOk, OnErr};
+ghost use Rattle.std.specs.Prelude.{◌≡◌, ◌≢◌, ℕ, [], ◌∷◌, Some, IfErr, OnOk, OnErr};
 
 use crate::account::Account;
 use crate::desk::Desk;
@@ -74,6 +74,8 @@ impl<N: Shape> Desk<N> {
     ) -> Progress
         ensures does { Does self.old (Descend me.old.number) result self.new }
         ensures astray { result ≡ Progress.Astray → IsAstrayAtTop self.old me.old.number root.old.number }
+        ensures stands { (inode : ℕ) → result ≡ Progress.Stands inode
+            → (root.new.held.inode ≡ inode) × (root.new.held.node.mark ≡ Some me.old.number) }
         ensures before { root.old.held ≡ slot_of self.old root.old.number }
         ensures after { root.new ≡ record root.old { held = slot_of self.new root.old.number } }
         ensures spares { Spares self.old self.new (root.old.number ∷ []) }
@@ -119,6 +121,8 @@ impl<N: Shape> Desk<N> {
     ) -> Progress
         ensures does { Does self.old (Descend me.old.number) result self.new }
         ensures astray { result ≡ Progress.Astray → IsAstrayBelow self.old me.old.number from.old.number to.old.number }
+        ensures stands { (inode : ℕ) → result ≡ Progress.Stands inode
+            → (to.new.held.inode ≡ inode) × (to.new.held.node.mark ≡ Some me.old.number) }
         ensures from_before { from.old.held ≡ slot_of self.old from.old.number }
         ensures to_before { to.old.held ≡ slot_of self.old to.old.number }
         ensures from_after { from.new ≡ record from.old { held = slot_of self.new from.old.number } }

@@ -1,6 +1,6 @@
 //! The journal.
 
-ghost use Rattle.std.specs.Prelude.{◌≡◌, ◌<◌, ◌≤◌, suc, [], ◌∷◌, length, None, IfOk, IfErr, IfSome, IfNone, OnOk};
+ghost use Rattle.std.specs.Prelude.{◌≡◌, ◌<◌, ◌≤◌, ℕ, suc, [], ◌∷◌, length, None, IfOk, IfErr, IfSome, IfNone, OnOk};
 ghost use Rattle.std.specs.Prelude.{OnErr, ◌≢◌, map, ◌==◌, ◌&&◌, is_none, is_some, false, if◌then◌else◌, Some};
 ghost use Rattle.ll_rights.specs.declared.limits.TheConstants.{HISTORY_ENTRIES, TREE_CLIENTS, TREE_NODES};
 ghost use Rattle.std.specs.Option.{option_map_or};
@@ -185,6 +185,8 @@ impl Journal {
     pub fn enter(&mut self, client: u64, slot: u64, root: &mut Held) -> Progress
         requires { root.old ≡ slot_of self.old slot }
         ensures does { Does self.old (Descend client) result self.new }
+        ensures stands { (inode : ℕ) → result ≡ Progress.Stands inode
+            → (root.new.inode ≡ inode) × (root.new.node.mark ≡ Some client) }
         ensures lent { root.new ≡ slot_of self.new slot }
         ensures spares { Spares self.old self.new (slot ∷ []) }
         ensures rest { self.new ≡ record self.old { world = self.new.world } }
@@ -219,6 +221,8 @@ impl Journal {
         requires from { from.old ≡ slot_of self.old from_slot }
         requires to { to.old ≡ slot_of self.old to_slot }
         ensures does { Does self.old (Descend client) result self.new }
+        ensures stands { (inode : ℕ) → result ≡ Progress.Stands inode
+            → (to.new.inode ≡ inode) × (to.new.node.mark ≡ Some client) }
         ensures from { from.new ≡ slot_of self.new from_slot }
         ensures to { to.new ≡ slot_of self.new to_slot }
         ensures spares { Spares self.old self.new (from_slot ∷ to_slot ∷ []) }

@@ -25,3 +25,6 @@ returns-clause-few g c = subst (λ (b : Book). AreFew b.world) c.self.view_is c.
 
 pub returns-clause-gate : goal.returns-clause-gate
 returns-clause-gate g c = subst (λ (b : Book). GateIsHeld b.world) c.self.view_is c.self.invariant.sound.gate
+
+pub returns-clause-slots : goal.returns-clause-slots
+returns-clause-slots g c = subst (λ (b : Book). length b.inodes ≡ _) c.self.view_is c.self.invariant.slots_are

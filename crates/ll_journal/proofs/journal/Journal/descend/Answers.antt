@@ -3,6 +3,7 @@ use Rattle.std.specs.Prelude.{option_and_then, unwrap_or}
 use Rattle.ll_worlds.specs.World.{Stands, NotNow, advance}
 use Rattle.ll_worlds.specs.declared.step.Step.TheVariants.{Descend}
 use Rattle.ll_worlds.specs.World as world
+use Rattle.ll_node.specs.Slot.{Slot}
 use Rattle.ll_journal.specs.Book.{Book, Seat, slot_of}
 use Rattle.ll_journal.specs.Kept.{seat_at, world_of}
 use Rattle.ll_journal.specs.Checks.{check_descend}
@@ -162,3 +163,6 @@ returns-clause-rest c =
     c.index_mut-seat.result.now c.deref.ensures.value c.in-Some.ensures.some c.index_mut-seat.ensures.value in
     rest_kept c.self.inside c.in-Some.place c.index_mut-seat.result.now c.descend.new.self at
     (ap (λ (s : Seat). s.spare) c.descend.ensures) _ c.args.self.now c.self.view_is
+
+pub returns-clause-stands : goal.returns-clause-stands
+returns-clause-stands c inode e = (cc e, ap (λ (s : Slot). s.mark) c.set_mark-2.ensures)

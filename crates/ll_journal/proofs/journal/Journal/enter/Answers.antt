@@ -6,6 +6,7 @@ use Rattle.ll_journal.specs.Checks.{check_enter}
 use Rattle.ll_worlds.specs.World.{Stands, NotNow, advance}
 use Rattle.ll_worlds.specs.declared.step.Step.TheVariants.{Descend}
 use Rattle.ll_worlds.specs.World as world
+use Rattle.ll_node.specs.Slot.{Slot}
 use Rattle.ll_journal.specs.Book.{Book, Seat, slot_of}
 use Rattle.ll_journal.specs.Kept.{seat_at, world_of}
 use Rattle.ll_journal.specs.Steps.{IsAstrayAtTop}
@@ -88,6 +89,21 @@ returns-clause-does c =
     (root_does c.self.inside c.self.invariant c.args.client c.in-Some.place c.index_mut-seat.result.now at
     c.in-Some.ensures.some.0 c.args.slot c.args.root.now lent go c.enter.new.self c.gate_at_root-self-inside.result
     c.enter.ensures gate)
+
+pub returns-clause-stands : goal.returns-clause-stands
+returns-clause-stands c inode e =
+    let first = at_place c.self.inside.seats.items c.deref.result.now c.args.client c.in-Some.place c.index.result.now
+    c.deref.ensures.value c.in-Some.ensures.some c.index.ensures in
+    let then = at_place c.self.inside.seats.items c.deref.result.now c.args.client c.in-Some.place c.index-2.result.now
+    c.deref.ensures.value c.in-Some.ensures.some c.index-2.ensures in
+    let at = at_place c.self.inside.seats.items c.deref.result.now c.args.client c.in-Some.place
+    c.index_mut-seat.result.now c.deref.ensures.value c.in-Some.ensures.some c.index_mut-seat.ensures.value in
+    let lent = subst (λ (b : Book). c.args.root.now ≡ slot_of b c.args.slot) (sym c.self.view_is) c.requires in
+    let go = root_goes c.self.inside c.self.invariant c.args.client c.in-Some.place c.index_mut-seat.result.now at
+    c.in-Some.ensures.some.0 c.args.slot c.args.root.now lent
+    (ap (λ (s : Seat). check_enter s c.self.inside.gate c.args.client c.args.root.now)
+    (sym (one_seat c.self.inside c.in-Some.place _ _ first at)) ∙ sym c.check_enter.ensures ∙ c.in-Go.is) in
+    (go.here ∙ cc e, ap (λ (s : Slot). s.mark) c.set_mark.ensures)
 
 pub returns-clause-lent : goal.returns-clause-lent
 returns-clause-lent c =
