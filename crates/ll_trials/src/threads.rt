@@ -24,9 +24,11 @@ const RULES: Rules = Rules {
     abi: Abi::NEWEST,
     copies: true,
 };
+
 const NODES: usize = 64;
 /// How often a thread looks, at most, whether another one has come so far.
 const TURNS: u64 = 10_000_000;
+
 const ROUNDS: u64 = 100_000;
 
 /// Where the first client's walk is held, that it is held, and that it may go on.
@@ -184,7 +186,12 @@ fn call_of(alloc: Global, thread: usize, is_even: bool) -> Option<Call> {
 }
 
 /// How many of a thread's calls were answered.
-fn answered<N: Shape>(rt: &impl Wait, alloc: Global, table: &Table<N, NoGate>, thread: usize) -> u64 {
+fn answered<N: Shape>(
+    rt: &impl Wait,
+    alloc: Global,
+    table: &Table<N, NoGate>,
+    thread: usize,
+) -> u64 {
     let Ok(mut me) = table.connect(rt) else {
         return 0;
     };
