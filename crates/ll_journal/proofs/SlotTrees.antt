@@ -144,22 +144,22 @@ module _ (w : World) where
       → find nat_cmp q (map node_in (slots_of w (i ∷ is)))
       ≡ cond ((not b && (i == q)) || lies is q) (Some (node_at (shown w) q)) None) [
         | true ↦ λ z. ap (λ slots. find nat_cmp q (map node_in slots)) (none_more i is z) ∙ find_node is q
-        | false ↦ λ z. ap (λ slots. find nat_cmp q (map node_in slots)) (one_more i is z) ∙ by (i == q) refl
+        | false ↦ λ z. ap (λ slots. find nat_cmp q (map node_in slots)) (one_more i is z) ∙ by (i == q) refl (find_node is q)
       ] refl
     where
-      by : (b : Bool) → (i == q) ≡ b
+      by : (b : Bool) → (i == q) ≡ b → Found is q
           → cond (eq_by_cmp nat_cmp q i) (Some (node_at (shown w) i)) (find nat_cmp q (map node_in (slots_of w is)))
           ≡ cond (b || lies is q) (Some (node_at (shown w) q)) None
-      by true e =
+      by true e rest =
           let same : i ≡ q = eqb-true i q e in
           let tied : eq_by_cmp nat_cmp q i ≡ true = unsigned_tied q i ∙ eq-eqb q i (sym same) in
           ap (λ b. cond b (Some (node_at (shown w) i)) (find nat_cmp q (map node_in (slots_of w is)))) tied
           ∙ ap (λ j. Some (node_at (shown w) j)) same
-      by false e =
+      by false e rest =
           let tied : eq_by_cmp nat_cmp q i ≡ false =
           unsigned_tied q i ∙ ne_eqb q i (λ same. cc (sym e ∙ eq-eqb i q (sym same))) in
           ap (λ b. cond b (Some (node_at (shown w) i)) (find nat_cmp q (map node_in (slots_of w is)))) tied
-          ∙ find_node is q
+          ∙ rest
 
 -- ---- the names in one slot
 
@@ -253,7 +253,7 @@ module _ (j : Inside) (h : IsKept j) where
   lies_living : (q : ℕ) → lies j.table.inodes q ≡ has s.nodes q
   lies_living q = lies_placed j.table.inodes j.table.places h.table.placed q ∙ h.table.living q
 
-  nodes_are : map_of (map node_in (taken (accounts_of (book_of j)))) ≡ s.nodes
+  nodes_are : map_of {R = nat_cmp} (map node_in (taken (accounts_of (book_of j)))) ≡ s.nodes
   nodes_are = map_is nat_cmp_total nat_cmp-IsAntisymmetric (map node_in (taken (accounts_of (book_of j)))) s.nodes (λ q.
       ap (λ slots. find nat_cmp q (map node_in (taken slots))) (sym (accounts_are (book_of j)))
       ∙ find_node w j.table.inodes q
@@ -268,7 +268,7 @@ module _ (j : Inside) (h : IsKept j) where
       there None = refl
       there (Some n) = refl
 
-  entries_are : map_of (flat_map entries_in (taken (accounts_of (book_of j)))) ≡ s.entries
+  entries_are : map_of {R = dentry_cmp} (flat_map entries_in (taken (accounts_of (book_of j)))) ≡ s.entries
   entries_are = map_is dentry_total dentry_exact (flat_map entries_in (taken (accounts_of (book_of j)))) s.entries (λ q.
       ap (λ slots. find dentry_cmp q (flat_map entries_in (taken slots))) (sym (accounts_are (book_of j)))
       ∙ find_entry w j.table.inodes q.directory q.name

@@ -7,7 +7,7 @@ impl Journal {
 
     /// What has to lie in the slots is the tree, all of it. Takes no memory.
     pub fn by_law(&self)
-        ensures slots { HoldTree (accounts_of self.now) self.now.world }
+        ensures tree { HoldTree (accounts_of self.now) self.now.world }
     {
     }
 }
