@@ -122,7 +122,7 @@ module _ (s : State) (t : IsTree s) (h : AreIn s) where
       all = ap (λ b. when (not b) ((first ++ second) ++ third)) (sym differ) ∙ none
 
       by : (b : Bool) → is_dir (kind_or_file s r) ≡ b → IsBare s r
-      by false e = file_bare r e
+      by false e n x c = file_bare r e n x c
       by true e n x c =
           cc (sym (not_empty s r n x c) ∙ ap (λ b. b && has_names s r) (sym e)
           ∙ not_refused _ ENOTEMPTY (nil_right (first ++ second) third all))

@@ -1,7 +1,7 @@
 -- The state that is read off the slots' accounts is the shown one.
 use Rattle.std.specs.Prelude.{◌≡◌, ◌≢◌, ℕ, zero, suc, ◌+◌, ◌<◌, Bool, true, false, cond, not, ◌||◌, ◌&&◌, ◌==◌, List, []}
 use Rattle.std.specs.Prelude.{◌∷◌, ◌++◌, map, filter, length, Option, Some, None, is_some, unwrap_or, option_map, refl}
-use Rattle.std.specs.Prelude.{slice_get, slice_index_or}
+use Rattle.std.specs.Prelude.{slice_get, slice_index_or, if◌then◌else◌}
 use Rattle.std.specs.declared.cmp.Ordering.{Ordering}
 use Rattle.std.specs.List.{flat_map, list_any, range_with_len}
 use Rattle.std.specs.Option.{option_map_or}
@@ -68,6 +68,10 @@ again : {X : Type 0} (b : Bool) (x : Option X) → or_else x (cond b x None) ≡
 again true None = refl
 again false None = refl
 again b (Some x) = refl
+
+either : {X : Type 0} (b : Bool) (x : X) → cond b x x ≡ x
+either true x = refl
+either false x = refl
 
 -- ---- which inodes lie in slots
 
@@ -276,11 +280,7 @@ module _ (j : Inside) (h : IsKept j) where
       ∙ there q.directory q.name (child s q.directory q.name) refl)
     where
       there : (d : ℕ) (name : Name) (o : Option ℕ) → child s d name ≡ o → cond (has s.nodes d) o None ≡ o
-      there d name None e = either (has s.nodes d)
-        where
-          either : (b : Bool) → cond b (None {A = ℕ}) None ≡ None
-          either true = refl
-          either false = refl
+      there d name None e = either (has s.nodes d) None
       there d name (Some x) e = let node = all_in w d name x e in
           ap (λ b. cond b (Some x) None) (lives (get s.nodes d) node.0 node.1)
         where

@@ -9,5 +9,6 @@ impl Journal {
     pub fn by_law(&self)
         ensures tree { HoldTree (accounts_of self.now) self.now.world }
     {
+        let _table = &self.table;
     }
 }

@@ -5,5 +5,7 @@ use Rattle.ll_journal.proofs.SlotTrees.{hold_tree}
 use Rattle.ll_journal.proofs.journal.Journal.by_law.Goals as goal
 
 pub returns : goal.returns
-returns c =
-    subst (λ (b : Book). HoldTree (accounts_of b) b.world) c.self.view_is (hold_tree c.self.inside c.self.invariant)
+returns c = record {
+  tree =
+      subst (λ (b : Book). HoldTree (accounts_of b) b.world) c.self.view_is (hold_tree c.self.inside c.self.invariant);
+}
