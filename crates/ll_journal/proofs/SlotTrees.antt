@@ -10,7 +10,7 @@ use Rattle.std.specs.Cmp.{IsTotalOrder, nat_cmp_total, tied_itself, unsigned_tie
 use Rattle.std.specs.Cmp.Lexicographic.{slice_cmp}
 use Rattle.std.specs.FinMap.{IsAntisymmetric, nat_cmp-IsAntisymmetric}
 use Rattle.std.specs.FinMap.Entries.{find}
-use Rattle.std.proofs.Common.{sym, subst, ap, ◌∙◌, arith}
+use Rattle.std.proofs.Common.{sym, ap, ◌∙◌, arith}
 use Rattle.std.proofs.lemmas.Bool.{eqb-true, eq-eqb, ne_eqb}
 use Rattle.std.proofs.lemmas.List.{length-map}
 use Rattle.std.proofs.lemmas.List.FromFn.{length-map-range_with_len, fill_by_all}
@@ -27,7 +27,7 @@ use Rattle.ll_seq.specs.State.{Name, State, dentry, dentry_cmp, child, bytes_of,
 use Rattle.ll_seq.specs.Tree.{kind_or_file}
 use Rattle.ll_seq.proofs.DentryOrder.{dentry_total, dentry_exact}
 use Rattle.ll_held.specs.declared.held.Held.{Held}
-use Rattle.ll_held.specs.Lent.{AreApart, vacant}
+use Rattle.ll_held.specs.Lent.{vacant}
 use Rattle.ll_inodes.specs.InodeTable.{ArePlaced, AreDistinct, NotIn}
 use Rattle.ll_changes.specs.Accounts.{names_map}
 use Rattle.ll_changes.proofs.Accounted.{lent_apart}
@@ -36,8 +36,8 @@ use Rattle.ll_worlds.specs.World.{World, shown}
 use Rattle.ll_journal.specs.declared.journal.Journal.TheInside.{Inside}
 use Rattle.ll_journal.specs.Book.{Book, held_of, mark_of, slot_of}
 use Rattle.ll_journal.specs.Kept.{IsKept, book_of, world_of}
-use Rattle.ll_journal.specs.SlotTree.{HoldTree, accounts_of, entries_in, map_of, node_in, state_in, taken}
-use Rattle.ll_journal.proofs.EntryDirs.{AreIn, all_in}
+use Rattle.ll_journal.specs.SlotTree.{HoldTree, accounts_of, entries_in, map_of, node_in, taken}
+use Rattle.ll_journal.proofs.EntryDirs.{all_in}
 use Rattle.ll_journal.proofs.Ruled.{room_stays, rules_stay}
 
 -- ---- maps of rows
