@@ -1,4 +1,4 @@
-use Rattle.std.proofs.Common.{◌≤◌, length, subst}
+use Rattle.std.proofs.Common.{◌≡◌, ◌≤◌, length, subst}
 use Rattle.ll_seq.specs.History.{IsLegal}
 use Rattle.ll_seq.specs.State.{start}
 use Rattle.ll_worlds.specs.Walks.{AreApart, AreFew, AreValid, GateIsHeld}
@@ -32,4 +32,4 @@ returns-clause-slots g c = subst (λ (b : Book). length b.inodes ≡ _) c.self.v
 
 pub returns-clause-tree : goal.returns-clause-tree
 returns-clause-tree g c =
-    subst (λ (b : Book). HoldTree (accounts_of b) b.world) c.self.view_is c.by_law.ensures
+    subst (λ (b : Book). HoldTree (accounts_of b) b.world) c.self.view_is c.by_law.ensures.tree
