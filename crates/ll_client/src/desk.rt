@@ -31,10 +31,11 @@ impl<N: Shape> Model for Desk<N> {
 }
 
 impl<N: Shape> Desk<N> {
-    ghost use Rattle.std.specs.Prelude.{◌≤◌, length};
+    ghost use Rattle.std.specs.Prelude.{◌≡◌, ◌≤◌, length};
     ghost use Rattle.ll_seq.specs.History.{IsLegal};
     ghost use Rattle.ll_seq.specs.State.{start};
     ghost use Rattle.ll_worlds.specs.Walks.{AreApart, AreFew, AreValid, GateIsHeld};
+    ghost use Rattle.ll_journal.specs.SlotTree.{HoldTree, accounts_of};
 
     /// What holds of it, whatever was done before. Takes no memory.
     pub fn by_law(&self)
@@ -45,7 +46,8 @@ impl<N: Shape> Desk<N> {
         ensures few { AreFew self.now.world }
         ensures gate { GateIsHeld self.now.world }
         ensures slots { length self.now.inodes ≡ N.slots }
+        ensures tree { HoldTree (accounts_of self.now) self.now.world }
     {
-        let _journal = &self.journal;
+        self.journal.by_law();
     }
 }

@@ -52,3 +52,5 @@ pub mod MadeNodes
 pub mod NextSteps
 pub mod SettingOut
 pub mod LastNodes
+pub mod EntryDirs
+pub mod SlotTrees

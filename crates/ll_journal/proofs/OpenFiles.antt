@@ -46,11 +46,11 @@ use Rattle.ll_worlds.specs.World.{World, shown}
 use Rattle.ll_changes.proofs.Living.{bytes_kind, let_go_kind, make_kind, make_kind_other}
 
 -- each descriptor of the record is of a regular file
-abbrev AreFiles : State → ClientRecord → Type 0
+abbrev pub AreFiles : State → ClientRecord → Type 0
 AreFiles s c = (fd : ℕ) (d : Descriptor) → get c.descriptors fd ≡ Some d → kind_of s d.inode ≡ Some Reg
 
 -- each client's are
-abbrev OpensFiles : State → Type 0
+abbrev pub OpensFiles : State → Type 0
 OpensFiles s = (number : ℕ) (c : ClientRecord) → get s.clients number ≡ Some c → AreFiles s c
 
 -- ---- what leaves them so
@@ -72,7 +72,7 @@ other_client s number c h files m r is fd d g =
 no_files : (s : State) → AreFiles s new_client
 no_files s fd d g = absurd (cc (sym (get-empty Descriptor nat_cmp fd) ∙ g))
 
-own_files : (s : State) (number : ℕ) → OpensFiles s → AreFiles s (client_of s number)
+pub own_files : (s : State) (number : ℕ) → OpensFiles s → AreFiles s (client_of s number)
 own_files s number h fd d g = by (get s.clients number) refl g
   where
     by : (o : Option ClientRecord) → get s.clients number ≡ o → get (unwrap_or o new_client).descriptors fd ≡ Some d
@@ -123,7 +123,7 @@ may_open Char e = absurd (cc e)
 may_open Block e = absurd (cc e)
 
 -- what a path names has a node
-end_known : (s : State) → IsTree s → (p : Path) (i x : ℕ) → (k : Kind) × (kind_of s i ≡ Some k)
+pub end_known : (s : State) → IsTree s → (p : Path) (i x : ℕ) → (k : Kind) × (kind_of s i ≡ Some k)
     → end_from s p i ≡ Some x → (k : Kind) × (kind_of s x ≡ Some k)
 end_known s t [] i x known e = (known.0, ap (kind_of s) (sym (same_Some i x e)) ∙ known.1)
 end_known s t (n ∷ p) i x known e =
@@ -253,7 +253,7 @@ module _ (s : State) (number : ℕ) (t : IsTree s) (h : OpensFiles s) where
   done_files Spawn fresh p = other_client s fresh (child_of s.rules me) h (spawned s.rules.copies)
   done_files Connect fresh p = other_client s number new_client h (no_files s)
 
-step_files : (s : State) (number : ℕ) (call : Call) (fresh : ℕ) → IsTree s → OpensFiles s
+pub step_files : (s : State) (number : ℕ) (call : Call) (fresh : ℕ) → IsTree s → OpensFiles s
     → OpensFiles (step s number call fresh).1
 step_files s number call fresh t h = by (refusals s (client_of s number) call) refl
   where
@@ -268,7 +268,7 @@ after_files : (s : State) (es : List Entry) → IsTree s → OpensFiles s → Op
 after_files s [] t h = h
 after_files s (e ∷ es) t h = after_files (after s e) es (kept_tree s e t) (step_files s e.client e.call _ t h)
 
-start_files : (rules : Rules) (room : ℕ) → OpensFiles (start rules room)
+pub start_files : (rules : Rules) (room : ℕ) → OpensFiles (start rules room)
 start_files rules room number c is = absurd (cc (sym (get-empty ClientRecord nat_cmp number) ∙ is))
 
 pub file_kind : (w : World) (number fd : ℕ) (c : ClientRecord) (d : Descriptor) → get (shown w).clients number ≡ Some c

@@ -16,3 +16,4 @@ pub mod Decidings
 pub mod Needs
 pub mod NextStep
 pub mod Starts
+pub mod SlotTree

@@ -11,6 +11,7 @@ mod ending;
 mod files;
 mod find_ends;
 mod journal;
+mod laws;
 mod leg;
 mod needs;
 mod next;

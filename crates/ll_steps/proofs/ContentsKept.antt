@@ -22,7 +22,8 @@ use Rattle.ll_journal.specs.Book.{Book, Spares, new_book, slot_of, held_of}
 use Rattle.ll_journal.specs.Steps.{Does}
 use Rattle.ll_journal.specs.declared.progress.Progress as told
 use Rattle.ll_journal.specs.declared.progress.Progress.TheVariants as tells
-use Rattle.ll_steps.specs.Contents.{held_at, accounts_of, told_as, IsKept}
+use Rattle.ll_journal.specs.SlotTree.{accounts_of}
+use Rattle.ll_steps.specs.Contents.{held_at, told_as, IsKept}
 use Rattle.ll_steps.specs.Makes.{Makes}
 use Rattle.ll_steps.proofs.Going.{still_within}
 

@@ -33,8 +33,9 @@ use Rattle.ll_journal.specs.declared.start.Start.{Start}
 use Rattle.ll_journal.specs.declared.start.Start.TheVariants as start
 use Rattle.ll_journal.specs.declared.open_file.Unmade.{Unmade}
 use Rattle.ll_journal.specs.declared.open_file.Unmade.TheVariants as unmade
+use Rattle.ll_journal.specs.SlotTree.{accounts_of}
 use Rattle.ll_steps.specs.Calling.{Calls, Waits, alone, waits}
-use Rattle.ll_steps.specs.Contents.{accounts_of, answered_as, IsKept}
+use Rattle.ll_steps.specs.Contents.{answered_as, IsKept}
 use Rattle.ll_steps.specs.Makes.{Makes, called, starved, succeeds}
 use Rattle.ll_steps.specs.declared.outcome.Outcome.TheVariants as outcome
 use Rattle.ll_steps.proofs.Adding.{replied_makes, full_told}

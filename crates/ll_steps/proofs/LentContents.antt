@@ -8,7 +8,8 @@ use Rattle.ll_held.specs.Lent.{vacant}
 use Rattle.ll_inodes.specs.InodeTable.{NotIn}
 use Rattle.ll_inodes.proofs.SlotLists.{same_or_not}
 use Rattle.ll_journal.specs.Book.{Book, Spares, slot_of}
-use Rattle.ll_steps.specs.Contents.{held_at, accounts_of}
+use Rattle.ll_journal.specs.SlotTree.{accounts_of}
+use Rattle.ll_steps.specs.Contents.{held_at}
 use Rattle.ll_steps.proofs.ContentsKept.{account_at, length_accounts, filled_so}
 use Rattle.ll_steps.proofs.Trading.{elsewhere}
 

@@ -39,9 +39,10 @@ use Rattle.ll_journal.specs.declared.progress.Progress as told
 use Rattle.ll_journal.specs.declared.progress.Progress.TheVariants as tells
 use Rattle.ll_journal.specs.Stations.{station_at, station_of, station_in}
 use Rattle.ll_journal.specs.declared.station.Station.TheVariants as station
+use Rattle.ll_journal.specs.SlotTree.{accounts_of}
 use Rattle.ll_journal.proofs.Advancing.{descend_none, descend_stale, commit_none, commit_not_now, commit_replies}
 use Rattle.ll_journal.proofs.Ended.{gives_up}
-use Rattle.ll_steps.specs.Contents.{held_at, accounts_of, ended_as, IsKept}
+use Rattle.ll_steps.specs.Contents.{held_at, ended_as, IsKept}
 use Rattle.ll_steps.specs.Makes.{Makes, succeeds}
 use Rattle.ll_steps.proofs.Adding.{replied_makes, full_told}
 use Rattle.ll_steps.proofs.ContentsKept.{kept_on, does_advance}

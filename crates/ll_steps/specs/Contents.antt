@@ -1,9 +1,9 @@
 -- What lies in the slots, and how it is tied to the journal. No public contract cites it. own
-use Rattle.std.specs.Prelude.{◌≡◌, ℕ, ◌≤◌, List, map, length, slice_index_or}
-use Rattle.std.specs.List.{range_with_len}
+use Rattle.std.specs.Prelude.{◌≡◌, ℕ, ◌≤◌, List, length, slice_index_or}
 use Rattle.ll_held.specs.declared.held.Held.{Held}
 use Rattle.ll_held.specs.Lent.{vacant}
-use Rattle.ll_journal.specs.Book.{Book, slot_of}
+use Rattle.ll_journal.specs.Book.{Book}
+use Rattle.ll_journal.specs.SlotTree.{accounts_of}
 use Rattle.ll_worlds.specs.Sound.{IsSound}
 use Rattle.ll_journal.specs.declared.progress.Progress as journal
 use Rattle.ll_journal.specs.declared.progress.Progress.TheVariants as told
@@ -17,10 +17,6 @@ use Rattle.ll_steps.specs.declared.outcome.Outcome.TheVariants.{NotNow, Stands, 
 
 abbrev pub held_at : List Held → ℕ → Held
 held_at slots k = slice_index_or slots k vacant
-
--- of each slot what has to lie in it
-abbrev pub accounts_of : Book → List Held
-accounts_of b = map (slot_of b) (range_with_len 0 (length b.inodes))
 
 pub record IsKept (b : Book) (slots : List Held) : Type 0 where
   pub accounts : slots ≡ accounts_of b

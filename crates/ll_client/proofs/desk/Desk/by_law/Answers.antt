@@ -1,8 +1,9 @@
-use Rattle.std.proofs.Common.{◌≤◌, length, subst}
+use Rattle.std.proofs.Common.{◌≡◌, ◌≤◌, length, subst}
 use Rattle.ll_seq.specs.History.{IsLegal}
 use Rattle.ll_seq.specs.State.{start}
 use Rattle.ll_worlds.specs.Walks.{AreApart, AreFew, AreValid, GateIsHeld}
 use Rattle.ll_journal.specs.Book.{Book}
+use Rattle.ll_journal.specs.SlotTree.{HoldTree, accounts_of}
 use Rattle.ll_client.proofs.desk.Desk.by_law.Goals as goal
 
 pub returns-clause-legal : goal.returns-clause-legal
@@ -28,3 +29,7 @@ returns-clause-gate g c = subst (λ (b : Book). GateIsHeld b.world) c.self.view_
 
 pub returns-clause-slots : goal.returns-clause-slots
 returns-clause-slots g c = subst (λ (b : Book). length b.inodes ≡ _) c.self.view_is c.self.invariant.slots_are
+
+pub returns-clause-tree : goal.returns-clause-tree
+returns-clause-tree g c =
+    subst (λ (b : Book). HoldTree (accounts_of b) b.world) c.self.view_is c.by_law.ensures.tree
