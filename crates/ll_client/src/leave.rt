@@ -355,7 +355,8 @@ impl<N: Shape> Desk<N> {
         ensures d_after { d.new ≡ record d.old { held = slot_of self.new d.old.number } }
         ensures spares { Spares self.old self.new (a.old.number ∷ b.old.number ∷ d.old.number ∷ []) }
         ensures calm { result ≡ Left.NoMemory → MayTakeMemory self.old.world me.old.number }
-        ensures rest { LeavesRest leaving self.old me.old.number (a.old.number ∷ b.old.number ∷ d.old.number ∷ []) self.new }
+        ensures rest { LeavesRest leaving self.old me.old.number
+            (a.old.number ∷ b.old.number ∷ d.old.number ∷ []) self.new }
         ensures mine { Goes N.limit me.old result me.new }
     {
         let Desk {
@@ -412,7 +413,8 @@ impl<N: Shape> Desk<N> {
         ensures e_after { e.new ≡ record e.old { held = slot_of self.new e.old.number } }
         ensures spares { Spares self.old self.new (a.old.number ∷ b.old.number ∷ d.old.number ∷ e.old.number ∷ []) }
         ensures calm { result ≡ Left.NoMemory → MayTakeMemory self.old.world me.old.number }
-        ensures rest { LeavesRest leaving self.old me.old.number (a.old.number ∷ b.old.number ∷ d.old.number ∷ e.old.number ∷ []) self.new }
+        ensures rest { LeavesRest leaving self.old me.old.number
+            (a.old.number ∷ b.old.number ∷ d.old.number ∷ e.old.number ∷ []) self.new }
         ensures mine { Goes N.limit me.old result me.new }
     {
         let Desk {
