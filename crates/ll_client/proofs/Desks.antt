@@ -207,6 +207,18 @@ desk_kept slots limit b b' c ks m n d s p all = record {
   few = subst (λ k. k ≤ TREE_NODES + TREE_CLIENTS) (sym p.size) d.few;
 }
 
+-- after a look
+pub desk_seen : (slots limit : ℕ) (b : Book) (m n : Map nat_cmp Account) → IsDesk slots limit b m → AreAccounts b n
+    → IsDesk slots limit b n
+desk_seen slots limit b m n d all = record {
+  accounts = all;
+  sound = d.sound;
+  within = d.within;
+  limit_is = d.limit_is;
+  slots_are = d.slots_are;
+  few = d.few;
+}
+
 -- ---- a walk that begins
 
 pub begin_steps : (b b' : Book) (c : ℕ) (call : Call) (r : Result (Unit {0}) Call) → IsSound b.world

@@ -10,7 +10,7 @@ use Rattle.ll_journal.specs.declared.direct.Made.{Made}
 use Rattle.ll_journal.specs.declared.direct.Made.TheVariants as made
 use Rattle.ll_journal.specs.declared.progress.Ending.TheVariants as ending
 use Rattle.ll_journal.specs.Steps.{IsAstrayAt}
-use Rattle.ll_journal.specs.WalkEnds.{Ends, IsAstrayAtEnd}
+use Rattle.ll_journal.specs.WalkEnds.{Ends, IsAstrayAtEnd, LeavesFree}
 use Rattle.ll_client.specs.declared.left.Leaving.{Leaving}
 use Rattle.ll_client.specs.declared.left.Leaving.TheVariants.{Commit, Restart}
 use Rattle.ll_client.specs.declared.left.Left.{Left}
@@ -56,3 +56,8 @@ Leaves Restart b number left.NoMemory b' = ⊥
 abbrev pub IsAstray : Leaving → Book → ℕ → List ℕ → Type 0
 IsAstray Commit b number slots = IsAstrayAtEnd b number slots
 IsAstray Restart b number slots = IsAstrayAt b number slots
+
+-- beside the world nothing changes, unless a commit makes a node or lets one go
+abbrev pub LeavesRest : Leaving → Book → ℕ → List ℕ → Book → Type 0
+LeavesRest Commit b number slots b' = LeavesFree b number slots b'
+LeavesRest Restart b number slots b' = b' ≡ record b { world = b'.world }

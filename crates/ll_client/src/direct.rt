@@ -1,6 +1,6 @@
 //! A client's calls that don't walk.
 
-ghost use Rattle.std.specs.Prelude.{◌≡◌, [], ◌∷◌, IfOk, IfErr, OnErr};
+ghost use Rattle.std.specs.Prelude.{◌≡◌, ◌≢◌, ℕ, [], ◌∷◌, Ok, IfOk, IfErr, OnErr};
 ghost use Rattle.ll_client.specs.Hands.{seen_made};
 
 use crate::account::Account;
@@ -39,7 +39,7 @@ fn seen_on_file(made: &Result<Made, Unmade>, seen: u64, entries: u64) -> u64
 
 impl<N: Shape> Desk<N> {
     ghost use Rattle.ll_journal.specs.Book.{Spares, slot_of};
-    ghost use Rattle.ll_journal.specs.Direct.{Answers, ComesBack};
+    ghost use Rattle.ll_journal.specs.Direct.{Answers, ComesBack, LeavesSlot, LeavesSlots, TakesMemory};
     ghost use Rattle.ll_worlds.specs.World.{NotNow, advance};
     ghost use Rattle.ll_worlds.specs.declared.step.Step.TheVariants.{ClientStep, FdCommit};
     ghost use Rattle.ll_client.specs.Gains.{Gains};
@@ -58,6 +58,8 @@ impl<N: Shape> Desk<N> {
         ensures back { IfErr result (λ back. back ≡ call) }
         ensures same { OnErr result (self.new ≡ self.old) }
         ensures spares { Spares self.old self.new [] }
+        ensures calm { result ≡ Ok Made.NoMemory → TakesMemory call }
+        ensures rest { LeavesSlots call self.old self.new }
         ensures mine { IfOk result (λ answer. Gains N.limit call me.old answer me.new) }
         ensures still { OnErr result (me.new ≡ me.old) }
     {
@@ -89,6 +91,8 @@ impl<N: Shape> Desk<N> {
         ensures before { file.old.held ≡ slot_of self.old file.old.number }
         ensures after { file.new ≡ record file.old { held = slot_of self.new file.old.number } }
         ensures spares { Spares self.old self.new (file.old.number ∷ []) }
+        ensures calm { result ≡ Ok Made.NoMemory → (number : ℕ) → call ≢ Call.Close number }
+        ensures rest { LeavesSlot call file.old.number self.old self.new }
         ensures mine { IfOk result (λ answer. Gains N.limit call me.old answer me.new) }
         ensures still { OnErr result (me.new ≡ me.old) }
     {

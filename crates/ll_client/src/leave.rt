@@ -4,7 +4,8 @@ ghost use Rattle.std.specs.Prelude.{◌≡◌, ℕ, [], ◌∷◌, map};
 ghost use Rattle.ll_inodes.specs.InodeTable.{AreDistinct};
 ghost use Rattle.ll_held.specs.Lent as contents;
 ghost use Rattle.ll_journal.specs.Book.{Spares, slot_of};
-ghost use Rattle.ll_client.specs.Gains.{Goes, IsAstray, Leaves};
+ghost use Rattle.ll_journal.specs.WalkEnds.{MayTakeMemory};
+ghost use Rattle.ll_client.specs.Gains.{Goes, IsAstray, Leaves, LeavesRest};
 ghost use Rattle.ll_client.specs.Hands.{ended_as, restarted_as, seen_of};
 
 use crate::account::Account;
@@ -84,6 +85,8 @@ fn leave_with(
     ensures astray { result ≡ Left.Astray → IsAstray leaving journal.old client slots.now }
     ensures lent { lent.new ≡ map (slot_of journal.new) slots.now }
     ensures spares { Spares journal.old journal.new slots.now }
+    ensures calm { result ≡ Left.NoMemory → MayTakeMemory journal.old.world client }
+    ensures rest { LeavesRest leaving journal.old client slots.now journal.new }
 {
     match leaving {
         Leaving::Commit => ended(journal.commit(client, slots, lent)),
@@ -106,6 +109,8 @@ fn leave_by_1(
     ensures astray { result ≡ Left.Astray → IsAstray leaving journal.old client (j ∷ []) }
     ensures a { a.new ≡ slot_of journal.new j }
     ensures spares { Spares journal.old journal.new (j ∷ []) }
+    ensures calm { result ≡ Left.NoMemory → MayTakeMemory journal.old.world client }
+    ensures rest { LeavesRest leaving journal.old client (j ∷ []) journal.new }
 {
     let mut lent = [mem::replace(a, vacant(alloc))];
     let left = leave_with(journal, client, leaving, &[j], &mut lent);
@@ -132,6 +137,8 @@ fn leave_by_2(
     ensures a { a.new ≡ slot_of journal.new j }
     ensures b { b.new ≡ slot_of journal.new k }
     ensures spares { Spares journal.old journal.new (j ∷ k ∷ []) }
+    ensures calm { result ≡ Left.NoMemory → MayTakeMemory journal.old.world client }
+    ensures rest { LeavesRest leaving journal.old client (j ∷ k ∷ []) journal.new }
 {
     let mut lent = [
         mem::replace(a, vacant(alloc)),
@@ -166,6 +173,8 @@ fn leave_by_3(
     ensures b { b.new ≡ slot_of journal.new k }
     ensures d { d.new ≡ slot_of journal.new l }
     ensures spares { Spares journal.old journal.new (j ∷ k ∷ l ∷ []) }
+    ensures calm { result ≡ Left.NoMemory → MayTakeMemory journal.old.world client }
+    ensures rest { LeavesRest leaving journal.old client (j ∷ k ∷ l ∷ []) journal.new }
 {
     let mut lent = [
         mem::replace(a, vacant(alloc)),
@@ -206,6 +215,8 @@ fn leave_by_4(
     ensures d { d.new ≡ slot_of journal.new l }
     ensures e { e.new ≡ slot_of journal.new m }
     ensures spares { Spares journal.old journal.new (j ∷ k ∷ l ∷ m ∷ []) }
+    ensures calm { result ≡ Left.NoMemory → MayTakeMemory journal.old.world client }
+    ensures rest { LeavesRest leaving journal.old client (j ∷ k ∷ l ∷ m ∷ []) journal.new }
 {
     let mut lent = [
         mem::replace(a, vacant(alloc)),
@@ -227,6 +238,8 @@ impl<N: Shape> Desk<N> {
         ensures leaves { Leaves leaving self.old me.old.number result self.new }
         ensures astray { result ≡ Left.Astray → IsAstray leaving self.old me.old.number [] }
         ensures spares { Spares self.old self.new [] }
+        ensures calm { result ≡ Left.NoMemory → MayTakeMemory self.old.world me.old.number }
+        ensures rest { LeavesRest leaving self.old me.old.number [] self.new }
         ensures mine { Goes N.limit me.old result me.new }
     {
         let Desk {
@@ -255,6 +268,8 @@ impl<N: Shape> Desk<N> {
         ensures a_before { a.old.held ≡ slot_of self.old a.old.number }
         ensures a_after { a.new ≡ record a.old { held = slot_of self.new a.old.number } }
         ensures spares { Spares self.old self.new (a.old.number ∷ []) }
+        ensures calm { result ≡ Left.NoMemory → MayTakeMemory self.old.world me.old.number }
+        ensures rest { LeavesRest leaving self.old me.old.number (a.old.number ∷ []) self.new }
         ensures mine { Goes N.limit me.old result me.new }
     {
         let Desk {
@@ -289,6 +304,8 @@ impl<N: Shape> Desk<N> {
         ensures a_after { a.new ≡ record a.old { held = slot_of self.new a.old.number } }
         ensures b_after { b.new ≡ record b.old { held = slot_of self.new b.old.number } }
         ensures spares { Spares self.old self.new (a.old.number ∷ b.old.number ∷ []) }
+        ensures calm { result ≡ Left.NoMemory → MayTakeMemory self.old.world me.old.number }
+        ensures rest { LeavesRest leaving self.old me.old.number (a.old.number ∷ b.old.number ∷ []) self.new }
         ensures mine { Goes N.limit me.old result me.new }
     {
         let Desk {
@@ -337,6 +354,9 @@ impl<N: Shape> Desk<N> {
         ensures b_after { b.new ≡ record b.old { held = slot_of self.new b.old.number } }
         ensures d_after { d.new ≡ record d.old { held = slot_of self.new d.old.number } }
         ensures spares { Spares self.old self.new (a.old.number ∷ b.old.number ∷ d.old.number ∷ []) }
+        ensures calm { result ≡ Left.NoMemory → MayTakeMemory self.old.world me.old.number }
+        ensures rest { LeavesRest leaving self.old me.old.number
+            (a.old.number ∷ b.old.number ∷ d.old.number ∷ []) self.new }
         ensures mine { Goes N.limit me.old result me.new }
     {
         let Desk {
@@ -392,6 +412,9 @@ impl<N: Shape> Desk<N> {
         ensures d_after { d.new ≡ record d.old { held = slot_of self.new d.old.number } }
         ensures e_after { e.new ≡ record e.old { held = slot_of self.new e.old.number } }
         ensures spares { Spares self.old self.new (a.old.number ∷ b.old.number ∷ d.old.number ∷ e.old.number ∷ []) }
+        ensures calm { result ≡ Left.NoMemory → MayTakeMemory self.old.world me.old.number }
+        ensures rest { LeavesRest leaving self.old me.old.number
+            (a.old.number ∷ b.old.number ∷ d.old.number ∷ e.old.number ∷ []) self.new }
         ensures mine { Goes N.limit me.old result me.new }
     {
         let Desk {

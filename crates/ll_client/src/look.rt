@@ -1,18 +1,25 @@
-//! Looks at the journal for which no slot is held. What they tell may be so no more once its lock is let go.
+//! Looks at the journal. They change nothing, and what they tell may be so no more once its lock is let go.
 
-ghost use Rattle.std.specs.Prelude.{◌≡◌, ◌<◌, ℕ, length, None, Some, IfSome, IfNone};
+ghost use Rattle.std.specs.Prelude.{◌≡◌, ◌<◌, ◌≤◌, ℕ, length, None, Some, IfSome, IfNone};
 ghost use Rattle.std.specs.List.{AllByRecursion};
 ghost use Rattle.ll_seq.specs.State.{root};
+ghost use Rattle.ll_seq.specs.declared.client.Descriptor as descriptor;
 ghost use Rattle.ll_worlds.specs.Walk.{Leg};
 
+use crate::account::Account;
 use crate::desk::Desk;
+use crate::hand::{put_slot, take_slot};
+use crate::locked::Locked;
 use crate::rider::Rider;
 use crate::shape::Shape;
-use ll_journal::{Slots, Station};
+use ll_journal::{Next, Slots, Station};
+use ll_tie::Tie;
 
 impl<N: Shape> Desk<N> {
     ghost use Rattle.ll_inodes.specs.InodeTable.{AreDistinct};
-    ghost use Rattle.ll_journal.specs.Book.{has_mark, inode_in};
+    ghost use Rattle.ll_journal.specs.Book.{has_mark, inode_in, slot_of};
+    ghost use Rattle.ll_journal.specs.Direct.{IsOpen};
+    ghost use Rattle.ll_journal.specs.NextStep.{CanBeLent, ComesNext};
     ghost use Rattle.ll_journal.specs.Stations.{station_in};
     ghost use Rattle.ll_journal.specs.Steps.{leg_in_turn};
     ghost use Rattle.ll_journal.specs.WalkEnds.{is_lent};
@@ -47,7 +54,61 @@ impl<N: Shape> Desk<N> {
         ensures marked { (inode : ℕ) → is_lent self.now result inode ≡ has_mark self.now.world inode me.now.number }
         ensures distinct { AreDistinct result }
         ensures within { AllByRecursion (λ slot. slot < length self.now.inodes) result }
+        ensures few { length result ≤ 3 }
     {
         self.journal.stands_in(me.number())
+    }
+
+    /// The slot of the file that the client has open under this number.
+    pub fn file_slot(&self, me: &Rider<N>, number: u64) -> Option<u64>
+        ensures some { IfSome result (λ slot. (file : descriptor.Descriptor)
+            × IsOpen self.now.world me.now.number number file × (inode_in self.now slot ≡ file.inode)) }
+        ensures within { IfSome result (λ slot. slot < length self.now.inodes) }
+        ensures none { IfNone result
+            ((file : descriptor.Descriptor) → ¬ IsOpen self.now.world me.now.number number file) }
+    {
+        self.journal.file_slot(me.number(), number)
+    }
+
+    /// Which step of the client's walk comes next, with the slots that it needs, seen from the slot of the directory
+    /// where its leg in turn stands. (Above the root any slot will do. It may be that the step still has to wait for
+    /// other walks.) The slot's pass is taken back for the look, and given out again as it was.
+    pub fn next_step(
+        &mut self,
+        tie: &Tie<N, Account>,
+        me: &Rider<N>,
+        here: &mut Locked<N>,
+    ) -> Next
+        ensures comes { ComesNext self.old me.now.number here.old.number result }
+        ensures slots { CanBeLent self.old result }
+        ensures same { self.new ≡ self.old }
+        ensures before { here.old.held ≡ slot_of self.old here.old.number }
+        ensures after { here.new ≡ here.old }
+    {
+        let Desk {
+            journal,
+            keeper,
+            ..
+        } = self;
+        let number = me.number();
+        take_slot(
+            tie,
+            keeper,
+            journal,
+            here.number,
+            &here.held,
+            &mut here.pass,
+        );
+        let next = journal.next_step(number, here.number, &here.held);
+        put_slot(
+            tie,
+            keeper,
+            journal,
+            here.number,
+            &here.held,
+            &mut here.pass,
+            number,
+        );
+        next
     }
 }

@@ -31,6 +31,7 @@ impl<N: Shape> Desk<N> {
         ensures back { IfErr result (λ back. back ≡ call) }
         ensures same { OnErr result (self.new ≡ self.old) }
         ensures spares { Spares self.old self.new [] }
+        ensures rest { self.new ≡ record self.old { world = self.new.world } }
         ensures mine { OnOk result (me.new ≡ record me.old { doing = Some call }) }
         ensures still { OnErr result (me.new ≡ me.old) }
     {
@@ -50,6 +51,7 @@ impl<N: Shape> Desk<N> {
     pub fn fork(&mut self, tie: &Tie<N, Account>, me: &mut Rider<N>) -> Progress
         ensures does { Does self.old (Fork me.old.number) result self.new }
         ensures spares { Spares self.old self.new [] }
+        ensures rest { self.new ≡ record self.old { world = self.new.world } }
         ensures not_astray { result ≢ Progress.Astray }
         ensures mine { me.new ≡ me.old }
     {
@@ -79,6 +81,7 @@ impl<N: Shape> Desk<N> {
         ensures before { root.old.held ≡ slot_of self.old root.old.number }
         ensures after { root.new ≡ record root.old { held = slot_of self.new root.old.number } }
         ensures spares { Spares self.old self.new (root.old.number ∷ []) }
+        ensures rest { self.new ≡ record self.old { world = self.new.world } }
         ensures mine { me.new ≡ me.old }
     {
         let Desk {
@@ -128,6 +131,7 @@ impl<N: Shape> Desk<N> {
         ensures from_after { from.new ≡ record from.old { held = slot_of self.new from.old.number } }
         ensures to_after { to.new ≡ record to.old { held = slot_of self.new to.old.number } }
         ensures spares { Spares self.old self.new (from.old.number ∷ to.old.number ∷ []) }
+        ensures rest { self.new ≡ record self.old { world = self.new.world } }
         ensures mine { me.new ≡ me.old }
     {
         let Desk {
