@@ -3,7 +3,7 @@ use Rattle.std.specs.List.{range_with_len}
 use Rattle.ll_rights.specs.Map.{get}
 use Rattle.ll_client.specs.Coming.{kept_at}
 use Rattle.ll_client.specs.Entries.{AreAccounts}
-use Rattle.ll_client.proofs.open.new_slots.Given as goal
+use Rattle.ll_client.proofs.opened.new_slots.Given as goal
 
 abbrev pub invariant-loop-place : goal.invariant-loop-place
 invariant-loop-place g l = record {

@@ -1,7 +1,7 @@
 use Rattle.std.proofs.Common.{◌*◌, refl, arith}
 use Rattle.ll_client.specs.Entries.{slot_entry}
 use Rattle.ll_client.proofs.Accounts.{gave, gave_other}
-use Rattle.ll_client.proofs.open.new_slot.Goals as goal
+use Rattle.ll_client.proofs.opened.new_slot.Goals as goal
 
 pub returns-clause-all : goal.returns-clause-all
 returns-clause-all g c =
