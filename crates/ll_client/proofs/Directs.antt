@@ -31,7 +31,7 @@ pub record IsDirect (w : World) (c : ℕ) (call : Call) (s : Step) : Type 0 wher
   pub idle : doing_after w s ≡ None
   pub other : s ≢ Join
 
-made_steps : (b b' : Book) (c : ℕ) (call : Call) (s : Step) (a : Made) → IsDirect b.world c call s → IsSound b.world
+pub made_steps : (b b' : Book) (c : ℕ) (call : Call) (s : Step) (a : Made) → IsDirect b.world c call s → IsSound b.world
     → length b.world.history ≤ b.world.limit
     → Answers b s a b' → Steps b b' c
 made_steps b b' c call s (made.Replied reply) t h fits d =
@@ -40,14 +40,14 @@ made_steps b b' c call s made.HistoryFull t h fits d = stood b b' c h fits d.1
 made_steps b b' c call s made.NoMemory t h fits d = stood b b' c h fits d.0
 
 -- the world is the same, and the client knows of so many entries
-same_but : (b b' : Book) (c seen : ℕ) (part : List Numbered) (before : ℕ) (doing : Option Call)
+pub same_but : (b b' : Book) (c seen : ℕ) (part : List Numbered) (before : ℕ) (doing : Option Call)
     → IsClient b c part before doing → b' ≡ b
     → knows c (part_of b'.world c) seen (doing_of b'.world c) ≡ knows c part seen doing
 same_but b b' c seen part before doing k e =
     λ i. knows c ((ap (λ (x : Book). part_of x.world c) e ∙ sym k.part_is) i) seen
     ((ap (λ (x : Book). doing_of x.world c) e ∙ sym k.doing_is) i)
 
-made_gains : (E : Type 0) (b b' : Book) (c seen limit : ℕ) (part : List Numbered) (doing : Option Call) (call : Call)
+pub made_gains : (E : Type 0) (b b' : Book) (c seen limit : ℕ) (part : List Numbered) (doing : Option Call) (call : Call)
     (s : Step) (a : Made) → IsDirect b.world c call s
     → length b.world.history ≤ b.world.limit → b.world.limit ≡ limit → IsClient b c part seen doing → Answers b s a b'
     → Gains limit call (knows c part seen doing) a

@@ -1,10 +1,24 @@
 -- What becomes of the entries where passes are taken back and given out. No public contract cites it. own
-use Rattle.std.specs.Prelude.{◌≡◌, ℕ, ◌+◌, ◌*◌, List, [], ◌∷◌, None, ⊤, Result, Ok, Err}
+use Rattle.std.specs.Prelude.{◌≡◌, ℕ, ◌+◌, ◌*◌, ◌≤◌, true, List, [], ◌∷◌, None, ⊤, Result, Ok, Err, if◌then◌else◌, ◌==◌}
 use Rattle.std.specs.Ordering.{nat_cmp}
-use Rattle.ll_rights.specs.Map.{Map, get}
+use Rattle.ll_rights.specs.declared.errno.Errno.{Errno}
+use Rattle.ll_rights.specs.declared.errno.Errno.TheVariants.{EMFILE, HistoryFull, NoMemory}
+use Rattle.ll_rights.specs.declared.kind.Kind.TheVariants.{Dir}
+use Rattle.ll_rights.specs.declared.limits.TheConstants.{TREE_CLIENTS}
+use Rattle.ll_rights.specs.Map.{Map, get, has}
+use Rattle.ll_seq.specs.declared.call.Call.{Call}
+use Rattle.ll_seq.specs.declared.reply.Reply.{Reply}
+use Rattle.ll_seq.specs.declared.reply.Reply.TheVariants as replies
+use Rattle.ll_worlds.specs.World.{shown}
+use Rattle.ll_journal.specs.Book.{Book}
+use Rattle.ll_seq.specs.State.{root}
+use Rattle.ll_held.specs.declared.held.Held.{Held}
+use Rattle.ll_held.specs.Lent.{filled, vacant}
 use Rattle.ll_inodes.specs.InodeTable.{NotIn}
 use Rattle.ll_journal.specs.declared.direct.Made.{Made}
 use Rattle.ll_journal.specs.declared.direct.Made.TheVariants as made
+use Rattle.ll_journal.specs.declared.start.Start.{Start}
+use Rattle.ll_journal.specs.declared.start.Start.TheVariants as start
 use Rattle.ll_journal.specs.declared.progress.Ending.{Ending}
 use Rattle.ll_journal.specs.declared.progress.Ending.TheVariants as ending
 use Rattle.ll_journal.specs.declared.progress.Progress.{Progress}
@@ -12,6 +26,7 @@ use Rattle.ll_journal.specs.declared.progress.Progress.TheVariants as outcome
 use Rattle.ll_client.specs.declared.account.Account.{Account}
 use Rattle.ll_client.specs.declared.left.Left.{Left}
 use Rattle.ll_client.specs.declared.left.Left.TheVariants as left
+use Rattle.ll_client.specs.Entries.{doing_of}
 
 -- no slot of this list has an entry
 abbrev pub AllOut : List ℕ → Map nat_cmp Account → Type 0
@@ -31,6 +46,17 @@ pub record ClientGoes (c : ℕ) (m n : Map nat_cmp Account) : Type 0 where
 pub record SlotComes (k c : ℕ) (m n : Map nat_cmp Account) : Type 0 where
   pub out : (ks : List ℕ) → NotIn k ks → AllOut ks m → AllOut ks n
   pub client : get m (2 * c + 1) ≡ None → get n (2 * c + 1) ≡ None
+
+-- what lies in the slot of this number in a tree of the root alone
+abbrev pub held_first : ℕ → Held
+held_first k = if k == 0 then filled root Dir else vacant
+
+-- a client that has just come: it is there, it has no walk, and no pass of its number is out
+pub record HasCome (b : Book) (c : ℕ) (m : Map nat_cmp Account) : Type 0 where
+  pub there : has (shown b.world).clients c ≡ true
+  pub few : c ≤ TREE_CLIENTS
+  pub idle : doing_of b.world c ≡ None
+  pub free : get m (2 * c + 1) ≡ None
 
 -- ---- how a walk is left, by what the journal tells
 
@@ -64,3 +90,23 @@ seen_made (Ok (made.Replied reply)) seen entries = entries
 seen_made (Ok made.HistoryFull) seen entries = entries
 seen_made (Ok made.NoMemory) seen entries = seen
 seen_made (Err back) seen entries = seen
+
+-- the same of a call that is started
+abbrev pub seen_started : Start → ℕ → ℕ → ℕ
+seen_started (start.Made answer) seen entries = seen_made {E = Call} (Ok answer) seen entries
+seen_started start.Begun seen entries = seen
+seen_started (start.Back back) seen entries = seen
+
+-- ---- what comes of a spawn, by what the journal tells. A spawn's reply is the child's number or a refusal
+
+abbrev pub child_told : Reply → Result ℕ Errno
+child_told (replies.Spawned number) = Ok number
+child_told (replies.Refused errno) = Err errno
+child_told _ = Err EMFILE
+
+-- an idle client's spawn doesn't come back
+abbrev pub child_of : Result Made Call → Result ℕ Errno
+child_of (Ok (made.Replied reply)) = child_told reply
+child_of (Ok made.HistoryFull) = Err HistoryFull
+child_of (Ok made.NoMemory) = Err NoMemory
+child_of (Err back) = Err EMFILE

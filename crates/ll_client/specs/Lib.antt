@@ -1,3 +1,4 @@
 pub mod Entries
 pub mod Hands
 pub mod Gains
+pub mod Coming

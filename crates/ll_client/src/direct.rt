@@ -14,7 +14,7 @@ use ll_seq::Call;
 use ll_tie::Tie;
 
 /// The last entry that the client knows of, where the history is so long.
-fn seen_alone(made: &Result<Made, Call>, seen: u64, entries: u64) -> u64
+pub(crate) fn seen_alone(made: &Result<Made, Call>, seen: u64, entries: u64) -> u64
     ensures { result ≡ seen_made made.now seen entries }
 {
     match made {
@@ -45,7 +45,8 @@ impl<N: Shape> Desk<N> {
     ghost use Rattle.ll_client.specs.Gains.{Gains};
 
     /// The client's call for itself alone is made and answered, or comes back where it is none, or a walk of the client
-    /// is under way. Only ruleset, confine and spawn take memory.
+    /// is under way. Only ruleset, confine and spawn take memory. A child that is spawned so has no client here: `spawn`
+    /// gives it.
     pub fn client_step(
         &mut self,
         tie: &Tie<N, Account>,

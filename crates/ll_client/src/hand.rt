@@ -1,6 +1,6 @@
 //! Passes, taken back from slots and clients, and given out to them.
 
-ghost use Rattle.std.specs.Prelude.{◌≡◌, ◌<◌, ◌≤◌, ◌+◌, ◌*◌, Some, None, length, true};
+ghost use Rattle.std.specs.Prelude.{◌≡◌, ◌≢◌, ℕ, ◌<◌, ◌≤◌, ◌+◌, ◌*◌, Some, None, length, true};
 ghost use Rattle.ll_rights.specs.declared.limits.TheConstants.{TREE_CLIENTS, TREE_NODES};
 ghost use Rattle.ll_rights.specs.Map.{get, has};
 ghost use Rattle.ll_worlds.specs.World.{shown};
@@ -109,6 +109,7 @@ pub(crate) fn give_client<N: Shape>(
     ensures all { AreAccounts journal.now keeper.new }
     ensures pass { result ≡ Some (client_entry number (part_of journal.now.world number) seen
         (doing_of journal.now.world number)) }
+    ensures others { (c : ℕ) → c ≢ number → get keeper.new (2 * c + 1) ≡ get keeper.old (2 * c + 1) }
 {
     let known = Known {
         number,

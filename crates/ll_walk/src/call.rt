@@ -84,11 +84,14 @@ impl<N: Shape, G: Gate<N>> Table<N, G> {
         unreachable!()
     }
 
-    /// A client's call, led to its reply. It comes back where it is none that a client makes (connect).
+    /// A client's call, led to its reply. Connect and spawn come back: they have functions of their own.
     pub fn call<R: Wait>(&self, rt: &R, me: &mut Client<N>, call: Call) -> Result<Made, Call>
         ensures made { IfOk result (λ made. Gains N.limit call me.old.rider made me.new.rider) }
         ensures back { IfErr result (λ back. (back ≡ call) × (me.new ≡ me.old)) }
     {
+        if matches!(call, Call::Spawn) {
+            return Err(call);
+        }
         let mut moving = None;
         if takes_gate(&call) {
             moving = Some(self.moving.lock(rt));

@@ -1,0 +1,284 @@
+-- A client that comes, by a connect or as a child: before it nothing is known of its number, and then it is there.
+use Rattle.std.specs.Prelude.{◌≡◌, ◌≢◌, ◌⊎◌, ℕ, ◌+◌, ◌*◌, ◌<◌, ◌≤◌, Bool, true, false, cond, not, List, [], ◌∷◌, ◌++◌, map}
+use Rattle.std.specs.Prelude.{length, Option, Some, None, is_some, option_map, nat_le, Result, Ok, Err, IfOk, OnErr, refl}
+use Rattle.std.specs.Ordering.{nat_cmp}
+use Rattle.std.specs.Cmp.{nat_cmp_total}
+use Rattle.std.specs.FinMap.{nat_cmp-IsAntisymmetric}
+use Rattle.std.proofs.Common.{sym, subst, ap, ◌∙◌, inl, inr, arith}
+use Rattle.std.proofs.lemmas.Bool.{false≢true, leb-false, ne_eqb}
+use Rattle.std.proofs.lemmas.List.{length-append}
+use Rattle.ll_rights.specs.declared.errno.Errno.{Errno}
+use Rattle.ll_rights.specs.declared.errno.Errno.TheVariants.{EMFILE, HistoryFull, NoMemory}
+use Rattle.ll_rights.specs.declared.limits.TheConstants.{TREE_CLIENTS}
+use Rattle.ll_rights.specs.Errno.{refuse}
+use Rattle.ll_rights.specs.Map.{Map, get, has, len}
+use Rattle.ll_rights.proofs.Maps.{get-insert_same}
+use Rattle.ll_seq.specs.declared.call.Call.{Call}
+use Rattle.ll_seq.specs.declared.call.Call.TheVariants as calls
+use Rattle.ll_seq.specs.declared.client.ClientRecord.{ClientRecord}
+use Rattle.ll_seq.specs.declared.reply.Entry.{Entry}
+use Rattle.ll_seq.specs.declared.reply.Reply.{Reply}
+use Rattle.ll_seq.specs.declared.reply.Reply.TheVariants as replies
+use Rattle.ll_seq.specs.State.{State, new_client, start}
+use Rattle.ll_seq.specs.Effects.{with_client}
+use Rattle.ll_seq.specs.Step.{step, refusals, client_of}
+use Rattle.ll_seq.specs.History.{IsLegal, MayStand, after, fresh_of, is_connect, state_after}
+use Rattle.ll_seq.proofs.Consequences.{step-clients_stay, step-spawned}
+use Rattle.ll_laws.proofs.Chains.{same_Some}
+use Rattle.ll_worlds.specs.declared.step.Step.{Step}
+use Rattle.ll_worlds.specs.declared.step.Step.TheVariants.{ClientStep, Join}
+use Rattle.ll_worlds.specs.Walk.{Walk}
+use Rattle.ll_worlds.specs.World as world
+use Rattle.ll_worlds.specs.World.{World, Outcome, advance, is_full, next_number, reply_to, shown}
+use Rattle.ll_worlds.specs.Walks.{AreValid}
+use Rattle.ll_worlds.specs.Sound.{IsSound}
+use Rattle.ll_worlds.proofs.OneCall.{unused}
+use Rattle.ll_journal.specs.Book.{Book}
+use Rattle.ll_journal.specs.Direct.{Answers}
+use Rattle.ll_journal.specs.declared.direct.Made.{Made}
+use Rattle.ll_journal.specs.declared.direct.Made.TheVariants as made
+use Rattle.ll_journal.proofs.OwnAnswers.{connect_done, nothing_denied, spawn_refused, spawned}
+use Rattle.ll_journal.proofs.Shown.{step_refused}
+use Rattle.ll_client.specs.declared.account.Account.{Account}
+use Rattle.ll_client.specs.declared.account.Account.TheVariants.{Slot, Client}
+use Rattle.ll_client.specs.declared.account.Numbered.{Numbered}
+use Rattle.ll_client.specs.Coming.{childless, spawn_made}
+use Rattle.ll_client.specs.Entries.{AreAccounts, IsAccount, IsDesk, doing_of, numbered, part_from, part_of}
+use Rattle.ll_client.specs.Hands.{HasCome, child_of, child_told}
+use Rattle.ll_client.proofs.Desks.{Steps, part_mine, part_other, stepped}
+use Rattle.ll_client.proofs.Walked.{Grown, Went, client_in, entry_of, shown_one, went}
+
+-- ---- who connects is there then, and isn't one too many
+
+connect_refused : (s : State) (number fresh : ℕ) → nat_le TREE_CLIENTS (len s.clients) ≡ true
+    → step s number calls.Connect fresh ≡ (replies.Refused EMFILE, s)
+connect_refused s number fresh many = step_refused s number calls.Connect fresh (replies.Refused EMFILE) []
+    (ap (λ ds. (map replies.Denied ds ++ [])
+    ++ map replies.Refused (refuse (nat_le TREE_CLIENTS (len s.clients)) EMFILE))
+    (nothing_denied s (client_of s number).domain) ∙ ap (λ b. map replies.Refused (refuse b EMFILE)) many)
+
+connect_few : (s : State) (number fresh : ℕ) → replies.Done ≡ (step s number calls.Connect fresh).0
+    → nat_le TREE_CLIENTS (len s.clients) ≡ false
+connect_few s number fresh told = by (nat_le TREE_CLIENTS (len s.clients)) refl
+  where
+    by : (b : Bool) → nat_le TREE_CLIENTS (len s.clients) ≡ b → b ≡ false
+    by false e = refl
+    by true e = absurd (cc (told ∙ ap (λ (p : Reply × State). p.0) (connect_refused s number fresh e)))
+
+connect_there : (s : State) (number fresh : ℕ) → replies.Done ≡ (step s number calls.Connect fresh).0
+    → has (step s number calls.Connect fresh).1.clients number ≡ true
+connect_there s number fresh told =
+    ap (λ (p : Reply × State). has p.1.clients number)
+    (connect_done s number fresh (connect_few s number fresh told))
+    ∙ ap is_some (get-insert_same nat_cmp_total nat_cmp-IsAntisymmetric s.clients number new_client)
+
+-- ---- a client that isn't there has no entry
+
+connect_is : (call : Call) → is_connect call ≡ true → call ≡ calls.Connect
+connect_is calls.Connect e = refl
+connect_is (calls.Make k t) e = absurd (false≢true e)
+connect_is (calls.Open m t) e = absurd (false≢true e)
+connect_is (calls.Read d o n) e = absurd (false≢true e)
+connect_is (calls.Write d o b) e = absurd (false≢true e)
+connect_is (calls.Ftruncate d n) e = absurd (false≢true e)
+connect_is (calls.Close d) e = absurd (false≢true e)
+connect_is (calls.Truncate t n) e = absurd (false≢true e)
+connect_is (calls.ReadDir t) e = absurd (false≢true e)
+connect_is (calls.Stat t) e = absurd (false≢true e)
+connect_is (calls.Exec t) e = absurd (false≢true e)
+connect_is (calls.Unlink t) e = absurd (false≢true e)
+connect_is (calls.Rmdir t) e = absurd (false≢true e)
+connect_is (calls.Rename o n) e = absurd (false≢true e)
+connect_is (calls.RenameNoreplace o n) e = absurd (false≢true e)
+connect_is (calls.Exchange o n) e = absurd (false≢true e)
+connect_is (calls.Link o n) e = absurd (false≢true e)
+connect_is (calls.Ruleset r) e = absurd (false≢true e)
+connect_is (calls.Allow n t r) e = absurd (false≢true e)
+connect_is (calls.Confine n) e = absurd (false≢true e)
+connect_is calls.Spawn e = absurd (false≢true e)
+
+caller_there : (s : State) (e : Entry) → MayStand s e → has (after s e).clients e.client ≡ true
+caller_there s e may = by (is_connect e.call) refl
+  where
+    by : (b : Bool) → is_connect e.call ≡ b → has (after s e).clients e.client ≡ true
+    by false is = step-clients_stay s e.client e.call (fresh_of e.reply) e.client (may.caller ∙ ap not is)
+    by true is =
+        let call : e.call ≡ calls.Connect = connect_is e.call is in
+        let done : e.reply ≡ replies.Done = may.connected is in
+        let told = sym (may.answered ∙ done) ∙ ap (λ k. (step s e.client k (fresh_of e.reply)).0) call in
+        ap (λ k. has (step s e.client k (fresh_of e.reply)).1.clients e.client) call
+        ∙ connect_there s e.client (fresh_of e.reply) told
+
+still_there : (s : State) (es : List Entry) (number : ℕ) → has s.clients number ≡ true
+    → has (state_after s es).clients number ≡ true
+still_there s [] number h = h
+still_there s (e ∷ es) number h =
+    still_there (after s e) es number (step-clients_stay s e.client e.call (fresh_of e.reply) number h)
+
+no_entry : (s : State) (es : List Entry) (before number : ℕ) → IsLegal s es
+    → has (state_after s es).clients number ≡ false → part_from before number es ≡ []
+no_entry s [] before number legal out = refl
+no_entry s (e ∷ es) before number legal out =
+    let apart : e.client ≢ number = λ same. false≢true (sym out
+    ∙ still_there (after s e) es number (ap (has (after s e).clients) (sym same) ∙ caller_there s e legal.0)) in
+    let rest : List Numbered = part_from (before + 1) number es in
+    ap (λ (b : Bool). cond b (numbered (before + 1) e.call e.reply ∷ rest) rest) (ne_eqb e.client number apart)
+    ∙ no_entry (after s e) es (before + 1) number legal.1 out
+
+-- ---- and no walk, and no pass
+
+idle_out : (w : World) (number : ℕ) → AreValid w → has (shown w).clients number ≡ false → doing_of w number ≡ None
+idle_out w number valid out = by (get w.walks number) refl
+  where
+    by : (o : Option Walk) → get w.walks number ≡ o → option_map (λ (walk : Walk). walk.call) o ≡ None
+    by None e = refl
+    by (Some walk) e = absurd (false≢true (sym out ∙ (valid number walk e).0.there))
+
+no_pass : (b : Book) (m : Map nat_cmp Account) (number : ℕ) → AreAccounts b m
+    → has (shown b.world).clients number ≡ false → get m (2 * number + 1) ≡ None
+no_pass b m number all out = by (get m (2 * number + 1)) refl
+  where
+    none : (x : Account) → IsAccount b (2 * number + 1) x → ⊥
+    none (Slot held) h = let e = h.1 in omega (arith, e)
+    none (Client part seen doing) h =
+        let same : h.0 ≡ number = (let e = h.1 in omega (arith, e)) in
+        false≢true (sym out ∙ ap (has (shown b.world).clients) (sym same) ∙ h.2)
+
+    by : (o : Option Account) → get m (2 * number + 1) ≡ o → o ≡ None
+    by None e = refl
+    by (Some x) e = absurd (none x (all (2 * number + 1) x e))
+
+next_few : (w : World) → nat_le TREE_CLIENTS (len (shown w).clients) ≡ false → next_number w ≤ TREE_CLIENTS
+next_few w few = let lt = leb-false TREE_CLIENTS (len (shown w).clients) few in omega (arith, lt)
+
+-- ---- by a connect
+
+pub record Joins (b b' : Book) (number : ℕ) (m : Map nat_cmp Account) : Type 0 where
+  pub steps : Steps b b' number
+  pub came : HasCome b' number m
+  pub part : part_of b'.world number ≡ numbered (length b'.world.history) calls.Connect replies.Done ∷ []
+  pub some : 0 < length b'.world.history
+
+pub joins : (slots limit : ℕ) (b b' : Book) (number : ℕ) (m : Map nat_cmp Account) → IsDesk slots limit b m
+    → advance b.world Join ≡ (world.Joined number, b'.world) → Joins b b' number m
+joins slots limit b b' number m d is =
+    let w : World = b.world in
+    let v : World = b'.world in
+    let g = subst (Went w Join) is (went w Join) in
+    let next : number ≡ next_number w = g.1 in
+    let out : has (shown w).clients number ≡ false =
+    ap (has (shown w).clients) next ∙ unused (shown w) d.sound.numbers in
+    let e : Entry = entry_of number calls.Connect replies.Done in
+    let more : length v.history ≡ length w.history + 1 = ap length g.3.came ∙ length-append w.history (e ∷ []) in
+    record {
+      steps = subst (Steps b b') (sym next) (stepped b b' Join (world.Joined number) d.sound d.within is);
+      came = record {
+        there = ap (λ (s : State). has s.clients number)
+            (shown_one w v number number (doing_of w number) calls.Connect replies.Done g.2 g.3)
+            ∙ connect_there (shown w) number (next_number w) g.2;
+        few = subst (λ n. n ≤ TREE_CLIENTS) (sym next)
+            (next_few w (connect_few (shown w) number (next_number w) g.2));
+        idle = g.3.mine ∙ idle_out w number d.sound.valid out;
+        free = no_pass b m number d.accounts out;
+      };
+      part = ap (part_from 0 number) g.3.came ∙ part_mine w.history e
+          ∙ (λ i. no_entry (start w.rules w.room) w.history 0 number d.sound.legal out i
+          ++ numbered (sym more i) calls.Connect replies.Done ∷ []);
+      some = omega (arith, more);
+    }
+
+-- ---- as a child
+
+-- what an idle client's spawn is answered
+spawn_told : (s : State) (number fresh : ℕ) → has s.clients number ≡ true
+    → ((step s number calls.Spawn fresh).0 ≡ replies.Refused EMFILE)
+    ⊎ (((step s number calls.Spawn fresh).0 ≡ replies.Spawned fresh) × (nat_le TREE_CLIENTS (len s.clients) ≡ false))
+spawn_told s number fresh there = of (get s.clients number) refl there
+  where
+    by : (c : ClientRecord) → get s.clients number ≡ Some c → (b : Bool) → nat_le TREE_CLIENTS (len s.clients) ≡ b
+        → ((step s number calls.Spawn fresh).0 ≡ replies.Refused EMFILE)
+        ⊎ (((step s number calls.Spawn fresh).0 ≡ replies.Spawned fresh)
+        × (nat_le TREE_CLIENTS (len s.clients) ≡ false))
+    by c is true e = inl (ap (λ (p : Reply × State). p.0) (spawn_refused s number fresh c is e))
+    by c is false e = inr (ap (λ (p : Reply × State). p.0) (spawned s number fresh c is e), e)
+
+    of : (o : Option ClientRecord) → get s.clients number ≡ o → is_some o ≡ true
+        → ((step s number calls.Spawn fresh).0 ≡ replies.Refused EMFILE)
+        ⊎ (((step s number calls.Spawn fresh).0 ≡ replies.Spawned fresh)
+        × (nat_le TREE_CLIENTS (len s.clients) ≡ false))
+    of None is h = absurd (false≢true h)
+    of (Some c) is h = by c is (nat_le TREE_CLIENTS (len s.clients)) refl
+
+-- the step's entry is the spawn's
+spawn_grown : (w v : World) (c : ℕ) (reply : Reply) → is_full w ≡ false
+    → Went w (ClientStep c calls.Spawn) (world.Replied reply, v)
+    → (reply ≡ reply_to w c calls.Spawn) × Grown w v c None (entry_of c calls.Spawn reply ∷ [])
+spawn_grown w v c reply room (inl g) = absurd (cc (sym g.0 ∙ room))
+spawn_grown w v c reply room (inr (inl g)) = absurd (cc g.0)
+spawn_grown w v c reply room (inr (inr g)) =
+    let same : g.1 ≡ calls.Spawn = same_Some g.1 calls.Spawn (sym g.2) in (
+      g.3 ∙ ap (reply_to w c) same,
+      subst (λ (k : Call). Grown w v c None (entry_of c k reply ∷ [])) same g.4,
+    )
+
+-- a spawn that is made is answered by a child's number, or refused
+pub spawn_answers : (b b' : Book) (c : ℕ) (r : Result Made Call) → has (shown b.world).clients c ≡ true
+    → doing_of b.world c ≡ None → IfOk r (λ a. Answers b (ClientStep c calls.Spawn) a b')
+    → OnErr r (advance b.world (ClientStep c calls.Spawn) ≡ (world.NotNow, b.world))
+    → Answers b (ClientStep c calls.Spawn) (spawn_made (child_of r)) b'
+spawn_answers b b' c (Ok made.HistoryFull) there idle does not_now = does
+spawn_answers b b' c (Ok made.NoMemory) there idle does not_now = does
+spawn_answers b b' c (Ok (made.Replied reply)) there idle does not_now =
+    let w : World = b.world in
+    let step' : Step = ClientStep c calls.Spawn in
+    let told = (spawn_grown w b'.world c reply does.0 (subst (Went w step') does.1 (went w step'))).0 in
+    elim (spawn_told (shown w) c (next_number w) there) [
+      | inl none ↦ subst (λ (r : Reply). Answers b step' (made.Replied r) b'
+          → Answers b step' (spawn_made (child_told r)) b') (sym (told ∙ none)) (λ d. d) does
+      | inr some ↦ subst (λ (r : Reply). Answers b step' (made.Replied r) b'
+          → Answers b step' (spawn_made (child_told r)) b') (sym (told ∙ some.0)) (λ d. d) does
+    ]
+spawn_answers b b' c (Err back) there idle does not_now = absurd (of (get b.world.walks c) refl idle)
+  where
+    of : (o : Option Walk) → get b.world.walks c ≡ o → option_map (λ (walk : Walk). walk.call) o ≡ None → ⊥
+    of (Some walk) is h = cc h
+    of None is h = cc (sym not_now)
+
+-- what is known of a child
+pub record Bears (b b' : Book) (c number : ℕ) (m : Map nat_cmp Account) : Type 0 where
+  pub apart : number ≢ c
+  pub came : HasCome b' number m
+  pub part : part_of b'.world number ≡ []
+
+pub bears : (slots limit : ℕ) (b b' : Book) (c number : ℕ) (m n : Map nat_cmp Account) → IsDesk slots limit b m
+    → AreAccounts b n
+    → has (shown b.world).clients c ≡ true → Answers b (ClientStep c calls.Spawn) (made.Replied (replies.Spawned number)) b'
+    → Bears b b' c number n
+bears slots limit b b' c number m n d all there does =
+    let w : World = b.world in
+    let v : World = b'.world in
+    let step' : Step = ClientStep c calls.Spawn in
+    let g = spawn_grown w v c (replies.Spawned number) does.0 (subst (Went w step') does.1 (went w step')) in
+    let made = step-spawned (shown w) c calls.Spawn (next_number w) number (sym g.0) in
+    let next : number ≡ next_number w = made.0 in
+    let out : has (shown w).clients number ≡ false =
+    ap (has (shown w).clients) next ∙ unused (shown w) d.sound.numbers in
+    let apart : number ≢ c = λ same. false≢true (sym out ∙ ap (has (shown w).clients) same ∙ there) in
+    let few : nat_le TREE_CLIENTS (len (shown w).clients) ≡ false =
+    elim (spawn_told (shown w) c (next_number w) there) [
+      | inl none ↦ absurd (cc (g.0 ∙ none))
+      | inr some ↦ some.1
+    ] in
+    record {
+      apart = apart;
+      came = record {
+        there = ap (λ (s : State). has s.clients number)
+            (shown_one w v c c None calls.Spawn (replies.Spawned number) g.0 g.1) ∙ made.1;
+        few = subst (λ k. k ≤ TREE_CLIENTS) (sym next) (next_few w few);
+        idle = g.1.others number apart ∙ idle_out w number d.sound.valid out;
+        free = no_pass b n number all out;
+      };
+      part = ap (part_from 0 number) g.1.came
+          ∙ part_other w.history (entry_of c calls.Spawn (replies.Spawned number)) number (λ same. apart (sym same))
+          ∙ no_entry (start w.rules w.room) w.history 0 number d.sound.legal out;
+    }

@@ -1,0 +1,80 @@
+//! Clients that come to the tree.
+
+ghost use Rattle.std.specs.Prelude.{◌≡◌, ◌≢◌, ℕ, ◌<◌, ◌≤◌, ◌+◌, ◌*◌, [], ◌∷◌, None, length, Err, IfOk, IfErr, OnOk, OnErr};
+ghost use Rattle.ll_rights.specs.Map.{get};
+ghost use Rattle.ll_seq.specs.declared.call.Call.TheVariants.{Connect};
+ghost use Rattle.ll_seq.specs.declared.reply.Reply.TheVariants.{Done, Refused};
+ghost use Rattle.ll_client.specs.Entries.{AreAccounts, knows, numbered, part_of};
+ghost use Rattle.ll_client.specs.Hands.{HasCome};
+
+use crate::account::Account;
+use crate::client::Client;
+use crate::desk::Desk;
+use crate::hand::give_client;
+use crate::rider::Rider;
+use crate::shape::Shape;
+use ll_journal::Journal;
+use ll_rights::Errno;
+use ll_tie::{Keeper, Tie};
+
+/// A client that has just come, with the first pass of its number.
+pub(crate) fn newcomer<N: Shape>(
+    tie: &Tie<N, Account>,
+    keeper: &mut Keeper<N, Account>,
+    journal: &Journal,
+    number: u64,
+    seen: u64,
+) -> Client<N>
+    requires all { AreAccounts journal.now keeper.old }
+    requires came { HasCome journal.now number keeper.old }
+    requires seen { seen ≤ length journal.now.world.history }
+    ensures all { AreAccounts journal.now keeper.new }
+    ensures client { result.rider ≡ knows number (part_of journal.now.world number) seen None }
+    ensures others { (c : ℕ) → c ≢ number → get keeper.new (2 * c + 1) ≡ get keeper.old (2 * c + 1) }
+{
+    let pass = give_client(tie, keeper, journal, number, seen);
+    Client {
+        rider: Rider {
+            number,
+            seen,
+            pass,
+        },
+    }
+}
+
+impl<N: Shape> Desk<N> {
+    ghost use Rattle.ll_journal.specs.Book.{Spares};
+    ghost use Rattle.ll_journal.specs.Direct.{TakesSpare};
+    ghost use Rattle.ll_worlds.specs.World.{World, Joined, Replied, advance, next_number};
+    ghost use Rattle.ll_worlds.specs.declared.step.Step.TheVariants.{Join};
+
+    /// A new client, which gets the next number. Its one entry is that of its connect, the last of all. Errors:
+    /// HistoryFull, EMFILE where as many clients were made as a tree may have, NoMemory.
+    pub fn connect(&mut self, tie: &Tie<N, Account>) -> Result<Client<N>, Errno>
+        ensures joined { IfOk result (λ client.
+            advance self.old.world Join ≡ (Joined client.rider.number, self.new.world)) }
+        ensures refused { IfErr result (λ errno. errno ≢ Errno.NoMemory
+            → advance self.old.world Join ≡ (Replied (Refused errno), self.old.world)) }
+        ensures starved { IfErr result (λ errno. errno ≡ Errno.NoMemory → (after : World)
+            × (advance self.old.world Join ≡ (Joined (next_number self.old.world), after))) }
+        ensures same { OnErr result (self.new ≡ self.old) }
+        ensures spares { Spares self.old self.new [] }
+        ensures rest { OnOk result (TakesSpare self.old self.new) }
+        ensures client { IfOk result (λ client. client.rider
+            ≡ knows client.rider.number (numbered client.rider.seen Connect Done ∷ []) client.rider.seen None) }
+        ensures seen { IfOk result (λ client. client.rider.seen ≡ length self.new.world.history) }
+        ensures some { IfOk result (λ client. 0 < client.rider.seen) }
+    {
+        let Desk {
+            journal,
+            keeper,
+            ..
+        } = self;
+        let number = match journal.connect() {
+            Ok(number) => number,
+            Err(errno) => return Err(errno),
+        };
+        let seen = journal.entries().len() as u64;
+        Ok(newcomer(tie, keeper, journal, number, seen))
+    }
+}

@@ -1,0 +1,109 @@
+//! A client's child.
+
+ghost use Rattle.std.specs.Prelude.{◌≡◌, ◌≢◌, ℕ, ◌≤◌, ◌+◌, ◌*◌, [], None, length, Ok, Err, IfOk, IfErr, OnOk};
+ghost use Rattle.ll_rights.specs.Map.{get};
+ghost use Rattle.ll_seq.specs.declared.call.Call.TheVariants as calls;
+ghost use Rattle.ll_seq.specs.declared.reply.Reply.TheVariants as replies;
+ghost use Rattle.ll_client.specs.Coming.{childless};
+ghost use Rattle.ll_client.specs.Entries.{AreAccounts, knows, part_of};
+ghost use Rattle.ll_client.specs.Hands.{HasCome, child_of, child_told};
+
+use crate::account::Account;
+use crate::client::Client;
+use crate::desk::Desk;
+use crate::direct::seen_alone;
+use crate::hand::{give_client, take_client};
+use crate::join::newcomer;
+use crate::shape::Shape;
+use ll_journal::{Journal, Made};
+use ll_rights::Errno;
+use ll_seq::{Call, Reply};
+use ll_tie::{Keeper, Tie};
+
+/// The child's number.
+fn child_in(reply: Reply) -> Result<u64, Errno>
+    ensures { result ≡ child_told reply }
+{
+    match reply {
+        Reply::Spawned(number) => Ok(number),
+        Reply::Refused(errno) => Err(errno),
+        _ => Err(Errno::EMFILE),
+    }
+}
+
+/// The same of what came of the call.
+fn spawned(made: Result<Made, Call>) -> Result<u64, Errno>
+    ensures { result ≡ child_of made }
+{
+    match made {
+        Ok(Made::Replied(reply)) => child_in(reply),
+        Ok(Made::HistoryFull) => Err(Errno::HistoryFull),
+        Ok(Made::NoMemory) => Err(Errno::NoMemory),
+        Err(_) => Err(Errno::EMFILE),
+    }
+}
+
+/// The child's client, where there is a child.
+fn child<N: Shape>(
+    tie: &Tie<N, Account>,
+    keeper: &mut Keeper<N, Account>,
+    journal: &Journal,
+    told: Result<u64, Errno>,
+    seen: u64,
+) -> Result<Client<N>, Errno>
+    requires all { AreAccounts journal.now keeper.old }
+    requires came { IfOk told (λ number. HasCome journal.now number keeper.old) }
+    requires seen { seen ≤ length journal.now.world.history }
+    ensures all { AreAccounts journal.now keeper.new }
+    ensures ok { IfOk result (λ client. told ≡ Ok client.rider.number) }
+    ensures client { IfOk result (λ client. client.rider
+        ≡ knows client.rider.number (part_of journal.now.world client.rider.number) seen None) }
+    ensures err { IfErr result (λ errno. told ≡ Err errno) }
+    ensures others { (c : ℕ) → told ≢ Ok c → get keeper.new (2 * c + 1) ≡ get keeper.old (2 * c + 1) }
+{
+    match told {
+        Ok(number) => Ok(newcomer(tie, keeper, journal, number, seen)),
+        Err(errno) => Err(errno),
+    }
+}
+
+impl<N: Shape> Desk<N> {
+    ghost use Rattle.ll_journal.specs.Book.{Spares};
+    ghost use Rattle.ll_journal.specs.Direct.{Answers, LeavesSlots};
+    ghost use Rattle.ll_worlds.specs.declared.step.Step.TheVariants.{ClientStep};
+    ghost use Rattle.ll_client.specs.Gains.{Gains, Told};
+
+    /// The client spawns a child: a client of its own, that has no entry yet and knows of all entries up to the spawn.
+    /// Errors: HistoryFull, EMFILE where as many clients were made as a tree may have, NoMemory. Only EMFILE has an
+    /// entry.
+    pub fn spawn(&mut self, tie: &Tie<N, Account>, me: &mut Client<N>) -> Result<Client<N>, Errno>
+        ensures does { IfOk result (λ child. Answers self.old (ClientStep me.old.rider.number calls.Spawn)
+            (Made.Replied (replies.Spawned child.rider.number)) self.new) }
+        ensures refused { IfErr result (λ errno. Answers self.old (ClientStep me.old.rider.number calls.Spawn)
+            (childless errno) self.new) }
+        ensures spares { Spares self.old self.new [] }
+        ensures rest { LeavesSlots calls.Spawn self.old self.new }
+        ensures mine { IfOk result (λ child.
+            Told calls.Spawn (replies.Spawned child.rider.number) me.old.rider me.new.rider) }
+        ensures alone { IfErr result (λ errno.
+            Gains N.limit calls.Spawn me.old.rider (childless errno) me.new.rider) }
+        ensures child { IfOk result (λ child.
+            child.rider ≡ knows child.rider.number [] me.new.rider.seen None) }
+        ensures seen { OnOk result (me.new.rider.seen ≡ length self.new.world.history) }
+    {
+        let Desk {
+            journal,
+            keeper,
+            ..
+        } = self;
+        let me = &mut me.rider;
+        let (number, seen) = (me.number, me.seen);
+        take_client(tie, keeper, journal, number, seen, &mut me.pass);
+        let made = journal.client_step(number, Call::Spawn);
+        let entries = journal.entries().len() as u64;
+        me.seen = seen_alone(&made, seen, entries);
+        let child = child(tie, keeper, journal, spawned(made), entries);
+        me.pass = give_client(tie, keeper, journal, number, me.seen);
+        child
+    }
+}
