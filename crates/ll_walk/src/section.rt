@@ -7,6 +7,10 @@ ghost use Rattle.ll_journal.specs.Steps.{Does};
 ghost use Rattle.ll_worlds.specs.declared.step.Step.TheVariants.{Descend, Fork};
 ghost use Rattle.ll_client.specs.Gains.{Goes, IsAstray, Leaves};
 ghost use Rattle.ll_walk.specs.Sections.{AreThere, Shows};
+ghost use Rattle.ll_seq.specs.History.{IsLegal};
+ghost use Rattle.ll_seq.specs.State.{start};
+ghost use Rattle.ll_worlds.specs.Walks.{AreApart, AreFew, AreValid, GateIsHeld};
+ghost use Rattle.ll_journal.specs.SlotTree.{HoldTree, accounts_of};
 
 use ll_client::{Account, Desk, Leaving, Left, Locked, Rider, Shape};
 use ll_journal::{Next, Progress, Station};
@@ -170,5 +174,19 @@ impl<'a, N: Shape> Section<'a, N> {
         let Section { desk } = self;
         desk.by_law();
         desk.root_slot()
+    }
+
+    /// What holds of the tree that lies behind the locks, whatever steps were made before. Takes no memory.
+    pub fn by_law(&self)
+        ensures legal { IsLegal (start (mutex_guard_value self.now.desk).world.rules
+            (mutex_guard_value self.now.desk).world.room) (mutex_guard_value self.now.desk).world.history }
+        ensures valid { AreValid (mutex_guard_value self.now.desk).world }
+        ensures apart { AreApart (mutex_guard_value self.now.desk).world }
+        ensures few { AreFew (mutex_guard_value self.now.desk).world }
+        ensures gate { GateIsHeld (mutex_guard_value self.now.desk).world }
+        ensures tree { HoldTree (accounts_of (mutex_guard_value self.now.desk))
+            (mutex_guard_value self.now.desk).world }
+    {
+        self.desk.by_law();
     }
 }
