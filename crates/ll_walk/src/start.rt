@@ -1,6 +1,6 @@
 //! One start of a walk, on what is common to its paths.
 
-ghost use Rattle.std.specs.Prelude.{◌≡◌, ◌<◌};
+ghost use Rattle.std.specs.Prelude.{◌≡◌, ◌<◌, IfSome};
 ghost use Rattle.ll_walk.specs.Sections.{AreThere, Came};
 ghost use Rattle.ll_client.specs.Gains.{Goes};
 ghost use Rattle.ll_walk.specs.Ends.{made_of};
