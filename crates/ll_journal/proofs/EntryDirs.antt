@@ -151,7 +151,8 @@ module _ (s : State) (h : AreIn s) where
       (w.0, make_kind_other s kind d at (λ same. absurd (omega arith)) ∙ w.1)
 
   bytes_in : (inode : ℕ) (bytes : List ℕ) → AreIn (with_bytes s inode bytes)
-  bytes_in inode bytes = same_in (with_bytes s inode bytes) (with_bytes_entries s inode bytes) (bytes_kind s inode bytes)
+  bytes_in inode bytes = same_in (with_bytes s inode bytes) (with_bytes_entries s inode bytes)
+      (bytes_kind s inode bytes)
 
 unnamed_in : (s : State) → AreIn s → (at : Dentry) (r : ℕ) → IsBare s r → AreIn (without_name s at r)
 unnamed_in s h at r bare = let_go_in (record s { entries = remove s.entries at }) (left_in s h at) r

@@ -1,5 +1,6 @@
 -- The state that is read off the slots' accounts is the shown one.
-use Rattle.std.specs.Prelude.{◌≡◌, ◌≢◌, ℕ, zero, suc, ◌+◌, ◌<◌, Bool, true, false, cond, not, ◌||◌, ◌&&◌, ◌==◌, List, []}
+use Rattle.std.specs.Prelude.{◌≡◌, ◌≢◌, ℕ, zero, suc, ◌+◌, ◌<◌, Bool, true, false, cond, not, ◌||◌, ◌&&◌, ◌==◌, List}
+use Rattle.std.specs.Prelude.{[]}
 use Rattle.std.specs.Prelude.{◌∷◌, ◌++◌, map, filter, length, Option, Some, None, is_some, unwrap_or, option_map, refl}
 use Rattle.std.specs.Prelude.{slice_get, slice_index_or, if◌then◌else◌}
 use Rattle.std.specs.declared.cmp.Ordering.{Ordering}
@@ -148,7 +149,8 @@ module _ (w : World) where
       → find nat_cmp q (map node_in (slots_of w (i ∷ is)))
       ≡ cond ((not b && (i == q)) || lies is q) (Some (node_at (shown w) q)) None) [
         | true ↦ λ z. ap (λ slots. find nat_cmp q (map node_in slots)) (none_more i is z) ∙ find_node is q
-        | false ↦ λ z. ap (λ slots. find nat_cmp q (map node_in slots)) (one_more i is z) ∙ by (i == q) refl (find_node is q)
+        | false ↦ λ z. ap (λ slots. find nat_cmp q (map node_in slots)) (one_more i is z)
+            ∙ by (i == q) refl (find_node is q)
       ] refl
     where
       by : (b : Bool) → (i == q) ≡ b → Found is q
@@ -194,7 +196,8 @@ unfolding get entries
 find_name m name = refl
 
 module _ (w : World) where
-  names_here : (d : ℕ) (name : Name) → find dentry_cmp (dentry d name) (entries_in (held_of w d)) ≡ child (shown w) d name
+  names_here : (d : ℕ) (name : Name)
+      → find dentry_cmp (dentry d name) (entries_in (held_of w d)) ≡ child (shown w) d name
   names_here d name = rows_same d name (entries (names_map (shown w) d)) ∙ find_name (names_map (shown w) d) name
       ∙ get-names_map (shown w) d name
 
