@@ -73,12 +73,7 @@ impl<N: Shape> Desk<N> {
     /// Which step of the client's walk comes next, with the slots that it needs, seen from the slot of the directory
     /// where its leg in turn stands. (Above the root any slot will do. It may be that the step still has to wait for
     /// other walks.) The slot's pass is taken back for the look, and given out again as it was.
-    pub fn next_step(
-        &mut self,
-        tie: &Tie<N, Account>,
-        me: &Rider<N>,
-        here: &mut Locked<N>,
-    ) -> Next
+    pub fn next_step(&mut self, tie: &Tie<N, Account>, me: &Rider<N>, here: &mut Locked<N>) -> Next
         ensures comes { ComesNext self.old me.now.number here.old.number result }
         ensures slots { CanBeLent self.old result }
         ensures same { self.new ≡ self.old }

@@ -1,12 +1,10 @@
-use Rattle.std.proofs.Common.{◌≡◌, ℕ, ◌≤◌, ◌∷◌, [], length, List, Option, None, refl, sym, ap, ◌∙◌, subst, arith}
-use Rattle.std.specs.Prelude.{OnOk, OnErr}
+use Rattle.std.proofs.Common.{◌≡◌, ◌≤◌, ◌∷◌, [], length, List, sym, ap, ◌∙◌, subst}
 use Rattle.ll_seq.specs.declared.reply.Entry.{Entry}
-use Rattle.ll_worlds.specs.declared.step.Step.TheVariants.{Descend, Fork}
 use Rattle.ll_client.specs.Entries.{Knows, doing_in, knows, part_in}
 use Rattle.ll_client.specs.Gains.{Goes}
 use Rattle.ll_client.specs.Hands.{seen_of}
 use Rattle.ll_client.proofs.Accounts.{IsClient, accounts_kept}
-use Rattle.ll_client.proofs.Desks.{begin_mine, begin_steps, begin_still, desk_kept, does_goes, knows_same}
+use Rattle.ll_client.proofs.Desks.{desk_kept}
 use Rattle.ll_client.proofs.Leavings.{left_goes, left_steps, seen_low}
 use Rattle.ll_client.proofs.desk.Desk.leave_4.Goals as goal
 
