@@ -43,7 +43,7 @@ use Rattle.ll_client.specs.declared.account.Account.{Account}
 use Rattle.ll_client.specs.declared.account.Account.TheVariants.{Slot, Client}
 use Rattle.ll_client.specs.declared.account.Numbered.{Numbered}
 use Rattle.ll_client.specs.Coming.{childless, spawn_made}
-use Rattle.ll_client.specs.Entries.{AreAccounts, IsAccount, IsDesk, doing_of, numbered, part_from, part_of}
+use Rattle.ll_client.specs.Entries.{AreAccounts, IsAccount, IsDesk, Knows, doing_of, knows, numbered, part_from, part_of}
 use Rattle.ll_client.specs.Hands.{HasCome, child_of, child_told}
 use Rattle.ll_client.proofs.Desks.{Steps, part_mine, part_other, stepped}
 use Rattle.ll_client.proofs.Walked.{Grown, Went, client_in, entry_of, shown_one, went}
@@ -282,3 +282,14 @@ bears slots limit b b' c number m n d all there does =
           ∙ part_other w.history (entry_of c calls.Spawn (replies.Spawned number)) number (λ same. apart (sym same))
           ∙ no_entry (start w.rules w.room) w.history 0 number d.sound.legal out;
     }
+
+-- ---- what it knows then
+
+pub connected : (b : Book) (number seen : ℕ) (k : Knows)
+    → part_of b.world number ≡ numbered (length b.world.history) calls.Connect replies.Done ∷ []
+    → seen ≡ length b.world.history → k ≡ knows number (part_of b.world number) seen None
+    → k ≡ knows k.number (numbered k.seen calls.Connect replies.Done ∷ []) k.seen None
+connected b number seen k part long is =
+    subst (λ (x : Knows). x ≡ knows x.number (numbered x.seen calls.Connect replies.Done ∷ []) x.seen None) (sym is)
+    (ap (λ (p : List Numbered). knows number p seen None)
+    (part ∙ ap (λ n. numbered n calls.Connect replies.Done ∷ []) (sym long)))
