@@ -7,7 +7,7 @@ use Rattle.ll_worlds.specs.declared.step.Step.TheVariants.{ClientStep}
 use Rattle.ll_journal.specs.Book.{Book}
 use Rattle.ll_journal.specs.Direct.{Answers}
 use Rattle.ll_client.specs.Coming.{childless, spawn_made}
-use Rattle.ll_client.specs.Entries.{Knows, doing_in, knows, part_in}
+use Rattle.ll_client.specs.Entries.{Knows, doing_in, doing_of, knows, part_in, part_of}
 use Rattle.ll_client.specs.Gains.{Gains, Told}
 use Rattle.ll_client.specs.Hands.{seen_made}
 use Rattle.ll_client.proofs.Accounts.{IsClient, accounts_kept}
@@ -179,6 +179,10 @@ returns-clause-mine g c =
     c.me.inside.seen (part_in c.me.inside.pass) (doing_in c.me.inside.pass) k in
     let now : Knows =
     knows c.me.inside.number (part_in c.me.inside.pass) c.me.inside.seen (doing_in c.me.inside.pass) in
+    let later : Knows =
+    knows c.me.inside.number (part_of c.client_step-made.new.self.world c.me.inside.number)
+    (seen_made c.client_step-made.result c.me.inside.seen (length c.client_step-made.new.self.world.history))
+    (doing_of c.client_step-made.new.self.world c.me.inside.number) in
     if_ok c.child-child.result _ _ (λ child is.
     subst (λ (x : Knows × Knows). Told calls.Spawn (replies.Spawned child.rider.number) x.0 x.1)
     (λ i. (
@@ -186,7 +190,7 @@ returns-clause-mine g c =
       knows c.me.inside.number (part_in (sym c.give_client.ensures.pass i)) (seen i)
           (doing_in (sym c.give_client.ensures.pass i)),
     ))
-    (subst (λ (x : Result ℕ Errno). Gains g.N.Shape.limit calls.Spawn now (spawn_made x) _) is gains))
+    (subst (λ (x : Result ℕ Errno). Gains g.N.Shape.limit calls.Spawn now (spawn_made x) later) is gains))
     c.child-child.ensures.ok
 
 pub returns-clause-alone : goal.returns-clause-alone
@@ -217,6 +221,10 @@ returns-clause-alone g c =
     c.me.inside.seen (part_in c.me.inside.pass) (doing_in c.me.inside.pass) k in
     let now : Knows =
     knows c.me.inside.number (part_in c.me.inside.pass) c.me.inside.seen (doing_in c.me.inside.pass) in
+    let later : Knows =
+    knows c.me.inside.number (part_of c.client_step-made.new.self.world c.me.inside.number)
+    (seen_made c.client_step-made.result c.me.inside.seen (length c.client_step-made.new.self.world.history))
+    (doing_of c.client_step-made.new.self.world c.me.inside.number) in
     if_err c.child-child.result _ _ (λ errno is.
     subst (λ (x : Knows × Knows). Gains g.N.Shape.limit calls.Spawn x.0 (childless errno) x.1)
     (λ i. (
@@ -224,7 +232,7 @@ returns-clause-alone g c =
       knows c.me.inside.number (part_in (sym c.give_client.ensures.pass i)) (seen i)
           (doing_in (sym c.give_client.ensures.pass i)),
     ))
-    (subst (λ (x : Result ℕ Errno). Gains g.N.Shape.limit calls.Spawn now (spawn_made x) _) is gains))
+    (subst (λ (x : Result ℕ Errno). Gains g.N.Shape.limit calls.Spawn now (spawn_made x) later) is gains))
     c.child-child.ensures.err
 
 pub returns-clause-child : goal.returns-clause-child
