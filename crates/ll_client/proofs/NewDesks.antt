@@ -3,6 +3,7 @@ use Rattle.std.specs.Prelude.{◌≡◌, ℕ, zero, suc, ◌+◌, ◌-◌, ◌*�
 use Rattle.std.specs.Prelude.{replicate, slice_index_or, Option, Some, None, refl}
 use Rattle.std.specs.Ordering.{nat_cmp}
 use Rattle.std.proofs.Common.{sym, subst, ap, ◌∙◌, arith}
+use Rattle.std.proofs.lemmas.Bool.{ne_eqb}
 use Rattle.std.proofs.lemmas.List.{length-replicate}
 use Rattle.ll_rights.specs.declared.kind.Kind.TheVariants.{Dir}
 use Rattle.ll_rights.specs.declared.limits.TheConstants.{TREE_CLIENTS, TREE_NODES}
@@ -37,6 +38,7 @@ first_slots rules room limit b e k = ap (λ (x : Book). slot_of x k) e ∙ at k
     at zero = root_account rules room limit
     at (suc j) = ap (λ i. cond (i == 0) vacant (held_of (new_world rules room limit) i))
         (zeros (room + TREE_CLIENTS - 1) j)
+        ∙ sym (ap (λ b. cond b (filled root Dir) vacant) (ne_eqb (suc j) 0 (λ f. omega (arith, f))))
 
 pub count_slots : (rules : Rules) (room limit : ℕ) (b : Book) → b ≡ new_book rules room limit → 1 ≤ room
     → length b.inodes ≡ room + TREE_CLIENTS

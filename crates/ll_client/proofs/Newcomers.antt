@@ -1,6 +1,7 @@
 -- A client that comes, by a connect or as a child: before it nothing is known of its number, and then it is there.
 use Rattle.std.specs.Prelude.{◌≡◌, ◌≢◌, ◌⊎◌, ℕ, ◌+◌, ◌*◌, ◌<◌, ◌≤◌, Bool, true, false, cond, not, List, [], ◌∷◌, ◌++◌, map}
-use Rattle.std.specs.Prelude.{length, Option, Some, None, is_some, option_map, nat_le, Result, Ok, Err, IfOk, OnErr, refl}
+use Rattle.std.specs.Prelude.{length, Option, Some, None, is_some, option_map, nat_le, Result, Ok, Err, IfOk, IfErr, OnErr}
+use Rattle.std.specs.Prelude.{unwrap_or, ◌&&◌, refl}
 use Rattle.std.specs.Ordering.{nat_cmp}
 use Rattle.std.specs.Cmp.{nat_cmp_total}
 use Rattle.std.specs.FinMap.{nat_cmp-IsAntisymmetric}
@@ -29,7 +30,8 @@ use Rattle.ll_worlds.specs.declared.step.Step.{Step}
 use Rattle.ll_worlds.specs.declared.step.Step.TheVariants.{ClientStep, Join}
 use Rattle.ll_worlds.specs.Walk.{Walk}
 use Rattle.ll_worlds.specs.World as world
-use Rattle.ll_worlds.specs.World.{World, Outcome, advance, is_full, next_number, reply_to, shown}
+use Rattle.ll_worlds.specs.World.{World, Outcome, advance, answered, is_alone, is_full, is_idle, next_number}
+use Rattle.ll_worlds.specs.World.{reply_to, shown}
 use Rattle.ll_worlds.specs.Walks.{AreValid}
 use Rattle.ll_worlds.specs.Sound.{IsSound}
 use Rattle.ll_worlds.proofs.OneCall.{unused}
@@ -42,9 +44,12 @@ use Rattle.ll_journal.proofs.Shown.{step_refused}
 use Rattle.ll_client.specs.declared.account.Account.{Account}
 use Rattle.ll_client.specs.declared.account.Account.TheVariants.{Slot, Client}
 use Rattle.ll_client.specs.declared.account.Numbered.{Numbered}
-use Rattle.ll_client.specs.Coming.{childless, spawn_made}
-use Rattle.ll_client.specs.Entries.{AreAccounts, IsAccount, IsDesk, doing_of, numbered, part_from, part_of}
-use Rattle.ll_client.specs.Hands.{HasCome, child_of, child_told}
+use Rattle.ll_client.specs.Coming.{spawn_made}
+use Rattle.ll_client.specs.Entries.{AreAccounts, IsAccount, IsDesk, Knows, doing_of, knows, numbered, part_from, part_of}
+use Rattle.ll_client.specs.Hands.{HasCome, child_of, child_told, seen_made}
+use Rattle.ll_client.specs.Gains.{Gains}
+use Rattle.ll_client.proofs.Accounts.{IsClient}
+use Rattle.ll_client.proofs.Directs.{IsDirect, direct_gains, direct_steps}
 use Rattle.ll_client.proofs.Desks.{Steps, part_mine, part_other, stepped}
 use Rattle.ll_client.proofs.Walked.{Grown, Went, client_in, entry_of, shown_one, went}
 
@@ -221,28 +226,68 @@ spawn_grown w v c reply room (inr (inr g)) =
       subst (λ (k : Call). Grown w v c None (entry_of c k reply ∷ [])) same g.4,
     )
 
--- a spawn that is made is answered by a child's number, or refused
-pub spawn_answers : (b b' : Book) (c : ℕ) (r : Result Made Call) → has (shown b.world).clients c ≡ true
+-- a step that is enabled was made
+was_made : (w v : World) (b : Bool) (reply : Reply) → b ≡ true
+    → ◌≡◌ {A = Outcome × World} (unwrap_or (cond b (Some (world.Replied reply, v)) None) (world.NotNow, w))
+    (world.NotNow, w) → ⊥
+was_made w v true reply e h = cc (ap (λ (p : Outcome × World). p.0) h)
+was_made w v false reply e h = false≢true e
+
+-- What an idle client's spawn came to: a child's number, or none
+spawn_is : (b b' : Book) (c : ℕ) (r : Result Made Call) → has (shown b.world).clients c ≡ true
     → doing_of b.world c ≡ None → IfOk r (λ a. Answers b (ClientStep c calls.Spawn) a b')
     → OnErr r (advance b.world (ClientStep c calls.Spawn) ≡ (world.NotNow, b.world))
-    → Answers b (ClientStep c calls.Spawn) (spawn_made (child_of r)) b'
-spawn_answers b b' c (Ok made.HistoryFull) there idle does not_now = does
-spawn_answers b b' c (Ok made.NoMemory) there idle does not_now = does
-spawn_answers b b' c (Ok (made.Replied reply)) there idle does not_now =
+    → (a : Made) × (r ≡ Ok a) × (spawn_made (child_of r) ≡ a)
+spawn_is b b' c (Ok made.HistoryFull) there idle does not_now = (made.HistoryFull, refl, refl)
+spawn_is b b' c (Ok made.NoMemory) there idle does not_now = (made.NoMemory, refl, refl)
+spawn_is b b' c (Ok (made.Replied reply)) there idle does not_now =
     let w : World = b.world in
     let step' : Step = ClientStep c calls.Spawn in
     let told = (spawn_grown w b'.world c reply does.0 (subst (Went w step') does.1 (went w step'))).0 in
-    elim (spawn_told (shown w) c (next_number w) there) [
-      | inl none ↦ subst (λ (r : Reply). Answers b step' (made.Replied r) b'
-          → Answers b step' (spawn_made (child_told r)) b') (sym (told ∙ none)) (λ d. d) does
-      | inr some ↦ subst (λ (r : Reply). Answers b step' (made.Replied r) b'
-          → Answers b step' (spawn_made (child_told r)) b') (sym (told ∙ some.0)) (λ d. d) does
-    ]
-spawn_answers b b' c (Err back) there idle does not_now = absurd (of (get b.world.walks c) refl idle)
+    (made.Replied reply, refl, elim (spawn_told (shown w) c (next_number w) there) [
+      | inl none ↦ same reply (replies.Refused EMFILE) (told ∙ none) refl
+      | inr some ↦ same reply (replies.Spawned (next_number w)) (told ∙ some.0) refl
+    ])
+  where
+    same : (reply it : Reply) → reply ≡ it → spawn_made (child_told it) ≡ made.Replied it
+        → spawn_made (child_told reply) ≡ made.Replied reply
+    same reply it e is = subst (λ (x : Reply). spawn_made (child_told x) ≡ made.Replied x) (sym e) is
+spawn_is b b' c (Err back) there idle does not_now = absurd (of (get b.world.walks c) refl idle)
   where
     of : (o : Option Walk) → get b.world.walks c ≡ o → option_map (λ (walk : Walk). walk.call) o ≡ None → ⊥
     of (Some walk) is h = cc h
-    of None is h = cc (sym not_now)
+    of None is h = was_made b.world (answered b.world c calls.Spawn).1
+        (is_idle b.world c && is_alone (client_of (shown b.world) c) calls.Spawn) (answered b.world c calls.Spawn).0
+        (λ i. (there i && not (is_some (is i))) && is_alone (client_of (shown b.world) c) calls.Spawn) not_now
+
+-- so what is known of it is known of the child's number, or of why there is none
+pub spawn_gives : (b b' : Book) (c : ℕ) (r : Result Made Call) (told : Result ℕ Errno)
+    → has (shown b.world).clients c ≡ true
+    → doing_of b.world c ≡ None → IfOk r (λ a. Answers b (ClientStep c calls.Spawn) a b')
+    → OnErr r (advance b.world (ClientStep c calls.Spawn) ≡ (world.NotNow, b.world)) → told ≡ child_of r
+    → (P : Made → Type 0) → IfOk r P → P (spawn_made told)
+spawn_gives b b' c r told there idle does not_now is P h =
+    let s = spawn_is b b' c r there idle does not_now in
+    subst (λ (x : Result ℕ Errno). P (spawn_made x)) (sym is)
+    (subst P (sym s.2) (subst (λ (x : Result Made Call). IfOk x P) s.1 h))
+
+-- its parent is idle still
+pub spawn_idle : (b b' : Book) (c : ℕ) (r : Result Made Call) → doing_of b.world c ≡ None
+    → IfOk r (λ a. Answers b (ClientStep c calls.Spawn) a b') → OnErr r (b' ≡ b) → doing_of b'.world c ≡ None
+spawn_idle b b' c (Ok (made.Replied reply)) idle does same =
+    (spawn_grown b.world b'.world c reply does.0
+    (subst (Went b.world (ClientStep c calls.Spawn)) does.1 (went b.world (ClientStep c calls.Spawn)))).1.mine
+spawn_idle b b' c (Ok made.HistoryFull) idle does same = ap (λ (x : Book). doing_of x.world c) does.1 ∙ idle
+spawn_idle b b' c (Ok made.NoMemory) idle does same = ap (λ (x : Book). doing_of x.world c) does.0 ∙ idle
+spawn_idle b b' c (Err back) idle does same = ap (λ (x : Book). doing_of x.world c) same ∙ idle
+
+-- where there is a child, its parent knows of all entries
+pub seen_child : (r : Result Made Call) (seen entries number : ℕ) → child_of r ≡ Ok number
+    → seen_made r seen entries ≡ entries
+seen_child (Ok (made.Replied reply)) seen entries number e = refl
+seen_child (Ok made.HistoryFull) seen entries number e = refl
+seen_child (Ok made.NoMemory) seen entries number e = absurd (cc e)
+seen_child (Err back) seen entries number e = absurd (cc e)
 
 -- what is known of a child
 pub record Bears (b b' : Book) (c number : ℕ) (m : Map nat_cmp Account) : Type 0 where
@@ -282,3 +327,80 @@ bears slots limit b b' c number m n d all there does =
           ∙ part_other w.history (entry_of c calls.Spawn (replies.Spawned number)) number (λ same. apart (sym same))
           ∙ no_entry (start w.rules w.room) w.history 0 number d.sound.legal out;
     }
+
+-- ---- what it knows then
+
+pub connected : (b : Book) (number seen : ℕ) (k : Knows)
+    → part_of b.world number ≡ numbered (length b.world.history) calls.Connect replies.Done ∷ []
+    → seen ≡ length b.world.history → k ≡ knows number (part_of b.world number) seen None
+    → k ≡ knows k.number (numbered k.seen calls.Connect replies.Done ∷ []) k.seen None
+connected b number seen k part long is =
+    subst (λ (x : Knows). x ≡ knows x.number (numbered x.seen calls.Connect replies.Done ∷ []) x.seen None) (sym is)
+    (ap (λ (p : List Numbered). knows number p seen None)
+    (part ∙ ap (λ n. numbered n calls.Connect replies.Done ∷ []) (sym long)))
+
+-- ---- the act: what is known of a spawn of an idle client, whose pass was taken back
+
+pub record Spawning
+    (slots limit : ℕ) (b b' : Book) (c : ℕ) (m n : Map nat_cmp Account) (r : Result Made Call)
+    (told : Result ℕ Errno) : Type 0 where
+  pub desk : IsDesk slots limit b m
+  pub out : AreAccounts b n
+  pub there : has (shown b.world).clients c ≡ true
+  pub idle : doing_of b.world c ≡ None
+  pub does : IfOk r (λ a. Answers b (ClientStep c calls.Spawn) a b')
+  pub not_now : OnErr r (advance b.world (ClientStep c calls.Spawn) ≡ (world.NotNow, b.world))
+  pub same : OnErr r (b' ≡ b)
+  pub is : told ≡ child_of r
+
+module _ (slots limit : ℕ) (b b' : Book) (c : ℕ) (m n : Map nat_cmp Account) (r : Result Made Call)
+    (told : Result ℕ Errno) (s : Spawning slots limit b b' c m n r told) where
+  direct : IsDirect b.world c calls.Spawn (ClientStep c calls.Spawn)
+  direct = record { mine = refl; asks = refl; idle = refl; other = λ e. cc e }
+
+  pub spawn_steps : Steps b b' c
+  spawn_steps = direct_steps b b' c calls.Spawn (ClientStep c calls.Spawn) r direct s.desk.sound s.desk.within s.does s.same
+
+  pub spawn_answers : Answers b (ClientStep c calls.Spawn) (spawn_made told) b'
+  spawn_answers = spawn_gives b b' c r told s.there s.idle s.does s.not_now s.is
+      (λ a. Answers b (ClientStep c calls.Spawn) a b') s.does
+
+  pub spawn_gains : (seen : ℕ) (part : List Numbered) (doing : Option Call) → IsClient b c part seen doing
+      → Gains limit calls.Spawn (knows c part seen doing) (spawn_made told)
+      (knows c (part_of b'.world c) (seen_made r seen (length b'.world.history)) (doing_of b'.world c))
+  spawn_gains seen part doing k = spawn_gives b b' c r told s.there s.idle s.does s.not_now s.is
+      (λ a. Gains limit calls.Spawn (knows c part seen doing) a
+      (knows c (part_of b'.world c) (seen_made r seen (length b'.world.history)) (doing_of b'.world c)))
+      (direct_gains b b' c seen limit part doing calls.Spawn (ClientStep c calls.Spawn) r direct s.desk.within
+      s.desk.limit_is k s.does)
+
+  pub still_idle : doing_of b'.world c ≡ None
+  still_idle = spawn_idle b b' c r s.idle s.does s.same
+
+  pub child_bears : (number : ℕ) → told ≡ Ok number → Bears b b' c number n
+  child_bears number own = bears slots limit b b' c number m n s.desk s.out s.there
+      (subst (λ (x : Result ℕ Errno). Answers b (ClientStep c calls.Spawn) (spawn_made x) b') own spawn_answers)
+
+  pub not_own : told ≢ Ok c
+  not_own own = (child_bears c own).apart refl
+
+  come : (x : Result ℕ Errno) → told ≡ x → IfOk x (λ number. HasCome b' number n)
+  come (Ok number) e = (child_bears number e).came
+  come (Err errno) e = tt
+
+  pub told_come : IfOk told (λ number. HasCome b' number n)
+  told_come = come told refl
+
+-- of what came of it
+module _ {A E : Type 0} where
+  pub if_ok : (r : Result A E) (P Q : A → Type 0) → ((x : A) → P x → Q x) → IfOk r P → IfOk r Q
+  if_ok (Ok x) P Q f h = f x h
+  if_ok (Err e) P Q f h = tt
+
+  pub if_err : (r : Result A E) (P Q : E → Type 0) → ((e : E) → P e → Q e) → IfErr r P → IfErr r Q
+  if_err (Ok x) P Q f h = tt
+  if_err (Err e) P Q f h = f e h
+
+  pub if_both : (r : Result A E) (P Q R : A → Type 0) → ((x : A) → P x → Q x → R x) → IfOk r P → IfOk r Q → IfOk r R
+  if_both (Ok x) P Q R f h k = f x h k
+  if_both (Err e) P Q R f h k = tt
