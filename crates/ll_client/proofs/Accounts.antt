@@ -1,5 +1,5 @@
 -- The accounts whose passes are out, at each step under the journal's lock.
-use Rattle.std.specs.Prelude.{◌≡◌, ◌≢◌, ◌⊎◌, ℕ, ◌+◌, ◌*◌, ◌<◌, ◌≤◌, true, List, [], ◌∷◌, length, Option, Some, None}
+use Rattle.std.specs.Prelude.{◌≡◌, ◌≢◌, ℕ, ◌+◌, ◌*◌, ◌<◌, ◌≤◌, true, List, [], ◌∷◌, length, Option, Some, None}
 use Rattle.std.specs.Prelude.{IfSome, refl}
 use Rattle.std.specs.Ordering.{nat_cmp}
 use Rattle.std.specs.Cmp.{nat_cmp_total}
@@ -7,7 +7,7 @@ use Rattle.std.specs.FinMap.{nat_cmp-IsAntisymmetric}
 use Rattle.std.proofs.Common.{sym, subst, ap, ◌∙◌, inl, inr, arith}
 use Rattle.ll_rights.specs.declared.limits.TheConstants.{TREE_CLIENTS}
 use Rattle.ll_rights.specs.Map.{Map, get, has, insert, remove}
-use Rattle.ll_rights.proofs.Maps.{get-insert_same, get-insert_other, get-remove_other, got_inserted, got_left}
+use Rattle.ll_rights.proofs.Maps.{get-insert_other, get-remove_other, got_inserted, got_left}
 use Rattle.ll_seq.specs.declared.call.Call.{Call}
 use Rattle.ll_held.specs.declared.held.Held.{Held}
 use Rattle.ll_inodes.specs.InodeTable.{NotIn}
@@ -16,7 +16,7 @@ use Rattle.ll_journal.specs.Book.{Book, Spares, slot_of}
 use Rattle.ll_client.specs.declared.account.Account.{Account}
 use Rattle.ll_client.specs.declared.account.Account.TheVariants.{Slot, Client}
 use Rattle.ll_client.specs.declared.account.Numbered.{Numbered}
-use Rattle.ll_client.specs.Entries.{AreAccounts, IsAccount, doing_of, part_of, slot_entry}
+use Rattle.ll_client.specs.Entries.{AreAccounts, IsAccount, doing_of, part_of}
 use Rattle.ll_client.specs.Hands.{AllOut, ClientGoes, SlotComes, SlotGoes}
 
 none_some : {A : Type 0} (x : A) → None ≡ Some x → ⊥
@@ -115,7 +115,8 @@ gave b e m n new all is key x at =
       | inr old ↦ all key x old
     ]
 
-pub gave_other : (j : ℕ) (e : ℕ × Account) (m n : Map nat_cmp Account) → n ≡ insert m e.0 e.1 → j ≢ e.0 → get n j ≡ get m j
+pub gave_other : (j : ℕ) (e : ℕ × Account) (m n : Map nat_cmp Account) → n ≡ insert m e.0 e.1 → j ≢ e.0
+    → get n j ≡ get m j
 gave_other j e m n is other =
     ap (λ q. get q j) is ∙ get-insert_other nat_cmp_total nat_cmp-IsAntisymmetric m e.0 e.1 j other
 

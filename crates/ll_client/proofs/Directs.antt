@@ -1,10 +1,7 @@
 -- What comes of a call that doesn't walk: of the tree, and of its client.
 use Rattle.std.specs.Prelude.{◌≡◌, ◌≢◌, ℕ, ◌≤◌, List, [], ◌∷◌, length, Option, Some, None, Result, Ok, Err, IfOk, OnErr}
-use Rattle.std.specs.Prelude.{refl}
 use Rattle.std.proofs.Common.{sym, subst, ap, ◌∙◌, arith}
-use Rattle.ll_rights.specs.declared.errno.Errno.TheVariants.{HistoryFull}
 use Rattle.ll_seq.specs.declared.call.Call.{Call}
-use Rattle.ll_seq.specs.declared.reply.Reply.TheVariants.{Refused}
 use Rattle.ll_laws.proofs.Chains.{same_Some}
 use Rattle.ll_worlds.specs.declared.step.Step.{Step}
 use Rattle.ll_worlds.specs.declared.step.Step.TheVariants.{Join}
@@ -16,7 +13,7 @@ use Rattle.ll_journal.specs.Direct.{Answers}
 use Rattle.ll_journal.specs.declared.direct.Made.{Made}
 use Rattle.ll_journal.specs.declared.direct.Made.TheVariants as made
 use Rattle.ll_client.specs.declared.account.Numbered.{Numbered}
-use Rattle.ll_client.specs.Entries.{Knows, doing_of, knows, part_of}
+use Rattle.ll_client.specs.Entries.{doing_of, knows, part_of}
 use Rattle.ll_client.specs.Gains.{Gains}
 use Rattle.ll_client.specs.Hands.{seen_made}
 use Rattle.ll_client.proofs.Accounts.{IsClient}
@@ -47,7 +44,8 @@ same_but b b' c seen part before doing k e =
     λ i. knows c ((ap (λ (x : Book). part_of x.world c) e ∙ sym k.part_is) i) seen
     ((ap (λ (x : Book). doing_of x.world c) e ∙ sym k.doing_is) i)
 
-pub made_gains : (E : Type 0) (b b' : Book) (c seen limit : ℕ) (part : List Numbered) (doing : Option Call) (call : Call)
+pub made_gains : (E : Type 0) (b b' : Book) (c seen limit : ℕ) (part : List Numbered) (doing : Option Call)
+    (call : Call)
     (s : Step) (a : Made) → IsDirect b.world c call s
     → length b.world.history ≤ b.world.limit → b.world.limit ≡ limit → IsClient b c part seen doing → Answers b s a b'
     → Gains limit call (knows c part seen doing) a
