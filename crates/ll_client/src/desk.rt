@@ -31,7 +31,7 @@ impl<N: Shape> Model for Desk<N> {
 }
 
 impl<N: Shape> Desk<N> {
-    ghost use Rattle.std.specs.Prelude.{◌≤◌, length};
+    ghost use Rattle.std.specs.Prelude.{◌≡◌, ◌≤◌, length};
     ghost use Rattle.ll_seq.specs.History.{IsLegal};
     ghost use Rattle.ll_seq.specs.State.{start};
     ghost use Rattle.ll_worlds.specs.Walks.{AreApart, AreFew, AreValid, GateIsHeld};
