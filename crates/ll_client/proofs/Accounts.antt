@@ -115,7 +115,8 @@ gave b e m n new all is key x at =
       | inr old ↦ all key x old
     ]
 
-pub gave_other : (j : ℕ) (e : ℕ × Account) (m n : Map nat_cmp Account) → n ≡ insert m e.0 e.1 → j ≢ e.0 → get n j ≡ get m j
+pub gave_other : (j : ℕ) (e : ℕ × Account) (m n : Map nat_cmp Account) → n ≡ insert m e.0 e.1 → j ≢ e.0
+    → get n j ≡ get m j
 gave_other j e m n is other =
     ap (λ q. get q j) is ∙ get-insert_other nat_cmp_total nat_cmp-IsAntisymmetric m e.0 e.1 j other
 

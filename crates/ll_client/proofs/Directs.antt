@@ -44,7 +44,8 @@ same_but b b' c seen part before doing k e =
     λ i. knows c ((ap (λ (x : Book). part_of x.world c) e ∙ sym k.part_is) i) seen
     ((ap (λ (x : Book). doing_of x.world c) e ∙ sym k.doing_is) i)
 
-pub made_gains : (E : Type 0) (b b' : Book) (c seen limit : ℕ) (part : List Numbered) (doing : Option Call) (call : Call)
+pub made_gains : (E : Type 0) (b b' : Book) (c seen limit : ℕ) (part : List Numbered) (doing : Option Call)
+    (call : Call)
     (s : Step) (a : Made) → IsDirect b.world c call s
     → length b.world.history ≤ b.world.limit → b.world.limit ≡ limit → IsClient b c part seen doing → Answers b s a b'
     → Gains limit call (knows c part seen doing) a

@@ -1,6 +1,7 @@
 -- A tree that is opened: what has to lie in its slots, and passes given out one after the other.
-use Rattle.std.specs.Prelude.{◌≡◌, ℕ, zero, suc, ◌+◌, ◌-◌, ◌*◌, ◌<◌, ◌≤◌, ◌==◌, cond, true, false, Bool, List, [], ◌∷◌, map, length}
-use Rattle.std.specs.Prelude.{replicate, slice_index_or, Option, Some, None, refl}
+use Rattle.std.specs.Prelude.{◌≡◌, ℕ, zero, suc, ◌+◌, ◌-◌, ◌≤◌, ◌==◌, cond}
+use Rattle.std.specs.Prelude.{length}
+use Rattle.std.specs.Prelude.{replicate, slice_index_or, refl}
 use Rattle.std.specs.Ordering.{nat_cmp}
 use Rattle.std.proofs.Common.{sym, subst, ap, ◌∙◌, arith}
 use Rattle.std.proofs.lemmas.Bool.{ne_eqb}
@@ -11,14 +12,13 @@ use Rattle.ll_rights.specs.Map.{Map, empty, checked, get, insert, remove, entrie
 use Rattle.ll_rights.proofs.Maps.{get-empty}
 use Rattle.ll_seq.specs.declared.rules.Rules.{Rules}
 use Rattle.ll_seq.specs.State.{root}
-use Rattle.ll_held.specs.declared.held.Held.{Held}
 use Rattle.ll_held.specs.Lent.{vacant, filled}
 use Rattle.ll_worlds.specs.World.{new_world}
 use Rattle.ll_worlds.specs.Sound.{IsSound}
 use Rattle.ll_worlds.proofs.SoundSteps.{sound_start}
 use Rattle.ll_journal.specs.Book.{Book, new_book, slot_of, held_of}
 use Rattle.ll_client.specs.declared.account.Account.{Account}
-use Rattle.ll_client.specs.Entries.{AreAccounts, IsAccount, IsDesk}
+use Rattle.ll_client.specs.Entries.{AreAccounts, IsDesk}
 use Rattle.ll_client.specs.Hands.{held_first}
 
 root_account : (rules : Rules) (room limit : ℕ) → held_of (new_world rules room limit) root ≡ filled root Dir
@@ -48,7 +48,8 @@ count_slots rules room limit b e some =
     ap (λ (x : Book). length x.inodes) e ∙ (omega (arith, rest, some))
 
 pub none_out : (b : Book) (m : Map nat_cmp Account) → m ≡ empty → AreAccounts b m
-none_out b m e key x at = absurd (cc (sym at ∙ ap (λ (n : Map nat_cmp Account). get n key) e ∙ get-empty Account nat_cmp key))
+none_out b m e key x at = absurd
+    (cc (sym at ∙ ap (λ (n : Map nat_cmp Account). get n key) e ∙ get-empty Account nat_cmp key))
 
 pub desk_new : (slots limit : ℕ) (rules : Rules) (room history : ℕ) (b : Book) (m : Map nat_cmp Account)
     → b ≡ new_book rules room history → 1 ≤ room → room ≤ TREE_NODES → slots ≡ room + TREE_CLIENTS

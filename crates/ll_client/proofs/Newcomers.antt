@@ -1,6 +1,8 @@
 -- A client that comes, by a connect or as a child: before it nothing is known of its number, and then it is there.
-use Rattle.std.specs.Prelude.{◌≡◌, ◌≢◌, ◌⊎◌, ℕ, ◌+◌, ◌*◌, ◌<◌, ◌≤◌, Bool, true, false, cond, not, List, [], ◌∷◌, ◌++◌, map}
-use Rattle.std.specs.Prelude.{length, Option, Some, None, is_some, option_map, nat_le, Result, Ok, Err, IfOk, IfErr, OnErr}
+use Rattle.std.specs.Prelude.{◌≡◌, ◌≢◌, ◌⊎◌, ℕ, ◌+◌, ◌*◌, ◌<◌, ◌≤◌, Bool, true, false, cond, not, List, [], ◌∷◌, ◌++◌}
+use Rattle.std.specs.Prelude.{map}
+use Rattle.std.specs.Prelude.{length, Option, Some, None, is_some, option_map, nat_le, Result, Ok, Err, IfOk, IfErr}
+use Rattle.std.specs.Prelude.{OnErr}
 use Rattle.std.specs.Prelude.{unwrap_or, ◌&&◌, refl}
 use Rattle.std.specs.Ordering.{nat_cmp}
 use Rattle.std.specs.Cmp.{nat_cmp_total}
@@ -9,7 +11,7 @@ use Rattle.std.proofs.Common.{sym, subst, ap, ◌∙◌, inl, inr, arith}
 use Rattle.std.proofs.lemmas.Bool.{false≢true, leb-false, ne_eqb}
 use Rattle.std.proofs.lemmas.List.{length-append}
 use Rattle.ll_rights.specs.declared.errno.Errno.{Errno}
-use Rattle.ll_rights.specs.declared.errno.Errno.TheVariants.{EMFILE, HistoryFull, NoMemory}
+use Rattle.ll_rights.specs.declared.errno.Errno.TheVariants.{EMFILE}
 use Rattle.ll_rights.specs.declared.limits.TheConstants.{TREE_CLIENTS}
 use Rattle.ll_rights.specs.Errno.{refuse}
 use Rattle.ll_rights.specs.Map.{Map, get, has, len}
@@ -21,8 +23,7 @@ use Rattle.ll_seq.specs.declared.reply.Entry.{Entry}
 use Rattle.ll_seq.specs.declared.reply.Reply.{Reply}
 use Rattle.ll_seq.specs.declared.reply.Reply.TheVariants as replies
 use Rattle.ll_seq.specs.State.{State, new_client, start}
-use Rattle.ll_seq.specs.Effects.{with_client}
-use Rattle.ll_seq.specs.Step.{step, refusals, client_of}
+use Rattle.ll_seq.specs.Step.{step, client_of}
 use Rattle.ll_seq.specs.History.{IsLegal, MayStand, after, fresh_of, is_connect, state_after}
 use Rattle.ll_seq.proofs.Consequences.{step-clients_stay, step-spawned}
 use Rattle.ll_laws.proofs.Chains.{same_Some}
@@ -33,7 +34,6 @@ use Rattle.ll_worlds.specs.World as world
 use Rattle.ll_worlds.specs.World.{World, Outcome, advance, answered, is_alone, is_full, is_idle, next_number}
 use Rattle.ll_worlds.specs.World.{reply_to, shown}
 use Rattle.ll_worlds.specs.Walks.{AreValid}
-use Rattle.ll_worlds.specs.Sound.{IsSound}
 use Rattle.ll_worlds.proofs.OneCall.{unused}
 use Rattle.ll_journal.specs.Book.{Book}
 use Rattle.ll_journal.specs.Direct.{Answers}
@@ -45,13 +45,14 @@ use Rattle.ll_client.specs.declared.account.Account.{Account}
 use Rattle.ll_client.specs.declared.account.Account.TheVariants.{Slot, Client}
 use Rattle.ll_client.specs.declared.account.Numbered.{Numbered}
 use Rattle.ll_client.specs.Coming.{spawn_made}
-use Rattle.ll_client.specs.Entries.{AreAccounts, IsAccount, IsDesk, Knows, doing_of, knows, numbered, part_from, part_of}
+use Rattle.ll_client.specs.Entries.{AreAccounts, IsAccount, IsDesk, Knows, doing_of, knows, numbered, part_from}
+use Rattle.ll_client.specs.Entries.{part_of}
 use Rattle.ll_client.specs.Hands.{HasCome, child_of, child_told, seen_made}
 use Rattle.ll_client.specs.Gains.{Gains}
 use Rattle.ll_client.proofs.Accounts.{IsClient}
 use Rattle.ll_client.proofs.Directs.{IsDirect, direct_gains, direct_steps}
 use Rattle.ll_client.proofs.Desks.{Steps, part_mine, part_other, stepped}
-use Rattle.ll_client.proofs.Walked.{Grown, Went, client_in, entry_of, shown_one, went}
+use Rattle.ll_client.proofs.Walked.{Grown, Went, entry_of, shown_one, went}
 
 -- ---- who connects is there then, and isn't one too many
 
@@ -243,11 +244,14 @@ spawn_is b b' c (Ok made.NoMemory) there idle does not_now = (made.NoMemory, ref
 spawn_is b b' c (Ok (made.Replied reply)) there idle does not_now =
     let w : World = b.world in
     let step' : Step = ClientStep c calls.Spawn in
-    let told = (spawn_grown w b'.world c reply does.0 (subst (Went w step') does.1 (went w step'))).0 in
-    (made.Replied reply, refl, elim (spawn_told (shown w) c (next_number w) there) [
-      | inl none ↦ same reply (replies.Refused EMFILE) (told ∙ none) refl
-      | inr some ↦ same reply (replies.Spawned (next_number w)) (told ∙ some.0) refl
-    ])
+    let told = (spawn_grown w b'.world c reply does.0 (subst (Went w step') does.1 (went w step'))).0 in (
+      made.Replied reply,
+      refl,
+      elim (spawn_told (shown w) c (next_number w) there) [
+        | inl none ↦ same reply (replies.Refused EMFILE) (told ∙ none) refl
+        | inr some ↦ same reply (replies.Spawned (next_number w)) (told ∙ some.0) refl
+      ],
+    )
   where
     same : (reply it : Reply) → reply ≡ it → spawn_made (child_told it) ≡ made.Replied it
         → spawn_made (child_told reply) ≡ made.Replied reply
@@ -297,7 +301,8 @@ pub record Bears (b b' : Book) (c number : ℕ) (m : Map nat_cmp Account) : Type
 
 pub bears : (slots limit : ℕ) (b b' : Book) (c number : ℕ) (m n : Map nat_cmp Account) → IsDesk slots limit b m
     → AreAccounts b n
-    → has (shown b.world).clients c ≡ true → Answers b (ClientStep c calls.Spawn) (made.Replied (replies.Spawned number)) b'
+    → has (shown b.world).clients c ≡ true
+    → Answers b (ClientStep c calls.Spawn) (made.Replied (replies.Spawned number)) b'
     → Bears b b' c number n
 bears slots limit b b' c number m n d all there does =
     let w : World = b.world in
@@ -359,7 +364,8 @@ module _ (slots limit : ℕ) (b b' : Book) (c : ℕ) (m n : Map nat_cmp Account)
   direct = record { mine = refl; asks = refl; idle = refl; other = λ e. cc e }
 
   pub spawn_steps : Steps b b' c
-  spawn_steps = direct_steps b b' c calls.Spawn (ClientStep c calls.Spawn) r direct s.desk.sound s.desk.within s.does s.same
+  spawn_steps = direct_steps b b' c calls.Spawn (ClientStep c calls.Spawn) r direct s.desk.sound s.desk.within s.does
+      s.same
 
   pub spawn_answers : Answers b (ClientStep c calls.Spawn) (spawn_made told) b'
   spawn_answers = spawn_gives b b' c r told s.there s.idle s.does s.not_now s.is

@@ -13,7 +13,7 @@ use Rattle.ll_journal.specs.declared.start.Start.TheVariants as start
 use Rattle.ll_journal.specs.declared.direct.Made.TheVariants as made
 use Rattle.ll_client.specs.declared.account.Numbered.{Numbered}
 use Rattle.ll_client.specs.Coming.{SetsOut}
-use Rattle.ll_client.specs.Entries.{Knows, doing_of, knows, part_of}
+use Rattle.ll_client.specs.Entries.{doing_of, knows, part_of}
 use Rattle.ll_client.specs.Hands.{seen_started}
 use Rattle.ll_client.proofs.Accounts.{IsClient}
 use Rattle.ll_client.proofs.Desks.{Steps, begin_mine, stepped, stood}
@@ -42,7 +42,8 @@ started_goes b b' c seen limit part doing call (start.Back back) fits is k d =
     same_but b b' c seen part seen doing k d.1
 
 -- what it knows of is there
-pub started_low : (r : Start) (seen before after : ℕ) → seen ≤ before → before ≤ after → seen_started r seen after ≤ after
+pub started_low : (r : Start) (seen before after : ℕ) → seen ≤ before → before ≤ after
+    → seen_started r seen after ≤ after
 started_low (start.Made (made.Replied reply)) seen before after low long = omega arith
 started_low (start.Made made.HistoryFull) seen before after low long = omega arith
 started_low (start.Made made.NoMemory) seen before after low long = omega (arith, low, long)

@@ -45,8 +45,8 @@ impl<N: Shape> Desk<N> {
     ghost use Rattle.ll_client.specs.Gains.{Gains};
 
     /// The client's call for itself alone is made and answered, or comes back where it is none, or a walk of the client
-    /// is under way. Only ruleset, confine and spawn take memory. A child that is spawned so has no client here: `spawn`
-    /// gives it.
+    /// is under way. Only ruleset, confine and spawn take memory. A child that is spawned so has no client here:
+    /// `spawn` gives it.
     pub fn client_step(
         &mut self,
         tie: &Tie<N, Account>,

@@ -1,6 +1,7 @@
 //! Clients that come to the tree.
 
-ghost use Rattle.std.specs.Prelude.{◌≡◌, ◌≢◌, ℕ, ◌<◌, ◌≤◌, ◌+◌, ◌*◌, [], ◌∷◌, None, length, Err, IfOk, IfErr, OnOk, OnErr};
+ghost use Rattle.std.specs.Prelude.{◌≡◌, ◌≢◌, ℕ, ◌<◌, ◌≤◌, ◌+◌, ◌*◌, [], ◌∷◌, None, length, Err, IfOk, IfErr, OnOk};
+ghost use Rattle.std.specs.Prelude.{OnErr};
 ghost use Rattle.ll_rights.specs.Map.{get};
 ghost use Rattle.ll_seq.specs.declared.call.Call.TheVariants.{Connect};
 ghost use Rattle.ll_seq.specs.declared.reply.Reply.TheVariants.{Done, Refused};
@@ -34,11 +35,7 @@ pub(crate) fn newcomer<N: Shape>(
 {
     let pass = give_client(tie, keeper, journal, number, seen);
     Client {
-        rider: Rider {
-            number,
-            seen,
-            pass,
-        },
+        rider: Rider { number, seen, pass },
     }
 }
 

@@ -64,11 +64,7 @@ fn new_slot<N: Shape>(
 {
     let _ = journal;
     let pass = tie.give_out(keeper, 2 * number, &held);
-    Locked {
-        number,
-        held,
-        pass,
-    }
+    Locked { number, held, pass }
 }
 
 /// All slots of a tree of the root alone.

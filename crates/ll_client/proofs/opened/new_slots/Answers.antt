@@ -22,7 +22,8 @@ pub loop-place-preserved : goal.loop-place-preserved
 loop-place-preserved g c = record {
   slots = c.in_ok-push.ensures.items
       ∙ (λ i. c.loop-place.invariant.slots i ++ c.new_slot.ensures.slot i ∷ [])
-      ∙ sym (map-range_with_len_more (kept_at c.args.journal.now) 0 c.loop-place.place c.loop-place.place (omega arith));
+      ∙ sym (map-range_with_len_more (kept_at c.args.journal.now) 0 c.loop-place.place c.loop-place.place
+      (omega arith));
   all = c.new_slot.ensures.all;
   free = λ k le. c.new_slot.ensures.others k (omega (arith, le))
       ∙ c.loop-place.invariant.free k (omega (arith, le));

@@ -1,4 +1,4 @@
-use Rattle.std.proofs.Common.{◌≡◌, ◌∷◌, [], length, Err, ap, ◌∙◌, subst}
+use Rattle.std.proofs.Common.{◌≡◌, [], length, Err, ap, ◌∙◌, subst}
 use Rattle.ll_worlds.specs.World.{World, Joined, advance, next_number}
 use Rattle.ll_worlds.specs.declared.step.Step.TheVariants.{Join}
 use Rattle.ll_journal.specs.Book.{Book}
@@ -9,7 +9,8 @@ use Rattle.ll_client.proofs.desk.Desk.connect.Goals as goal
 
 pub returns-in-Err-clause-starved : goal.returns-in-Err-clause-starved
 returns-in-Err-clause-starved g c none =
-    subst (λ (b : Book). (after : World) × (advance b.world Join ≡ (Joined (next_number b.world), after))) c.self.view_is
+    subst (λ (b : Book). (after : World) × (advance b.world Join ≡ (Joined (next_number b.world), after)))
+    c.self.view_is
     (c.connect.ensures.starved (c.in-Err.is ∙ ap (λ e. Err e) none))
 
 pub newcomer-requires-clause-all : goal.newcomer-requires-clause-all

@@ -1,4 +1,4 @@
-use Rattle.std.proofs.Common.{◌≡◌, ℕ, [], length, List, Result, None, refl, sym, ap, ◌∙◌, subst}
+use Rattle.std.proofs.Common.{◌≡◌, ℕ, [], length, List, Result, None, sym, ap, ◌∙◌, subst}
 use Rattle.ll_rights.specs.declared.errno.Errno.{Errno}
 use Rattle.ll_seq.specs.declared.call.Call.TheVariants as calls
 use Rattle.ll_seq.specs.declared.reply.Entry.{Entry}
@@ -18,7 +18,8 @@ use Rattle.ll_client.proofs.desk.Desk.spawn.Goals as goal
 
 pub child-child-requires-clause-all : goal.child-child-requires-clause-all
 child-child-requires-clause-all g c =
-    let s : Spawning g.N.Shape.slots g.N.Shape.limit c.self.inside.journal c.client_step-made.new.self c.me.inside.number
+    let s : Spawning g.N.Shape.slots g.N.Shape.limit c.self.inside.journal c.client_step-made.new.self
+    c.me.inside.number
     c.self.inside.keeper c.take_client.new.keeper c.client_step-made.result c.spawned.result =
     record {
       desk = c.self.invariant;
@@ -31,13 +32,16 @@ child-child-requires-clause-all g c =
       is = c.spawned.ensures;
     } in
     accounts_kept c.self.inside.journal c.client_step-made.new.self c.me.inside.number [] c.take_client.new.keeper
-    c.client_step-made.ensures.spares (spawn_steps g.N.Shape.slots g.N.Shape.limit c.self.inside.journal c.client_step-made.new.self c.me.inside.number
+    c.client_step-made.ensures.spares
+    (spawn_steps g.N.Shape.slots g.N.Shape.limit c.self.inside.journal c.client_step-made.new.self
+    c.me.inside.number
     c.self.inside.keeper c.take_client.new.keeper c.client_step-made.result c.spawned.result s).moved
     (c.take_client.ensures.gone.out [] tt) c.take_client.ensures.gone.gone c.take_client.ensures.all
 
 pub child-child-requires-clause-came : goal.child-child-requires-clause-came
 child-child-requires-clause-came g c =
-    let s : Spawning g.N.Shape.slots g.N.Shape.limit c.self.inside.journal c.client_step-made.new.self c.me.inside.number
+    let s : Spawning g.N.Shape.slots g.N.Shape.limit c.self.inside.journal c.client_step-made.new.self
+    c.me.inside.number
     c.self.inside.keeper c.take_client.new.keeper c.client_step-made.result c.spawned.result =
     record {
       desk = c.self.invariant;
@@ -54,7 +58,8 @@ child-child-requires-clause-came g c =
 
 pub give_client-requires-clause-free : goal.give_client-requires-clause-free
 give_client-requires-clause-free g c =
-    let s : Spawning g.N.Shape.slots g.N.Shape.limit c.self.inside.journal c.client_step-made.new.self c.me.inside.number
+    let s : Spawning g.N.Shape.slots g.N.Shape.limit c.self.inside.journal c.client_step-made.new.self
+    c.me.inside.number
     c.self.inside.keeper c.take_client.new.keeper c.client_step-made.result c.spawned.result =
     record {
       desk = c.self.invariant;
@@ -73,7 +78,8 @@ give_client-requires-clause-free g c =
 
 pub give_client-requires-clause-there : goal.give_client-requires-clause-there
 give_client-requires-clause-there g c =
-    let s : Spawning g.N.Shape.slots g.N.Shape.limit c.self.inside.journal c.client_step-made.new.self c.me.inside.number
+    let s : Spawning g.N.Shape.slots g.N.Shape.limit c.self.inside.journal c.client_step-made.new.self
+    c.me.inside.number
     c.self.inside.keeper c.take_client.new.keeper c.client_step-made.result c.spawned.result =
     record {
       desk = c.self.invariant;
@@ -91,7 +97,8 @@ give_client-requires-clause-there g c =
 
 pub invariant_of-me-2 : goal.invariant_of-me-2
 invariant_of-me-2 g c =
-    let s : Spawning g.N.Shape.slots g.N.Shape.limit c.self.inside.journal c.client_step-made.new.self c.me.inside.number
+    let s : Spawning g.N.Shape.slots g.N.Shape.limit c.self.inside.journal c.client_step-made.new.self
+    c.me.inside.number
     c.self.inside.keeper c.take_client.new.keeper c.client_step-made.result c.spawned.result =
     record {
       desk = c.self.invariant;
@@ -105,13 +112,15 @@ invariant_of-me-2 g c =
     } in
     record {
       idle = ap doing_in c.give_client.ensures.pass
-          ∙ still_idle g.N.Shape.slots g.N.Shape.limit c.self.inside.journal c.client_step-made.new.self c.me.inside.number
-    c.self.inside.keeper c.take_client.new.keeper c.client_step-made.result c.spawned.result s;
+          ∙ still_idle g.N.Shape.slots g.N.Shape.limit c.self.inside.journal c.client_step-made.new.self
+          c.me.inside.number
+          c.self.inside.keeper c.take_client.new.keeper c.client_step-made.result c.spawned.result s;
     }
 
 pub invariant_of-self : goal.invariant_of-self
 invariant_of-self g c =
-    let s : Spawning g.N.Shape.slots g.N.Shape.limit c.self.inside.journal c.client_step-made.new.self c.me.inside.number
+    let s : Spawning g.N.Shape.slots g.N.Shape.limit c.self.inside.journal c.client_step-made.new.self
+    c.me.inside.number
     c.self.inside.keeper c.take_client.new.keeper c.client_step-made.result c.spawned.result =
     record {
       desk = c.self.invariant;
@@ -131,7 +140,8 @@ invariant_of-self g c =
 
 pub returns-clause-refused : goal.returns-clause-refused
 returns-clause-refused g c =
-    let s : Spawning g.N.Shape.slots g.N.Shape.limit c.self.inside.journal c.client_step-made.new.self c.me.inside.number
+    let s : Spawning g.N.Shape.slots g.N.Shape.limit c.self.inside.journal c.client_step-made.new.self
+    c.me.inside.number
     c.self.inside.keeper c.take_client.new.keeper c.client_step-made.result c.spawned.result =
     record {
       desk = c.self.invariant;
@@ -143,7 +153,8 @@ returns-clause-refused g c =
       same = c.client_step-made.ensures.same;
       is = c.spawned.ensures;
     } in
-    let answers = spawn_answers g.N.Shape.slots g.N.Shape.limit c.self.inside.journal c.client_step-made.new.self c.me.inside.number
+    let answers = spawn_answers g.N.Shape.slots g.N.Shape.limit c.self.inside.journal c.client_step-made.new.self
+    c.me.inside.number
     c.self.inside.keeper c.take_client.new.keeper c.client_step-made.result c.spawned.result s in
     if_err c.child-child.result _ _ (λ errno is.
     subst (λ (p : Book × ℕ). Answers p.0 (ClientStep p.1 calls.Spawn) (childless errno) c.client_step-made.new.self)
@@ -153,7 +164,8 @@ returns-clause-refused g c =
 
 pub returns-clause-mine : goal.returns-clause-mine
 returns-clause-mine g c =
-    let s : Spawning g.N.Shape.slots g.N.Shape.limit c.self.inside.journal c.client_step-made.new.self c.me.inside.number
+    let s : Spawning g.N.Shape.slots g.N.Shape.limit c.self.inside.journal c.client_step-made.new.self
+    c.me.inside.number
     c.self.inside.keeper c.take_client.new.keeper c.client_step-made.result c.spawned.result =
     record {
       desk = c.self.invariant;
@@ -174,7 +186,8 @@ returns-clause-mine g c =
     ≡ c.seen_alone-me-inside.result =
     ap (λ (es : List Entry). seen_made c.client_step-made.result c.me.inside.seen (length es)) (sym c.entries.ensures)
     ∙ sym c.seen_alone-me-inside.ensures in
-    let gains = spawn_gains g.N.Shape.slots g.N.Shape.limit c.self.inside.journal c.client_step-made.new.self c.me.inside.number
+    let gains = spawn_gains g.N.Shape.slots g.N.Shape.limit c.self.inside.journal c.client_step-made.new.self
+    c.me.inside.number
     c.self.inside.keeper c.take_client.new.keeper c.client_step-made.result c.spawned.result s
     c.me.inside.seen (part_in c.me.inside.pass) (doing_in c.me.inside.pass) k in
     let now : Knows =
@@ -195,7 +208,8 @@ returns-clause-mine g c =
 
 pub returns-clause-alone : goal.returns-clause-alone
 returns-clause-alone g c =
-    let s : Spawning g.N.Shape.slots g.N.Shape.limit c.self.inside.journal c.client_step-made.new.self c.me.inside.number
+    let s : Spawning g.N.Shape.slots g.N.Shape.limit c.self.inside.journal c.client_step-made.new.self
+    c.me.inside.number
     c.self.inside.keeper c.take_client.new.keeper c.client_step-made.result c.spawned.result =
     record {
       desk = c.self.invariant;
@@ -216,7 +230,8 @@ returns-clause-alone g c =
     ≡ c.seen_alone-me-inside.result =
     ap (λ (es : List Entry). seen_made c.client_step-made.result c.me.inside.seen (length es)) (sym c.entries.ensures)
     ∙ sym c.seen_alone-me-inside.ensures in
-    let gains = spawn_gains g.N.Shape.slots g.N.Shape.limit c.self.inside.journal c.client_step-made.new.self c.me.inside.number
+    let gains = spawn_gains g.N.Shape.slots g.N.Shape.limit c.self.inside.journal c.client_step-made.new.self
+    c.me.inside.number
     c.self.inside.keeper c.take_client.new.keeper c.client_step-made.result c.spawned.result s
     c.me.inside.seen (part_in c.me.inside.pass) (doing_in c.me.inside.pass) k in
     let now : Knows =
@@ -237,7 +252,8 @@ returns-clause-alone g c =
 
 pub returns-clause-child : goal.returns-clause-child
 returns-clause-child g c =
-    let s : Spawning g.N.Shape.slots g.N.Shape.limit c.self.inside.journal c.client_step-made.new.self c.me.inside.number
+    let s : Spawning g.N.Shape.slots g.N.Shape.limit c.self.inside.journal c.client_step-made.new.self
+    c.me.inside.number
     c.self.inside.keeper c.take_client.new.keeper c.client_step-made.result c.spawned.result =
     record {
       desk = c.self.invariant;
@@ -251,10 +267,11 @@ returns-clause-child g c =
     } in
     if_both c.child-child.result _ _ _ (λ child is known.
     known
-    ∙ (λ i. knows child.rider.number ((child_bears g.N.Shape.slots g.N.Shape.limit c.self.inside.journal c.client_step-made.new.self c.me.inside.number
+    ∙ (λ i. knows child.rider.number
+    ((child_bears g.N.Shape.slots g.N.Shape.limit c.self.inside.journal c.client_step-made.new.self
+    c.me.inside.number
     c.self.inside.keeper c.take_client.new.keeper c.client_step-made.result c.spawned.result s
     child.rider.number is).part i)
     (sym (c.seen_alone-me-inside.ensures ∙ seen_child c.client_step-made.result c.me.inside.seen
     (length c.entries.result.now) child.rider.number (sym c.spawned.ensures ∙ is)) i) None))
     c.child-child.ensures.ok c.child-child.ensures.client
-

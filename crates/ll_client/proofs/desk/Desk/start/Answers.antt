@@ -1,10 +1,10 @@
-use Rattle.std.proofs.Common.{◌≡◌, ℕ, ◌≤◌, ◌∷◌, [], length, List, refl, sym, ap, ◌∙◌, subst}
+use Rattle.std.proofs.Common.{◌≡◌, ◌≤◌, [], length, List, sym, ap, ◌∙◌, subst}
 use Rattle.ll_seq.specs.declared.reply.Entry.{Entry}
 use Rattle.ll_client.specs.Coming.{SetsOut}
 use Rattle.ll_client.specs.Entries.{Knows, doing_in, knows, part_in}
 use Rattle.ll_client.specs.Hands.{seen_started}
 use Rattle.ll_client.proofs.Accounts.{IsClient, accounts_kept}
-use Rattle.ll_client.proofs.Desks.{Steps, desk_kept}
+use Rattle.ll_client.proofs.Desks.{desk_kept}
 use Rattle.ll_client.proofs.Started.{started_goes, started_low, started_steps}
 use Rattle.ll_client.proofs.desk.Desk.start.Goals as goal
 
