@@ -55,13 +55,6 @@ astray_ended (ending.Replied reply) f = absurd (cc f)
 astray_ended ending.HistoryFull f = absurd (cc f)
 astray_ended ending.NoMemory f = absurd (cc f)
 
-pub starved_ended : (e : Ending) → ended_as e ≡ left.NoMemory → e ≡ ending.NoMemory
-starved_ended ending.NotNow f = absurd (cc f)
-starved_ended ending.Astray f = absurd (cc f)
-starved_ended (ending.Replied reply) f = absurd (cc f)
-starved_ended ending.HistoryFull f = absurd (cc f)
-starved_ended ending.NoMemory f = refl
-
 -- a restart neither stands nor forks
 abbrev may_restart : world.Outcome → Bool
 may_restart world.NotNow = true
@@ -100,13 +93,6 @@ astray_restarted tells.Astray f = refl
 astray_restarted tells.Restarted f = absurd (cc f)
 astray_restarted (tells.Stands inode) f = absurd (cc f)
 astray_restarted tells.Forked f = absurd (cc f)
-
-pub never_starved : (o : told.Progress) → restarted_as o ≡ left.NoMemory → ⊥
-never_starved tells.NotNow f = cc f
-never_starved tells.Astray f = cc f
-never_starved tells.Restarted f = cc f
-never_starved (tells.Stands inode) f = cc f
-never_starved tells.Forked f = cc f
 
 -- ---- of the tree
 
