@@ -16,7 +16,6 @@ mod needs;
 mod next;
 mod open_file;
 mod pair;
-mod perform;
 mod progress;
 mod seat;
 mod slots;
