@@ -23,7 +23,7 @@ use Rattle.ll_held.specs.Lent.{vacant}
 use Rattle.ll_inodes.specs.InodeTable.{Table, IsTable, NotIn, without_inode}
 use Rattle.ll_inodes.proofs.SlotLists.{left_there}
 use Rattle.ll_changes.specs.Accounts.{account, accounts}
-use Rattle.ll_changes.specs.Enacting.{IsReached, IsGiven, IsMade, GivesBack, KeepsSlots}
+use Rattle.ll_changes.specs.Enacting.{Scene, InHand, IsReached, IsGiven, IsMade, GivesBack, KeepsSlots, in_hand}
 use Rattle.ll_changes.proofs.Accounted.{inode_at, got, account_held, account_vacant, account_inode, told_by, not_here}
 use Rattle.ll_changes.proofs.Accounted.{all_lent}
 use Rattle.ll_changes.proofs.SlotAccounts.{content_of}
@@ -146,59 +146,62 @@ module _ (s t : State) (marks : ℕ → Option ℕ) (inodes : List ℕ) (f : Hel
 
 -- ---- where a node goes
 
-module _ (s : State) (spares : List ℕ) (table : Table) (counted : IsTable s spares table) (inode : ℕ) (some : inode ≢ 0)
-  where
-    -- some slot that is lent is its own
-    slot_lent : (slots : List ℕ) → list_any (λ k. inode_at table.inodes k == inode) slots ≡ true → (k : ℕ)
-        × (list_any (λ l. l == k) slots ≡ true) × (inode_at table.inodes k ≡ inode)
-    slot_lent [] any = absurd (cc any)
-    slot_lent (k ∷ slots) any =
-        elim (inode_at table.inodes k == inode) as (λ b. (inode_at table.inodes k == inode) ≡ b
-        → (b || list_any (λ k. inode_at table.inodes k == inode) slots) ≡ true
-        → (l : ℕ) × (list_any (λ m. m == l) (k ∷ slots) ≡ true) × (inode_at table.inodes l ≡ inode)) [
-          | true ↦ λ e f. (
-            k,
-            ap (λ b. b || list_any (λ m. m == k) slots) (eq-eqb k k refl),
-            eqb-true (inode_at table.inodes k) inode e,
-          )
-          | false ↦ λ e f. let more = slot_lent slots f in
-              (more.0, or_also (k == more.0) (list_any (λ m. m == more.0) slots) more.1, more.2)
-        ] refl any
-      where
-        or_also : (a b : Bool) → b ≡ true → (a || b) ≡ true
-        or_also true b e = refl
-        or_also false b e = e
+module _ {scene : Scene} {hand : InHand} (given : IsGiven scene hand) (inode : ℕ) (some : inode ≢ 0) where
+  open scene use {state as s, spares}
+  open hand use {table, slots}
+  open given use {counted}
 
-    -- no slot has it any more, so its node is gone
-    gone_so : (t : State) (spares' : List ℕ) (table' : Table) → IsTable t spares' table'
-        → table'.inodes ≡ without_inode table.inodes inode → kind_of t inode ≡ None
-    gone_so t spares' table' after inodes = by (get t.nodes inode) refl (get table'.places inode) refl
-      where
-        by : (o : Option Node) → get t.nodes inode ≡ o → (p : Option ℕ) → get table'.places inode ≡ p
-            → option_map (λ (n : Node). n.kind) o ≡ None
-        by None e p f = refl
-        by (Some n) e None f = absurd (cc (sym (ap is_some f) ∙ after.living inode ∙ ap is_some e))
-        by (Some n) e (Some slot) f =
-            absurd ((left_there table.inodes inode slot inode (ap (λ is. slice_get is slot) (sym inodes)
-            ∙ (after.placed.there inode slot f).0) some).1 refl)
+  -- some slot that is lent is its own
+  slot_lent : (ks : List ℕ) → list_any (λ k. inode_at table.inodes k == inode) ks ≡ true → (k : ℕ)
+      × (list_any (λ l. l == k) ks ≡ true) × (inode_at table.inodes k ≡ inode)
+  slot_lent [] any = absurd (cc any)
+  slot_lent (k ∷ ks) any =
+      elim (inode_at table.inodes k == inode) as (λ b. (inode_at table.inodes k == inode) ≡ b
+      → (b || list_any (λ k. inode_at table.inodes k == inode) ks) ≡ true
+      → (l : ℕ) × (list_any (λ m. m == l) (k ∷ ks) ≡ true) × (inode_at table.inodes l ≡ inode)) [
+        | true ↦ λ e f. (
+          k,
+          ap (λ b. b || list_any (λ m. m == k) ks) (eq-eqb k k refl),
+          eqb-true (inode_at table.inodes k) inode e,
+        )
+        | false ↦ λ e f. let more = slot_lent ks f in
+            (more.0, or_also (k == more.0) (list_any (λ m. m == more.0) ks) more.1, more.2)
+      ] refl any
+    where
+      or_also : (a b : Bool) → b ≡ true → (a || b) ≡ true
+      or_also true b e = refl
+      or_also false b e = e
 
-    pub given_back : (slots : List ℕ) → list_any (λ k. inode_at table.inodes k == inode) slots ≡ true
-        → (t : State) (spares' : List ℕ) (table' : Table) → IsTable t spares' table'
-        → table'.inodes ≡ without_inode table.inodes inode
-        → ((slot : ℕ) → get table.places inode ≡ Some slot → table'.free ≡ table.free ++ slot ∷ [])
-        → GivesBack s t table table' slots
-    given_back slots any t spares' table' after inodes free =
-        let here = slot_lent slots any in
-        record {
-          slot = here.0;
-          lent = here.1;
-          there =
-              ap (has s.nodes) here.2 ∙ sym (counted.living inode)
-              ∙ ap is_some (counted.placed.lies here.0 inode (got table.inodes here.0 inode here.2 some) some);
-          gone = ap (kind_of t) here.2 ∙ gone_so t spares' table' after inodes;
-          inodes = inodes ∙ ap (without_inode table.inodes) (sym here.2);
-          free = free here.0 (counted.placed.lies here.0 inode (got table.inodes here.0 inode here.2 some) some);
-        }
+  -- no slot has it any more, so its node is gone
+  gone_so : (t : State) (table' : Table) → IsTable t spares table' → table'.inodes ≡ without_inode table.inodes inode
+      → kind_of t inode ≡ None
+  gone_so t table' after inodes = by (get t.nodes inode) refl (get table'.places inode) refl
+    where
+      by : (o : Option Node) → get t.nodes inode ≡ o → (p : Option ℕ) → get table'.places inode ≡ p
+          → option_map (λ (n : Node). n.kind) o ≡ None
+      by None e p f = refl
+      by (Some n) e None f = absurd (cc (sym (ap is_some f) ∙ after.living inode ∙ ap is_some e))
+      by (Some n) e (Some slot) f =
+          absurd ((left_there table.inodes inode slot inode (ap (λ is. slice_get is slot) (sym inodes)
+          ∙ (after.placed.there inode slot f).0) some).1 refl)
+
+  pub given_back : list_any (λ k. inode_at table.inodes k == inode) slots ≡ true
+      → (t : State) (table' : Table) → IsTable t spares table'
+      → table'.inodes ≡ without_inode table.inodes inode
+      → ((slot : ℕ) → get table.places inode ≡ Some slot → table'.free ≡ table.free ++ slot ∷ [])
+      → GivesBack scene t hand table'
+  given_back any t table' after inodes free =
+      let here = slot_lent slots any in
+      record {
+        slot = here.0;
+        lent = here.1;
+        there =
+            ap (has s.nodes) here.2 ∙ sym (counted.living inode)
+            ∙ ap is_some (counted.placed.lies here.0 inode (got table.inodes here.0 inode here.2 some) some);
+        gone = ap (kind_of t) here.2 ∙ gone_so t table' after inodes;
+        inodes = inodes ∙ ap (without_inode table.inodes) (sym here.2);
+        free = free here.0 (counted.placed.lies here.0 inode (got table.inodes here.0 inode here.2 some) some);
+      }
 
 -- ---- what comes of the change
 
@@ -216,9 +219,10 @@ client_stays s t number c same at q =
     ∙ elim (q == number) as (λ b. (q == number) ≡ b → get s.clients q ≡ cond b (Some c) (get s.clients q))
     [ true ↦ λ e. ap (get s.clients) (eqb-true q number e) ∙ at | false ↦ λ e. refl ] refl
 
-module _ (s : State) (number : ℕ) (marks : ℕ → Option ℕ) (spares : List ℕ) (place : ℕ) (c : ClientRecord) (spare : ℕ)
-    (table : Table) (slots : List ℕ) (lent : List Held)
-    (given : IsGiven s number marks spares place c spare table slots lent) where
+module _ {scene : Scene} {hand : InHand} (given : IsGiven scene hand) where
+  open scene use {state as s, marks, spares, number, place}
+  open hand use {client as c, spare, table, slots, lent}
+
   pub given_tree : IsTree s
   given_tree = tree_reached s given.reached
 
@@ -249,8 +253,8 @@ module _ (s : State) (number : ℕ) (marks : ℕ → Option ℕ) (spares : List 
       → AllByRecursion (λ i. i ≢ 0) touched
       → AllByRecursion (λ i. list_any (λ k. slice_index_or table.inodes k 0 == i) slots ≡ true) touched
       → ((held : Held) → NotIn held.inode touched → f held ≡ held) → KeepsSlots table table'
-      ⊎ GivesBack s t table table' slots
-      → IsMade s t number marks spares place c' spare table table' slots lent'
+      ⊎ GivesBack scene t hand table'
+      → IsMade scene t hand (in_hand c' spare table' slots lent')
   made_by t c' table' lent' f touched counted next clients done each somes covered spared free = record {
     counted = subst (λ kept. IsTable t kept table') (sym (put_again spares place spare given.kept)) counted;
     next = (let was = given.counted.next in let is = counted.next in omega (arith, was, is, next));
@@ -261,7 +265,7 @@ module _ (s : State) (number : ℕ) (marks : ℕ → Option ℕ) (spares : List 
   }
 
   -- where nothing is done, it is made
-  pub made_idle : IsMade s s number marks spares place c spare table table slots lent
+  pub made_idle : IsMade scene s hand hand
   made_idle = record {
     counted = subst (λ kept. IsTable s kept table) (sym (put_again spares place spare given.kept)) given.counted;
     next = omega arith;

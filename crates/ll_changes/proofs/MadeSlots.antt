@@ -1,6 +1,6 @@
 -- A new node comes to lie in the client's spare slot, and a lent directory gets its name.
 use Rattle.std.specs.Prelude.{◌≡◌, ◌≢◌, ℕ, zero, suc, ◌<◌, ◌==◌, Bool, true, false, cond, ◌||◌, List, [], ◌∷◌, ◌++◌}
-use Rattle.std.specs.Prelude.{map, length, Option, Some, None, IfSome, IfNone, is_some, option_map, unwrap_or, nat_le}
+use Rattle.std.specs.Prelude.{map, length, Option, Some, None, IfSome, IfNone, is_some, nat_le}
 use Rattle.std.specs.Prelude.{slice_get, slice_set, refl}
 use Rattle.std.specs.List.{AllByRecursion, AllWithin, HoldsAt, list_any}
 use Rattle.std.specs.Option.{MatchOption}
@@ -10,50 +10,37 @@ use Rattle.std.proofs.Common.{sym, subst, ap, ◌∙◌, inl, inr, arith}
 use Rattle.std.proofs.lemmas.Bool.{eqb-true, eq-eqb, ne_eqb, cases_eq, cond-true, cond-false, leb-false}
 use Rattle.std.proofs.lemmas.Option.{get_or_from_slice_get, slice_get-get_or}
 use Rattle.ll_rights.specs.declared.errno.Errno.{Errno}
-use Rattle.ll_rights.specs.declared.errno.Errno.TheVariants.{EEXIST, ENOSPC}
+use Rattle.ll_rights.specs.declared.errno.Errno.TheVariants.{ENOSPC}
 use Rattle.ll_rights.specs.declared.kind.Kind.{Kind}
-use Rattle.ll_rights.specs.declared.kind.Kind.TheVariants.{Reg, Dir}
 use Rattle.ll_rights.specs.Errno.{refuse}
-use Rattle.ll_rights.specs.Kind.{is_dir}
 use Rattle.ll_rights.specs.Map.{get, has, insert, remove, len}
 use Rattle.ll_rights.proofs.Maps.{equal_at, get-insert, get-remove}
-use Rattle.ll_node.specs.Slot.{NameMap, new_slot}
-use Rattle.ll_node.specs.Refusals.{insert_refusals}
+use Rattle.ll_node.specs.Slot.{NameMap, Slot, new_slot}
 use Rattle.ll_node.proofs.NameTable.{names_exact}
-use Rattle.ll_seq.specs.declared.client.ClientRecord.{ClientRecord}
-use Rattle.ll_seq.specs.declared.node.Node.{Node}
-use Rattle.ll_seq.specs.State.{Name, State, kind_of, start}
+use Rattle.ll_seq.specs.State.{Name, State}
 use Rattle.ll_seq.specs.Stages.{is_crowded}
 use Rattle.ll_seq.specs.Effects.{with_node}
-use Rattle.ll_laws.proofs.Gain.{start_tree, after_tree}
 use Rattle.ll_laws.proofs.Trees.{IsTree}
 use Rattle.ll_answer.specs.declared.changes.At.{At}
 use Rattle.ll_answer.specs.declared.changes.Change.TheVariants.{Make}
 use Rattle.ll_answer.specs.Effect.{dentry_at, HasRoom}
 use Rattle.ll_held.specs.declared.held.Held.{Held}
-use Rattle.ll_held.specs.Lent.{AreApart, named_in, unnamed_in, filled}
+use Rattle.ll_held.specs.Lent.{named_in, unnamed_in, filled}
 use Rattle.ll_held.proofs.InSlots.{named_here, named_elsewhere}
 use Rattle.ll_inodes.specs.InodeTable.{Table, IsTable, AreDistinct, NotIn, IsVacant}
 use Rattle.ll_inodes.proofs.SlotLists.{same_or_not, set_same}
 use Rattle.ll_changes.specs.Accounts.{account, accounts, names_map}
-use Rattle.ll_changes.specs.Enacting.{IsReached, IsGiven, Covers, IsMade}
-use Rattle.ll_changes.proofs.Accounted.{inode_at, got, account_held, account_inode, account_kept, lent_apart, not_here}
-use Rattle.ll_changes.proofs.Accounted.{all_lent}
+use Rattle.ll_changes.specs.Enacting.{Scene, InHand, IsGiven, Covers, IsMade, in_hand}
+use Rattle.ll_changes.proofs.GivenSlots.{client_stays, given_tree, kind_there}
+use Rattle.ll_changes.proofs.NamedSlots.{Takes, takes_name}
+use Rattle.ll_changes.proofs.StayingSlots.{directory_some, of_lent}
+use Rattle.ll_changes.proofs.Accounted.{inode_at, got, account_held, account_inode, account_kept, not_here}
 use Rattle.ll_changes.proofs.ChangedSlots.{made_in, made_new}
 use Rattle.ll_changes.proofs.Living.{make_kind}
-use Rattle.ll_changes.proofs.NameMaps.{same_names, get-names_map, len-names_map}
+use Rattle.ll_changes.proofs.NameMaps.{same_names, get-names_map}
 use Rattle.ll_changes.proofs.SlotAccounts.{content_of, make_other}
 
--- a legal history leads to a tree
-pub tree_of : (s : State) → IsReached s → IsTree s
-tree_of s reached = subst IsTree (sym reached.is)
-    (after_tree (start reached.rules reached.room) reached.entries (start_tree reached.rules reached.room))
-
 -- ---- lists
-
-there_is : {X : Type 0} (o : Option X) → is_some o ≡ true → (x : X) × (o ≡ Some x)
-there_is None e = absurd (cc e)
-there_is (Some x) e = (x, refl)
 
 all_at : (P : ℕ → Type 0) (xs : List ℕ) (i x : ℕ) → AllByRecursion P xs → slice_get xs i ≡ Some x → P x
 all_at P [] i x all at = absurd (cc at)
@@ -168,25 +155,12 @@ neither : (a b : Bool) → (a || b) ≡ false → (a ≡ false) × (b ≡ false)
 neither true b e = absurd (cc e)
 neither false b e = (refl, e)
 
-pub has_node : (o : Option Node) (kind : Kind) → option_map (λ (n : Node). n.kind) o ≡ Some kind → is_some o ≡ true
-has_node None kind e = absurd (cc e)
-has_node (Some n) kind e = refl
+module _ {scene : Scene} {hand : InHand} (given : IsGiven scene hand) where
+  open scene use {state as s, marks, spares, number, place}
+  open hand use {client as c, spare, table, slots, lent}
 
-module _ (s : State) (number : ℕ) (marks : ℕ → Option ℕ) (spares : List ℕ) (place : ℕ) (c : ClientRecord) (spare : ℕ)
-    (table : Table) (slots : List ℕ) (lent : List Held)
-    (given : IsGiven s number marks spares place c spare table slots lent) where
-  pub tree : IsTree s
-  tree = tree_of s given.reached
-
-  -- a node that lives isn't 0
-  pub some_node : (i : ℕ) (kind : Kind) → kind_of s i ≡ Some kind → i ≢ 0
-  some_node i kind is =
-      let slot = there_is (get table.places i) (given.counted.living i ∙ has_node (get s.nodes i) kind is) in
-      (given.counted.placed.there i slot.0 slot.1).1
-
-  pub apart_given : AreApart lent
-  apart_given = subst AreApart (sym given.told)
-      (lent_apart table.inodes table.places given.counted.placed s marks slots given.apart)
+  tree : IsTree s
+  tree = given_tree given
 
   pub spare_vacant : slice_get table.inodes spare ≡ Some 0
   spare_vacant = all_at (IsVacant table.inodes) spares place spare given.counted.spares given.kept
@@ -212,14 +186,8 @@ module _ (s : State) (number : ℕ) (marks : ℕ → Option ℕ) (spares : List 
       (got table.inodes k (inode_at table.inodes k) refl some) some)
 
   module _ (at : At) (kind : Kind) (fits : HasRoom s at) where
-    pub directory_there : kind_of s at.directory ≡ Some Dir
-    directory_there = fits.lacks.directory tree.root_node
-
-    pub directory_some : at.directory ≢ 0
-    directory_some = some_node at.directory Dir directory_there
-
-    pub directory_has : has s.nodes at.directory ≡ true
-    directory_has = has_node (get s.nodes at.directory) Dir directory_there
+    directory_here : at.directory ≢ 0
+    directory_here = directory_some given at fits.lacks.directory
 
     space : (is_crowded s at.directory ≡ false) × (nat_le s.room (len s.nodes) ≡ false)
     space = neither (is_crowded s at.directory) (nat_le s.room (len s.nodes)) (not_refused _ ENOSPC fits.space)
@@ -230,48 +198,14 @@ module _ (s : State) (number : ℕ) (marks : ℕ → Option ℕ) (spares : List 
     pub few_nodes : len s.nodes < s.room
     few_nodes = leb-false s.room (len s.nodes) space.1
 
-    takes_name : insert_refusals (names_map s at.directory) at.name.now ≡ []
-    takes_name =
-        let absent : has (names_map s at.directory) at.name.now ≡ false =
-        ap is_some (get-names_map s at.directory at.name.now ∙ fits.lacks.child) in
-        let few : nat_le 1024 (len (names_map s at.directory)) ≡ false =
-        ap (nat_le 1024) (len-names_map s at.directory) ∙ space.0 in
-        λ i. refuse (absent i) EEXIST ++ refuse (few i) ENOSPC
-
-    pub lent_takes : AllByRecursion (λ (held : Held). held.inode ≡ at.directory → (is_dir held.node.kind ≡ true)
-        × (insert_refusals held.node.names at.name.now ≡ [])) lent
-    lent_takes =
-        subst (AllByRecursion (λ (held : Held). held.inode ≡ at.directory → (is_dir held.node.kind ≡ true)
-        × (insert_refusals held.node.names at.name.now ≡ []))) (sym given.told)
-        (all_lent (λ (held : Held). held.inode ≡ at.directory → (is_dir held.node.kind ≡ true)
-        × (insert_refusals held.node.names at.name.now ≡ [])) s marks table.inodes each slots)
-      where
-        each : (k : ℕ) → (account s marks table.inodes k).inode ≡ at.directory
-            → (is_dir (account s marks table.inodes k).node.kind ≡ true)
-            × (insert_refusals (account s marks table.inodes k).node.names at.name.now ≡ [])
-        each k lies =
-            let is = account_held s marks table.inodes k at.directory (sym (account_inode s marks table.inodes k)
-            ∙ lies) directory_some in (
-              ap (λ (h : Held). is_dir h.node.kind) is
-                  ∙ ap (λ o. is_dir (unwrap_or o Reg)) directory_there,
-              ap (λ (h : Held). insert_refusals h.node.names at.name.now) is ∙ takes_name,
-            )
+    pub lent_takes : AllByRecursion (λ (held : Held). held.inode ≡ at.directory → Takes at.name.now held.node) lent
+    lent_takes = takes_name given at fits.lacks not_crowded
 
     pub lent_lacks : AllByRecursion (λ (held : Held). held.inode ≡ at.directory
         → get held.node.names at.name.now ≡ None) lent
     lent_lacks =
-        subst (AllByRecursion (λ (held : Held). held.inode ≡ at.directory → get held.node.names at.name.now ≡ None))
-        (sym given.told)
-        (all_lent (λ (held : Held). held.inode ≡ at.directory → get held.node.names at.name.now ≡ None) s marks
-        table.inodes each slots)
-      where
-        each : (k : ℕ) → (account s marks table.inodes k).inode ≡ at.directory
-            → get (account s marks table.inodes k).node.names at.name.now ≡ None
-        each k lies =
-            let is = account_held s marks table.inodes k at.directory (sym (account_inode s marks table.inodes k)
-            ∙ lies) directory_some in
-            ap (λ (h : Held). get h.node.names at.name.now) is ∙ get-names_map s at.directory at.name.now
-            ∙ fits.lacks.child
+        of_lent given at.directory (λ (slot : Slot). get slot.names at.name.now ≡ None) directory_here
+        (get-names_map s at.directory at.name.now ∙ fits.lacks.child)
 
     -- ---- the new node
 
@@ -300,7 +234,7 @@ module _ (s : State) (number : ℕ) (marks : ℕ → Option ℕ) (spares : List 
         ≡ named_in at.directory at.name.now table.next (account s marks table.inodes k)
     made_elsewhere k other = elim (same_or_not (inode_at table.inodes k) at.directory) [
       | inl lies ↦
-          account_held made_state marks made_inodes k at.directory (kept ∙ lies) directory_some
+          account_held made_state marks made_inodes k at.directory (kept ∙ lies) directory_here
           ∙ ap (λ c. record { inode = at.directory; node = record c { mark = marks at.directory } })
           (made_in s tree at kind fits)
           ∙ ap (λ n. record {
@@ -313,7 +247,7 @@ module _ (s : State) (number : ℕ) (marks : ℕ → Option ℕ) (spares : List 
           (record { inode = at.directory; node = record (content_of s at.directory) { mark = marks at.directory } })
           refl
           ∙ ap (named_in at.directory at.name.now table.next)
-          (sym (account_held s marks table.inodes k at.directory lies directory_some))
+          (sym (account_held s marks table.inodes k at.directory lies directory_here))
       | inr away ↦
           account_kept s made_state marks table.inodes made_inodes k kept
           (λ some. make_other s kind (dentry_at at) (inode_at table.inodes k) away
@@ -325,23 +259,23 @@ module _ (s : State) (number : ℕ) (marks : ℕ → Option ℕ) (spares : List 
         kept : inode_at made_inodes k ≡ inode_at table.inodes k
         kept = put_other table.inodes spare k table.next other
 
-    module _ (covers : Covers table.inodes spare slots (Make at kind)) where
+    module _ (covers : Covers hand (Make at kind)) where
       made_others : (k : ℕ) → NotIn k slots → account made_state marks made_inodes k ≡ account s marks table.inodes k
       made_others k out =
           made_elsewhere k (listed spare slots (covers.new refl) k out)
           ∙ named_elsewhere at.directory at.name.now table.next (account s marks table.inodes k)
-          (λ e. not_here table.inodes table.places given.counted.placed at.directory directory_some slots
+          (λ e. not_here table.inodes table.places given.counted.placed at.directory directory_here slots
           covers.touched.0 k out (sym (account_inode s marks table.inodes k) ∙ e))
 
       pub made : (fresh : ℕ) (table' : Table) (lent' : List Held) (k : ℕ)
           → IsTable made_state (slice_set spares place fresh) table' → table'.inodes ≡ made_inodes
           → table.free ≡ table'.free ++ fresh ∷ [] → slice_get slots k ≡ Some spare
           → lent' ≡ slice_set (map (named_in at.directory at.name.now table.next) lent) k (filled table.next kind)
-          → IsMade s made_state number marks spares place c fresh table table' slots lent'
+          → IsMade scene made_state hand (in_hand c fresh table' slots lent')
       made fresh table' lent' k counted inodes free lies put = record {
         counted = counted;
         next = let new = counted.next in let old = given.counted.next in omega (arith, new, old);
-        clients = λ q. by q (q == number) refl;
+        clients = client_stays s made_state number c refl given.client;
         told =
             put
             ∙ ap (λ l. slice_set (map (named_in at.directory at.name.now table.next) l) k (filled table.next kind))
@@ -353,13 +287,9 @@ module _ (s : State) (number : ℕ) (marks : ℕ → Option ℕ) (spares : List 
         others = λ j out. ap (λ is. account made_state marks is j) inodes ∙ made_others j out;
         freed = inr (inl (record {
           made = ap (has made_state.nodes) given.counted.next
-              ∙ has_node (get made_state.nodes s.next) kind (make_kind s kind (dentry_at at));
+              ∙ kind_there made_state s.next kind (make_kind s kind (dentry_at at));
           free = free;
           inodes = inodes ∙ ap (λ k. slice_set table.inodes k table.next)
               (sym (get_or_from_slice_get spares place spare 0 given.kept));
         }));
       }
-        where
-          by : (q : ℕ) (b : Bool) → (q == number) ≡ b → get s.clients q ≡ cond b (Some c) (get s.clients q)
-          by q true e = ap (get s.clients) (eqb-true q number e) ∙ given.client
-          by q false e = refl

@@ -14,7 +14,6 @@ use Rattle.ll_rights.proofs.Maps.{insert_cases}
 use Rattle.ll_path.specs.Name.{IsName}
 use Rattle.ll_node.specs.Slot.{NameMap, Slot}
 use Rattle.ll_node.specs.Refusals.{missing, rename_refusals}
-use Rattle.ll_seq.specs.declared.client.ClientRecord.{ClientRecord}
 use Rattle.ll_seq.specs.Effects.{with_name, with_moved}
 use Rattle.ll_seq.specs.Stages.{is_crowded}
 use Rattle.ll_seq.specs.State.{Name, State, child}
@@ -29,7 +28,7 @@ use Rattle.ll_held.proofs.InSlots.{named_elsewhere}
 use Rattle.ll_inodes.specs.InodeTable.{Table, IsTable}
 use Rattle.ll_inodes.proofs.TableSteps.{still_table}
 use Rattle.ll_changes.specs.Accounts.{accounts, names_map}
-use Rattle.ll_changes.specs.Enacting.{IsGiven, IsMade, Covers, MayEnact}
+use Rattle.ll_changes.specs.Enacting.{Scene, InHand, IsGiven, IsMade, Covers, MayEnact, in_hand}
 use Rattle.ll_changes.proofs.NameMaps.{get-names_map, names_taken, names_taken_other}
 use Rattle.ll_changes.proofs.SlotAccounts.{content_of, with_names, same_content}
 use Rattle.ll_changes.proofs.TakenSlots.{at_same, at_other, same_held}
@@ -62,40 +61,43 @@ named_lent s marks inodes slots at inode some =
     (named_elsewhere at.directory at.name.now inode vacant (λ e. some (sym e)))
     (λ i there. named_each s marks at inode i)) slots
 
--- no name is missing in the slot of its directory
+-- if the slot is the directory's, it has the name
+abbrev pub HasItsName : At → Held → Type 0
+HasItsName at held = held.inode ≡ at.directory → missing held.node.names at.name.now ≡ []
+
 has_name : (s : State) (marks : ℕ → Option ℕ) (inodes slots : List ℕ) (lent : List Held)
     → lent ≡ accounts s marks inodes slots → (at : At) (inode : ℕ) → at.directory ≢ 0
-    → child s at.directory at.name.now ≡ Some inode
-    → AllByRecursion (λ (held : Held). held.inode ≡ at.directory → missing held.node.names at.name.now ≡ []) lent
+    → child s at.directory at.name.now ≡ Some inode → AllByRecursion (HasItsName at) lent
 has_name s marks inodes slots lent told at inode some there =
     all_given (λ held. missing held.node.names at.name.now ≡ []) s marks inodes slots lent told at.directory some
     (not_missing (names_map s at.directory) at.name.now inode (get-names_map s at.directory at.name.now ∙ there))
 
-module _ (old new : At) (first second : ℕ) (slots : List ℕ) (c : ClientRecord) (spare : ℕ) (table : Table)
-    (lent : List Held) (may : MayEnact (change.Exchange old new first second) slots c spare table lent) where
-  pub has_new : AllByRecursion (λ (held : Held). held.inode ≡ new.directory → missing held.node.names new.name.now ≡ [])
-      lent
-  has_new = has_name may.s may.marks table.inodes slots lent may.given.told new second
-      (directory_some may.given new may.fits.new.directory) may.fits.new.child
+module _ {hand : InHand} (old new : At) (one other : ℕ) (may : MayEnact (change.Exchange old new one other) hand) where
+  open may use {scene.{state as s, marks}, given, fits}
+  open hand use {table, slots, lent}
 
-  pub has_old : (between : List Held) → between ≡ map (named_in new.directory new.name.now first) lent
-      → AllByRecursion (λ (held : Held). held.inode ≡ old.directory → missing held.node.names old.name.now ≡ []) between
+  pub has_new : AllByRecursion (HasItsName new) lent
+  has_new = has_name s marks table.inodes slots lent given.told new other
+      (directory_some given new fits.new.directory) fits.new.child
+
+  pub has_old : (between : List Held) → between ≡ map (named_in new.directory new.name.now one) lent
+      → AllByRecursion (HasItsName old) between
   has_old between done =
-      has_name (with_name may.s (dentry_at new) first) may.marks table.inodes slots between
-      (done ∙ ap (map (named_in new.directory new.name.now first)) may.given.told
-      ∙ named_lent may.s may.marks table.inodes slots new first (directory_some may.given new may.fits.new.directory))
-      old first (directory_some may.given old may.fits.old.directory)
-      (still_there may.s old new first may.fits.old.child)
+      has_name (with_name s (dentry_at new) one) marks table.inodes slots between
+      (done ∙ ap (map (named_in new.directory new.name.now one)) given.told
+      ∙ named_lent s marks table.inodes slots new one (directory_some given new fits.new.directory))
+      old one (directory_some given old fits.old.directory) (still_there s old new one fits.old.child)
 
-module _ {s : State} {number : ℕ} {marks : ℕ → Option ℕ} {spares : List ℕ} {place : ℕ} {c : ClientRecord} {spare : ℕ}
-    {table : Table} {slots : List ℕ} {lent : List Held}
-    (given : IsGiven s number marks spares place c spare table slots lent) where
+module _ {scene : Scene} {hand : InHand} (given : IsGiven scene hand) where
+  open scene use {state as s, marks, spares, number}
+  open hand use {client as c, spare, table, slots, lent}
+
   pub exchanged_slots : (old new : At) (first second : ℕ) (between lent' : List Held)
-      → FitsExchange s old new first second → Covers table.inodes spare slots (change.Exchange old new first second)
+      → FitsExchange s old new first second → Covers hand (change.Exchange old new first second)
       → between ≡ map (named_in new.directory new.name.now first) lent
       → lent' ≡ map (named_in old.directory old.name.now second) between
-      → IsMade s (with_name (with_name s (dentry_at new) first) (dentry_at old) second) number marks spares place c
-      spare table table slots lent'
+      → IsMade scene (with_name (with_name s (dentry_at new) first) (dentry_at old) second) hand
+      (in_hand c spare table slots lent')
   exchanged_slots old new first second between lent' fits covers put done =
       let half = with_name s (dentry_at new) first in
       let all = with_name half (dentry_at old) second in
@@ -149,49 +151,51 @@ Renames old new inode slot = (is_dir slot.kind ≡ true) × (rename_refusals slo
 differs : (a b : ℕ) (crowded : Bool) → a ≢ b → (not (a == b) && crowded) ≡ false → crowded ≡ false
 differs a b crowded other room = sym (ap (λ same. not same && crowded) (ne_eqb a b other)) ∙ room
 
-module _ (old new : At) (inode : ℕ) (slots : List ℕ) (c : ClientRecord) (spare : ℕ) (table : Table) (lent : List Held)
-    (may : MayEnact (change.Move old new inode) slots c spare table lent) where
+module _ {hand : InHand} (old new : At) (inode : ℕ) (may : MayEnact (change.Move old new inode) hand) where
+  open may use {scene.{state as s}, given, fits}
+  open hand use {lent}
+
   pub may_move : AreApart lent × ((old.directory ≢ 0) × (new.directory ≢ 0)) × IsName new.name.now
   may_move = (
-    given_apart may.given,
-    (directory_some may.given old may.fits.old.directory, directory_some may.given new may.fits.new.directory),
-    may.fits.new.name,
+    given_apart given,
+    (directory_some given old fits.old.directory, directory_some given new fits.new.directory),
+    fits.new.name,
   )
 
   -- between two directories
   pub moves_between : old.directory ≢ new.directory
       → AllByRecursion (λ (held : Held). held.inode ≡ new.directory → Takes new.name.now held.node) lent
-  moves_between two = takes_name may.given new may.fits.new
-      (differs old.directory new.directory (is_crowded may.s new.directory) two may.fits.room)
+  moves_between two = takes_name given new fits.new
+      (differs old.directory new.directory (is_crowded s new.directory) two fits.room)
 
   -- within one
   pub moves_within : old.directory ≡ new.directory
       → AllByRecursion (λ (held : Held). held.inode ≡ old.directory → Renames old.name.now new.name.now inode held.node)
       lent
   moves_within same =
-      let names = names_map may.s old.directory in
+      let names = names_map s old.directory in
       let there : get names old.name.now ≡ Some inode =
-      get-names_map may.s old.directory old.name.now ∙ may.fits.old.child in
+      get-names_map s old.directory old.name.now ∙ fits.old.child in
       let none : get names new.name.now ≡ None =
-      get-names_map may.s old.directory new.name.now ∙ ap (λ d. child may.s d new.name.now) same
-      ∙ may.fits.new.child in
-      of_lent may.given old.directory (Renames old.name.now new.name.now inode) may_move.1.0 (
-        ap (λ o. is_dir (unwrap_or o Reg)) (given_directory may.given old may.fits.old.directory),
+      get-names_map s old.directory new.name.now ∙ ap (λ d. child s d new.name.now) same
+      ∙ fits.new.child in
+      of_lent given old.directory (Renames old.name.now new.name.now inode) may_move.1.0 (
+        ap (λ o. is_dir (unwrap_or o Reg)) (given_directory given old fits.old.directory),
         no_rename_refusals names old.name.now new.name.now inode there none,
         there,
       )
 
-module _ {s : State} {number : ℕ} {marks : ℕ → Option ℕ} {spares : List ℕ} {place : ℕ} {c : ClientRecord} {spare : ℕ}
-    {table : Table} {slots : List ℕ} {lent : List Held}
-    (given : IsGiven s number marks spares place c spare table slots lent) where
+module _ {scene : Scene} {hand : InHand} (given : IsGiven scene hand) where
+  open scene use {state as s, marks, spares, number}
+  open hand use {client as c, spare, table, slots, lent}
+
   pub moved_slots : (old new : At) (inode : ℕ) (table' : Table) (lent' : List Held) → FitsMove s old new inode
-      → Covers table.inodes spare slots (change.Move old new inode)
+      → Covers hand (change.Move old new inode)
       → lent' ≡ map (λ held. named_in new.directory new.name.now inode (unnamed_in old.directory old.name.now held))
       lent
       → IsTable (with_moved s (dentry_at old) (dentry_at new) inode) spares table' → table'.inodes ≡ table.inodes
       → table'.free ≡ table.free
-      → IsMade s (with_moved s (dentry_at old) (dentry_at new) inode) number marks spares place c spare table table'
-      slots lent'
+      → IsMade scene (with_moved s (dentry_at old) (dentry_at new) inode) hand (in_hand c spare table' slots lent')
   moved_slots old new inode table' lent' fits covers done counted inodes free =
       let all = with_moved s (dentry_at old) (dentry_at new) inode in
       let into = named_in new.directory new.name.now inode in

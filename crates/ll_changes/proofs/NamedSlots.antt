@@ -12,7 +12,6 @@ use Rattle.ll_rights.specs.Map.{get, insert, len}
 use Rattle.ll_path.specs.Name.{IsName}
 use Rattle.ll_node.specs.Slot.{NameMap, Slot}
 use Rattle.ll_node.specs.Refusals.{insert_refusals}
-use Rattle.ll_seq.specs.declared.client.ClientRecord.{ClientRecord}
 use Rattle.ll_seq.specs.Effects.{with_name}
 use Rattle.ll_seq.specs.Stages.{is_crowded}
 use Rattle.ll_seq.specs.State.{Name, State}
@@ -24,7 +23,7 @@ use Rattle.ll_held.specs.Lent.{named_in, AreApart}
 use Rattle.ll_held.proofs.InSlots.{named_here, named_elsewhere}
 use Rattle.ll_inodes.specs.InodeTable.{Table, IsTable}
 use Rattle.ll_changes.specs.Accounts.{names_map}
-use Rattle.ll_changes.specs.Enacting.{IsGiven, IsMade, Covers, MayEnact}
+use Rattle.ll_changes.specs.Enacting.{Scene, InHand, IsGiven, IsMade, Covers, MayEnact, in_hand}
 use Rattle.ll_changes.proofs.NameMaps.{get-names_map, len-names_map}
 use Rattle.ll_changes.proofs.SlotAccounts.{content_of, link_named, link_other}
 use Rattle.ll_changes.proofs.GivenSlots.{held_of, client_stays}
@@ -57,9 +56,10 @@ named_each s marks at inode i = elim (cases_eq i at.directory) [
       (link_other s (dentry_at at) inode i other))
 ]
 
-module _ {s : State} {number : ℕ} {marks : ℕ → Option ℕ} {spares : List ℕ} {place : ℕ} {c : ClientRecord} {spare : ℕ}
-    {table : Table} {slots : List ℕ} {lent : List Held}
-    (given : IsGiven s number marks spares place c spare table slots lent) where
+module _ {scene : Scene} {hand : InHand} (given : IsGiven scene hand) where
+  open scene use {state as s, marks, spares, number}
+  open hand use {client as c, spare, table, slots, lent}
+
   pub takes_name : (at : At) → Lacks s at → is_crowded s at.directory ≡ false
       → AllByRecursion (λ (held : Held). held.inode ≡ at.directory → Takes at.name.now held.node) lent
   takes_name at lacks room =
@@ -71,11 +71,11 @@ module _ {s : State} {number : ℕ} {marks : ℕ → Option ℕ} {spares : List 
       )
 
   pub named_slots : (at : At) (inode : ℕ) (table' : Table) (lent' : List Held) → FitsName s at inode
-      → Covers table.inodes spare slots (change.Name at inode)
+      → Covers hand (change.Name at inode)
       → lent' ≡ map (named_in at.directory at.name.now inode) lent
       → IsTable (with_name s (dentry_at at) inode) spares table' → table'.inodes ≡ table.inodes
-      → table'.free ≡ table.free → IsMade s (with_name s (dentry_at at) inode) number marks spares place c spare
-      table table' slots lent'
+      → table'.free ≡ table.free → IsMade scene (with_name s (dentry_at at) inode) hand
+      (in_hand c spare table' slots lent')
   named_slots at inode table' lent' fits covers done counted inodes free =
       made_staying given (with_name s (dentry_at at) inode) c table' lent' (named_in at.directory at.name.now inode)
       (at.directory ∷ [])
@@ -86,11 +86,10 @@ module _ {s : State} {number : ℕ} {marks : ℕ → Option ℕ} {spares : List 
       (λ i some. named_each s marks at inode i)
 
 -- what is asked of the slots that are lent
-pub may_name : (at : At) (inode : ℕ) (slots : List ℕ) (c : ClientRecord) (spare : ℕ) (table : Table) (lent : List Held)
-    → MayEnact (change.Name at inode) slots c spare table lent
-    → AreApart lent × (at.directory ≢ 0) × IsName at.name.now
-    × AllByRecursion (λ (held : Held). held.inode ≡ at.directory → Takes at.name.now held.node) lent
-may_name at inode slots c spare table lent may = (
+pub may_name : {hand : InHand} (at : At) (inode : ℕ) → MayEnact (change.Name at inode) hand
+    → AreApart hand.lent × (at.directory ≢ 0) × IsName at.name.now
+    × AllByRecursion (λ (held : Held). held.inode ≡ at.directory → Takes at.name.now held.node) hand.lent
+may_name at inode may = (
   given_apart may.given,
   directory_some may.given at may.fits.lacks.directory,
   may.fits.lacks.name,

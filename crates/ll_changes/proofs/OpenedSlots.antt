@@ -1,6 +1,6 @@
 -- A file is opened: one that is there, whose lent slot may be emptied, or one that was made.
-use Rattle.std.specs.Prelude.{◌≡◌, ◌≢◌, ℕ, zero, suc, ◌+◌, ◌==◌, Bool, true, false, cond, List, [], ◌∷◌, ◌++◌, map}
-use Rattle.std.specs.Prelude.{length, nat_lt, Option, Some, None, is_some, is_none, option_map, slice_get, slice_set}
+use Rattle.std.specs.Prelude.{◌≡◌, ◌≢◌, ℕ, ◌+◌, ◌==◌, Bool, true, false, cond, List, [], ◌∷◌, ◌++◌, map}
+use Rattle.std.specs.Prelude.{length, nat_lt, Option, Some, None, is_some, is_none, option_map, slice_set}
 use Rattle.std.specs.Prelude.{refl}
 use Rattle.std.specs.List.{list_any}
 use Rattle.std.specs.Option.{option_map_or}
@@ -36,11 +36,11 @@ use Rattle.ll_held.specs.Lent.{emptied_in}
 use Rattle.ll_inodes.specs.InodeTable.{Table, IsTable, NotIn}
 use Rattle.ll_inodes.proofs.SlotLists.{same_or_not}
 use Rattle.ll_changes.specs.Accounts.{account, accounts}
-use Rattle.ll_changes.specs.Enacting.{IsGiven, Covers, IsMade, LeavesTable, MayEnact}
+use Rattle.ll_changes.specs.Enacting.{Scene, InHand, IsGiven, Covers, IsMade, LeavesTable, MayEnact, in_hand}
 use Rattle.ll_changes.proofs.Accounted.{inode_at, account_held, account_inode, account_kept, not_here, told_by}
 use Rattle.ll_rights.proofs.Sizes.{same_len}
 use Rattle.ll_changes.proofs.Living.{bytes_kind, bytes_next, make_kind}
-use Rattle.ll_changes.proofs.MadeSlots.{tree, some_node, has_node}
+use Rattle.ll_changes.proofs.GivenSlots.{given_tree, kind_there, put_again, some_there}
 use Rattle.ll_changes.proofs.SlotAccounts.{bytes_put, bytes_other}
 
 -- ---- other bytes leave the table that of the tree
@@ -105,24 +105,20 @@ pub described : (c : ClientRecord) (o : Opening) (inode : ℕ) (d : Descriptor) 
     → record c { descriptors = ds } ≡ with_descriptor c o inode
 described c o inode d ds is put = ap (λ m. record c { descriptors = m }) (put ∙ ap (insert c.descriptors o.number) is)
 
-set_back : (xs : List ℕ) (i x : ℕ) → slice_get xs i ≡ Some x → slice_set xs i x ≡ xs
-set_back [] i x at = refl
-set_back (y ∷ xs) zero x at = ap (λ z. z ∷ xs) (sym (cc at))
-set_back (y ∷ xs) (suc i) x at = ap (λ zs. y ∷ zs) (set_back xs i x at)
-
 -- ---- the file that is there
 
-module _ (s : State) (number : ℕ) (marks : ℕ → Option ℕ) (spares : List ℕ) (place : ℕ) (c : ClientRecord) (spare : ℕ)
-    (table : Table) (slots : List ℕ) (lent : List Held)
-    (given : IsGiven s number marks spares place c spare table slots lent) (o : Opening) where
+module _ {scene : Scene} {hand : InHand} (given : IsGiven scene hand) (o : Opening) where
+  open scene use {state as s, marks, spares, number, place}
+  open hand use {client as c, spare, table, slots, lent}
+
   module _ (inode : ℕ) (there : o.there ≡ Some inode) (fits : FitsOpening s c o) where
     file_kind : (kind : Kind) × (kind_of s inode ≡ Some kind)
     file_kind =
         let named : HasName s inode = subst (CanOpen s o) there fits.file in
-        kind_known s (tree s number marks spares place c spare table slots lent given) named.0 inode named.1
+        kind_known s (given_tree given) named.0 inode named.1
 
     file_some : inode ≢ 0
-    file_some = some_node s number marks spares place c spare table slots lent given inode file_kind.0 file_kind.1
+    file_some = some_there s spares table given.counted inode (kind_there s inode file_kind.0 file_kind.1)
 
     -- emptied or as it is
     abbrev found_file : Bool → State
@@ -137,8 +133,8 @@ module _ (s : State) (number : ℕ) (marks : ℕ → Option ℕ) (spares : List 
     file_clients false = refl
 
     file_has : (b : Bool) → has (found_file b).nodes inode ≡ true
-    file_has true = bytes_has s inode [] inode ∙ has_node (get s.nodes inode) file_kind.0 file_kind.1
-    file_has false = has_node (get s.nodes inode) file_kind.0 file_kind.1
+    file_has true = bytes_has s inode [] inode ∙ kind_there s inode file_kind.0 file_kind.1
+    file_has false = kind_there s inode file_kind.0 file_kind.1
 
     emptied_slot : (k : ℕ) → account (with_bytes s inode []) marks table.inodes k
         ≡ emptied_in inode (account s marks table.inodes k)
@@ -163,7 +159,7 @@ module _ (s : State) (number : ℕ) (marks : ℕ → Option ℕ) (spares : List 
         ∙ told_by s (with_bytes s inode []) marks table.inodes table.inodes (emptied_in inode) emptied_slot slots
     slots_told false = given.told
 
-    module _ (covers : Covers table.inodes spare slots (Open o)) where
+    module _ (covers : Covers hand (Open o)) where
       slots_kept : (b : Bool) (k : ℕ) → NotIn k slots
           → account (found_file b) marks table.inodes k ≡ account s marks table.inodes k
       slots_kept true k out =
@@ -180,16 +176,16 @@ module _ (s : State) (number : ℕ) (marks : ℕ → Option ℕ) (spares : List 
           → c' ≡ with_descriptor c o inode → Opens table inode table' → table'.inodes ≡ table.inodes
           → table'.free ≡ table.free
           → lent' ≡ cond b (map (emptied_in inode) lent) lent
-          → IsMade s (with_opening s number c o o.there) number marks spares place c' spare table table' slots lent'
+          → IsMade scene (with_opening s number c o o.there) hand (in_hand c' spare table' slots lent')
       opened b emptied c' table' lent' client opens inodes free put =
-          subst (λ d. IsMade s (with_opening s number c o o.there) number marks spares place d spare table table' slots
-          lent') (sym client)
-          (subst (λ t. IsMade s (with_opening s number c o t) number marks spares place (with_descriptor c o inode)
-          spare table table' slots lent') (sym there)
-          (subst (λ a. IsMade s (with_client (found_file a) number (with_descriptor c o inode)) number marks spares
-          place (with_descriptor c o inode) spare table table' slots lent') (sym emptied) (record {
+          subst (λ d. IsMade scene (with_opening s number c o o.there) hand (in_hand d spare table' slots lent'))
+          (sym client)
+          (subst (λ t. IsMade scene (with_opening s number c o t) hand
+          (in_hand (with_descriptor c o inode) spare table' slots lent')) (sym there)
+          (subst (λ a. IsMade scene (with_client (found_file a) number (with_descriptor c o inode)) hand
+          (in_hand (with_descriptor c o inode) spare table' slots lent')) (sym emptied) (record {
             counted = subst (λ ks. IsTable (with_client (found_file b) number (with_descriptor c o inode)) ks table')
-                (sym (set_back spares place spare given.kept)) counted;
+                (sym (put_again spares place spare given.kept)) counted;
             next = let new = counted.next in let old = given.counted.next in let same = file_next b in
                 omega (arith, new, old, same);
             clients = λ q. one_client (found_file b).clients number (with_descriptor c o inode) q
@@ -211,11 +207,10 @@ module _ (s : State) (number : ℕ) (marks : ℕ → Option ℕ) (spares : List 
 
 -- ---- a file that is made
 
-pub covers_new : (o : Opening) → o.there ≡ None → (inodes : List ℕ) (spare : ℕ) (slots : List ℕ)
-    → Covers inodes spare slots (Open o) → Covers inodes spare slots (Make o.at Reg)
-covers_new o none inodes spare slots covers = record {
+pub covers_new : {hand : InHand} (o : Opening) → o.there ≡ None → Covers hand (Open o) → Covers hand (Make o.at Reg)
+covers_new {hand} o none covers = record {
   touched = (
-    subst (λ i. list_any (λ k. inode_at inodes k == i) slots ≡ true) (ap (opened_inode o.at) none)
+    subst (λ i. list_any (λ k. inode_at hand.table.inodes k == i) hand.slots ≡ true) (ap (opened_inode o.at) none)
         covers.touched.0,
     tt,
   );
@@ -225,25 +220,21 @@ covers_new o none inodes spare slots covers = record {
 pub room_new : (s : State) (c : ClientRecord) (o : Opening) → o.there ≡ None → FitsOpening s c o → HasRoom s o.at
 room_new s c o none fits = subst (CanOpen s o) none fits.file
 
-pub may_make : (o : Opening) (slots : List ℕ) (c : ClientRecord) (spare : ℕ) (table : Table) (lent : List Held)
-    → o.there ≡ None → MayEnact (Open o) slots c spare table lent → MayEnact (Make o.at Reg) slots c spare table lent
-may_make o slots c spare table lent none may = record {
-  s = may.s;
-  number = may.number;
-  marks = may.marks;
-  spares = may.spares;
-  place = may.place;
+pub may_make : {hand : InHand} (o : Opening) → o.there ≡ None → MayEnact (Open o) hand → MayEnact (Make o.at Reg) hand
+may_make {hand} o none may = record {
+  scene = may.scene;
   given = may.given;
-  fits = room_new may.s c o none may.fits;
-  covers = covers_new o none table.inodes spare slots may.covers;
+  fits = room_new may.scene.state hand.client o none may.fits;
+  covers = covers_new o none may.covers;
 }
 
-module _ (s : State) (number : ℕ) (marks : ℕ → Option ℕ) (spares : List ℕ) (place : ℕ) (c : ClientRecord) (spare : ℕ)
-    (table : Table) (slots : List ℕ) (lent : List Held)
-    (given : IsGiven s number marks spares place c spare table slots lent) (o : Opening) (spare' : ℕ) (table1 : Table)
-    (lent' : List Held)
-    (made : IsMade s (with_node s Reg (dentry_at o.at)) number marks spares place c spare' table table1 slots lent')
-    (inode : ℕ) (next : inode ≡ table.next) where
+-- mid: in hand once the file is made
+module _ {scene : Scene} {hand mid : InHand} (given : IsGiven scene hand) (o : Opening)
+    (made : IsMade scene (with_node scene.state Reg (dentry_at o.at)) hand mid) (inode : ℕ)
+    (next : inode ≡ hand.table.next) where
+  open scene use {state as s, marks, spares, number, place}
+  open hand use {client as c, table, slots}
+
   abbrev made_file : State
   made_file = with_node s Reg (dentry_at o.at)
 
@@ -251,10 +242,10 @@ module _ (s : State) (number : ℕ) (marks : ℕ → Option ℕ) (spares : List 
   is_next = next ∙ given.counted.next
 
   -- nobody has it open yet
-  pub can_open : has_room table1.facts inode ≡ true
+  pub can_open : has_room mid.table.facts inode ≡ true
   can_open =
       let told = made.counted.facts.told s.next ∙ ap (option_map (fact s.next)) (make_kind s Reg (dentry_at o.at)) in
-      ap (has_room table1.facts) is_next
+      ap (has_room mid.table.facts) is_next
       ∙ ap (λ f. option_map_or (λ (f : Fact). nat_lt f.opens MOST_OPENS) f true) told
       ∙ ap (λ n. nat_lt n MOST_OPENS) (given.counted.facts.unused s.next (omega arith)).opens
     where
@@ -267,14 +258,14 @@ module _ (s : State) (number : ℕ) (marks : ℕ → Option ℕ) (spares : List 
       }
 
   pub opened_new : o.there ≡ None → FitsOpening s c o → (c' : ClientRecord) (table' : Table)
-      → c' ≡ with_descriptor c o inode → Opens table1 inode table' → table'.inodes ≡ table1.inodes
-      → table'.free ≡ table1.free
-      → IsMade s (with_opening s number c o o.there) number marks spares place c' spare' table table' slots lent'
+      → c' ≡ with_descriptor c o inode → Opens mid.table inode table' → table'.inodes ≡ mid.table.inodes
+      → table'.free ≡ mid.table.free
+      → IsMade scene (with_opening s number c o o.there) hand (record mid { client = c'; table = table' })
   opened_new none fits c' table' client opens inodes free =
-      subst (λ d. IsMade s (with_opening s number c o o.there) number marks spares place d spare' table table' slots
-      lent') (sym (client ∙ ap (with_descriptor c o) is_next))
-      (subst (λ t. IsMade s (with_opening s number c o t) number marks spares place (with_descriptor c o s.next) spare'
-      table table' slots lent') (sym none) (record {
+      subst (λ d. IsMade scene (with_opening s number c o o.there) hand (record mid { client = d; table = table' }))
+      (sym (client ∙ ap (with_descriptor c o) is_next))
+      (subst (λ t. IsMade scene (with_opening s number c o t) hand
+      (record mid { client = with_descriptor c o s.next; table = table' })) (sym none) (record {
         counted = counted;
         next = let new = counted.next in let old = given.counted.next in omega (arith, new, old);
         clients = one_client s.clients number (with_descriptor c o s.next);
@@ -283,15 +274,14 @@ module _ (s : State) (number : ℕ) (marks : ℕ → Option ℕ) (spares : List 
         freed = freed_then made.freed;
       }))
     where
-      freed_then : LeavesTable s made_file spares place spare' table table1 slots
-          → LeavesTable s (with_client made_file number (with_descriptor c o s.next)) spares place spare' table table'
-          slots
+      freed_then : LeavesTable scene made_file hand mid
+          → LeavesTable scene (with_client made_file number (with_descriptor c o s.next)) hand
+          (record mid { client = with_descriptor c o s.next; table = table' })
       freed_then (inl keeps) = inl (keeps.0, record { inodes = inodes ∙ keeps.1.inodes; free = free ∙ keeps.1.free })
       freed_then (inr (inl takes)) =
           inr (inl (record {
             made = takes.made;
-            free = takes.free
-                ∙ ap (λ ks. ks ++ spare' ∷ []) (sym free);
+            free = takes.free ∙ ap (λ ks. ks ++ mid.spare ∷ []) (sym free);
             inodes = inodes ∙ takes.inodes;
           }))
       freed_then (inr (inr gives)) =
@@ -310,12 +300,12 @@ module _ (s : State) (number : ℕ) (marks : ℕ → Option ℕ) (spares : List 
 
       lives : has made_file.nodes inode ≡ true
       lives = ap (has made_file.nodes) is_next
-          ∙ has_node (get made_file.nodes s.next) Reg (make_kind s Reg (dentry_at o.at))
+          ∙ kind_there made_file s.next Reg (make_kind s Reg (dentry_at o.at))
 
-      counted : IsTable (with_client made_file number (with_descriptor c o s.next)) (slice_set spares place spare')
+      counted : IsTable (with_client made_file number (with_descriptor c o s.next)) (slice_set spares place mid.spare)
           table'
       counted =
-          opens made_file (slice_set spares place spare') number c o.number (descriptor_of o s.next) made.counted
+          opens made_file (slice_set spares place mid.spare) number c o.number (descriptor_of o s.next) made.counted
           given.client fits.free (sym is_next) lives
 
 -- what is taken out again was never there

@@ -1,6 +1,6 @@
 -- A name that takes another node's place, in the slots that are lent and in the table.
 use Rattle.std.specs.Prelude.{◌≡◌, ◌≢◌, ◌⊎◌, ℕ, true, false, not, cond, ◌&&◌, ◌==◌, Bool, List, [], ◌∷◌, ◌++◌, map}
-use Rattle.std.specs.Prelude.{Option, Some, is_some, refl}
+use Rattle.std.specs.Prelude.{Some, is_some, refl}
 use Rattle.std.specs.List.{AllByRecursion}
 use Rattle.std.proofs.Common.{sym, subst, ap, ◌∙◌, inl, inr}
 use Rattle.std.proofs.lemmas.Bool.{ne_eqb}
@@ -9,7 +9,6 @@ use Rattle.ll_rights.specs.declared.errno.Errno.TheVariants.{ENOENT}
 use Rattle.ll_rights.specs.Errno.{refuse}
 use Rattle.ll_rights.specs.Map.{get, has, insert, remove}
 use Rattle.ll_node.specs.Refusals.{missing}
-use Rattle.ll_seq.specs.declared.client.ClientRecord.{ClientRecord}
 use Rattle.ll_seq.specs.Effects.{lives, let_go, with_moved, renamed}
 use Rattle.ll_seq.specs.State.{State}
 use Rattle.ll_laws.proofs.Chains.{same_Some}
@@ -21,7 +20,7 @@ use Rattle.ll_held.specs.declared.held.Held.{Held}
 use Rattle.ll_held.specs.Lent.{vacant, named_in, unnamed_in, vacated}
 use Rattle.ll_inodes.specs.InodeTable.{Table, IsTable, NotIn, without_inode}
 use Rattle.ll_changes.specs.Accounts.{account, names_map}
-use Rattle.ll_changes.specs.Enacting.{IsGiven, Covers, IsMade, GivesBack, KeepsSlots}
+use Rattle.ll_changes.specs.Enacting.{Scene, InHand, IsGiven, Covers, IsMade, GivesBack, KeepsSlots, in_hand}
 use Rattle.ll_changes.proofs.NameMaps.{get-names_map}
 use Rattle.ll_changes.proofs.SlotAccounts.{content_of, rename_over}
 use Rattle.ll_changes.proofs.ChangedSlots.{replaced_apart_old, replaced_apart_new, replaced_after, replaced_from}
@@ -45,11 +44,12 @@ put_and_taken old new inode lent put taken first second =
     second ∙ ap (map (unnamed_in old.directory old.name.now)) first
     ∙ map-map (unnamed_in old.directory old.name.now) (named_in new.directory new.name.now inode) lent
 
-module _ (s : State) (number : ℕ) (marks : ℕ → Option ℕ) (spares : List ℕ) (place : ℕ) (c : ClientRecord) (spare : ℕ)
-    (table : Table) (slots : List ℕ) (lent : List Held)
-    (given : IsGiven s number marks spares place c spare table slots lent) (old new : At) (inode replaced : ℕ)
-    (fits : FitsReplace s old new inode replaced)
-    (covers : Covers table.inodes spare slots (Replace old new inode replaced)) where
+module _ {scene : Scene} {hand : InHand} (given : IsGiven scene hand) (old new : At) (inode replaced : ℕ)
+    (fits : FitsReplace scene.state old new inode replaced)
+    (covers : Covers hand (Replace old new inode replaced)) where
+  open scene use {state as s, marks, spares, number}
+  open hand use {client as c, spare, table, slots, lent}
+
   abbrev moved : State
   moved = with_moved s (dentry_at old) (dentry_at new) inode
 
@@ -57,7 +57,7 @@ module _ (s : State) (number : ℕ) (marks : ℕ → Option ℕ) (spares : List 
   over = let_go moved replaced
 
   tree : IsTree s
-  tree = given_tree s number marks spares place c spare table slots lent given
+  tree = given_tree given
 
   pub into_there : has s.nodes new.directory ≡ true
   into_there = directory_there s tree new fits.new.directory
@@ -173,10 +173,10 @@ module _ (s : State) (number : ℕ) (marks : ℕ → Option ℕ) (spares : List 
   made : (table' : Table) (lent' : List Held) (f : Held → Held) → IsTable over spares table' → lent' ≡ map f lent
       → ((k : ℕ) → account over marks table'.inodes k ≡ f (account s marks table.inodes k))
       → ((held : Held) → NotIn held.inode (old.directory ∷ new.directory ∷ replaced ∷ []) → f held ≡ held)
-      → KeepsSlots table table' ⊎ GivesBack s over table table' slots
-      → IsMade s over number marks spares place c spare table table' slots lent'
+      → KeepsSlots table table' ⊎ GivesBack scene over hand table'
+      → IsMade scene over hand (in_hand c spare table' slots lent')
   made table' lent' f counted done each spared free =
-      made_by s number marks spares place c spare table slots lent given over c table' lent' f
+      made_by given over c table' lent' f
       (old.directory ∷ new.directory ∷ replaced ∷ []) counted
       (after_next s number c (Replace old new inode replaced)) (client_stays s over number c clients given.client) done
       each (from_some, (into_some, (replaced_some, tt))) covers.touched spared free
@@ -189,7 +189,7 @@ module _ (s : State) (number : ℕ) (marks : ℕ → Option ℕ) (spares : List 
   -- what is replaced lives on
   pub replaced_alone : (table' : Table) (lent' : List Held) → IsTable over spares table' → lives moved replaced ≡ true
       → table'.inodes ≡ table.inodes → table'.free ≡ table.free → lent' ≡ map renamed_in lent
-      → IsMade s over number marks spares place c spare table table' slots lent'
+      → IsMade scene over hand (in_hand c spare table' slots lent')
   replaced_alone table' lent' counted living inodes free done =
       made table' lent' renamed_in counted done (λ k. ap (λ is. account over marks is k) inodes
       ∙ each_stays s over marks table.inodes renamed_in idle (λ i some. each i) k)
@@ -208,7 +208,7 @@ module _ (s : State) (number : ℕ) (marks : ℕ → Option ℕ) (spares : List 
       → table'.inodes ≡ without_inode table.inodes replaced
       → ((slot : ℕ) → get table.places replaced ≡ Some slot → table'.free ≡ table.free ++ slot ∷ [])
       → lent' ≡ map (λ held. vacated replaced (renamed_in held)) lent
-      → IsMade s over number marks spares place c spare table table' slots lent'
+      → IsMade scene over hand (in_hand c spare table' slots lent')
   replaced_whole table' lent' counted inodes free done =
       made table' lent' (λ held. vacated replaced (renamed_in held)) counted done
       (λ k. ap (λ is. account over marks is k) inodes
@@ -216,8 +216,7 @@ module _ (s : State) (number : ℕ) (marks : ℕ → Option ℕ) (spares : List 
       each k)
       (λ held away. ap (vacated replaced) (renamed_away held away.0 away.1.0)
       ∙ at_other held.inode replaced vacant held away.1.1.0)
-      (inr (given_back s spares table given.counted replaced replaced_some slots covers.touched.1.1.0 over spares table'
-      counted inodes free))
+      (inr (given_back given replaced replaced_some covers.touched.1.1.0 over table' counted inodes free))
     where
       idle_too : vacated replaced (renamed_in vacant) ≡ vacant
       idle_too = ap (vacated replaced) idle ∙ at_other 0 replaced vacant vacant (λ e. replaced_some (sym e))

@@ -9,7 +9,6 @@ use Rattle.ll_rights.specs.Errno.{refuse}
 use Rattle.ll_rights.specs.Kind.{is_dir}
 use Rattle.ll_node.specs.Slot.{Slot}
 use Rattle.ll_node.specs.Refusals.{len_refusals}
-use Rattle.ll_seq.specs.declared.client.ClientRecord.{ClientRecord}
 use Rattle.ll_seq.specs.Effects.{resized, with_size}
 use Rattle.ll_seq.specs.State.{State, kind_of, bytes_of}
 use Rattle.ll_answer.specs.declared.changes.Change.TheVariants as change
@@ -17,8 +16,7 @@ use Rattle.ll_answer.specs.Effect.{FitsResize}
 use Rattle.ll_held.specs.declared.held.Held.{Held}
 use Rattle.ll_held.specs.Lent.{resized_in, AreApart}
 use Rattle.ll_held.proofs.InSlots.{resized_here, resized_elsewhere}
-use Rattle.ll_inodes.specs.InodeTable.{Table}
-use Rattle.ll_changes.specs.Enacting.{IsGiven, IsMade, Covers, MayEnact}
+use Rattle.ll_changes.specs.Enacting.{Scene, InHand, IsGiven, IsMade, Covers, MayEnact, in_hand}
 use Rattle.ll_changes.proofs.SlotAccounts.{content_of, size_put, bytes_other}
 use Rattle.ll_changes.proofs.Living.{bytes_next}
 use Rattle.ll_changes.proofs.GivenSlots.{held_of, client_stays}
@@ -44,12 +42,13 @@ resized_each s marks inode size kind there i = elim (cases_eq i inode) [
       (bytes_other s inode (resized (bytes_of s inode) size) i other))
 ]
 
-module _ {s : State} {number : ℕ} {marks : ℕ → Option ℕ} {spares : List ℕ} {place : ℕ} {c : ClientRecord} {spare : ℕ}
-    {table : Table} {slots : List ℕ} {lent : List Held}
-    (given : IsGiven s number marks spares place c spare table slots lent) where
+module _ {scene : Scene} {hand : InHand} (given : IsGiven scene hand) where
+  open scene use {state as s, marks, spares, number}
+  open hand use {client as c, spare, table, slots, lent}
+
   pub resized_slots : (inode size : ℕ) (lent' : List Held) → FitsResize s inode size
-      → Covers table.inodes spare slots (change.Resize inode size) → lent' ≡ map (resized_in inode size) lent
-      → IsMade s (with_size s inode size) number marks spares place c spare table table slots lent'
+      → Covers hand (change.Resize inode size) → lent' ≡ map (resized_in inode size) lent
+      → IsMade scene (with_size s inode size) hand (in_hand c spare table slots lent')
   resized_slots inode size lent' fits covers done =
       let bytes = resized (bytes_of s inode) size in
       let known = named_kind given inode fits.named in
@@ -65,10 +64,10 @@ abbrev pub TakesLen : ℕ → Slot → Type 0
 TakesLen size slot = (is_dir slot.kind ≡ false) × (len_refusals size ≡ [])
 
 -- what is asked of the slots that are lent
-pub may_resize : (inode size : ℕ) (slots : List ℕ) (c : ClientRecord) (spare : ℕ) (table : Table) (lent : List Held)
-    → MayEnact (change.Resize inode size) slots c spare table lent
-    → AreApart lent × (inode ≢ 0) × AllByRecursion (λ (held : Held). held.inode ≡ inode → TakesLen size held.node) lent
-may_resize inode size slots c spare table lent may =
+pub may_resize : {hand : InHand} (inode size : ℕ) → MayEnact (change.Resize inode size) hand
+    → AreApart hand.lent × (inode ≢ 0)
+    × AllByRecursion (λ (held : Held). held.inode ≡ inode → TakesLen size held.node) hand.lent
+may_resize inode size may =
     let some = named_some may.given inode may.fits.named in (
       given_apart may.given,
       some,

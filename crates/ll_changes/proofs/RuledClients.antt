@@ -1,5 +1,5 @@
 -- A rule more in a client's ruleset: no slot changes.
-use Rattle.std.specs.Prelude.{◌≡◌, false, Result, Ok, Err, OnOk, ℕ, cond, ◌==◌, List, Option, Some, slice_set}
+use Rattle.std.specs.Prelude.{◌≡◌, false, Result, Ok, Err, OnOk, cond, ◌==◌, List, Some, slice_set}
 use Rattle.std.specs.Prelude.{slice_get, unwrap_or, refl}
 use Rattle.std.specs.Result.{is_err}
 use Rattle.std.proofs.Common.{sym, subst, ap, ◌∙◌, arith, inl}
@@ -8,14 +8,12 @@ use Rattle.ll_rules.specs.Layer.{Layer}
 use Rattle.ll_rules.specs.Rules.{new_ruleset, with_rule}
 use Rattle.ll_seq.specs.declared.client.ClientRecord.{ClientRecord}
 use Rattle.ll_seq.specs.Effects.{with_client}
-use Rattle.ll_seq.specs.State.{State}
 use Rattle.ll_seq.proofs.FactsKept.{kept_client}
 use Rattle.ll_answer.specs.declared.changes.Rule.{Rule}
 use Rattle.ll_answer.specs.Effect.{with_rule_of}
-use Rattle.ll_held.specs.declared.held.Held.{Held}
-use Rattle.ll_inodes.specs.InodeTable.{Table, IsTable}
+use Rattle.ll_inodes.specs.InodeTable.{IsTable}
 use Rattle.ll_inodes.proofs.TableSteps.{still_table}
-use Rattle.ll_changes.specs.Enacting.{IsGiven, IsMade}
+use Rattle.ll_changes.specs.Enacting.{Scene, InHand, IsGiven, IsMade, in_hand}
 use Rattle.ll_changes.proofs.GivenSlots.{put_again}
 use Rattle.ll_changes.proofs.OpenedSlots.{one_client}
 
@@ -36,11 +34,12 @@ allowed c rule rulesets made there put =
           (with_rule (unwrap_or o (new_ruleset 0)) rule.inode rule.rights.0);
     }) there)
 
-module _ {s : State} {number : ℕ} {marks : ℕ → Option ℕ} {spares : List ℕ} {place : ℕ} {c : ClientRecord} {spare : ℕ}
-    {table : Table} {slots : List ℕ} {lent : List Held}
-    (given : IsGiven s number marks spares place c spare table slots lent) where
+module _ {scene : Scene} {hand : InHand} (given : IsGiven scene hand) where
+  open scene use {state as s, spares, number, place}
+  open hand use {client as c, spare, table, slots, lent}
+
   pub ruled_client : (rule : Rule) (c' : ClientRecord) → c' ≡ with_rule_of c rule
-      → IsMade s (with_client s number (with_rule_of c rule)) number marks spares place c' spare table table slots lent
+      → IsMade scene (with_client s number (with_rule_of c rule)) hand (in_hand c' spare table slots lent)
   ruled_client rule c' is =
       let ruled = with_client s number (with_rule_of c rule) in
       record {

@@ -16,7 +16,6 @@ use Rattle.ll_seq.specs.State.{Name, State, child, kind_of, bytes_of, empty_node
 use Rattle.ll_seq.specs.Tree.{kind_or_file}
 use Rattle.ll_seq.specs.Effects.{lives, let_go, with_name, with_node, without_name, with_moved, renamed, with_bytes}
 use Rattle.ll_seq.specs.Effects.{with_size, resized}
-use Rattle.ll_seq.specs.CallParts.{after_opening}
 use Rattle.ll_laws.proofs.Trees.{IsTree}
 use Rattle.ll_changes.specs.Accounts.{names_map}
 use Rattle.ll_changes.proofs.NameMaps.{names_map-empty, names_put, names_put_other, names_taken, names_taken_other}

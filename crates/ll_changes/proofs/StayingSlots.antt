@@ -1,5 +1,5 @@
 -- What is given for a change after which each inode lies where it lay, and what comes of it.
-use Rattle.std.specs.Prelude.{◌≡◌, ◌≢◌, ℕ, true, ◌==◌, List, [], ◌∷◌, map, Option, Some, if◌then◌else◌}
+use Rattle.std.specs.Prelude.{◌≡◌, ◌≢◌, ℕ, true, ◌==◌, List, [], ◌∷◌, map, Some, if◌then◌else◌}
 use Rattle.std.specs.List.{AllByRecursion, list_any}
 use Rattle.std.proofs.Common.{sym, subst, ap, ◌∙◌, inl}
 use Rattle.ll_rights.specs.declared.kind.Kind.{Kind}
@@ -16,7 +16,7 @@ use Rattle.ll_held.specs.declared.held.Held.{Held}
 use Rattle.ll_held.specs.Lent.{vacant, AreApart}
 use Rattle.ll_inodes.specs.InodeTable.{Table, IsTable, NotIn}
 use Rattle.ll_changes.specs.Accounts.{account}
-use Rattle.ll_changes.specs.Enacting.{IsGiven, IsMade}
+use Rattle.ll_changes.specs.Enacting.{Scene, InHand, IsGiven, IsMade, in_hand}
 use Rattle.ll_changes.proofs.SlotAccounts.{content_of}
 use Rattle.ll_changes.proofs.Accounted.{inode_at, lent_apart}
 use Rattle.ll_changes.proofs.GivenSlots.{held_of, some_there, directory_kind, directory_there, named_there, all_given}
@@ -26,26 +26,24 @@ zero_out : (is : List ℕ) → AllByRecursion (λ i. i ≢ 0) is → NotIn 0 is
 zero_out [] some = tt
 zero_out (i ∷ is) some = (λ e. some.0 (sym e), zero_out is some.1)
 
-module _ {s : State} {number : ℕ} {marks : ℕ → Option ℕ} {spares : List ℕ} {place : ℕ} {c : ClientRecord} {spare : ℕ}
-    {table : Table} {slots : List ℕ} {lent : List Held}
-    (given : IsGiven s number marks spares place c spare table slots lent) where
+module _ {scene : Scene} {hand : InHand} (given : IsGiven scene hand) where
+  open scene use {state as s, marks, spares, number}
+  open hand use {spare, table, slots, lent}
+
   pub given_directory : (at : At) → IsDirectory s at.directory → kind_of s at.directory ≡ Some Dir
-  given_directory at dir = directory_kind s (given_tree s number marks spares place c spare table slots lent given) at
-      dir
+  given_directory at dir = directory_kind s (given_tree given) at dir
 
   pub directory_lives : (at : At) → IsDirectory s at.directory → has s.nodes at.directory ≡ true
-  directory_lives at dir = directory_there s (given_tree s number marks spares place c spare table slots lent given) at
-      dir
+  directory_lives at dir = directory_there s (given_tree given) at dir
 
   pub directory_some : (at : At) → IsDirectory s at.directory → at.directory ≢ 0
   directory_some at dir = some_there s spares table given.counted at.directory (directory_lives at dir)
 
   pub named_lives : (i : ℕ) → HasName s i → has s.nodes i ≡ true
-  named_lives i named = named_there s (given_tree s number marks spares place c spare table slots lent given) i named
+  named_lives i named = named_there s (given_tree given) i named
 
   pub named_kind : (i : ℕ) → HasName s i → (k : Kind) × (kind_of s i ≡ Some k)
-  named_kind i named = kind_known s (given_tree s number marks spares place c spare table slots lent given) named.0 i
-      named.1
+  named_kind i named = kind_known s (given_tree given) named.0 i named.1
 
   pub named_some : (i : ℕ) → HasName s i → i ≢ 0
   named_some i named = some_there s spares table given.counted i (named_lives i named)
@@ -69,9 +67,9 @@ module _ {s : State} {number : ℕ} {marks : ℕ → Option ℕ} {spares : List 
       → AllByRecursion (λ i. i ≢ 0) is
       → ((held : Held) → NotIn held.inode is → f held ≡ held)
       → ((i : ℕ) → i ≢ 0 → f (held_of s marks i) ≡ held_of t marks i)
-      → IsMade s t number marks spares place c' spare table table' slots lent'
+      → IsMade scene t hand (in_hand c' spare table' slots lent')
   made_staying t c' table' lent' f is done counted inodes free next clients touched some away each =
-      made_by s number marks spares place c spare table slots lent given t c' table' lent' f is counted next clients
+      made_by given t c' table' lent' f is counted next clients
       done
       (λ k. ap (λ is. account t marks is k) inodes
       ∙ each_stays s t marks table.inodes f (away vacant (zero_out is some)) each k)

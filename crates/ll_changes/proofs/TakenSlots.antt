@@ -4,7 +4,6 @@ use Rattle.std.specs.Prelude.{Some, refl}
 use Rattle.std.proofs.Common.{sym, ap, ◌∙◌, inl, inr}
 use Rattle.std.proofs.lemmas.Bool.{eqb-true, eqb-false, eq-eqb, ne_eqb}
 use Rattle.ll_rights.specs.Map.{get, has, remove}
-use Rattle.ll_seq.specs.declared.client.ClientRecord.{ClientRecord}
 use Rattle.ll_seq.specs.Effects.{lives, without_name}
 use Rattle.ll_seq.specs.State.{State}
 use Rattle.ll_laws.proofs.Trees.{IsTree}
@@ -15,7 +14,7 @@ use Rattle.ll_held.specs.declared.held.Held.{Held}
 use Rattle.ll_held.specs.Lent.{vacant, unnamed_in, vacated}
 use Rattle.ll_inodes.specs.InodeTable.{Table, IsTable, NotIn, without_inode}
 use Rattle.ll_changes.specs.Accounts.{account}
-use Rattle.ll_changes.specs.Enacting.{IsGiven, Covers, IsMade, GivesBack, KeepsSlots}
+use Rattle.ll_changes.specs.Enacting.{Scene, InHand, IsGiven, Covers, IsMade, GivesBack, KeepsSlots, in_hand}
 use Rattle.ll_changes.proofs.SlotAccounts.{content_of}
 use Rattle.ll_changes.proofs.ChangedSlots.{taken_apart, taken_from, taken_living, after_elsewhere}
 use Rattle.ll_changes.proofs.Living.{after_next}
@@ -46,15 +45,16 @@ same_held s t marks i same = λ j. record { inode = i; node = record (sym same j
 
 -- ---- the name
 
-module _ (s : State) (number : ℕ) (marks : ℕ → Option ℕ) (spares : List ℕ) (place : ℕ) (c : ClientRecord) (spare : ℕ)
-    (table : Table) (slots : List ℕ) (lent : List Held)
-    (given : IsGiven s number marks spares place c spare table slots lent) (at : At) (inode : ℕ)
-    (fits : FitsTake s at inode) (covers : Covers table.inodes spare slots (Take at inode)) where
+module _ {scene : Scene} {hand : InHand} (given : IsGiven scene hand) (at : At) (inode : ℕ)
+    (fits : FitsTake scene.state at inode) (covers : Covers hand (Take at inode)) where
+  open scene use {state as s, marks, spares, number}
+  open hand use {client as c, spare, table, slots, lent}
+
   abbrev without : State
   without = without_name s (dentry_at at) inode
 
   tree : IsTree s
-  tree = given_tree s number marks spares place c spare table slots lent given
+  tree = given_tree given
 
   directory_some : at.directory ≢ 0
   directory_some = some_there s spares table given.counted at.directory (directory_there s tree at fits.holds.directory)
@@ -96,10 +96,10 @@ module _ (s : State) (number : ℕ) (marks : ℕ → Option ℕ) (spares : List 
   made : (table' : Table) (lent' : List Held) (f : Held → Held) → IsTable without spares table' → lent' ≡ map f lent
       → ((k : ℕ) → account without marks table'.inodes k ≡ f (account s marks table.inodes k))
       → ((held : Held) → NotIn held.inode (at.directory ∷ inode ∷ []) → f held ≡ held)
-      → KeepsSlots table table' ⊎ GivesBack s without table table' slots
-      → IsMade s without number marks spares place c spare table table' slots lent'
+      → KeepsSlots table table' ⊎ GivesBack scene without hand table'
+      → IsMade scene without hand (in_hand c spare table' slots lent')
   made table' lent' f counted done each spared free =
-      made_by s number marks spares place c spare table slots lent given without c table' lent' f
+      made_by given without c table' lent' f
       (at.directory ∷ inode ∷ []) counted (after_next s number c (Take at inode))
       (client_stays s without number c clients given.client) done each (directory_some, (inode_some, tt)) covers.touched
       spared free
@@ -112,7 +112,7 @@ module _ (s : State) (number : ℕ) (marks : ℕ → Option ℕ) (spares : List 
   -- the node lives on
   pub taken_alone : (table' : Table) (lent' : List Held) → IsTable without spares table' → lives left inode ≡ true
       → table'.inodes ≡ table.inodes → table'.free ≡ table.free → lent' ≡ map unnamed lent
-      → IsMade s without number marks spares place c spare table table' slots lent'
+      → IsMade scene without hand (in_hand c spare table' slots lent')
   taken_alone table' lent' counted living inodes free done =
       made table' lent' unnamed counted done (λ k. ap (λ is. account without marks is k) inodes
       ∙ each_stays s without marks table.inodes unnamed idle (λ i some. each i) k)
@@ -134,14 +134,13 @@ module _ (s : State) (number : ℕ) (marks : ℕ → Option ℕ) (spares : List 
       → table'.inodes ≡ without_inode table.inodes inode
       → ((slot : ℕ) → get table.places inode ≡ Some slot → table'.free ≡ table.free ++ slot ∷ [])
       → lent' ≡ map (λ held. vacated inode (unnamed held)) lent
-      → IsMade s without number marks spares place c spare table table' slots lent'
+      → IsMade scene without hand (in_hand c spare table' slots lent')
   taken_whole table' lent' counted inodes free done =
       made table' lent' (λ held. vacated inode (unnamed held)) counted done
       (λ k. ap (λ is. account without marks is k) inodes
       ∙ each_but s without marks table.inodes (λ held. vacated inode (unnamed held)) idle inode leaves each k)
       (λ held away. ap (vacated inode) (unnamed_away held away.0) ∙ at_other held.inode inode vacant held away.1.0)
-      (inr (given_back s spares table given.counted inode inode_some slots covers.touched.1.0 without spares table'
-      counted inodes free))
+      (inr (given_back given inode inode_some covers.touched.1.0 without table' counted inodes free))
     where
       idle : vacated inode (unnamed vacant) ≡ vacant
       idle = ap (vacated inode) (unnamed_away vacant (λ e. directory_some (sym e)))

@@ -2,7 +2,7 @@
 
 ghost use Rattle.std.specs.Prelude.{◌≡◌, true, is_ok, OnOk, OnErr};
 ghost use Rattle.ll_answer.specs.Lean.{adds_nothing};
-ghost use Rattle.ll_changes.specs.Enacting.{Enacts, MayEnact};
+ghost use Rattle.ll_changes.specs.Enacting.{Enacts, MayEnact, in_hand};
 
 use crate::making::{make, open_new, open_there};
 use crate::moving::{allow, exchange, move_name, name, resize};
@@ -25,9 +25,9 @@ pub fn enact(
     lent: &mut [Held],
     change: &Change<'_>,
 ) -> Result<(), AllocError>
-    requires { MayEnact change.now slots.now client.old spare.old table.old lent.old }
-    ensures ok { OnOk result (Enacts change.now slots.now client.old spare.old table.old lent.old client.new spare.new
-        table.new lent.new) }
+    requires { MayEnact change.now (in_hand client.old spare.old table.old slots.now lent.old) }
+    ensures ok { OnOk result (Enacts change.now (in_hand client.old spare.old table.old slots.now lent.old)
+        (in_hand client.new spare.new table.new slots.now lent.new)) }
     ensures err { OnErr result ((client.new ≡ client.old) × (spare.new ≡ spare.old) × (table.new ≡ table.old)
         × (lent.new ≡ lent.old)) }
     ensures calm { adds_nothing change.now ≡ true → is_ok result ≡ true }

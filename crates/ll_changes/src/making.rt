@@ -1,10 +1,10 @@
 //! A node that is made, and a file that is opened.
 
-ghost use Rattle.std.specs.Prelude.{◌≡◌, ◌<◌, ℕ, List, length, slice_get, Some, None, IfSome, IfNone, OnOk, OnErr};
+ghost use Rattle.std.specs.Prelude.{◌≡◌, ◌<◌, length, slice_get, Some, None, IfSome, IfNone, OnOk, OnErr};
 ghost use Rattle.ll_seq.specs.declared.client.ClientRecord as record_of;
 ghost use Rattle.ll_answer.specs.declared.changes.Change.TheVariants as change;
 ghost use Rattle.ll_inodes.specs.InodeTable.{NotIn};
-ghost use Rattle.ll_changes.specs.Enacting.{Enacts, MayEnact};
+ghost use Rattle.ll_changes.specs.Enacting.{Enacts, InHand, MayEnact, in_hand};
 
 use ll_answer::{At, Opening};
 use ll_held::{Held, clear, fill, name, take_name};
@@ -34,9 +34,10 @@ pub(crate) fn make(
     kind: Kind,
 ) -> Result<(), AllocError>
     requires { (c : record_of.ClientRecord)
-        × MayEnact (change.Make at.now kind) slots.now c spare.old table.old lent.old }
+        × MayEnact (change.Make at.now kind) (in_hand c spare.old table.old slots.now lent.old) }
     ensures ok { OnOk result ((c : record_of.ClientRecord)
-        → Enacts (change.Make at.now kind) slots.now c spare.old table.old lent.old c spare.new table.new lent.new) }
+        → Enacts (change.Make at.now kind) (in_hand c spare.old table.old slots.now lent.old)
+        (in_hand c spare.new table.new slots.now lent.new)) }
     ensures err { OnErr result ((spare.new ≡ spare.old) × (table.new ≡ table.old) × (lent.new ≡ lent.old)) }
 {
     let inode = table.next();
@@ -66,9 +67,10 @@ pub(crate) fn open_new(
     opening: &Opening<'_>,
 ) -> Result<(), AllocError>
     requires { (opening.now.there ≡ None)
-        × MayEnact (change.Open opening.now) slots.now client.old spare.old table.old lent.old }
-    ensures ok { OnOk result (Enacts (change.Open opening.now) slots.now client.old spare.old table.old lent.old
-        client.new spare.new table.new lent.new) }
+        × MayEnact (change.Open opening.now) (in_hand client.old spare.old table.old slots.now lent.old) }
+    ensures ok { OnOk result (Enacts (change.Open opening.now)
+        (in_hand client.old spare.old table.old slots.now lent.old)
+        (in_hand client.new spare.new table.new slots.now lent.new)) }
     ensures err { OnErr result ((client.new ≡ client.old) × (spare.new ≡ spare.old) × (table.new ≡ table.old)
         × (lent.new ≡ lent.old)) }
 {
@@ -92,11 +94,12 @@ pub(crate) fn open_there(
     opening: &Opening<'_>,
     inode: u64,
 ) -> Result<(), AllocError>
-    requires { (opening.now.there ≡ Some inode) × (slots : List ℕ) × (spare : ℕ)
-        × MayEnact (change.Open opening.now) slots client.old spare table.old lent.old }
-    ensures ok { OnOk result ((slots : List ℕ) (spare : ℕ)
-        → Enacts (change.Open opening.now) slots client.old spare table.old lent.old client.new spare table.new
-        lent.new) }
+    requires { (opening.now.there ≡ Some inode) × (any : InHand)
+        × MayEnact (change.Open opening.now)
+        (record any { client = client.old; table = table.old; lent = lent.old }) }
+    ensures ok { OnOk result ((any : InHand) → Enacts (change.Open opening.now)
+        (record any { client = client.old; table = table.old; lent = lent.old })
+        (record any { client = client.new; table = table.new; lent = lent.new })) }
     ensures err { OnErr result ((client.new ≡ client.old) × (table.new ≡ table.old) × (lent.new ≡ lent.old)) }
 {
     if !table.has_room(inode) {

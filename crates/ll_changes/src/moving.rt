@@ -1,11 +1,8 @@
 //! Changes that leave the nodes that there are: of names, of a length, and of a client's rulesets.
 
-ghost use Rattle.std.specs.Prelude.{◌≡◌, ℕ, List, OnOk, OnErr};
+ghost use Rattle.std.specs.Prelude.{◌≡◌, OnOk, OnErr};
 ghost use Rattle.ll_answer.specs.declared.changes.Change.TheVariants as change;
-ghost use Rattle.ll_changes.specs.Enacting.{Enacts, MayEnact};
-ghost use Rattle.ll_held.specs.declared.held.Held as record_of;
-ghost use Rattle.ll_inodes.specs.InodeTable.{Table};
-ghost use Rattle.ll_seq.specs.declared.client.ClientRecord as client_of;
+ghost use Rattle.ll_changes.specs.Enacting.{Enacts, InHand, MayEnact};
 
 use ll_answer::{At, Rule};
 use ll_held::Held;
@@ -20,10 +17,10 @@ pub(crate) fn name(
     at: &At<'_>,
     inode: u64,
 ) -> Result<(), AllocError>
-    requires { (slots : List ℕ) × (c : client_of.ClientRecord) × (spare : ℕ)
-        × MayEnact (change.Name at.now inode) slots c spare table.old lent.old }
-    ensures ok { OnOk result ((slots : List ℕ) (c : client_of.ClientRecord) (spare : ℕ)
-        → Enacts (change.Name at.now inode) slots c spare table.old lent.old c spare table.new lent.new) }
+    requires { (any : InHand)
+        × MayEnact (change.Name at.now inode) (record any { table = table.old; lent = lent.old }) }
+    ensures ok { OnOk result ((any : InHand) → Enacts (change.Name at.now inode)
+        (record any { table = table.old; lent = lent.old }) (record any { table = table.new; lent = lent.new })) }
     ensures err { OnErr result ((table.new ≡ table.old) × (lent.new ≡ lent.old)) }
 {
     ll_held::name(lent, at.directory, at.name, inode)?;
@@ -39,10 +36,10 @@ pub(crate) fn move_name(
     new: &At<'_>,
     inode: u64,
 ) -> Result<(), AllocError>
-    requires { (slots : List ℕ) × (c : client_of.ClientRecord) × (spare : ℕ)
-        × MayEnact (change.Move old.now new.now inode) slots c spare table.old lent.old }
-    ensures ok { OnOk result ((slots : List ℕ) (c : client_of.ClientRecord) (spare : ℕ)
-        → Enacts (change.Move old.now new.now inode) slots c spare table.old lent.old c spare table.new lent.new) }
+    requires { (any : InHand)
+        × MayEnact (change.Move old.now new.now inode) (record any { table = table.old; lent = lent.old }) }
+    ensures ok { OnOk result ((any : InHand) → Enacts (change.Move old.now new.now inode)
+        (record any { table = table.old; lent = lent.old }) (record any { table = table.new; lent = lent.new })) }
     ensures err { OnErr result ((table.new ≡ table.old) × (lent.new ≡ lent.old)) }
 {
     ll_held::move_name(
@@ -59,10 +56,10 @@ pub(crate) fn move_name(
 
 /// The inodes under the two names change places.
 pub(crate) fn exchange(lent: &mut [Held], old: &At<'_>, new: &At<'_>, first: u64, second: u64)
-    requires { (slots : List ℕ) × (c : client_of.ClientRecord) × (spare : ℕ) × (table : Table)
-        × MayEnact (change.Exchange old.now new.now first second) slots c spare table lent.old }
-    ensures { (slots : List ℕ) (c : client_of.ClientRecord) (spare : ℕ) (table : Table)
-        → Enacts (change.Exchange old.now new.now first second) slots c spare table lent.old c spare table lent.new }
+    requires { (any : InHand)
+        × MayEnact (change.Exchange old.now new.now first second) (record any { lent = lent.old }) }
+    ensures { (any : InHand) → Enacts (change.Exchange old.now new.now first second) (record any { lent = lent.old })
+        (record any { lent = lent.new }) }
 {
     ll_held::replace_name(lent, new.directory, new.name, first);
     ll_held::replace_name(lent, old.directory, old.name, second);
@@ -70,10 +67,9 @@ pub(crate) fn exchange(lent: &mut [Held], old: &At<'_>, new: &At<'_>, first: u64
 
 /// The file's bytes are cut or filled to this length. Errors: memory ran out, and nothing has changed.
 pub(crate) fn resize(lent: &mut [Held], inode: u64, size: u64) -> Result<(), AllocError>
-    requires { (slots : List ℕ) × (c : client_of.ClientRecord) × (spare : ℕ) × (table : Table)
-        × MayEnact (change.Resize inode size) slots c spare table lent.old }
-    ensures ok { OnOk result ((slots : List ℕ) (c : client_of.ClientRecord) (spare : ℕ) (table : Table)
-        → Enacts (change.Resize inode size) slots c spare table lent.old c spare table lent.new) }
+    requires { (any : InHand) × MayEnact (change.Resize inode size) (record any { lent = lent.old }) }
+    ensures ok { OnOk result ((any : InHand) → Enacts (change.Resize inode size) (record any { lent = lent.old })
+        (record any { lent = lent.new })) }
     ensures err { OnErr result (lent.new ≡ lent.old) }
 {
     ll_held::set_len(lent, inode, size)
@@ -81,10 +77,9 @@ pub(crate) fn resize(lent: &mut [Held], inode: u64, size: u64) -> Result<(), All
 
 /// The client's ruleset has this rule too. Errors: memory ran out, and nothing has changed.
 pub(crate) fn allow(client: &mut ClientRecord, rule: &Rule) -> Result<(), AllocError>
-    requires { (slots : List ℕ) × (spare : ℕ) × (table : Table) × (lent : List record_of.Held)
-        × MayEnact (change.Allow rule.now) slots client.old spare table lent }
-    ensures ok { OnOk result ((slots : List ℕ) (spare : ℕ) (table : Table) (lent : List record_of.Held)
-        → Enacts (change.Allow rule.now) slots client.old spare table lent client.new spare table lent) }
+    requires { (any : InHand) × MayEnact (change.Allow rule.now) (record any { client = client.old }) }
+    ensures ok { OnOk result ((any : InHand) → Enacts (change.Allow rule.now) (record any { client = client.old })
+        (record any { client = client.new })) }
     ensures err { OnErr result (client.new ≡ client.old) }
 {
     let rulesets = &mut client.rulesets;

@@ -1,9 +1,7 @@
 //! A name that goes, and one that takes another node's place.
 
-ghost use Rattle.std.specs.Prelude.{ℕ, List};
-ghost use Rattle.ll_seq.specs.declared.client.ClientRecord.{ClientRecord};
 ghost use Rattle.ll_answer.specs.declared.changes.Change.TheVariants.{Replace, Take};
-ghost use Rattle.ll_changes.specs.Enacting.{Enacts, MayEnact};
+ghost use Rattle.ll_changes.specs.Enacting.{Enacts, InHand, MayEnact};
 
 use ll_answer::At;
 use ll_held::{Held, replace_name, take_name, vacate};
@@ -12,8 +10,8 @@ use std::alloc::Global;
 
 /// The inode loses the name, and its slot where nothing keeps its node. Takes no memory.
 pub(crate) fn take(alloc: Global, table: &mut Inodes, lent: &mut [Held], at: &At<'_>, inode: u64)
-    ensures { (slots : List ℕ) (c : ClientRecord) (spare : ℕ)
-        → Enacts (Take at.now inode) slots c spare table.old lent.old c spare table.new lent.new }
+    ensures { (any : InHand) → Enacts (Take at.now inode) (record any { table = table.old; lent = lent.old })
+        (record any { table = table.new; lent = lent.new }) }
 {
     take_name(lent, at.directory, at.name);
     if table.unname(at.directory, inode) {
@@ -32,10 +30,10 @@ pub(crate) fn replace(
     inode: u64,
     replaced: u64,
 )
-    requires { (slots : List ℕ) × (c : ClientRecord) × (spare : ℕ)
-        × MayEnact (Replace old.now new.now inode replaced) slots c spare table.old lent.old }
-    ensures { (slots : List ℕ) (c : ClientRecord) (spare : ℕ)
-        → Enacts (Replace old.now new.now inode replaced) slots c spare table.old lent.old c spare table.new lent.new }
+    requires { (any : InHand)
+        × MayEnact (Replace old.now new.now inode replaced) (record any { table = table.old; lent = lent.old }) }
+    ensures { (any : InHand) → Enacts (Replace old.now new.now inode replaced)
+        (record any { table = table.old; lent = lent.old }) (record any { table = table.new; lent = lent.new }) }
 {
     replace_name(lent, new.directory, new.name, inode);
     take_name(lent, old.directory, old.name);

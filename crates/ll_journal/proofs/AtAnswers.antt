@@ -15,7 +15,7 @@ use Rattle.ll_answer.specs.Found.{AreFacts}
 use Rattle.ll_answer.specs.Passed.{has_path}
 use Rattle.ll_answer.specs.declared.found.Found.{Found}
 use Rattle.ll_answer.specs.declared.found.Spot.{Spot}
-use Rattle.ll_changes.specs.Enacting.{IsGiven}
+use Rattle.ll_changes.specs.Enacting.{Scene, InHand, IsGiven}
 use Rattle.ll_held.specs.declared.held.Held.{Held}
 use Rattle.ll_inodes.specs.InodeTable.{AreDistinct}
 use Rattle.ll_seq.specs.declared.call.Call.{Call}
@@ -33,13 +33,14 @@ use Rattle.ll_seq.specs.Stages.{early_refusals}
 use Rattle.ll_worlds.proofs.SoundSteps.{marked_below}
 use Rattle.ll_worlds.proofs.Tests.{both, is_nil, not_true}
 use Rattle.ll_journal.specs.declared.journal.Journal.TheInside.{Inside}
-use Rattle.ll_journal.specs.Book.{Seat, Book, inode_in, has_mark, mark_of, slot_of}
+use Rattle.ll_journal.specs.Book.{Seat, Book, inode_in, has_mark, slot_of}
 use Rattle.ll_journal.specs.Decidings.{IsEndAt}
 use Rattle.ll_journal.specs.WalkEnds.{is_lent, spare_of}
 use Rattle.ll_journal.specs.Kept.{IsKept, world_of, book_of, spares_of}
-use Rattle.ll_journal.specs.Performed.{IsAtEnd, lies_in}
+use Rattle.ll_journal.specs.declared.seat.Ended.{Ended}
+use Rattle.ll_journal.specs.Performed.{EndsAs, IsAtEnd, at_seat, lies_in}
 use Rattle.ll_journal.specs.Stopped.{IsEndOf, IsReachedEnd}
-use Rattle.ll_journal.proofs.Committed.{told_slots}
+use Rattle.ll_journal.proofs.Committed.{scene_at, told_slots}
 use Rattle.ll_journal.proofs.Ended.{removed}
 use Rattle.ll_journal.proofs.Entering.{walk_here}
 use Rattle.ll_journal.proofs.MarkOf.{mark_none, whose_mark}
@@ -129,15 +130,28 @@ small_enough : (next len limit : ℕ) → next ≤ len + 2 → nat_le limit len 
     → next < 2 ^ 64 - 1
 small_enough next len limit few room most = grind (arith, nat_tests)
 
-module _ (j i : Inside) (h : IsKept j) (mid : IsKept i) (number place : ℕ) (slots : List ℕ)
-    (distinct : AreDistinct slots) (found : Found) (r : IsReachedEnd (book_of j) number slots found)
-    (world : world_of i ≡ without_walk (world_of j) number) (inodes : i.table.inodes ≡ j.table.inodes)
-    (spares : spares_of i.seats.items ≡ spares_of j.seats.items)
-    (call : Call) (call_is : call ≡ r.walk.call) (first second : List ℕ)
-    (first_masks : AreMasks first (domain_of (world_of j) number) r.first.chain)
-    (second_masks : AreMasks second (domain_of (world_of j) number) r.second.chain)
-    (lent : List Held) (told : lent ≡ map (slot_of (book_of i)) slots) (room_left : is_full (world_of i) ≡ false)
-    (seat : Seat) (at : slice_get i.seats.items place ≡ Some seat) (numbered : number ≡ suc place) where
+-- The walk has ended, and this is left of it. j: the journal before, i: after
+pub record EndedSo (j i : Inside) (number place : ℕ) (slots : List ℕ) (found : Found) (walk : Ended) (lent : List Held)
+    (seat : Seat) : Type 0 where
+  pub reached : IsReachedEnd (book_of j) number slots found
+  pub world : world_of i ≡ without_walk (world_of j) number
+  pub inodes : i.table.inodes ≡ j.table.inodes
+  pub spares : spares_of i.seats.items ≡ spares_of j.seats.items
+  pub left : EndsAs (domain_of (world_of j) number) reached.walk walk
+  pub told : lent ≡ map (slot_of (book_of i)) slots
+  pub at : slice_get i.seats.items place ≡ Some seat
+
+module _ {j i : Inside} (h : IsKept j) (mid : IsKept i) {number place : ℕ} (numbered : number ≡ suc place)
+    {slots : List ℕ} (distinct : AreDistinct slots) {found : Found} {walk : Ended} {lent : List Held} {seat : Seat}
+    (so : EndedSo j i number place slots found walk lent seat) (room_left : is_full (world_of i) ≡ false) where
+  open so use {reached as r, world, inodes, spares, left, told, at}
+
+  abbrev scene : Scene
+  scene = scene_at i number place
+
+  abbrev hand : InHand
+  hand = at_seat seat i.table slots lent
+
   pub seat_idle : seat.walk ≡ None
   seat_idle = sym (walk_here i mid number place seat at numbered) ∙ ap (λ (w : World). get w.walks number) world
       ∙ removed (world_of j).walks number
@@ -152,7 +166,7 @@ module _ (j i : Inside) (h : IsKept j) (mid : IsKept i) (number place : ℕ) (sl
   domain = ap (λ (s : State). (client_of s number).domain) (sym tree)
       ∙ ap (λ (o : Option ClientRecord). (unwrap_or o new_client).domain) client
 
-  lies : (x : ℕ) → is_lent (book_of j) slots x ≡ true → lies_in i.table.inodes slots x
+  lies : (x : ℕ) → is_lent (book_of j) slots x ≡ true → lies_in hand x
   lies x e = subst (λ ns. list_any (λ k. slice_index_or ns k 0 == x) slots ≡ true) (sym inodes)
       (sym (in_map (inode_in (book_of j)) slots x) ∙ e)
 
@@ -177,8 +191,7 @@ module _ (j i : Inside) (h : IsKept j) (mid : IsKept i) (number place : ℕ) (sl
           let less = marked_below (world_of i) mid.sound n walk.0 walk.1 (shown (world_of i)).next walk.2 in
           absurd (omega (arith, less))
 
-  given : IsGiven (shown (world_of i)) number (mark_of (world_of i)) (spares_of i.seats.items) place seat.client
-      seat.spare i.table slots lent
+  given : IsGiven scene hand
   given = record {
     reached = record {
       rules = i.rules;
@@ -220,16 +233,16 @@ module _ (j i : Inside) (h : IsKept j) (mid : IsKept i) (number place : ℕ) (sl
   path = names_path r.walk.call
       (left_true (has_any (targets r.walk.call)) _ ((h.sound.valid number r.walk r.ends.is).0.walked))
 
-  pub at_end : IsAtEnd (shown (world_of i)) number (mark_of (world_of i)) (spares_of i.seats.items) place seat.client
-      seat.spare i.table slots lent call first second found
-  at_end = subst (λ c. IsAtEnd (shown (world_of i)) number (mark_of (world_of i)) (spares_of i.seats.items) place
-      seat.client seat.spare i.table slots lent c first second found) (sym call_is) (record {
+  pub at_end : IsAtEnd scene hand walk found
+  at_end = subst (λ (ended : Ended). IsAtEnd scene hand ended found)
+      (λ x. record walk { call = sym left.call x }) (record {
         given = given;
         path = path;
         early = early;
         facts = subst (λ s. AreFacts s r.walk.call found) (sym tree) r.facts;
-        old = end_at (first_path r.walk.call) found.first r.first first r.old first_masks;
-        new = end_at (second_path r.walk.call) found.second r.second second r.new second_masks;
+        old = end_at (first_path r.walk.call) found.first r.first walk.first r.old (left.first r.first r.first_is);
+        new = end_at (second_path r.walk.call) found.second r.second walk.second r.new
+            (left.second r.second r.second_is);
         old_lent = lies found.first.directory
             (r.ends.marked found.first.directory (ap (marks r.walk) r.old.here
             ∙ first_marked r.walk.at r.first r.first_is r.walk refl));
@@ -242,33 +255,17 @@ module _ (j i : Inside) (h : IsKept j) (mid : IsKept i) (number place : ℕ) (sl
 
 -- ---- as the code finds it
 
--- the walk has ended: what its call is answered with
-pub record EndedSo (j i : Inside) (number place : ℕ) (slots : List ℕ) (found : Found) (call : Call)
-    (first second : List ℕ) (lent : List Held) (seat : Seat) : Type 0 where
-  pub reached : IsReachedEnd (book_of j) number slots found
-  pub world : world_of i ≡ without_walk (world_of j) number
-  pub inodes : i.table.inodes ≡ j.table.inodes
-  pub spares : spares_of i.seats.items ≡ spares_of j.seats.items
-  pub call_is : call ≡ reached.walk.call
-  pub first_masks : AreMasks first (domain_of (world_of j) number) reached.first.chain
-  pub second_masks : AreMasks second (domain_of (world_of j) number) reached.second.chain
-  pub told : lent ≡ map (slot_of (book_of i)) slots
-  pub at : slice_get i.seats.items place ≡ Some seat
-
 pub ended_so : (j i : Inside) (b v : Book) → book_of j ≡ b → book_of i ≡ v
     → (number place : ℕ) (slots : List ℕ) (found : Found) → IsReachedEnd b number slots found
     → v.world ≡ without_walk b.world number → v ≡ record b { world = v.world }
-    → (call : Call) (first second : List ℕ) → ((walk : Walk) → get b.world.walks number ≡ Some walk → call ≡ walk.call)
-    → ((walk : Walk) (leg : Leg) → get b.world.walks number ≡ Some walk → first_end walk.at ≡ Some leg
-    → AreMasks first (domain_of b.world number) leg.chain)
-    → ((walk : Walk) (leg : Leg) → get b.world.walks number ≡ Some walk → second_end walk.at ≡ Some leg
-    → AreMasks second (domain_of b.world number) leg.chain)
+    → (ended : Ended)
+    → ((walk : Walk) → get b.world.walks number ≡ Some walk → EndsAs (domain_of b.world number) walk ended)
     → (lent lent' : List Held) → lent ≡ map (slot_of b) slots
     → ((slots : List ℕ) → lent ≡ map (slot_of b) slots → lent' ≡ map (slot_of v) slots)
     → (seat : Seat) → place < length b.spares → number ≡ suc place → seat ≡ slice_index_or i.seats.items place seat
-    → EndedSo j i number place slots found call first second lent' seat
-ended_so j i b v eb ev number place slots found q ended rest call first second calls firsts seconds lent lent' told
-    tells seat within numbered value =
+    → EndedSo j i number place slots found ended lent' seat
+ended_so j i b v eb ev number place slots found q without rest ended left lent lent' told tells seat within numbered
+    value =
     let r : IsReachedEnd (book_of j) number slots found =
     subst (λ (x : Book). IsReachedEnd x number slots found) (sym eb) q in
     let is : get b.world.walks number ≡ Some r.walk =
@@ -277,14 +274,10 @@ ended_so j i b v eb ev number place slots found q ended rest call first second c
     ap (λ (x : Book). x.spares) ev ∙ ap (λ (x : Book). x.spares) rest in
     record {
       reached = r;
-      world = ap (λ (x : Book). x.world) ev ∙ ended ∙ ap (λ (x : Book). without_walk x.world number) (sym eb);
+      world = ap (λ (x : Book). x.world) ev ∙ without ∙ ap (λ (x : Book). without_walk x.world number) (sym eb);
       inodes = ap (λ (x : Book). x.inodes) ev ∙ ap (λ (x : Book). x.inodes) rest ∙ ap (λ (x : Book). x.inodes) (sym eb);
       spares = same_spares ∙ ap (λ (x : Book). x.spares) (sym eb);
-      call_is = calls r.walk is;
-      first_masks = subst (λ (x : Book). AreMasks first (domain_of x.world number) r.first.chain) (sym eb)
-          (firsts r.walk r.first is r.first_is);
-      second_masks = subst (λ (x : Book). AreMasks second (domain_of x.world number) r.second.chain) (sym eb)
-          (seconds r.walk r.second is r.second_is);
+      left = subst (λ (x : Book). EndsAs (domain_of x.world number) r.walk ended) (sym eb) (left r.walk is);
       told = tells slots told ∙ ap (λ (x : Book). map (slot_of x) slots) (sym ev);
       at = at_place i.seats.items i.seats.items number place seat refl
           (numbered, subst (λ n. place < n) (ap length (sym same_spares) ∙ many_spares i.seats.items) within) value;

@@ -11,7 +11,7 @@ use Rattle.ll_changes.specs.Accounts.{account, accounts, names_map}
 use Rattle.ll_held.specs.declared.held.Held.{Held}
 use Rattle.ll_held.specs.Lent.{vacant}
 use Rattle.ll_inodes.specs.InodeTable.{IsTable, without_inode}
-use Rattle.ll_changes.specs.Enacting.{LeavesTable}
+use Rattle.ll_changes.specs.Enacting.{Scene, LeavesTable}
 use Rattle.ll_changes.proofs.GivenSlots.{put_again}
 use Rattle.ll_seq.specs.declared.client.ClientRecord.{ClientRecord}
 use Rattle.ll_seq.specs.declared.reply.Reply.{Reply}
@@ -30,7 +30,7 @@ use Rattle.ll_journal.specs.declared.journal.Journal.TheInside.{Inside}
 use Rattle.ll_journal.specs.Book.{Seat, Book, Spares, mark_of, has_mark, slot_of}
 use Rattle.ll_journal.specs.WalkEnds.{LeavesFree, TakesName, would_make}
 use Rattle.ll_journal.specs.Kept.{IsKept, AreSeated, seat_at, world_of, book_of, walks_from, spares_of}
-use Rattle.ll_journal.specs.Performed.{Performs}
+use Rattle.ll_journal.specs.Performed.{IsPerformed, at_seat}
 use Rattle.ll_inodes.proofs.SlotLists.{set_same, set_other}
 use Rattle.ll_journal.proofs.Ended.{commit_equation}
 use Rattle.ll_journal.proofs.MarkOf.{are_clients, has_mark_stale, mark_same}
@@ -82,26 +82,55 @@ spares_set [] place new = refl
 spares_set (z ∷ seats) zero new = refl
 spares_set (z ∷ seats) (suc place) new = ap (λ ks. z.spare ∷ ks) (spares_set seats place new)
 
--- j: the journal before, i: after the walk's end, k: after the commit
-module _ (j i k : Inside) (h : IsKept j) (mid : IsKept i) (number place : ℕ) (walk : Walk)
-    (is : get (world_of j).walks number ≡ Some walk) (may : may_commit (world_of j) number walk ≡ true)
-    (ended : world_of i ≡ without_walk (world_of j) number) (room_left : is_full (world_of i) ≡ false)
-    (old : Seat) (at : slice_get i.seats.items place ≡ Some old) (numbered : number ≡ suc place) (reply : Reply)
-    (c : ClientRecord) (spare : ℕ) (lent : List Held) (slots : List ℕ)
-    (performs : Performs (shown (world_of i)) number (mark_of (world_of i)) (spares_of i.seats.items) place i.table
-    slots walk.call reply c spare k.table lent)
-    (new : Seat) (client : new.client ≡ c) (kept : new.spare ≡ spare) (idle : new.walk ≡ old.walk) (moved : List ℕ)
-    (moves : moved ≡ moved_by (shown (world_of i)) walk.call reply)
-    (seats : k.seats.items ≡ overtaken_seats moved (slice_set i.seats.items place new))
-    (history : k.history ≡ entered i number walk.call reply) (rules : k.rules ≡ i.rules) (room : k.room ≡ i.room)
-    (gate : k.gate ≡ i.gate) where
+-- where the client makes its call
+abbrev pub scene_at : Inside → ℕ → ℕ → Scene
+scene_at i number place = record {
+  state = shown (world_of i);
+  marks = mark_of (world_of i);
+  spares = spares_of i.seats.items;
+  number = number;
+  place = place;
+}
+
+-- A walk is committed. j: the journal before, i: after the walk's end, k: after the commit
+pub record IsCommitted
+    (j i k : Inside) (number place : ℕ) (slots : List ℕ) (lent : List Held) (reply : Reply) : Type 0 where
+  pub h : IsKept j
+  pub mid : IsKept i
+  pub walk : Walk
+  pub is : get (world_of j).walks number ≡ Some walk
+  pub may : may_commit (world_of j) number walk ≡ true
+  pub ended : world_of i ≡ without_walk (world_of j) number
+  pub room_left : is_full (world_of i) ≡ false
+  pub old : Seat
+  pub at : slice_get i.seats.items place ≡ Some old
+  pub numbered : number ≡ suc place
+  pub new : Seat
+  pub idle : new.walk ≡ old.walk
+  pub before : List Held
+  pub performs :
+      IsPerformed (scene_at i number place) (at_seat old i.table slots before) walk.call reply
+      (at_seat new k.table slots lent)
+  pub moved : List ℕ
+  pub moves : moved ≡ moved_by (shown (world_of i)) walk.call reply
+  pub seats : k.seats.items ≡ overtaken_seats moved (slice_set i.seats.items place new)
+  pub history : k.history ≡ entered i number walk.call reply
+  pub rules : k.rules ≡ i.rules
+  pub room : k.room ≡ i.room
+  pub gate : k.gate ≡ i.gate
+
+module _ {j i k : Inside} {number place : ℕ} {slots : List ℕ} {lent : List Held} {reply : Reply}
+    (committed : IsCommitted j i k number place slots lent reply) where
+  open committed use {h, mid, walk, is, may, ended, room_left, old, at, numbered, new, idle, performs}
+  open committed use {moved, moves, seats, history, rules, room, gate}
+
   abbrev w : World
   w = world_of j
 
-  abbrev before : State
-  before = shown (world_of i)
+  abbrev s : State
+  s = shown (world_of i)
 
-  steps_so : step before number walk.call (next_number (world_of i)) ≡ (reply, performs.after)
+  steps_so : step s number walk.call (next_number (world_of i)) ≡ (reply, performs.after)
   steps_so = performs.steps (next_number (world_of i))
 
   told : reply ≡ reply_to (world_of i) number walk.call
@@ -151,12 +180,11 @@ module _ (j i k : Inside) (h : IsKept j) (mid : IsKept i) (number place : ℕ) (
   seated_so =
       subst (AreSeated performs.after) (sym seats)
       (seated_overtaken moved performs.after (slice_set i.seats.items place new)
-      (seated_with before performs.after i.seats.items place number old new at numbered (λ q. performs.made.clients q
-      ∙ ap (λ x. cond (q == number) (Some x) (get before.clients q)) (sym client)) mid.seated))
+      (seated_with s performs.after i.seats.items place number old new at numbered performs.made.clients mid.seated))
 
-  spares_so : spares_of k.seats.items ≡ slice_set (spares_of i.seats.items) place spare
+  spares_so : spares_of k.seats.items ≡ slice_set (spares_of i.seats.items) place new.spare
   spares_so = ap spares_of seats ∙ spares_overtaken moved (slice_set i.seats.items place new)
-      ∙ spares_set i.seats.items place new ∙ ap (slice_set (spares_of i.seats.items) place) kept
+      ∙ spares_set i.seats.items place new
 
   table_so : IsTable performs.after (spares_of k.seats.items) k.table
   table_so = subst (λ ks. IsTable performs.after ks k.table) (sym spares_so) performs.made.counted
@@ -226,9 +254,9 @@ module _ (j i k : Inside) (h : IsKept j) (mid : IsKept i) (number place : ℕ) (
   first_true true b e = refl
   first_true false b e = absurd (cc e)
 
-  spares_stay : slice_get (spares_of i.seats.items) place ≡ Some spare
+  spares_stay : slice_get (spares_of i.seats.items) place ≡ Some new.spare
       → spares_of k.seats.items ≡ spares_of i.seats.items
-  spares_stay same = spares_so ∙ put_again (spares_of i.seats.items) place spare same
+  spares_stay same = spares_so ∙ put_again (spares_of i.seats.items) place new.spare same
 
   pub committed_rest : i.table.inodes ≡ j.table.inodes → i.table.free ≡ j.table.free
       → spares_of i.seats.items ≡ spares_of j.seats.items → LeavesFree (book_of j) number slots (book_of k)
@@ -243,18 +271,18 @@ module _ (j i k : Inside) (h : IsKept j) (mid : IsKept i) (number place : ℕ) (
       made_so : has performs.after.nodes i.table.next ≡ true → would_make (shown w) walk.call ≡ true
       made_so made =
           ap (λ (v : World). would_make (shown v) walk.call) (sym ended)
-          ∙ would_have_made before performs.after number walk.call (next_number (world_of i)) _ k.table
+          ∙ would_have_made s performs.after number walk.call (next_number (world_of i)) _ k.table
           (ap (λ (p : Reply × State). p.1) steps_so) performs.made.counted
           (ap (has performs.after.nodes) (sym mid.table.next) ∙ made)
 
-      let_go_so : (x : ℕ) → has before.nodes x ≡ true → kind_of performs.after x ≡ None → TakesName walk.call
+      let_go_so : (x : ℕ) → has s.nodes x ≡ true → kind_of performs.after x ≡ None → TakesName walk.call
       let_go_so x there gone =
-          has_let_go before performs.after number walk.call (next_number (world_of i)) x
+          has_let_go s performs.after number walk.call (next_number (world_of i)) x
           (ap (λ (p : Reply × State). p.1) steps_so)
           (first_true (has_any (targets walk.call)) _ ((h.sound.valid number walk is).0.walked)) there gone
 
-      by : LeavesTable before performs.after (spares_of i.seats.items) place spare i.table k.table slots
-          → LeavesFree (book_of j) number slots (book_of k)
+      by : LeavesTable (scene_at i number place) performs.after (at_seat old i.table slots committed.before)
+          (at_seat new k.table slots lent) → LeavesFree (book_of j) number slots (book_of k)
       by (inl keeps) = inl (λ x. record {
         world = world_of k;
         inodes = (keeps.1.inodes ∙ inodes) x;
@@ -263,12 +291,12 @@ module _ (j i k : Inside) (h : IsKept j) (mid : IsKept i) (number place : ℕ) (
       })
       by (inr (inl takes)) = inr (inl (record {
         may = (walk, is, made_so takes.made);
-        slot = spare;
+        slot = new.spare;
         made = (λ x. has (shown_so x).nodes (next_is x)) ∙ takes.made;
         inodes = takes.inodes ∙ (λ x. slice_set (inodes x) (slice_index_or (spares x) (sym place_is x) 0)
             (sym next_is x));
         free = sym free ∙ takes.free;
-        spares = spares_so ∙ (λ x. slice_set (spares x) (sym place_is x) spare);
+        spares = spares_so ∙ (λ x. slice_set (spares x) (sym place_is x) new.spare);
       }))
       by (inr (inr gives)) =
           let back = gives.1 in

@@ -40,13 +40,12 @@ use Rattle.ll_answer.specs.Effect.{CanOpen, Fits, Holds, after, told}
 use Rattle.ll_answer.specs.Found.{there_in}
 use Rattle.ll_answer.specs.Lean.{spares_memory}
 use Rattle.ll_answer.specs.Near.{AreNear, IsNear, changed_inodes, inode_at, nodes_of, opened_inode, told_inodes}
-use Rattle.ll_held.specs.declared.held.Held.{Held}
-use Rattle.ll_inodes.specs.InodeTable.{Table}
-use Rattle.ll_changes.specs.Enacting.{Covers, Enacts, MayEnact}
+use Rattle.ll_changes.specs.Enacting.{Scene, InHand, Covers, Enacts, MayEnact}
 use Rattle.ll_changes.proofs.GivenSlots.{given_tree, held_there, kind_there, made_idle, some_there}
 use Rattle.ll_changes.proofs.StayingSlots.{directory_some, named_some}
 use Rattle.ll_worlds.specs.Walk.{is_in}
-use Rattle.ll_journal.specs.Performed.{IsAtEnd, Performs, lies_in}
+use Rattle.ll_journal.specs.declared.seat.Ended.{Ended}
+use Rattle.ll_journal.specs.Performed.{IsAtEnd, IsPerformed, lies_in}
 use Rattle.ll_journal.proofs.HeldReplies.{held_free, held_takes}
 
 masks_long : (masks inodes : List ℕ) (domain : List Layer) → AreMasks masks domain inodes → length masks ≡ length domain
@@ -119,10 +118,11 @@ named_there : (o : Option ℕ) → is_none o ≡ false → (x : ℕ) × (o ≡ S
 named_there None e = absurd (cc e)
 named_there (Some x) e = (x, refl)
 
-module _ {s : State} {number : ℕ} {marks : ℕ → Option ℕ} {spares : List ℕ} {place : ℕ} {c : ClientRecord} {spare : ℕ}
-    {table : Table} {slots : List ℕ} {lent : List Held}
-    {asked : Call} {first second : List ℕ} {found : Found}
-    (end : IsAtEnd s number marks spares place c spare table slots lent asked first second found) where
+module _ {scene : Scene} {hand : InHand} {walk : Ended} {found : Found} (end : IsAtEnd scene hand walk found) where
+  open scene use {state as s, number, spares}
+  open hand use {client as c, table}
+  open walk use {call as asked, first, second}
+
   pub client_is : client_of s number ≡ c
   client_is = ap (λ (o : Option ClientRecord). unwrap_or o new_client) end.given.client
 
@@ -135,11 +135,11 @@ module _ {s : State} {number : ℕ} {marks : ℕ → Option ℕ} {spares : List 
   -- ---- what is refused
 
   pub refused : (answer : Reply) → IsRefused s number asked answer
-      → Performs s number marks spares place table slots asked answer c spare table lent
+      → IsPerformed scene hand asked answer hand
   refused answer same = record {
     after = s;
     steps = λ fresh. sym (same fresh);
-    made = made_idle s number marks spares place c spare table slots lent end.given;
+    made = made_idle end.given;
   }
 
   -- a reply that holds bytes or names is no refusal
@@ -158,8 +158,7 @@ module _ {s : State} {number : ℕ} {marks : ℕ → Option ℕ} {spares : List 
   -- ---- which nodes are there
 
   held_some : (at : At) (x : ℕ) → Holds s at x → x ≢ 0
-  held_some at x holds = some_there s spares table end.given.counted x
-      (held_there s (given_tree s number marks spares place c spare table slots lent end.given) at x holds)
+  held_some at x holds = some_there s spares table end.given.counted x (held_there s (given_tree end.given) at x holds)
 
   opened_some : (o : Opening) (there : Option ℕ) → CanOpen s o there → opened_inode o.at there ≢ 0
   opened_some o None can = directory_some end.given o.at can.lacks.directory
@@ -196,17 +195,17 @@ module _ {s : State} {number : ℕ} {marks : ℕ → Option ℕ} {spares : List 
   -- ---- which nodes are lent
 
   near_lies : (i : ℕ) → list_any (λ j. j == i) (found.first.directory ∷ found.second.directory ∷ nodes_of asked found)
-      ≡ true → i ≢ 0 → lies_in table.inodes slots i
+      ≡ true → i ≢ 0 → lies_in hand i
   near_lies i any some = by (found.first.directory == i) (found.second.directory == i) refl refl any
     where
       by : (a b : Bool) → (found.first.directory == i) ≡ a → (found.second.directory == i) ≡ b
-          → (a || (b || is_in (nodes_of asked found) i)) ≡ true → lies_in table.inodes slots i
-      by true b e f g = subst (lies_in table.inodes slots) (eqb-true found.first.directory i e) end.old_lent
-      by false true e f g = subst (lies_in table.inodes slots) (eqb-true found.second.directory i f) end.new_lent
+          → (a || (b || is_in (nodes_of asked found) i)) ≡ true → lies_in hand i
+      by true b e f g = subst (lies_in hand) (eqb-true found.first.directory i e) end.old_lent
+      by false true e f g = subst (lies_in hand) (eqb-true found.second.directory i f) end.new_lent
       by false false e f g = end.nodes i g some
 
   all_lie : (inodes : List ℕ) → AreNear asked found inodes → AllByRecursion (λ i. i ≢ 0) inodes
-      → AllByRecursion (lies_in table.inodes slots) inodes
+      → AllByRecursion (lies_in hand) inodes
   all_lie [] near somes = tt
   all_lie (i ∷ is) near somes = (near_lies i near.0 somes.0, all_lie is near.1 somes.1)
 
@@ -216,23 +215,14 @@ module _ {s : State} {number : ℕ} {marks : ℕ → Option ℕ} {spares : List 
     fits : Fits s c effect.change
     fits = subst (λ (d : ClientRecord). Fits s d effect.change) client_is is.fits
 
-    covers : Covers table.inodes spare slots effect.change
+    covers : Covers hand effect.change
     covers = record {
       touched = all_lie (changed_inodes effect.change) near.changed (changed_some effect.change fits);
       new = λ makes. end.kept (near.made makes);
     }
 
-    pub may_enact : MayEnact effect.change slots c spare table lent
-    may_enact = record {
-      s = s;
-      number = number;
-      marks = marks;
-      spares = spares;
-      place = place;
-      given = end.given;
-      fits = fits;
-      covers = covers;
-    }
+    pub may_enact : MayEnact effect.change hand
+    may_enact = record { scene = scene; given = end.given; fits = fits; covers = covers }
 
     answered : (done s number (client_of s number) asked (first_path asked) (second_path asked) 0).0
         ≡ told s effect.answer
@@ -272,15 +262,13 @@ module _ {s : State} {number : ℕ} {marks : ℕ → Option ℕ} {spares : List 
         )
 
     -- and lent
-    pub told_lie : AllByRecursion (lies_in table.inodes slots) (told_inodes effect.answer)
+    pub told_lie : AllByRecursion (lies_in hand) (told_inodes effect.answer)
     told_lie = all_lie (told_inodes effect.answer) near.told told_some
 
-    pub performed : (answer : Reply) (c' : ClientRecord) (spare' : ℕ) (table' : Table) (lent' : List Held)
-        → answer ≡ told s effect.answer
-        → Enacts effect.change slots c spare table lent c' spare' table' lent'
-        → Performs s number marks spares place table slots asked answer c' spare' table' lent'
-    performed answer c' spare' table' lent' tells_so enacted = record {
+    pub performed : {new : InHand} (answer : Reply) → answer ≡ told s effect.answer → Enacts effect.change hand new
+        → IsPerformed scene hand asked answer new
+    performed answer tells_so enacted = record {
       after = after s number c effect.change;
       steps = λ fresh. is.done fresh ∙ (λ i. (sym tells_so i, after s number (client_is i) effect.change));
-      made = enacted s number marks spares place end.given fits covers;
+      made = enacted scene end.given fits covers;
     }

@@ -18,15 +18,15 @@ use Rattle.ll_seq.specs.Step.{step, client_of, first_or, refusals}
 use Rattle.ll_worlds.specs.Walk.{Walk}
 use Rattle.ll_worlds.specs.World.{World, is_full, next_number, overtaken, reply_to, shown, without_walk}
 use Rattle.ll_journal.specs.declared.journal.Journal.TheInside.{Inside}
-use Rattle.ll_journal.specs.Book.{Seat, Spares, mark_of, slot_of}
+use Rattle.ll_journal.specs.Book.{Seat, Spares, slot_of}
 use Rattle.ll_journal.specs.declared.progress.Ending.TheVariants.{Replied}
 use Rattle.ll_journal.specs.WalkEnds.{Ends}
 use Rattle.ll_journal.specs.Kept.{IsKept, book_of, spares_of, world_of}
-use Rattle.ll_journal.specs.Performed.{Performs}
+use Rattle.ll_journal.specs.Performed.{IsPerformed, at_seat}
 use Rattle.ll_journal.specs.Stopped.{IsBlockedEnd}
 use Rattle.ll_journal.proofs.AtAnswers.{spare_at}
-use Rattle.ll_journal.proofs.Committed.{committed_kept, committed_lent, committed_spares, committed_step, spares_set}
-use Rattle.ll_journal.proofs.Committed.{told_slots}
+use Rattle.ll_journal.proofs.Committed.{IsCommitted, committed_kept, committed_lent, committed_spares, committed_step}
+use Rattle.ll_journal.proofs.Committed.{scene_at, spares_set, told_slots}
 use Rattle.ll_journal.proofs.Overtaking.{overtaken_seats}
 use Rattle.ll_journal.proofs.Stepping.{entered, set_again, there}
 
@@ -101,8 +101,8 @@ module _ (i : Inside) (mid : IsKept i) (number place : ℕ) (seat : Seat) (at : 
   s = shown (world_of i)
 
   pub refusal : (call : Call) (one : ℕ) (errno : Errno) → (step s number call one).0 ≡ Refused errno
-      → Performs s number (mark_of (world_of i)) (spares_of i.seats.items) place i.table slots call (Refused errno)
-      seat.client seat.spare i.table lent
+      → IsPerformed (scene_at i number place) (at_seat seat i.table slots lent) call (Refused errno)
+      (at_seat seat i.table slots lent)
   refusal call one errno is = record {
     after = s;
     steps = refused_keeps s number call one errno is;
@@ -142,40 +142,44 @@ module _ (j i : Inside) (h : IsKept j) (mid : IsKept i) (number place : ℕ) (nu
   at : slice_get i.seats.items place ≡ Some seat
   at = (seat_there i.seats.items place within).1
 
-  room_then : is_full (world_of i) ≡ false
-  room_then = ap is_full ended ∙ room_left
-
-  performs : Performs (shown (world_of i)) number (mark_of (world_of i)) (spares_of i.seats.items) place i.table slots
-      blocked.walk.call (Refused errno) seat.client seat.spare i.table lent
-  performs =
-      refusal i mid number place seat at numbered slots lent told blocked.walk.call (next_number (world_of i)) errno
-      (ap (λ (v : World). reply_to v number blocked.walk.call) ended ∙ blocked.reply)
-
   history : log ≡ entered i number blocked.walk.call (Refused errno)
   history = pushed ∙ ap (λ c. entered i number c (Refused errno)) call_is
 
+  committed : IsCommitted j i refused_journal number place slots lent (Refused errno)
+  committed = record {
+    h = h;
+    mid = mid;
+    walk = blocked.walk;
+    is = blocked.ends.is;
+    may = blocked.ends.may;
+    ended = ended;
+    room_left = ap is_full ended ∙ room_left;
+    old = seat;
+    at = at;
+    numbered = numbered;
+    new = seat;
+    idle = refl;
+    before = lent;
+    performs =
+        refusal i mid number place seat at numbered slots lent told blocked.walk.call (next_number (world_of i)) errno
+        (ap (λ (v : World). reply_to v number blocked.walk.call) ended ∙ blocked.reply);
+    moved = [];
+    moves = refl;
+    seats = seats_as_were i.seats.items place seat at;
+    history = history;
+    rules = refl;
+    room = refl;
+    gate = refl;
+  }
+
   pub refused_kept : IsKept refused_journal
-  refused_kept =
-      committed_kept j i refused_journal h mid number place blocked.walk blocked.ends.is blocked.ends.may ended
-      room_then seat at numbered (Refused errno) seat.client seat.spare lent slots performs
-      seat refl refl refl [] refl (seats_as_were i.seats.items place seat at) history refl refl refl
+  refused_kept = committed_kept committed
 
   pub refused_does : Ends (book_of j) number (Replied (Refused errno)) (book_of refused_journal)
-  refused_does = (
-    room_left,
-    committed_step j i refused_journal h mid number place blocked.walk blocked.ends.is blocked.ends.may ended room_then
-        seat at numbered (Refused errno) seat.client seat.spare lent slots performs
-        seat refl refl refl [] refl (seats_as_were i.seats.items place seat at) history refl refl refl,
-  )
+  refused_does = (room_left, committed_step committed)
 
   pub refused_lent : lent ≡ map (slot_of (book_of refused_journal)) slots
-  refused_lent =
-      committed_lent j i refused_journal h mid number place blocked.walk blocked.ends.is blocked.ends.may ended
-      room_then seat at numbered (Refused errno) seat.client seat.spare lent slots performs
-      seat refl refl refl [] refl (seats_as_were i.seats.items place seat at) history refl refl refl
+  refused_lent = committed_lent committed
 
   pub refused_spares : Spares (book_of i) (book_of refused_journal) slots
-  refused_spares =
-      committed_spares j i refused_journal h mid number place blocked.walk blocked.ends.is blocked.ends.may ended
-      room_then seat at numbered (Refused errno) seat.client seat.spare lent slots performs
-      seat refl refl refl [] refl (seats_as_were i.seats.items place seat at) history refl refl refl
+  refused_spares = committed_spares committed

@@ -1,56 +1,68 @@
 -- A call at its walk's ends: what is given for it, and what comes of it. No public contract cites it. own
-use Rattle.std.specs.Prelude.{◌≡◌, ◌≢◌, ℕ, true, ◌==◌, List, [], Option, slice_index_or}
+use Rattle.std.specs.Prelude.{◌≡◌, ◌≢◌, ℕ, true, ◌==◌, List, [], Some, slice_index_or}
 use Rattle.std.specs.List.{list_any}
 use Rattle.ll_answer.specs.Found.{AreFacts}
 use Rattle.ll_answer.specs.Near.{nodes_of, may_make}
 use Rattle.ll_answer.specs.Passed.{has_path}
 use Rattle.ll_answer.specs.declared.found.Found.{Found}
-use Rattle.ll_changes.specs.Enacting.{IsGiven, IsMade}
+use Rattle.ll_changes.specs.Enacting.{Scene, InHand, IsGiven, IsMade, in_hand}
+use Rattle.ll_decide.specs.Masks.{AreMasks}
 use Rattle.ll_held.specs.declared.held.Held.{Held}
 use Rattle.ll_inodes.specs.InodeTable.{Table}
+use Rattle.ll_rules.specs.Layer.{Layer}
 use Rattle.ll_seq.specs.declared.call.Call.{Call}
-use Rattle.ll_seq.specs.declared.client.ClientRecord.{ClientRecord}
 use Rattle.ll_seq.specs.declared.reply.Reply.{Reply}
 use Rattle.ll_seq.specs.Call.{first_path, second_path}
 use Rattle.ll_seq.specs.State.{State}
 use Rattle.ll_seq.specs.Step.{step, refusals, client_of}
-use Rattle.ll_worlds.specs.Walk.{is_in}
 use Rattle.ll_seq.specs.Stages.{early_refusals}
+use Rattle.ll_worlds.specs.Commits.{first_end, second_end}
+use Rattle.ll_worlds.specs.Walk.{Leg, Walk, is_in}
+use Rattle.ll_journal.specs.declared.seat.Ended.{Ended}
+use Rattle.ll_journal.specs.Book.{Seat}
 use Rattle.ll_journal.specs.Decidings.{IsEndAt}
 
--- the inode lies in one of the slots
-abbrev pub lies_in : List ℕ → List ℕ → ℕ → Type 0
-lies_in inodes slots i = list_any (λ k. slice_index_or inodes k 0 == i) slots ≡ true
+-- what is left of the walk: its call, and what each layer grants where its branches stood
+pub record EndsAs (domain : List Layer) (walk : Walk) (ended : Ended) : Type 0 where
+  pub call : ended.call ≡ walk.call
+  pub first : (leg : Leg) → first_end walk.at ≡ Some leg → AreMasks ended.first domain leg.chain
+  pub second : (leg : Leg) → second_end walk.at ≡ Some leg → AreMasks ended.second domain leg.chain
 
--- A tree where this was found for the call of the client, whose walk has ended, and where the slots that are lent are
--- enough for it
-pub record IsAtEnd
-    (s : State) (number : ℕ) (marks : ℕ → Option ℕ) (spares : List ℕ) (place : ℕ)
-    (c : ClientRecord) (spare : ℕ) (table : Table) (slots : List ℕ) (lent : List Held)
-    (call : Call) (first second : List ℕ) (found : Found) : Type 0 where
-  pub given : IsGiven s number marks spares place c spare table slots lent
-  pub path : has_path call ≡ true
-  pub early : early_refusals c call ≡ []
-  pub facts : AreFacts s call found
-  pub old : IsEndAt s c.domain (first_path call) found.first first
-  pub new : IsEndAt s c.domain (second_path call) found.second second
-  pub old_lent : lies_in table.inodes slots found.first.directory
-  pub new_lent : lies_in table.inodes slots found.second.directory
-  pub nodes : (inode : ℕ) → is_in (nodes_of call found) inode ≡ true → inode ≢ 0 → lies_in table.inodes slots inode
-  pub kept : may_make call found ≡ true → is_in slots spare ≡ true
+-- what the client of the seat has in hand
+abbrev pub at_seat : Seat → Table → List ℕ → List Held → InHand
+at_seat seat table slots lent = in_hand seat.client seat.spare table slots lent
+
+-- the inode lies in one of the slots that are lent
+abbrev pub lies_in : InHand → ℕ → Type 0
+lies_in hand i = list_any (λ k. slice_index_or hand.table.inodes k 0 == i) hand.slots ≡ true
+
+-- A tree where this was found at the ends of the client's walk, and where the slots that are lent are enough for its
+-- call
+pub record IsAtEnd (scene : Scene) (hand : InHand) (walk : Ended) (found : Found) : Type 0 where
+  pub given : IsGiven scene hand
+  pub path : has_path walk.call ≡ true
+  pub early : early_refusals hand.client walk.call ≡ []
+  pub facts : AreFacts scene.state walk.call found
+  pub old : IsEndAt scene.state hand.client.domain (first_path walk.call) found.first walk.first
+  pub new : IsEndAt scene.state hand.client.domain (second_path walk.call) found.second walk.second
+  pub old_lent : lies_in hand found.first.directory
+  pub new_lent : lies_in hand found.second.directory
+  pub nodes : (inode : ℕ) → is_in (nodes_of walk.call found) inode ≡ true → inode ≢ 0 → lies_in hand inode
+  pub kept : may_make walk.call found ≡ true → is_in hand.slots hand.spare ≡ true
 
 -- nothing refuses the call, in whichever tree its walk has ended so
-abbrev pub IsFreeAtEnd : ClientRecord → ℕ → Table → List ℕ → List Held → Call → List ℕ → List ℕ → Found → Type 0
-IsFreeAtEnd c spare table slots lent call first second found =
-    (s : State) (number : ℕ) (marks : ℕ → Option ℕ) (spares : List ℕ) (place : ℕ)
-    → IsAtEnd s number marks spares place c spare table slots lent call first second found
-    → refusals s (client_of s number) call ≡ []
+abbrev pub IsFreeAtEnd : InHand → Ended → Found → Type 0
+IsFreeAtEnd hand walk found =
+    (scene : Scene) → IsAtEnd scene hand walk found
+    → refusals scene.state (client_of scene.state scene.number) walk.call ≡ []
 
 -- the reply is the step's, and the tree after it is made
-pub record Performs
-    (s : State) (number : ℕ) (marks : ℕ → Option ℕ) (spares : List ℕ) (place : ℕ)
-    (table : Table) (slots : List ℕ) (call : Call)
-    (reply : Reply) (c' : ClientRecord) (spare' : ℕ) (table' : Table) (lent' : List Held) : Type 0 where
+pub record IsPerformed (scene : Scene) (hand : InHand) (call : Call) (reply : Reply) (new : InHand) : Type 0 where
   pub after : State
-  pub steps : (fresh : ℕ) → ◌≡◌ {A = Reply × State} (step s number call fresh) (reply, after)
-  pub made : IsMade s after number marks spares place c' spare' table table' slots lent'
+  pub steps : (fresh : ℕ) → ◌≡◌ {A = Reply × State} (step scene.state scene.number call fresh) (reply, after)
+  pub made : IsMade scene after hand new
+
+-- so in each tree where its walk has ended so
+abbrev pub Performs : InHand → Ended → Found → Reply → InHand → Type 0
+Performs hand walk found reply new =
+    (scene : Scene) → IsAtEnd scene hand walk found → IsPerformed scene hand walk.call reply new

@@ -16,10 +16,9 @@ use ll_rights::Errno;
 use ll_seq::{Entry, Reply};
 
 impl Journal {
-    ghost use Rattle.ll_decide.specs.Masks.{AreMasks};
-    ghost use Rattle.ll_worlds.specs.Commits.{first_end, second_end};
     ghost use Rattle.ll_worlds.specs.World.{domain_of, without_walk};
     ghost use Rattle.ll_journal.specs.Book.{Spares, slot_of};
+    ghost use Rattle.ll_journal.specs.Performed.{EndsAs};
     ghost use Rattle.ll_inodes.specs.InodeTable.{AreDistinct};
     ghost use Rattle.ll_journal.specs.WalkEnds.{Ends, IsAstrayAtEnd, LeavesFree, MayTakeMemory, is_lent};
     ghost use Rattle.ll_journal.specs.Stopped.{IsBlockedEnd, IsReachedEnd, IsStop};
@@ -31,13 +30,8 @@ impl Journal {
         requires walk { (walk : walks.Walk) × (get self.old.world.walks client ≡ Some walk) }
         ensures world { self.new.world ≡ without_walk self.old.world client }
         ensures rest { self.new ≡ record self.old { world = self.new.world } }
-        ensures call { (walk : walks.Walk) → get self.old.world.walks client ≡ Some walk → result.call ≡ walk.call }
-        ensures first { (walk : walks.Walk) (leg : walks.Leg) → get self.old.world.walks client ≡ Some walk
-            → first_end walk.at ≡ Some leg
-            → AreMasks result.first (domain_of self.old.world client) leg.chain }
-        ensures second { (walk : walks.Walk) (leg : walks.Leg) → get self.old.world.walks client ≡ Some walk
-            → second_end walk.at ≡ Some leg
-            → AreMasks result.second (domain_of self.old.world client) leg.chain }
+        ensures ended { (walk : walks.Walk) → get self.old.world.walks client ≡ Some walk
+            → EndsAs (domain_of self.old.world client) walk result }
         ensures lent { (slots : List ℕ) → lent.old ≡ map (slot_of self.old) slots
             → lent.new ≡ map (slot_of self.new) slots }
         ensures spares { (slots : List ℕ) (walk : walks.Walk) → get self.old.world.walks client ≡ Some walk

@@ -17,7 +17,6 @@ mod needs;
 mod next;
 mod open_file;
 mod pair;
-mod perform;
 mod progress;
 mod seat;
 mod slots;

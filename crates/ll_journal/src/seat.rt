@@ -7,17 +7,17 @@ ghost use Rattle.ll_answer.specs.Lean.{spares_memory};
 ghost use Rattle.ll_decide.specs.Masks.{AreMasks};
 ghost use Rattle.ll_rights.specs.Map.{remove};
 ghost use Rattle.ll_seq.specs.Effects.{child_of};
-ghost use Rattle.ll_seq.specs.State.{State};
 ghost use Rattle.ll_worlds.specs.Commits.{first_end, second_end};
 ghost use Rattle.ll_worlds.specs.Walk as walks;
 ghost use Rattle.ll_worlds.specs.World.{is_alone, is_walked, overtaken};
 ghost use Rattle.ll_journal.specs.Stations.{station_of};
-ghost use Rattle.ll_journal.specs.Performed.{IsAtEnd, Performs, IsFreeAtEnd};
+ghost use Rattle.ll_changes.specs.Enacting.{Scene};
+ghost use Rattle.ll_journal.specs.Performed.{EndsAs, IsAtEnd, IsFreeAtEnd, Performs, at_seat};
 
 use crate::alone::{Own, RecordCall, answer, own_call};
+use crate::decide_end::{decide_end, tell};
 use crate::leg::{Leg, Legs};
 use crate::pair::ReplyPair;
-use crate::perform::perform;
 use crate::stage::{Stage, Turn, turn_of};
 use crate::station::{Station, split_station, trunk_station};
 use crate::walked::walks;
@@ -25,6 +25,7 @@ use crate::way::{
     first_path, has_two_paths, know_ways, next_name, second_path, trunk_len, way_len,
 };
 use ll_answer::Found;
+use ll_changes::enact;
 use ll_decide::Masks;
 use ll_held::Held;
 use ll_inodes::Inodes;
@@ -331,12 +332,7 @@ impl Seat {
     /// The walk ends.
     pub(crate) fn end(&mut self) -> Ended
         requires { (walk : walks.Walk) × (self.old.walk ≡ Some walk) }
-        ensures call { (walk : walks.Walk) → self.old.walk ≡ Some walk → result.call ≡ walk.call }
-        ensures first { (walk : walks.Walk) (leg : walks.Leg) → self.old.walk ≡ Some walk → first_end walk.at ≡ Some leg
-            → AreMasks result.first self.old.client.domain leg.chain }
-        ensures second { (walk : walks.Walk) (leg : walks.Leg) → self.old.walk ≡ Some walk
-            → second_end walk.at ≡ Some leg
-            → AreMasks result.second self.old.client.domain leg.chain }
+        ensures ended { (walk : walks.Walk) → self.old.walk ≡ Some walk → EndsAs self.old.client.domain walk result }
         ensures rest { self.new ≡ record self.old { walk = None } }
     {
         let Some(call) = self.call.take() else {
@@ -381,22 +377,24 @@ impl Seat {
         found: &Found,
     ) -> Result<ReplyPair, AllocError>
         requires idle { self.old.walk ≡ None }
-        requires end { (s : State) × (number : ℕ) × (marks : ℕ → Option ℕ) × (spares : List ℕ) × (place : ℕ)
-            × IsAtEnd s number marks spares place self.old.client self.old.spare table.old slots.now lent.old
-            walk.now.call walk.now.first walk.now.second found.now }
-        ensures ok { IfOk result (λ reply. (s : State) (number : ℕ) (marks : ℕ → Option ℕ) (spares : List ℕ) (place : ℕ)
-            → IsAtEnd s number marks spares place self.old.client self.old.spare table.old slots.now lent.old
-            walk.now.call walk.now.first walk.now.second found.now
-            → Performs s number marks spares place table.old slots.now walk.now.call reply self.new.client
-            self.new.spare table.new lent.new) }
+        requires end { (scene : Scene)
+            × IsAtEnd scene (at_seat self.old table.old slots.now lent.old) walk.now found.now }
+        ensures ok { IfOk result (λ reply. Performs (at_seat self.old table.old slots.now lent.old) walk.now found.now
+            reply (at_seat self.new table.new slots.now lent.new)) }
         ensures rest { self.new.walk ≡ None }
         ensures err { OnErr result ((self.new ≡ self.old) × (table.new ≡ table.old) × (lent.new ≡ lent.old)) }
         ensures starved { OnErr result
-            (IsFreeAtEnd self.old.client self.old.spare table.old slots.now lent.old walk.now.call walk.now.first
-            walk.now.second found.now) }
+            (IsFreeAtEnd (at_seat self.old table.old slots.now lent.old) walk.now found.now) }
         ensures calm { spares_memory walk.now.call ≡ true → is_ok result ≡ true }
     {
+        let effect = match decide_end(&self.client, walk, found) {
+            Err(reply) => return ReplyPair::new(alloc, reply),
+            Ok(effect) => effect,
+        };
+        let reply = tell(effect.answer, table, lent, alloc)?;
+        let told = ReplyPair::new(alloc, reply)?;
         let (client, spare) = (&mut self.client, &mut self.spare);
-        perform(alloc, client, spare, table, slots, lent, walk, found)
+        enact(alloc, client, spare, table, slots, lent, &effect.change)?;
+        Ok(told)
     }
 }

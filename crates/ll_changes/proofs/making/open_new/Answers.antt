@@ -2,7 +2,7 @@ use Rattle.ll_changes.proofs.OpenedSlots.{described, undescribed, may_make, cove
 use Rattle.ll_changes.proofs.making.open_new.Goals as goal
 
 pub make-requires : goal.make-requires
-make-requires c = (c.args.client.now, may_make c.args.opening.now _ _ _ _ _ c.requires.0 c.requires.1)
+make-requires c = (c.args.client.now, may_make c.args.opening.now c.requires.0 c.requires.1)
 
 pub returns-in-Err-clause-err : goal.returns-in-Err-clause-err
 returns-in-Err-clause-err c = (
@@ -16,20 +16,18 @@ returns-in-Err-clause-err c = (
 pub open-requires : goal.open-requires
 open-requires c =
     let may = c.requires.1 in
-    can_open may.s may.number may.marks may.spares may.place c.args.client.now c.args.spare.now c.args.table.now
-    c.args.slots.now c.args.lent.now may.given c.args.opening.now _ _ _
-    (c.in_default.ensures.ok c.args.client.now may.s may.number may.marks may.spares may.place may.given
-    (room_new may.s c.args.client.now c.args.opening.now c.requires.0 may.fits)
-    (covers_new c.args.opening.now c.requires.0 _ _ _ may.covers)) c.next-inode.result c.next-inode.ensures
+    let o = c.args.opening.now in
+    can_open may.given o
+    (c.in_default.ensures.ok c.args.client.now may.scene may.given
+    (room_new may.scene.state c.args.client.now o c.requires.0 may.fits) (covers_new o c.requires.0 may.covers))
+    c.next-inode.result c.next-inode.ensures
 
 pub returns-clause-ok : goal.returns-clause-ok
-returns-clause-ok c s number marks spares place given fits covers =
+returns-clause-ok c scene given fits covers =
     let o = c.args.opening.now in
-    opened_new s number marks spares place c.args.client.now c.args.spare.now c.args.table.now c.args.slots.now
-    c.args.lent.now given o _ c.make.new.table c.make.new.lent
-    (c.in_default.ensures.ok c.args.client.now s number marks spares place given
-    (room_new s c.args.client.now o c.requires.0 fits) (covers_new o c.requires.0 _ _ _ covers)) c.next-inode.result
-    c.next-inode.ensures
-    c.requires.0 fits _ c.open.new.self
+    opened_new given o
+    (c.in_default.ensures.ok c.args.client.now scene given
+    (room_new scene.state c.args.client.now o c.requires.0 fits) (covers_new o c.requires.0 covers))
+    c.next-inode.result c.next-inode.ensures c.requires.0 fits _ c.open.new.self
     (described c.args.client.now o c.next-inode.result c.descriptor.result _ c.descriptor.ensures
     c.in_ok-insert.ensures.ok) c.open.ensures.table c.open.ensures.inodes c.open.ensures.free

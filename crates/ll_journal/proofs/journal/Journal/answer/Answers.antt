@@ -1,4 +1,4 @@
-use Rattle.std.specs.Prelude.{◌≡◌, None, slice_set, refl, [], map}
+use Rattle.std.specs.Prelude.{◌≡◌, false, slice_set, refl, [], map}
 use Rattle.std.specs.Vec.{with_item}
 use Rattle.std.proofs.Common.{◌<◌, length, rules, ap, sym, subst, ◌∙◌, inl}
 use Rattle.std.proofs.lemmas.Bool.{leb-false}
@@ -15,14 +15,14 @@ use Rattle.ll_worlds.specs.World.{World, Replied, advance, is_full, moved_by, ne
 use Rattle.ll_worlds.specs.declared.step.Step.TheVariants.{Commit}
 use Rattle.ll_worlds.proofs.Tests.{or_false}
 use Rattle.ll_journal.specs.declared.journal.Journal.TheInside.{Inside}
-use Rattle.ll_journal.specs.Book.{Book, Spares, mark_of, slot_of}
+use Rattle.ll_journal.specs.Book.{Book, Spares, slot_of}
 use Rattle.ll_journal.specs.WalkEnds.{LeavesFree}
 use Rattle.ll_journal.specs.Decidings.{moved_list}
 use Rattle.ll_journal.specs.Kept.{book_of, spares_of, world_of}
-use Rattle.ll_journal.specs.Performed.{Performs}
+use Rattle.ll_journal.specs.Performed.{IsPerformed, at_seat}
 use Rattle.ll_journal.proofs.AtAnswers.{EndedSo, at_end, ended_so, seat_idle}
-use Rattle.ll_journal.proofs.Committed.{committed_kept, committed_lent, committed_rest, committed_spares}
-use Rattle.ll_journal.proofs.Committed.{committed_step, spares_both}
+use Rattle.ll_journal.proofs.Committed.{IsCommitted, committed_kept, committed_lent, committed_rest, committed_spares}
+use Rattle.ll_journal.proofs.Committed.{committed_step, scene_at, spares_both}
 use Rattle.ll_journal.proofs.DecidedCalls.{no_zero}
 use Rattle.ll_journal.proofs.Ended.{commit_gives_up}
 use Rattle.ll_journal.proofs.EndedWalks.{place_within}
@@ -42,54 +42,36 @@ returns-then-is_full-clause-does c =
 
 ended : (c : goal.After-walk-1)
     → EndedSo c.self.inside c.self-2.inside c.args.client c.args.place c.args.slots.now c.args.found.now
-    c.end_walk-walk.result.call c.end_walk-walk.result.first c.end_walk-walk.result.second c.end_walk-walk.new.lent
-    c.index_mut-seat.result.now
+    c.end_walk-walk.result c.end_walk-walk.new.lent c.index_mut-seat.result.now
 ended c =
     ended_so c.self.inside c.self-2.inside c.args.self.now c.end_walk-walk.new.self c.self.view_is c.self-2.view_is
     c.args.client c.args.place c.args.slots.now c.args.found.now c.requires.reached
-    c.end_walk-walk.ensures.world c.end_walk-walk.ensures.rest c.end_walk-walk.result.call c.end_walk-walk.result.first
-    c.end_walk-walk.result.second c.end_walk-walk.ensures.call c.end_walk-walk.ensures.first
-    c.end_walk-walk.ensures.second
+    c.end_walk-walk.ensures.world c.end_walk-walk.ensures.rest c.end_walk-walk.result c.end_walk-walk.ensures.ended
     c.args.lent.now c.end_walk-walk.new.lent c.requires.lent c.end_walk-walk.ensures.lent c.index_mut-seat.result.now
     c.requires.place c.requires.numbered c.index_mut-seat.ensures.value
 
+room_left : (c : goal.After-walk-1) → is_full (world_of c.self-2.inside) ≡ false
+room_left c = ap is_full (ended c).world ∙ sym c.is_full-is_full.ensures ∙ c.if-is_full.false
+
 pub perform-requires-clause-idle : goal.perform-requires-clause-idle
 perform-requires-clause-idle c =
-    seat_idle c.self.inside c.self-2.inside c.self.invariant c.self-2.invariant c.args.client c.args.place
-    c.args.slots.now c.requires.distinct c.args.found.now (ended c).reached (ended c).world (ended c).inodes
-    (ended c).spares
-    c.end_walk-walk.result.call (ended c).call_is c.end_walk-walk.result.first c.end_walk-walk.result.second
-    (ended c).first_masks (ended c).second_masks c.end_walk-walk.new.lent (ended c).told (ap is_full (ended c).world
-    ∙ sym c.is_full-is_full.ensures ∙ c.if-is_full.false) c.index_mut-seat.result.now (ended c).at
-    c.requires.numbered
+    seat_idle c.self.invariant c.self-2.invariant c.requires.numbered c.requires.distinct (ended c) (room_left c)
 
 pub perform-requires-clause-end : goal.perform-requires-clause-end
 perform-requires-clause-end c = (
-  shown (world_of c.self-2.inside),
-  c.args.client,
-  mark_of (world_of c.self-2.inside),
-  spares_of c.self-2.inside.seats.items,
-  c.args.place,
-  at_end c.self.inside c.self-2.inside c.self.invariant c.self-2.invariant c.args.client c.args.place c.args.slots.now
-      c.requires.distinct c.args.found.now (ended c).reached (ended c).world (ended c).inodes (ended c).spares
-      c.end_walk-walk.result.call (ended c).call_is c.end_walk-walk.result.first c.end_walk-walk.result.second
-      (ended c).first_masks (ended c).second_masks c.end_walk-walk.new.lent (ended c).told
-      (ap is_full (ended c).world ∙ sym c.is_full-is_full.ensures ∙ c.if-is_full.false) c.index_mut-seat.result.now
-      (ended c).at c.requires.numbered,
+  scene_at c.self-2.inside c.args.client c.args.place,
+  at_end c.self.invariant c.self-2.invariant c.requires.numbered c.requires.distinct (ended c) (room_left c),
 )
 
 -- ---- memory ran out
 
 ended_starved : (c : goal.After-drop-in_default)
     → EndedSo c.self.inside c.self-2.inside c.args.client c.args.place c.args.slots.now c.args.found.now
-    c.end_walk-walk.result.call c.end_walk-walk.result.first c.end_walk-walk.result.second c.end_walk-walk.new.lent
-    c.index_mut-seat.result.now
+    c.end_walk-walk.result c.end_walk-walk.new.lent c.index_mut-seat.result.now
 ended_starved c =
     ended_so c.self.inside c.self-2.inside c.args.self.now c.end_walk-walk.new.self c.self.view_is c.self-2.view_is
     c.args.client c.args.place c.args.slots.now c.args.found.now c.requires.reached
-    c.end_walk-walk.ensures.world c.end_walk-walk.ensures.rest c.end_walk-walk.result.call c.end_walk-walk.result.first
-    c.end_walk-walk.result.second c.end_walk-walk.ensures.call c.end_walk-walk.ensures.first
-    c.end_walk-walk.ensures.second
+    c.end_walk-walk.ensures.world c.end_walk-walk.ensures.rest c.end_walk-walk.result c.end_walk-walk.ensures.ended
     c.args.lent.now c.end_walk-walk.new.lent c.requires.lent c.end_walk-walk.ensures.lent c.index_mut-seat.result.now
     c.requires.place c.requires.numbered c.index_mut-seat.ensures.value
 
@@ -114,15 +96,11 @@ free_then c =
     let e = ended_starved c in
     let tree : shown (world_of c.self-2.inside) ≡ shown c.args.self.now.world =
     ap shown (ap (λ (b : Book). b.world) c.self-2.view_is ∙ c.end_walk-walk.ensures.world) in
-    subst (λ (p : State × Call). refusals p.0 (client_of p.0 c.args.client) p.1 ≡ [])
-    (λ i. (tree i, c.end_walk-walk.ensures.call c.requires.reached.walk c.requires.reached.ends.is i))
-    (c.in_default.ensures.starved (shown (world_of c.self-2.inside)) c.args.client (mark_of (world_of c.self-2.inside))
-    (spares_of c.self-2.inside.seats.items) c.args.place
-    (at_end c.self.inside c.self-2.inside c.self.invariant c.self-2.invariant c.args.client c.args.place
-    c.args.slots.now c.requires.distinct c.args.found.now e.reached e.world e.inodes e.spares
-    c.end_walk-walk.result.call e.call_is c.end_walk-walk.result.first c.end_walk-walk.result.second e.first_masks
-    e.second_masks c.end_walk-walk.new.lent e.told (ap is_full e.world ∙ sym c.is_full-is_full.ensures
-    ∙ c.if-is_full.false) c.index_mut-seat.result.now e.at c.requires.numbered))
+    let call = (c.end_walk-walk.ensures.ended c.requires.reached.walk c.requires.reached.ends.is).call in
+    subst (λ (p : State × Call). refusals p.0 (client_of p.0 c.args.client) p.1 ≡ []) (λ i. (tree i, call i))
+    (c.in_default.ensures.starved (scene_at c.self-2.inside c.args.client c.args.place)
+    (at_end c.self.invariant c.self-2.invariant c.requires.numbered c.requires.distinct e
+    (ap is_full e.world ∙ sym c.is_full-is_full.ensures ∙ c.if-is_full.false)))
 
 pub returns-in_default-clause-does : goal.returns-in_default-clause-does
 returns-in_default-clause-does c =
@@ -154,14 +132,11 @@ returns-in_default-clause-spares c =
 
 ended_then : (c : goal.Joined-walk-2)
     → EndedSo c.self.inside c.self-2.inside c.args.client c.args.place c.args.slots.now c.args.found.now
-    c.end_walk-walk.result.call c.end_walk-walk.result.first c.end_walk-walk.result.second c.end_walk-walk.new.lent
-    c.index_mut-seat.result.now
+    c.end_walk-walk.result c.end_walk-walk.new.lent c.index_mut-seat.result.now
 ended_then c =
     ended_so c.self.inside c.self-2.inside c.args.self.now c.end_walk-walk.new.self c.self.view_is c.self-2.view_is
     c.args.client c.args.place c.args.slots.now c.args.found.now c.requires.reached
-    c.end_walk-walk.ensures.world c.end_walk-walk.ensures.rest c.end_walk-walk.result.call c.end_walk-walk.result.first
-    c.end_walk-walk.result.second c.end_walk-walk.ensures.call c.end_walk-walk.ensures.first
-    c.end_walk-walk.ensures.second
+    c.end_walk-walk.ensures.world c.end_walk-walk.ensures.rest c.end_walk-walk.result c.end_walk-walk.ensures.ended
     c.args.lent.now c.end_walk-walk.new.lent c.requires.lent c.end_walk-walk.ensures.lent c.index_mut-seat.result.now
     c.requires.place c.requires.numbered c.index_mut-seat.ensures.value
 
@@ -172,25 +147,23 @@ after c = record c.self-2.inside
 abbrev walk_then : goal.Joined-walk-2 → Walk
 walk_then c = (ended_then c).reached.walk
 
+call_is : (c : goal.Joined-walk-2) → c.end_walk-walk.result.call ≡ (walk_then c).call
+call_is c = (ended_then c).left.call
+
+room_then : (c : goal.Joined-walk-2) → is_full (world_of c.self-2.inside) ≡ false
+room_then c = ap is_full (ended_then c).world ∙ sym c.is_full-is_full.ensures ∙ c.if-is_full.false
+
 performs : (c : goal.Joined-walk-2)
-    → Performs (shown (world_of c.self-2.inside)) c.args.client (mark_of (world_of c.self-2.inside))
-    (spares_of c.self-2.inside.seats.items) c.args.place c.self-2.inside.table c.args.slots.now (walk_then c).call
-    c.in-Ok.told c.perform.new.self.client c.perform.new.self.spare c.perform.new.table c.perform.new.lent
+    → IsPerformed (scene_at c.self-2.inside c.args.client c.args.place)
+    (at_seat c.index_mut-seat.result.now c.self-2.inside.table c.args.slots.now c.end_walk-walk.new.lent)
+    (walk_then c).call c.in-Ok.told
+    (at_seat c.perform.new.self c.perform.new.table c.args.slots.now c.perform.new.lent)
 performs c =
-    subst (λ (call : Call). Performs (shown (world_of c.self-2.inside)) c.args.client
-    (mark_of (world_of c.self-2.inside)) (spares_of c.self-2.inside.seats.items) c.args.place c.self-2.inside.table
-    c.args.slots.now call
-    c.in-Ok.told c.perform.new.self.client c.perform.new.self.spare c.perform.new.table c.perform.new.lent)
-    (ended_then c).call_is
-    (c.in-Ok.ensures.ok (shown (world_of c.self-2.inside)) c.args.client (mark_of (world_of c.self-2.inside))
-    (spares_of c.self-2.inside.seats.items) c.args.place
-    (at_end c.self.inside c.self-2.inside c.self.invariant c.self-2.invariant c.args.client c.args.place
-    c.args.slots.now c.requires.distinct c.args.found.now (ended_then c).reached (ended_then c).world
-    (ended_then c).inodes (ended_then c).spares
-    c.end_walk-walk.result.call (ended_then c).call_is c.end_walk-walk.result.first c.end_walk-walk.result.second
-    (ended_then c).first_masks (ended_then c).second_masks c.end_walk-walk.new.lent (ended_then c).told
-    (ap is_full (ended_then c).world ∙ sym c.is_full-is_full.ensures ∙ c.if-is_full.false)
-    c.index_mut-seat.result.now (ended_then c).at c.requires.numbered))
+    subst (λ (call : Call). IsPerformed (scene_at c.self-2.inside c.args.client c.args.place)
+    (at_seat c.index_mut-seat.result.now c.self-2.inside.table c.args.slots.now c.end_walk-walk.new.lent) call
+    c.in-Ok.told (at_seat c.perform.new.self c.perform.new.table c.args.slots.now c.perform.new.lent)) (call_is c)
+    (c.in-Ok.ensures.ok (scene_at c.self-2.inside c.args.client c.args.place)
+    (at_end c.self.invariant c.self-2.invariant c.requires.numbered c.requires.distinct (ended_then c) (room_then c)))
 
 moves : (c : goal.Joined-walk-2)
     → moved_list c.moved_by.result ≡ moved_by (shown (world_of c.self-2.inside)) (walk_then c).call c.in-Ok.told
@@ -198,62 +171,60 @@ moves c =
     let r = (ended_then c).reached in
     let tree : shown (world_of c.self-2.inside) ≡ shown (world_of c.self.inside) = ap shown (ended_then c).world in
     c.moved_by.ensures (shown (world_of c.self-2.inside))
-    (subst (λ (p : State × Call). AreFacts p.0 p.1 c.args.found.now) (λ i. (sym tree i, sym (ended_then c).call_is i))
+    (subst (λ (p : State × Call). AreFacts p.0 p.1 c.args.found.now) (λ i. (sym tree i, sym (call_is c) i))
     r.facts) r.old.way r.new.way
     (no_zero (shown (world_of c.self-2.inside)) (spares_of c.self-2.inside.seats.items) c.self-2.inside.table
     c.self-2.invariant.table)
     ∙ ap (moved_by (shown (world_of c.self-2.inside)) c.end_walk-walk.result.call) c.split-reply.ensures.entry
-    ∙ ap (λ (call : Call). moved_by (shown (world_of c.self-2.inside)) call c.in-Ok.told) (ended_then c).call_is
+    ∙ ap (λ (call : Call). moved_by (shown (world_of c.self-2.inside)) call c.in-Ok.told) (call_is c)
 
 entry_is : (c : goal.Joined-walk-2)
     → c.push.new.self ≡ entered c.self-2.inside c.args.client (walk_then c).call c.in-Ok.told
 entry_is c =
     c.push.ensures ∙ ap (entered c.self-2.inside c.args.client c.end_walk-walk.result.call) c.split-reply.ensures.entry
-    ∙ ap (λ (call : Call). entered c.self-2.inside c.args.client call c.in-Ok.told) (ended_then c).call_is
+    ∙ ap (λ (call : Call). entered c.self-2.inside c.args.client call c.in-Ok.told) (call_is c)
 
-idle_then : (c : goal.Joined-walk-2) → c.index_mut-seat.result.now.walk ≡ None
-idle_then c =
-    seat_idle c.self.inside c.self-2.inside c.self.invariant c.self-2.invariant c.args.client c.args.place
-    c.args.slots.now c.requires.distinct c.args.found.now (ended_then c).reached (ended_then c).world
-    (ended_then c).inodes (ended_then c).spares
-    c.end_walk-walk.result.call (ended_then c).call_is c.end_walk-walk.result.first c.end_walk-walk.result.second
-    (ended_then c).first_masks (ended_then c).second_masks c.end_walk-walk.new.lent (ended_then c).told
-    (ap is_full (ended_then c).world ∙ sym c.is_full-is_full.ensures ∙ c.if-is_full.false)
-    c.index_mut-seat.result.now (ended_then c).at c.requires.numbered
+committed : (c : goal.Joined-walk-2)
+    → IsCommitted c.self.inside c.self-2.inside (after c) c.args.client c.args.place c.args.slots.now
+    c.perform.new.lent c.in-Ok.told
+committed c = record {
+  h = c.self.invariant;
+  mid = c.self-2.invariant;
+  walk = walk_then c;
+  is = (ended_then c).reached.ends.is;
+  may = (ended_then c).reached.ends.may;
+  ended = (ended_then c).world;
+  room_left = room_then c;
+  old = c.index_mut-seat.result.now;
+  at = (ended_then c).at;
+  numbered = c.requires.numbered;
+  new = c.perform.new.self;
+  idle = c.in-Ok.ensures.rest
+      ∙ sym (seat_idle c.self.invariant c.self-2.invariant c.requires.numbered c.requires.distinct (ended_then c)
+      (room_then c));
+  before = c.end_walk-walk.new.lent;
+  performs = performs c;
+  moved = moved_list c.moved_by.result;
+  moves = moves c;
+  seats = c.overtake_moved.ensures;
+  history = entry_is c;
+  rules = refl;
+  room = refl;
+  gate = refl;
+}
 
 pub invariant_of-self-2 : goal.invariant_of-self-2
-invariant_of-self-2 c =
-    committed_kept c.self.inside c.self-2.inside (after c) c.self.invariant c.self-2.invariant c.args.client
-    c.args.place (walk_then c) (ended_then c).reached.ends.is (ended_then c).reached.ends.may
-    (ended_then c).world (ap is_full (ended_then c).world ∙ sym c.is_full-is_full.ensures ∙ c.if-is_full.false)
-    c.index_mut-seat.result.now (ended_then c).at c.requires.numbered c.in-Ok.told c.perform.new.self.client
-    c.perform.new.self.spare c.perform.new.lent c.args.slots.now (performs c)
-    c.perform.new.self refl refl (c.in-Ok.ensures.rest ∙ sym (idle_then c)) (moved_list c.moved_by.result) (moves c)
-    c.overtake_moved.ensures (entry_is c) refl refl refl
+invariant_of-self-2 c = committed_kept (committed c)
 
 pub returns-clause-does : goal.returns-clause-does
 returns-clause-does c = (
   ap (λ (b : Book). is_full b.world) (sym c.self.view_is) ∙ sym c.is_full-is_full.ensures ∙ c.if-is_full.false,
   subst (λ (p : Book × Reply). advance p.0.world (Commit c.args.client) ≡ (Replied p.1, world_of (after c)))
-      (λ i. (c.self.view_is i, sym c.split-reply.ensures.caller i))
-      (committed_step c.self.inside c.self-2.inside (after c) c.self.invariant c.self-2.invariant c.args.client
-      c.args.place (walk_then c) (ended_then c).reached.ends.is (ended_then c).reached.ends.may
-      (ended_then c).world (ap is_full (ended_then c).world ∙ sym c.is_full-is_full.ensures ∙ c.if-is_full.false)
-      c.index_mut-seat.result.now (ended_then c).at c.requires.numbered c.in-Ok.told c.perform.new.self.client
-      c.perform.new.self.spare c.perform.new.lent c.args.slots.now (performs c)
-      c.perform.new.self refl refl (c.in-Ok.ensures.rest ∙ sym (idle_then c)) (moved_list c.moved_by.result) (moves c)
-      c.overtake_moved.ensures (entry_is c) refl refl refl),
+      (λ i. (c.self.view_is i, sym c.split-reply.ensures.caller i)) (committed_step (committed c)),
 )
 
 pub returns-clause-lent : goal.returns-clause-lent
-returns-clause-lent c =
-    committed_lent c.self.inside c.self-2.inside (after c) c.self.invariant c.self-2.invariant c.args.client
-    c.args.place (walk_then c) (ended_then c).reached.ends.is (ended_then c).reached.ends.may
-    (ended_then c).world (ap is_full (ended_then c).world ∙ sym c.is_full-is_full.ensures ∙ c.if-is_full.false)
-    c.index_mut-seat.result.now (ended_then c).at c.requires.numbered c.in-Ok.told c.perform.new.self.client
-    c.perform.new.self.spare c.perform.new.lent c.args.slots.now (performs c)
-    c.perform.new.self refl refl (c.in-Ok.ensures.rest ∙ sym (idle_then c)) (moved_list c.moved_by.result) (moves c)
-    c.overtake_moved.ensures (entry_is c) refl refl refl
+returns-clause-lent c = committed_lent (committed c)
 
 pub returns-clause-spares : goal.returns-clause-spares
 returns-clause-spares c =
@@ -261,13 +232,7 @@ returns-clause-spares c =
     spares_both c.args.self.now c.end_walk-walk.new.self (book_of (after c)) c.args.slots.now
     (c.end_walk-walk.ensures.spares c.args.slots.now r.walk r.ends.is r.ends.marked)
     (subst (λ (b : Book). Spares b (book_of (after c)) c.args.slots.now) c.self-2.view_is
-    (committed_spares c.self.inside c.self-2.inside (after c) c.self.invariant c.self-2.invariant c.args.client
-    c.args.place (walk_then c) (ended_then c).reached.ends.is (ended_then c).reached.ends.may
-    (ended_then c).world (ap is_full (ended_then c).world ∙ sym c.is_full-is_full.ensures ∙ c.if-is_full.false)
-    c.index_mut-seat.result.now (ended_then c).at c.requires.numbered c.in-Ok.told c.perform.new.self.client
-    c.perform.new.self.spare c.perform.new.lent c.args.slots.now (performs c)
-    c.perform.new.self refl refl (c.in-Ok.ensures.rest ∙ sym (idle_then c)) (moved_list c.moved_by.result) (moves c)
-    c.overtake_moved.ensures (entry_is c) refl refl refl))
+    (committed_spares (committed c)))
 
 pub returns-in_default-clause-rest : goal.returns-in_default-clause-rest
 returns-in_default-clause-rest c =
@@ -277,14 +242,8 @@ returns-in_default-clause-rest c =
 pub returns-clause-rest : goal.returns-clause-rest
 returns-clause-rest c =
     subst (λ (b : Book). LeavesFree b c.args.client c.args.slots.now (book_of (after c))) c.self.view_is
-    (committed_rest c.self.inside c.self-2.inside (after c) c.self.invariant c.self-2.invariant c.args.client
-    c.args.place (walk_then c) (ended_then c).reached.ends.is (ended_then c).reached.ends.may
-    (ended_then c).world (ap is_full (ended_then c).world ∙ sym c.is_full-is_full.ensures ∙ c.if-is_full.false)
-    c.index_mut-seat.result.now (ended_then c).at c.requires.numbered c.in-Ok.told c.perform.new.self.client
-    c.perform.new.self.spare c.perform.new.lent c.args.slots.now (performs c)
-    c.perform.new.self refl refl (c.in-Ok.ensures.rest ∙ sym (idle_then c)) (moved_list c.moved_by.result) (moves c)
-    c.overtake_moved.ensures (entry_is c) refl refl refl
-    (ended_then c).inodes (ap (λ (b : Book). b.free) (c.self-2.view_is ∙ c.end_walk-walk.ensures.rest)
+    (committed_rest (committed c) (ended_then c).inodes
+    (ap (λ (b : Book). b.free) (c.self-2.view_is ∙ c.end_walk-walk.ensures.rest)
     ∙ ap (λ (b : Book). b.free) (sym c.self.view_is)) (ended_then c).spares)
 
 -- ---- what is plain
@@ -322,7 +281,8 @@ returns-in_default-clause-calm c e =
       r.walk,
       r.ends.is,
       or_false (spares_memory r.walk.call)
-          (λ h. cc (c.in_default.ensures.calm (ap spares_memory (c.end_walk-walk.ensures.call r.walk r.ends.is) ∙ h))),
+          (λ h. cc (c.in_default.ensures.calm
+          (ap spares_memory (c.end_walk-walk.ensures.ended r.walk r.ends.is).call ∙ h))),
     )
 
 pub returns-clause-calm : goal.returns-clause-calm

@@ -1,12 +1,12 @@
 use Rattle.std.proofs.Common.{rules, ◌≡◌, ◌<◌, ℕ, List, Some, length, map, ap, refl, sym, subst, ◌∙◌, true}
 use Rattle.std.specs.Prelude.{slice_get, slice_set}
 use Rattle.ll_rights.specs.Map.{get}
-use Rattle.ll_decide.specs.Masks.{AreMasks}
 use Rattle.ll_held.specs.Lent.{unmarked}
 use Rattle.ll_rules.specs.Layer.{Layer}
 use Rattle.ll_worlds.specs.Walk as walks
 use Rattle.ll_worlds.specs.World.{domain_of, without_walk}
 use Rattle.ll_journal.specs.Book.{Book, Seat, slot_of}
+use Rattle.ll_journal.specs.Performed.{EndsAs}
 use Rattle.ll_journal.specs.WalkEnds.{is_lent}
 use Rattle.ll_journal.specs.Kept.{book_of, spares_of, world_of}
 use Rattle.ll_journal.proofs.EndedWalks.{domain_is, ended_book, ended_slots, ended_sound, ended_spares, ended_world}
@@ -81,18 +81,10 @@ domain_then c =
     sym (domain_is c.self.inside c.self.invariant c.args.client c.args.place c.index_mut-seat.result.now (at_end c)
     c.requires.numbered) ∙ ap (λ (b : Book). domain_of b.world c.args.client) c.self.view_is
 
-pub returns-clause-call : goal.returns-clause-call
-returns-clause-call c = λ walk is. c.end-walk.ensures.call walk (in_seat c walk is)
-
-pub returns-clause-first : goal.returns-clause-first
-returns-clause-first c = λ walk leg is end.
-    subst (λ (ls : List Layer). AreMasks c.end-walk.result.first ls leg.chain) (domain_then c)
-    (c.end-walk.ensures.first walk leg (in_seat c walk is) end)
-
-pub returns-clause-second : goal.returns-clause-second
-returns-clause-second c = λ walk leg is end.
-    subst (λ (ls : List Layer). AreMasks c.end-walk.result.second ls leg.chain) (domain_then c)
-    (c.end-walk.ensures.second walk leg (in_seat c walk is) end)
+pub returns-clause-ended : goal.returns-clause-ended
+returns-clause-ended c = λ walk is.
+    subst (λ (ls : List Layer). EndsAs ls walk c.end-walk.result) (domain_then c)
+    (c.end-walk.ensures.ended walk (in_seat c walk is))
 
 pub returns-clause-lent : goal.returns-clause-lent
 returns-clause-lent c = λ slots lent.

@@ -50,8 +50,8 @@ module _ (c : goal.Joined-walk-2) where
   room_left = sym c.is_full-is_full.ensures ∙ c.if-is_full.false
 
   call_is : c.end_walk-walk.result.call ≡ blocked.walk.call
-  call_is = c.end_walk-walk.ensures.call blocked.walk
-      (ap (λ (b : Book). get b.world.walks c.args.client) (sym c.self.view_is) ∙ blocked.ends.is)
+  call_is = (c.end_walk-walk.ensures.ended blocked.walk
+      (ap (λ (b : Book). get b.world.walks c.args.client) (sym c.self.view_is) ∙ blocked.ends.is)).call
 
 pub invariant_of-self : goal.invariant_of-self
 invariant_of-self c =
