@@ -39,6 +39,7 @@ use Rattle.ll_journal.specs.WalkEnds.{is_lent, spare_of}
 use Rattle.ll_journal.specs.Kept.{IsKept, world_of, book_of, spares_of}
 use Rattle.ll_journal.specs.Performed.{IsAtEnd, lies_in}
 use Rattle.ll_journal.specs.Stopped.{IsEndOf, IsReachedEnd}
+use Rattle.ll_journal.proofs.Begun.{names_one}
 use Rattle.ll_journal.proofs.Committed.{told_slots}
 use Rattle.ll_journal.proofs.Ended.{removed}
 use Rattle.ll_journal.proofs.Entering.{walk_here}
@@ -46,30 +47,6 @@ use Rattle.ll_journal.proofs.MarkOf.{mark_none, whose_mark}
 use Rattle.ll_journal.proofs.Starting.{at_place}
 use Rattle.ll_journal.proofs.Stepping.{there}
 use Rattle.ll_journal.proofs.ClientTables.{many_spares}
-
--- a call with a target names a path
-names_path : (call : Call) → has_any (targets call) ≡ true → has_path call ≡ true
-names_path (Make kind t) e = refl
-names_path (Open mode t) e = refl
-names_path (Read fd offset count) e = absurd (cc e)
-names_path (Write fd offset bytes) e = absurd (cc e)
-names_path (Ftruncate fd size) e = absurd (cc e)
-names_path (Close fd) e = absurd (cc e)
-names_path (Truncate t size) e = refl
-names_path (ReadDir t) e = refl
-names_path (Stat t) e = refl
-names_path (Exec t) e = refl
-names_path (Unlink t) e = refl
-names_path (Rmdir t) e = refl
-names_path (Rename o n) e = refl
-names_path (RenameNoreplace o n) e = refl
-names_path (Exchange o n) e = refl
-names_path (Link o n) e = refl
-names_path (Ruleset rights) e = absurd (cc e)
-names_path (Allow rs t rights) e = refl
-names_path (Confine rs) e = absurd (cc e)
-names_path Spawn e = absurd (cc e)
-names_path Connect e = absurd (cc e)
 
 left_true : (a b : Bool) → (a && b) ≡ true → a ≡ true
 left_true true b e = refl
@@ -217,7 +194,7 @@ module _ (j i : Inside) (h : IsKept j) (mid : IsKept i) (number place : ℕ) (sl
       walked).1)
 
   path : has_path r.walk.call ≡ true
-  path = names_path r.walk.call
+  path = names_one r.walk.call
       (left_true (has_any (targets r.walk.call)) _ ((h.sound.valid number r.walk r.ends.is).0.walked))
 
   pub at_end : IsAtEnd (shown (world_of i)) number (mark_of (world_of i)) (spares_of i.seats.items) place seat.client

@@ -4,7 +4,7 @@ use Rattle.ll_decide.specs.Masks.{AreMasks}
 use Rattle.ll_seq.specs.State.{child, root}
 use Rattle.ll_seq.specs.Tree.{named, ancestors}
 use Rattle.ll_seq.specs.Stages.{in_the_way, no_directory, kind_of_child}
-use Rattle.ll_plain.proofs.LongerPaths.{alone, beneath, block, end_push, chain_push, way_push, no_more}
+use Rattle.ll_answer.proofs.LongerPaths.{alone, beneath, block, end_push, chain_push, way_push, no_more}
 use Rattle.ll_plain.proofs.Plain.step.Goals as goal
 
 pub returns-in_default : goal.returns-in_default
@@ -32,7 +32,7 @@ returns c names walk =
       end = c.child-end.ensures ∙ sym (end_push s name names root ∙ ap (beneath s name) there);
       way = c.first.ensures (in_the_way s names root)
           (no_directory (kind_of_child s (child s c.in-Some.directory name))) walk.way
-          (c.in_the_way.ensures ∙ ap (λ o. slice_get (no_directory (kind_of_child s o)) 0) c.child-end.ensures)
+          (λ open. c.in_the_way.ensures ∙ ap (λ o. slice_get (no_directory (kind_of_child s o)) 0) c.child-end.ensures)
           ∙ ap (λ l. slice_get l 0) (sym (way_push s name names root
           ∙ ap (λ e. in_the_way s names root ++ block s name e) there));
       masks = subst (AreMasks c.granted_at.result c.args.domain.now)
