@@ -20,7 +20,7 @@ use Rattle.ll_client.specs.Entries.{Knows, doing_of, knows, part_of}
 use Rattle.ll_client.specs.Gains.{Gains}
 use Rattle.ll_client.specs.Hands.{seen_made}
 use Rattle.ll_client.proofs.Accounts.{IsClient}
-use Rattle.ll_client.proofs.Walked.{Grown, Went, asked, client_in, doing_after, entry_of, went}
+use Rattle.ll_worlds.proofs.StepGrowth.{Grown, Went, asked, client_in, doing_after, entry_of, went}
 use Rattle.ll_client.proofs.Desks.{Steps, stepped, stood}
 use Rattle.ll_client.proofs.Leavings.{full_grown, full_is, room_grown, told_one}
 

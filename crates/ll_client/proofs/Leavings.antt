@@ -36,7 +36,7 @@ use Rattle.ll_client.specs.Entries.{Knows, doing_of, knows, numbered, part_of, p
 use Rattle.ll_client.specs.Gains.{Goes, Leaves, Told}
 use Rattle.ll_client.specs.Hands.{ended_as, restarted_as, seen_of}
 use Rattle.ll_client.proofs.Accounts.{IsClient, Moved}
-use Rattle.ll_client.proofs.Walked.{Grown, Went, asked, client_in, doing_after, entry_of, never_full, gone, went}
+use Rattle.ll_worlds.proofs.StepGrowth.{Grown, Went, asked, client_in, doing_after, entry_of, never_full, gone, went}
 use Rattle.ll_client.proofs.Desks.{GoesOn, Steps, does_goes, knows_same, part_mine, stepped, stood}
 
 -- ---- what the journal tells
