@@ -2,16 +2,13 @@
 use Rattle.std.specs.Prelude.{◌≡◌, ℕ, false, List, [], ◌∷◌, ◌++◌, Option, Some, None, option_and_then, refl}
 use Rattle.std.specs.Option.{option_map_or}
 use Rattle.std.proofs.Common.{ap, ◌∙◌, sym, append_assoc}
+use Rattle.std.proofs.lemmas.List.{append-nil}
 use Rattle.ll_rights.specs.declared.errno.Errno.{Errno}
 use Rattle.ll_path.specs.Path.{Path, is_root, last_name, parent}
 use Rattle.ll_path.proofs.PathLemmas.{parent-last_name}
 use Rattle.ll_seq.specs.State.{State, Name, child, root}
 use Rattle.ll_seq.specs.Tree.{ancestors, chain_from, end_from, named}
 use Rattle.ll_seq.specs.Stages.{in_the_way, no_directory, kind_of_child}
-
-pub no_more : {A : Type 0} (xs : List A) → xs ++ [] ≡ xs
-no_more [] = refl
-no_more (x ∷ xs) = ap (λ l. x ∷ l) (no_more xs)
 
 module _ (s : State) (name : Name) where
   -- what the directory has under the name, if the path leads to one
@@ -52,12 +49,12 @@ module _ (s : State) (name : Name) where
   way_onward : (o : Option ℕ) (k : List Errno) (f g : ℕ → List Errno) (e : ℕ → Option ℕ)
       → ((j : ℕ) → f j ≡ g j ++ block (e j))
       → k ++ option_map_or f o [] ≡ (k ++ option_map_or g o []) ++ block (option_and_then e o)
-  way_onward None k f g e same = sym (no_more (k ++ []))
+  way_onward None k f g e same = sym (append-nil (k ++ []))
   way_onward (Some j) k f g e same = ap (λ (l : List Errno). k ++ l) (same j) ∙ sym (append_assoc k (g j) (block (e j)))
 
   last_way : (k : List Errno) (o : Option ℕ) → k ++ option_map_or (λ (j : ℕ). []) o [] ≡ k
-  last_way k None = no_more k
-  last_way k (Some j) = no_more k
+  last_way k None = append-nil k
+  last_way k (Some j) = append-nil k
 
   pub way_push : (path : Path) (i : ℕ)
       → in_the_way s (path ++ name ∷ []) i ≡ in_the_way s path i ++ block (end_from s path i)

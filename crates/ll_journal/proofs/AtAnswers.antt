@@ -30,7 +30,9 @@ use Rattle.ll_worlds.specs.Commits.{first_end, second_end}
 use Rattle.ll_worlds.specs.Walk.{Walk, Leg, Position, Above, Down, Split, is_in, marks}
 use Rattle.ll_worlds.specs.World.{World, domain_of, has_any, is_full, is_walked, shown, without_walk}
 use Rattle.ll_seq.specs.Stages.{early_refusals}
+use Rattle.ll_seq.proofs.Parted.{or_left, or_right}
 use Rattle.ll_worlds.proofs.SoundSteps.{marked_below}
+use Rattle.ll_worlds.proofs.StepGrowth.{gone}
 use Rattle.ll_worlds.proofs.Tests.{both, is_nil, not_true}
 use Rattle.ll_journal.specs.declared.journal.Journal.TheInside.{Inside}
 use Rattle.ll_journal.specs.Book.{Seat, Book, inode_in, has_mark, mark_of, slot_of}
@@ -41,7 +43,6 @@ use Rattle.ll_journal.specs.Performed.{IsAtEnd, lies_in}
 use Rattle.ll_journal.specs.Stopped.{IsEndOf, IsReachedEnd}
 use Rattle.ll_journal.proofs.Begun.{names_one}
 use Rattle.ll_journal.proofs.Committed.{told_slots}
-use Rattle.ll_journal.proofs.Ended.{removed}
 use Rattle.ll_journal.proofs.Entering.{walk_here}
 use Rattle.ll_journal.proofs.MarkOf.{mark_none, whose_mark}
 use Rattle.ll_journal.proofs.Starting.{at_place}
@@ -52,25 +53,18 @@ left_true : (a b : Bool) → (a && b) ≡ true → a ≡ true
 left_true true b e = refl
 left_true false b e = absurd (cc e)
 
-or_true : (a b : Bool) → a ≡ true → (a || b) ≡ true
-or_true a b e = ap (λ x. x || b) e
-
-or_also : (a b : Bool) → b ≡ true → (a || b) ≡ true
-or_also true b e = refl
-or_also false b e = e
-
 -- a walk stands where its legs do
 first_marked : (at : Position) (leg : Leg) → first_end at ≡ Some leg → (walk : Walk) → walk.at ≡ at
     → marks walk leg.here ≡ true
 first_marked Above leg e walk is = absurd (cc e)
 first_marked (Down trunk) leg e walk is =
     ap (λ p. marks (record walk { at = p }) leg.here) is
-    ∙ or_true (trunk.here == leg.here) false
+    ∙ or_left (trunk.here == leg.here) false
     (eq-eqb trunk.here leg.here (ap (λ (l : Leg). l.here) (same_Some trunk leg e)))
 first_marked (Split trunk old new) leg e walk is =
     ap (λ p. marks (record walk { at = p }) leg.here) is
-    ∙ or_also (trunk.here == leg.here) ((old.here == leg.here) || ((new.here == leg.here) || false))
-    (or_true (old.here == leg.here) ((new.here == leg.here) || false)
+    ∙ or_right (trunk.here == leg.here) ((old.here == leg.here) || ((new.here == leg.here) || false))
+    (or_left (old.here == leg.here) ((new.here == leg.here) || false)
     (eq-eqb old.here leg.here (ap (λ (l : Leg). l.here) (same_Some old leg e))))
 
 second_marked : (at : Position) (leg : Leg) → second_end at ≡ Some leg → (walk : Walk) → walk.at ≡ at
@@ -78,13 +72,13 @@ second_marked : (at : Position) (leg : Leg) → second_end at ≡ Some leg → (
 second_marked Above leg e walk is = absurd (cc e)
 second_marked (Down trunk) leg e walk is =
     ap (λ p. marks (record walk { at = p }) leg.here) is
-    ∙ or_true (trunk.here == leg.here) false
+    ∙ or_left (trunk.here == leg.here) false
     (eq-eqb trunk.here leg.here (ap (λ (l : Leg). l.here) (same_Some trunk leg e)))
 second_marked (Split trunk old new) leg e walk is =
     ap (λ p. marks (record walk { at = p }) leg.here) is
-    ∙ or_also (trunk.here == leg.here) ((old.here == leg.here) || ((new.here == leg.here) || false))
-    (or_also (old.here == leg.here) ((new.here == leg.here) || false)
-    (or_true (new.here == leg.here) false
+    ∙ or_right (trunk.here == leg.here) ((old.here == leg.here) || ((new.here == leg.here) || false))
+    (or_right (old.here == leg.here) ((new.here == leg.here) || false)
+    (or_left (new.here == leg.here) false
     (eq-eqb new.here leg.here (ap (λ (l : Leg). l.here) (same_Some new leg e)))))
 
 pub spare_at : (seats : List Seat) (place : ℕ) (seat : Seat) → slice_get seats place ≡ Some seat
@@ -117,7 +111,7 @@ module _ (j i : Inside) (h : IsKept j) (mid : IsKept i) (number place : ℕ) (sl
     (seat : Seat) (at : slice_get i.seats.items place ≡ Some seat) (numbered : number ≡ suc place) where
   pub seat_idle : seat.walk ≡ None
   seat_idle = sym (walk_here i mid number place seat at numbered) ∙ ap (λ (w : World). get w.walks number) world
-      ∙ removed (world_of j).walks number
+      ∙ gone (world_of j).walks number
 
   tree : shown (world_of i) ≡ shown (world_of j)
   tree = ap shown world
