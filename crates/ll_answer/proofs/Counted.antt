@@ -46,11 +46,11 @@ module _ (s : State) (facts : Map nat_cmp Fact) (kept : AreKept s facts) where
     crowded_counted = ap (λ o. option_map_or (λ (fact : Fact). nat_le DIRECTORY_ENTRIES fact.names) o false) counted
 
   -- what is counted tells where the path's last name stands
-  pub spot_counted : kind_of s root ≡ Some Dir → (path : Path) (way : Option Errno) (directory : ℕ) (node : Option ℕ)
-      → way ≡ slice_get (in_the_way s (parent path) root) 0 → directory ≡ directory_of s path → node ≡ named s path
+  pub spot_counted : kind_of s root ≡ Some Dir → (path : Path) (way : Option Errno) (directory : ℕ) (there : Option ℕ)
+      → way ≡ slice_get (in_the_way s (parent path) root) 0 → directory ≡ directory_of s path → there ≡ named s path
       → ((i : ℕ) → named s path ≡ Some i → (kind : Kind) × (kind_of s i ≡ Some kind))
-      → IsSpot s path (spot_by facts way directory node)
-  spot_counted rooted path way directory node blocked stands names known = record {
+      → IsSpot s path (spot_by facts way directory there)
+  spot_counted rooted path way directory there blocked stands names known = record {
     way = blocked;
     stands = λ free.
         let led = way_leads s (parent path) root (none_first (in_the_way s (parent path) root) (sym blocked ∙ free)) in

@@ -50,7 +50,7 @@ pub struct Found {
 }
 
 /// The node, if there is one.
-fn there(facts: &NumberMap<Fact>, node: Option<u64>) -> Option<There>
+fn node_there(facts: &NumberMap<Fact>, node: Option<u64>) -> Option<There>
     ensures { result ≡ option_and_then (there_at facts.now) node }
 {
     let inode = node?;
@@ -119,7 +119,7 @@ impl Spot {
             way,
             directory,
             is_crowded: is_crowded(facts, directory),
-            there: there(facts, node),
+            there: node_there(facts, node),
         }
     }
 
