@@ -33,7 +33,7 @@ returns c names walk =
       end = c.child-end.ensures ∙ sym (end_push s name names root ∙ ap (beneath s name) there);
       way = c.first.ensures (in_the_way s names root)
           (no_directory (kind_of_child s (child s c.in-Some.directory name))) walk.way
-          (λ open. c.in_the_way.ensures ∙ ap (λ o. slice_get (no_directory (kind_of_child s o)) 0) c.child-end.ensures)
+          (λ free. c.in_the_way.ensures ∙ ap (λ o. slice_get (no_directory (kind_of_child s o)) 0) c.child-end.ensures)
           ∙ ap (λ l. slice_get l 0) (sym (way_push s name names root
           ∙ ap (λ e. in_the_way s names root ++ block s name e) there));
       masks = subst (AreMasks c.granted_at.result c.args.domain.now)
