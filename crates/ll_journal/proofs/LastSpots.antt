@@ -1,7 +1,7 @@
 -- What is found under the last names: which of it is marked, and which nodes the commit needs.
 use Rattle.std.specs.Prelude.{◌≡◌, ◌≢◌, ◌⊎◌, ℕ, Bool, true, false, cond, not, ◌&&◌, ◌||◌, ◌==◌, List, [], ◌∷◌, drop}
 use Rattle.std.specs.Prelude.{Option, Some, None, is_none, option_map, option_and_then, option_to_list, nat_le}
-use Rattle.std.specs.Prelude.{slice_index_or, refl}
+use Rattle.std.specs.Prelude.{slice_get, slice_index_or, refl}
 use Rattle.std.specs.Option.{option_map_or}
 use Rattle.std.specs.List.{list_any, list_all}
 use Rattle.std.specs.Ordering.{nat_cmp}
