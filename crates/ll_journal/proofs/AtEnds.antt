@@ -1,37 +1,27 @@
 -- What a commit finds: the directories where a walk stands at its ends, what they have under the last names, and the
 -- answer of a walk that can't go on.
-use Rattle.std.specs.Prelude.{◌≡◌, ℕ, Bool, true, false, ◌||◌, List, [], ◌∷◌, ◌++◌, map, length, Option, Some, None}
-use Rattle.std.specs.Prelude.{nat_lt, nat_le, unwrap_or, slice_get, option_map, option_and_then, refl}
-use Rattle.std.specs.Option.{option_map_or}
+use Rattle.std.specs.Prelude.{◌≡◌, ℕ, Bool, true, false, ◌||◌, List, [], ◌∷◌, map, Some}
+use Rattle.std.specs.Prelude.{slice_get, refl}
 use Rattle.std.specs.List.{list_any, flat_map}
-use Rattle.std.specs.Ordering.{nat_cmp}
 use Rattle.std.proofs.Common.{sym, subst, ap, ◌∙◌}
-use Rattle.std.proofs.lemmas.List.{append-nil}
 use Rattle.std.proofs.lemmas.List.Folds.{list_any-append}
-use Rattle.ll_rights.specs.declared.kind.Kind.{Kind}
-use Rattle.ll_rights.specs.declared.kind.Kind.TheVariants.{Reg, Dir}
+use Rattle.ll_rights.specs.declared.kind.Kind.TheVariants.{Dir}
 use Rattle.ll_rights.specs.declared.errno.Errno.{Errno}
-use Rattle.ll_rights.specs.declared.limits.TheConstants.{DIRECTORY_ENTRIES, NODE_NAMES}
-use Rattle.ll_rights.specs.Map.{Map, get}
+use Rattle.ll_rights.specs.Map.{get}
 use Rattle.ll_path.specs.Path.{Path, parent, last_name, is_root}
 use Rattle.ll_path.specs.declared.target.Target.{Target}
 use Rattle.ll_rules.specs.Layer.{Layer}
 use Rattle.ll_seq.specs.declared.call.Call.{Call}
-use Rattle.ll_seq.specs.declared.facts.Fact.{Fact}
 use Rattle.ll_seq.specs.declared.reply.Reply.TheVariants.{Refused}
 use Rattle.ll_seq.specs.Call.{path_of, targets, first_path, second_path}
-use Rattle.ll_seq.specs.State.{Name, State, child, root, kind_of, names_in, name_count}
-use Rattle.ll_seq.specs.Tree.{named, directory_of, chain_from, end_from, ancestors}
+use Rattle.ll_seq.specs.State.{Name, State, root, kind_of}
+use Rattle.ll_seq.specs.Tree.{named, directory_of, ancestors}
 use Rattle.ll_seq.specs.Asked.{grants}
-use Rattle.ll_seq.specs.Stages.{in_the_way, is_crowded, no_directory, kind_of_child}
-use Rattle.ll_seq.specs.Facts.{AreKept, fact_of, open_count}
+use Rattle.ll_seq.specs.Stages.{in_the_way, no_directory, kind_of_child}
 use Rattle.ll_seq.proofs.CutChains.{named-child}
-use Rattle.ll_seq.proofs.Parted.{chain_push}
 use Rattle.ll_laws.proofs.Chains.{same_Some}
 use Rattle.ll_laws.proofs.Unrefused.{parent_last}
 use Rattle.ll_laws.proofs.Trees.{IsTree}
-use Rattle.ll_answer.specs.Found.{IsSpot, there_in}
-use Rattle.ll_answer.specs.declared.found.Spot.{Spot}
 use Rattle.ll_worlds.specs.Walk.{Walk, Leg, Position, Above, Down, Split, rights_where, turn, at_ends}
 use Rattle.ll_worlds.specs.World.{World, shown, domain_of, reply_to, last_node, last_nodes}
 use Rattle.ll_worlds.specs.Walks.{IsRight, AreRight}

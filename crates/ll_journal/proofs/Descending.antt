@@ -1,5 +1,5 @@
 -- A walk goes from one directory to the next.
-use Rattle.std.specs.Prelude.{◌≡◌, ◌≢◌, ℕ, suc, Bool, true, false, cond, not, ◌||◌, ◌==◌, List, [], ◌∷◌, length, Option}
+use Rattle.std.specs.Prelude.{◌≡◌, ◌≢◌, ℕ, suc, Bool, true, false, cond, not, ◌||◌, ◌==◌, List, [], ◌∷◌, Option}
 use Rattle.std.specs.Prelude.{Some, None, is_none, is_some, IsSome, option_map, option_and_then, unwrap_or, slice_get}
 use Rattle.std.specs.Prelude.{refl}
 use Rattle.std.specs.List.{list_any}
@@ -14,9 +14,8 @@ use Rattle.ll_path.specs.Path.{Path, is_root}
 use Rattle.ll_node.specs.Slot.{Slot}
 use Rattle.ll_rules.specs.Layer.{Layer}
 use Rattle.ll_seq.specs.declared.facts.Fact.{Fact}
-use Rattle.ll_seq.specs.State.{Name, State, child, kind_of, names_in, name_count}
+use Rattle.ll_seq.specs.State.{Name, State, child, kind_of}
 use Rattle.ll_seq.specs.Tree.{kind_or_file}
-use Rattle.ll_seq.specs.Facts.{open_count}
 use Rattle.ll_laws.proofs.Chains.{same_Some}
 use Rattle.ll_answer.proofs.Counted.{kind_counted}
 use Rattle.ll_worlds.specs.Walk.{Walk, Leg, Position, Above, Down, Split, marks, legs, is_above, turn, with_turn}

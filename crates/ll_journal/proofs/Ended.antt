@@ -9,7 +9,7 @@ use Rattle.std.proofs.lemmas.Bool.{eqb-true, eq-eqb}
 use Rattle.ll_rights.specs.declared.errno.Errno.TheVariants.{HistoryFull}
 use Rattle.ll_rights.specs.Map.{Map, get, remove}
 use Rattle.ll_rights.specs.MapCodes.{same_list_map}
-use Rattle.ll_rights.proofs.Maps.{get-remove_other, got_left, same_map}
+use Rattle.ll_rights.proofs.Maps.{get-remove_other, same_map}
 use Rattle.ll_seq.specs.declared.call.Call.{Call}
 use Rattle.ll_seq.specs.declared.reply.Reply.{Reply}
 use Rattle.ll_seq.specs.declared.reply.Reply.TheVariants.{Refused}

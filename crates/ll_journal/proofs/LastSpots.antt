@@ -1,14 +1,12 @@
 -- What is found under the last names: which of it is marked, and which nodes the commit needs.
 use Rattle.std.specs.Prelude.{◌≡◌, ◌≢◌, ◌⊎◌, ℕ, Bool, true, false, cond, not, ◌&&◌, ◌||◌, ◌==◌, List, [], ◌∷◌, drop}
-use Rattle.std.specs.Prelude.{Option, Some, None, is_none, option_map, option_and_then, option_to_list, nat_le}
+use Rattle.std.specs.Prelude.{Option, Some, None, is_none, option_map, option_to_list}
 use Rattle.std.specs.Prelude.{slice_get, slice_index_or, refl}
 use Rattle.std.specs.Option.{option_map_or}
 use Rattle.std.specs.List.{list_any, list_all}
 use Rattle.std.specs.Ordering.{nat_cmp}
 use Rattle.std.proofs.Common.{sym, ap, ◌∙◌, inl, inr}
 use Rattle.std.proofs.lemmas.Bool.{eqb-true}
-use Rattle.ll_rights.specs.declared.kind.Kind.TheVariants.{Dir}
-use Rattle.ll_rights.specs.declared.limits.TheConstants.{DIRECTORY_ENTRIES}
 use Rattle.ll_rights.specs.Map.{Map, get}
 use Rattle.ll_path.specs.Path.{Path, is_root, last_name}
 use Rattle.ll_path.specs.declared.target.Target.{Target}
@@ -21,7 +19,6 @@ use Rattle.ll_seq.specs.declared.call.Call.TheVariants.{Link, Ruleset, Allow, Co
 use Rattle.ll_seq.specs.declared.facts.Fact.{Fact}
 use Rattle.ll_seq.specs.Call.{path_of, targets, first_of, second_of, first_path, second_path}
 use Rattle.ll_seq.specs.Facts.{AreKept}
-use Rattle.ll_seq.specs.Stages.{is_crowded}
 use Rattle.ll_seq.specs.State.{State, root}
 use Rattle.ll_seq.specs.Tree.{named}
 use Rattle.ll_seq.proofs.Parted.{or_right}

@@ -1,6 +1,6 @@
 -- Why a commit stops where its client has no walk that goes on, and where a name is still ahead of the leg in turn.
 use Rattle.std.specs.Prelude.{◌≡◌, ◌≢◌, ℕ, suc, Bool, true, false, not, ◌&&◌, List, [], ◌∷◌, map, Option, Some, None}
-use Rattle.std.specs.Prelude.{is_none, is_some, option_map, option_and_then, unwrap_or, cond, length, slice_get, refl}
+use Rattle.std.specs.Prelude.{is_none, is_some, option_map, option_and_then, unwrap_or, cond, slice_get, refl}
 use Rattle.std.specs.Option.{option_map_or}
 use Rattle.std.proofs.Common.{sym, subst, ap, ◌∙◌, inl, inr}
 use Rattle.ll_rights.specs.declared.errno.Errno.{Errno}
@@ -11,10 +11,8 @@ use Rattle.ll_rights.specs.Map.{get}
 use Rattle.ll_node.specs.Slot.{NameMap}
 use Rattle.ll_path.specs.Path.{Path, is_root}
 use Rattle.ll_seq.specs.declared.call.Call.{Call}
-use Rattle.ll_seq.specs.declared.facts.Fact.{Fact}
-use Rattle.ll_seq.specs.Facts.{open_count}
 use Rattle.ll_seq.specs.Stages.{no_directory, kind_of_child}
-use Rattle.ll_seq.specs.State.{Name, State, kind_of, names_in, name_count}
+use Rattle.ll_seq.specs.State.{Name, State, kind_of}
 use Rattle.ll_laws.proofs.Chains.{same_Some}
 use Rattle.ll_answer.proofs.Counted.{kind_counted}
 use Rattle.ll_worlds.specs.Walk.{Walk, Leg, Position, Above, Down, Split, at_ends, has_two_paths, is_blocked, marks}
