@@ -48,16 +48,19 @@ same_world w w' e = subst (λ (v : World). Grows w v []) (sym e) (still w)
 grown : (w v : World) (c : ℕ) (doing : Option Call) (added : List Entry) → Grown w v c doing added → Grows w v added
 grown w v c doing added g = record { came = g.came; rules = g.rules; room = g.room; limit = g.limit }
 
--- the call that is answered by the step is the caller's
-called_is : (w : World) (step' : Step) → called w step' ≡ option_map (λ call. (client_in w step', call)) (asked w step')
+-- the call that the step answers, and whose it is
+abbrev by_client : ℕ → Option Call → Option (ℕ × Call)
+by_client number = option_map {U = ℕ × Call} (λ call. (number, call))
+
+called_is : (w : World) (step' : Step) → called w step' ≡ by_client (client_in w step') (asked w step')
 called_is w Join = refl
 called_is w (Begin number call) = refl
 called_is w (Descend number) = refl
 called_is w (Fork number) = refl
 called_is w (Commit number) = by (get w.walks number)
   where
-    by : (o : Option Walk) → option_map (λ (walk : Walk). (number, walk.call)) o
-        ≡ option_map (λ call. (number, call)) (option_map (λ (walk : Walk). walk.call) o)
+    by : (o : Option Walk) → option_map {U = ℕ × Call} (λ (walk : Walk). (number, walk.call)) o
+        ≡ by_client number (option_map (λ (walk : Walk). walk.call) o)
     by None = refl
     by (Some walk) = refl
 called_is w (Restart number) = refl
@@ -128,7 +131,7 @@ adds w w' step' (outcome.Replied k) m = by (subst (Went w step') m.3 (went w ste
     by (inl g) = absurd (old w'.history (g.1.came ∙ append-nil w.history) m.2)
     by (inr (inl g)) = absurd (old w'.history (ap (λ (v : World). v.history) g.1) m.2)
     by (inr (inr g)) = let entry = entry_of (client_in w step') g.1 m.1.reply in
-        (entry ∷ [], (entry, called_is w step' ∙ ap (option_map (λ call. (client_in w step', call))) g.2, refl),
+        (entry ∷ [], (entry, called_is w step' ∙ ap (by_client (client_in w step')) g.2, refl),
         grown w w' _ _ _ g.4)
 adds w w' step' (outcome.Refused errno) (inl m) = ([], refl, by (subst (Went w step') m.1 (went w step')) m.0)
   where

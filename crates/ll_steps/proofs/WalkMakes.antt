@@ -40,7 +40,6 @@ use Rattle.ll_journal.specs.declared.progress.Progress.TheVariants as tells
 use Rattle.ll_journal.specs.Stations.{station_at, station_of, station_in}
 use Rattle.ll_journal.specs.declared.station.Station.TheVariants as station
 use Rattle.ll_journal.proofs.Advancing.{descend_none, descend_stale, commit_none, commit_not_now, commit_replies}
-use Rattle.ll_journal.proofs.Descending.{turn_below}
 use Rattle.ll_journal.proofs.Ended.{gives_up}
 use Rattle.ll_journal.proofs.NextSteps.{no_turn}
 use Rattle.ll_steps.specs.Contents.{held_at, accounts_of, ended_as, IsKept}
@@ -83,6 +82,11 @@ pub near_top : (b : Book) (number slot : ℕ) → is_at_top b.world number ≡ t
 near_top b number slot top is astray = astray.1 top is
 
 -- ---- a leg that stands
+
+turns : (at : Position) (leg : Leg) → turn at ≡ Some leg → is_above at ≡ false
+turns Above leg e = absurd (cc e)
+turns (Down trunk) leg e = refl
+turns (Split trunk old new) leg e = refl
 
 -- where the leg in turn stands the walk has its mark
 turn_marked : (walk : Walk) (leg : Leg) → turn walk.at ≡ Some leg → marks walk leg.here ≡ true
@@ -129,7 +133,7 @@ module _ (w : World) (number : ℕ) (walk : Walk) (is : get w.walks number ≡ S
   goes_further =
       ap (λ o. done_or_not (option_and_then (descend w number) o)) is
       ∙ (λ i. done_or_not (cond (fresh i) None
-      (cond (turn_below walk.at leg in_turn i) (enter w number walk)
+      (cond (turns walk.at leg in_turn i) (enter w number walk)
       (option_and_then (stand w number walk)
       (option_and_then (further (shown w) (domain_of w number)) (in_turn i))))))
 
