@@ -1,22 +1,20 @@
 -- What lies behind the journal's lock after a step, and what the step's client gains.
-use Rattle.std.specs.Prelude.{◌≡◌, ◌≢◌, ◌⊎◌, ℕ, ◌+◌, ◌<◌, ◌≤◌, ◌==◌, Bool, true, false, cond, List, [], ◌∷◌, ◌++◌}
-use Rattle.std.specs.Prelude.{length, Option, Some, None, Result, Ok, Err, OnOk, OnErr, refl}
+use Rattle.std.specs.Prelude.{◌≡◌, ◌≢◌, ℕ, ◌+◌, ◌≤◌, ◌==◌, Bool, true, false, cond, List, [], ◌∷◌, ◌++◌}
+use Rattle.std.specs.Prelude.{length, Option, Some, Result, Ok, Err, OnOk, OnErr, refl}
 use Rattle.std.specs.Ordering.{nat_cmp}
 use Rattle.std.proofs.Common.{sym, subst, ap, ◌∙◌, inl, inr, arith}
 use Rattle.std.proofs.lemmas.List.{append-nil, length-append}
-use Rattle.std.proofs.lemmas.Bool.{leb-false, leb-true, ne_eqb, eq-eqb}
+use Rattle.std.proofs.lemmas.Bool.{ne_eqb, eq-eqb}
 use Rattle.ll_rights.specs.declared.limits.TheConstants.{TREE_CLIENTS, TREE_NODES}
-use Rattle.ll_rights.specs.declared.errno.Errno.TheVariants.{HistoryFull}
-use Rattle.ll_rights.specs.Map.{Map, get, has}
+use Rattle.ll_rights.specs.Map.{Map}
 use Rattle.ll_seq.specs.declared.call.Call.{Call}
 use Rattle.ll_seq.specs.declared.reply.Entry.{Entry}
 use Rattle.ll_seq.specs.declared.reply.Reply.{Reply}
 use Rattle.ll_seq.specs.declared.reply.Reply.TheVariants as replies
 use Rattle.ll_worlds.specs.declared.step.Step.{Step}
-use Rattle.ll_worlds.specs.declared.step.Step.TheVariants.{Join, Begin, Descend, Fork, Commit, Restart, FdCommit}
-use Rattle.ll_worlds.specs.declared.step.Step.TheVariants.{ClientStep}
-use Rattle.ll_worlds.specs.World.{World, Outcome, NotNow, Begun, Stands, Forked, Restarted, Replied, Joined, shown}
-use Rattle.ll_worlds.specs.World.{is_full, next_number, reply_to, advance, without_walk}
+use Rattle.ll_worlds.specs.declared.step.Step.TheVariants.{Begin}
+use Rattle.ll_worlds.specs.World.{World, Outcome, NotNow, Begun, Stands, Forked, Restarted, Replied, Joined}
+use Rattle.ll_worlds.specs.World.{reply_to, advance}
 use Rattle.ll_worlds.specs.Sound.{IsSound}
 use Rattle.ll_worlds.proofs.SoundSteps.{sound_kept}
 use Rattle.ll_journal.specs.Book.{Book, Spares}
@@ -25,10 +23,10 @@ use Rattle.ll_journal.specs.declared.progress.Progress as told
 use Rattle.ll_journal.specs.declared.progress.Progress.TheVariants as tells
 use Rattle.ll_client.specs.declared.account.Account.{Account}
 use Rattle.ll_client.specs.declared.account.Numbered.{Numbered}
-use Rattle.ll_client.specs.Entries.{AreAccounts, IsDesk, Knows, doing_of, knows, numbered, part_from, part_of}
-use Rattle.ll_client.proofs.Accounts.{IsClient, Moved}
+use Rattle.ll_client.specs.Entries.{AreAccounts, IsDesk, doing_of, knows, numbered, part_from, part_of}
+use Rattle.ll_client.proofs.Accounts.{Moved}
 use Rattle.ll_worlds.proofs.Growth.{still_within}
-use Rattle.ll_worlds.proofs.StepGrowth.{Grown, Went, asked, client_in, doing_after, entry_of, never_full, went}
+use Rattle.ll_worlds.proofs.StepGrowth.{Grown, Went, client_in, doing_after, entry_of, went}
 use Rattle.ll_client.proofs.Walked.{clients_none, clients_one}
 
 -- ---- parts of a history that is one entry longer

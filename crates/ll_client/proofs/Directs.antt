@@ -1,22 +1,20 @@
 -- What comes of a call that doesn't walk: of the tree, and of its client.
 use Rattle.std.specs.Prelude.{◌≡◌, ◌≢◌, ℕ, ◌≤◌, List, [], ◌∷◌, length, Option, Some, None, Result, Ok, Err, IfOk, OnErr}
-use Rattle.std.specs.Prelude.{refl}
 use Rattle.std.proofs.Common.{sym, subst, ap, ◌∙◌, arith}
 use Rattle.ll_rights.specs.declared.errno.Errno.TheVariants.{HistoryFull}
 use Rattle.ll_seq.specs.declared.call.Call.{Call}
-use Rattle.ll_seq.specs.declared.reply.Reply.TheVariants.{Refused}
 use Rattle.ll_laws.proofs.Chains.{same_Some}
 use Rattle.ll_worlds.specs.declared.step.Step.{Step}
 use Rattle.ll_worlds.specs.declared.step.Step.TheVariants.{Join}
 use Rattle.ll_worlds.specs.World as world
-use Rattle.ll_worlds.specs.World.{World, advance}
+use Rattle.ll_worlds.specs.World.{World}
 use Rattle.ll_worlds.specs.Sound.{IsSound}
 use Rattle.ll_journal.specs.Book.{Book}
 use Rattle.ll_journal.specs.Direct.{Answers}
 use Rattle.ll_journal.specs.declared.direct.Made.{Made}
 use Rattle.ll_journal.specs.declared.direct.Made.TheVariants as made
 use Rattle.ll_client.specs.declared.account.Numbered.{Numbered}
-use Rattle.ll_client.specs.Entries.{Knows, doing_of, knows, part_of}
+use Rattle.ll_client.specs.Entries.{doing_of, knows, part_of}
 use Rattle.ll_client.specs.Gains.{Gains}
 use Rattle.ll_client.specs.Hands.{seen_made}
 use Rattle.ll_client.proofs.Accounts.{IsClient}

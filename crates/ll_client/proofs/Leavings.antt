@@ -1,13 +1,13 @@
 -- What comes of a walk that is left: of the tree, and of its client.
-use Rattle.std.specs.Prelude.{◌≡◌, ◌≢◌, ◌⊎◌, ℕ, ◌+◌, ◌<◌, ◌≤◌, Bool, true, false, cond, List, [], ◌∷◌, ◌++◌, length}
-use Rattle.std.specs.Prelude.{Option, Some, None, nat_le, unwrap_or, option_map, option_and_then, refl}
+use Rattle.std.specs.Prelude.{◌≡◌, ◌≢◌, ℕ, ◌+◌, ◌≤◌, Bool, true, false, cond, List, [], ◌∷◌, ◌++◌, length}
+use Rattle.std.specs.Prelude.{Option, Some, None, unwrap_or, option_map, option_and_then, refl}
 use Rattle.std.specs.Cmp.{nat_cmp_total}
 use Rattle.std.specs.FinMap.{nat_cmp-IsAntisymmetric}
 use Rattle.std.proofs.Common.{sym, subst, ap, ◌∙◌, inl, inr, arith}
 use Rattle.std.proofs.lemmas.List.{append-nil, length-append}
 use Rattle.std.proofs.lemmas.Bool.{leb-true}
 use Rattle.ll_rights.specs.declared.errno.Errno.TheVariants.{HistoryFull}
-use Rattle.ll_rights.specs.Map.{get, remove}
+use Rattle.ll_rights.specs.Map.{get}
 use Rattle.ll_rights.proofs.Maps.{get-remove_other}
 use Rattle.ll_seq.specs.declared.call.Call.{Call}
 use Rattle.ll_seq.specs.declared.reply.Reply.{Reply}
@@ -16,9 +16,9 @@ use Rattle.ll_worlds.specs.declared.step.Step.{Step}
 use Rattle.ll_worlds.specs.declared.step.Step.TheVariants as steps
 use Rattle.ll_worlds.specs.Walk.{Walk}
 use Rattle.ll_worlds.specs.World as world
-use Rattle.ll_worlds.specs.World.{World, advance, is_full, restart, shown, without_walk, next_number, reply_to}
+use Rattle.ll_worlds.specs.World.{World, advance, is_full, restart, shown, without_walk, next_number}
 use Rattle.ll_worlds.specs.Sound.{IsSound}
-use Rattle.ll_worlds.proofs.Shapes.{walking, restarted}
+use Rattle.ll_worlds.proofs.Shapes.{restarted}
 use Rattle.ll_journal.specs.Book.{Book}
 use Rattle.ll_journal.specs.Steps.{Does}
 use Rattle.ll_journal.specs.WalkEnds.{Ends}
@@ -32,12 +32,12 @@ use Rattle.ll_client.specs.declared.left.Leaving.{Leaving}
 use Rattle.ll_client.specs.declared.left.Leaving.TheVariants.{Commit, Restart}
 use Rattle.ll_client.specs.declared.left.Left.{Left}
 use Rattle.ll_client.specs.declared.left.Left.TheVariants as left
-use Rattle.ll_client.specs.Entries.{Knows, doing_of, knows, numbered, part_of, part_from}
+use Rattle.ll_client.specs.Entries.{doing_of, knows, numbered, part_of, part_from}
 use Rattle.ll_client.specs.Gains.{Goes, Leaves, Told}
 use Rattle.ll_client.specs.Hands.{ended_as, restarted_as, seen_of}
 use Rattle.ll_client.proofs.Accounts.{IsClient, Moved}
 use Rattle.ll_worlds.proofs.StepGrowth.{Grown, Went, asked, client_in, doing_after, entry_of, never_full, gone, went}
-use Rattle.ll_client.proofs.Desks.{GoesOn, Steps, does_goes, knows_same, part_mine, stepped, stood}
+use Rattle.ll_client.proofs.Desks.{Steps, does_goes, knows_same, part_mine, stepped, stood}
 
 -- ---- what the journal tells
 
