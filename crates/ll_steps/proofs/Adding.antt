@@ -127,9 +127,11 @@ adds w w' step' (outcome.Replied k) m = by (subst (Went w step') m.3 (went w ste
         × Grows w w' its
     by (inl g) = absurd (old w'.history (g.1.came ∙ append-nil w.history) m.2)
     by (inr (inl g)) = absurd (old w'.history (ap (λ (v : World). v.history) g.1) m.2)
-    by (inr (inr g)) = let entry = entry_of (client_in w step') g.1 m.1.reply in
-        (entry ∷ [], (entry, called_is w step' ∙ ap (by_client (client_in w step')) g.2, refl),
-        grown w w' _ _ _ g.4)
+    by (inr (inr g)) = let entry = entry_of (client_in w step') g.1 m.1.reply in (
+      entry ∷ [],
+      (entry, called_is w step' ∙ ap (by_client (client_in w step')) g.2, refl),
+      grown w w' _ _ _ g.4,
+    )
 adds w w' step' (outcome.Refused errno) (inl m) = ([], refl, by (subst (Went w step') m.1 (went w step')) m.0)
   where
     by : Went w step' (world.Replied (Refused errno), w') → IsUntold w step' → Grows w w' []
