@@ -1,13 +1,11 @@
 -- What policy judges of a call, and what a call does that nothing refuses.
-use Rattle.std.specs.Prelude.{◌≡◌, ℕ, true, List, [], ◌∷◌, ◌++◌, map, Some, None, slice_get, refl}
+use Rattle.std.specs.Prelude.{◌≡◌, ℕ, true, [], slice_get, refl}
 use Rattle.std.proofs.Common.{ap, sym, subst, ◌∙◌}
-use Rattle.ll_rights.specs.declared.errno.Errno.{Errno}
-use Rattle.ll_decide.specs.declared.denial.Denial.{Denial}
 use Rattle.ll_decide.specs.declared.demands.Demands.{Demands}
 use Rattle.ll_decide.specs.Judge.{grants_along}
 use Rattle.ll_decide.specs.Verdict.{verdict}
 use Rattle.ll_seq.specs.Asked.{call_denials, grants}
-use Rattle.ll_seq.specs.CallParts.{asked, moved, done, existence_refusals, kind_refusals, limit_refusals}
+use Rattle.ll_seq.specs.CallParts.{asked, moved, done, kind_refusals, limit_refusals}
 use Rattle.ll_seq.specs.Call.{first_path, second_path}
 use Rattle.ll_seq.specs.declared.call.Call.{Call}
 use Rattle.ll_seq.specs.declared.call.Call.TheVariants.{Make, Open, Read, Write, Ftruncate, Close, Truncate, ReadDir}
@@ -15,19 +13,18 @@ use Rattle.ll_seq.specs.declared.call.Call.TheVariants.{Stat, Exec, Unlink, Rmdi
 use Rattle.ll_seq.specs.declared.call.Call.TheVariants.{Link, Ruleset, Allow, Confine, Spawn, Connect}
 use Rattle.ll_seq.specs.declared.client.ClientRecord.{ClientRecord}
 use Rattle.ll_seq.specs.declared.reply.Reply.{Reply}
-use Rattle.ll_seq.specs.declared.reply.Reply.TheVariants.{Refused, Denied}
 use Rattle.ll_seq.specs.State.{State}
-use Rattle.ll_seq.specs.Step.{step, first_or, refusals, client_of}
+use Rattle.ll_seq.specs.Step.{refusals, client_of}
 use Rattle.ll_answer.proofs.Asking.{verdict_same}
 use Rattle.ll_seq.proofs.StepParts.{comes_to}
 use Rattle.ll_answer.proofs.Walked.{one_free, other_free}
 use Rattle.ll_answer.specs.declared.changes.Effect.{Effect}
 use Rattle.ll_answer.specs.declared.found.Found.{Found}
-use Rattle.ll_answer.specs.Decided.{IsDone, IsRefused}
+use Rattle.ll_answer.specs.Decided.{IsDone}
 use Rattle.ll_answer.specs.Demanded.{AreDemands, chains}
 use Rattle.ll_answer.specs.Effect.{Fits, after, told}
 use Rattle.ll_answer.specs.Lean.{is_lean, spares_memory}
-use Rattle.ll_answer.specs.Passed.{before_policy, after_policy, has_path, Passed, IsFree}
+use Rattle.ll_answer.specs.Passed.{after_policy, has_path, Passed, IsFree}
 
 -- policy judges what the call asks and moves, and nothing that was kept
 pub policy_is : (s : State) (c : ClientRecord) (call : Call) → has_path call ≡ true

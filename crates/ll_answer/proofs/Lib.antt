@@ -4,3 +4,5 @@ pub mod AnswerParts
 pub mod Nearby
 pub mod Standing
 pub mod Walked
+pub mod Counted
+pub mod LongerPaths

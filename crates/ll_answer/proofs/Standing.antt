@@ -53,7 +53,7 @@ onward s path (Some j) further e =
     let here = is_directory (kind_of s j) (one_free (no_directory (kind_of s j)) (in_the_way s path j) e) in
     (led.0, led.1, led.2 here)
 
-way_leads : (s : State) (path : Path) (i : ℕ) → in_the_way s path i ≡ [] → (d : ℕ) × (end_from s path i ≡ Some d)
+pub way_leads : (s : State) (path : Path) (i : ℕ) → in_the_way s path i ≡ [] → (d : ℕ) × (end_from s path i ≡ Some d)
     × (kind_of s i ≡ Some Dir → kind_of s d ≡ Some Dir)
 way_leads s [] i free = (i, refl, λ here. here)
 way_leads s (name ∷ path) i free =

@@ -1,15 +1,25 @@
 //! What a walk finds for a call's paths.
 
-ghost use Rattle.std.specs.Prelude.{◌≡◌, true, is_some, option_map};
+ghost use Rattle.std.specs.Prelude.{◌≡◌, ◌∷◌, ◌++◌, ℕ, List, [], None, true, is_some, length, option_and_then};
+ghost use Rattle.std.specs.Prelude.{option_map};
+ghost use Rattle.std.specs.Option.{option_map_or};
+ghost use Rattle.ll_decide.specs.Masks.{AreMasks};
 ghost use Rattle.ll_path.specs.Path.{Path};
+ghost use Rattle.ll_rights.specs.Map.{get};
 ghost use Rattle.ll_seq.specs.Asked.{parents_differ};
+ghost use Rattle.ll_seq.specs.Effects.{status_of};
+ghost use Rattle.ll_seq.specs.Facts.{AreKept};
 ghost use Rattle.ll_seq.specs.Stages as stages;
-ghost use Rattle.ll_seq.specs.State.{State};
+ghost use Rattle.ll_seq.specs.State.{State, bytes_of, name_count};
 ghost use Rattle.ll_seq.specs.Tree.{named, inode_of, kind_at, kind_or_file};
-ghost use Rattle.ll_answer.specs.Found.{Stands};
+ghost use Rattle.ll_answer.specs.Found.{Stands, crowded_at, spot_by, there_at};
 ghost use Rattle.ll_answer.specs.Near.{inode_at};
 
+use ll_decide::Masks;
+use ll_rights::limits::{DIRECTORY_ENTRIES, NODE_NAMES};
 use ll_rights::{Errno, Kind};
+use ll_rules::Domain;
+use ll_seq::{Fact, NumberMap, Status};
 
 /// A node that stands under a name.
 #[derive(Clone, Copy)]
@@ -39,7 +49,80 @@ pub struct Found {
     pub is_full: bool,
 }
 
+/// The node, if there is one.
+fn node_there(facts: &NumberMap<Fact>, node: Option<u64>) -> Option<There>
+    ensures { result ≡ option_and_then (there_at facts.now) node }
+{
+    let inode = node?;
+    let fact = facts.get(inode)?;
+    Some(There {
+        inode,
+        kind: fact.kind,
+        has_names: 0 < fact.names,
+        has_many_names: NODE_NAMES <= fact.links,
+    })
+}
+
+/// Whether the directory has no room for one entry more.
+fn is_crowded(facts: &NumberMap<Fact>, directory: u64) -> bool
+    ensures { result ≡ crowded_at facts.now directory }
+{
+    match facts.get(directory) {
+        None => false,
+        Some(fact) => DIRECTORY_ENTRIES <= fact.names,
+    }
+}
+
+/// What stat tells of the node, which has so many bytes. A directory has one link.
+pub fn status(facts: &NumberMap<Fact>, inode: u64, kind: Kind, size: u64) -> Status
+    ensures { (s : State) → AreKept s facts.now → size ≡ length (bytes_of s inode)
+        → (get s.nodes inode ≡ None → name_count s inode ≡ 0) → result ≡ status_of s inode kind }
+{
+    let links = match facts.get(inode) {
+        _ if kind.is_dir() => 1,
+        None => 0,
+        Some(fact) => fact.links as u64,
+    };
+    Status {
+        inode,
+        kind,
+        size,
+        links,
+    }
+}
+
+/// What is granted with one node more on the chain, if there is one.
+pub fn granted_at(domain: &Domain, mut masks: Masks, node: Option<u64>) -> Masks
+    requires { length masks ≡ length domain.now }
+    ensures masks { (inodes : List ℕ) → AreMasks masks domain.now inodes
+        → AreMasks result domain.now (inodes ++ option_map_or (λ j. j ∷ []) node []) }
+    ensures len { length result ≡ length domain.now }
+{
+    if let Some(inode) = node {
+        masks.down(domain, inode);
+    }
+    masks
+}
+
 impl Spot {
+    /// The spot of a name in this directory, where this is in the way to it and the name stands for this node: by what
+    /// is counted of each node.
+    pub fn of(
+        facts: &NumberMap<Fact>,
+        way: Option<Errno>,
+        directory: u64,
+        node: Option<u64>,
+    ) -> Spot
+        ensures { result ≡ spot_by facts.now way directory node }
+    {
+        Spot {
+            way,
+            directory,
+            is_crowded: is_crowded(facts, directory),
+            there: node_there(facts, node),
+        }
+    }
+
     /// Whether the path names a node.
     pub(crate) fn exists(&self) -> bool
         ensures { (s : State) (path : Path) → Stands s path self.now → result ≡ is_some (named s path) }
@@ -48,7 +131,7 @@ impl Spot {
     }
 
     /// The node that the path names.
-    pub(crate) fn named(&self) -> Option<u64>
+    pub fn named(&self) -> Option<u64>
         ensures stands { (s : State) (path : Path) → Stands s path self.now → result ≡ named s path }
         ensures data { result ≡ option_map (λ there. there.inode) self.now.there }
     {
@@ -59,7 +142,7 @@ impl Spot {
     }
 
     /// The node that the path names, or 0.
-    pub(crate) fn inode(&self) -> u64
+    pub fn inode(&self) -> u64
         ensures stands { (s : State) (path : Path) → Stands s path self.now → result ≡ inode_of s path }
         ensures data { result ≡ inode_at self.now }
     {

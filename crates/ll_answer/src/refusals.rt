@@ -15,7 +15,7 @@ pub(crate) fn refuse(test: bool, errno: Errno) -> Option<Errno>
 }
 
 /// The first refusal of two lists of them.
-pub(crate) fn first(one: Option<Errno>, other: Option<Errno>) -> Option<Errno>
+pub fn first(one: Option<Errno>, other: Option<Errno>) -> Option<Errno>
     ensures { (ones others : List Errno) → one ≡ slice_get ones 0 → (ones ≡ [] → other ≡ slice_get others 0)
         → result ≡ slice_get (ones ++ others) 0 }
 {

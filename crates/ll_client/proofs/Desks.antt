@@ -25,8 +25,9 @@ use Rattle.ll_client.specs.declared.account.Account.{Account}
 use Rattle.ll_client.specs.declared.account.Numbered.{Numbered}
 use Rattle.ll_client.specs.Entries.{AreAccounts, IsDesk, doing_of, knows, numbered, part_from, part_of}
 use Rattle.ll_client.proofs.Accounts.{Moved}
-use Rattle.ll_client.proofs.Walked.{Grown, Went, client_in, clients_none, clients_one, doing_after, entry_of}
-use Rattle.ll_client.proofs.Walked.{went}
+use Rattle.ll_worlds.proofs.Growth.{still_within}
+use Rattle.ll_worlds.proofs.StepGrowth.{Grown, Went, client_in, doing_after, entry_of, went}
+use Rattle.ll_client.proofs.Walked.{clients_none, clients_one}
 
 -- ---- parts of a history that is one entry longer
 
@@ -96,46 +97,25 @@ pub record Steps (b b' : Book) (c : ℕ) : Type 0 where
   pub sound : IsSound b'.world
   pub within : length b'.world.history ≤ b'.world.limit
 
-none_fits : (w v : World) → length w.history ≤ w.limit → v.limit ≡ w.limit → v.history ≡ w.history ++ []
-    → length v.history ≤ v.limit
-none_fits w v h limit came = subst (λ n. length v.history ≤ n) (sym limit)
-    (subst (λ es. length es ≤ w.limit) (sym (came ∙ append-nil w.history)) h)
-
-one_fits : (w v : World) (e : Entry) → is_full w ≡ false → v.limit ≡ w.limit → v.history ≡ w.history ++ e ∷ []
-    → length v.history ≤ v.limit
-one_fits w v e room limit came =
-    let few : length w.history < w.limit = leb-false w.limit (length w.history) room in
-    let size : length v.history ≡ length w.history + 1 = ap length came ∙ length-append w.history (e ∷ []) in
-    subst (λ n. length v.history ≤ n) (sym limit) (omega arith)
-
-abbrev Fits : World → Type 0
-Fits v = length v.history ≤ v.limit
-
-moved_fits : (w : World) (s : Step) (p : Outcome × World) → Fits w → Went w s p → Moved w p.1 (client_in w s) × Fits p.1
-moved_fits w s (NotNow, v) h g = (same_moved w v (client_in w s) g, subst Fits (sym g) h)
-moved_fits w s (Begun, v) h g = (moved_none w v _ _ g, none_fits w v h g.limit g.came)
-moved_fits w s (Stands inode, v) h g = (moved_none w v _ _ g, none_fits w v h g.limit g.came)
-moved_fits w s (Forked, v) h g = (moved_none w v _ _ g, none_fits w v h g.limit g.came)
-moved_fits w s (Restarted, v) h g = (moved_none w v _ _ g, none_fits w v h g.limit g.came)
-moved_fits w s (Replied reply, v) h (inl g) = (moved_none w v _ _ g.1, none_fits w v h g.1.limit g.1.came)
-moved_fits w s (Replied reply, v) h (inr (inl g)) = (same_moved w v (client_in w s) g.1, subst Fits (sym g.1) h)
-moved_fits w s (Replied reply, v) h (inr (inr g)) =
-    (moved_one w v _ _ g.1 reply g.3 g.4, one_fits w v _ g.0 g.4.limit g.4.came)
-moved_fits w s (Joined number, v) h g = (
-  subst (λ n. Moved w v n) g.1 (moved_one w v number _ _ replies.Done g.2 g.3),
-  one_fits w v _ g.0 g.3.limit g.3.came,
-)
+moved_so : (w : World) (s : Step) (p : Outcome × World) → Went w s p → Moved w p.1 (client_in w s)
+moved_so w s (NotNow, v) g = same_moved w v (client_in w s) g
+moved_so w s (Begun, v) g = moved_none w v _ _ g
+moved_so w s (Stands inode, v) g = moved_none w v _ _ g
+moved_so w s (Forked, v) g = moved_none w v _ _ g
+moved_so w s (Restarted, v) g = moved_none w v _ _ g
+moved_so w s (Replied reply, v) (inl g) = moved_none w v _ _ g.1
+moved_so w s (Replied reply, v) (inr (inl g)) = same_moved w v (client_in w s) g.1
+moved_so w s (Replied reply, v) (inr (inr g)) = moved_one w v _ _ g.1 reply g.3 g.4
+moved_so w s (Joined number, v) g = subst (λ n. Moved w v n) g.1 (moved_one w v number _ _ replies.Done g.2 g.3)
 
 pub stepped : (b b' : Book) (s : Step) (p : Outcome) → IsSound b.world → length b.world.history ≤ b.world.limit
     → advance b.world s ≡ (p, b'.world) → Steps b b' (client_in b.world s)
-stepped b b' s p h fits e =
-    let m = subst (λ (q : Outcome × World). Moved b.world q.1 (client_in b.world s) × Fits q.1) e
-    (moved_fits b.world s (advance b.world s) fits (went b.world s)) in
-    record {
-      moved = m.0;
-      sound = subst (λ (q : Outcome × World). IsSound q.1) e (sound_kept b.world s h);
-      within = m.1;
-    }
+stepped b b' s p h fits e = record {
+  moved = subst (λ (q : Outcome × World). Moved b.world q.1 (client_in b.world s)) e
+      (moved_so b.world s (advance b.world s) (went b.world s));
+  sound = subst (λ (q : Outcome × World). IsSound q.1) e (sound_kept b.world s h);
+  within = subst (λ (q : Outcome × World). length q.1.history ≤ q.1.limit) e (still_within b.world s fits);
+}
 
 pub stood : (b b' : Book) (c : ℕ) → IsSound b.world → length b.world.history ≤ b.world.limit → b' ≡ b → Steps b b' c
 stood b b' c h fits e = subst (λ (x : Book). Steps b x c) (sym e)

@@ -6,7 +6,7 @@ use Rattle.ll_laws.proofs.Chains.{same_Some}
 use Rattle.ll_worlds.specs.declared.step.Step.{Step}
 use Rattle.ll_worlds.specs.declared.step.Step.TheVariants.{Join}
 use Rattle.ll_worlds.specs.World as world
-use Rattle.ll_worlds.specs.World.{World, advance}
+use Rattle.ll_worlds.specs.World.{World}
 use Rattle.ll_worlds.specs.Sound.{IsSound}
 use Rattle.ll_journal.specs.Book.{Book}
 use Rattle.ll_journal.specs.Direct.{Answers}
@@ -17,7 +17,7 @@ use Rattle.ll_client.specs.Entries.{doing_of, knows, part_of}
 use Rattle.ll_client.specs.Gains.{Gains}
 use Rattle.ll_client.specs.Hands.{seen_made}
 use Rattle.ll_client.proofs.Accounts.{IsClient}
-use Rattle.ll_client.proofs.Walked.{Grown, Went, asked, client_in, doing_after, entry_of, went}
+use Rattle.ll_worlds.proofs.StepGrowth.{Grown, Went, asked, client_in, doing_after, entry_of, went}
 use Rattle.ll_client.proofs.Desks.{Steps, stepped, stood}
 use Rattle.ll_client.proofs.Leavings.{full_grown, full_is, room_grown, told_one}
 

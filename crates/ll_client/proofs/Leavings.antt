@@ -16,7 +16,7 @@ use Rattle.ll_worlds.specs.declared.step.Step.{Step}
 use Rattle.ll_worlds.specs.declared.step.Step.TheVariants as steps
 use Rattle.ll_worlds.specs.Walk.{Walk}
 use Rattle.ll_worlds.specs.World as world
-use Rattle.ll_worlds.specs.World.{World, advance, is_full, restart, shown, without_walk, next_number, reply_to}
+use Rattle.ll_worlds.specs.World.{World, advance, is_full, restart, shown, without_walk, next_number}
 use Rattle.ll_worlds.specs.Sound.{IsSound}
 use Rattle.ll_worlds.proofs.Shapes.{restarted}
 use Rattle.ll_journal.specs.Book.{Book}
@@ -36,7 +36,7 @@ use Rattle.ll_client.specs.Entries.{doing_of, knows, numbered, part_of, part_fro
 use Rattle.ll_client.specs.Gains.{Goes, Leaves, Told}
 use Rattle.ll_client.specs.Hands.{ended_as, restarted_as, seen_of}
 use Rattle.ll_client.proofs.Accounts.{IsClient, Moved}
-use Rattle.ll_client.proofs.Walked.{Grown, Went, asked, client_in, doing_after, entry_of, never_full, gone, went}
+use Rattle.ll_worlds.proofs.StepGrowth.{Grown, Went, asked, client_in, doing_after, entry_of, never_full, gone, went}
 use Rattle.ll_client.proofs.Desks.{Steps, does_goes, knows_same, part_mine, stepped, stood}
 
 -- ---- what the journal tells

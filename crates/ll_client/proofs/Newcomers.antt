@@ -52,7 +52,8 @@ use Rattle.ll_client.specs.Gains.{Gains}
 use Rattle.ll_client.proofs.Accounts.{IsClient}
 use Rattle.ll_client.proofs.Directs.{IsDirect, direct_gains, direct_steps}
 use Rattle.ll_client.proofs.Desks.{Steps, part_mine, part_other, stepped}
-use Rattle.ll_client.proofs.Walked.{Grown, Went, entry_of, shown_one, went}
+use Rattle.ll_worlds.proofs.StepGrowth.{Grown, Went, entry_of, went}
+use Rattle.ll_client.proofs.Walked.{shown_one}
 
 -- ---- who connects is there then, and isn't one too many
 

@@ -116,6 +116,13 @@ impl Inodes {
         })
     }
 
+    /// What is counted of each node.
+    pub fn facts(&self) -> &NumberMap<Fact>
+        ensures { result.now ≡ self.now.facts }
+    {
+        &self.facts
+    }
+
     /// What is counted of the node.
     pub fn fact(&self, inode: u64) -> Option<Fact>
         ensures { result ≡ get self.now.facts inode }

@@ -19,9 +19,7 @@ use Rattle.ll_changes.specs.Enacting.{Scene, InHand, IsGiven}
 use Rattle.ll_held.specs.declared.held.Held.{Held}
 use Rattle.ll_inodes.specs.InodeTable.{AreDistinct}
 use Rattle.ll_seq.specs.declared.call.Call.{Call}
-use Rattle.ll_seq.specs.declared.call.Call.TheVariants.{Make, Open, Read, Write, Ftruncate, Close, Truncate, ReadDir}
-use Rattle.ll_seq.specs.declared.call.Call.TheVariants.{Stat, Exec, Unlink, Rmdir, Rename, RenameNoreplace, Exchange}
-use Rattle.ll_seq.specs.declared.call.Call.TheVariants.{Link, Ruleset, Allow, Confine, Spawn, Connect}
+use Rattle.ll_seq.specs.declared.call.Call.TheVariants.{Spawn}
 use Rattle.ll_seq.specs.declared.client.ClientRecord.{ClientRecord}
 use Rattle.ll_seq.specs.Call.{first_path, second_path, targets}
 use Rattle.ll_seq.specs.State.{State, kind_of, new_client}
@@ -30,7 +28,9 @@ use Rattle.ll_worlds.specs.Commits.{first_end, second_end}
 use Rattle.ll_worlds.specs.Walk.{Walk, Leg, Position, Above, Down, Split, is_in, marks}
 use Rattle.ll_worlds.specs.World.{World, domain_of, has_any, is_full, is_walked, shown, without_walk}
 use Rattle.ll_seq.specs.Stages.{early_refusals}
+use Rattle.ll_seq.proofs.Parted.{or_left, or_right}
 use Rattle.ll_worlds.proofs.SoundSteps.{marked_below}
+use Rattle.ll_worlds.proofs.StepGrowth.{gone}
 use Rattle.ll_worlds.proofs.Tests.{both, is_nil, not_true}
 use Rattle.ll_journal.specs.declared.journal.Journal.TheInside.{Inside}
 use Rattle.ll_journal.specs.Book.{Seat, Book, inode_in, has_mark, slot_of}
@@ -40,48 +40,17 @@ use Rattle.ll_journal.specs.Kept.{IsKept, world_of, book_of, spares_of}
 use Rattle.ll_journal.specs.declared.seat.Ended.{Ended}
 use Rattle.ll_journal.specs.Performed.{EndsAs, IsAtEnd, at_seat, lies_in}
 use Rattle.ll_journal.specs.Stopped.{IsEndOf, IsReachedEnd}
+use Rattle.ll_journal.proofs.Begun.{names_one}
 use Rattle.ll_journal.proofs.Committed.{scene_at, told_slots}
-use Rattle.ll_journal.proofs.Ended.{removed}
 use Rattle.ll_journal.proofs.Entering.{walk_here}
 use Rattle.ll_journal.proofs.MarkOf.{mark_none, whose_mark}
 use Rattle.ll_journal.proofs.Starting.{at_place}
 use Rattle.ll_journal.proofs.Stepping.{there}
 use Rattle.ll_journal.proofs.ClientTables.{many_spares}
 
--- a call with a target names a path
-names_path : (call : Call) → has_any (targets call) ≡ true → has_path call ≡ true
-names_path (Make kind t) e = refl
-names_path (Open mode t) e = refl
-names_path (Read fd offset count) e = absurd (cc e)
-names_path (Write fd offset bytes) e = absurd (cc e)
-names_path (Ftruncate fd size) e = absurd (cc e)
-names_path (Close fd) e = absurd (cc e)
-names_path (Truncate t size) e = refl
-names_path (ReadDir t) e = refl
-names_path (Stat t) e = refl
-names_path (Exec t) e = refl
-names_path (Unlink t) e = refl
-names_path (Rmdir t) e = refl
-names_path (Rename o n) e = refl
-names_path (RenameNoreplace o n) e = refl
-names_path (Exchange o n) e = refl
-names_path (Link o n) e = refl
-names_path (Ruleset rights) e = absurd (cc e)
-names_path (Allow rs t rights) e = refl
-names_path (Confine rs) e = absurd (cc e)
-names_path Spawn e = absurd (cc e)
-names_path Connect e = absurd (cc e)
-
 left_true : (a b : Bool) → (a && b) ≡ true → a ≡ true
 left_true true b e = refl
 left_true false b e = absurd (cc e)
-
-or_true : (a b : Bool) → a ≡ true → (a || b) ≡ true
-or_true a b e = ap (λ x. x || b) e
-
-or_also : (a b : Bool) → b ≡ true → (a || b) ≡ true
-or_also true b e = refl
-or_also false b e = e
 
 -- a walk stands where its legs do
 first_marked : (at : Position) (leg : Leg) → first_end at ≡ Some leg → (walk : Walk) → walk.at ≡ at
@@ -89,12 +58,12 @@ first_marked : (at : Position) (leg : Leg) → first_end at ≡ Some leg → (wa
 first_marked Above leg e walk is = absurd (cc e)
 first_marked (Down trunk) leg e walk is =
     ap (λ p. marks (record walk { at = p }) leg.here) is
-    ∙ or_true (trunk.here == leg.here) false
+    ∙ or_left (trunk.here == leg.here) false
     (eq-eqb trunk.here leg.here (ap (λ (l : Leg). l.here) (same_Some trunk leg e)))
 first_marked (Split trunk old new) leg e walk is =
     ap (λ p. marks (record walk { at = p }) leg.here) is
-    ∙ or_also (trunk.here == leg.here) ((old.here == leg.here) || ((new.here == leg.here) || false))
-    (or_true (old.here == leg.here) ((new.here == leg.here) || false)
+    ∙ or_right (trunk.here == leg.here) ((old.here == leg.here) || ((new.here == leg.here) || false))
+    (or_left (old.here == leg.here) ((new.here == leg.here) || false)
     (eq-eqb old.here leg.here (ap (λ (l : Leg). l.here) (same_Some old leg e))))
 
 second_marked : (at : Position) (leg : Leg) → second_end at ≡ Some leg → (walk : Walk) → walk.at ≡ at
@@ -102,13 +71,13 @@ second_marked : (at : Position) (leg : Leg) → second_end at ≡ Some leg → (
 second_marked Above leg e walk is = absurd (cc e)
 second_marked (Down trunk) leg e walk is =
     ap (λ p. marks (record walk { at = p }) leg.here) is
-    ∙ or_true (trunk.here == leg.here) false
+    ∙ or_left (trunk.here == leg.here) false
     (eq-eqb trunk.here leg.here (ap (λ (l : Leg). l.here) (same_Some trunk leg e)))
 second_marked (Split trunk old new) leg e walk is =
     ap (λ p. marks (record walk { at = p }) leg.here) is
-    ∙ or_also (trunk.here == leg.here) ((old.here == leg.here) || ((new.here == leg.here) || false))
-    (or_also (old.here == leg.here) ((new.here == leg.here) || false)
-    (or_true (new.here == leg.here) false
+    ∙ or_right (trunk.here == leg.here) ((old.here == leg.here) || ((new.here == leg.here) || false))
+    (or_right (old.here == leg.here) ((new.here == leg.here) || false)
+    (or_left (new.here == leg.here) false
     (eq-eqb new.here leg.here (ap (λ (l : Leg). l.here) (same_Some new leg e)))))
 
 pub spare_at : (seats : List Seat) (place : ℕ) (seat : Seat) → slice_get seats place ≡ Some seat
@@ -154,7 +123,7 @@ module _ {j i : Inside} (h : IsKept j) (mid : IsKept i) {number place : ℕ} (nu
 
   pub seat_idle : seat.walk ≡ None
   seat_idle = sym (walk_here i mid number place seat at numbered) ∙ ap (λ (w : World). get w.walks number) world
-      ∙ removed (world_of j).walks number
+      ∙ gone (world_of j).walks number
 
   tree : shown (world_of i) ≡ shown (world_of j)
   tree = ap shown world
@@ -230,7 +199,7 @@ module _ {j i : Inside} (h : IsKept j) (mid : IsKept i) {number place : ℕ} (nu
       walked).1)
 
   path : has_path r.walk.call ≡ true
-  path = names_path r.walk.call
+  path = names_one r.walk.call
       (left_true (has_any (targets r.walk.call)) _ ((h.sound.valid number r.walk r.ends.is).0.walked))
 
   pub at_end : IsAtEnd scene hand walk found

@@ -1,37 +1,27 @@
 -- What a commit finds: the directories where a walk stands at its ends, what they have under the last names, and the
 -- answer of a walk that can't go on.
-use Rattle.std.specs.Prelude.{◌≡◌, ℕ, Bool, true, false, ◌||◌, List, [], ◌∷◌, ◌++◌, map, length, Option, Some, None}
-use Rattle.std.specs.Prelude.{nat_lt, nat_le, unwrap_or, slice_get, option_map, option_and_then, refl}
-use Rattle.std.specs.Option.{option_map_or}
+use Rattle.std.specs.Prelude.{◌≡◌, ℕ, Bool, true, false, ◌||◌, List, [], ◌∷◌, map, Some}
+use Rattle.std.specs.Prelude.{slice_get, refl}
 use Rattle.std.specs.List.{list_any, flat_map}
-use Rattle.std.specs.Ordering.{nat_cmp}
 use Rattle.std.proofs.Common.{sym, subst, ap, ◌∙◌}
-use Rattle.std.proofs.lemmas.List.{append-nil}
 use Rattle.std.proofs.lemmas.List.Folds.{list_any-append}
-use Rattle.ll_rights.specs.declared.kind.Kind.{Kind}
-use Rattle.ll_rights.specs.declared.kind.Kind.TheVariants.{Reg, Dir}
+use Rattle.ll_rights.specs.declared.kind.Kind.TheVariants.{Dir}
 use Rattle.ll_rights.specs.declared.errno.Errno.{Errno}
-use Rattle.ll_rights.specs.declared.limits.TheConstants.{DIRECTORY_ENTRIES, NODE_NAMES}
-use Rattle.ll_rights.specs.Map.{Map, get}
+use Rattle.ll_rights.specs.Map.{get}
 use Rattle.ll_path.specs.Path.{Path, parent, last_name, is_root}
 use Rattle.ll_path.specs.declared.target.Target.{Target}
 use Rattle.ll_rules.specs.Layer.{Layer}
 use Rattle.ll_seq.specs.declared.call.Call.{Call}
-use Rattle.ll_seq.specs.declared.facts.Fact.{Fact}
 use Rattle.ll_seq.specs.declared.reply.Reply.TheVariants.{Refused}
 use Rattle.ll_seq.specs.Call.{path_of, targets, first_path, second_path}
-use Rattle.ll_seq.specs.State.{Name, State, child, root, kind_of, names_in, name_count}
-use Rattle.ll_seq.specs.Tree.{named, directory_of, chain_from, end_from, ancestors}
+use Rattle.ll_seq.specs.State.{Name, State, root, kind_of}
+use Rattle.ll_seq.specs.Tree.{named, directory_of, ancestors}
 use Rattle.ll_seq.specs.Asked.{grants}
-use Rattle.ll_seq.specs.Stages.{in_the_way, is_crowded, no_directory, kind_of_child}
-use Rattle.ll_seq.specs.Facts.{AreKept, fact_of, open_count}
+use Rattle.ll_seq.specs.Stages.{in_the_way, no_directory, kind_of_child}
 use Rattle.ll_seq.proofs.CutChains.{named-child}
-use Rattle.ll_seq.proofs.Parted.{chain_push}
 use Rattle.ll_laws.proofs.Chains.{same_Some}
 use Rattle.ll_laws.proofs.Unrefused.{parent_last}
 use Rattle.ll_laws.proofs.Trees.{IsTree}
-use Rattle.ll_answer.specs.Found.{IsSpot, there_in}
-use Rattle.ll_answer.specs.declared.found.Spot.{Spot}
 use Rattle.ll_worlds.specs.Walk.{Walk, Leg, Position, Above, Down, Split, rights_where, turn, at_ends}
 use Rattle.ll_worlds.specs.World.{World, shown, domain_of, reply_to, last_node, last_nodes}
 use Rattle.ll_worlds.specs.Walks.{IsRight, AreRight}
@@ -104,114 +94,12 @@ blocked_reply w number walk sound is fresh leg in_turn name rest ahead errno fir
 
 -- ---- the last name
 
--- a chain goes no further where a name is missing
-chain_missing : (s : State) (p : Path) (n : Name) (i x : ℕ) → end_from s p i ≡ Some x → child s x n ≡ None
-    → chain_from s (p ++ n ∷ []) i ≡ chain_from s p i
-chain_missing s [] n i x e none =
-    ap (λ o. i ∷ option_map_or (chain_from s []) o []) (ap (λ j. child s j n) (same_Some i x e) ∙ none)
-chain_missing s (m ∷ p) n i x e none =
-    elim (child s i m) as (λ o. option_and_then (end_from s p) o ≡ Some x
-    → i ∷ option_map_or (chain_from s (p ++ n ∷ [])) o [] ≡ i ∷ option_map_or (chain_from s p) o []) [
-      | None ↦ λ f. refl
-      | Some j ↦ λ f. ap (λ is. i ∷ is) (chain_missing s p n j x f none)
-    ] e
-
--- a path's chain is that of its directory, and what it names
-pub chain_last : (s : State) (path : Path) (d : ℕ) → named s (parent path) ≡ Some d → is_root path ≡ false
-    → ancestors s path ≡ ancestors s (parent path) ++ option_map_or (λ (j : ℕ). j ∷ []) (named s path) []
-chain_last s path d stands below =
-    whole ∙ by (child s d (last_name path)) refl
-    ∙ ap (λ o. ancestors s (parent path) ++ option_map_or (λ (j : ℕ). j ∷ []) o []) (sym names)
-  where
-    whole : ancestors s path ≡ chain_from s (parent path ++ last_name path ∷ []) root
-    whole = ap (ancestors s) (parent_last path below)
-
-    names : named s path ≡ child s d (last_name path)
-    names = named-child s path (parent path) (last_name path) d (parent_last path below) stands
-
-    by : (o : Option ℕ) → child s d (last_name path) ≡ o
-        → chain_from s (parent path ++ last_name path ∷ []) root ≡ ancestors s (parent path)
-        ++ option_map_or (λ (j : ℕ). j ∷ []) (child s d (last_name path)) []
-    by None e = chain_missing s (parent path) (last_name path) root d stands e
-        ∙ sym (append-nil (ancestors s (parent path)))
-        ∙ ap (λ o. ancestors s (parent path) ++ option_map_or (λ (j : ℕ). j ∷ []) o []) (sym e)
-    by (Some x) e = chain_push s (parent path) (last_name path) root d x stands e
-        ∙ ap (λ o. ancestors s (parent path) ++ option_map_or (λ (j : ℕ). j ∷ []) o []) (sym e)
-
 module _ (s : State) (tree : IsTree s) (domain : List Layer) (path : Path) (leg : Leg) (end : IsEnd s domain path leg)
   where
     -- the lent directory has under the last name what the path names
     pub end_look_up : is_root path ≡ false → get (names_map s leg.here) (last_name path) ≡ named s path
     end_look_up below = get-names_map s leg.here (last_name path)
         ∙ sym (named-child s path (parent path) (last_name path) leg.here (parent_last path below) end.names)
-
-    -- what is found there
-    pub end_spot : (spot : Spot) → spot.way ≡ None → spot.directory ≡ leg.here → spot.is_crowded ≡ is_crowded s leg.here
-        → spot.there ≡ option_map (there_in s) (named s path) → IsSpot s path spot
-    end_spot spot way directory crowded there = record {
-      way = way ∙ ap (λ es. slice_get es 0) (sym end.way);
-      stands = λ none. record {
-        directory = directory ∙ end.here;
-        crowded = crowded
-            ∙ ap (is_crowded s) end.here;
-        there = there;
-      };
-    }
-
--- ---- what is kept of a node
-
-module _ (s : State) (facts : Map nat_cmp Fact) (kept : AreKept s facts) (inode : ℕ) where
-  pub has_fact : (kind : Kind) → kind_of s inode ≡ Some kind → (fact : Fact) × (get facts inode ≡ Some fact)
-  has_fact kind e = (
-    record { kind = kind; names = length (names_in s inode); links = name_count s inode; opens = open_count s inode },
-    kept.told inode ∙ ap (option_map
-        (λ (k : Kind). record {
-          kind = k;
-          names = length (names_in s inode);
-          links = name_count s inode;
-          opens = open_count s inode;
-        })) e,
-  )
-
-  module _ (fact : Fact) (is : get facts inode ≡ Some fact) where
-    -- its counts are those of the state
-    counts : fact_of s inode ≡ Some fact
-    counts = sym (kept.told inode) ∙ is
-
-    pub fact_is : (kind_of s inode ≡ Some fact.kind) × (fact.names ≡ length (names_in s inode))
-        × (fact.links ≡ name_count s inode)
-    fact_is =
-        elim (kind_of s inode) as (λ o. option_map
-        (λ (kind : Kind). record {
-          kind = kind;
-          names = length (names_in s inode);
-          links = name_count s inode;
-          opens = open_count s inode;
-        }) o ≡ Some fact → (o ≡ Some fact.kind)
-        × (fact.names ≡ length (names_in s inode)) × (fact.links ≡ name_count s inode)) [
-          | None ↦ λ e. absurd (cc e)
-          | Some kind ↦ λ e. let same = same_Some _ _ e in (
-            ap (λ (f : Fact). Some f.kind) same,
-            ap (λ (f : Fact). f.names) (sym same),
-            ap (λ (f : Fact). f.links) (sym same),
-          )
-        ] counts
-
-    pub there_is : record {
-      inode = inode;
-      kind = fact.kind;
-      has_names = nat_lt 0 fact.names;
-      has_many_names = nat_le NODE_NAMES fact.links;
-    } ≡ there_in s inode
-    there_is = λ i. record {
-      inode = inode;
-      kind = unwrap_or (sym fact_is.0 i) Reg;
-      has_names = nat_lt 0 (fact_is.1 i);
-      has_many_names = nat_le NODE_NAMES (fact_is.2 i);
-    }
-
-    pub crowded_is : nat_le DIRECTORY_ENTRIES fact.names ≡ is_crowded s inode
-    crowded_is = ap (nat_le DIRECTORY_ENTRIES) fact_is.1
 
 -- ---- marks at the last names
 

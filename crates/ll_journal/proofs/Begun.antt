@@ -24,7 +24,8 @@ use Rattle.ll_inodes.proofs.SlotLists.{set_same, set_other}
 use Rattle.ll_journal.specs.Book.{Seat}
 use Rattle.ll_journal.specs.Kept.{walks_from, seat_at}
 
-names_one : (call : Call) → has_any (targets call) ≡ true → has_path call ≡ true
+-- a call with a target names a path
+pub names_one : (call : Call) → has_any (targets call) ≡ true → has_path call ≡ true
 names_one (Make kind target) e = refl
 names_one (Open mode target) e = refl
 names_one (Read fd offset count) e = absurd (cc e)

@@ -11,13 +11,13 @@ use Rattle.ll_seq.specs.declared.node.Node.{Node}
 use Rattle.ll_seq.specs.State.{State, kind_of}
 use Rattle.ll_seq.specs.Tree.{named, ancestors}
 use Rattle.ll_inodes.specs.InodeTable.{IsTable, Table}
+use Rattle.ll_answer.proofs.LongerPaths.{chain_last}
 use Rattle.ll_answer.specs.declared.found.Spot.{Spot}
 use Rattle.ll_worlds.specs.Walk.{Walk}
 use Rattle.ll_worlds.specs.World.{overtaken}
 use Rattle.ll_journal.specs.Book as book
 use Rattle.ll_journal.specs.Decidings.{IsEndAt, moved_list}
 use Rattle.ll_journal.specs.declared.decide_end.Moved.{Moved}
-use Rattle.ll_journal.proofs.AtEnds.{chain_last}
 use Rattle.ll_journal.proofs.Overtaking.{or_false, overtaken_seat}
 
 -- ---- what is granted on the path
@@ -32,7 +32,7 @@ module _ (s : State) (domain : List Layer) (path : Path) (spot : Spot) (masks : 
   granted_below below here is result more =
       subst (AreMasks result domain)
       (ap (λ o. ancestors s (parent path) ++ option_map_or (λ (j : ℕ). j ∷ []) o []) is
-      ∙ sym (chain_last s path spot.directory end.names below))
+      ∙ sym (chain_last s path below))
       (more (ancestors s (parent path)) end.masks)
 
 -- ---- no node has the inode 0

@@ -1,5 +1,5 @@
 -- A walk goes from one directory to the next.
-use Rattle.std.specs.Prelude.{◌≡◌, ◌≢◌, ℕ, suc, Bool, true, false, cond, not, ◌||◌, ◌==◌, List, [], ◌∷◌, length, Option}
+use Rattle.std.specs.Prelude.{◌≡◌, ◌≢◌, ℕ, suc, Bool, true, false, cond, not, ◌||◌, ◌==◌, List, [], ◌∷◌, Option}
 use Rattle.std.specs.Prelude.{Some, None, is_none, is_some, IsSome, option_map, option_and_then, unwrap_or, slice_get}
 use Rattle.std.specs.Prelude.{refl}
 use Rattle.std.specs.List.{list_any}
@@ -14,10 +14,10 @@ use Rattle.ll_path.specs.Path.{Path, is_root}
 use Rattle.ll_node.specs.Slot.{Slot}
 use Rattle.ll_rules.specs.Layer.{Layer}
 use Rattle.ll_seq.specs.declared.facts.Fact.{Fact}
-use Rattle.ll_seq.specs.State.{Name, State, child, kind_of, names_in, name_count}
+use Rattle.ll_seq.specs.State.{Name, State, child, kind_of}
 use Rattle.ll_seq.specs.Tree.{kind_or_file}
-use Rattle.ll_seq.specs.Facts.{open_count}
 use Rattle.ll_laws.proofs.Chains.{same_Some}
+use Rattle.ll_answer.proofs.Counted.{kind_counted}
 use Rattle.ll_worlds.specs.Walk.{Walk, Leg, Position, Above, Down, Split, marks, legs, is_above, turn, with_turn}
 use Rattle.ll_worlds.specs.Walk.{further, further_by, leg_below}
 use Rattle.ll_worlds.specs.Walks.{IsRight, AreRight}
@@ -116,20 +116,13 @@ living_one j h i kind e = let slot = living_placed j h i kind e in (h.table.plac
 pub directory_fact : (j : Inside) → IsKept j → (i : ℕ)
     → is_directory j.table.facts i ≡ is_dir (kind_or_file (shown (world_of j)) i)
 directory_fact j h i =
-    ap (λ (o : Option Fact). option_map_or (λ (fact : Fact). is_dir fact.kind) o false) (h.table.facts.told i)
-    ∙ elim (kind_of (shown (world_of j)) i) as
-    (λ o. option_map_or (λ (fact : Fact). is_dir fact.kind)
-    (option_map (λ (kind : Kind).
-    record {
-      kind = kind;
-      names = length (names_in (shown (world_of j)) i);
-      links = name_count (shown (world_of j)) i;
-      opens = open_count (shown (world_of j)) i;
-    }) o) false
-    ≡ is_dir (unwrap_or o Reg)) [
-      | None ↦ refl
-      | Some kind ↦ refl
-    ]
+    by (get j.table.facts i)
+    ∙ ap (λ o. is_dir (unwrap_or o Reg)) (kind_counted (shown (world_of j)) j.table.facts h.table.facts i)
+  where
+    by : (o : Option Fact) → option_map_or (λ (fact : Fact). is_dir fact.kind) o false
+        ≡ is_dir (unwrap_or (option_map (λ (fact : Fact). fact.kind) o) Reg)
+    by None = refl
+    by (Some fact) = refl
 
 pub directory_kind : (s : State) (i : ℕ) → is_dir (kind_or_file s i) ≡ true → (kind : Kind) × (kind_of s i ≡ Some kind)
 directory_kind s i e = elim (kind_of s i) as (λ o. is_dir (unwrap_or o Reg) ≡ true → (kind : Kind) × (o ≡ Some kind))

@@ -9,7 +9,7 @@ use Rattle.std.proofs.lemmas.Bool.{eqb-true, eq-eqb}
 use Rattle.ll_rights.specs.declared.errno.Errno.TheVariants.{HistoryFull}
 use Rattle.ll_rights.specs.Map.{Map, get, remove}
 use Rattle.ll_rights.specs.MapCodes.{same_list_map}
-use Rattle.ll_rights.proofs.Maps.{get-remove_other, got_left, same_map}
+use Rattle.ll_rights.proofs.Maps.{get-remove_other, same_map}
 use Rattle.ll_seq.specs.declared.call.Call.{Call}
 use Rattle.ll_seq.specs.declared.reply.Reply.{Reply}
 use Rattle.ll_seq.specs.declared.reply.Reply.TheVariants.{Refused}
@@ -21,6 +21,7 @@ use Rattle.ll_worlds.specs.Sound.{IsSound}
 use Rattle.ll_worlds.proofs.Shapes.{with_entry, with_stale}
 use Rattle.ll_worlds.proofs.SoundSteps.{sound_ended}
 use Rattle.ll_worlds.proofs.Worlds.{get-map_values}
+use Rattle.ll_worlds.proofs.StepGrowth.{gone}
 use Rattle.ll_journal.specs.declared.stage.Stage.{Stage}
 use Rattle.ll_journal.specs.declared.seat.Seat.TheInside.{Inside}
 use Rattle.ll_journal.specs.Book as book
@@ -48,13 +49,6 @@ at_ends_by seat call now is e =
 
 -- ---- its walk is gone
 
-pub removed : (m : Map nat_cmp Walk) (number : ℕ) → get (remove m number) number ≡ None
-removed m number = by (get (remove m number) number) refl
-  where
-    by : (o : Option Walk) → get (remove m number) number ≡ o → o ≡ None
-    by None e = refl
-    by (Some walk) e = absurd ((got_left nat_cmp_total nat_cmp-IsAntisymmetric m number number walk e).1 refl)
-
 -- a seat without a walk has none among the walks
 pub walks_ended : (seats : List book.Seat) (number place : ℕ) (old seat : book.Seat) → number ≡ suc place
     → slice_get seats place ≡ Some old → seat.walk ≡ None
@@ -77,7 +71,7 @@ walks_ended seats number place old seat numbered at none =
         let here : q ≡ suc place = eqb-true q (suc place) e in
         ap (λ n. walk_in (seat_at (slice_set seats place seat) n)) here ∙ ap walk_in (set_same seats place old seat at)
         ∙ none
-        ∙ sym (ap (get (remove (walks_from 1 seats) (suc place))) here ∙ removed (walks_from 1 seats) (suc place))
+        ∙ sym (ap (get (remove (walks_from 1 seats) (suc place))) here ∙ gone (walks_from 1 seats) (suc place))
     by q false e =
         let away : q ≢ suc place = λ g. cc (sym e ∙ eq-eqb q (suc place) g) in
         other q away ∙ sym (get-remove_other nat_cmp_total nat_cmp-IsAntisymmetric (walks_from 1 seats) (suc place) q

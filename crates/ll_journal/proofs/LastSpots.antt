@@ -1,14 +1,12 @@
 -- What is found under the last names: which of it is marked, and which nodes the commit needs.
 use Rattle.std.specs.Prelude.{◌≡◌, ◌≢◌, ◌⊎◌, ℕ, Bool, true, false, cond, not, ◌&&◌, ◌||◌, ◌==◌, List, [], ◌∷◌, drop}
-use Rattle.std.specs.Prelude.{Option, Some, None, is_none, option_map, option_and_then, option_to_list, nat_le}
-use Rattle.std.specs.Prelude.{slice_index_or, refl}
+use Rattle.std.specs.Prelude.{Option, Some, None, is_none, option_map, option_to_list}
+use Rattle.std.specs.Prelude.{slice_get, slice_index_or, refl}
 use Rattle.std.specs.Option.{option_map_or}
 use Rattle.std.specs.List.{list_any, list_all}
 use Rattle.std.specs.Ordering.{nat_cmp}
 use Rattle.std.proofs.Common.{sym, ap, ◌∙◌, inl, inr}
 use Rattle.std.proofs.lemmas.Bool.{eqb-true}
-use Rattle.ll_rights.specs.declared.kind.Kind.TheVariants.{Dir}
-use Rattle.ll_rights.specs.declared.limits.TheConstants.{DIRECTORY_ENTRIES}
 use Rattle.ll_rights.specs.Map.{Map, get}
 use Rattle.ll_path.specs.Path.{Path, is_root, last_name}
 use Rattle.ll_path.specs.declared.target.Target.{Target}
@@ -21,12 +19,12 @@ use Rattle.ll_seq.specs.declared.call.Call.TheVariants.{Link, Ruleset, Allow, Co
 use Rattle.ll_seq.specs.declared.facts.Fact.{Fact}
 use Rattle.ll_seq.specs.Call.{path_of, targets, first_of, second_of, first_path, second_path}
 use Rattle.ll_seq.specs.Facts.{AreKept}
-use Rattle.ll_seq.specs.Stages.{is_crowded}
 use Rattle.ll_seq.specs.State.{State, root}
 use Rattle.ll_seq.specs.Tree.{named}
 use Rattle.ll_seq.proofs.Parted.{or_right}
 use Rattle.ll_laws.proofs.Granted.{kind_known}
 use Rattle.ll_laws.proofs.Trees.{IsTree}
+use Rattle.ll_answer.proofs.Counted.{spot_counted}
 use Rattle.ll_answer.specs.Found.{IsSpot, there_in}
 use Rattle.ll_answer.specs.Near.{inode_at, nodes_of, may_make}
 use Rattle.ll_answer.specs.declared.found.Found.{Found}
@@ -38,9 +36,8 @@ use Rattle.ll_worlds.proofs.Tests.{itself_in}
 use Rattle.ll_held.specs.declared.held.Held.{Held}
 use Rattle.ll_changes.specs.Accounts.{names_map}
 use Rattle.ll_journal.specs.WalkEnds.{nodes_at_end, would_make}
-use Rattle.ll_journal.specs.Checks.{crowded_at, found_at, is_marked_at, is_marked_there, last_in, spot_at, there_at}
-use Rattle.ll_journal.specs.Checks.{there_by}
-use Rattle.ll_journal.proofs.AtEnds.{IsEnd, any_last, crowded_is, end_look_up, end_spot, has_fact, there_is}
+use Rattle.ll_journal.specs.Checks.{found_at, is_marked_at, is_marked_there, last_in, spot_at}
+use Rattle.ll_journal.proofs.AtEnds.{IsEnd, any_last, end_look_up}
 
 -- under the path's last name stands what the spot tells
 abbrev pub IsThere : State → Path → Spot → Type 0
@@ -354,22 +351,9 @@ module _ (s : State) (tree : IsTree s) (facts : Map nat_cmp Fact) (kept : AreKep
         | false ↦ λ e. ap (λ m. get m (last_name path)) names ∙ end_look_up s tree domain path leg end e
       ] refl
 
-  pub there_last : IsThere s path (spot_at facts held path)
-  there_last = ap (option_and_then (there_at facts)) last_is ∙ by (named s path) refl
-    where
-      by : (o : Option ℕ) → named s path ≡ o → option_and_then (there_at facts) o ≡ option_map (there_in s) o
-      by None e = refl
-      by (Some i) e =
-          let kind = kind_known s tree path i e in
-          let fact = has_fact s facts kept i kind.0 kind.1 in
-          ap (option_map (there_by i)) fact.1 ∙ ap Some (there_is s facts kept i fact.0 fact.1)
-
-  pub crowded_last : crowded_at facts held.inode ≡ is_crowded s leg.here
-  crowded_last =
-      let fact = has_fact s facts kept leg.here Dir end.directory in
-      ap (crowded_at facts) here ∙ ap
-      (λ (o : Option Fact). option_map_or (λ (f : Fact). nat_le DIRECTORY_ENTRIES f.names) o false) fact.1
-      ∙ crowded_is s facts kept leg.here fact.0 fact.1
-
   pub spot_last : IsSpot s path (spot_at facts held path)
-  spot_last = end_spot s tree domain path leg end (spot_at facts held path) refl here crowded_last there_last
+  spot_last = spot_counted s facts kept tree.root_node path None held.inode (last_in held path)
+      (ap (λ es. slice_get es 0) (sym end.way)) (here ∙ end.here) last_is (kind_known s tree path)
+
+  pub there_last : IsThere s path (spot_at facts held path)
+  there_last = (spot_last.stands refl).there

@@ -39,7 +39,7 @@ leads_so s (inr (inl e)) = ap leads_on e
 leads_so s (inr (inr (inl e))) = ap leads_on e
 leads_so s (inr (inr (inr e))) = ap leads_on e
 
-no_turn : (at : Position) → turn at ≡ None → at ≡ Above
+pub no_turn : (at : Position) → turn at ≡ None → at ≡ Above
 no_turn Above e = refl
 no_turn (Down trunk) e = absurd (cc e)
 no_turn (Split trunk old new) e = absurd (cc e)

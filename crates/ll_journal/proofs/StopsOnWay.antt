@@ -1,6 +1,6 @@
 -- Why a commit stops where its client has no walk that goes on, and where a name is still ahead of the leg in turn.
 use Rattle.std.specs.Prelude.{◌≡◌, ◌≢◌, ℕ, suc, Bool, true, false, not, ◌&&◌, List, [], ◌∷◌, map, Option, Some, None}
-use Rattle.std.specs.Prelude.{is_none, is_some, option_map, option_and_then, unwrap_or, cond, length, slice_get, refl}
+use Rattle.std.specs.Prelude.{is_none, is_some, option_map, option_and_then, unwrap_or, cond, slice_get, refl}
 use Rattle.std.specs.Option.{option_map_or}
 use Rattle.std.proofs.Common.{sym, subst, ap, ◌∙◌, inl, inr}
 use Rattle.ll_rights.specs.declared.errno.Errno.{Errno}
@@ -11,11 +11,10 @@ use Rattle.ll_rights.specs.Map.{get}
 use Rattle.ll_node.specs.Slot.{NameMap}
 use Rattle.ll_path.specs.Path.{Path, is_root}
 use Rattle.ll_seq.specs.declared.call.Call.{Call}
-use Rattle.ll_seq.specs.declared.facts.Fact.{Fact}
-use Rattle.ll_seq.specs.Facts.{open_count}
 use Rattle.ll_seq.specs.Stages.{no_directory, kind_of_child}
-use Rattle.ll_seq.specs.State.{Name, State, kind_of, names_in, name_count}
+use Rattle.ll_seq.specs.State.{Name, State, kind_of}
 use Rattle.ll_laws.proofs.Chains.{same_Some}
+use Rattle.ll_answer.proofs.Counted.{kind_counted}
 use Rattle.ll_worlds.specs.Walk.{Walk, Leg, Position, Above, Down, Split, at_ends, has_two_paths, is_blocked, marks}
 use Rattle.ll_worlds.specs.Walk.{turn}
 use Rattle.ll_worlds.specs.World as world
@@ -151,22 +150,7 @@ refused_as : (j : Inside) → IsKept j → (found : Option ℕ)
     → blocked_at j.table.facts found ≡ slice_get (no_directory (kind_of_child (shown (world_of j)) found)) 0
 refused_as j h None = refl
 refused_as j h (Some inode) =
-    ap (λ o. slice_get (no_directory o) 0) (ap (option_map (λ (fact : Fact). fact.kind)) (h.table.facts.told inode)
-    ∙ by (kind_of s inode))
-  where
-    s : State
-    s = shown (world_of j)
-
-    by : (o : Option Kind) → option_map (λ (fact : Fact). fact.kind)
-        (option_map (λ (kind : Kind).
-        record {
-          kind = kind;
-          names = length (names_in s inode);
-          links = name_count s inode;
-          opens = open_count s inode;
-        }) o) ≡ o
-    by None = refl
-    by (Some kind) = refl
+    ap (λ o. slice_get (no_directory o) 0) (kind_counted (shown (world_of j)) j.table.facts h.table.facts inode)
 
 module _ (j : Inside) (h : IsKept j) (number place : ℕ) (seat : Seat) (at : slice_get j.seats.items place ≡ Some seat)
     (numbered : number ≡ suc place)

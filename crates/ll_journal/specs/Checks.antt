@@ -1,15 +1,15 @@
 -- What the journal finds before a step: whether it may be made. No public contract cites it. own
 use Rattle.std.specs.Prelude.{◌≡◌, ◌⊎◌, ℕ, ◌==◌, Bool, true, false, not, ◌&&◌, ◌||◌, List, Option, Some, None, is_none}
-use Rattle.std.specs.Prelude.{nat_lt, nat_le, option_map, option_and_then, slice_get, if◌then◌else◌}
+use Rattle.std.specs.Prelude.{option_map, option_and_then, slice_get, if◌then◌else◌}
 use Rattle.std.specs.List.{list_all, list_any}
 use Rattle.std.specs.Option.{option_map_or}
 use Rattle.std.specs.Ordering.{nat_cmp}
 use Rattle.ll_rights.specs.declared.errno.Errno.{Errno}
-use Rattle.ll_rights.specs.declared.limits.TheConstants.{DIRECTORY_ENTRIES, NODE_NAMES}
 use Rattle.ll_rights.specs.Kind.{is_dir}
 use Rattle.ll_rights.specs.Map.{Map, get}
 use Rattle.ll_seq.specs.declared.facts.Fact.{Fact}
 use Rattle.ll_path.specs.Path.{Path, is_root, last_name}
+use Rattle.ll_answer.specs.Found.{spot_by}
 use Rattle.ll_answer.specs.Near.{nodes_of, may_make}
 use Rattle.ll_answer.specs.declared.found.Found.{Found}
 use Rattle.ll_answer.specs.declared.found.Spot.{Spot}
@@ -111,32 +111,12 @@ directory_below facts seat from =
 
 -- ---- What a walk finds at its ends
 
-abbrev pub there_by : ℕ → Fact → There
-there_by inode fact = record {
-  inode = inode;
-  kind = fact.kind;
-  has_names = nat_lt 0 fact.names;
-  has_many_names = nat_le NODE_NAMES fact.links;
-}
-
--- the node of this inode, by what is counted of it
-abbrev pub there_at : Map nat_cmp Fact → ℕ → Option There
-there_at facts inode = option_map (there_by inode) (get facts inode)
-
-abbrev pub crowded_at : Map nat_cmp Fact → ℕ → Bool
-crowded_at facts inode = option_map_or (λ (fact : Fact). nat_le DIRECTORY_ENTRIES fact.names) (get facts inode) false
-
 -- what the last name stands for in the directory; the root for the root's path
 abbrev pub last_in : Held → Path → Option ℕ
 last_in held path = if is_root path then Some root else get held.node.names (last_name path)
 
 abbrev pub spot_at : Map nat_cmp Fact → Held → Path → Spot
-spot_at facts held path = record {
-  way = None;
-  directory = held.inode;
-  is_crowded = crowded_at facts held.inode;
-  there = option_and_then (there_at facts) (last_in held path);
-}
+spot_at facts held path = spot_by facts None held.inode (last_in held path)
 
 -- why the leg in turn can't go on: what its next name stands for is no directory
 abbrev pub blocked_at : Map nat_cmp Fact → Option ℕ → Option Errno

@@ -29,29 +29,16 @@ ghost use Rattle.ll_journal.specs.Decidings.{HasContent, IsEndAt, Lends, moved_l
 
 use crate::ending::overtake;
 use crate::seat::{Ended, Seat};
-use ll_answer::{Answer, Effect, Found, Spot, Targets, decide_passed, targets_of};
+use ll_answer::{
+    Answer, Effect, Found, Spot, Targets, decide_passed, granted_at, status, targets_of,
+};
 use ll_decide::{Granted, Masks};
 use ll_held::{Held, find};
 use ll_inodes::Inodes;
 use ll_path::Target;
-use ll_rights::Kind;
 use ll_rules::Domain;
-use ll_seq::{Call, ClientRecord, Listing, Reply, Status};
+use ll_seq::{Call, ClientRecord, Listing, Reply};
 use std::alloc::{AllocError, Global};
-
-/// What is granted with one node more on the chain, if there is one.
-fn granted_at(domain: &Domain, masks: &Masks, node: Option<u64>) -> Masks
-    requires { length masks.now ≡ length domain.now }
-    ensures masks { (inodes : List ℕ) → AreMasks masks.now domain.now inodes
-        → AreMasks result domain.now (inodes ++ option_map_or (λ j. j ∷ []) node []) }
-    ensures len { length result ≡ length domain.now }
-{
-    let mut masks = masks.copy();
-    if let Some(inode) = node {
-        masks.down(domain, inode);
-    }
-    masks
-}
 
 /// What is granted on the path that the word spells, by what is granted on its parent.
 fn granted_on(domain: &Domain, target: &Target, spot: &Spot, masks: &Masks) -> Masks
@@ -62,7 +49,7 @@ fn granted_on(domain: &Domain, target: &Target, spot: &Spot, masks: &Masks) -> M
     ensures len { length result ≡ length domain.now }
 {
     match target {
-        Target::Good(path) if !path.is_root() => granted_at(domain, masks, node_there(spot)),
+        Target::Good(path) if !path.is_root() => granted_at(domain, masks.copy(), spot.named()),
         _ => masks.copy(),
     }
 }
@@ -155,32 +142,6 @@ fn size_of_lent(lent: &[Held], inode: u64) -> u64
     }
 }
 
-/// The number of the node's names. A directory has one link.
-fn links(table: &Inodes, inode: u64, kind: Kind) -> u64
-    ensures { (s : State) (spares : List ℕ) → IsTable s spares table.now → has s.nodes inode ≡ true
-        → result ≡ (if is_dir kind then 1 else name_count s inode) }
-{
-    if kind.is_dir() {
-        return 1;
-    }
-    match table.fact(inode) {
-        None => 0,
-        Some(fact) => fact.links as u64,
-    }
-}
-
-fn status(table: &Inodes, lent: &[Held], inode: u64, kind: Kind) -> Status
-    ensures { (s : State) (spares : List ℕ) → IsTable s spares table.now → Lends s lent.now inode
-        → has s.nodes inode ≡ true → result ≡ status_of s inode kind }
-{
-    Status {
-        inode,
-        kind,
-        size: size_of_lent(lent, inode),
-        links: links(table, inode, kind),
-    }
-}
-
 /// The names in the directory that is lent.
 fn names_of_lent(lent: &[Held], inode: u64, alloc: Global) -> Result<Listing, AllocError>
     ensures { (s : State) → Lends s lent.now inode → IfOk result (λ names. names ≡ names_in s inode) }
@@ -208,7 +169,10 @@ pub(crate) fn tell(
     match answer {
         Answer::Done => Ok(Reply::Done),
         Answer::Opened(number) => Ok(Reply::Opened(number)),
-        Answer::Status(inode, kind) => Ok(Reply::Found(status(table, lent, inode, kind))),
+        Answer::Status(inode, kind) => {
+            let size = size_of_lent(lent, inode);
+            Ok(Reply::Found(status(table.facts(), inode, kind, size)))
+        }
         Answer::Names(inode) => Ok(Reply::Listed(names_of_lent(lent, inode, alloc)?)),
     }
 }
@@ -225,31 +189,14 @@ const NOTHING_MOVED: Moved = Moved {
     second: None,
 };
 
-/// The node under the path's last name.
-fn node_there(spot: &Spot) -> Option<u64>
-    ensures { (s : State) (path : Path) → Stands s path spot.now → result ≡ named s path }
-{
-    match spot.there {
-        None => None,
-        Some(node) => Some(node.inode),
-    }
-}
-
-/// The node under the path's last name, or 0.
-fn inode_there(spot: &Spot) -> u64
-    ensures { (s : State) (path : Path) → Stands s path spot.now → result ≡ inode_of s path }
-{
-    node_there(spot).unwrap_or(0)
-}
-
 /// Whether the second path names the first one's node already.
 fn is_same_node(found: &Found) -> bool
     ensures { (s : State) (old new : Path) → Stands s old found.now.first → Stands s new found.now.second
         → result ≡ world.is_same_node s old new }
 {
-    match node_there(&found.second) {
+    match found.second.named() {
         None => false,
-        Some(node) => inode_there(&found.first) == node,
+        Some(node) => found.first.inode() == node,
     }
 }
 

@@ -1,41 +1,18 @@
 //! What a walk finds where it ends.
 
-ghost use Rattle.std.specs.Prelude.{◌≡◌, ℕ, List, false, [], None, Some, nat_le};
+ghost use Rattle.std.specs.Prelude.{◌≡◌, ℕ, List, [], None, nat_le};
 ghost use Rattle.ll_rights.specs.Map.{len};
 ghost use Rattle.ll_seq.specs.Call.{first_path, path_of, second_path};
 ghost use Rattle.ll_seq.specs.State.{State};
 ghost use Rattle.ll_inodes.specs.InodeTable.{IsTable};
-ghost use Rattle.ll_journal.specs.Checks.{blocked_at, crowded_at, found_at, last_in, spot_at, there_at};
+ghost use Rattle.ll_journal.specs.Checks.{blocked_at, found_at, last_in, spot_at};
 
-use ll_answer::{Found, Spot, Targets, There, no_directory, targets_of};
+use ll_answer::{Found, Spot, Targets, no_directory, targets_of};
 use ll_held::Held;
 use ll_inodes::Inodes;
 use ll_path::Target;
 use ll_rights::Errno;
-use ll_rights::limits::{DIRECTORY_ENTRIES, NODE_NAMES};
 use ll_seq::{Call, ROOT};
-
-/// The node of this inode, if it is there.
-fn there(table: &Inodes, inode: u64) -> Option<There>
-    ensures { result ≡ there_at table.now.facts inode }
-{
-    let fact = table.fact(inode)?;
-    Some(There {
-        inode,
-        kind: fact.kind,
-        has_names: 0 < fact.names,
-        has_many_names: NODE_NAMES <= fact.links,
-    })
-}
-
-fn is_crowded(table: &Inodes, directory: u64) -> bool
-    ensures { result ≡ crowded_at table.now.facts directory }
-{
-    match table.fact(directory) {
-        None => false,
-        Some(fact) => DIRECTORY_ENTRIES <= fact.names,
-    }
-}
 
 /// What the word's last name stands for in the directory.
 fn last_in(here: &Held, target: &Target) -> Option<u64>
@@ -54,28 +31,14 @@ fn last_in(here: &Held, target: &Target) -> Option<u64>
 fn spot(table: &Inodes, here: &Held, target: &Target) -> Spot
     ensures { result ≡ spot_at table.now.facts here.now (path_of target.now) }
 {
-    let last = last_in(here, target);
-    Spot {
-        way: None,
-        directory: here.inode,
-        is_crowded: is_crowded(table, here.inode),
-        there: match last {
-            None => None,
-            Some(inode) => there(table, inode),
-        },
-    }
+    Spot::of(table.facts(), None, here.inode, last_in(here, target))
 }
 
 /// Where a call without a path would end.
 fn nowhere(table: &Inodes, here: &Held) -> Spot
     ensures { result ≡ spot_at table.now.facts here.now [] }
 {
-    Spot {
-        way: None,
-        directory: here.inode,
-        is_crowded: is_crowded(table, here.inode),
-        there: there(table, ROOT),
-    }
+    Spot::of(table.facts(), None, here.inode, Some(ROOT))
 }
 
 /// The spots of both paths, which end in these directories.

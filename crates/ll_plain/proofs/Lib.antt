@@ -8,5 +8,4 @@ pub mod RefusedCalls
 pub mod Shortcuts
 pub mod Spared
 pub mod Tied
-pub mod LongerPaths
 pub mod Written

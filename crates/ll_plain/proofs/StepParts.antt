@@ -1,6 +1,6 @@
 -- What a call comes to, by its three parts: what refuses it before policy is asked, what policy denies, and what
 -- refuses it afterwards.
-use Rattle.std.specs.Prelude.{◌≡◌, ℕ, List, [], ◌∷◌, ◌++◌, Some, None, slice_get, refl}
+use Rattle.std.specs.Prelude.{◌≡◌, ℕ, List, [], ◌++◌, Some, None, slice_get, refl}
 use Rattle.std.proofs.Common.{ap, sym, ◌∙◌, inl, inr}
 use Rattle.ll_rights.specs.declared.errno.Errno.{Errno}
 use Rattle.ll_rights.specs.declared.errno.Errno.TheVariants.{NoMemory}
@@ -12,11 +12,6 @@ use Rattle.ll_seq.specs.State.{State}
 use Rattle.ll_seq.proofs.StepParts as parts
 use Rattle.ll_seq.proofs.StepParts.{early, policy, late, does_so}
 use Rattle.ll_plain.specs.Outcomes.{Comes, ComesBy, Steps}
-
--- the first of a list is that of a longer one
-pub first_stays : {A : Type 0} (xs ys : List A) (x : A) → slice_get xs 0 ≡ Some x → slice_get (xs ++ ys) 0 ≡ Some x
-first_stays [] ys x e = absurd cc
-first_stays (y ∷ xs) ys x e = e
 
 pub both_free : {A : Type 0} (xs ys : List A) → xs ≡ [] → ys ≡ [] → xs ++ ys ≡ []
 both_free xs ys e f = ap (λ zs. zs ++ ys) e ∙ f

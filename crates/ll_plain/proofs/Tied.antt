@@ -19,7 +19,7 @@ use Rattle.ll_seq.specs.declared.dentries.Dentry.{Dentry}
 use Rattle.ll_seq.specs.declared.node.Node.{Node}
 use Rattle.ll_seq.specs.State.{State, bytes_of, child, dentry, dentry_cmp, empty_node, is_open, kind_of, name_count}
 use Rattle.ll_seq.specs.State.{root, start}
-use Rattle.ll_seq.specs.Tree.{end_from}
+use Rattle.ll_seq.specs.Tree.{end_from, named}
 use Rattle.ll_seq.specs.Reach.{HasName}
 use Rattle.ll_seq.specs.Effects.{with_bytes, with_node, with_name, without_name, with_moved, lives, let_go}
 use Rattle.ll_seq.specs.Facts.{AreKept, IsUnused}
@@ -87,6 +87,14 @@ module _ (s : State) (h : HasNodes s) where
 
   pub named_there : (inode : ℕ) → HasName s inode → has s.nodes inode ≡ true
   named_there inode n = along inode n.0 root root_there n.1
+
+  -- what a path names is of some kind
+  pub named_kind : (path : Path) (inode : ℕ) → named s path ≡ Some inode → (kind : Kind) × (kind_of s inode ≡ Some kind)
+  named_kind path inode e = of (get s.nodes inode) (named_there inode (path, e))
+    where
+      of : (o : Option Node) → is_some o ≡ true → (kind : Kind) × (option_map (λ (n : Node). n.kind) o ≡ Some kind)
+      of None e = absurd (cc e)
+      of (Some n) e = (n.kind, refl)
 
 -- ---- other names
 

@@ -10,7 +10,7 @@ ghost use Rattle.ll_answer.specs.Effect.{Fits, FitsRule, HasRoom, after, told, w
 ghost use Rattle.ll_answer.specs.Lean.{adds_nothing, is_short};
 
 use crate::Plain;
-use ll_answer::{Answer, Change, Opening, Rule};
+use ll_answer::{Answer, Change, Opening, Rule, status};
 use ll_rights::Kind;
 use ll_seq::{Reply, Status};
 use std::alloc::AllocError;
@@ -19,16 +19,7 @@ impl Plain {
     fn status(&self, inode: u64, kind: Kind) -> Status
         ensures { result ≡ status_of self.now inode kind }
     {
-        let links = match kind {
-            Kind::Dir => 1,
-            _ => self.links(inode),
-        };
-        Status {
-            inode,
-            kind,
-            size: self.size(inode) as u64,
-            links: links as u64,
-        }
+        status(&self.facts, inode, kind, self.size(inode) as u64)
     }
 
     /// The reply that tells the answer of the tree as it is.

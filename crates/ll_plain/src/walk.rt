@@ -1,17 +1,15 @@
 //! Walks from the root.
 
-ghost use Rattle.std.specs.Prelude.{◌≡◌, ◌∷◌, ◌++◌, ℕ, List, [], length, option_and_then, option_map, slice_get};
-ghost use Rattle.std.specs.Option.{option_map_or};
-ghost use Rattle.ll_rights.specs.declared.errno.Errno as errno;
-ghost use Rattle.ll_decide.specs.Masks.{AreMasks};
-ghost use Rattle.ll_path.specs.Path.{Path};
-ghost use Rattle.ll_answer.specs.Found.{there_in};
-ghost use Rattle.ll_seq.specs.State.{child};
+ghost use Rattle.std.specs.Prelude.{◌≡◌, ◌∷◌, ◌++◌, [], length, option_and_then, slice_get};
+ghost use Rattle.ll_path.specs.Path.{Path, parent};
+ghost use Rattle.ll_answer.specs.Found.{IsSpot};
+ghost use Rattle.ll_seq.specs.State.{child, root};
 ghost use Rattle.ll_seq.specs.Stages as stages;
+ghost use Rattle.ll_seq.specs.Tree.{directory_of, named};
 ghost use Rattle.ll_plain.specs.Walking.{IsWalk, IsPathWalk};
 
 use crate::Plain;
-use ll_answer::{Spot, There, no_directory};
+use ll_answer::{Spot, first, granted_at, no_directory};
 use ll_decide::Masks;
 use ll_path::{Names, Path};
 use ll_rights::Errno;
@@ -37,30 +35,6 @@ pub struct PathWalk {
     pub parent: Masks,
     /// What each layer grants on the path.
     pub itself: Masks,
-}
-
-/// The first of two refusals.
-fn first(one: Option<Errno>, other: Option<Errno>) -> Option<Errno>
-    ensures { (ones others : List errno.Errno) → one ≡ slice_get ones 0 → other ≡ slice_get others 0
-        → result ≡ slice_get (ones ++ others) 0 }
-{
-    match one {
-        Some(errno) => Some(errno),
-        None => other,
-    }
-}
-
-/// What is granted with one node more on the chain, if there is one.
-fn granted_at(domain: &Domain, mut masks: Masks, node: Option<u64>) -> Masks
-    requires { length masks ≡ length domain.now }
-    ensures masks { (inodes : List ℕ) → AreMasks masks domain.now inodes
-        → AreMasks result domain.now (inodes ++ option_map_or (λ j. j ∷ []) node []) }
-    ensures len { length result ≡ length domain.now }
-{
-    if let Some(inode) = node {
-        masks.down(domain, inode);
-    }
-    masks
 }
 
 impl Plain {
@@ -123,37 +97,19 @@ impl Plain {
         walk
     }
 
-    /// What stands where the inode does.
-    fn there(&self, inode: u64) -> There
-        ensures { result ≡ there_in self.now inode }
+    /// Where the path's last name stands, or would.
+    fn spot(&self, way: Option<Errno>, directory: u64, node: Option<u64>) -> Spot
+        ensures { (path : Path) → way ≡ slice_get (stages.in_the_way self.now (parent path) root) 0
+            → directory ≡ directory_of self.now path → node ≡ named self.now path → IsSpot self.now path result }
     {
-        There {
-            inode,
-            kind: self.kind_or_file(inode),
-            has_names: self.has_names(inode),
-            has_many_names: self.has_many_names(inode),
-        }
-    }
-
-    fn there_if(&self, node: Option<u64>) -> Option<There>
-        ensures { result ≡ option_map (there_in self.now) node }
-    {
-        match node {
-            None => None,
-            Some(inode) => Some(self.there(inode)),
-        }
+        Spot::of(&self.facts, way, directory, node)
     }
 
     pub(crate) fn walk_root(&self, domain: &Domain) -> PathWalk
         ensures { IsPathWalk self.now domain.now [] result }
     {
         PathWalk {
-            spot: Spot {
-                way: None,
-                directory: ROOT,
-                is_crowded: self.is_crowded(ROOT),
-                there: Some(self.there(ROOT)),
-            },
+            spot: self.spot(None, ROOT, Some(ROOT)),
             parent: Masks::root(self.alloc, domain),
             itself: Masks::root(self.alloc, domain),
         }
@@ -170,12 +126,7 @@ impl Plain {
         let directory = walk.end.unwrap_or(0);
         let node = self.beneath(walk.end, name);
         PathWalk {
-            spot: Spot {
-                way: walk.way,
-                directory,
-                is_crowded: self.is_crowded(directory),
-                there: self.there_if(node),
-            },
+            spot: self.spot(walk.way, directory, node),
             itself: granted_at(domain, walk.masks.copy(), node),
             parent: walk.masks,
         }

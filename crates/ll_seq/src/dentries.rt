@@ -123,14 +123,6 @@ impl Dentries {
         &self.rows[start..end]
     }
 
-    /// How many names the directory has.
-    pub fn count_in(&self, directory: u64) -> usize
-        ensures { result ≡ length (filter (λ (e : dentries_of.Dentry × ℕ). e.0.directory == directory)
-            (entries self.now)) }
-    {
-        self.rows_of(directory).len()
-    }
-
     /// The names in the directory, rising by bytes.
     pub fn names_in(&self, alloc: Global, directory: u64) -> Result<Listing, AllocError>
         ensures { IfOk result (λ listing. listing

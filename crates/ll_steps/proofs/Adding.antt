@@ -1,33 +1,32 @@
 -- What each outcome tells of the history, and what holds of every world.
-use Rattle.std.specs.Prelude.{◌≡◌, ◌≢◌, ◌⊎◌, ℕ, ◌+◌, ◌<◌, ◌≤◌, false, List, [], ◌∷◌, ◌++◌, length, take, Some}
-use Rattle.std.specs.Prelude.{slice_get, Result, Ok, Err, IfOk, OnErr, refl}
-use Rattle.std.proofs.Common.{sym, ap, subst, ◌∙◌, inl, inr, arith, append_assoc, get_or}
+use Rattle.std.specs.Prelude.{◌≡◌, ◌≢◌, ℕ, ◌+◌, ◌<◌, ◌≤◌, false, List, [], ◌∷◌, ◌++◌, length, take, Option, Some, None}
+use Rattle.std.specs.Prelude.{option_map, slice_get, Result, Ok, Err, IfOk, OnErr, refl}
+use Rattle.std.proofs.Common.{sym, ap, subst, ◌∙◌, inl, inr, append_assoc, get_or}
 use Rattle.std.proofs.lemmas.List.{append-nil, length-append, take_more, take_all}
 use Rattle.ll_laws.proofs.Gain.{no_gain}
 use Rattle.ll_laws.proofs.Withholding.{bytes_are_withheld}
-use Rattle.ll_rights.specs.declared.errno.Errno.TheVariants.{HistoryFull, NoMemory}
-use Rattle.ll_rights.specs.Errno.{errno_number}
+use Rattle.ll_rights.specs.declared.errno.Errno.TheVariants.{HistoryFull}
 use Rattle.ll_seq.specs.declared.call.Call.{Call}
 use Rattle.ll_seq.specs.declared.call.Call.TheVariants.{Connect}
 use Rattle.ll_seq.specs.declared.reply.Entry.{Entry}
 use Rattle.ll_seq.specs.declared.reply.Reply.{Reply}
 use Rattle.ll_seq.specs.declared.reply.Reply.TheVariants.{Done, Refused}
-use Rattle.ll_seq.specs.State.{State, start}
-use Rattle.ll_seq.specs.Step.{step}
-use Rattle.ll_seq.proofs.Consequences.{answered}
+use Rattle.ll_seq.specs.State.{start}
 use Rattle.ll_seq.specs.History.{IsLegal}
 use Rattle.ll_seq.proofs.Histories.{legal_early}
 use Rattle.ll_worlds.specs.declared.step.Step.{Step}
 use Rattle.ll_worlds.specs.declared.step.Step.TheVariants.{Join, Begin, Descend, Fork, Commit, Restart, FdCommit}
 use Rattle.ll_worlds.specs.declared.step.Step.TheVariants.{ClientStep}
 use Rattle.ll_worlds.specs.Sound.{IsSound}
+use Rattle.ll_rights.specs.Map.{get}
+use Rattle.ll_worlds.specs.Walk.{Walk}
 use Rattle.ll_worlds.specs.World as world
 use Rattle.ll_worlds.specs.World.{World, advance, is_full, shown, next_number}
 use Rattle.ll_steps.specs.declared.outcome.Outcome.{Outcome}
 use Rattle.ll_steps.specs.declared.outcome.Outcome.TheVariants as outcome
-use Rattle.ll_steps.specs.Makes.{Makes, Adds, IsUntold, starved}
+use Rattle.ll_steps.specs.Makes.{Makes, Adds, IsUntold, called, starved}
 use Rattle.ll_steps.specs.Headline.{Grows, IsLawful, IsHeadline, Runs}
-use Rattle.ll_steps.proofs.Going.{Went, went, still, entry_of}
+use Rattle.ll_worlds.proofs.StepGrowth.{Grown, Went, asked, client_in, entry_of, never_full, went}
 
 last_of_more : (es : List Entry) (e : Entry) → slice_get (es ++ e ∷ []) (length es) ≡ Some e
 last_of_more [] e = refl
@@ -37,17 +36,33 @@ none_past : (es : List Entry) (e : Entry) → slice_get es (length es) ≡ Some 
 none_past [] e is = cc is
 none_past (x ∷ es) e is = none_past es e is
 
+still : (w : World) → Grows w w []
+still w = record { came = sym (append-nil w.history); rules = refl; room = refl; limit = refl }
+
 same_world : (w w' : World) → w' ≡ w → Grows w w' []
 same_world w w' e = subst (λ (v : World). Grows w v []) (sym e) (still w)
 
--- no call is answered so where there is room
-never_full : (s : State) (number : ℕ) (call : Call) (fresh : ℕ) → Refused HistoryFull ≡ (step s number call fresh).0 → ⊥
-never_full s number call fresh e =
-    by (answered s number call fresh (Refused HistoryFull) (λ f. absurd (f HistoryFull refl)) (λ _. e))
+grown : (w v : World) (c : ℕ) (doing : Option Call) (added : List Entry) → Grown w v c doing added → Grows w v added
+grown w v c doing added g = record { came = g.came; rules = g.rules; room = g.room; limit = g.limit }
+
+-- the call that the step answers, and whose it is
+abbrev by_client : ℕ → Option Call → Option (ℕ × Call)
+by_client number = option_map {U = ℕ × Call} (λ call. (number, call))
+
+called_is : (w : World) (step' : Step) → called w step' ≡ by_client (client_in w step') (asked w step')
+called_is w Join = refl
+called_is w (Begin number call) = refl
+called_is w (Descend number) = refl
+called_is w (Fork number) = refl
+called_is w (Commit number) = by (get w.walks number)
   where
-    by : ((3 ≤ errno_number HistoryFull) × (errno_number HistoryFull ≤ 20)) ⊎ (HistoryFull ≡ NoMemory) → ⊥
-    by (inl b) = omega (arith, b.1)
-    by (inr f) = cc f
+    by : (o : Option Walk) → option_map {U = ℕ × Call} (λ (walk : Walk). (number, walk.call)) o
+        ≡ by_client number (option_map (λ (walk : Walk). walk.call) o)
+    by None = refl
+    by (Some walk) = refl
+called_is w (Restart number) = refl
+called_is w (FdCommit number call) = refl
+called_is w (ClientStep number call) = refl
 
 -- ---- one step
 
@@ -65,9 +80,9 @@ replied_makes w w' step' reply room other e = by (subst (Went w step') e (went w
     by (inr (inl g)) = absurd (other g.0)
     by (inr (inr g)) = (
       refl,
-      entry_of g.1.0 g.1.1 reply,
-      ap (λ es. slice_get es (length w.history)) g.5.came
-          ∙ last_of_more w.history (entry_of g.1.0 g.1.1 reply),
+      entry_of (client_in w step') g.1 reply,
+      ap (λ es. slice_get es (length w.history)) g.4.came
+          ∙ last_of_more w.history (entry_of (client_in w step') g.1 reply),
       e,
     )
 
@@ -79,7 +94,7 @@ full_told w w' step' e = by (subst (Went w step') e (went w step'))
     by : Went w step' (world.Replied (Refused HistoryFull), w') → IsUntold w step'
     by (inl g) = inl g.0
     by (inr (inl g)) = inr g.0
-    by (inr (inr g)) = absurd (never_full (shown w) g.1.0 g.1.1 (next_number w) g.4)
+    by (inr (inr g)) = absurd (never_full (shown w) (client_in w step') g.1 (next_number w) g.3)
 
 -- the world that is left where memory runs out
 starved_grows : (w : World) (step' : Step) → Grows w (starved w step') []
@@ -96,12 +111,12 @@ starved_grows w (ClientStep number call) = still w
 pub adds : (w w' : World) (step' : Step) (o : Outcome) → Makes w step' o w' → (its : List Entry) × Adds w step' o its
     × Grows w w' its
 adds w w' step' outcome.NotNow m = ([], refl, same_world w w' (unchanged w w' step' m))
-adds w w' step' outcome.Begun m = ([], refl, subst (Went w step') m (went w step'))
-adds w w' step' (outcome.Stands inode) m = ([], refl, subst (Went w step') m (went w step'))
-adds w w' step' outcome.Forked m = ([], refl, subst (Went w step') m (went w step'))
-adds w w' step' outcome.Restarted m = ([], refl, subst (Went w step') m (went w step'))
+adds w w' step' outcome.Begun m = ([], refl, grown w w' _ _ [] (subst (Went w step') m (went w step')))
+adds w w' step' (outcome.Stands inode) m = ([], refl, grown w w' _ _ [] (subst (Went w step') m (went w step')))
+adds w w' step' outcome.Forked m = ([], refl, grown w w' _ _ [] (subst (Went w step') m (went w step')))
+adds w w' step' outcome.Restarted m = ([], refl, grown w w' _ _ [] (subst (Went w step') m (went w step')))
 adds w w' step' (outcome.Joined number) m =
-    let g = subst (Went w step') m (went w step') in (entry_of number Connect Done ∷ [], refl, g.2)
+    let g = subst (Went w step') m (went w step') in (entry_of number Connect Done ∷ [], refl, grown w w' _ _ _ g.3)
 adds w w' step' (outcome.Replied k) m = by (subst (Went w step') m.3 (went w step'))
   where
     old : (es : List Entry) → es ≡ w.history → slice_get es k ≡ Some m.1 → ⊥
@@ -112,14 +127,18 @@ adds w w' step' (outcome.Replied k) m = by (subst (Went w step') m.3 (went w ste
         × Grows w w' its
     by (inl g) = absurd (old w'.history (g.1.came ∙ append-nil w.history) m.2)
     by (inr (inl g)) = absurd (old w'.history (ap (λ (v : World). v.history) g.1) m.2)
-    by (inr (inr g)) = (entry_of g.1.0 g.1.1 m.1.reply ∷ [], (entry_of g.1.0 g.1.1 m.1.reply, g.2, refl), g.5)
+    by (inr (inr g)) = let entry = entry_of (client_in w step') g.1 m.1.reply in (
+      entry ∷ [],
+      (entry, called_is w step' ∙ ap (by_client (client_in w step')) g.2, refl),
+      grown w w' _ _ _ g.4,
+    )
 adds w w' step' (outcome.Refused errno) (inl m) = ([], refl, by (subst (Went w step') m.1 (went w step')) m.0)
   where
     by : Went w step' (world.Replied (Refused errno), w') → IsUntold w step' → Grows w w' []
-    by (inl g) u = g.1
+    by (inl g) u = grown w w' _ _ [] g.1
     by (inr (inl g)) u = same_world w w' g.1
     by (inr (inr g)) (inl full) = absurd (cc (sym full ∙ g.0))
-    by (inr (inr g)) (inr joins) = absurd (g.3 joins)
+    by (inr (inr g)) (inr joins) = absurd (g.5 joins)
 adds w w' step' (outcome.Refused errno) (inr m) =
     ([], refl, subst (λ (v : World). Grows w v []) (sym m.1.left) (starved_grows w step'))
 

@@ -25,7 +25,7 @@ use Rattle.ll_journal.specs.declared.progress.Progress.TheVariants as tells
 use Rattle.ll_journal.specs.SlotTree.{accounts_of}
 use Rattle.ll_steps.specs.Contents.{held_at, told_as, IsKept}
 use Rattle.ll_steps.specs.Makes.{Makes}
-use Rattle.ll_steps.proofs.Going.{still_within}
+use Rattle.ll_worlds.proofs.Growth.{still_within}
 
 -- ---- of a new tree
 

@@ -1,6 +1,5 @@
 pub mod Trading
 pub mod ContentsKept
-pub mod Going
 pub mod Adding
 pub mod LentContents
 pub mod DirectMakes

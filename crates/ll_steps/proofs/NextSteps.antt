@@ -12,7 +12,7 @@ use Rattle.ll_seq.specs.State.{Name, State}
 use Rattle.ll_laws.proofs.Chains.{same_Some}
 use Rattle.ll_worlds.specs.declared.step.Step.TheVariants.{Commit, Descend, Fork, Restart}
 use Rattle.ll_worlds.specs.Walk.{Walk, Leg, Position, Above, Down, Split, at_ends, directory_under, forked, further}
-use Rattle.ll_worlds.specs.Walk.{further_by, has_two_paths, is_above, is_blocked, leg_below, toward, turn}
+use Rattle.ll_worlds.specs.Walk.{further_by, has_two_paths, is_blocked, leg_below, toward, turn}
 use Rattle.ll_worlds.specs.Walks.{AreFew}
 use Rattle.ll_worlds.specs.World as world
 use Rattle.ll_worlds.specs.World.{World, domain_of, fork, restart, shown, stand, with_walk}

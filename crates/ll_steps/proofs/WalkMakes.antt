@@ -42,6 +42,7 @@ use Rattle.ll_journal.specs.declared.station.Station.TheVariants as station
 use Rattle.ll_journal.specs.SlotTree.{accounts_of}
 use Rattle.ll_journal.proofs.Advancing.{descend_none, descend_stale, commit_none, commit_not_now, commit_replies}
 use Rattle.ll_journal.proofs.Ended.{gives_up}
+use Rattle.ll_journal.proofs.NextSteps.{no_turn}
 use Rattle.ll_steps.specs.Contents.{held_at, ended_as, IsKept}
 use Rattle.ll_steps.specs.Makes.{Makes, succeeds}
 use Rattle.ll_steps.proofs.Adding.{replied_makes, full_told}
@@ -82,11 +83,6 @@ pub near_top : (b : Book) (number slot : ℕ) → is_at_top b.world number ≡ t
 near_top b number slot top is astray = astray.1 top is
 
 -- ---- a leg that stands
-
-no_turn : (at : Position) → turn at ≡ None → at ≡ Above
-no_turn Above e = refl
-no_turn (Down trunk) e = absurd (cc e)
-no_turn (Split trunk old new) e = absurd (cc e)
 
 turns : (at : Position) (leg : Leg) → turn at ≡ Some leg → is_above at ≡ false
 turns Above leg e = absurd (cc e)

@@ -18,7 +18,7 @@ use Rattle.ll_laws.specs.Withheld.{Withholds}
 use Rattle.ll_laws.proofs.Gain.{no_gain}
 use Rattle.ll_laws.proofs.Withholding.{bytes_are_withheld}
 use Rattle.ll_worlds.specs.Walk.{Walk}
-use Rattle.ll_worlds.specs.World.{World, new_world, world_after, is_full, next_number, reply_to}
+use Rattle.ll_worlds.specs.World.{World, advance, new_world, world_after, is_full, next_number, reply_to}
 use Rattle.ll_worlds.specs.declared.step.Step.{Step}
 use Rattle.ll_worlds.specs.Walks.{HistoryIsLegal}
 use Rattle.ll_worlds.specs.Growing.{Came, HistoryGrows, OfBoth}
@@ -89,6 +89,10 @@ grows_itself w fits = record {
 
 grows : (w : World) (steps : List Step) → length w.history ≤ w.limit → Grows w (world_after w steps)
 grows w steps fits = steps_kept (Grows w) (grows_on w) w steps (grows_itself w fits)
+
+pub still_within : (w : World) (step' : Step) → length w.history ≤ w.limit
+    → length (advance w step').1.history ≤ (advance w step').1.limit
+still_within w step' fits = (grows w (step' ∷ []) fits).fits
 
 -- from the beginning
 from_start : (rules : Rules) (room limit : ℕ) (steps : List Step)

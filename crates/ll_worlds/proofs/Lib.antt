@@ -14,3 +14,4 @@ pub mod EndsReached
 pub mod SoundSteps
 pub mod Growth
 pub mod Schedules
+pub mod StepGrowth

@@ -1,4 +1,6 @@
-use Rattle.std.proofs.Common.{sym, ap, ◌∙◌}
+use Rattle.std.specs.Prelude.{is_some}
+use Rattle.std.proofs.Common.{ap, subst, sym, ◌∙◌}
+use Rattle.ll_seq.specs.Facts.{AreKept}
 use Rattle.ll_seq.specs.declared.reply.Reply.TheVariants as reply
 use Rattle.ll_answer.specs.Effect.{told}
 use Rattle.ll_answer.specs.Near.{told_inodes}
@@ -9,7 +11,9 @@ pub returns-in-Status-clause-told : goal.returns-in-Status-clause-told
 returns-in-Status-clause-told c s marks spares slots table lent any some =
     let known = lent_told s spares c.args.table.now table marks slots c.args.lent.now lent (told_inodes c.args.answer)
     c.in-Status.inode (ap told_inodes c.in-Status.is) any some in
-    ap reply.Found (c.status.ensures s spares table known.0 known.1) ∙ sym (ap (told s) c.in-Status.is)
+    ap reply.Found (c.status.ensures s (subst (AreKept s) (sym c.facts.ensures) table.facts)
+    (c.size_of_lent-size.ensures s known.0) (λ none. absurd (cc (sym known.1 ∙ ap is_some none))))
+    ∙ sym (ap (told s) c.in-Status.is)
 
 pub returns-in_ok-names_of_lent-in-Names-clause-told :
     goal.returns-in_ok-names_of_lent-in-Names-clause-told

@@ -6,7 +6,8 @@ use Rattle.ll_seq.specs.declared.call.Call.TheVariants.{Confine}
 use Rattle.ll_seq.specs.Step.{client_of}
 use Rattle.ll_plain.proofs.Clients.{got_client, kept, client_changed}
 use Rattle.ll_plain.proofs.Records.{refused_if, not_refused, no_denials, number_below}
-use Rattle.ll_plain.proofs.StepParts.{refused_before, does, fails, first_stays, both_free}
+use Rattle.ll_answer.proofs.Walked.{first_kept}
+use Rattle.ll_plain.proofs.StepParts.{refused_before, does, fails, both_free}
 use Rattle.ll_plain.specs.contracts.Plain.{the_view}
 use Rattle.ll_plain.proofs.Tied.{tied_client}
 use Rattle.ll_plain.proofs.Plain.confine.Goals as goal
@@ -14,7 +15,7 @@ use Rattle.ll_plain.proofs.Plain.confine.Goals as goal
 pub returns-then-not-has_ruleset : goal.returns-then-not-has_ruleset
 returns-then-not-has_ruleset c =
     refused_before c.args.self.now c.args.client (Confine c.args.number) EBADF
-    (first_stays _ [] _ (refused_if _ EBADF (ap not (sym c.has_ruleset.ensures ∙ c.if-not-has_ruleset.true))))
+    (first_kept _ [] _ (refused_if _ EBADF (ap not (sym c.has_ruleset.ensures ∙ c.if-not-has_ruleset.true))))
 
 pub confine-requires-clause-made : goal.confine-requires-clause-made
 confine-requires-clause-made c =

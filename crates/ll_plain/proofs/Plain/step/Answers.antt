@@ -1,10 +1,11 @@
 use Rattle.std.specs.Prelude.{◌≡◌, ◌++◌, Some, None, slice_get}
 use Rattle.std.proofs.Common.{ap, sym, subst, ◌∙◌}
+use Rattle.std.proofs.lemmas.List.{append-nil}
 use Rattle.ll_decide.specs.Masks.{AreMasks}
 use Rattle.ll_seq.specs.State.{child, root}
 use Rattle.ll_seq.specs.Tree.{named, ancestors}
 use Rattle.ll_seq.specs.Stages.{in_the_way, no_directory, kind_of_child}
-use Rattle.ll_plain.proofs.LongerPaths.{alone, beneath, block, end_push, chain_push, way_push, no_more}
+use Rattle.ll_answer.proofs.LongerPaths.{alone, beneath, block, end_push, chain_push, way_push}
 use Rattle.ll_plain.proofs.Plain.step.Goals as goal
 
 pub returns-in_default : goal.returns-in_default
@@ -16,10 +17,10 @@ returns-in_default c names walk =
       end = c.in_default.is ∙ sym (end_push s name names root ∙ ap (beneath s name) none);
       way = walk.way ∙ ap (λ l. slice_get l 0)
           (sym (way_push s name names root ∙ ap (λ e. in_the_way s names root ++ block s name e) none
-          ∙ no_more (in_the_way s names root)));
+          ∙ append-nil (in_the_way s names root)));
       masks = subst (AreMasks c.args.walk.masks c.args.domain.now)
           (sym (chain_push s name names root ∙ ap (λ e. ancestors s names ++ alone s name (beneath s name e)) none
-          ∙ no_more (ancestors s names))) walk.masks;
+          ∙ append-nil (ancestors s names))) walk.masks;
       len = walk.len;
     }
 
@@ -32,7 +33,7 @@ returns c names walk =
       end = c.child-end.ensures ∙ sym (end_push s name names root ∙ ap (beneath s name) there);
       way = c.first.ensures (in_the_way s names root)
           (no_directory (kind_of_child s (child s c.in-Some.directory name))) walk.way
-          (c.in_the_way.ensures ∙ ap (λ o. slice_get (no_directory (kind_of_child s o)) 0) c.child-end.ensures)
+          (λ free. c.in_the_way.ensures ∙ ap (λ o. slice_get (no_directory (kind_of_child s o)) 0) c.child-end.ensures)
           ∙ ap (λ l. slice_get l 0) (sym (way_push s name names root
           ∙ ap (λ e. in_the_way s names root ++ block s name e) there));
       masks = subst (AreMasks c.granted_at.result c.args.domain.now)

@@ -1,12 +1,11 @@
-use Rattle.std.specs.Prelude.{◌≡◌, ◌∷◌, ◌++◌, [], option_map, slice_get, unwrap_or}
+use Rattle.std.specs.Prelude.{◌≡◌, ◌∷◌, ◌++◌, [], slice_get, unwrap_or}
 use Rattle.std.proofs.Common.{ap, sym, subst, ◌∙◌}
 use Rattle.ll_decide.specs.Masks.{AreMasks}
 use Rattle.ll_path.specs.Path.{parent}
 use Rattle.ll_seq.specs.State.{root}
 use Rattle.ll_seq.specs.Tree.{named, ancestors, inode_of, directory_of}
-use Rattle.ll_seq.specs.Stages.{in_the_way, is_crowded}
-use Rattle.ll_answer.specs.Found.{there_in}
-use Rattle.ll_plain.proofs.LongerPaths.{alone, beneath, end_push, chain_push}
+use Rattle.ll_seq.specs.Stages.{in_the_way}
+use Rattle.ll_answer.proofs.LongerPaths.{alone, beneath, end_push, chain_push}
 use Rattle.ll_plain.proofs.Plain.walk_path.Goals as goal
 
 pub returns : goal.returns
@@ -23,14 +22,8 @@ returns c =
     let directory : c.unwrap_or-directory.result ≡ directory_of s path =
     c.unwrap_or-directory.ensures ∙ ap (λ o. unwrap_or o 0) c.walk-walk.ensures.end ∙ ap (inode_of s) above in
     record {
-      spot = record {
-        way = c.walk-walk.ensures.way ∙ ap (λ p. slice_get (in_the_way s p root) 0) above;
-        stands = λ free. record {
-          directory = directory;
-          crowded = c.is_crowded.ensures ∙ ap (is_crowded s) directory;
-          there = c.there_if.ensures ∙ ap (option_map (there_in s)) node;
-        };
-      };
+      spot = c.spot.ensures path (c.walk-walk.ensures.way ∙ ap (λ p. slice_get (in_the_way s p root) 0) above)
+          directory node;
       parent = subst (λ p. AreMasks c.walk-walk.result.masks c.args.domain.now (ancestors s p)) above
           c.walk-walk.ensures.masks;
       itself = subst (AreMasks c.granted_at.result c.args.domain.now)

@@ -1,16 +1,14 @@
 -- Paths with one name more.
-use Rattle.std.specs.Prelude.{◌≡◌, ℕ, List, [], ◌∷◌, ◌++◌, Option, Some, None, option_and_then, refl}
+use Rattle.std.specs.Prelude.{◌≡◌, ℕ, false, List, [], ◌∷◌, ◌++◌, Option, Some, None, option_and_then, refl}
 use Rattle.std.specs.Option.{option_map_or}
 use Rattle.std.proofs.Common.{ap, ◌∙◌, sym, append_assoc}
+use Rattle.std.proofs.lemmas.List.{append-nil}
 use Rattle.ll_rights.specs.declared.errno.Errno.{Errno}
-use Rattle.ll_path.specs.Path.{Path}
-use Rattle.ll_seq.specs.State.{State, Name, child}
-use Rattle.ll_seq.specs.Tree.{end_from, chain_from}
+use Rattle.ll_path.specs.Path.{Path, is_root, last_name, parent}
+use Rattle.ll_path.proofs.PathLemmas.{parent-last_name}
+use Rattle.ll_seq.specs.State.{State, Name, child, root}
+use Rattle.ll_seq.specs.Tree.{ancestors, chain_from, end_from, named}
 use Rattle.ll_seq.specs.Stages.{in_the_way, no_directory, kind_of_child}
-
-pub no_more : {A : Type 0} (xs : List A) → xs ++ [] ≡ xs
-no_more [] = refl
-no_more (x ∷ xs) = ap (λ l. x ∷ l) (no_more xs)
 
 module _ (s : State) (name : Name) where
   -- what the directory has under the name, if the path leads to one
@@ -51,15 +49,24 @@ module _ (s : State) (name : Name) where
   way_onward : (o : Option ℕ) (k : List Errno) (f g : ℕ → List Errno) (e : ℕ → Option ℕ)
       → ((j : ℕ) → f j ≡ g j ++ block (e j))
       → k ++ option_map_or f o [] ≡ (k ++ option_map_or g o []) ++ block (option_and_then e o)
-  way_onward None k f g e same = sym (no_more (k ++ []))
+  way_onward None k f g e same = sym (append-nil (k ++ []))
   way_onward (Some j) k f g e same = ap (λ (l : List Errno). k ++ l) (same j) ∙ sym (append_assoc k (g j) (block (e j)))
 
   last_way : (k : List Errno) (o : Option ℕ) → k ++ option_map_or (λ (j : ℕ). []) o [] ≡ k
-  last_way k None = no_more k
-  last_way k (Some j) = no_more k
+  last_way k None = append-nil k
+  last_way k (Some j) = append-nil k
 
   pub way_push : (path : Path) (i : ℕ)
       → in_the_way s (path ++ name ∷ []) i ≡ in_the_way s path i ++ block (end_from s path i)
   way_push [] i = last_way (no_directory (kind_of_child s (child s i name))) (child s i name)
   way_push (n ∷ path) i = way_onward (child s i n) (no_directory (kind_of_child s (child s i n)))
       (in_the_way s (path ++ name ∷ [])) (in_the_way s path) (end_from s path) (way_push path)
+
+-- a path's chain is that of its directory, and what it names
+pub chain_last : (s : State) (path : Path) → is_root path ≡ false
+    → ancestors s path ≡ ancestors s (parent path) ++ option_map_or (λ (j : ℕ). j ∷ []) (named s path) []
+chain_last s path below =
+    let whole = parent-last_name path below in
+    ap (ancestors s) whole ∙ chain_push s (last_name path) (parent path) root
+    ∙ ap (λ o. ancestors s (parent path) ++ option_map_or (λ (j : ℕ). j ∷ []) o [])
+    (sym (ap (named s) whole ∙ end_push s (last_name path) (parent path) root))
