@@ -19,6 +19,7 @@
 //! | ll_audit, ll_saved | all but `audit` | `audit`; `save`, `run_audit` with devices that fail: `saved` |
 //! | ll_tie | | all: `tie` |
 //! | ll_journal | | `Journal::new`, `connect`, `client_step`; `begin`, which takes none: `journal` |
+//! | ll_client | | `open`, `connect`, `spawn`; `begin`, `enter`, `next_step`, `leave_2`: `desk` |
 //! | ll_lines | `Line::new` and `push` | |
 //! | ll_session | `run_script` | with devices that fail: `session` |
 //! | ll_steps | `World::new`, `step`, `make` | `World::run`: `steps`; `read`, `list`, whose replies are copied: `replies` |
@@ -28,6 +29,8 @@
 
 #[cfg(test)]
 mod calls;
+#[cfg(test)]
+mod desk;
 #[cfg(test)]
 mod fuse;
 #[cfg(test)]
@@ -52,8 +55,6 @@ mod seq;
 mod session;
 #[cfg(test)]
 mod steps;
-#[cfg(test)]
-mod threads;
 #[cfg(test)]
 mod tie;
 #[cfg(test)]

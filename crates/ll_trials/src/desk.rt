@@ -1,0 +1,111 @@
+//! A tree with one client, and its child: the client's walk makes a directory, with two slots lent.
+
+ghost use Rattle.std.specs.Prelude.{◌≡◌};
+
+use crate::calls::target;
+use ll_client::{Account, Client, Desk, Leaving, Left, Locked, Opened, Rider, Shape, open};
+use ll_journal::{Next, Progress};
+use ll_rights::{Abi, Kind};
+use ll_seq::{Call, ROOT, Reply, Rules};
+use ll_tie::{Blank, Tie};
+use std::alloc::Global;
+use std::marker::Brand;
+
+const RULES: Rules = Rules {
+    abi: Abi::NEWEST,
+    copies: true,
+};
+
+/// Whether the client's call to make this directory sets out.
+fn sets_out<N: Shape>(
+    alloc: Global,
+    tie: &Tie<N, Account>,
+    desk: &mut Desk<N>,
+    me: &mut Rider<N>,
+) -> bool {
+    let Some(path) = target(alloc, "/a") else {
+        return false;
+    };
+    let begun = desk.begin(tie, me, Call::Make(Kind::Dir, path));
+    let is_begun = begun.is_ok();
+    drop(begun);
+    is_begun
+}
+
+/// Whether the walk is told to be answered next, with the root's slot and this one.
+fn ends_with<N: Shape>(
+    tie: &Tie<N, Account>,
+    desk: &mut Desk<N>,
+    me: &Rider<N>,
+    root: &mut Locked<N>,
+    spare: u64,
+) -> bool {
+    match desk.next_step(tie, me, root) {
+        Next::Commit(slots) => slots.as_slice() == [0, spare].as_slice(),
+        _ => false,
+    }
+}
+
+/// Whether the directory is made.
+fn makes<N: Shape>(
+    alloc: Global,
+    tie: &Tie<N, Account>,
+    desk: &mut Desk<N>,
+    me: &mut Rider<N>,
+    root: &mut Locked<N>,
+    spare: &mut Locked<N>,
+) -> bool {
+    if !sets_out(alloc, tie, desk, me) || desk.enter(tie, me, root) != Progress::Stands(ROOT) {
+        return false;
+    }
+    let is_told = ends_with(tie, desk, me, root, spare.number());
+    let left = desk.leave_2(tie, me, root, spare, Leaving::Commit);
+    let is_made = matches!(&left, Left::Answered(Reply::Done));
+    drop(left);
+    is_told && is_made && spare.inode() == ROOT + 1
+}
+
+/// Whether the client spawns.
+fn spawns<N: Shape>(tie: &Tie<N, Account>, desk: &mut Desk<N>, me: &mut Client<N>) -> bool {
+    let child = desk.spawn(tie, me);
+    let is_there = child.is_ok();
+    drop(child);
+    is_there
+}
+
+/// A new tree. Its last free slot is the first client's.
+fn begins<N: Shape>(alloc: Global, blank: Blank<Account>) -> bool
+    requires named { blank ≡ N.table }
+    requires slots { N.slots ≡ 128 }
+    requires limit { N.limit ≡ 10 }
+{
+    let Ok(
+        Opened {
+            tie,
+            mut desk,
+            mut slots,
+        },
+    ) = open::<N>(alloc, blank, RULES, 64, 10)
+    else {
+        return false;
+    };
+    let (Ok(mut me), Some(mut spare)) = (desk.connect(&tie), slots.pop()) else {
+        return false;
+    };
+    let has_child = spawns(&tie, &mut desk, &mut me);
+    let Client { mut rider, .. } = me;
+    let is_made = match slots.get_mut(0) {
+        Some(root) => makes(alloc, &tie, &mut desk, &mut rider, root, &mut spare),
+        None => false,
+    };
+    has_child && is_made
+}
+
+#[test]
+fn desk(rt: HostRuntime) {
+    let is_right = match Blank::new(rt.alloc()) {
+        Ok(blank) => begins::<Brand>(rt.alloc(), blank),
+        Err(_) => false,
+    };
+    assert!(rt; is_right);
+}
