@@ -10,4 +10,5 @@ returns c = λ w s spares walks table.
     (world.is_marked_by_other w c.args.client) c.args.sight.now.slots.now c.args.sight.now.lent.now
     c.args.spare c.args.call.now c.args.first c.args.second c.in-Some.old c.in-Some-find.new c.index-sight-old.result
     c.index-sight-new.result c.in-Some.ensures.some c.in-Some-find.ensures.some
-    c.find_ends-found.result c.check_there.result (c.find_ends-found.ensures s spares table) (c.check_there.ensures w walks)
+    c.find_ends-found.result c.check_there.result (c.find_ends-found.ensures s spares table)
+    (c.check_there.ensures w walks)
