@@ -73,8 +73,13 @@ fn spawns<N: Shape>(tie: &Tie<N, Account>, desk: &mut Desk<N>, me: &mut Client<N
     is_there
 }
 
+/// What may go to another thread.
+fn sent<T: Send>(value: &T) {
+    let _ = value;
+}
+
 /// A new tree. Its last free slot is the first client's.
-fn begins<N: Shape>(alloc: Global, blank: Blank<Account>) -> bool
+fn begins<N: Shape + Send>(alloc: Global, blank: Blank<Account>) -> bool
     requires named { blank ≡ N.table }
     requires slots { N.slots ≡ 128 }
     requires limit { N.limit ≡ 10 }
@@ -92,6 +97,8 @@ fn begins<N: Shape>(alloc: Global, blank: Blank<Account>) -> bool
     let (Ok(mut me), Some(mut spare)) = (desk.connect(&tie), slots.pop()) else {
         return false;
     };
+    sent(&me);
+    sent(&spare);
     let has_child = spawns(&tie, &mut desk, &mut me);
     let Client { mut rider, .. } = me;
     let is_made = match slots.get_mut(0) {
