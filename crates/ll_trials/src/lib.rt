@@ -56,6 +56,8 @@ mod session;
 #[cfg(test)]
 mod steps;
 #[cfg(test)]
+mod threads;
+#[cfg(test)]
 mod tie;
 #[cfg(test)]
 mod wire;

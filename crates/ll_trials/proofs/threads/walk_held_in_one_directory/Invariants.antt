@@ -1,0 +1,8 @@
+use Rattle.ll_trials.proofs.threads.walk_held_in_one_directory.Given as goal
+
+-- the table that was just made
+abbrev pub ghosts-opens_holding-N-Naming : goal.ghosts-opens_holding-N-Naming
+ghosts-opens_holding-N-Naming g a = record { table = a.blank }
+
+abbrev pub ghosts-opens_holding-N-Shape : goal.ghosts-opens_holding-N-Shape
+ghosts-opens_holding-N-Shape g a = record { slots = 128; limit = 100 }

@@ -1,0 +1,4 @@
+pub mod Looks
+pub mod Riders
+pub mod Shown
+pub mod Walks

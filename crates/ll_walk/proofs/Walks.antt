@@ -1,0 +1,54 @@
+-- A client along its walk.
+use Rattle.std.proofs.Common.{◌≡◌, ℕ, Option, Some, None, ap, sym, ◌∙◌, subst, refl}
+use Rattle.ll_seq.specs.declared.call.Call.{Call}
+use Rattle.ll_journal.specs.declared.direct.Made.{Made}
+use Rattle.ll_journal.specs.declared.direct.Made.TheVariants as made
+use Rattle.ll_client.specs.declared.left.Left.{Left}
+use Rattle.ll_client.specs.declared.left.Left.TheVariants as left
+use Rattle.ll_client.specs.Entries.{Knows}
+use Rattle.ll_client.specs.Gains.{Gains, Goes, Told}
+use Rattle.ll_walk.specs.Ends.{made_of}
+use Rattle.ll_walk.specs.Sections.{Came}
+
+some_is : {A : Type 0} (x y : A) → Some x ≡ Some y → x ≡ y
+some_is x y e = cc
+
+-- what a walk that was to be left has come to
+pub came : (limit : ℕ) (k : Knows) (it : Left) (k' : Knows) → Goes limit k it k' → Came limit k (made_of it) k'
+came limit k left.NotNow k' g = g
+came limit k left.Astray k' g = g
+came limit k (left.Answered reply) k' g =
+    λ call is. subst (λ (x : Call). Told x reply k k') (some_is g.0 call (sym g.1 ∙ is)) g.2
+came limit k left.Again k' g = g
+came limit k left.HistoryFull k' g = λ call is. g
+came limit k left.NoMemory k' g = λ call is. g
+
+-- from where it was when it set out
+pub came_as : (limit : ℕ) (k l : Knows) (it : Left) (o : Option Made) (k' : Knows) → l ≡ k → o ≡ made_of it
+    → Goes limit l it k' → Came limit k o k'
+came_as limit k l it o k' is told g =
+    subst (λ (x : Knows). Came limit x o k') is
+    (subst (λ (x : Option Made). Came limit l x k') (sym told) (came limit l it k' g))
+
+-- a walk that was begun for a call, and that was answered
+pub gained : (limit : ℕ) (call : Call) (k l : Knows) (it : Made) (k' : Knows) → k.doing ≡ None
+    → l ≡ record k { doing = Some call } → Came limit l (Some it) k' → Gains limit call k it k'
+gained limit call k l it k' idle is c = from it (subst (λ (x : Knows). Came limit x (Some it) k') is c call refl)
+  where
+    from : (it : Made) → Gains limit call (record k { doing = None }) it k' → Gains limit call k it k'
+    from (made.Replied reply) h = h
+    from made.HistoryFull h = h ∙ (λ i. record k { seen = limit; doing = sym idle i })
+    from made.NoMemory h = h ∙ (λ i. record k { doing = sym idle i })
+
+pub stays : (limit : ℕ) (l : Knows) (it : Left) (k' : Knows) → Goes limit l it k' → made_of it ≡ None → k' ≡ l
+stays limit l it k' g none = subst (λ (x : Option Made). Came limit l x k') none (came limit l it k' g)
+
+pub again : (limit : ℕ) (l : Knows) (it : Left) (k' : Knows) → Goes limit l it k' → it ≡ left.Again → k' ≡ l
+again limit l it k' g is = subst (λ (x : Left). Goes limit l x k') is g
+
+-- a client that had no walk under way has none after its call
+pub idle_after : (limit : ℕ) (call : Call) (k : Knows) (it : Made) (k' : Knows) → k.doing ≡ None
+    → Gains limit call k it k' → k'.doing ≡ None
+idle_after limit call k (made.Replied reply) k' idle g = ap (λ (x : Knows). x.doing) g.1
+idle_after limit call k made.HistoryFull k' idle g = ap (λ (x : Knows). x.doing) g ∙ idle
+idle_after limit call k made.NoMemory k' idle g = ap (λ (x : Knows). x.doing) g ∙ idle

@@ -1,0 +1,14 @@
+use Rattle.std.proofs.Common.{◌∙◌}
+use Rattle.ll_journal.specs.Steps.{Does}
+use Rattle.ll_worlds.specs.declared.step.Step.TheVariants.{Descend}
+use Rattle.ll_walk.proofs.Shown.{shows_1, stepped, turns}
+use Rattle.ll_walk.proofs.section.Section.enter.Goals as goal
+
+pub returns-clause-step : goal.returns-clause-step
+returns-clause-step g c =
+    let w = c.enter-progress.new.self in
+    let done = c.enter-progress.ensures in
+    let still = c.view_at-view.ensures in
+    stepped (λ b x. Does b (Descend c.args.me.now.number) c.enter-progress.result x) _ _ w _ _
+    c.deref_mut.ensures.value done.does
+    (shows_1 _ w _ _ (turns _ w _ _ done.before (still.here ∙ done.after)) done.spares)

@@ -1,0 +1,33 @@
+-- What a section is, and what a walk's start comes to. own
+use Rattle.std.specs.Prelude.{◌≡◌, ℕ, ◌<◌, List, map, Option, Some, None, ⊤}
+use Rattle.std.specs.List.{AllByRecursion}
+use Rattle.ll_seq.specs.declared.call.Call.{Call}
+use Rattle.ll_journal.specs.declared.direct.Made.{Made}
+use Rattle.ll_journal.specs.declared.next.Next.{Next}
+use Rattle.ll_journal.specs.declared.next.Next.TheVariants as next
+use Rattle.ll_journal.specs.Book.{Book, Spares}
+use Rattle.ll_client.specs.Entries.{Kept, Knows}
+use Rattle.ll_client.specs.Coming.{kept_at}
+use Rattle.ll_client.specs.Gains.{Gains}
+
+-- Between two books: what is lent was the slots' accounts in the one, and is so in the other; and no other account
+-- changed
+pub record Shows (b w : Book) (before after : List Kept) : Type 0 where
+  pub before_is : before ≡ map (λ (k : Kept). kept_at b k.number) before
+  pub after_is : after ≡ map (λ (k : Kept). kept_at w k.number) before
+  pub others : Spares b w (map (λ (k : Kept). k.number) before)
+
+-- None: the client's walk is under way as it was. Some: its call is answered so, and no walk of it is under way
+abbrev pub Came : ℕ → Knows → Option Made → Knows → Type 0
+Came limit k None k' = k' ≡ k
+Came limit k (Some made) k' =
+    (call : Call) → k.doing ≡ Some call → Gains limit call (record k { doing = None }) made k'
+
+-- the slots that the next step needs are slots of the tree
+abbrev pub AreThere : ℕ → Next → Type 0
+AreThere slots next.Nothing = ⊤
+AreThere slots (next.Restart needed) = AllByRecursion (λ slot. slot < slots) needed
+AreThere slots (next.Enter to) = to < slots
+AreThere slots (next.Descend to) = to < slots
+AreThere slots next.Fork = ⊤
+AreThere slots (next.Commit needed) = AllByRecursion (λ slot. slot < slots) needed

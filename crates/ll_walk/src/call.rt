@@ -1,0 +1,106 @@
+//! Calls of clients.
+
+ghost use Rattle.std.specs.Prelude.{◌≡◌, ◌∷◌, [], None, IfOk, IfErr};
+ghost use Rattle.ll_seq.specs.declared.call.Call.TheVariants as calls;
+ghost use Rattle.ll_seq.specs.declared.reply.Reply.TheVariants as replies;
+ghost use Rattle.ll_client.specs.Coming.{childless};
+ghost use Rattle.ll_client.specs.Entries.{knows, numbered};
+ghost use Rattle.ll_client.specs.Gains.{Gains, Told};
+
+use crate::gate::Gate;
+use crate::table::Table;
+use ll_client::{Client, Rider, Shape};
+use ll_journal::{Made, Start, Unmade};
+use ll_rights::Errno;
+use ll_seq::Call;
+use std::sync::Wait;
+
+/// Whether the call may move a directory, so that its walk needs the move gate.
+fn takes_gate(call: &Call) -> bool {
+    match call {
+        Call::Rename(..) | Call::RenameNoreplace(..) | Call::Exchange(..) => true,
+        Call::Make(..) | Call::Open(..) | Call::Truncate(..) | Call::ReadDir(_) => false,
+        Call::Stat(_) | Call::Exec(_) | Call::Unlink(_) | Call::Rmdir(_) | Call::Link(..) => false,
+        Call::Allow(..) | Call::Read(..) | Call::Write(..) | Call::Ftruncate(..) => false,
+        Call::Close(_) | Call::Ruleset(_) | Call::Confine(_) | Call::Spawn | Call::Connect => false,
+    }
+}
+
+/// The descriptor that the call is made on.
+fn descriptor_of(call: &Call) -> Option<u64> {
+    match call {
+        Call::Read(number, ..) | Call::Write(number, ..) => Some(*number),
+        Call::Ftruncate(number, _) | Call::Close(number) => Some(*number),
+        Call::Make(..) | Call::Open(..) | Call::Truncate(..) | Call::ReadDir(_) => None,
+        Call::Stat(_) | Call::Exec(_) | Call::Unlink(_) | Call::Rmdir(_) | Call::Link(..) => None,
+        Call::Rename(..) | Call::RenameNoreplace(..) | Call::Exchange(..) | Call::Allow(..) => None,
+        Call::Ruleset(_) | Call::Confine(_) | Call::Spawn | Call::Connect => None,
+    }
+}
+
+impl<N: Shape, G: Gate<N>> Table<N, G> {
+    /// A new client. Errors: HistoryFull, EMFILE where as many clients were made as a tree may have, NoMemory.
+    pub fn connect<R: Wait>(&self, rt: &R) -> Result<Client<N>, Errno>
+        ensures { IfOk result (λ client. client.rider
+            ≡ knows client.rider.number (numbered client.rider.seen calls.Connect replies.Done ∷ []) client.rider.seen
+            None) }
+    {
+        self.section(rt).connect(&self.tie)
+    }
+
+    /// The client spawns a child, which knows of all entries up to the spawn. Errors: HistoryFull, EMFILE where as many
+    /// clients were made as a tree may have, NoMemory.
+    pub fn spawn<R: Wait>(&self, rt: &R, me: &mut Client<N>) -> Result<Client<N>, Errno>
+        ensures child { IfOk result (λ child.
+            Told calls.Spawn (replies.Spawned child.rider.number) me.old.rider me.new.rider
+            × (child.rider ≡ knows child.rider.number [] me.new.rider.seen None)) }
+        ensures alone { IfErr result (λ errno.
+            Gains N.limit calls.Spawn me.old.rider (childless errno) me.new.rider) }
+    {
+        self.section(rt).spawn(&self.tie, me)
+    }
+
+    /// The client's call on a descriptor that it has. Another call comes back.
+    fn on_file<R: Wait>(&self, rt: &R, me: &mut Rider<N>, call: Call) -> Result<Made, Call>
+        requires { me.old.doing ≡ None }
+        ensures made { IfOk result (λ made. Gains N.limit call me.old made me.new) }
+        ensures back { IfErr result (λ back. (back ≡ call) × (me.new ≡ me.old)) }
+    {
+        let Some(number) = descriptor_of(&call) else {
+            return Err(call);
+        };
+        let mut call = call;
+        for _ in rt.forever() {
+            let Some(slot) = self.section(rt).file_slot(me, number) else {
+                return Err(call);
+            };
+            let mut file = self.locked(rt, slot);
+            match self.section(rt).fd_commit(&self.tie, me, call, &mut file) {
+                Ok(made) => return Ok(made),
+                Err(Unmade::NotNow(back)) => return Err(back),
+                Err(Unmade::Astray(back)) => call = back,
+            }
+        }
+        unreachable!()
+    }
+
+    /// A client's call, led to its reply. Connect and spawn come back: they have functions of their own.
+    pub fn call<R: Wait>(&self, rt: &R, me: &mut Client<N>, call: Call) -> Result<Made, Call>
+        ensures made { IfOk result (λ made. Gains N.limit call me.old.rider made me.new.rider) }
+        ensures back { IfErr result (λ back. (back ≡ call) × (me.new ≡ me.old)) }
+    {
+        if matches!(call, Call::Spawn) {
+            return Err(call);
+        }
+        let mut moving = None;
+        if takes_gate(&call) {
+            moving = Some(self.moving.lock(rt));
+        }
+        let rider = &mut me.rider;
+        match self.section(rt).start(&self.tie, rider, call) {
+            Start::Made(made) => Ok(made),
+            Start::Begun => Ok(self.lead(rt, rider, moving)),
+            Start::Back(call) => self.on_file(rt, rider, call),
+        }
+    }
+}

@@ -1,0 +1,93 @@
+//! What a client does in one section, without a walk.
+
+ghost use Rattle.std.specs.Prelude.{◌≡◌, ◌<◌, ◌≤◌, ◌++◌, ◌∷◌, [], None, Some, IfOk, IfErr, IfSome, length};
+ghost use Rattle.std.specs.Sync.Mutex.{mutex_guard_value};
+ghost use Rattle.ll_seq.specs.declared.call.Call.TheVariants as calls;
+ghost use Rattle.ll_seq.specs.declared.reply.Reply.TheVariants as replies;
+ghost use Rattle.ll_worlds.specs.World.{Joined, advance};
+ghost use Rattle.ll_worlds.specs.declared.step.Step.TheVariants.{ClientStep, FdCommit, Join};
+ghost use Rattle.ll_journal.specs.Book.{Book};
+ghost use Rattle.ll_journal.specs.Direct.{Answers, ComesBack};
+ghost use Rattle.ll_journal.specs.Starts.{Starts};
+ghost use Rattle.ll_client.specs.Coming.{SetsOut, childless};
+ghost use Rattle.ll_client.specs.Entries.{knows, numbered};
+ghost use Rattle.ll_client.specs.Gains.{Gains, Told};
+ghost use Rattle.ll_walk.specs.Sections.{Shows};
+
+use crate::section::Section;
+use ll_client::{Account, Client, Locked, Rider, Shape};
+use ll_journal::{Made, Start, Unmade};
+use ll_rights::Errno;
+use ll_seq::Call;
+use ll_tie::Tie;
+
+impl<'a, N: Shape> Section<'a, N> {
+    /// What becomes of the client's call: it is made, or its walk is under way, or it comes back.
+    pub fn start(self, tie: &Tie<N, Account>, me: &mut Rider<N>, call: Call) -> Start
+        ensures step { (w : Book) × Starts (mutex_guard_value self.entry.desk) me.old.number call result w
+            × Shows (mutex_guard_value self.entry.desk) w [] [] }
+        ensures mine { SetsOut N.limit call me.old result me.new }
+    {
+        let Section { mut desk } = self;
+        desk.start(tie, me, call)
+    }
+
+    /// The slot of the file that the client has open under this number.
+    pub fn file_slot(self, me: &Rider<N>, number: u64) -> Option<u64>
+        ensures { IfSome result (λ slot. slot < N.slots) }
+    {
+        let Section { desk } = self;
+        desk.by_law();
+        desk.file_slot(me, number)
+    }
+
+    /// The client's call on a descriptor, with the slot of its file.
+    pub fn fd_commit(
+        self,
+        tie: &Tie<N, Account>,
+        me: &mut Rider<N>,
+        call: Call,
+        file: &mut Locked<N>,
+    ) -> Result<Made, Unmade>
+        ensures step { IfOk result (λ made. (w : Book)
+            × Answers (mutex_guard_value self.entry.desk) (FdCommit me.old.number call) made w
+            × Shows (mutex_guard_value self.entry.desk) w (file.old ∷ []) (file.new ∷ [])) }
+        ensures back { IfErr result (ComesBack (mutex_guard_value self.entry.desk) me.old.number call file.old.number) }
+        ensures mine { IfOk result (λ made. Gains N.limit call me.old made me.new) }
+        ensures still { IfErr result (λ back. (me.new ≡ me.old) × (file.new ≡ file.old)) }
+    {
+        let Section { mut desk } = self;
+        desk.fd_commit(tie, me, call, file)
+    }
+
+    /// A new client.
+    pub fn connect(self, tie: &Tie<N, Account>) -> Result<Client<N>, Errno>
+        ensures step { IfOk result (λ client. (w : Book)
+            × (advance (mutex_guard_value self.entry.desk).world Join ≡ (Joined client.rider.number, w.world))
+            × Shows (mutex_guard_value self.entry.desk) w [] []) }
+        ensures client { IfOk result (λ client. client.rider
+            ≡ knows client.rider.number (numbered client.rider.seen calls.Connect replies.Done ∷ []) client.rider.seen
+            None) }
+    {
+        let Section { mut desk } = self;
+        desk.connect(tie)
+    }
+
+    /// A client's child, or why there is none.
+    pub fn spawn(self, tie: &Tie<N, Account>, me: &mut Client<N>) -> Result<Client<N>, Errno>
+        ensures child { IfOk result (λ child. (w : Book)
+            × Answers (mutex_guard_value self.entry.desk) (ClientStep me.old.rider.number calls.Spawn)
+            (Made.Replied (replies.Spawned child.rider.number)) w
+            × Shows (mutex_guard_value self.entry.desk) w [] []
+            × Told calls.Spawn (replies.Spawned child.rider.number) me.old.rider me.new.rider
+            × (child.rider ≡ knows child.rider.number [] me.new.rider.seen None)) }
+        ensures alone { IfErr result (λ errno. (w : Book)
+            × Answers (mutex_guard_value self.entry.desk) (ClientStep me.old.rider.number calls.Spawn)
+            (childless errno) w
+            × Shows (mutex_guard_value self.entry.desk) w [] []
+            × Gains N.limit calls.Spawn me.old.rider (childless errno) me.new.rider) }
+    {
+        let Section { mut desk } = self;
+        desk.spawn(tie, me)
+    }
+}

@@ -1,0 +1,51 @@
+//! A walk from its first start to its reply.
+
+ghost use Rattle.std.specs.Prelude.{◌≡◌, Some};
+ghost use Rattle.ll_walk.specs.Sections.{Came};
+
+use crate::gate::Gate;
+use crate::table::Table;
+use ll_client::{Rider, Shape};
+use ll_journal::Made;
+use std::sync::{MutexGuard, Wait};
+
+/// How often a walk starts without the move gate.
+const FREE_STARTS: u64 = 3;
+
+impl<N: Shape, G: Gate<N>> Table<N, G> {
+    /// Starts until the call is answered.
+    fn last_start<R: Wait>(&self, rt: &R, me: &mut Rider<N>) -> Made
+        ensures { Came N.limit me.old (Some result) me.new }
+    {
+        for _ in rt.forever() {
+            if let Some(made) = self.start(rt, me) {
+                return made;
+            }
+        }
+        unreachable!()
+    }
+
+    /// Leads the client's walk to its reply. It starts three times without the move gate, if it hasn't that yet, and
+    /// then with it.
+    pub(crate) fn lead<'a, R: Wait>(
+        &'a self,
+        rt: &R,
+        me: &mut Rider<N>,
+        moving: Option<MutexGuard<'a, ()>>,
+    ) -> Made
+        ensures { Came N.limit me.old (Some result) me.new }
+    {
+        for _ in 0..FREE_STARTS {
+            if let Some(made) = self.start(rt, me) {
+                return made;
+            }
+        }
+        let moving = match moving {
+            Some(guard) => guard,
+            None => self.moving.lock(rt),
+        };
+        let made = self.last_start(rt, me);
+        drop(moving);
+        made
+    }
+}

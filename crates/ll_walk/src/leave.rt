@@ -1,0 +1,103 @@
+//! A walk is left in a section: its call is answered, or it starts again.
+
+ghost use Rattle.std.specs.Prelude.{◌≡◌, ◌∷◌, [], Option, Some};
+ghost use Rattle.std.specs.Sync.Mutex.{mutex_guard_value};
+ghost use Rattle.ll_journal.specs.Book.{Book};
+ghost use Rattle.ll_client.specs.Gains.{Goes, IsAstray, Leaves};
+ghost use Rattle.ll_walk.specs.Sections.{Shows};
+
+use crate::section::Section;
+use ll_client::{Account, Leaving, Left, Locked, Rider, Shape};
+use ll_tie::Tie;
+
+impl<'a, N: Shape> Section<'a, N> {
+    /// The client's walk is left, with no slot.
+    pub fn leave_0(self, tie: &Tie<N, Account>, me: &mut Rider<N>, leaving: Leaving) -> Left
+        ensures step { (w : Book) × Leaves leaving (mutex_guard_value self.entry.desk) me.old.number result w
+            × Shows (mutex_guard_value self.entry.desk) w [] [] }
+        ensures astray { result ≡ Left.Astray → IsAstray leaving (mutex_guard_value self.entry.desk) me.old.number [] }
+        ensures mine { Goes N.limit me.old result me.new }
+    {
+        let Section { mut desk } = self;
+        desk.leave_0(tie, me, leaving)
+    }
+
+    /// The same with one slot.
+    pub fn leave_1(
+        self,
+        tie: &Tie<N, Account>,
+        me: &mut Rider<N>,
+        a: &mut Locked<N>,
+        leaving: Leaving,
+    ) -> Left
+        ensures step { (w : Book) × Leaves leaving (mutex_guard_value self.entry.desk) me.old.number result w
+            × Shows (mutex_guard_value self.entry.desk) w (a.old ∷ []) (a.new ∷ []) }
+        ensures astray { result ≡ Left.Astray → IsAstray leaving (mutex_guard_value self.entry.desk) me.old.number
+            (a.old.number ∷ []) }
+        ensures mine { Goes N.limit me.old result me.new }
+    {
+        let Section { mut desk } = self;
+        desk.leave_1(tie, me, a, leaving)
+    }
+
+    /// The same with two slots.
+    pub fn leave_2(
+        self,
+        tie: &Tie<N, Account>,
+        me: &mut Rider<N>,
+        a: &mut Locked<N>,
+        b: &mut Locked<N>,
+        leaving: Leaving,
+    ) -> Left
+        ensures step { (w : Book) × Leaves leaving (mutex_guard_value self.entry.desk) me.old.number result w
+            × Shows (mutex_guard_value self.entry.desk) w (a.old ∷ b.old ∷ []) (a.new ∷ b.new ∷ []) }
+        ensures astray { result ≡ Left.Astray → IsAstray leaving (mutex_guard_value self.entry.desk) me.old.number
+            (a.old.number ∷ b.old.number ∷ []) }
+        ensures mine { Goes N.limit me.old result me.new }
+    {
+        let Section { mut desk } = self;
+        desk.leave_2(tie, me, a, b, leaving)
+    }
+
+    /// The same with three slots.
+    pub fn leave_3(
+        self,
+        tie: &Tie<N, Account>,
+        me: &mut Rider<N>,
+        a: &mut Locked<N>,
+        b: &mut Locked<N>,
+        d: &mut Locked<N>,
+        leaving: Leaving,
+    ) -> Left
+        ensures step { (w : Book) × Leaves leaving (mutex_guard_value self.entry.desk) me.old.number result w
+            × Shows (mutex_guard_value self.entry.desk) w (a.old ∷ b.old ∷ d.old ∷ []) (a.new ∷ b.new ∷ d.new ∷ []) }
+        ensures astray { result ≡ Left.Astray → IsAstray leaving (mutex_guard_value self.entry.desk) me.old.number
+            (a.old.number ∷ b.old.number ∷ d.old.number ∷ []) }
+        ensures mine { Goes N.limit me.old result me.new }
+    {
+        let Section { mut desk } = self;
+        desk.leave_3(tie, me, a, b, d, leaving)
+    }
+
+    /// The same with four slots.
+    pub fn leave_4(
+        self,
+        tie: &Tie<N, Account>,
+        me: &mut Rider<N>,
+        a: &mut Locked<N>,
+        b: &mut Locked<N>,
+        d: &mut Locked<N>,
+        e: &mut Locked<N>,
+        leaving: Leaving,
+    ) -> Left
+        ensures step { (w : Book) × Leaves leaving (mutex_guard_value self.entry.desk) me.old.number result w
+            × Shows (mutex_guard_value self.entry.desk) w (a.old ∷ b.old ∷ d.old ∷ e.old ∷ [])
+            (a.new ∷ b.new ∷ d.new ∷ e.new ∷ []) }
+        ensures astray { result ≡ Left.Astray → IsAstray leaving (mutex_guard_value self.entry.desk) me.old.number
+            (a.old.number ∷ b.old.number ∷ d.old.number ∷ e.old.number ∷ []) }
+        ensures mine { Goes N.limit me.old result me.new }
+    {
+        let Section { mut desk } = self;
+        desk.leave_4(tie, me, a, b, d, e, leaving)
+    }
+}

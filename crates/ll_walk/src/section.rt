@@ -1,0 +1,223 @@
+//! The journal's lock, held.
+
+ghost use Rattle.std.specs.Prelude.{◌≡◌, ◌<◌, ◌≤◌, ℕ, ◌∷◌, [], Some, None, length};
+ghost use Rattle.std.specs.Sync.Mutex.{mutex_guard_value};
+ghost use Rattle.ll_journal.specs.Book.{Book};
+ghost use Rattle.ll_journal.specs.Steps.{Does};
+ghost use Rattle.ll_worlds.specs.declared.step.Step.TheVariants.{Descend, Fork};
+ghost use Rattle.ll_client.specs.Gains.{Goes, IsAstray, Leaves};
+ghost use Rattle.ll_walk.specs.Sections.{AreThere, Shows};
+ghost use Rattle.ll_seq.specs.History.{IsLegal};
+ghost use Rattle.ll_seq.specs.State.{start};
+ghost use Rattle.ll_worlds.specs.Walks.{AreApart, AreFew, AreValid, GateIsHeld};
+ghost use Rattle.ll_journal.specs.SlotTree.{HoldTree, accounts_of};
+
+use ll_client::{Account, Desk, Leaving, Left, Locked, Rider, Shape};
+use ll_journal::{Next, Progress, Station};
+use ll_tie::Tie;
+use std::sync::MutexGuard;
+
+/// What is seen of a walk: where it is, and which step comes next.
+#[derive(Drop)]
+pub struct View {
+    pub station: Station,
+    pub next: Next,
+}
+
+/// The journal's lock, held. Its one act uses it up, and lets the lock go. In it no other lock is waited for.
+pub struct Section<'a, N: Shape> {
+    pub(crate) desk: MutexGuard<'a, Desk<N>>,
+}
+
+/// A look at what comes next, from this slot.
+#[tactic(auto, using(crate::proofs::Looks::are_there))]
+fn view_at<N: Shape>(
+    desk: &mut Desk<N>,
+    tie: &Tie<N, Account>,
+    me: &Rider<N>,
+    here: &mut Locked<N>,
+) -> View
+    ensures desk { desk.new ≡ desk.old }
+    ensures here { here.new ≡ here.old }
+    ensures there { AreThere N.slots result.next }
+{
+    desk.by_law();
+    let station = desk.station(me);
+    let next = desk.next_step(tie, me, here);
+    View { station, next }
+}
+
+/// From the one of two slots where the walk's leg in turn stands: the second, if it is neither.
+fn view_from<N: Shape>(
+    desk: &mut Desk<N>,
+    tie: &Tie<N, Account>,
+    me: &Rider<N>,
+    one: &mut Locked<N>,
+    other: &mut Locked<N>,
+) -> View
+    ensures desk { desk.new ≡ desk.old }
+    ensures one { one.new ≡ one.old }
+    ensures other { other.new ≡ other.old }
+    ensures there { AreThere N.slots result.next }
+{
+    if desk.turn_slot(me) == Some(one.number()) {
+        view_at(desk, tie, me, one)
+    } else {
+        view_at(desk, tie, me, other)
+    }
+}
+
+/// After a descent past the fork: from where the walk now stands, or from the directory of the fork.
+fn view_below<N: Shape>(
+    desk: &mut Desk<N>,
+    tie: &Tie<N, Account>,
+    me: &Rider<N>,
+    progress: &Progress,
+    common: &mut Locked<N>,
+    from: &mut Locked<N>,
+    to: &mut Locked<N>,
+) -> View
+    ensures desk { desk.new ≡ desk.old }
+    ensures common { common.new ≡ common.old }
+    ensures from { from.new ≡ from.old }
+    ensures to { to.new ≡ to.old }
+    ensures there { AreThere N.slots result.next }
+{
+    match progress {
+        Progress::Stands(_) => view_from(desk, tie, me, to, common),
+        _ => view_from(desk, tie, me, from, common),
+    }
+}
+
+impl<'a, N: Shape> Section<'a, N> {
+    /// The first descent of the client's walk, to the root, and a look from there at what comes next.
+    pub fn enter(
+        self,
+        tie: &Tie<N, Account>,
+        me: &mut Rider<N>,
+        root: &mut Locked<N>,
+    ) -> (Progress, View)
+        ensures step { (w : Book) × Does (mutex_guard_value self.entry.desk) (Descend me.old.number) result.0 w
+            × Shows (mutex_guard_value self.entry.desk) w (root.old ∷ []) (root.new ∷ []) }
+        ensures stands { (inode : ℕ) → result.0 ≡ Progress.Stands inode
+            → (root.new.held.inode ≡ inode) × (root.new.held.node.mark ≡ Some me.old.number) }
+        ensures there { AreThere N.slots result.1.next }
+        ensures mine { me.new ≡ me.old }
+    {
+        let Section { mut desk } = self;
+        let progress = desk.enter(tie, me, root);
+        let view = view_at(&mut desk, tie, me, root);
+        (progress, view)
+    }
+
+    /// A descent of the client's walk, and a look at what comes next.
+    pub fn descend(
+        self,
+        tie: &Tie<N, Account>,
+        me: &mut Rider<N>,
+        from: &mut Locked<N>,
+        to: &mut Locked<N>,
+    ) -> (Progress, View)
+        ensures step { (w : Book) × Does (mutex_guard_value self.entry.desk) (Descend me.old.number) result.0 w
+            × Shows (mutex_guard_value self.entry.desk) w (from.old ∷ to.old ∷ []) (from.new ∷ to.new ∷ []) }
+        ensures stands { (inode : ℕ) → result.0 ≡ Progress.Stands inode
+            → (to.new.held.inode ≡ inode) × (to.new.held.node.mark ≡ Some me.old.number) }
+        ensures there { AreThere N.slots result.1.next }
+        ensures mine { me.new ≡ me.old }
+    {
+        let Section { mut desk } = self;
+        let progress = desk.descend(tie, me, from, to);
+        let view = view_from(&mut desk, tie, me, to, from);
+        (progress, view)
+    }
+
+    /// The same past the fork, where the directory of the fork is held too.
+    pub fn descend_below(
+        self,
+        tie: &Tie<N, Account>,
+        me: &mut Rider<N>,
+        common: &mut Locked<N>,
+        from: &mut Locked<N>,
+        to: &mut Locked<N>,
+    ) -> (Progress, View)
+        ensures step { (w : Book) × Does (mutex_guard_value self.entry.desk) (Descend me.old.number) result.0 w
+            × Shows (mutex_guard_value self.entry.desk) w (from.old ∷ to.old ∷ []) (from.new ∷ to.new ∷ []) }
+        ensures stands { (inode : ℕ) → result.0 ≡ Progress.Stands inode
+            → (to.new.held.inode ≡ inode) × (to.new.held.node.mark ≡ Some me.old.number) }
+        ensures common { common.new ≡ common.old }
+        ensures there { AreThere N.slots result.1.next }
+        ensures mine { me.new ≡ me.old }
+    {
+        let Section { mut desk } = self;
+        let progress = desk.descend(tie, me, from, to);
+        let view = view_below(&mut desk, tie, me, &progress, common, from, to);
+        (progress, view)
+    }
+
+    /// The client's walk leaves what is common to both paths, and a look at what comes next.
+    pub fn fork(
+        self,
+        tie: &Tie<N, Account>,
+        me: &mut Rider<N>,
+        here: &mut Locked<N>,
+    ) -> (Progress, View)
+        ensures step { (w : Book) × Does (mutex_guard_value self.entry.desk) (Fork me.old.number) result.0 w
+            × Shows (mutex_guard_value self.entry.desk) w [] [] }
+        ensures here { here.new ≡ here.old }
+        ensures there { AreThere N.slots result.1.next }
+        ensures mine { me.new ≡ me.old }
+    {
+        let Section { mut desk } = self;
+        let progress = desk.fork(tie, me);
+        let view = view_at(&mut desk, tie, me, here);
+        (progress, view)
+    }
+
+    /// A look at what comes next, from one of two slots where the walk's leg in turn stands.
+    pub fn view(
+        self,
+        tie: &Tie<N, Account>,
+        me: &Rider<N>,
+        one: &mut Locked<N>,
+        other: &mut Locked<N>,
+    ) -> View
+        ensures one { one.new ≡ one.old }
+        ensures other { other.new ≡ other.old }
+        ensures there { AreThere N.slots result.next }
+    {
+        let Section { mut desk } = self;
+        view_from(&mut desk, tie, me, one, other)
+    }
+
+    /// The same from one slot.
+    pub fn view_here(self, tie: &Tie<N, Account>, me: &Rider<N>, here: &mut Locked<N>) -> View
+        ensures here { here.new ≡ here.old }
+        ensures there { AreThere N.slots result.next }
+    {
+        let Section { mut desk } = self;
+        view_at(&mut desk, tie, me, here)
+    }
+
+    /// The slot of the root.
+    pub fn root_slot(self) -> u64
+        ensures { result < N.slots }
+    {
+        let Section { desk } = self;
+        desk.by_law();
+        desk.root_slot()
+    }
+
+    /// What holds of the tree that lies behind the locks, whatever steps were made before. Takes no memory.
+    pub fn by_law(&self)
+        ensures legal { IsLegal (start (mutex_guard_value self.now.desk).world.rules
+            (mutex_guard_value self.now.desk).world.room) (mutex_guard_value self.now.desk).world.history }
+        ensures valid { AreValid (mutex_guard_value self.now.desk).world }
+        ensures apart { AreApart (mutex_guard_value self.now.desk).world }
+        ensures few { AreFew (mutex_guard_value self.now.desk).world }
+        ensures gate { GateIsHeld (mutex_guard_value self.now.desk).world }
+        ensures tree { HoldTree (accounts_of (mutex_guard_value self.now.desk))
+            (mutex_guard_value self.now.desk).world }
+    {
+        self.desk.by_law();
+    }
+}

@@ -1,0 +1,143 @@
+//! One start of a walk, on what is common to its paths.
+
+ghost use Rattle.std.specs.Prelude.{◌≡◌, ◌<◌, IfSome};
+ghost use Rattle.ll_walk.specs.Sections.{AreThere, Came};
+ghost use Rattle.ll_client.specs.Gains.{Goes};
+ghost use Rattle.ll_walk.specs.Ends.{made_of};
+
+use crate::gate::Gate;
+use crate::held::other_than;
+use crate::section::View;
+use crate::table::Table;
+use ll_client::{Leaving, Left, Locked, Rider, Shape};
+use ll_journal::{Made, Next, Progress};
+use std::sync::{MutexGuard, Wait};
+use std::thread;
+
+/// What the call came to, where the walk has ended.
+pub(crate) fn made_of(left: Left) -> Option<Made>
+    ensures { result ≡ made_of left }
+{
+    match left {
+        Left::Answered(reply) => Some(Made::Replied(reply)),
+        Left::HistoryFull => Some(Made::HistoryFull),
+        Left::NoMemory => Some(Made::NoMemory),
+        Left::NotNow | Left::Astray | Left::Again => None,
+    }
+}
+
+impl<N: Shape, G: Gate<N>> Table<N, G> {
+    /// The walk comes to the root, and holds it.
+    fn enter<R: Wait>(&self, rt: &R, me: &mut Rider<N>) -> (MutexGuard<'_, Locked<N>>, View)
+        ensures there { AreThere N.slots result.1.next }
+        ensures mine { me.new ≡ me.old }
+    {
+        let client = me.number();
+        for _ in rt.forever() {
+            let slot = self.section(rt).root_slot();
+            let mut root = self.locked(rt, slot);
+            let (progress, view) = self.section(rt).enter(&self.tie, me, &mut root);
+            if let Progress::Stands(inode) = progress {
+                self.gate.held(client, inode, &root);
+                return (root, view);
+            }
+            drop(root);
+            thread::yield_now();
+        }
+        unreachable!()
+    }
+
+    /// The walk goes down to the next directory, and holds that in place of the one above; or goes on to hold this one.
+    fn further<'a, R: Wait>(
+        &'a self,
+        rt: &R,
+        me: &mut Rider<N>,
+        mut here: MutexGuard<'a, Locked<N>>,
+        next: u64,
+    ) -> (MutexGuard<'a, Locked<N>>, View)
+        requires { next < N.slots }
+        ensures there { AreThere N.slots result.1.next }
+        ensures mine { me.new ≡ me.old }
+    {
+        let client = me.number();
+        let mut to = self.locked(rt, next);
+        let (progress, view) = self.section(rt).descend(&self.tie, me, &mut here, &mut to);
+        match progress {
+            Progress::Stands(inode) => {
+                drop(here);
+                self.gate.held(client, inode, &to);
+                (to, view)
+            }
+            _ => {
+                drop(to);
+                thread::yield_now();
+                (here, view)
+            }
+        }
+    }
+
+    /// The walk, which holds this directory, is answered, with these slots.
+    fn commit<R: Wait>(
+        &self,
+        rt: &R,
+        me: &mut Rider<N>,
+        here: &mut Locked<N>,
+        other: Option<u64>,
+    ) -> Left
+        requires { IfSome other (λ slot. slot < N.slots) }
+        ensures { Goes N.limit me.old result me.new }
+    {
+        match other {
+            None => self
+                .section(rt)
+                .leave_1(&self.tie, me, here, Leaving::Commit),
+            Some(slot) => {
+                let mut last = self.locked(rt, slot);
+                self.section(rt)
+                    .leave_2(&self.tie, me, here, &mut last, Leaving::Commit)
+            }
+        }
+    }
+
+    /// One start of the client's walk: its call is answered, or it is above the root again.
+    #[tactic(auto, using(crate::proofs::Walks::came_as, crate::proofs::Walks::stays, crate::proofs::Walks::again))]
+    pub(crate) fn start<R: Wait>(&self, rt: &R, me: &mut Rider<N>) -> Option<Made>
+        ensures { Came N.limit me.old result me.new }
+    {
+        let (mut here, mut view) = self.enter(rt, me);
+        for _ in rt.forever() {
+            match view.next {
+                Next::Descend(next) => {
+                    (here, view) = self.further(rt, me, here, next);
+                    continue;
+                }
+                Next::Fork => {
+                    let (progress, then) = self.section(rt).fork(&self.tie, me, &mut here);
+                    if progress == Progress::Forked {
+                        return self.branches(rt, me, here, then);
+                    }
+                }
+                Next::Restart(_) => {
+                    let section = self.section(rt);
+                    let left = section.leave_1(&self.tie, me, &mut here, Leaving::Restart);
+                    if let Left::Again = left {
+                        return None;
+                    }
+                    if let Some(made) = made_of(left) {
+                        return Some(made);
+                    }
+                }
+                Next::Commit(slots) => {
+                    let other = other_than(slots.as_slice(), &[here.number()]);
+                    if let Some(made) = made_of(self.commit(rt, me, &mut here, other)) {
+                        return Some(made);
+                    }
+                }
+                Next::Nothing | Next::Enter(_) => {}
+            }
+            thread::yield_now();
+            view = self.section(rt).view_here(&self.tie, me, &mut here);
+        }
+        unreachable!()
+    }
+}

@@ -1,0 +1,92 @@
+//! The locks of a tree.
+
+ghost use Rattle.std.specs.Prelude.{◌≡◌, ◌<◌, ◌≤◌, ◌+◌, IfOk, length, vec_len};
+ghost use Rattle.std.specs.Sync.Mutex.{mutex_guard_value};
+ghost use Rattle.ll_client.specs.Entries.{Kept};
+ghost use Rattle.ll_rights.specs.declared.limits.TheConstants.{HISTORY_ENTRIES, TREE_CLIENTS, TREE_NODES};
+
+use crate::gate::Gate;
+use crate::section::Section;
+use ll_client::{Account, Desk, Locked, Opened, Shape, open};
+use ll_seq::Rules;
+use ll_tie::{Blank, Tie};
+use std::alloc::{AllocError, Global};
+use std::sync::{Mutex, MutexGuard, Wait};
+
+/// A tree that threads share: a lock for each slot, one for the journal, and the move gate.
+#[derive(Drop)]
+pub struct Table<N: Shape, G: Gate<N>> {
+    pub(crate) tie: Tie<N, Account>,
+    pub(crate) slots: Vec<Mutex<Locked<N>>>,
+    pub(crate) desk: Mutex<Desk<N>>,
+    pub(crate) moving: Mutex<()>,
+    pub(crate) gate: G,
+    ghost all_slots: { vec_len slots ≡ N.slots },
+}
+
+/// Each slot with a lock.
+fn locks<N: Shape>(
+    alloc: Global,
+    slots: Vec<Locked<N>>,
+) -> Result<Vec<Mutex<Locked<N>>>, AllocError>
+    ensures { IfOk result (λ locks. vec_len locks ≡ length slots.items) }
+{
+    let mut locks = Vec::with_capacity(alloc, slots.len())?;
+    for slot in slots {
+        locks.push(Mutex::new(slot))?;
+    }
+    Ok(locks)
+}
+
+impl<N: Shape, G: Gate<N>> Table<N, G> {
+    /// A tree of the root alone, in which so many nodes may live, without a client. Room is reserved for so many
+    /// entries of the history. Errors: no memory. Waits for nobody.
+    pub fn open(
+        alloc: Global,
+        blank: Blank<Account>,
+        rules: Rules,
+        nodes: usize,
+        history: usize,
+        gate: G,
+    ) -> Result<Table<N, G>, AllocError>
+        requires named { blank ≡ N.table }
+        requires some { 1 ≤ nodes }
+        requires most { nodes ≤ TREE_NODES }
+        requires entry { 1 ≤ history }
+        requires entries { history ≤ HISTORY_ENTRIES }
+        requires slots { N.slots ≡ nodes + TREE_CLIENTS }
+        requires limit { N.limit ≡ history }
+    {
+        let Opened { tie, desk, slots } = open::<N>(alloc, blank, rules, nodes, history)?;
+        Ok(Table {
+            tie,
+            slots: locks(alloc, slots)?,
+            desk: Mutex::new(desk),
+            moving: Mutex::new(()),
+            gate,
+        })
+    }
+
+    /// The journal's lock, taken.
+    pub fn section<R: Wait>(&self, rt: &R) -> Section<'_, N> {
+        Section {
+            desk: self.desk.lock(rt),
+        }
+    }
+
+    /// The slot of this number, locked.
+    pub fn locked<R: Wait>(&self, rt: &R, slot: u64) -> MutexGuard<'_, Locked<N>>
+        requires { slot < N.slots }
+        ensures { (mutex_guard_value {X = Kept} result).number ≡ slot }
+    {
+        // No type says that the lock of a place is that of the slot of this number: it is looked up, and is so each
+        // time.
+        for _ in rt.forever() {
+            let guard = self.slots[slot as usize].lock(rt);
+            if guard.number() == slot {
+                return guard;
+            }
+        }
+        unreachable!()
+    }
+}
