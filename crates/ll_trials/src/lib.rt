@@ -20,6 +20,7 @@
 //! | ll_tie | | all: `tie` |
 //! | ll_journal | | `Journal::new`, `connect`, `client_step`; `begin`, which takes none: `journal` |
 //! | ll_client | | `open`, `connect`, `spawn`; `begin`, `enter`, `next_step`, `leave_2`: `desk` |
+//! | ll_walk | | `Table::open`, `connect`, `call`: `threads` |
 //! | ll_lines | `Line::new` and `push` | |
 //! | ll_session | `run_script` | with devices that fail: `session` |
 //! | ll_steps | `World::new`, `step`, `make` | `World::run`: `steps`; `read`, `list`, whose replies are copied: `replies` |

@@ -1,5 +1,5 @@
-//! Threads that share a tree: one is held in a directory while another one works beside it, and four that move, link and
-//! make in the same two directories come to their ends.
+//! Threads that share a tree: one is held in a directory while another one works beside it, and four that move, link
+//! and make in the same two directories come to their ends.
 
 ghost use Rattle.std.specs.Prelude.{◌≡◌, ◌<◌, ◌+◌, length};
 ghost use Rattle.std.specs.Thread.{IsSync};
@@ -14,7 +14,6 @@ use ll_tie::Blank;
 use ll_walk::{Gate, NoGate, Table};
 use std::alloc::{AllocError, Global};
 use std::marker::Brand;
-use std::process::Abort;
 use std::sync::atomic::{AtomicU64, Ordering};
 use std::sync::{Arc, Wait};
 use std::test::*;
@@ -103,7 +102,8 @@ fn inode_at<N: Shape, G: Gate<N>>(
     }
 }
 
-/// The first client's walk is held in `/a`, until the second client has made a file in `/b`. Whether both files are made.
+/// The first client's walk is held in `/a`, until the second client has made a file in `/b`. Whether both files are
+/// made.
 fn passes<N: Shape + Send + Sync, R: Threads + Wait + Sync>(
     rt: &R,
     alloc: Global,
