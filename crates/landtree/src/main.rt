@@ -1,4 +1,5 @@
-//! Landtree, the program: runs scripts of command lines over a tree in memory, audits histories, and makes schedules.
+//! Landtree, the program: runs scripts of command lines over a tree in memory, audits histories, makes schedules, tells
+//! rights, and checks what a tree answers.
 #![tactic(auto)]
 
 mod input;
@@ -12,19 +13,24 @@ ghost use Rattle.ll_session.specs.declared.fault.RunFault.{RunFault};
 ghost use Rattle.ll_runs.specs.declared.failure.Failure.{Failure};
 ghost use Rattle.ll_rights.specs.declared.limits.TheConstants.{TREE_NODES};
 ghost use Rattle.ll_wire.specs.Entries.{IsEntry};
-ghost use Rattle.ll_runs.specs.Failure.{failure_by, failure_of, status_at, EndsAudit, EndsRun, EndsSchedule};
+ghost use Rattle.ll_runs.specs.Failure.{failure_by, failure_of, status_at, EndsAudit, EndsCheck, EndsRights};
+ghost use Rattle.ll_runs.specs.Failure.{EndsRun, EndsSchedule};
 ghost use Rattle.ll_runs.specs.Failure.{IsOfDevices, IsOfSaving};
 ghost use Rattle.ll_options.specs.Options.{RunOrder, ScheduleOrder, fits, landtree, order_in, ordered_by, ordered_in};
-ghost use Rattle.ll_options.specs.Options.{to_audit, to_run, to_schedule};
+ghost use Rattle.ll_options.specs.Options.{CheckOrder, fits_check, to_audit, to_check, to_run, to_schedule};
 ghost use Rattle.ll_options.specs.Options.{EndsWell};
 ghost use Rattle.ll_runs.specs.Policy.{MayFail};
+ghost use Rattle.ll_explain.specs.Rights as rights;
+ghost use Rattle.ll_options.specs.Options.{RightsOrder, rights_in, to_rights};
 ghost use Rattle.ll_session.specs.Run.{MayEnd};
 
 use input::InputFile;
-use ll_options::{Options, RunOptions, ScheduleOptions};
+use ll_explain::tell_rights;
+use ll_options::{CheckOptions, Options, RightsOptions, RunOptions, ScheduleOptions};
 use ll_replay::{draw_schedule, perform_schedule, setup_by};
 use ll_runs::{
-    Conclusion, Failure, Shown, audit, header_of, perform, read_text, save_history, setup_of,
+    Checked, Conclusion, Failure, Shown, audit, check, header_of, perform, read_text, save_history,
+    setup_of,
 };
 use ll_saved::Verdict;
 use ll_seq::History;
@@ -192,6 +198,53 @@ fn schedule_file(rt: &HostRuntime, options: &ScheduleOptions) -> Result<(), Fail
     }
 }
 
+// Tells the rights of a policy's profile.
+fn rights_options(rt: &HostRuntime, options: &RightsOptions) -> Result<(), Failure>
+    ensures { IfErr result (λ failure. (text : List ℕ) × rights.MayFail (rights_in options.now) text failure) }
+{
+    let mut file = InputFile::new(rt, options.policy);
+    tell_rights(rt.alloc(), options, &mut file, &mut rt.stdout())
+}
+
+// The whole text of the file of this name.
+fn text_of(rt: &HostRuntime, file: &str) -> Result<Vec<u8>, Failure> {
+    if file == "-" {
+        read_text(rt.alloc(), &mut rt.stdin())
+    } else {
+        read_text(rt.alloc(), &mut InputFile::new(rt, file))
+    }
+}
+
+// The whole texts of these files.
+fn texts_of(rt: &HostRuntime, files: &[&str]) -> Result<Vec<Vec<u8>>, Failure> {
+    let mut texts = Vec::new(rt.alloc());
+    for file in files {
+        let text = text_of(rt, file)?;
+        if let Err(refused) = texts.push(text) {
+            drop(refused);
+            return Err(Failure::NoMemory);
+        }
+    }
+    Ok(texts)
+}
+
+// Checks the files that are wanted.
+fn check_files(rt: &HostRuntime, options: &CheckOptions) -> Result<Checked, Failure> {
+    let policy = match options.policy {
+        Some(path) => read_text(rt.alloc(), &mut InputFile::new(rt, path))?,
+        None => Vec::new(rt.alloc()),
+    };
+    let texts = texts_of(rt, options.files.as_slice())?;
+    check(
+        rt.alloc(),
+        options,
+        policy.as_slice(),
+        texts.as_slice(),
+        &mut rt.stdout(),
+        &mut rt.stderr(),
+    )
+}
+
 // Does what is wanted.
 fn carry_out(rt: &HostRuntime, options: &Options) -> Result<Conclusion, Failure>
     ensures unfit { (order : RunOrder) → ordered_in options.now ≡ to_run order → fits order ≡ false
@@ -200,6 +253,11 @@ fn carry_out(rt: &HostRuntime, options: &Options) -> Result<Conclusion, Failure>
         → order.profile ≡ None → EndsRun result }
     ensures audit { (file : Text) → ordered_in options.now ≡ to_audit file → EndsAudit result }
     ensures schedule { (order : ScheduleOrder) → ordered_in options.now ≡ to_schedule order → EndsSchedule result }
+    ensures rights { (order : RightsOrder) → ordered_in options.now ≡ to_rights order → EndsRights result }
+    ensures unfit_check { (order : CheckOrder) → ordered_in options.now ≡ to_check order → fits_check order ≡ false
+        → result ≡ Err Failure.CommandLine }
+    ensures check { (order : CheckOrder) → ordered_in options.now ≡ to_check order → fits_check order ≡ true
+        → EndsCheck result }
 {
     match options {
         Options::Run(run) if run.fit() => {
@@ -211,7 +269,13 @@ fn carry_out(rt: &HostRuntime, options: &Options) -> Result<Conclusion, Failure>
             schedule_file(rt, schedule)?;
             Ok(Conclusion::Done)
         }
+        Options::Rights(rights) => {
+            rights_options(rt, rights)?;
+            Ok(Conclusion::Done)
+        }
         Options::Audit(file) => Ok(Conclusion::Judged(audit_file(rt, file)?)),
+        Options::Check(check) if check.fit() => Ok(Conclusion::Checked(check_files(rt, check)?)),
+        Options::Check(_) => Err(Failure::CommandLine),
     }
 }
 
@@ -230,6 +294,14 @@ fn run_words(rt: &HostRuntime, words: &[&str]) -> Result<Conclusion, Failure>
         → ordered_by (map (λ w. w.now) words.now) ≡ Some (to_audit file) → EndsAudit result }
     ensures schedule { (order : ScheduleOrder) → fault_of landtree (map (λ w. w.now) words.now) ≡ []
         → ordered_by (map (λ w. w.now) words.now) ≡ Some (to_schedule order) → EndsSchedule result }
+    ensures rights { (order : RightsOrder) → fault_of landtree (map (λ w. w.now) words.now) ≡ []
+        → ordered_by (map (λ w. w.now) words.now) ≡ Some (to_rights order) → EndsRights result }
+    ensures unfit_check { (order : CheckOrder) → fault_of landtree (map (λ w. w.now) words.now) ≡ []
+        → ordered_by (map (λ w. w.now) words.now) ≡ Some (to_check order) → fits_check order ≡ false
+        → (result ≡ Err Failure.CommandLine) ⊎ (result ≡ Err Failure.NoMemory) }
+    ensures check { (order : CheckOrder) → fault_of landtree (map (λ w. w.now) words.now) ≡ []
+        → ordered_by (map (λ w. w.now) words.now) ≡ Some (to_check order) → fits_check order ≡ true
+        → EndsCheck result }
 {
     match Options::read(rt.alloc(), words) {
         Ok(options) => carry_out(rt, &options),

@@ -8,7 +8,7 @@ use Rattle.ll_rules.specs.Layer.{Layer}
 use Rattle.ll_rules.specs.Rules.{new_ruleset, with_rule}
 use Rattle.ll_seq.specs.declared.client.ClientRecord.{ClientRecord}
 use Rattle.ll_seq.specs.Effects.{with_client}
-use Rattle.ll_seq.proofs.FactsKept.{kept_client}
+use Rattle.ll_seq.proofs.OpensKept.{kept_client}
 use Rattle.ll_answer.specs.declared.changes.Rule.{Rule}
 use Rattle.ll_answer.specs.Effect.{with_rule_of}
 use Rattle.ll_inodes.specs.InodeTable.{IsTable}

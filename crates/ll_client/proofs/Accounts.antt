@@ -103,7 +103,12 @@ odd_out c m n others (k ∷ ks) out = (others (2 * k) (λ e. omega (arith, e)) �
 
 pub client_goes : (b : Book) (c : ℕ) (x : Account) (m n : Map nat_cmp Account) → Took b (2 * c + 1) x m n
     → ClientGoes c m n
-client_goes b c x m n t = record { out = odd_out c m n t.others; gone = t.gone }
+client_goes b c x m n t = record {
+  was = λ none. none_some x (sym none ∙ t.was);
+  others = λ d other. t.others (2 * d + 1) (λ e. other (omega (arith, e)));
+  out = odd_out c m n t.others;
+  gone = t.gone;
+}
 
 -- ---- one given out
 

@@ -8,6 +8,7 @@ use Rattle.std.proofs.lemmas.Bool.{leb-false, ne_eqb, eq-eqb}
 use Rattle.ll_rights.specs.declared.limits.TheConstants.{TREE_CLIENTS, TREE_NODES}
 use Rattle.ll_rights.specs.Map.{Map}
 use Rattle.ll_seq.specs.declared.call.Call.{Call}
+use Rattle.ll_seq.specs.declared.rules.Rules.{Rules}
 use Rattle.ll_seq.specs.declared.reply.Entry.{Entry}
 use Rattle.ll_seq.specs.declared.reply.Reply.{Reply}
 use Rattle.ll_seq.specs.declared.reply.Reply.TheVariants as replies
@@ -94,6 +95,8 @@ same_moved w v c e = subst (λ (u : World). Moved w u c) (sym e)
 -- nothing else of the tree changes its limit
 pub record Steps (b b' : Book) (c : ℕ) : Type 0 where
   pub moved : Moved b.world b'.world c
+  pub rules : b'.world.rules ≡ b.world.rules
+  pub room : b'.world.room ≡ b.world.room
   pub sound : IsSound b'.world
   pub within : length b'.world.history ≤ b'.world.limit
 
@@ -108,18 +111,45 @@ moved_so w s (Replied reply, v) (inr (inl g)) = same_moved w v (client_in w s) g
 moved_so w s (Replied reply, v) (inr (inr g)) = moved_one w v _ _ g.1 reply g.3 g.4
 moved_so w s (Joined number, v) g = subst (λ n. Moved w v n) g.1 (moved_one w v number _ _ replies.Done g.2 g.3)
 
+-- the rules that it keeps, and how many nodes may live in it
+record KeepsRules (w v : World) : Type 0 where
+  rules : v.rules ≡ w.rules
+  room : v.room ≡ w.room
+
+ruled : (w v : World) (c : ℕ) (doing : Option Call) (added : List Entry) → Grown w v c doing added → KeepsRules w v
+ruled w v c doing added g = record { rules = g.rules; room = g.room }
+
+same_ruled : (w v : World) → v ≡ w → KeepsRules w v
+same_ruled w v e = record { rules = ap (λ (u : World). u.rules) e; room = ap (λ (u : World). u.room) e }
+
+ruled_so : (w : World) (s : Step) (p : Outcome × World) → Went w s p → KeepsRules w p.1
+ruled_so w s (NotNow, v) g = same_ruled w v g
+ruled_so w s (Begun, v) g = ruled w v _ _ _ g
+ruled_so w s (Stands inode, v) g = ruled w v _ _ _ g
+ruled_so w s (Forked, v) g = ruled w v _ _ _ g
+ruled_so w s (Restarted, v) g = ruled w v _ _ _ g
+ruled_so w s (Replied reply, v) (inl g) = ruled w v _ _ _ g.1
+ruled_so w s (Replied reply, v) (inr (inl g)) = same_ruled w v g.1
+ruled_so w s (Replied reply, v) (inr (inr g)) = ruled w v _ _ _ g.4
+ruled_so w s (Joined number, v) g = ruled w v _ _ _ g.3
+
+after_ruled : (w : World) (s : Step) → KeepsRules w (advance w s).1
+after_ruled w s = ruled_so w s (advance w s) (went w s)
+
 pub stepped : (b b' : Book) (s : Step) (p : Outcome) → IsSound b.world → length b.world.history ≤ b.world.limit
     → advance b.world s ≡ (p, b'.world) → Steps b b' (client_in b.world s)
 stepped b b' s p h fits e = record {
   moved = subst (λ (q : Outcome × World). Moved b.world q.1 (client_in b.world s)) e
       (moved_so b.world s (advance b.world s) (went b.world s));
   sound = subst (λ (q : Outcome × World). IsSound q.1) e (sound_kept b.world s h);
+  rules = subst (λ (q : Outcome × World). q.1.rules ≡ b.world.rules) e (after_ruled b.world s).rules;
+  room = subst (λ (q : Outcome × World). q.1.room ≡ b.world.room) e (after_ruled b.world s).room;
   within = subst (λ (q : Outcome × World). length q.1.history ≤ q.1.limit) e (still_within b.world s fits);
 }
 
 pub stood : (b b' : Book) (c : ℕ) → IsSound b.world → length b.world.history ≤ b.world.limit → b' ≡ b → Steps b b' c
 stood b b' c h fits e = subst (λ (x : Book). Steps b x c) (sym e)
-    (record { moved = same_moved b.world b.world c refl; sound = h; within = fits })
+    (record { moved = same_moved b.world b.world c refl; rules = refl; room = refl; sound = h; within = fits })
 
 -- ---- steps of a walk that goes on: its client knows what it knew
 
@@ -173,26 +203,31 @@ knows_same b b' c seen part doing g part_is doing_is =
 
 -- ---- the desk after a step
 
-pub desk_kept : (slots limit : ℕ) (b b' : Book) (c : ℕ) (ks : List ℕ) (m n : Map nat_cmp Account)
-    → IsDesk slots limit b m → Steps b b' c → Spares b b' ks → AreAccounts b' n
-    → IsDesk slots limit b' n
-desk_kept slots limit b b' c ks m n d s p all = record {
+pub desk_kept : (slots limit : ℕ) (rules : Rules) (b b' : Book) (c : ℕ) (ks : List ℕ) (m n : Map nat_cmp Account)
+    → IsDesk slots limit rules b m → Steps b b' c → Spares b b' ks → AreAccounts b' n
+    → IsDesk slots limit rules b' n
+desk_kept slots limit rules b b' c ks m n d s p all = record {
   accounts = all;
   sound = s.sound;
   within = s.within;
   limit_is = p.limit ∙ d.limit_is;
+  rules_are = s.rules ∙ d.rules_are;
+  room_is = ap (λ n. n + TREE_CLIENTS) s.room ∙ d.room_is;
   slots_are = p.size ∙ d.slots_are;
   few = subst (λ k. k ≤ TREE_NODES + TREE_CLIENTS) (sym p.size) d.few;
 }
 
 -- after a look
-pub desk_seen : (slots limit : ℕ) (b : Book) (m n : Map nat_cmp Account) → IsDesk slots limit b m → AreAccounts b n
-    → IsDesk slots limit b n
-desk_seen slots limit b m n d all = record {
+pub desk_seen : (slots limit : ℕ) (rules : Rules) (b : Book) (m n : Map nat_cmp Account) → IsDesk slots limit rules b m
+    → AreAccounts b n
+    → IsDesk slots limit rules b n
+desk_seen slots limit rules b m n d all = record {
   accounts = all;
   sound = d.sound;
   within = d.within;
   limit_is = d.limit_is;
+  rules_are = d.rules_are;
+  room_is = d.room_is;
   slots_are = d.slots_are;
   few = d.few;
 }

@@ -9,6 +9,7 @@ use Rattle.std.proofs.lemmas.Bool.{leb-true}
 use Rattle.ll_rights.specs.declared.errno.Errno.TheVariants.{HistoryFull}
 use Rattle.ll_rights.specs.Map.{get}
 use Rattle.ll_rights.proofs.Maps.{get-remove_other}
+use Rattle.ll_answer.specs.Lean.{spares_memory}
 use Rattle.ll_seq.specs.declared.call.Call.{Call}
 use Rattle.ll_seq.specs.declared.reply.Reply.{Reply}
 use Rattle.ll_seq.specs.declared.reply.Reply.TheVariants.{Refused}
@@ -21,7 +22,7 @@ use Rattle.ll_worlds.specs.Sound.{IsSound}
 use Rattle.ll_worlds.proofs.Shapes.{restarted}
 use Rattle.ll_journal.specs.Book.{Book}
 use Rattle.ll_journal.specs.Steps.{Does}
-use Rattle.ll_journal.specs.WalkEnds.{Ends}
+use Rattle.ll_journal.specs.WalkEnds.{Ends, MayTakeMemory}
 use Rattle.ll_journal.specs.declared.progress.Ending.{Ending}
 use Rattle.ll_journal.specs.declared.progress.Ending.TheVariants as ending
 use Rattle.ll_journal.specs.declared.progress.Progress as told
@@ -35,6 +36,8 @@ use Rattle.ll_client.specs.declared.left.Left.TheVariants as left
 use Rattle.ll_client.specs.Entries.{doing_of, knows, numbered, part_of, part_from}
 use Rattle.ll_client.specs.Gains.{Goes, Leaves, Told}
 use Rattle.ll_client.specs.Hands.{ended_as, restarted_as, seen_of}
+use Rattle.ll_client.specs.Replies.{Fits, success}
+use Rattle.ll_client.proofs.Replies.{step_fits}
 use Rattle.ll_client.proofs.Accounts.{IsClient, Moved}
 use Rattle.ll_worlds.proofs.StepGrowth.{Grown, Went, asked, client_in, doing_after, entry_of, never_full, gone, went}
 use Rattle.ll_client.proofs.Desks.{Steps, does_goes, knows_same, part_mine, stepped, stood}
@@ -112,6 +115,8 @@ given_up b b' c walk h fits is e = record {
     long = omega arith;
     clients = λ d there. there;
   });
+  rules = ap (λ (v : World). v.rules) e;
+  room = ap (λ (v : World). v.room) e;
   sound = subst IsSound (sym e) (gives_up b.world c walk h is);
   within = subst (λ (v : World). length v.history ≤ v.limit) (sym e) fits;
 }
@@ -136,18 +141,18 @@ left_steps Restart b b' c left.NoMemory h fits d = absurd d
 
 -- one entry more
 pub told_one : (b b' : Book) (c seen : ℕ) (part : List Numbered) (doing : Option Call) (call : Call) (reply : Reply)
-    → IsClient b c part seen doing
+    → IsClient b c part seen doing → Fits (success call) reply
     → Grown b.world b'.world c None (entry_of c call reply ∷ [])
     → Told call reply (knows c part seen doing)
     (knows c (part_of b'.world c) (length b'.world.history) (doing_of b'.world c))
-told_one b b' c seen part doing call reply k g =
+told_one b b' c seen part doing call reply k fits g =
     let e = entry_of c call reply in
     let more : length b'.world.history ≡ length b.world.history + 1 =
     ap length g.came ∙ length-append b.world.history (e ∷ []) in
     let new : part_of b'.world c ≡ part ++ numbered (length b'.world.history) call reply ∷ [] =
     ap (part_from 0 c) g.came ∙ part_mine b.world.history e
     ∙ (λ i. sym k.part_is i ++ numbered (sym more i) call reply ∷ []) in
-    ((let low = k.low in omega (arith, more, low)), λ i. knows c (new i) (length b'.world.history) (g.mine i))
+    ((let low = k.low in omega (arith, more, low)), fits, λ i. knows c (new i) (length b'.world.history) (g.mine i))
 
 -- the history is full, and stays so
 pub full_is : (w v : World) (c limit : ℕ) (doing : Option Call) → is_full w ≡ true → length w.history ≤ w.limit
@@ -167,52 +172,63 @@ full_grown w v s other (inr (inr g)) = absurd (never_full (shown w) (client_in w
 -- with a reply where there is room
 pub room_grown : (w v : World) (s : Step) (reply : Reply) → s ≢ steps.Join → is_full w ≡ false
     → Went w s (world.Replied reply, v)
-    → (call : Call) × (asked w s ≡ Some call)
+    → (call : Call) × (asked w s ≡ Some call) × Fits (success call) reply
     × Grown w v (client_in w s) (doing_after w s) (entry_of (client_in w s) call reply ∷ [])
 room_grown w v s reply other room (inl g) = absurd (cc (sym g.0 ∙ room))
 room_grown w v s reply other room (inr (inl g)) = absurd (other g.0)
-room_grown w v s reply other room (inr (inr g)) = (g.1, g.2, g.4)
+room_grown w v s reply other room (inr (inr g)) =
+    (g.1, g.2, subst (Fits (success g.1)) (sym g.3) (step_fits (shown w) (client_in w s) g.1 (next_number w)), g.4)
+
+-- the walk's call is what its client does
+thrifty : (b : Book) (c seen : ℕ) (part : List Numbered) (doing : Option Call) → IsClient b c part seen doing
+    → MayTakeMemory b.world c → (call : Call) × (doing ≡ Some call) × (spares_memory call ≡ false)
+thrifty b c seen part doing k m = (m.0.call, k.doing_is ∙ ap call_in m.1, m.2)
 
 pub left_goes : (how : Leaving) (b b' : Book) (c seen limit : ℕ) (part : List Numbered) (doing : Option Call) (l : Left)
     → IsSound b.world → length b.world.history ≤ b.world.limit → b.world.limit ≡ limit → IsClient b c part seen doing
-    → Leaves how b c l b'
+    → (l ≡ left.NoMemory → MayTakeMemory b.world c) → Leaves how b c l b'
     → Goes limit (knows c part seen doing) l
     (knows c (part_of b'.world c) (seen_of l seen (length b'.world.history)) (doing_of b'.world c))
-left_goes Commit b b' c seen limit part doing left.NotNow h fits is k d =
+left_goes Commit b b' c seen limit part doing left.NotNow h fits is k calm d =
     let same : b'.world ≡ b.world = subst (Went b.world (steps.Commit c)) d (went b.world (steps.Commit c)) in
     λ i. knows c ((ap (λ w. part_of w c) same ∙ sym k.part_is) i) seen
     ((ap (λ w. doing_of w c) same ∙ sym k.doing_is) i)
-left_goes Commit b b' c seen limit part doing left.Astray h fits is k d =
+left_goes Commit b b' c seen limit part doing left.Astray h fits is k calm d =
     let same : b'.world ≡ b.world = ap (λ (x : Book). x.world) d in
     λ i. knows c ((ap (λ w. part_of w c) same ∙ sym k.part_is) i) seen
     ((ap (λ w. doing_of w c) same ∙ sym k.doing_is) i)
-left_goes Commit b b' c seen limit part doing (left.Answered reply) h fits is k d =
+left_goes Commit b b' c seen limit part doing (left.Answered reply) h fits is k calm d =
     let g = room_grown b.world b'.world (steps.Commit c) reply (λ e. cc e) d.0
     (subst (Went b.world (steps.Commit c)) d.1 (went b.world (steps.Commit c))) in
-    (g.0, k.doing_is ∙ g.1, told_one b b' c seen part doing g.0 reply k g.2)
-left_goes Commit b b' c seen limit part doing left.Again h fits is k d = absurd d
-left_goes Commit b b' c seen limit part doing left.HistoryFull h fits is k d =
+    (g.0, k.doing_is ∙ g.1, told_one b b' c seen part doing g.0 reply k g.2 g.3)
+left_goes Commit b b' c seen limit part doing left.Again h fits is k calm d = absurd d
+left_goes Commit b b' c seen limit part doing left.HistoryFull h fits is k calm d =
     let g = full_grown b.world b'.world (steps.Commit c) (λ e. cc e)
     (subst (Went b.world (steps.Commit c)) d (went b.world (steps.Commit c))) in
     let full = full_is b.world b'.world c limit None g.0 fits is g.1 in
     λ i. knows c ((ap (part_from 0 c) (g.1.came ∙ append-nil b.world.history) ∙ sym k.part_is) i) (full i) (g.1.mine i)
-left_goes Commit b b' c seen limit part doing left.NoMemory h fits is k d =
-    λ i. knows c ((ap (λ (w : World). part_of w c) d.1 ∙ sym k.part_is) i) seen
-    ((ap (λ (w : World). doing_of w c) d.1 ∙ none_doing b.world c) i)
-left_goes Restart b b' c seen limit part doing left.NotNow h fits is k d =
+left_goes Commit b b' c seen limit part doing left.NoMemory h fits is k calm d =
+    let m = thrifty b c seen part doing k (calm refl) in (
+      m.0,
+      m.1,
+      m.2,
+      λ i. knows c ((ap (λ (w : World). part_of w c) d.1 ∙ sym k.part_is) i) seen
+          ((ap (λ (w : World). doing_of w c) d.1 ∙ none_doing b.world c) i),
+    )
+left_goes Restart b b' c seen limit part doing left.NotNow h fits is k calm d =
     let same : b'.world ≡ b.world = subst (Went b.world (steps.Restart c)) d (went b.world (steps.Restart c)) in
     λ i. knows c ((ap (λ w. part_of w c) same ∙ sym k.part_is) i) seen
     ((ap (λ w. doing_of w c) same ∙ sym k.doing_is) i)
-left_goes Restart b b' c seen limit part doing left.Astray h fits is k d =
+left_goes Restart b b' c seen limit part doing left.Astray h fits is k calm d =
     let same : b'.world ≡ b.world = ap (λ (x : Book). x.world) d in
     λ i. knows c ((ap (λ w. part_of w c) same ∙ sym k.part_is) i) seen
     ((ap (λ w. doing_of w c) same ∙ sym k.doing_is) i)
-left_goes Restart b b' c seen limit part doing (left.Answered reply) h fits is k d = absurd d
-left_goes Restart b b' c seen limit part doing left.Again h fits is k d =
+left_goes Restart b b' c seen limit part doing (left.Answered reply) h fits is k calm d = absurd d
+left_goes Restart b b' c seen limit part doing left.Again h fits is k calm d =
     knows_same b b' c seen part doing (does_goes b b' (steps.Restart c) tells.Restarted h fits refl d) k.part_is
     k.doing_is
-left_goes Restart b b' c seen limit part doing left.HistoryFull h fits is k d = absurd d
-left_goes Restart b b' c seen limit part doing left.NoMemory h fits is k d = absurd d
+left_goes Restart b b' c seen limit part doing left.HistoryFull h fits is k calm d = absurd d
+left_goes Restart b b' c seen limit part doing left.NoMemory h fits is k calm d = absurd d
 
 -- what it knows of is there
 pub seen_low : (l : Left) (seen before after : ℕ) → seen ≤ before → before ≤ after → seen_of l seen after ≤ after

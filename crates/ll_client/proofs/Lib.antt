@@ -4,5 +4,7 @@ pub mod Desks
 pub mod Leavings
 pub mod Directs
 pub mod Newcomers
+pub mod Replies
+pub mod AllClients
 pub mod Started
 pub mod NewDesks

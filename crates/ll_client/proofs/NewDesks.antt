@@ -51,16 +51,18 @@ pub none_out : (b : Book) (m : Map nat_cmp Account) → m ≡ empty → AreAccou
 none_out b m e key x at = absurd
     (cc (sym at ∙ ap (λ (n : Map nat_cmp Account). get n key) e ∙ get-empty Account nat_cmp key))
 
-pub desk_new : (slots limit : ℕ) (rules : Rules) (room history : ℕ) (b : Book) (m : Map nat_cmp Account)
+pub desk_new : (slots limit : ℕ) (named : Rules) (rules : Rules) (room history : ℕ) (b : Book) (m : Map nat_cmp Account)
     → b ≡ new_book rules room history → 1 ≤ room → room ≤ TREE_NODES → slots ≡ room + TREE_CLIENTS
-    → limit ≡ history → AreAccounts b m → IsDesk slots limit b m
-desk_new slots limit rules room history b m e some most size bound all =
+    → limit ≡ history → named ≡ rules → AreAccounts b m → IsDesk slots limit named b m
+desk_new slots limit named rules room history b m e some most size bound same all =
     let count = count_slots rules room history b e some in
     record {
       accounts = all;
       sound = subst (λ (x : Book). IsSound x.world) (sym e) (sound_start rules room history);
       within = subst (λ (x : Book). length x.world.history ≤ x.world.limit) (sym e) (omega arith);
       limit_is = ap (λ (x : Book). x.world.limit) e ∙ sym bound;
+      rules_are = ap (λ (x : Book). x.world.rules) e ∙ sym same;
+      room_is = ap (λ (x : Book). x.world.room + TREE_CLIENTS) e ∙ sym size;
       slots_are = count ∙ sym size;
       few = omega (arith, count, most);
     }

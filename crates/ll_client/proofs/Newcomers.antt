@@ -17,6 +17,7 @@ use Rattle.ll_rights.specs.Errno.{refuse}
 use Rattle.ll_rights.specs.Map.{Map, get, has, len}
 use Rattle.ll_rights.proofs.Maps.{get-insert_same}
 use Rattle.ll_seq.specs.declared.call.Call.{Call}
+use Rattle.ll_seq.specs.declared.rules.Rules.{Rules}
 use Rattle.ll_seq.specs.declared.call.Call.TheVariants as calls
 use Rattle.ll_seq.specs.declared.client.ClientRecord.{ClientRecord}
 use Rattle.ll_seq.specs.declared.reply.Entry.{Entry}
@@ -166,9 +167,10 @@ pub record Joins (b b' : Book) (number : ℕ) (m : Map nat_cmp Account) : Type 0
   pub part : part_of b'.world number ≡ numbered (length b'.world.history) calls.Connect replies.Done ∷ []
   pub some : 0 < length b'.world.history
 
-pub joins : (slots limit : ℕ) (b b' : Book) (number : ℕ) (m : Map nat_cmp Account) → IsDesk slots limit b m
+pub joins : (slots limit : ℕ) (rules : Rules) (b b' : Book) (number : ℕ) (m : Map nat_cmp Account)
+    → IsDesk slots limit rules b m
     → advance b.world Join ≡ (world.Joined number, b'.world) → Joins b b' number m
-joins slots limit b b' number m d is =
+joins slots limit rules b b' number m d is =
     let w : World = b.world in
     let v : World = b'.world in
     let g = subst (Went w Join) is (went w Join) in
@@ -300,12 +302,13 @@ pub record Bears (b b' : Book) (c number : ℕ) (m : Map nat_cmp Account) : Type
   pub came : HasCome b' number m
   pub part : part_of b'.world number ≡ []
 
-pub bears : (slots limit : ℕ) (b b' : Book) (c number : ℕ) (m n : Map nat_cmp Account) → IsDesk slots limit b m
+pub bears : (slots limit : ℕ) (rules : Rules) (b b' : Book) (c number : ℕ) (m n : Map nat_cmp Account)
+    → IsDesk slots limit rules b m
     → AreAccounts b n
     → has (shown b.world).clients c ≡ true
     → Answers b (ClientStep c calls.Spawn) (made.Replied (replies.Spawned number)) b'
     → Bears b b' c number n
-bears slots limit b b' c number m n d all there does =
+bears slots limit rules b b' c number m n d all there does =
     let w : World = b.world in
     let v : World = b'.world in
     let step' : Step = ClientStep c calls.Spawn in
@@ -348,9 +351,9 @@ connected b number seen k part long is =
 -- ---- the act: what is known of a spawn of an idle client, whose pass was taken back
 
 pub record Spawning
-    (slots limit : ℕ) (b b' : Book) (c : ℕ) (m n : Map nat_cmp Account) (r : Result Made Call)
+    (slots limit : ℕ) (rules : Rules) (b b' : Book) (c : ℕ) (m n : Map nat_cmp Account) (r : Result Made Call)
     (told : Result ℕ Errno) : Type 0 where
-  pub desk : IsDesk slots limit b m
+  pub desk : IsDesk slots limit rules b m
   pub out : AreAccounts b n
   pub there : has (shown b.world).clients c ≡ true
   pub idle : doing_of b.world c ≡ None
@@ -359,8 +362,8 @@ pub record Spawning
   pub same : OnErr r (b' ≡ b)
   pub is : told ≡ child_of r
 
-module _ (slots limit : ℕ) (b b' : Book) (c : ℕ) (m n : Map nat_cmp Account) (r : Result Made Call)
-    (told : Result ℕ Errno) (s : Spawning slots limit b b' c m n r told) where
+module _ (slots limit : ℕ) (rules : Rules) (b b' : Book) (c : ℕ) (m n : Map nat_cmp Account) (r : Result Made Call)
+    (told : Result ℕ Errno) (s : Spawning slots limit rules b b' c m n r told) where
   direct : IsDirect b.world c calls.Spawn (ClientStep c calls.Spawn)
   direct = record { mine = refl; asks = refl; idle = refl; other = λ e. cc e }
 
@@ -379,13 +382,13 @@ module _ (slots limit : ℕ) (b b' : Book) (c : ℕ) (m n : Map nat_cmp Account)
       (λ a. Gains limit calls.Spawn (knows c part seen doing) a
       (knows c (part_of b'.world c) (seen_made r seen (length b'.world.history)) (doing_of b'.world c)))
       (direct_gains b b' c seen limit part doing calls.Spawn (ClientStep c calls.Spawn) r direct s.desk.within
-      s.desk.limit_is k s.does)
+      s.desk.limit_is k (λ e. refl) s.does)
 
   pub still_idle : doing_of b'.world c ≡ None
   still_idle = spawn_idle b b' c r s.idle s.does s.same
 
   pub child_bears : (number : ℕ) → told ≡ Ok number → Bears b b' c number n
-  child_bears number own = bears slots limit b b' c number m n s.desk s.out s.there
+  child_bears number own = bears slots limit rules b b' c number m n s.desk s.out s.there
       (subst (λ (x : Result ℕ Errno). Answers b (ClientStep c calls.Spawn) (spawn_made x) b') own spawn_answers)
 
   pub not_own : told ≢ Ok c

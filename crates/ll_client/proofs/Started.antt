@@ -1,6 +1,6 @@
 -- What becomes of the tree and of a client where its call is started.
 use Rattle.std.specs.Prelude.{◌≡◌, ℕ, ◌≤◌, List, length, Option, Ok, refl}
-use Rattle.std.proofs.Common.{arith}
+use Rattle.std.proofs.Common.{ap, arith}
 use Rattle.ll_seq.specs.declared.call.Call.{Call}
 use Rattle.ll_worlds.specs.declared.step.Step.TheVariants.{Begin, ClientStep}
 use Rattle.ll_worlds.specs.World as world
@@ -17,7 +17,8 @@ use Rattle.ll_client.specs.Entries.{doing_of, knows, part_of}
 use Rattle.ll_client.specs.Hands.{seen_started}
 use Rattle.ll_client.proofs.Accounts.{IsClient}
 use Rattle.ll_client.proofs.Desks.{Steps, begin_mine, stepped, stood}
-use Rattle.ll_client.proofs.Directs.{IsDirect, made_gains, made_steps, same_but}
+use Rattle.ll_client.proofs.Directs.{IsDirect, alone_takes, begun_path, made_gains, made_steps, same_but}
+use Rattle.ll_journal.specs.Direct.{TakesMemory}
 
 alone : (w : World) (c : ℕ) (call : Call) → IsDirect w c call (ClientStep c call)
 alone w c call = record { mine = refl; asks = refl; idle = refl; other = λ e. cc e }
@@ -31,14 +32,15 @@ started_steps b b' c call (start.Back back) h fits d = stood b b' c h fits d.1
 
 pub started_goes : (b b' : Book) (c seen limit : ℕ) (part : List Numbered) (doing : Option Call) (call : Call)
     (r : Start) → length b.world.history ≤ b.world.limit → b.world.limit ≡ limit → IsClient b c part seen doing
-    → Starts b c call r b'
+    → (r ≡ start.Made made.NoMemory → TakesMemory call) → Starts b c call r b'
     → SetsOut limit call (knows c part seen doing) r
     (knows c (part_of b'.world c) (seen_started r seen (length b'.world.history)) (doing_of b'.world c))
-started_goes b b' c seen limit part doing call (start.Made a) fits is k d =
-    made_gains Call b b' c seen limit part doing call (ClientStep c call) a (alone b.world c call) fits is k d
-started_goes b b' c seen limit part doing call start.Begun fits is k d =
-    begin_mine b b' c seen part doing call (Ok tt) k.part_is d.1
-started_goes b b' c seen limit part doing call (start.Back back) fits is k d =
+started_goes b b' c seen limit part doing call (start.Made a) fits is k calm d =
+    made_gains Call b b' c seen limit part doing call (ClientStep c call) a (alone b.world c call) fits is k
+    (λ e. alone_takes call (calm (ap start.Made e))) d
+started_goes b b' c seen limit part doing call start.Begun fits is k calm d =
+    (begun_path b.world b'.world c call d.1, begin_mine b b' c seen part doing call (Ok tt) k.part_is d.1)
+started_goes b b' c seen limit part doing call (start.Back back) fits is k calm d =
     same_but b b' c seen part seen doing k d.1
 
 -- what it knows of is there

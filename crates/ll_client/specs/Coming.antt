@@ -1,10 +1,11 @@
 -- What lies in the slots of a tree, what becomes of a client whose call is started, and what comes of a spawn. own
-use Rattle.std.specs.Prelude.{◌≡◌, ℕ, List, map, length, Some, Result, Ok, Err}
+use Rattle.std.specs.Prelude.{◌≡◌, ℕ, List, map, length, Some, Result, Ok, Err, true}
 use Rattle.std.specs.List.{range_with_len}
 use Rattle.ll_rights.specs.declared.errno.Errno.{Errno}
 use Rattle.ll_rights.specs.declared.errno.Errno.TheVariants.{HistoryFull, NoMemory}
 use Rattle.ll_seq.specs.declared.call.Call.{Call}
 use Rattle.ll_seq.specs.declared.reply.Reply.TheVariants.{Refused, Spawned}
+use Rattle.ll_answer.specs.Passed.{has_path}
 use Rattle.ll_journal.specs.Book.{Book, slot_of}
 use Rattle.ll_journal.specs.declared.direct.Made.{Made}
 use Rattle.ll_journal.specs.declared.direct.Made.TheVariants as made
@@ -20,10 +21,10 @@ kept_at b k = record { number = k; held = slot_of b k }
 abbrev pub all_kept : Book → List Kept
 all_kept b = map (kept_at b) (range_with_len 0 (length b.inodes))
 
--- it is made, or its walk begins, or it comes back
+-- it is made, or its walk begins, as only a walk of a path does, or it comes back
 abbrev pub SetsOut : ℕ → Call → Knows → Start → Knows → Type 0
 SetsOut limit call k (start.Made answer) k' = Gains limit call k answer k'
-SetsOut limit call k start.Begun k' = k' ≡ record k { doing = Some call }
+SetsOut limit call k start.Begun k' = (has_path call ≡ true) × (k' ≡ record k { doing = Some call })
 SetsOut limit call k (start.Back back) k' = k' ≡ k
 
 -- What a spawn without a child comes to: a refusal has an entry, unless the history is full or memory ran out

@@ -6,6 +6,7 @@ use Rattle.std.specs.Coded.{Coded, code_by, coded×, coded_list, coded_option, c
 use Rattle.ll_rights.specs.declared.limits.TheConstants.{TREE_CLIENTS, TREE_NODES}
 use Rattle.ll_rights.specs.Map.{Map, get, has}
 use Rattle.ll_seq.specs.declared.call.Call.{Call}
+use Rattle.ll_seq.specs.declared.rules.Rules.{Rules}
 use Rattle.ll_seq.specs.contracts.call.Call as call
 use Rattle.ll_seq.specs.declared.reply.Entry.{Entry}
 use Rattle.ll_seq.specs.declared.reply.Reply.{Reply}
@@ -98,10 +99,12 @@ AreAccounts b entries = (key : ℕ) (x : Account) → get entries key ≡ Some x
 
 -- What lies behind the journal's lock: the accounts that are out are the journal's, and its world is one to which steps
 -- lead
-pub record IsDesk (slots limit : ℕ) (b : Book) (entries : Map nat_cmp Account) : Type 0 where
+pub record IsDesk (slots limit : ℕ) (rules : Rules) (b : Book) (entries : Map nat_cmp Account) : Type 0 where
   pub accounts : AreAccounts b entries
   pub sound : IsSound b.world
   pub within : length b.world.history ≤ b.world.limit
   pub limit_is : b.world.limit ≡ limit
+  pub rules_are : b.world.rules ≡ rules
+  pub room_is : b.world.room + TREE_CLIENTS ≡ slots
   pub slots_are : length b.inodes ≡ slots
   pub few : length b.inodes ≤ TREE_NODES + TREE_CLIENTS

@@ -1,7 +1,9 @@
 -- What becomes of a client by a step, and what a walk's end is. own
-use Rattle.std.specs.Prelude.{◌≡◌, ℕ, ◌<◌, List, [], ◌∷◌, ◌++◌, Some, None}
+use Rattle.std.specs.Prelude.{◌≡◌, ℕ, ◌<◌, List, [], ◌∷◌, ◌++◌, Some, None, true, false}
 use Rattle.ll_seq.specs.declared.call.Call.{Call}
 use Rattle.ll_seq.specs.declared.reply.Reply.{Reply}
+use Rattle.ll_seq.specs.Memory.{takes_memory}
+use Rattle.ll_answer.specs.Lean.{spares_memory}
 use Rattle.ll_worlds.specs.World as world
 use Rattle.ll_worlds.specs.World.{advance}
 use Rattle.ll_worlds.specs.declared.step.Step.TheVariants as steps
@@ -16,17 +18,20 @@ use Rattle.ll_client.specs.declared.left.Leaving.TheVariants.{Commit, Restart}
 use Rattle.ll_client.specs.declared.left.Left.{Left}
 use Rattle.ll_client.specs.declared.left.Left.TheVariants as left
 use Rattle.ll_client.specs.Entries.{Knows, knows, numbered}
+use Rattle.ll_client.specs.Replies.{Fits, success}
 
--- one entry more, above all that it knew of; no walk of it is under way
+-- one entry more, above all that it knew of, with a reply that this call may have; no walk of it is under way
 abbrev pub Told : Call → Reply → Knows → Knows → Type 0
 Told call reply k k' =
-    (k.seen < k'.seen) × (k' ≡ knows k.number (k.part ++ numbered k'.seen call reply ∷ []) k'.seen None)
+    (k.seen < k'.seen) × Fits (success call) reply
+    × (k' ≡ knows k.number (k.part ++ numbered k'.seen call reply ∷ []) k'.seen None)
 
--- by a call of its own that doesn't walk, in a tree whose history may have so many entries
+-- by a call of its own, in a tree whose history may have so many entries. Memory runs out only for a call that takes
+-- some
 abbrev pub Gains : ℕ → Call → Knows → Made → Knows → Type 0
 Gains limit call k (made.Replied reply) k' = Told call reply k k'
 Gains limit call k made.HistoryFull k' = k' ≡ record k { seen = limit }
-Gains limit call k made.NoMemory k' = k' ≡ k
+Gains limit call k made.NoMemory k' = (takes_memory call ≡ true) × (k' ≡ k)
 
 -- where its walk is left
 abbrev pub Goes : ℕ → Knows → Left → Knows → Type 0
@@ -35,7 +40,8 @@ Goes limit k left.Astray k' = k' ≡ k
 Goes limit k (left.Answered reply) k' = (call : Call) × (k.doing ≡ Some call) × Told call reply k k'
 Goes limit k left.Again k' = k' ≡ k
 Goes limit k left.HistoryFull k' = k' ≡ record k { seen = limit; doing = None }
-Goes limit k left.NoMemory k' = k' ≡ record k { doing = None }
+Goes limit k left.NoMemory k' =
+    (call : Call) × (k.doing ≡ Some call) × (spares_memory call ≡ false) × (k' ≡ record k { doing = None })
 
 -- the step, and the world after: a commit ends as the journal says, and a restart is above the root again
 abbrev pub Leaves : Leaving → Book → ℕ → Left → Book → Type 0

@@ -1,5 +1,6 @@
 -- What becomes of the entries where passes are taken back and given out. No public contract cites it. own
-use Rattle.std.specs.Prelude.{◌≡◌, ℕ, ◌+◌, ◌*◌, ◌≤◌, true, List, [], ◌∷◌, None, ⊤, Result, Ok, Err, if◌then◌else◌, ◌==◌}
+use Rattle.std.specs.Prelude.{◌≡◌, ◌≢◌, ℕ, ◌+◌, ◌*◌, ◌≤◌, ◌==◌, true, List, [], ◌∷◌, None, ⊤, Result, Ok, Err}
+use Rattle.std.specs.Prelude.{if◌then◌else◌}
 use Rattle.std.specs.Ordering.{nat_cmp}
 use Rattle.ll_rights.specs.declared.errno.Errno.{Errno}
 use Rattle.ll_rights.specs.declared.errno.Errno.TheVariants.{EMFILE, HistoryFull, NoMemory}
@@ -37,8 +38,10 @@ AllOut (k ∷ ks) m = (get m (2 * k) ≡ None) × AllOut ks m
 pub record SlotGoes (k : ℕ) (m n : Map nat_cmp Account) : Type 0 where
   pub out : (ks : List ℕ) → AllOut ks m → AllOut (k ∷ ks) n × NotIn k ks
 
--- a client's entry went
+-- a client's entry went, and no other client's
 pub record ClientGoes (c : ℕ) (m n : Map nat_cmp Account) : Type 0 where
+  pub was : get m (2 * c + 1) ≢ None
+  pub others : (d : ℕ) → d ≢ c → get n (2 * d + 1) ≡ get m (2 * d + 1)
   pub out : (ks : List ℕ) → AllOut ks m → AllOut ks n
   pub gone : get n (2 * c + 1) ≡ None
 

@@ -27,11 +27,12 @@ impl<N: Shape> Model for Desk<N> {
 
     ghost view = { λ desk. desk.journal };
 
-    ghost invariant = { λ desk. IsDesk N.slots N.limit desk.journal desk.keeper };
+    ghost invariant = { λ desk. IsDesk N.slots N.limit N.rules desk.journal desk.keeper };
 }
 
 impl<N: Shape> Desk<N> {
-    ghost use Rattle.std.specs.Prelude.{◌≡◌, ◌≤◌, length};
+    ghost use Rattle.std.specs.Prelude.{◌≡◌, ◌≤◌, ◌+◌, length};
+    ghost use Rattle.ll_rights.specs.declared.limits.TheConstants.{TREE_CLIENTS};
     ghost use Rattle.ll_seq.specs.History.{IsLegal};
     ghost use Rattle.ll_seq.specs.State.{start};
     ghost use Rattle.ll_worlds.specs.Walks.{AreApart, AreFew, AreValid, GateIsHeld};
@@ -46,6 +47,9 @@ impl<N: Shape> Desk<N> {
         ensures few { AreFew self.now.world }
         ensures gate { GateIsHeld self.now.world }
         ensures slots { length self.now.inodes ≡ N.slots }
+        ensures rules { self.now.world.rules ≡ N.rules }
+        ensures room { self.now.world.room + TREE_CLIENTS ≡ N.slots }
+        ensures limit { self.now.world.limit ≡ N.limit }
         ensures tree { HoldTree (accounts_of self.now) self.now.world }
     {
         self.journal.by_law();

@@ -3,6 +3,7 @@
 
 mod account;
 mod client;
+mod closing;
 mod desk;
 mod direct;
 mod hand;
@@ -11,6 +12,7 @@ mod leave;
 mod left;
 mod locked;
 mod look;
+mod meet;
 mod opened;
 mod rider;
 mod shape;
@@ -20,6 +22,7 @@ mod walk;
 
 pub use account::{Account, Numbered};
 pub use client::Client;
+pub use closing::close;
 pub use desk::Desk;
 pub use left::{Leaving, Left};
 pub use locked::Locked;

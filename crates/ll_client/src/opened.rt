@@ -107,6 +107,7 @@ pub fn open<N: Shape>(
     requires entries { history ≤ HISTORY_ENTRIES }
     requires slots { N.slots ≡ nodes + TREE_CLIENTS }
     requires limit { N.limit ≡ history }
+    requires rules { N.rules ≡ rules }
     ensures desk { IfOk result (λ tree. tree.desk ≡ new_book rules nodes history) }
     ensures slots { IfOk result (λ tree. tree.slots.items ≡ all_kept tree.desk) }
     ensures count { IfOk result (λ tree. length tree.slots.items ≡ N.slots) }

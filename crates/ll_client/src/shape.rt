@@ -3,17 +3,26 @@
 use ll_tie::Naming;
 use std::marker::Brand;
 
-/// Which tree it is: its table of passes, how many slots it has, and how many entries its history may have.
+/// Which tree it is: its table of passes, how many slots it has, how many entries its history may have, and the rules
+/// that it keeps.
 pub trait Shape: Naming {
     ghost use Rattle.std.specs.Prelude.{ℕ};
 
     ghost slots: { ℕ };
 
     ghost limit: { ℕ };
+
+    ghost use Rattle.ll_seq.specs.declared.rules.Rules.{Rules};
+
+    ghost rules: { Rules };
 }
 
 impl Shape for Brand {
     ghost slots = { 0 };
 
     ghost limit = { 0 };
+
+    ghost use Rattle.std.specs.Prelude.{false};
+
+    ghost rules = { record { abi = 3; copies = false } };
 }

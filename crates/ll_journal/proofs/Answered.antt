@@ -14,7 +14,7 @@ use Rattle.ll_seq.specs.Step.{step}
 use Rattle.ll_seq.specs.Effects.{with_client}
 use Rattle.ll_seq.specs.Facts.{AreKept}
 use Rattle.ll_seq.specs.History.{Log}
-use Rattle.ll_seq.proofs.FactsKept.{kept_connect}
+use Rattle.ll_seq.proofs.OpensKept.{kept_connect}
 use Rattle.ll_worlds.specs.World.{World, Joined, advance, shown, is_full, next_number, reply_to}
 use Rattle.ll_worlds.specs.declared.step.Step.TheVariants.{Join}
 use Rattle.ll_worlds.specs.Sound.{IsSound}

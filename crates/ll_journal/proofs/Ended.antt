@@ -20,7 +20,7 @@ use Rattle.ll_worlds.specs.declared.step.Step.TheVariants.{Commit}
 use Rattle.ll_worlds.specs.Sound.{IsSound}
 use Rattle.ll_worlds.proofs.Shapes.{with_entry, with_stale}
 use Rattle.ll_worlds.proofs.SoundSteps.{sound_ended}
-use Rattle.ll_worlds.proofs.Worlds.{get-map_values}
+use Rattle.ll_worlds.proofs.WalkMaps.{get-map_values}
 use Rattle.ll_worlds.proofs.StepGrowth.{gone}
 use Rattle.ll_journal.specs.declared.stage.Stage.{Stage}
 use Rattle.ll_journal.specs.declared.seat.Seat.TheInside.{Inside}

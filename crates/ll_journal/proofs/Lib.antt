@@ -24,6 +24,7 @@ pub mod OwnAnswers
 pub mod Answered
 pub mod Stepping
 pub mod Looking
+pub mod SoughtNext
 pub mod Gathering
 pub mod Overtaking
 pub mod Ended
@@ -38,6 +39,7 @@ pub mod DecidedCalls
 pub mod ToldAnswers
 pub mod PerformedCalls
 pub mod FileTables
+pub mod CalledFiles
 pub mod FileSteps
 pub mod LastSpots
 pub mod StopsAtLast

@@ -136,6 +136,10 @@ module _ (j : Inside) (h : IsKept j) (number place : ℕ) (seat : Seat) (at : sl
         | Some walk ↦ found_walk walk
       ] refl
 
+  pub next_is : (i : ℕ) → directory_below j.table.facts seat from ≡ Some i → (to : ℕ) → inode_in (book_of j) to ≡ i
+      → IsNext (book_of j) number k to
+  next_is i e = (subst Found e found_below).1
+
   pub next_none : directory_below j.table.facts seat from ≡ None → GoesDown (book_of j) number k → ⊥
   next_none e = subst Found e found_below
 

@@ -23,7 +23,7 @@ use Rattle.ll_journal.specs.Book.{has_mark, marked_below, mark_of}
 use Rattle.ll_worlds.specs.Walks.{AreApart}
 use Rattle.ll_worlds.specs.Sound.{IsSound}
 use Rattle.ll_worlds.proofs.Shapes.{with_stale}
-use Rattle.ll_worlds.proofs.Worlds.{found, get-map_values}
+use Rattle.ll_worlds.proofs.WalkMaps.{found, get-map_values}
 use Rattle.ll_worlds.proofs.Tests.{or_false}
 
 -- ---- who has a mark

@@ -19,7 +19,7 @@ use Rattle.ll_seq.specs.State.{State}
 use Rattle.ll_worlds.specs.Walk.{Walk, marks, passes}
 use Rattle.ll_worlds.specs.World.{World, is_marked_by_other, map_values, overtaken}
 use Rattle.ll_worlds.proofs.Tests as tests
-use Rattle.ll_worlds.proofs.Worlds.{found, get-map_values}
+use Rattle.ll_worlds.proofs.WalkMaps.{found, get-map_values}
 use Rattle.ll_journal.specs.declared.stage.Stage.{Stage}
 use Rattle.ll_journal.specs.declared.stage.Stage.TheVariants.{Above, Down, Split}
 use Rattle.ll_journal.specs.declared.seat.Seat.TheInside.{Inside}

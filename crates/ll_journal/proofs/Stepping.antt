@@ -24,7 +24,7 @@ use Rattle.ll_seq.specs.Step.{step, refusals, client_of}
 use Rattle.ll_seq.specs.Effects.{with_client, child_of}
 use Rattle.ll_seq.specs.Facts.{AreKept}
 use Rattle.ll_seq.specs.History.{Log}
-use Rattle.ll_seq.proofs.FactsKept.{kept_client}
+use Rattle.ll_seq.proofs.OpensKept.{kept_client}
 use Rattle.ll_worlds.specs.Walk.{Walk}
 use Rattle.ll_worlds.specs.World.{World, NotNow, Replied, advance, shown, is_idle, is_alone, is_full, next_number}
 use Rattle.ll_worlds.specs.World.{reply_to}

@@ -15,7 +15,7 @@ ghost use Rattle.ll_journal.specs.Kept.{walks_from};
 ghost use Rattle.ll_journal.specs.Checks as checks;
 
 use crate::ending::is_marked_by_other;
-use crate::find_ends::{blocked, find_ends};
+use crate::find_ends::{blocked, find_end, find_ends};
 use crate::seat::Seat;
 use crate::standing::{is_in, is_lent};
 use crate::way::has_two_paths;
@@ -223,6 +223,10 @@ fn check_between(
     let Some(old) = find(sight.lent, first) else {
         return CommitCheck::Astray;
     };
+    if first == second && !has_two_paths(call) {
+        let found = find_end(sight.table, sight.room, &sight.lent[old], call);
+        return check_there(sight, client, spare, call, found);
+    }
     let Some(new) = find(sight.lent, second) else {
         return CommitCheck::Astray;
     };

@@ -69,19 +69,35 @@ fn granted_on_first(domain: &Domain, call: &Call, spot: &Spot, masks: &Masks) ->
     }
 }
 
-/// The same of the second one.
-fn granted_on_second(domain: &Domain, call: &Call, spot: &Spot, masks: &Masks) -> Masks
-    requires { length masks.now ≡ length domain.now }
-    ensures masks { (s : State) → Stands s (second_path call.now) spot.now
-        → IsEndAt s domain.now (second_path call.now) spot.now masks.now
-        → AreMasks result domain.now (ancestors s (second_path call.now)) }
-    ensures len { length result ≡ length domain.now }
+/// What the call of the walk, which has ended where this was found, comes to where this is granted on its paths.
+fn decide_granted<'a>(
+    caller: &ClientRecord,
+    walk: &'a Ended,
+    found: &Found,
+    itself: &Masks,
+    other: &Masks,
+) -> Result<Effect<'a>, Reply>
+    requires early { early_refusals caller.now walk.now.call ≡ [] }
+    requires first { length walk.now.first ≡ length caller.now.domain }
+    requires second { length walk.now.second ≡ length caller.now.domain }
+    requires itself { length itself.now ≡ length caller.now.domain }
+    requires other { length other.now ≡ length caller.now.domain }
+    ensures decided { (s : State) (n : ℕ) → client_of s n ≡ caller.now → has_path walk.now.call ≡ true
+        → AreFacts s walk.now.call found.now
+        → AreMasks itself.now caller.now.domain (ancestors s (first_path walk.now.call))
+        → AreMasks other.now caller.now.domain (ancestors s (second_path walk.now.call))
+        → IsEndAt s caller.now.domain (first_path walk.now.call) found.now.first walk.now.first
+        → IsEndAt s caller.now.domain (second_path walk.now.call) found.now.second walk.now.second
+        → MatchResult result (IsDone s n walk.now.call) (IsRefused s n walk.now.call) }
+    ensures near { IfOk result (IsNear walk.now.call found.now) }
 {
-    match targets_of(call) {
-        Targets::No => masks.copy(),
-        Targets::One(target) => granted_on(domain, target, spot, masks),
-        Targets::Two(_, new) => granted_on(domain, new, spot, masks),
-    }
+    let granted = Granted {
+        itself,
+        other,
+        parent: &walk.first,
+        entered: &walk.second,
+    };
+    decide_passed(caller, &walk.call, found, &granted)
 }
 
 /// What the call of the walk, which has ended where this was found, comes to.
@@ -101,14 +117,13 @@ pub(crate) fn decide_end<'a>(
     ensures near { IfOk result (IsNear walk.now.call found.now) }
 {
     let itself = granted_on_first(&caller.domain, &walk.call, &found.first, &walk.first);
-    let other = granted_on_second(&caller.domain, &walk.call, &found.second, &walk.second);
-    let granted = Granted {
-        itself: &itself,
-        other: &other,
-        parent: &walk.first,
-        entered: &walk.second,
-    };
-    decide_passed(caller, &walk.call, found, &granted)
+    match targets_of(&walk.call) {
+        Targets::No | Targets::One(_) => decide_granted(caller, walk, found, &itself, &itself),
+        Targets::Two(_, new) => {
+            let other = granted_on(&caller.domain, new, &found.second, &walk.second);
+            decide_granted(caller, walk, found, &itself, &other)
+        }
+    }
 }
 
 /// The slot where the inode lies, if it is lent.

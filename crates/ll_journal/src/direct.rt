@@ -147,6 +147,14 @@ impl Journal {
         &self.history
     }
 
+    /// The same, and nothing else is left.
+    pub fn into_history(self) -> History
+        ensures { result ≡ record { entries = self.world.history; limit = self.world.limit } }
+    {
+        let Journal { history, .. } = self;
+        history
+    }
+
     /// How many clients there are. They have the numbers from 1 on.
     pub fn clients(&self) -> u64
         ensures { result ≡ len (world.shown self.now.world).clients }

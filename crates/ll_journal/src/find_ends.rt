@@ -1,10 +1,11 @@
 //! What a walk finds where it ends.
 
-ghost use Rattle.std.specs.Prelude.{◌≡◌, ℕ, List, [], None, nat_le};
+ghost use Rattle.std.specs.Prelude.{◌≡◌, ℕ, List, [], None, false, nat_le};
 ghost use Rattle.ll_rights.specs.Map.{len};
 ghost use Rattle.ll_seq.specs.Call.{first_path, path_of, second_path};
 ghost use Rattle.ll_seq.specs.State.{State};
 ghost use Rattle.ll_inodes.specs.InodeTable.{IsTable};
+ghost use Rattle.ll_worlds.specs.Walk.{has_two_paths};
 ghost use Rattle.ll_journal.specs.Checks.{blocked_at, found_at, last_in, spot_at};
 
 use ll_answer::{Found, Spot, Targets, no_directory, targets_of};
@@ -53,6 +54,20 @@ fn spots(table: &Inodes, first: &Held, second: &Held, call: &Call) -> (Spot, Spo
     }
 }
 
+/// The spots of both paths of a call that has one path at most, which ends in this directory.
+fn spots_alone(table: &Inodes, here: &Held, call: &Call) -> (Spot, Spot)
+    requires { has_two_paths call.now ≡ false }
+    ensures first { result.0 ≡ spot_at table.now.facts here.now (first_path call.now) }
+    ensures second { result.1 ≡ spot_at table.now.facts here.now (second_path call.now) }
+{
+    let found = match targets_of(call) {
+        Targets::No => nowhere(table, here),
+        Targets::One(target) => spot(table, here, target),
+        Targets::Two(..) => unreachable!(),
+    };
+    (found, found)
+}
+
 /// Where the last name of the call's one path, or of its second, stands in the directory.
 pub(crate) fn last_spot(table: &Inodes, here: &Held, call: &Call) -> Spot
     ensures { result ≡ spot_at table.now.facts here.now (second_path call.now) }
@@ -76,6 +91,20 @@ pub(crate) fn find_ends(
         → result ≡ found_at table.now.facts (nat_le room (len s.nodes)) first.now second.now call.now }
 {
     let (first, second) = spots(table, first, second, call);
+    Found {
+        first,
+        second,
+        is_full: room <= table.living(),
+    }
+}
+
+/// The same of a call that has one path at most, which ends in this directory.
+pub(crate) fn find_end(table: &Inodes, room: usize, here: &Held, call: &Call) -> Found
+    requires { has_two_paths call.now ≡ false }
+    ensures { (s : State) (spares : List ℕ) → IsTable s spares table.now
+        → result ≡ found_at table.now.facts (nat_le room (len s.nodes)) here.now here.now call.now }
+{
+    let (first, second) = spots_alone(table, here, call);
     Found {
         first,
         second,

@@ -110,7 +110,7 @@ impl Journal {
     ghost use Rattle.ll_journal.specs.Book.{Spares, new_book, slot_of};
     ghost use Rattle.ll_journal.specs.Stations.{station_in};
     ghost use Rattle.ll_journal.specs.Steps.{Does, GoesDown, IsAstrayAt, IsAstrayAtTop, IsAstrayBelow, IsNext};
-    ghost use Rattle.ll_worlds.specs.World.{Begun, NotNow, advance};
+    ghost use Rattle.ll_worlds.specs.World.{Begun, NotNow, Stands, advance};
     ghost use Rattle.ll_worlds.specs.declared.step.Step.TheVariants.{Begin, ClientStep, Descend, Fork, Restart};
 
     /// A tree of the root alone, in which so many nodes may live, without a client. Room is reserved for so many
@@ -208,6 +208,35 @@ impl Journal {
         Progress::Stands(ROOT)
     }
 
+    /// The client at the place goes down from the directory in the one slot to that in the other.
+    fn go_down(
+        &mut self,
+        place: usize,
+        client: u64,
+        from_slot: u64,
+        from: &mut Held,
+        to_slot: u64,
+        to: &mut Held,
+    )
+        requires numbered { client ≡ suc place }
+        requires place { place < length self.old.spares }
+        requires from { from.old ≡ slot_of self.old from_slot }
+        requires to { to.old ≡ slot_of self.old to_slot }
+        requires next { IsNext self.old client from_slot to_slot }
+        requires free { to.old.node.mark ≡ None }
+        ensures does { advance self.old.world (Descend client) ≡ (Stands to.old.inode, self.new.world) }
+        ensures stands { (to.new.inode ≡ to.old.inode) × (to.new.node.mark ≡ Some client) }
+        ensures from { from.new ≡ slot_of self.new from_slot }
+        ensures to { to.new ≡ slot_of self.new to_slot }
+        ensures spares { Spares self.old self.new (from_slot ∷ to_slot ∷ []) }
+        ensures rest { self.new ≡ record self.old { world = self.new.world } }
+    {
+        let seat = &mut self.seats[place];
+        seat.descend(to.inode);
+        from.node.set_mark(mark_in(seat, client, from.inode));
+        to.node.set_mark(Some(client));
+    }
+
     /// A descent of the client's walk: the slots are those of the directory where its leg in turn stands, and of the
     /// one that the next name names. Takes no memory.
     pub fn descend(
@@ -237,12 +266,39 @@ impl Journal {
             StepCheck::Astray => return Progress::Astray,
             StepCheck::Go => {}
         }
-        let inode = to.inode;
-        let seat = &mut self.seats[place];
-        seat.descend(inode);
-        from.node.set_mark(mark_in(seat, client, from.inode));
-        to.node.set_mark(Some(client));
-        Progress::Stands(inode)
+        self.go_down(place, client, from_slot, from, to_slot, to);
+        Progress::Stands(to.inode)
+    }
+
+    /// The same where the second slot is the one that `next_slot` tells of the first, so that no name is looked up.
+    pub fn descend_to(
+        &mut self,
+        client: u64,
+        from_slot: u64,
+        from: &mut Held,
+        to_slot: u64,
+        to: &mut Held,
+    ) -> Progress
+        requires from { from.old ≡ slot_of self.old from_slot }
+        requires to { to.old ≡ slot_of self.old to_slot }
+        requires next { IsNext self.old client from_slot to_slot }
+        ensures does { Does self.old (Descend client) result self.new }
+        ensures stands { (inode : ℕ) → result ≡ Progress.Stands inode
+            → (to.new.inode ≡ inode) × (to.new.node.mark ≡ Some client) }
+        ensures from { from.new ≡ slot_of self.new from_slot }
+        ensures to { to.new ≡ slot_of self.new to_slot }
+        ensures spares { Spares self.old self.new (from_slot ∷ to_slot ∷ []) }
+        ensures rest { self.new ≡ record self.old { world = self.new.world } }
+        ensures not_astray { result ≢ Progress.Astray }
+    {
+        let Some(place) = place_of(&self.seats, client) else {
+            return Progress::NotNow;
+        };
+        if to.node.mark().is_some() {
+            return Progress::NotNow;
+        }
+        self.go_down(place, client, from_slot, from, to_slot, to);
+        Progress::Stands(to.inode)
     }
 
     /// Where the client's walk is.

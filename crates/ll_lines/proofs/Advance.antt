@@ -1,14 +1,17 @@
 -- One line more of a transcript.
-use Rattle.std.proofs.Common.{◌≡◌, ℕ, Bool, true, false, List, [], ◌∷◌, ◌++◌, Option, Result, Ok, Err, refl, sym, ap}
+use Rattle.std.proofs.Common.{◌≡◌, ℕ, Bool, true, false, List, [], ◌∷◌, ◌++◌, Option, Result, Ok, Err, Some, refl, sym}
+use Rattle.std.proofs.Common.{ap}
 use Rattle.std.proofs.Common.{subst, ◌∙◌, append_assoc}
 use Rattle.std.specs.Prelude.{OnErr}
+use Rattle.std.specs.Io.KnownBytes.{Appends}
 use Rattle.std.proofs.lemmas.List.{append-nil}
+use Rattle.ll_ends.specs.Devices.{Devices}
 use Rattle.ll_wire.specs.Pieces.{pieces}
-use Rattle.ll_wire.proofs.WrittenText.{appends-more, appends-none, front-more}
-use Rattle.ll_lines.specs.Cutting.{Cuts, IsLeft, Reading, unread}
+use Rattle.ll_wire.proofs.WrittenText.{appends-none}
+use Rattle.ll_lines.specs.Cutting.{Cuts, Holds, IsLeft, IsTold, Reading, TellsFront, TellsFrontOf, TellsMore, TellsOn}
+use Rattle.ll_lines.specs.Cutting.{unread}
 use Rattle.ll_lines.specs.Transcript.{Transcript}
-use Rattle.ll_lines.specs.Reached.{AnswersAll, AnswersLine, AnswersSome, HasBegun, IsAnswered, IsStarted, IsWritten}
-use Rattle.ll_lines.specs.Reached.{Reached, StartsAll, StartsLine}
+use Rattle.ll_lines.specs.Reached.{AnswersAll, AnswersSome, StartsAll}
 use Rattle.ll_lines.proofs.LeftToRead.{at_last, at_start}
 
 pub on_err : {T E P : Type 0} → (r : Result T E) → P → OnErr r P
@@ -29,113 +32,104 @@ module _ {S : Type 0} (Tells : S → List ℕ → List ℕ → S → Type 0) whe
     ap (λ (x : List ℕ). x ++ line) h.5 ∙ append_assoc h.0 h.2 line,
   )
 
-  module _ (first : S) (input : List ℕ) (old : Option (List ℕ)) where
-    -- nothing is read yet
-    begins : (IsNow : S → Type 0) → IsNow first → Reached Tells IsNow first input input old old
-    begins IsNow now = record {
-      done = [];
-      text = [];
-      last = first;
-      cut = refl;
-      lines = (refl, refl);
-      now = now;
-      wrote = appends-none old;
-    }
+  -- nothing is read yet
+  pub none_yet : (s : S) (r : Reading) (d : Devices) → r ≡ unread → AnswersSome Tells s s r d d
+  none_yet s r d is input e = (
+    input,
+    [],
+    [],
+    at_start r d.remaining input is e,
+    refl,
+    (refl, refl),
+    ([], sym (ap (λ (x : Reading). x.waiting) is), appends-none d.contents),
+  )
 
-    -- all is read
-    whole : (IsNow : S → Type 0) (left : List ℕ) (new : Option (List ℕ)) → left ≡ []
-        → Reached Tells IsNow first input left old new → IsWritten Tells IsNow first input old new
-    whole IsNow left new none p =
-        let all : p.done ≡ pieces input =
-        sym (p.cut ∙ ap (λ (x : List ℕ). p.done ++ pieces x) none ∙ append-nil p.done) in (
-          p.text,
-          p.last,
-          subst (λ (x : List (List ℕ)). Transcript Tells first x p.text p.last) all p.lines,
-          p.now,
-          p.wrote,
-        )
+  module _ (s t : S) (r : Reading) (first d : Devices) (some : AnswersSome Tells s t r first d) where
+    -- the next line can't be read
+    pub reading_stops : (e : Devices) → TellsFront r d e → StartsAll Tells s t first e
+    reading_stops e front input is =
+        let a = some input is in (a.1, pieces a.0, a.2, a.4, a.5, front first.contents a.2 a.6)
 
-    -- nothing more is
-    stops : (IsNow : S → Type 0) (left : List ℕ) (new : Option (List ℕ)) → Reached Tells IsNow first input left old new
-        → HasBegun Tells first input old new
-    stops IsNow left new p =
-        (p.done, pieces left, p.text, p.last, p.cut, p.lines, (p.text, [], sym (append-nil p.text), p.wrote))
+    -- this line is the next one, if there is one
+    module _ (r' : Reading) (e : Devices) (line : Option (List ℕ)) (is_there : Bool)
+        (cuts : (left : List ℕ) → IsLeft r d.remaining left → Cuts left is_there line (IsLeft r' e.remaining))
+        (on : TellsOn r r' d e) where
+      at : (b : Bool) → is_there ≡ b → (left : List ℕ) → IsLeft r d.remaining left
+          → Cuts left b line (IsLeft r' e.remaining)
+      at b is left there = subst (λ (c : Bool). Cuts left c line (IsLeft r' e.remaining)) is (cuts left there)
 
-    module _ (IsNow : S → Type 0) (left piece rest : List ℕ) (mid new : Option (List ℕ))
-        (cut : pieces left ≡ piece ∷ pieces rest)
-        (p : Reached Tells IsNow first input left old mid) where
-      cut_on : pieces input ≡ (p.done ++ piece ∷ []) ++ pieces rest
-      cut_on = p.cut ∙ ap (λ (x : List (List ℕ)). p.done ++ x) cut
-          ∙ sym (append_assoc p.done (piece ∷ []) (pieces rest))
+      module _ (is : is_there ≡ true) (u : S) where
+        -- it is answered by this text
+        pub one_more : (answer : List ℕ) (r'' : Reading) (f : Devices)
+            → ((piece : List ℕ) → Holds line piece → Tells t piece answer u)
+            → ((left : List ℕ) → IsLeft r' e.remaining left → IsLeft r'' f.remaining left)
+            → TellsMore r' r'' e f answer → AnswersSome Tells s u r'' first f
+        one_more answer r'' f answers keeps more input told =
+            let a = some input told in
+            let cut = at true is a.0 a.3 in (
+              cut.1,
+              a.1 ++ cut.0 ∷ [],
+              a.2 ++ answer,
+              keeps cut.1 cut.4,
+              a.4 ∙ ap (λ (x : List (List ℕ)). a.1 ++ x) cut.2 ∙ sym (append_assoc a.1 (cut.0 ∷ []) (pieces cut.1)),
+              lines-append a.1 s t u a.2 cut.0 answer a.5 (answers cut.0 cut.3),
+              more first.contents a.2 (on first.contents a.2 a.6),
+            )
 
-      -- the next piece is answered
-      line_more : (IsThen : S → Type 0) → IsAnswered Tells IsThen p.last piece mid new
-          → Reached Tells IsThen first input rest old new
-      line_more IsThen a = record {
-        done = p.done ++ piece ∷ [];
-        text = p.text ++ a.1;
-        last = a.0;
-        cut = cut_on;
-        lines = lines-append p.done first p.last a.0 p.text piece a.1 p.lines a.2;
-        now = a.3;
-        wrote = appends-more old mid new p.text a.1 p.wrote a.4;
-      }
+        -- the text isn't wholly written
+        pub one_stops : (answer : List ℕ) (f : Devices) → ((piece : List ℕ) → Holds line piece → Tells t piece answer u)
+            → TellsFrontOf r' e f answer → StartsAll Tells s u first f
+        one_stops answer f answers front input told =
+            let a = some input told in
+            let cut = at true is a.0 a.3 in (
+              a.1 ++ cut.0 ∷ [],
+              pieces cut.1,
+              a.2 ++ answer,
+              a.4 ∙ ap (λ (x : List (List ℕ)). a.1 ++ x) cut.2 ∙ sym (append_assoc a.1 (cut.0 ∷ []) (pieces cut.1)),
+              lines-append a.1 s t u a.2 cut.0 answer a.5 (answers cut.0 cut.3),
+              front first.contents a.2 (on first.contents a.2 a.6),
+            )
 
-      -- the next piece's line is not wholly written
-      line_stops : IsStarted Tells p.last piece mid new → HasBegun Tells first input old new
-      line_stops a = (
-        p.done ++ piece ∷ [],
-        pieces rest,
-        p.text ++ a.1,
-        a.0,
-        cut_on,
-        lines-append p.done first p.last a.0 p.text piece a.1 p.lines a.2,
-        front-more old mid new p.text a.1 p.wrote a.3,
-      )
+        -- it is answered by some text, of which nothing is written
+        pub one_untold : (f : Devices)
+            → ((piece : List ℕ) → Holds line piece → (answer : List ℕ) × Tells t piece answer u)
+            → TellsFront r' e f → StartsAll Tells s u first f
+        one_untold f answers front input told =
+            let a = some input told in
+            let cut = at true is a.0 a.3 in
+            let answer = answers cut.0 cut.3 in
+            let w = front first.contents a.2 (on first.contents a.2 a.6) in (
+              a.1 ++ cut.0 ∷ [],
+              pieces cut.1,
+              a.2 ++ answer.0,
+              a.4 ∙ ap (λ (x : List (List ℕ)). a.1 ++ x) cut.2 ∙ sym (append_assoc a.1 (cut.0 ∷ []) (pieces cut.1)),
+              lines-append a.1 s t u a.2 cut.0 answer.0 a.5 answer.1,
+              (
+                w.0,
+                w.1 ++ answer.0,
+                ap (λ (x : List ℕ). x ++ answer.0) w.2 ∙ append_assoc w.0 w.1 answer.0,
+                w.3,
+              ),
+            )
 
-  -- ---- lines that are read in turn
+      -- there is none, and all is written
+      pub all_read : (f : Devices) → is_there ≡ false → f.remaining ≡ e.remaining
+          → ((text : List ℕ) → IsTold first.contents r' e text → Appends first.contents f.contents text)
+          → AnswersAll Tells s t first f
+      all_read f is same written input told =
+          let a = some input told in
+          let cut = at false is a.0 a.3 in
+          let all : a.1 ≡ pieces input = sym (a.4 ∙ ap (λ (x : List ℕ). a.1 ++ pieces x) cut.0 ∙ append-nil a.1) in (
+            same ∙ at_last r' e.remaining cut.1,
+            (
+              a.2,
+              subst (λ (x : List (List ℕ)). Transcript Tells s x a.2 t) all a.5,
+              written a.2 (on first.contents a.2 a.6),
+            ),
+          )
 
-  module _ (IsFirst : S → Type 0) (remaining old : Option (List ℕ)) where
-    pub none_yet : (lines : Reading) → lines ≡ unread
-        → AnswersSome Tells IsFirst IsFirst lines remaining remaining old old
-    none_yet lines is first input now e =
-        (input, at_start lines remaining input is e, begins first input old IsFirst now)
-
-    module _ (IsNow : S → Type 0) (lines : Reading) (remaining' mid : Option (List ℕ))
-        (some : AnswersSome Tells IsFirst IsNow lines remaining remaining' old mid) where
-      -- the next line can't be read
-      pub reading_stops : StartsAll Tells IsFirst remaining old mid
-      reading_stops first input now e = let s = some first input now e in stops first input old IsNow s.0 mid s.2
-
-      -- this line is the next one, if there is one
-      module _ (lines' : Reading) (remaining'' : Option (List ℕ)) (line : Option (List ℕ)) (is_there : Bool)
-          (cuts : (left : List ℕ) → IsLeft lines remaining' left → Cuts left is_there line (IsLeft lines' remaining''))
-        where
-          at : (b : Bool) → is_there ≡ b → (left : List ℕ) → IsLeft lines remaining' left
-              → Cuts left b line (IsLeft lines' remaining'')
-          at b is left there = subst (λ (c : Bool). Cuts left c line (IsLeft lines' remaining'')) is (cuts left there)
-
-          pub one_more : (IsThen : S → Type 0) (new : Option (List ℕ)) → is_there ≡ true
-              → AnswersLine Tells IsNow IsThen line mid new
-              → AnswersSome Tells IsFirst IsThen lines' remaining remaining'' old new
-          one_more IsThen new is answers first input now e =
-              let s = some first input now e in
-              let cut = at true is s.0 s.1 in (
-                cut.1,
-                cut.4,
-                line_more first input old IsNow s.0 cut.0 cut.1 mid new cut.2 s.2 IsThen
-                    (answers s.2.last cut.0 s.2.now cut.3),
-              )
-
-          pub one_stops : (new : Option (List ℕ)) → is_there ≡ true → StartsLine Tells IsNow line mid new
-              → StartsAll Tells IsFirst remaining old new
-          one_stops new is starts first input now e =
-              let s = some first input now e in
-              let cut = at true is s.0 s.1 in
-              line_stops first input old IsNow s.0 cut.0 cut.1 mid new cut.2 s.2 (starts s.2.last cut.0 s.2.now cut.3)
-
-          pub all_read : is_there ≡ false → AnswersAll Tells IsFirst IsNow remaining remaining'' old mid
-          all_read is first input now e =
-              let s = some first input now e in
-              let cut = at false is s.0 s.1 in
-              (at_last lines' remaining'' cut.1, whole first input old IsNow s.0 mid cut.0 s.2)
+      -- there is none, and not all is written
+      pub end_stops : (f : Devices) → TellsFront r' e f → StartsAll Tells s t first f
+      end_stops f front =
+          λ input told. let a = some input told in
+          (a.1, pieces a.0, a.2, a.4, a.5, front first.contents a.2 (on first.contents a.2 a.6))

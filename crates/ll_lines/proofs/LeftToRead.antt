@@ -1,8 +1,8 @@
 -- What is left to read after a read.
 use Rattle.std.proofs.Common.{◌≡◌, ℕ, suc, ◌+◌, ◌<◌, ◌≤◌, List, [], ◌∷◌, ◌++◌, drop, drop-cons, get_or, length}
-use Rattle.std.proofs.Common.{length-drop, length-take-le, take, Option, None, Some, refl, sym, ap, ◌∙◌, arith}
+use Rattle.std.proofs.Common.{length-drop, length-take-le, take, Option, None, Some, refl, subst, sym, ap, ◌∙◌, arith}
 use Rattle.std.specs.Io.KnownBytes.{Consumes}
-use Rattle.std.proofs.lemmas.List.{length-append}
+use Rattle.std.proofs.lemmas.List.{drop_all, length-append}
 use Rattle.std.proofs.Math.Nat.{pos_of_ne-zero}
 use Rattle.ll_lines.specs.Cutting.{Counts, IsLeft, Reading, unread}
 
@@ -30,6 +30,18 @@ held_next xs i b less is =
     drop-cons xs i b less ∙ ap (λ x. x ∷ drop (suc i) xs) (sym is)
     ∙ ap (λ n. b ∷ drop n xs) (let next : suc i ≡ i + 1 = omega arith in next)
 
+-- the same of bytes that are shown
+pub next_of : (shown chunk : List ℕ) (start end b : ℕ) → shown ≡ chunk → start < length (take end shown)
+    → b ≡ get_or (take end shown) start b → drop start (take end chunk) ≡ b ∷ drop (start + 1) (take end chunk)
+next_of shown chunk start end b same less is =
+    subst (λ (xs : List ℕ). drop start (take end xs) ≡ b ∷ drop (start + 1) (take end xs)) same
+    (held_next (take end shown) start b less is)
+
+pub none_after : (shown chunk : List ℕ) (start end : ℕ) → shown ≡ chunk → length (take end shown) ≤ start
+    → drop start (take end chunk) ≡ []
+none_after shown chunk start end same over =
+    subst (λ (xs : List ℕ). drop start (take end xs) ≡ []) same (drop_all start (take end shown) over)
+
 -- a read of some bytes counts as one
 pub counts_read : (old new : Option (List ℕ)) (bytes : List ℕ) (n reads : ℕ) → Consumes old new bytes → n ≡ length bytes
     → (n ≡ 0 → ⊥) → (rest : List ℕ) → old ≡ Some rest
@@ -44,6 +56,11 @@ counts_more a b c r s t first then rest e =
     let one = first rest e in
     let two = then one.0 one.1 in
     (two.0, two.1, omega (arith, one.2, two.2))
+
+pub counts_still : (a b c : Reading) (r s t : Option (List ℕ)) → Counts a b r s → t ≡ s → c.reads ≡ b.reads
+    → Counts a c r t
+counts_still a b c r s t counted same reads rest e =
+    let one = counted rest e in (one.0, same ∙ one.1, omega (arith, one.2, reads))
 
 -- ---- the first byte and the last
 
@@ -63,3 +80,13 @@ none_of (x ∷ xs) ys e = absurd cc
 -- nothing is left
 pub at_last : (r : Reading) (remaining : Option (List ℕ)) → IsLeft r remaining [] → remaining ≡ Some []
 at_last r remaining l = l.told ∙ ap Some (none_of r.bytes l.rest l.all)
+
+-- what is held and what the reader has are as they were
+pub left_still : (a b : Reading) (r s : Option (List ℕ)) (left : List ℕ) → b.bytes ≡ a.bytes → b.is_ended ≡ a.is_ended
+    → s ≡ r → IsLeft a r left → IsLeft b s left
+left_still a b r s left bytes ended same l = record {
+  rest = l.rest;
+  told = same ∙ l.told;
+  all = l.all ∙ ap (λ (x : List ℕ). x ++ l.rest) (sym bytes);
+  ended = λ e. l.ended (sym ended ∙ e);
+}

@@ -1,3 +1,4 @@
 pub mod Advance
 pub mod Cuts
 pub mod LeftToRead
+pub mod Telling

@@ -1,12 +1,14 @@
-//! Lines: read one by one from a reader, and each answered by one that is written whole, whatever they say.
+//! Lines: read one by one from a device, and each answered by one that is written whole, whatever they say.
 #![tactic(auto)]
 
+mod answers;
+mod exchange;
 mod fault;
 mod line;
-mod line_reader;
 mod output;
 
+pub use answers::{Answers, answer_lines};
+pub use exchange::Exchange;
 pub use fault::SessionFault;
 pub use line::Line;
-pub use line_reader::LineReader;
 pub use output::write_line;

@@ -2,20 +2,25 @@
 
 ghost use Rattle.std.specs.Prelude.{◌≡◌, IfErr, OnErr, OnOk};
 ghost use Rattle.std.specs.Io.KnownBytes.{Appends};
+ghost use Rattle.ll_ends.specs.Devices.{IsWhole, KeepsInput, Took, TookNone};
 ghost use Rattle.ll_wire.specs.Writing.{AppendsFront};
 ghost use Rattle.ll_lines.specs.declared.fault.SessionFault.{SessionFault};
 
 use crate::fault::SessionFault;
-use ll_wire::write_whole;
-use std::io::Write;
+use ll_ends::{Ends, write_out};
 
 /// Writes the whole text of a line. No failure is tried again.
-pub fn write_line<W: Write>(writer: &mut W, line: &str) -> Result<(), SessionFault>
-    ensures ok { OnOk result (Appends (W.contents writer.old) (W.contents writer.new) line.now) }
-    ensures err { OnErr result (AppendsFront (W.contents writer.old) (W.contents writer.new) line.now) }
+pub fn write_line<E: Ends>(ends: &mut E, line: &str) -> Result<(), SessionFault>
+    requires { IsWhole (E.devices ends.old) }
+    ensures ok { OnOk result (Appends (E.devices ends.old).contents (E.devices ends.new).contents line.now) }
+    ensures took { OnOk result (Took (E.devices ends.old) (E.devices ends.new) line.now) }
+    ensures err { OnErr result
+        (AppendsFront (E.devices ends.old).contents (E.devices ends.new).contents line.now) }
+    ensures broken { OnErr result (TookNone (E.devices ends.old) (E.devices ends.new)) }
     ensures fault { IfErr result (λ fault. fault ≡ SessionFault.Write) }
+    ensures same { E.names ends.new ≡ E.names ends.old }
 {
-    match write_whole(writer, line) {
+    match write_out(ends, line.as_bytes()) {
         Ok(()) => Ok(()),
         Err(_) => Err(SessionFault::Write),
     }

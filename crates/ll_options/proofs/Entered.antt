@@ -1,8 +1,9 @@
--- A parse that finds no fault enters one of the three subcommands that aren't `help`, where a subcommand is required.
-use Rattle.std.proofs.Common.{◌≡◌, ◌∙◌, ap, ℕ, Bool, true, false, not, cond, codes, refl, sym, List, [], ◌∷◌, Option}
-use Rattle.std.proofs.Common.{Some, None, is_some, ◌&&◌, true≢false, ◌⊎◌, inl, inr}
+-- A parse that finds no fault enters one of the subcommands that aren't `help`, where a subcommand is required.
+use Rattle.std.proofs.Common.{◌≡◌, ◌∙◌, ap, ℕ, Bool, true, false, not, cond, codes, refl, sym, List, [], ◌∷◌, ◌++◌}
+use Rattle.std.proofs.Common.{Option}
+use Rattle.std.proofs.Common.{Some, None, is_some, ◌&&◌, true≢false}
 use Rattle.std.specs.Prelude.{option_map}
-use Rattle.std.specs.List.{find, fold}
+use Rattle.std.specs.List.{AllByRecursion, find, fold}
 use Rattle.std.specs.Option.{option_map_or}
 use Rattle.std.specs.Str.{bytes_eq}
 use Rattle.std.proofs.lemmas.Slice.Eq.{bytes_eq-Decides}
@@ -123,21 +124,12 @@ entered_where_required s rows false wants e = go _ s.subcommand_required _ wants
 abbrev pub named : Text → List Shape → Option Shape
 named name = find (λ s. answers_to name (label_of s))
 
--- the first of four that answers
-abbrev first : Shape → Shape → Shape → Shape → Bool → Bool → Bool → Bool → Option Shape
-first one two three other a b c d =
-    cond a (Some one) (cond b (Some two) (cond c (Some three) (cond d (Some other) None)))
-
--- of three and `help`, only those three answer to a name that isn't `help`
-not_help : (one two three other : Shape) (name : Text) → bytes_eq name help ≡ false → other.name ≡ help
-    → other.aliases ≡ []
-    → is_some (named name (one ∷ two ∷ three ∷ other ∷ [])) ≡ true
-    → (named name (one ∷ two ∷ three ∷ other ∷ []) ≡ Some one)
-    ⊎ (named name (one ∷ two ∷ three ∷ other ∷ []) ≡ Some two)
-    ⊎ (named name (one ∷ two ∷ three ∷ other ∷ []) ≡ Some three)
-not_help one two three other name differs is none has =
-    go (answers_to name (label_of one)) (answers_to name (label_of two)) (answers_to name (label_of three))
-    (answers_to name (label_of other)) unnamed has
+-- of these and `help`, only these answer to a name that isn't `help`
+not_help : (P : Shape → Type 0) (subs : List Shape) (other : Shape) (name : Text) → AllByRecursion P subs
+    → bytes_eq name help ≡ false → other.name ≡ help → other.aliases ≡ []
+    → is_some (named name (subs ++ other ∷ [])) ≡ true
+    → (sub : Shape) × P sub × (named name (subs ++ other ∷ []) ≡ Some sub)
+not_help P [] other name all differs is none has = go (answers_to name (label_of other)) unnamed has
   where
     turned : (b : Bool) → bytes_eq help name ≡ b → b ≡ false
     turned false e = refl
@@ -147,22 +139,28 @@ not_help one two three other name differs is none has =
     unnamed : answers_to name (label_of other) ≡ false
     unnamed = rw (is, none, turned (bytes_eq help name) refl) refl
 
-    go : (a b c d : Bool) → d ≡ false → is_some (first one two three other a b c d) ≡ true
-        → (first one two three other a b c d ≡ Some one) ⊎ (first one two three other a b c d ≡ Some two)
-        ⊎ (first one two three other a b c d ≡ Some three)
-    go true b c d f e = inl refl
-    go false true c d f e = inr (inl refl)
-    go false false true d f e = inr (inr refl)
-    go false false false true f e = absurd (true≢false f)
-    go false false false false f e = absurd (true≢false (sym e))
+    go : (b : Bool) → b ≡ false → is_some (cond b (Some other) None) ≡ true
+        → (sub : Shape) × P sub × (cond b (Some other) None ≡ Some sub)
+    go true e h = absurd (true≢false e)
+    go false e h = absurd (true≢false (sym h))
+not_help P (first ∷ subs) other name all differs is none has =
+    go (answers_to name (label_of first)) has
+    (λ h. not_help P subs other name all.1 differs is none h)
+  where
+    go : (b : Bool) → is_some (cond b (Some first) (named name (subs ++ other ∷ []))) ≡ true
+        → (is_some (named name (subs ++ other ∷ [])) ≡ true
+        → (sub : Shape) × P sub × (named name (subs ++ other ∷ []) ≡ Some sub))
+        → (sub : Shape) × P sub × (cond b (Some first) (named name (subs ++ other ∷ [])) ≡ Some sub)
+    go true h later = (first, all.0, refl)
+    go false h later = later h
 
 -- the subcommand's words, where its level finds no fault
 abbrev pub Enters : App → Shape → Option (Text × List Text) → Type 0
 Enters a sub stop = (rest : List Text) × (entered a stop ≡ Some (rows_at sub rest))
     × (level_fault sub [] nothing_held rest false [] ≡ [])
 
-module _ (a : App) (one two three other : Shape) (subs : a.subs ≡ one ∷ two ∷ three ∷ other ∷ [])
-    (is : other.name ≡ help) (none : other.aliases ≡ []) where
+module _ (a : App) (subs : List Shape) (other : Shape) (all : a.subs ≡ subs ++ other ∷ [])
+    (is : other.name ≡ help) (none : other.aliases ≡ []) (P : Shape → Type 0) (each : AllByRecursion P subs) where
   enters_by : (sub : Shape) (q : Text × List Text) → named q.0 a.subs ≡ Some sub → entered_fault a (Some q) ≡ []
       → Enters a sub (Some q)
   enters_by sub q first e = (
@@ -171,15 +169,17 @@ module _ (a : App) (one two three other : Shape) (subs : a.subs ≡ one ∷ two 
     sym (ap (λ o. option_map_or (λ s. level_fault s [] nothing_held q.1 false []) o []) first) ∙ e,
   )
 
+  -- one of them is entered
+  abbrev pub EntersOne : Option (Text × List Text) → Type 0
+  EntersOne stop = (sub : Shape) × P sub × Enters a sub stop
+
   enters : (stop : Option (Text × List Text)) → Passed stop → is_some (entered a stop) ≡ true
-      → entered_fault a stop ≡ [] → Enters a one stop ⊎ Enters a two stop ⊎ Enters a three stop
+      → entered_fault a stop ≡ [] → EntersOne stop
   enters None p has e = absurd (true≢false (sym has))
-  enters (Some q) p has e = elim (not_help one two three other q.0 p is none (ap (λ l. is_some (named q.0 l)) (sym subs)
-      ∙ there (named q.0 a.subs) has)) [
-        | inl first ↦ inl (enters_by one q (ap (named q.0) subs ∙ first) e)
-        | inr (inl second) ↦ inr (inl (enters_by two q (ap (named q.0) subs ∙ second) e))
-        | inr (inr third) ↦ inr (inr (enters_by three q (ap (named q.0) subs ∙ third) e))
-      ]
+  enters (Some q) p has e =
+      let found = not_help P subs other q.0 each p is none (ap (λ l. is_some (named q.0 l)) (sym all)
+      ∙ there (named q.0 a.subs) has) in
+      (found.0, found.1, enters_by found.0 q (ap (named q.0) all ∙ found.2) e)
     where
       there : (o : Option Shape) → is_some (option_map (λ s. rows_at s q.1) o) ≡ true → is_some o ≡ true
       there None h = h
@@ -187,8 +187,7 @@ module _ (a : App) (one two three other : Shape) (subs : a.subs ≡ one ∷ two 
 
   pub built_enters : (words : List Text) → a.top.disable_help_subcommand ≡ false → a.top.subcommand_required ≡ true
       → built_fault a nothing_held words ≡ []
-      → let stop = (walk a.top.rules (names_of a) nothing_held words).stopped in
-      Enters a one stop ⊎ Enters a two stop ⊎ Enters a three stop
+      → EntersOne (walk a.top.rules (names_of a) nothing_held words).stopped
   built_enters words helps wants e =
       let walks = no_faults _ _ e in
       let below = no_faults _ _ walks.1 in

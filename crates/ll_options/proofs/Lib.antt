@@ -2,4 +2,5 @@ pub mod Entered
 pub mod ArgumentsUsed
 pub mod Matched
 pub mod Numbers
+pub mod BuiltRows
 pub mod Ordered

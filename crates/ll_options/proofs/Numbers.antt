@@ -1,19 +1,21 @@
 -- The number that a word gives, and what the matches of `run` ask for.
 use Rattle.std.proofs.Common.{◌≡◌, ◌∙◌, ◌<◌, ◌≤◌, ◌^◌, ◌&&◌, ℕ, Bool, true, false, Option, Some, None, refl, sym, ap}
-use Rattle.std.proofs.Common.{cond, codes, option_map, is_some, nat_le}
+use Rattle.std.proofs.Common.{List, cond, codes, option_map, is_some, nat_le}
 use Rattle.std.specs.Option.{SomeIff}
-use Rattle.std.specs.Prelude.{option_and_then}
+use Rattle.std.specs.Prelude.{option_and_then, unwrap_or, []}
 use Rattle.std.specs.Str.Parse.{IsNumeral, digits_value, without_leading_plus}
 use Rattle.std.proofs.lemmas.Bool.{le-leb, leb-true}
-use Rattle.clap.specs.Words.{Text, first_of, first_value, one_of, one_text, rows_of}
+use Rattle.clap.specs.Words.{Text, all_of, first_of, first_value, one_of, one_text, rows_of}
 use Rattle.clap.specs.ValueTests.{accepts}
 use Rattle.clap.specs.declared.builder.value_parser.ValueParser.{ValueParser}
 use Rattle.clap.specs.declared.builder.value_parser.ValueParser.TheVariants.{Unsigned}
 use Rattle.clap.specs.declared.parser.matches.Found.{Found}
 use Rattle.clap.proofs.ValueTestLemmas.{Accepts-accepts, accepts-Accepts}
-use Rattle.clap.proofs.WalkLemmas.{both, first_value-rows, one_text-rows}
-use Rattle.ll_options.specs.Options.{RunOrder, ScheduleOrder, history_numbers, levels, node_numbers, number_in}
-use Rattle.ll_options.specs.Options.{run_order, schedule_order}
+use Rattle.clap.specs.Matches.{matched_of, raw_values}
+use Rattle.clap.proofs.WalkLemmas.{both, first_value-rows, one_text-rows, raw_values-rows}
+use Rattle.ll_options.specs.Options.{CheckOrder, RightsOrder, RunOrder, ScheduleOrder, check_order, is_set}
+use Rattle.ll_options.specs.Options.{history_numbers, levels, node_numbers, number_in}
+use Rattle.ll_options.specs.Options.{rights_order, run_order, schedule_order}
 
 abbrev number : Text → ℕ
 number t = digits_value 10 (without_leading_plus t)
@@ -101,6 +103,26 @@ together_scheduled path n most level picture =
     (λ k. option_map (λ m. record { file = p; nodes = k; level = level; history = m; picture = picture }) most) n)
     path
 
+-- the rights that are wanted, where each part is there
+abbrev pub together_rights : Option Text → Option Text → Option ℕ → List Text → Bool → Option RightsOrder
+together_rights file name n told layers =
+    option_and_then (λ p. option_and_then
+    (λ q. option_map (λ k. record { policy = p; profile = q; nodes = k; paths = told; layers = layers }) n) name) file
+
+-- the same of a check
+abbrev pub together_checked : Option (List Text) → Option ℕ → Option ℕ → Option Text → Option Text → Bool → Bool
+    → Option CheckOrder
+together_checked paths n level policy profile quiet verbose =
+    option_and_then (λ p. option_map (λ k. record {
+      files = p;
+      nodes = k;
+      level = level;
+      policy = policy;
+      profile = profile;
+      quiet = quiet;
+      verbose = verbose;
+    }) n) paths
+
 module _ (f : Found) where
   abbrev pub level_by : Option ℕ
   level_by = option_and_then (number_in levels) (one_of (codes "abi") (rows_of f))
@@ -143,6 +165,23 @@ module _ (f : Found) where
       ∙ ap (λ (m : Option ℕ). together_scheduled file count m level_by drawn) (h
       ∙ ap (option_and_then (number_in history_numbers)) (one_text-rows f (codes "history")))
 
+  pub as_checked : (paths : Option (List Text)) (n level : Option ℕ) (policy profile : Option Text)
+      (quiet verbose : Bool) → paths ≡ option_map raw_values (matched_of f (codes "FILE"))
+      → n ≡ option_and_then (number_in node_numbers) (one_text f (codes "nodes")) → level ≡ level_by
+      → policy ≡ first_value f (codes "policy") → profile ≡ first_value f (codes "profile")
+      → quiet ≡ is_set (codes "quiet") (rows_of f) → verbose ≡ is_set (codes "verbose") (rows_of f)
+      → together_checked paths n level policy profile quiet verbose ≡ check_order (rows_of f)
+  as_checked paths n level policy profile quiet verbose e g h i j k l =
+      rw (
+        e ∙ raw_values-rows f (codes "FILE"),
+        g ∙ ap (option_and_then (number_in node_numbers)) (one_text-rows f (codes "nodes")),
+        h,
+        i ∙ first_value-rows f (codes "policy"),
+        j ∙ first_value-rows f (codes "profile"),
+        k,
+        l,
+      ) refl
+
   pub with_parts : (path : Option Text) (n most level : Option ℕ) (policy profile save : Option Text) → level ≡ level_by
       → policy ≡ first_value f (codes "policy")
       → profile ≡ first_value f (codes "profile") → save ≡ first_value f (codes "save")
@@ -155,6 +194,23 @@ module _ (f : Found) where
       ∙ ap (λ (q : Option Text). together path n most level_by named q save) (h ∙ first_value-rows f (codes "profile"))
       ∙ ap (λ (q : Option Text). together path n most level_by named layered q) (i ∙ first_value-rows f (codes "save"))
 
+  pub as_rights : (file name : Option Text) (n : Option ℕ) (told : List Text) (layers : Bool)
+      → file ≡ first_value f (codes "policy") → name ≡ first_value f (codes "profile")
+      → n ≡ option_and_then (number_in node_numbers) (one_text f (codes "nodes"))
+      → told ≡ unwrap_or (all_of (codes "PATH") (rows_of f)) [] → layers ≡ is_set (codes "layers") (rows_of f)
+      → together_rights file name n told layers ≡ rights_order (rows_of f)
+  as_rights file name n told layers e g h i j =
+      let policy = text_by (codes "policy") in
+      let profile = text_by (codes "profile") in
+      let all = unwrap_or (all_of (codes "PATH") (rows_of f)) [] in
+      let shown = is_set (codes "layers") (rows_of f) in
+      ap (λ (l : Bool). together_rights file name n told l) j
+      ∙ ap (λ (ts : List Text). together_rights file name n ts shown) i
+      ∙ ap (λ (p : Option Text). together_rights p name n all shown) (e ∙ first_value-rows f (codes "policy"))
+      ∙ ap (λ (q : Option Text). together_rights policy q n all shown) (g ∙ first_value-rows f (codes "profile"))
+      ∙ ap (λ (k : Option ℕ). together_rights policy profile k all shown) (h
+      ∙ ap (option_and_then (number_in node_numbers)) (one_text-rows f (codes "nodes")))
+
 pub whole : (p : Option Text) (n m l : Option ℕ) (q r s : Option Text) (path : Text) (nodes most : ℕ) → p ≡ Some path
     → n ≡ Some nodes → m ≡ Some most
     → is_some (together p n m l q r s) ≡ true
@@ -164,3 +220,13 @@ pub whole_schedule : (p : Option Text) (n m l : Option ℕ) (q : Option Text) (p
     → p ≡ Some path → n ≡ Some nodes → m ≡ Some most
     → is_some (together_scheduled p n m l q) ≡ true
 whole_schedule p n m l q path nodes most e f g = rw (e, f, g) refl
+
+pub whole_rights : (p q : Option Text) (n : Option ℕ) (told : List Text) (layers : Bool) (file name : Text) (nodes : ℕ)
+    → p ≡ Some file → q ≡ Some name → n ≡ Some nodes
+    → is_some (together_rights p q n told layers) ≡ true
+whole_rights p q n told layers file name nodes e f g = rw (e, f, g) refl
+
+pub whole_check : (p : Option (List Text)) (n l : Option ℕ) (q r : Option Text) (s t : Bool) (paths : List Text)
+    (nodes : ℕ) → p ≡ Some paths → n ≡ Some nodes
+    → is_some (together_checked p n l q r s t) ≡ true
+whole_check p n l q r s t paths nodes e f = rw (e, f) refl

@@ -1,236 +1,41 @@
--- Words in which clap finds no fault want a run, with a script and its numbers, an audit of a file, or a schedule.
+-- Words in which clap finds no fault want a run, with a script and its numbers, an audit of a file, a schedule,
+-- rights, or a check.
 use Rattle.std.proofs.Common.{◌≡◌, ◌≢◌, ◌∙◌, ap, ap₂, subst, ℕ, Bool, true, false, cond, codes, refl, sym, List, []}
-use Rattle.std.proofs.Common.{◌∷◌, ◌++◌, length, not, Option, Some, None, is_some, ◌||◌, true≢false, inl, inr}
+use Rattle.std.proofs.Common.{◌∷◌, ◌++◌, not, Option, Some, None, is_some, ◌||◌, true≢false}
 use Rattle.std.specs.Prelude.{option_and_then, option_map, slice_get}
-use Rattle.std.specs.List.{AllByRecursion, find, fold, list_any}
+use Rattle.std.specs.List.{find, fold, list_any}
 use Rattle.std.specs.Option.{option_map_or}
 use Rattle.std.specs.Str.{bytes_eq}
 use Rattle.std.specs.Str.Parse.{digits_value, without_leading_plus}
 use Rattle.clap.specs.Facts.{explicit_source}
 use Rattle.clap.specs.Words.{first_of}
-use Rattle.clap.specs.Walk.{Row, Rule, Text, at_row, finished, has_row, more_values, nothing_held, row_text, rows_after}
-use Rattle.clap.specs.Walk.{walk, walk_from, with_default, with_values, without}
-use Rattle.clap.specs.Simple.{Shape, argument_words, built, filled, help_rule, with_index}
+use Rattle.clap.specs.Walk.{Row, Text, finished, has_row, more_values, nothing_held, row_text, rows_after}
+use Rattle.clap.specs.Walk.{walk, walk_from, with_default, with_values}
+use Rattle.clap.specs.Simple.{Shape, argument_words, built, rows_at}
 use Rattle.clap.specs.Takes.{is_given}
-use Rattle.clap.specs.Kinds.{range_kinds, value_kinds, values_kinds}
 use Rattle.clap.specs.ValueTests.{accepts}
-use Rattle.clap.specs.Faults.{fault_of, level_fault, repeat_fault, set_fault}
-use Rattle.clap.specs.declared.error.kind.ErrorKind.{ErrorKind}
+use Rattle.clap.specs.Faults.{fault_of, level_fault}
 use Rattle.clap.specs.declared.builder.value_parser.ValueParser.{ValueParser}
 use Rattle.clap.specs.declared.error.kind.ErrorKind.TheVariants.{MissingRequiredArgument}
-use Rattle.clap.specs.Values.{read_as, refused_kind}
+use Rattle.clap.specs.Values.{read_as}
 use Rattle.clap.specs.declared.parser.matches.ValueSource.{ValueSource}
-use Rattle.clap.specs.declared.parser.matches.ValueSource.TheVariants.{CommandLine, DefaultValue}
+use Rattle.clap.specs.declared.parser.matches.ValueSource.TheVariants.{DefaultValue}
 use Rattle.clap.specs.declared.builder.value_parser.Reading.{Reading}
 use Rattle.clap.specs.declared.builder.value_parser.Reading.TheVariants.{AsWritten}
-use Rattle.ll_options.specs.Options.{abi, audit, file, history, history_numbers, landtree, node_numbers, nodes}
-use Rattle.ll_options.specs.Options.{number_in, ordered, ordered_by, run, run_order, schedule, schedule_order, script}
-use Rattle.ll_options.specs.Options.{to_audit, to_run, to_schedule, valued}
-use Rattle.ll_options.proofs.ArgumentsUsed.{Keeps, by_words, no_faults, settles}
+use Rattle.ll_options.specs.Options.{check_order, to_check}
+use Rattle.ll_options.specs.Options.{history, history_numbers, landtree, node_numbers, nodes}
+use Rattle.ll_options.specs.Options.{flag, number_in, ordered, ordered_by, paths, rights_order}
+use Rattle.ll_options.specs.Options.{run_order, schedule_order, to_audit, to_rights, to_run}
+use Rattle.ll_options.specs.Options.{to_schedule}
+use Rattle.ll_options.proofs.ArgumentsUsed.{by_words, no_faults, settles}
 use Rattle.ll_options.proofs.Entered.{built_enters}
-use Rattle.ll_options.proofs.Numbers.{whole, whole_schedule}
-
--- ---- what the rows of a subcommand hold
-
--- of the option with this name, a value that its parser accepts
-abbrev IsRead : Text → ValueParser → Text → Text → Reading → Type 0
-IsRead name parser id v how = bytes_eq id name ≡ true → (accepts false parser v ≡ true) × (how ≡ AsWritten)
-
--- of the nodes and of the history, values that their parsers accept
-abbrev AreRead : Text → Text → Reading → Type 0
-AreRead id v how = IsRead (codes "nodes") node_numbers id v how × IsRead (codes "history") history_numbers id v how
-
--- a first value, and that is read
-abbrev GoodRow : Row → Type 0
-GoodRow r = (v : Text) × (vs : List Text) × (r.values ≡ v ∷ vs) × AreRead r.id v r.reading
-
-abbrev Good : List Row → Type 0
-Good [] = Unit {0}
-Good (r ∷ rs) = GoodRow r × Good rs
-
-good_append : (xs ys : List Row) → Good xs → Good ys → Good (xs ++ ys)
-good_append [] ys g h = h
-good_append (x ∷ xs) ys g h = (g.0, good_append xs ys g.1 h)
-
-good_at : (id : Text) (change : Row → List Row) (missing rows : List Row) → ((r : Row) → GoodRow r → Good (change r))
-    → Good missing → Good rows → Good (at_row id change missing rows)
-good_at id change missing [] changes m g = m
-good_at id change missing (r ∷ rs) changes m g = go (bytes_eq r.id id) (good_at id change missing rs changes m g.1)
-  where
-    go : (b : Bool) → Good (at_row id change missing rs)
-        → Good (cond b (change r ++ rs) (r ∷ at_row id change missing rs))
-    go true later = good_append (change r) rs (changes r g.0) g.1
-    go false later = (g.0, later)
-
-good_without : (id : Text) (rows : List Row) → Good rows → Good (without id rows)
-good_without id rows g = good_at id (λ _. []) [] rows (λ r h. tt) tt g
-
-good_values : (id : Text) (how : Reading) (s : ValueSource) (v : Text) (vs : List Text) (rows : List Row)
-    → AreRead id v how → Good rows → Good (with_values id how s (v ∷ vs) rows)
-good_values id how s v vs rows given g = good_at id (more_values s (v ∷ vs)) _ rows
-    (λ r h. ((h.0, h.1 ++ v ∷ vs, ap (λ l. l ++ v ∷ vs) h.2, h.3), tt)) ((v, vs, refl, given), tt) g
-
--- ---- the arguments, as clap builds them
-
-abbrev script_built : Rule
-script_built = with_index 1 (filled script)
-
-abbrev nodes_built : Rule
-nodes_built = filled nodes
-
-abbrev abi_built : Rule
-abi_built = filled abi
-
-abbrev history_built : Rule
-history_built = filled history
-
-abbrev policy_built : Rule
-policy_built = filled (valued (codes "policy"))
-
-abbrev profile_built : Rule
-profile_built = filled (valued (codes "profile"))
-
-abbrev save_built : Rule
-save_built = filled (valued (codes "save"))
-
-abbrev picture_built : Rule
-picture_built = filled (valued (codes "picture"))
-
-abbrev help_built : Rule
-help_built = filled help_rule
-
-abbrev file_built : Rule
-file_built = with_index 1 (filled file)
-
-abbrev run_built : Shape
-run_built = record run.top {
-  rules = script_built ∷ nodes_built ∷ abi_built ∷ policy_built ∷ profile_built ∷ history_built ∷ save_built
-      ∷ help_built ∷ [];
-  disable_help_subcommand = true;
-  is_built = true;
-}
-
-abbrev audit_built : Shape
-audit_built = record audit.top { rules = file_built ∷ help_built ∷ []; disable_help_subcommand = true; is_built = true }
-
-abbrev schedule_built : Shape
-schedule_built = record schedule.top {
-  rules = file_built ∷ nodes_built ∷ abi_built ∷ history_built ∷ picture_built ∷ help_built ∷ [];
-  disable_help_subcommand = true;
-  is_built = true;
-}
-
-no_option : (e : false ≡ true) → {A : Type 0} → A
-no_option e = absurd (true≢false (sym e))
-
-script_keeps : Keeps Good script_built
-script_keeps again [] rows e g = absurd cc
-script_keeps again (v ∷ vs) rows e g =
-    good_values (codes "SCRIPT") _ CommandLine v vs _ (λ same. no_option same, λ same. no_option same)
-    (good_without (codes "SCRIPT") rows g)
-
-abi_keeps : Keeps Good abi_built
-abi_keeps again [] rows e g = absurd cc
-abi_keeps again (v ∷ vs) rows e g =
-    good_values (codes "abi") _ CommandLine v vs _ (λ same. no_option same, λ same. no_option same)
-    (good_without (codes "abi") rows g)
-
-policy_keeps : Keeps Good policy_built
-policy_keeps again [] rows e g = absurd cc
-policy_keeps again (v ∷ vs) rows e g =
-    good_values (codes "policy") _ CommandLine v vs _ (λ same. no_option same, λ same. no_option same)
-    (good_without (codes "policy") rows g)
-
-profile_keeps : Keeps Good profile_built
-profile_keeps again [] rows e g = absurd cc
-profile_keeps again (v ∷ vs) rows e g =
-    good_values (codes "profile") _ CommandLine v vs _ (λ same. no_option same, λ same. no_option same)
-    (good_without (codes "profile") rows g)
-
-save_keeps : Keeps Good save_built
-save_keeps again [] rows e g = absurd cc
-save_keeps again (v ∷ vs) rows e g =
-    good_values (codes "save") _ CommandLine v vs _ (λ same. no_option same, λ same. no_option same)
-    (good_without (codes "save") rows g)
-
-picture_keeps : Keeps Good picture_built
-picture_keeps again [] rows e g = absurd cc
-picture_keeps again (v ∷ vs) rows e g =
-    good_values (codes "picture") _ CommandLine v vs _ (λ same. no_option same, λ same. no_option same)
-    (good_without (codes "picture") rows g)
-
-file_keeps : Keeps Good file_built
-file_keeps again [] rows e g = absurd cc
-file_keeps again (v ∷ vs) rows e g =
-    good_values (codes "FILE") _ CommandLine v vs _ (λ same. no_option same, λ same. no_option same)
-    (good_without (codes "FILE") rows g)
-
-accepted : (ignore_case : Bool) (p : ValueParser) (t : Text) → value_kinds ignore_case p t ≡ []
-    → accepts ignore_case p t ≡ true
-accepted ignore_case p t e = go (accepts ignore_case p t) (refused_kind p) e
-  where
-    go : (b : Bool) (k : ErrorKind) → cond b [] (k ∷ []) ≡ [] → b ≡ true
-    go true k e' = refl
-    go false k e' = absurd cc
-
--- the values of an option that find no fault begin with one that its parser accepts
-first_accepted : (parser : ValueParser) (v : Text) (vs : List Text) → values_kinds false parser (v ∷ vs) ≡ []
-    → accepts false parser v ≡ true
-first_accepted parser v vs values =
-    accepted false parser v (no_faults (value_kinds false parser v) (values_kinds false parser vs) values).0
-
-nodes_keep : Keeps Good nodes_built
-nodes_keep again [] rows e g = absurd cc
-nodes_keep again (v ∷ vs) rows e g =
-    let action : set_fault again nodes_built (v ∷ vs) rows ≡ [] =
-    (no_faults (range_kinds 1 1 (length (v ∷ vs))) _ e).1 in
-    let values : values_kinds false node_numbers (v ∷ vs) ≡ [] =
-    (no_faults (repeat_fault again (codes "nodes") rows) _ action).1 in
-    good_values (codes "nodes") _ CommandLine v vs _
-    (λ same. (first_accepted node_numbers v vs values, refl), λ same. no_option same)
-    (good_without (codes "nodes") rows g)
-
-history_keeps : Keeps Good history_built
-history_keeps again [] rows e g = absurd cc
-history_keeps again (v ∷ vs) rows e g =
-    let action : set_fault again history_built (v ∷ vs) rows ≡ [] =
-    (no_faults (range_kinds 1 1 (length (v ∷ vs))) _ e).1 in
-    let values : values_kinds false history_numbers (v ∷ vs) ≡ [] =
-    (no_faults (repeat_fault again (codes "history") rows) _ action).1 in
-    good_values (codes "history") _ CommandLine v vs _
-    (λ same. no_option same, λ same. (first_accepted history_numbers v vs values, refl))
-    (good_without (codes "history") rows g)
-
-help_keeps : Keeps Good help_built
-help_keeps again values rows e g = g
-
-found_there : (P : Rule → Type 0) (p : Rule → Bool) (rules : List Rule) (a : Rule) → AllByRecursion P rules
-    → find p rules ≡ Some a → P a
-found_there P p [] a all e = absurd cc
-found_there P p (x ∷ xs) a all e = go (p x) e (λ e'. found_there P p xs a all.1 e')
-  where
-    go : (b : Bool) → cond b (Some x) (find p xs) ≡ Some a → (find p xs ≡ Some a → P a) → P a
-    go true e' later = let same : x ≡ a = cc in subst P same all.0
-    go false e' later = later e'
-
-run_keeps : (p : Rule → Bool) (a : Rule) → find p run_built.rules ≡ Some a → Keeps Good a
-run_keeps p a e = found_there (Keeps Good) p run_built.rules a (
-  script_keeps,
-  (
-    nodes_keep,
-    (
-      abi_keeps,
-      (policy_keeps, (profile_keeps, (history_keeps, (save_keeps, (help_keeps, tt))))),
-    ),
-  ),
-) e
-
-audit_keeps : (p : Rule → Bool) (a : Rule) → find p audit_built.rules ≡ Some a → Keeps Good a
-audit_keeps p a e = found_there (Keeps Good) p audit_built.rules a (file_keeps, (help_keeps, tt)) e
-
-schedule_keeps : (p : Rule → Bool) (a : Rule) → find p schedule_built.rules ≡ Some a → Keeps Good a
-schedule_keeps p a e = found_there (Keeps Good) p schedule_built.rules a
-    (file_keeps, (nodes_keep, (abi_keeps, (history_keeps, (picture_keeps, (help_keeps, tt)))))) e
+use Rattle.ll_options.proofs.Numbers.{whole, whole_check, whole_rights, whole_schedule}
+use Rattle.ll_options.proofs.BuiltRows.{GoodRow, Good, good_values, script_built, nodes_built, abi_built}
+use Rattle.ll_options.proofs.BuiltRows.{history_built, policy_built, profile_built, save_built, picture_built}
+use Rattle.ll_options.proofs.BuiltRows.{paths_built, policy_needed, profile_needed, layers_built, help_built}
+use Rattle.ll_options.proofs.BuiltRows.{file_built, files_built, quiet_built, verbose_built, run_built, audit_built}
+use Rattle.ll_options.proofs.BuiltRows.{schedule_built, rights_built, check_built, no_option, run_keeps, audit_keeps}
+use Rattle.ll_options.proofs.BuiltRows.{schedule_keeps, rights_keep, check_keeps}
 
 -- ---- the defaults
 
@@ -331,6 +136,60 @@ schedule_finished rows g =
     (unchanged WithNodes numbered (has_row abi_built.id numbered)
     (nodes_given _ (unchanged Good rows (has_row (codes "FILE") rows) g)))))
 
+layers_given : (rows : List Row) → WithNodes rows → WithNodes (with_default rows layers_built)
+layers_given rows g = go (has_row (codes "layers") rows)
+  where
+    go : (b : Bool) → WithNodes (cond b rows
+        (with_values (codes "layers") AsWritten DefaultValue (codes "false" ∷ []) rows))
+    go true = g
+    go false = (
+      good_values (codes "layers") AsWritten DefaultValue (codes "false") [] rows
+          (λ same. no_option same, λ same. no_option same) g.0,
+      row_stays (codes "nodes") (codes "layers") DefaultValue AsWritten (codes "false" ∷ []) rows g.1,
+    )
+
+rights_finished : (rows : List Row) → Good rows → WithNodes (fold with_default rows rights_built.rules)
+rights_finished rows g =
+    let placed = with_default rows paths_built in
+    let ruled = with_default placed policy_needed in
+    let named = with_default ruled profile_needed in
+    let numbered = with_default named nodes_built in
+    let layered = with_default numbered layers_built in
+    unchanged WithNodes layered (has_row help_built.id layered)
+    (layers_given numbered
+    (nodes_given named
+    (unchanged Good ruled (has_row profile_needed.id ruled)
+    (unchanged Good placed (has_row policy_needed.id placed)
+    (unchanged Good rows (has_row paths_built.id rows) g)))))
+
+-- of a flag a default keeps them
+flag_given : (name : Text) (how : Reading) (rows : List Row) → bytes_eq name (codes "nodes") ≡ false
+    → bytes_eq name (codes "history") ≡ false → WithNodes rows
+    → (b : Bool) → WithNodes (cond b rows (with_values name how DefaultValue (codes "false" ∷ []) rows))
+flag_given name how rows other another g true = g
+flag_given name how rows other another g false = (
+  good_values name how DefaultValue (codes "false") [] rows
+      (λ same. no_option (sym other ∙ same), λ same. no_option (sym another ∙ same)) g.0,
+  row_stays (codes "nodes") name DefaultValue how (codes "false" ∷ []) rows g.1,
+)
+
+check_finished : (rows : List Row) → Good rows → WithNodes (fold with_default rows check_built.rules)
+check_finished rows g =
+    let numbered = with_default (with_default rows files_built) nodes_built in
+    let levelled = with_default numbered abi_built in
+    let ruled = with_default levelled policy_built in
+    let named = with_default ruled profile_built in
+    let hushed = with_default named quiet_built in
+    let told = with_default hushed verbose_built in
+    unchanged WithNodes told (has_row help_built.id told)
+    (flag_given (codes "verbose") _ hushed refl refl
+    (flag_given (codes "quiet") _ named refl refl
+    (unchanged WithNodes ruled (has_row profile_built.id ruled)
+    (unchanged WithNodes levelled (has_row policy_built.id levelled)
+    (unchanged WithNodes numbered (has_row abi_built.id numbered)
+    (nodes_given _ (unchanged Good rows (has_row (codes "FILE") rows) g)))))
+    (has_row (codes "quiet") named)) (has_row (codes "verbose") hushed))
+
 -- ---- what is read of the rows
 
 found_good : (p : Row → Bool) (rows : List Row) (r : Row) → find p rows ≡ Some r → Good rows → GoodRow r × (p r ≡ true)
@@ -373,6 +232,13 @@ text_read (Some r) has good = let row = good r refl in (row.0, ap (λ (l : List 
 given : (b : Bool) → cond (not b || false) (MissingRequiredArgument ∷ []) [] ≡ [] → b ≡ true
 given true e = refl
 given false e = absurd cc
+
+-- so are two
+both_given : (a b : Bool) → cond (not a || (not b || false)) (MissingRequiredArgument ∷ []) [] ≡ []
+    → (a ≡ true) × (b ≡ true)
+both_given true true e = (refl, refl)
+both_given true false e = absurd cc
+both_given false b e = absurd cc
 
 run_wanted : (rest : List Text) → level_fault run_built [] nothing_held rest false [] ≡ []
     → is_some (run_order (rows_after run_built.rules [] rest)) ≡ true
@@ -432,21 +298,78 @@ schedule_wanted rest e =
     (λ r is. let f = found_good _ rows r is good in let fits = f.0.3.1 f.1 in (f.0.0, f.0.1, f.0.2, fits.0, fits.1)) in
     whole_schedule _ _ _ _ _ path.0 nodes_row.0 history_row.0 path.1 nodes_row.1 history_row.1
 
+rights_wanted : (rest : List Text) → level_fault rights_built [] nothing_held rest false [] ≡ []
+    → is_some (rights_order (rows_after rights_built.rules [] rest)) ≡ true
+rights_wanted rest e =
+    let walks = no_faults _ _ e in
+    let ends = no_faults _ _ walks.1 in
+    let defaults = no_faults _ _ ends.1 in
+    let h = (walk rights_built.rules [] nothing_held rest).held in
+    let walked_good : Good h.rows =
+    by_words Good rights_built [] rights_keep rest (walk_from nothing_held) walks.0 tt in
+    let all = rights_finished _
+    (settles Good rights_built.rules rights_built.args_override_self rights_keep h ends.0 walked_good) in
+    let good = all.0 in
+    let rows = finished rights_built.rules h in
+    let told = both_given (is_given (codes "policy") rows) (is_given (codes "profile") rows) defaults.1 in
+    let policy = text_read (find (λ r. bytes_eq r.id (codes "policy")) rows)
+    told.0 (λ r is. (found_good _ rows r is good).0) in
+    let profile = text_read (find (λ r. bytes_eq r.id (codes "profile")) rows)
+    told.1 (λ r is. (found_good _ rows r is good).0) in
+    let nodes_row = number_read node_numbers (find (λ r. bytes_eq r.id (codes "nodes")) rows) (found_any _ rows all.1)
+    (λ r is. let f = found_good _ rows r is good in let fits = f.0.3.0 f.1 in (f.0.0, f.0.1, f.0.2, fits.0, fits.1)) in
+    whole_rights _ _ _ _ _ policy.0 profile.0 nodes_row.0 policy.1 profile.1 nodes_row.1
+
+-- the values of a row that is there
+texts_read : (o : Option Row) → option_map_or (λ r. explicit_source r.source) o false ≡ true
+    → (ts : List Text) × (option_map (λ (r : Row). r.values) o ≡ Some ts)
+texts_read None has = absurd (true≢false (sym has))
+texts_read (Some r) has = (r.values, refl)
+
+check_wanted : (rest : List Text) → level_fault check_built [] nothing_held rest false [] ≡ []
+    → is_some (check_order (rows_after check_built.rules [] rest)) ≡ true
+check_wanted rest e =
+    let walks = no_faults _ _ e in
+    let ends = no_faults _ _ walks.1 in
+    let defaults = no_faults _ _ ends.1 in
+    let h = (walk check_built.rules [] nothing_held rest).held in
+    let walked_good : Good h.rows = by_words Good check_built [] check_keeps rest (walk_from nothing_held) walks.0 tt in
+    let all = check_finished _
+    (settles Good check_built.rules check_built.args_override_self check_keeps h ends.0 walked_good) in
+    let good = all.0 in
+    let rows = finished check_built.rules h in
+    let paths = texts_read (find (λ r. bytes_eq r.id (codes "FILE")) rows)
+    (given (is_given (codes "FILE") rows) defaults.1) in
+    let nodes_row = number_read node_numbers (find (λ r. bytes_eq r.id (codes "nodes")) rows) (found_any _ rows all.1)
+    (λ r is. let f = found_good _ rows r is good in let fits = f.0.3.0 f.1 in (f.0.0, f.0.1, f.0.2, fits.0, fits.1)) in
+    whole_check _ _ _ _ _ _ _ paths.0 nodes_row.0 paths.1 nodes_row.1
+
 is_some-map : {A B : Type 0} (f : A → B) (o : Option A) → is_some o ≡ true → is_some (option_map f o) ≡ true
 is_some-map f None e = e
 is_some-map f (Some x) e = refl
 
+-- where the subcommand's level finds no fault, its words want something
+abbrev Wants : Shape → Type 0
+Wants sub = (rest : List Text) → level_fault sub [] nothing_held rest false [] ≡ []
+    → is_some (ordered (rows_at sub rest).0 (rows_at sub rest).1) ≡ true
+
 pub never_none : (words : List Text) → fault_of landtree words ≡ [] → ordered_by words ≢ None
 never_none words e none =
-    elim (built_enters (built landtree) run_built audit_built schedule_built _ refl refl refl
-    (argument_words landtree words) refl refl e) [
-      | inl runs ↦ (let order = run_wanted runs.0 runs.2 in
-          true≢false (sym (is_some-map to_run _ order)
-          ∙ ap is_some (sym (ap (option_and_then (λ named. ordered named.0 named.1)) runs.1) ∙ none)))
-      | inr (inl audits) ↦ (let order = audit_wanted audits.0 audits.2 in
-          true≢false (sym (is_some-map to_audit _ order)
-          ∙ ap is_some (sym (ap (option_and_then (λ named. ordered named.0 named.1)) audits.1) ∙ none)))
-      | inr (inr schedules) ↦ (let order = schedule_wanted schedules.0 schedules.2 in
-          true≢false (sym (is_some-map to_schedule _ order)
-          ∙ ap is_some (sym (ap (option_and_then (λ named. ordered named.0 named.1)) schedules.1) ∙ none)))
-    ]
+    let found = built_enters (built landtree)
+    (run_built ∷ audit_built ∷ schedule_built ∷ rights_built ∷ check_built ∷ []) _ refl refl
+    refl Wants (
+      λ rest f. is_some-map to_run _ (run_wanted rest f),
+      (
+        λ rest f. is_some-map to_audit _ (audit_wanted rest f),
+        (
+          λ rest f. is_some-map to_schedule _ (schedule_wanted rest f),
+          (
+            λ rest f. is_some-map to_rights _ (rights_wanted rest f),
+            (λ rest f. is_some-map to_check _ (check_wanted rest f), tt),
+          ),
+        ),
+      ),
+    ) (argument_words landtree words) refl refl e in
+    let entered = found.2 in
+    true≢false (sym (found.1 entered.0 entered.2)
+    ∙ ap is_some (sym (ap (option_and_then (λ named. ordered named.0 named.1)) entered.1) ∙ none))

@@ -1,19 +1,25 @@
 -- The words of the command line, as clap matches them. own
 use Rattle.std.specs.Prelude.{bytes_eq, ◌≡◌, ◌⊎◌, ℕ, List, [], ◌∷◌, Option, Some, None, is_some, option_and_then}
-use Rattle.std.specs.Prelude.{option_map, codes, Bool, true, false, not, if◌then◌else◌}
+use Rattle.std.specs.Prelude.{option_map, codes, Bool, true, false, not, map, unwrap_or, ◌&&◌, if◌then◌else◌}
 use Rattle.std.specs.List.{fold}
+use Rattle.std.specs.Option.{option_map_or}
 use Rattle.std.specs.Str.Parse.{digits_value, without_leading_plus}
 use Rattle.clap.specs.declared.error.kind.ErrorKind.TheVariants.{DisplayHelp, DisplayVersion}
-use Rattle.clap.specs.Words.{App, IsAmong, Kinds, Row, Rule, Text, first_of, new_app, new_rule, one_of, subcommand_of}
+use Rattle.clap.specs.declared.builder.action.ArgAction.TheVariants.{SetTrue}
+use Rattle.clap.specs.Words.{App, IsAmong, Kinds, Row, Rule, Text, all_of, first_of, new_app, new_rule, one_of}
+use Rattle.clap.specs.Words.{subcommand_of}
 use Rattle.clap.specs.Words.{with_rule, with_subcommand}
+use Rattle.clap.specs.Lexer.{usize_max}
 use Rattle.clap.specs.Simple.{on_top}
 use Rattle.clap.specs.ValueTests.{accepts}
 use Rattle.clap.specs.declared.builder.value_parser.ValueParser.{ValueParser}
 use Rattle.clap.specs.declared.builder.value_parser.ValueParser.TheVariants.{Unsigned}
 use Rattle.ll_options.specs.declared.options.RunOptions.{RunOptions}
 use Rattle.ll_options.specs.declared.options.ScheduleOptions.{ScheduleOptions}
+use Rattle.ll_options.specs.declared.rights.RightsOptions.{RightsOptions}
+use Rattle.ll_options.specs.declared.options.CheckOptions.{CheckOptions}
 use Rattle.ll_options.specs.declared.options.Options.{Options}
-use Rattle.ll_options.specs.declared.options.Options.TheVariants.{Run, Schedule, Audit}
+use Rattle.ll_options.specs.declared.options.Options.TheVariants.{Run, Schedule, Rights, Audit, Check}
 
 abbrev pub script : Rule
 script = record (new_rule (codes "SCRIPT")) { required = true }
@@ -59,10 +65,38 @@ audit = with_rule (new_app (codes "audit")) file
 abbrev pub schedule : App
 schedule = fold with_rule (new_app (codes "schedule")) (file ∷ nodes ∷ abi ∷ history ∷ valued (codes "picture") ∷ [])
 
+-- one path or more
+abbrev pub paths : Rule
+paths = record (new_rule (codes "PATH")) {
+  range = Some (record { start_inclusive = 1; end_inclusive = usize_max });
+}
+
+-- an option of this name, with one value, that must be there
+abbrev pub needed : Text → Rule
+needed name = record (valued name) { required = true }
+
+-- an option of this name, without a value
+abbrev pub flag : Text → Rule
+flag name = record (new_rule name) { long = Some name; action = Some SetTrue }
+
+abbrev pub rights : App
+rights = fold with_rule (new_app (codes "rights"))
+    (paths ∷ needed (codes "policy") ∷ needed (codes "profile") ∷ nodes ∷ flag (codes "layers") ∷ [])
+
+-- one file or more
+abbrev pub files : Rule
+files = record file { range = Some (record { start_inclusive = 1; end_inclusive = usize_max }) }
+
+abbrev pub check : App
+check = fold with_rule (new_app (codes "check"))
+    (files ∷ nodes ∷ abi ∷ valued (codes "policy") ∷ valued (codes "profile") ∷ flag (codes "quiet")
+    ∷ flag (codes "verbose") ∷ [])
+
 abbrev pub landtree : App
 landtree =
     let top = on_top (λ s. record s { has_version = true; subcommand_required = true }) (new_app (codes "landtree")) in
-    with_subcommand (with_subcommand (with_subcommand top run.top) audit.top) schedule.top
+    let scheduled = with_subcommand (with_subcommand (with_subcommand top run.top) audit.top) schedule.top in
+    with_subcommand (with_subcommand scheduled rights.top) check.top
 
 pub record RunOrder : Type 0 where
   pub script : Text
@@ -80,10 +114,28 @@ pub record ScheduleOrder : Type 0 where
   pub history : ℕ
   pub picture : Option Text
 
+pub record RightsOrder : Type 0 where
+  pub policy : Text
+  pub profile : Text
+  pub nodes : ℕ
+  pub paths : List Text
+  pub layers : Bool
+
+pub record CheckOrder : Type 0 where
+  pub files : List Text
+  pub nodes : ℕ
+  pub level : Option ℕ
+  pub policy : Option Text
+  pub profile : Option Text
+  pub quiet : Bool
+  pub verbose : Bool
+
 pub data Order : Type 0 where
   to_run : RunOrder → Order
   to_audit : Text → Order
   to_schedule : ScheduleOrder → Order
+  to_rights : RightsOrder → Order
+  to_check : CheckOrder → Order
 
 abbrev pub order_in : RunOptions → RunOrder
 order_in o =
@@ -108,10 +160,35 @@ scheduled_in o =
       picture = option_map (λ t. t.now) o.picture;
     }
 
+abbrev pub rights_in : RightsOptions → RightsOrder
+rights_in o =
+    record {
+      policy = o.policy.now;
+      profile = o.profile.now;
+      nodes = o.nodes;
+      paths = map (λ t. t.now) o.paths.items;
+      layers = o.layers;
+    }
+
+abbrev pub checked_in : CheckOptions → CheckOrder
+checked_in o =
+    let text = option_map (λ t. t.now) in
+    record {
+      files = map (λ t. t.now) o.files.items;
+      nodes = o.nodes;
+      level = o.level;
+      policy = text o.policy;
+      profile = text o.profile;
+      quiet = o.quiet;
+      verbose = o.verbose;
+    }
+
 abbrev pub ordered_in : Options → Order
 ordered_in (Run o) = to_run (order_in o)
 ordered_in (Schedule o) = to_schedule (scheduled_in o)
+ordered_in (Rights o) = to_rights (rights_in o)
 ordered_in (Audit file) = to_audit file.now
+ordered_in (Check o) = to_check (checked_in o)
 
 -- the number that the text writes, if the parser accepts it
 abbrev pub number_in : ValueParser → Text → Option ℕ
@@ -149,18 +226,60 @@ schedule_order rows =
     (number_of (codes "nodes") node_numbers rows))
     (first_of (codes "FILE") rows)
 
+-- whether the option without a value is there
+abbrev pub is_set : Text → List Row → Bool
+is_set name rows = option_map_or (λ text. bytes_eq text (codes "true")) (first_of name rows) false
+
+abbrev pub rights_order : List Row → Option RightsOrder
+rights_order rows =
+    option_and_then (λ file. option_and_then (λ name. option_map (λ n. record {
+      policy = file;
+      profile = name;
+      nodes = n;
+      paths = unwrap_or (all_of (codes "PATH") rows) [];
+      layers = is_set (codes "layers") rows;
+    })
+    (number_of (codes "nodes") node_numbers rows))
+    (first_of (codes "profile") rows))
+    (first_of (codes "policy") rows)
+
+abbrev pub check_order : List Row → Option CheckOrder
+check_order rows =
+    option_and_then (λ paths. option_map (λ n. record {
+      files = paths;
+      nodes = n;
+      level = number_of (codes "abi") levels rows;
+      policy = first_of (codes "policy") rows;
+      profile = first_of (codes "profile") rows;
+      quiet = is_set (codes "quiet") rows;
+      verbose = is_set (codes "verbose") rows;
+    })
+    (number_of (codes "nodes") node_numbers rows))
+    (all_of (codes "FILE") rows)
+
 abbrev pub ordered : Text → List Row → Option Order
 ordered name rows =
     if bytes_eq name (codes "run") then option_map to_run (run_order rows)
     else if bytes_eq name (codes "schedule") then option_map to_schedule (schedule_order rows)
+    else if bytes_eq name (codes "rights") then option_map to_rights (rights_order rows)
+    else if bytes_eq name (codes "check") then option_map to_check (check_order rows)
     else option_map to_audit (first_of (codes "FILE") rows)
 
+-- of the subcommand that is named, and of its matches
+abbrev pub ordered_of : Option (Text × List Row) → Option Order
+ordered_of = option_and_then (λ named. ordered named.0 named.1)
+
 abbrev pub ordered_by : List Text → Option Order
-ordered_by words = option_and_then (λ named. ordered named.0 named.1) (subcommand_of landtree words)
+ordered_by words = ordered_of (subcommand_of landtree words)
 
 -- A level is told where there is no policy, and a profile where there is one
 abbrev pub fits : RunOrder → Bool
 fits o = if is_some o.policy then not (is_some o.level) else not (is_some o.profile)
+
+-- the same of a check; and it isn't both quiet and verbose
+abbrev pub fits_check : CheckOrder → Bool
+fits_check o =
+    (if is_some o.policy then not (is_some o.level) else not (is_some o.profile)) && not (o.quiet && o.verbose)
 
 -- Words with these faults end well: there is none, or help or the version is asked for
 abbrev pub EndsWell : Kinds → Type 0

@@ -3,9 +3,10 @@
 ghost use Rattle.std.specs.Prelude.{◌≡◌, codes, IfOk, false};
 ghost use Rattle.clap.specs.Words.{app_of, rule_of};
 ghost use Rattle.clap.specs.declared.builder.command.Command.TheViews.{out-Command as fields_of};
-ghost use Rattle.ll_options.specs.Options.{abi, audit, file, history, landtree, nodes, run, schedule, script, valued};
+ghost use Rattle.ll_options.specs.Options.{abi, audit, check, file, files, flag, history, landtree, nodes, paths};
+ghost use Rattle.ll_options.specs.Options.{rights, run, schedule, script, valued};
 
-use clap::{Arg, Command, value_parser};
+use clap::{Arg, ArgAction, Command, value_parser};
 use ll_rights::limits::{HISTORY_ENTRIES, TREE_NODES};
 use std::alloc::{AllocError, Global};
 
@@ -149,6 +150,89 @@ fn schedule_command<'a>(alloc: Global) -> Result<Command<'a>, AllocError>
     Ok(schedule)
 }
 
+fn paths_argument<'a>(alloc: Global) -> Arg<'a>
+    ensures rule { rule_of result ≡ paths }
+    ensures local { result.global ≡ false }
+{
+    Arg::new(alloc, "PATH")
+        .num_args(1..)
+        .help("A path; where there is none, the policy's nodes")
+}
+
+fn layers_option<'a>(alloc: Global) -> Arg<'a>
+    ensures rule { rule_of result ≡ flag (codes "layers") }
+    ensures local { result.global ≡ false }
+{
+    Arg::new(alloc, "layers")
+        .long("layers")
+        .action(ArgAction::SetTrue)
+        .help("What each layer grants, and by the rule on which directory")
+}
+
+fn rights_command<'a>(alloc: Global) -> Result<Command<'a>, AllocError>
+    ensures app { IfOk result (λ command. app_of command ≡ rights) }
+    ensures local { IfOk result (λ command. (fields_of command).has_globals ≡ false) }
+{
+    let by_policy = Command::new(alloc, "rights")
+        .about("Tells which rights all layers of a profile grant on paths")
+        .arg(paths_argument(alloc))?
+        .arg(policy_option(alloc).required(true))?
+        .arg(profile_option(alloc).required(true))?;
+    let rights = by_policy
+        .arg(nodes_option(alloc))?
+        .arg(layers_option(alloc))?;
+    Ok(rights)
+}
+
+fn files_argument<'a>(alloc: Global) -> Arg<'a>
+    ensures rule { rule_of result ≡ files }
+    ensures local { result.global ≡ false }
+{
+    Arg::new(alloc, "FILE")
+        .required(true)
+        .num_args(1..)
+        .help("Files of checks, `-` for standard input")
+}
+
+fn flag<'a>(alloc: Global, name: &'a str, help: &'a str) -> Arg<'a>
+    ensures rule { rule_of result ≡ flag name.entry.now }
+    ensures local { result.global ≡ false }
+{
+    Arg::new(alloc, name)
+        .long(name)
+        .action(ArgAction::SetTrue)
+        .help(help)
+}
+
+fn check_command<'a>(alloc: Global) -> Result<Command<'a>, AllocError>
+    ensures app { IfOk result (λ command. app_of command ≡ check) }
+    ensures local { IfOk result (λ command. (fields_of command).has_globals ≡ false) }
+{
+    let by_level = Command::new(alloc, "check")
+        .about("Checks a tree's replies: a command and what must come a line, and how many were so")
+        .arg(files_argument(alloc))?
+        .arg(nodes_option(alloc))?
+        .arg(abi_option(
+            alloc,
+            "The level of Landlock's ABI, whose rights a ruleset may handle (3; not beside a policy)",
+        ))?;
+    let by_policy = by_level
+        .arg(policy_option(alloc))?
+        .arg(profile_option(alloc))?;
+    let check = by_policy
+        .arg(flag(
+            alloc,
+            "quiet",
+            "Only how many tests pass, and how many fail",
+        ))?
+        .arg(flag(
+            alloc,
+            "verbose",
+            "Each test and its reply, not only those that fail",
+        ))?;
+    Ok(check)
+}
+
 /// The program's words.
 pub fn landtree_command<'a>(alloc: Global) -> Result<Command<'a>, AllocError>
     ensures { IfOk result (λ command. app_of command ≡ landtree) }
@@ -156,11 +240,15 @@ pub fn landtree_command<'a>(alloc: Global) -> Result<Command<'a>, AllocError>
     let run = run_command(alloc)?;
     let audit = audit_command(alloc)?;
     let schedule = schedule_command(alloc)?;
+    let rights = rights_command(alloc)?;
+    let check = check_command(alloc)?;
     let with_run = Command::new(alloc, "landtree")
         .about("A file tree in memory whose clients confine themselves with Landlock rulesets")
         .version("0.1.0")
         .subcommand_required(true)
         .subcommand(run)?;
     let with_audit = with_run.subcommand(audit)?;
-    with_audit.subcommand(schedule)
+    let with_schedule = with_audit.subcommand(schedule)?;
+    let with_rights = with_schedule.subcommand(rights)?;
+    with_rights.subcommand(check)
 }

@@ -3,5 +3,7 @@
 
 mod command;
 mod options;
+mod rights;
 
-pub use options::{Options, RunOptions, ScheduleOptions};
+pub use options::{CheckOptions, Options, RunOptions, ScheduleOptions};
+pub use rights::RightsOptions;

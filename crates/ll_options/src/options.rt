@@ -4,10 +4,11 @@ ghost use Rattle.std.specs.Prelude.{◌≡◌, ◌≤◌, codes, map, option_map
 ghost use Rattle.ll_rights.specs.declared.limits.TheConstants.{HISTORY_ENTRIES, TREE_NODES};
 
 use crate::command::landtree_command;
+use crate::rights::RightsOptions;
 use clap::{ArgMatches, Error};
 use ll_rights::Abi;
 use ll_rights::limits::{HISTORY_ENTRIES, TREE_NODES};
-use std::alloc::Global;
+use std::alloc::{AllocError, Global};
 
 /// The run that is wanted: of the script in this file, or in standard input where it is `-`, over a tree in which so
 /// many nodes may live, at this level or by the policy in this file, whose profile the first client has. Its history
@@ -125,39 +126,154 @@ impl<'a> ScheduleOptions<'a> {
     }
 }
 
+/// The check that is wanted: of the tests in these files (`-` is standard input), each over a tree of its own in which
+/// so many nodes may live, at this level or by the policy in this file, whose profile the first client has.
+#[derive(Drop)]
+pub struct CheckOptions<'a> {
+    pub files: Vec<&'a str>,
+    pub nodes: usize,
+    pub level: Option<Abi>,
+    pub policy: Option<&'a str>,
+    pub profile: Option<&'a str>,
+    pub quiet: bool,
+    pub verbose: bool,
+    ghost some: { 1 ≤ nodes },
+    ghost most: { nodes ≤ TREE_NODES },
+}
+
+impl<'a> CheckOptions<'a> {
+    ghost use Rattle.clap.specs.Words.{found_of, rows_of};
+    ghost use Rattle.ll_options.specs.Options.{check_order, checked_in, fits_check, is_set};
+
+    // Whether the matches tell this flag.
+    fn is_set(check: &ArgMatches, name: &str) -> bool
+        ensures { result ≡ is_set name.now (rows_of (found_of check.now)) }
+    {
+        match check.get_str(name) {
+            Some(text) => text == "true",
+            None => false,
+        }
+    }
+
+    // What the matches of `check` ask for.
+    fn of_matches(
+        alloc: Global,
+        check: &ArgMatches<'a>,
+    ) -> Result<Option<CheckOptions<'a>>, AllocError>
+        ensures { IfOk result (λ o. option_map checked_in o ≡ check_order (rows_of (found_of check.now))) }
+    {
+        let Some(files) = check.get_strs("FILE") else {
+            return Ok(None);
+        };
+        let Some(nodes) = check.get_one::<usize>("nodes") else {
+            return Ok(None);
+        };
+        if nodes < 1 || TREE_NODES < nodes {
+            return Ok(None);
+        }
+        let files = Vec::from_slice(alloc, files)?;
+        let level = RunOptions::level_of(check);
+        let policy = check.get_str("policy");
+        let profile = check.get_str("profile");
+        let quiet = CheckOptions::is_set(check, "quiet");
+        let verbose = CheckOptions::is_set(check, "verbose");
+        Ok(Some(CheckOptions {
+            files,
+            nodes,
+            level,
+            policy,
+            profile,
+            quiet,
+            verbose,
+        }))
+    }
+
+    /// Whether the options go together: a level without a policy, a profile with one, and not quiet and verbose both.
+    pub fn fit(&self) -> bool
+        ensures { result ≡ fits_check (checked_in self.now) }
+    {
+        let is_set_up = if self.policy.is_some() {
+            self.level.is_none()
+        } else {
+            self.profile.is_none()
+        };
+        is_set_up && !(self.quiet && self.verbose)
+    }
+}
+
 /// What the program is asked to do.
 #[derive(Drop)]
 pub enum Options<'a> {
     Run(RunOptions<'a>),
     Schedule(ScheduleOptions<'a>),
+    Rights(RightsOptions<'a>),
     /// To judge the history in this file, or in standard input where it is `-`.
     Audit(&'a str),
+    Check(CheckOptions<'a>),
 }
 
 impl<'a> Options<'a> {
-    ghost use Rattle.clap.specs.Words.{FailsBy, fault_of, found_of, rows_of};
-    ghost use Rattle.ll_options.specs.Options.{landtree, ordered, ordered_by, ordered_in};
+    ghost use Rattle.clap.specs.Words.{FailsBy, fault_of, found_of, rows_of, subcommand_of, subcommand_rows_of};
+    ghost use Rattle.ll_options.specs.Options.{landtree, ordered, ordered_by, ordered_in, ordered_of};
 
-    // What the matches of this subcommand ask for.
-    fn of_matches(name: &str, matches: &ArgMatches<'a>) -> Option<Options<'a>>
-        ensures { option_map ordered_in result ≡ ordered name.now (rows_of (found_of matches.now)) }
+    // What the matches of this subcommand ask for. Errors: memory ran out.
+    fn of_matches(
+        alloc: Global,
+        name: &str,
+        matches: &ArgMatches<'a>,
+    ) -> Result<Option<Options<'a>>, AllocError>
+        ensures { IfOk result (λ o. option_map ordered_in o ≡ ordered name.now (rows_of (found_of matches.now))) }
     {
         if name == "run" {
             return match RunOptions::of_matches(matches) {
-                Some(run) => Some(Options::Run(run)),
-                None => None,
+                Some(run) => Ok(Some(Options::Run(run))),
+                None => Ok(None),
             };
         }
         if name == "schedule" {
             return match ScheduleOptions::of_matches(matches) {
-                Some(schedule) => Some(Options::Schedule(schedule)),
-                None => None,
+                Some(schedule) => Ok(Some(Options::Schedule(schedule))),
+                None => Ok(None),
+            };
+        }
+        if name == "rights" {
+            return match RightsOptions::of_matches(alloc, matches)? {
+                Some(rights) => Ok(Some(Options::Rights(rights))),
+                None => Ok(None),
+            };
+        }
+        if name == "check" {
+            return match CheckOptions::of_matches(alloc, matches)? {
+                Some(check) => Ok(Some(Options::Check(check))),
+                None => Ok(None),
             };
         }
         match matches.get_str("FILE") {
-            Some(file) => Some(Options::Audit(file)),
-            None => None,
+            Some(file) => Ok(Some(Options::Audit(file))),
+            None => Ok(None),
         }
+    }
+
+    // What the matches ask for, if they name a subcommand. Errors: memory ran out.
+    fn of_subcommand(
+        alloc: Global,
+        matches: &ArgMatches<'a>,
+    ) -> Result<Option<Options<'a>>, AllocError>
+        ensures { IfOk result (λ o. option_map ordered_in o ≡ ordered_of (subcommand_rows_of matches.now)) }
+    {
+        match matches.subcommand() {
+            Some((name, found)) => Options::of_matches(alloc, name, found),
+            None => Ok(None),
+        }
+    }
+
+    // The matches of the words.
+    fn matched(alloc: Global, words: &'a [&'a str]) -> Result<ArgMatches<'a>, Error>
+        ensures rows { IfOk result (λ matches. subcommand_rows_of matches
+            ≡ subcommand_of landtree (map (λ w. w.now) words.entry.now)) }
+        ensures fault { FailsBy (fault_of landtree (map (λ w. w.now) words.entry.now)) result }
+    {
+        landtree_command(alloc)?.try_get_matches_from(words)
     }
 
     /// What the words ask for, of which the first is the program's name.
@@ -165,13 +281,14 @@ impl<'a> Options<'a> {
         ensures asked { IfOk result (λ o. ordered_by (map (λ w. w.now) words.entry.now) ≡ Some (ordered_in o)) }
         ensures fault { FailsBy (fault_of landtree (map (λ w. w.now) words.entry.now)) result }
     {
-        let matches = landtree_command(alloc)?.try_get_matches_from(words)?;
-        let Some((name, found)) = matches.subcommand() else {
-            unreachable!()
+        let matches = match Options::matched(alloc, words) {
+            Ok(matches) => matches,
+            Err(error) => return Err(error),
         };
-        let Some(options) = Options::of_matches(name, found) else {
-            unreachable!()
-        };
-        Ok(options)
+        match Options::of_subcommand(alloc, &matches) {
+            Ok(Some(options)) => Ok(options),
+            Ok(None) => unreachable!(),
+            Err(error) => Err(Error::from(error)),
+        }
     }
 }

@@ -3,15 +3,13 @@ use Rattle.std.proofs.Common.{◌≡◌, ℕ, zero, suc, ◌+◌, ◌<◌, ◌�
 use Rattle.std.proofs.Common.{None, option_map, slice_get, refl, ap, ◌∙◌, subst, arith, length-drop}
 use Rattle.std.specs.List.{All, AllByRecursion, join_with_byte}
 use Rattle.std.proofs.Math.Seq.{drop-append-add}
-use Rattle.std.proofs.lemmas.Bool.{ne_eqb}
 use Rattle.std.proofs.lemmas.List.Elements.{recursion_from_All}
 use Rattle.std.proofs.lemmas.Option.{slice_get_within}
 use Rattle.ll_path.specs.Name.{IsName}
-use Rattle.ll_path.specs.Path.{Path, path_of_text}
+use Rattle.ll_path.specs.Path.{Path}
 use Rattle.ll_path.specs.Place.{IsPlace}
 use Rattle.ll_path.specs.declared.place.Place.{Place}
 use Rattle.ll_path.proofs.Splits.{cut_at_slashes}
-use Rattle.ll_path.proofs.PathLemmas.{path_of_text-cut}
 use Rattle.ll_path.proofs.CommonNames.{spelled_len, spelled_len-cons, length-join, cut_join}
 
 -- ---- the bytes of the first names
@@ -117,16 +115,14 @@ all_after (this ∷ path) (suc depth) h = all_after path depth h.1
 
 pub names_from : (path : Path) (place : Place) (text : List ℕ) → IsPlace path place → text ≡ join_with_byte 47 path
     → All IsName path
-    → place.byte < length text → path_of_text (47 ∷ drop place.byte text) ≡ drop place.depth path
+    → place.byte < length text → cut_at_slashes (drop place.byte text) ≡ drop place.depth path
 names_from path place text at e names within =
     let before = at.before in
     let some : 0 < length path = some_name path (omega (arith, ap length e)) in
     let deep = is_before path place.depth at.within (omega (arith, ap length e, length-text path some)) in
     let rest : drop place.byte text ≡ join_with_byte 47 (drop place.depth path) =
     rw (e, before) (rest_at path place.depth deep) in
-    path_of_text-cut (drop place.byte text)
-    (ne_eqb _ _ (λ none. absurd (omega (arith, none, length-drop place.byte text))))
-    ∙ ap cut_at_slashes rest
+    ap cut_at_slashes rest
     ∙ cut_names (drop place.depth path) (omega (arith, length-drop place.depth path))
     (all_after path place.depth (recursion_from_All IsName path names))
   where

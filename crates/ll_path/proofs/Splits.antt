@@ -1,9 +1,10 @@
 -- Texts cut at their slashes, and put together again.
 use Rattle.std.proofs.Common.{◌≡◌, ◌≢◌, ◌==◌, ℕ, ◌<◌, Bool, true, false, cond, List, [], ◌∷◌, ◌++◌, length, get_or}
-use Rattle.std.proofs.Common.{take, drop, None, refl, ap, sym, ◌∙◌, arith, lit<}
-use Rattle.std.specs.List.{slice_split, onto_first, All}
+use Rattle.std.proofs.Common.{suc, ◌≤◌, take, drop, None, refl, ap, sym, ◌∙◌, arith, lit<, length-take}
+use Rattle.std.specs.List.{slice_split, onto_first, All, AllByRecursion}
 use Rattle.std.specs.Str.Pattern.{RFindsChar, SplitsAroundMatch}
 use Rattle.std.proofs.lemmas.Bool.{ne_eqb}
+use Rattle.std.proofs.Math.Seq.{drop-cons, get_or-take}
 use Rattle.std.proofs.lemmas.List.{take-append-drop}
 use Rattle.std.proofs.lemmas.Str.Pattern.{NoCharPasses-char, drop_at_char}
 use Rattle.std.proofs.lemmas.List.Elements.{All-from_get_or}
@@ -24,6 +25,40 @@ pub cut_first : (text first rest : List ℕ) → text ≡ first ++ 47 ∷ rest
     → ((i : ℕ) → i < length first → get_or first i 0 ≢ 47) → cut_at_slashes text ≡ first ∷ cut_at_slashes rest
 cut_first text first rest e h =
     ap cut_at_slashes e ∙ slice_split_at (λ b. b == 47) first 47 rest (no_slash first h) refl
+
+-- the first slash, and what stands around it
+pub cut_at : (text : List ℕ) (end : ℕ) → end < length text → ((i : ℕ) → i < end → get_or text i 0 ≢ 47)
+    → get_or text end 0 ≡ 47 → cut_at_slashes text ≡ take end text ∷ cut_at_slashes (drop (suc end) text)
+cut_at text end lt before slash =
+    cut_first text (take end text) (drop (suc end) text)
+    (sym (take-append-drop end text) ∙ ap (λ (rest : List ℕ). take end text ++ rest) (drop-cons text end 0 lt
+    ∙ ap (λ (b : ℕ). b ∷ drop (suc end) text) slash))
+    (λ i l e. let short : i < end = omega (arith, length-take end text) in
+    before i short (sym (get_or-take end text i 0 short) ∙ e))
+
+-- ---- no part is longer than the text
+
+abbrev AreWithin : ℕ → List (List ℕ) → Type 0
+AreWithin most parts = AllByRecursion (λ (part : List ℕ). length part ≤ most) parts
+
+within_more : (n : ℕ) (parts : List (List ℕ)) → AreWithin n parts → AreWithin (suc n) parts
+within_more n [] h = tt
+within_more n (part ∷ parts) h = let first = h.0 in (omega arith, within_more n parts h.1)
+
+within_onto : (b n : ℕ) (parts : List (List ℕ)) → AreWithin n parts → AreWithin (suc n) (onto_first b parts)
+within_onto b n [] h = (omega arith, tt)
+within_onto b n (part ∷ parts) h = let first = h.0 in (omega arith, within_more n parts h.1)
+
+within_cut : (b n : ℕ) (test : Bool) (parts : List (List ℕ)) → AreWithin n parts
+    → AreWithin (suc n) (cond test ([] ∷ parts) (onto_first b parts))
+within_cut b n true parts h = (omega arith, within_more n parts h)
+within_cut b n false parts h = within_onto b n parts h
+
+pub parts_within : (text : List ℕ) → AreWithin (length text) (cut_at_slashes text)
+parts_within [] = (omega arith, tt)
+parts_within (b ∷ text) = within_cut b (length text) (b == 47) (cut_at_slashes text) (parts_within text)
+
+-- ---- texts put together
 
 onto_first-append : (b : ℕ) (parts more : List (List ℕ)) → 0 < length parts
     → onto_first b (parts ++ more) ≡ onto_first b parts ++ more

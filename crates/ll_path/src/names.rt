@@ -1,11 +1,38 @@
 //! The names of a path, one after the other.
 
-ghost use Rattle.std.specs.Prelude.{◌≡◌, ◌==◌, ℕ, List, [], ◌∷◌, Option, Some, None};
+ghost use Rattle.std.specs.Prelude.{◌≡◌, ◌≢◌, ◌==◌, ◌<◌, ◌≤◌, ℕ, List, [], ◌∷◌, Option, Some, None, length};
+ghost use Rattle.std.specs.Prelude.{slice_index_or};
 ghost use Rattle.std.specs.List.{slice_split};
 ghost use Rattle.std.specs.Iterator.{YieldsFirstRef, item_count};
+ghost use Rattle.ll_path.specs.Names.{names_left};
 ghost use Rattle.ll_path.specs.Path.{path_of_text};
 
 use std::marker::Model;
+
+/// Where the first slash stands, or how many bytes there are. Names are short, so this looks at byte after byte.
+fn first_slash(bytes: &[u8]) -> usize
+    ensures within { result ≤ length bytes.now }
+    ensures none_before { (i : ℕ) → i < result → slice_index_or bytes.now i 0 ≢ 47 }
+    ensures slash { result < length bytes.now → slice_index_or bytes.now result 0 ≡ 47 }
+{
+    let mut end = 0;
+    while end < bytes.len() && bytes[end] != b'/' {
+        end += 1;
+    }
+    end
+}
+
+/// What stands before the first slash, and what behind it, if there is one.
+pub(crate) fn cut_first(text: &str) -> (&str, Option<&str>)
+    ensures { slice_split (λ b. b == 47) text.now ≡ result.0.now ∷ names_left result.1 }
+{
+    let end = first_slash(text.as_bytes());
+    if end < text.len() {
+        (&text[..end], Some(&text[end + 1..]))
+    } else {
+        (text, None)
+    }
+}
 
 /// A list of names that a text holds, as an iterator over them. Contracts see the names that are left.
 #[derive(Drop)]
@@ -58,15 +85,8 @@ impl<'a> Iterator for Names<'a> {
 
     fn next(&mut self) -> Option<&'a str> {
         let text = self.rest?;
-        match text.split_once('/') {
-            Some((name, rest)) => {
-                self.rest = Some(rest);
-                Some(name)
-            }
-            None => {
-                self.rest = None;
-                Some(text)
-            }
-        }
+        let (name, rest) = cut_first(text);
+        self.rest = rest;
+        Some(name)
     }
 }

@@ -1,15 +1,15 @@
 //! Paths.
 
-ghost use Rattle.std.specs.Prelude.{◌≡◌, ◌<◌, ◌≤◌, ◌+◌, ◌^◌, ℕ, nat_lt, List, [], ◌∷◌, ◌++◌, All, length, sum_by};
+ghost use Rattle.std.specs.Prelude.{◌≡◌, ◌==◌, ◌<◌, ◌≤◌, ◌+◌, ◌^◌, ℕ, List, [], ◌∷◌, ◌++◌, All, length, sum_by};
 ghost use Rattle.std.specs.Prelude.{Option, Some, option_map, slice_get, IfSome, IfNone, IfOk, IfErr};
-ghost use Rattle.std.specs.List.{join_with_byte, list_any};
+ghost use Rattle.std.specs.List.{count_by, join_with_byte, list_any};
 ghost use Rattle.ll_path.specs.Word.{IsVisible, IsWord};
 ghost use Rattle.ll_path.specs.Name.{IsName, same_name};
 ghost use Rattle.ll_path.specs.Path.{path_of_text, is_no_name, is_long_name, path_refusals, path_text, is_root, parent};
 ghost use Rattle.ll_path.specs.Path.{last_name, is_beneath, common};
 ghost use Rattle.ll_path.specs.Place.{IsPlace};
 
-use crate::names::Names;
+use crate::names::{Names, cut_first};
 use crate::place::Place;
 use crate::word::Word;
 use ll_rights::Errno;
@@ -51,16 +51,42 @@ fn has_no_name(mut names: Names<'_>) -> bool
     names.any(is_no_name)
 }
 
-fn has_long_name(mut names: Names<'_>) -> bool
+fn is_any_long(mut names: Names<'_>) -> bool
     ensures { result ≡ list_any is_long_name names.entry }
 {
     names.any(|name| name.len() > 255)
 }
 
-fn has_many_names(mut names: Names<'_>) -> bool
-    ensures { result ≡ nat_lt 64 (length names.entry) }
+// Whether one of the names between the slashes is long. No name is longer than the text.
+fn has_long_name(rest: &str) -> bool
+    ensures { result ≡ list_any is_long_name (path_of_text (47 ∷ rest.now)) }
 {
-    names.nth(64).is_some()
+    rest.len() > 255 && is_any_long(Names::after_slash(rest))
+}
+
+/// How many slashes there are.
+fn slash_count(bytes: &[u8]) -> usize
+    ensures count { result ≡ count_by (λ b. b == 47) bytes.now }
+    ensures most { result ≤ length bytes.now }
+{
+    let mut count = 0;
+    for byte in bytes {
+        if *byte == b'/' {
+            count += 1;
+        }
+    }
+    count
+}
+
+// How many names a path has, of which this is all that follows its first slash.
+fn name_count(rest: &str) -> usize
+    ensures { result ≡ length (path_of_text (47 ∷ rest.now)) }
+{
+    if rest.is_empty() {
+        0
+    } else {
+        slash_count(rest.as_bytes()) + 1
+    }
 }
 
 // Why a text spells no path.
@@ -76,7 +102,7 @@ fn refusal(text: &str) -> Option<Errno>
     if has_no_name(Names::after_slash(rest)) {
         return Some(Errno::EINVAL);
     }
-    if has_long_name(Names::after_slash(rest)) || has_many_names(Names::after_slash(rest)) {
+    if has_long_name(rest) || name_count(rest) > 64 {
         return Some(Errno::ENAMETOOLONG);
     }
     None
@@ -137,7 +163,8 @@ impl Path {
         if place.byte >= joined.len() {
             return None;
         }
-        Names::after_slash(&joined[place.byte..]).next()
+        let (name, _) = cut_first(&joined[place.byte..]);
+        Some(name)
     }
 
     /// The place after the name that begins at the place and takes so many bytes.
@@ -160,8 +187,7 @@ impl Path {
         ensures len { result ≡ length self.now }
         ensures short { result ≤ 64 }
     {
-        let joined = self.joined();
-        Names::after_slash(joined).count()
+        name_count(self.joined())
     }
 
     pub fn is_root(&self) -> bool

@@ -30,7 +30,8 @@ use Rattle.ll_plain.specs.Tables.{HasNodes, IsTied}
 use Rattle.ll_plain.proofs.Written.{bytes_changed}
 use Rattle.ll_seq.proofs.Counts.{bit, opens_is, links-new, links-over, links-less}
 use Rattle.ll_seq.proofs.DentryOrder.{dentry_total, dentry_exact}
-use Rattle.ll_seq.proofs.FactsKept.{kept_bytes, kept_client, unlike}
+use Rattle.ll_seq.proofs.FactsKept.{kept_bytes, unlike}
+use Rattle.ll_seq.proofs.OpensKept.{kept_client}
 use Rattle.ll_seq.proofs.OrderedTables.{remove-absent, remove-insert, two_keys}
 
 -- ---- nodes that are there

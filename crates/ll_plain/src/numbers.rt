@@ -1,9 +1,11 @@
 //! Which numbers clients have.
 
 ghost use Rattle.std.specs.Prelude.{◌≡◌, false};
-ghost use Rattle.ll_rights.specs.Map.{has};
+ghost use Rattle.std.specs.Option.{option_copied};
+ghost use Rattle.ll_rights.specs.Map.{get, has};
 
 use crate::Plain;
+use ll_seq::ClientRecord;
 
 impl Plain {
     /// Whether a client has this number.
@@ -11,6 +13,13 @@ impl Plain {
         ensures { result ≡ has self.now.clients number }
     {
         self.clients.has(number)
+    }
+
+    /// The client with this number.
+    pub fn client(&self, number: u64) -> Option<&ClientRecord>
+        ensures { option_copied result ≡ get self.now.clients number }
+    {
+        self.clients.get(number)
     }
 
     /// A number that no client has.

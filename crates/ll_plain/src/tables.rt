@@ -9,13 +9,14 @@ use ll_rights::Kind;
 
 impl Plain {
     /// What the directory has under the name.
-    pub(crate) fn child(&self, directory: u64, name: &str) -> Option<u64>
+    pub fn child(&self, directory: u64, name: &str) -> Option<u64>
         ensures { result ≡ child self.now directory name.now }
     {
         self.entries.get(directory, name)
     }
 
-    pub(crate) fn kind(&self, inode: u64) -> Option<Kind>
+    /// What the node is, if there is one of this number.
+    pub fn kind(&self, inode: u64) -> Option<Kind>
         ensures { result ≡ kind_of self.now inode }
     {
         self.nodes.get(inode).map(|node| node.kind)

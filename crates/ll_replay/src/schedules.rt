@@ -11,7 +11,7 @@ ghost use Rattle.ll_runs.specs.Failure.{IsOfDevices, IsOfSaving};
 ghost use Rattle.ll_schedule.specs.Told.{IsBegun, IsTold};
 ghost use Rattle.ll_wire.specs.Writing.{AppendsFront};
 
-use crate::drawing::draw;
+use ll_drawing::draw;
 use ll_options::ScheduleOptions;
 use ll_rights::Abi;
 use ll_runs::Failure;

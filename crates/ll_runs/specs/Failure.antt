@@ -17,7 +17,8 @@ use Rattle.ll_saved.specs.declared.verdict.Verdict.TheVariants.{Legal, Illegal, 
 use Rattle.ll_runs.specs.declared.failure.Failure.{Failure}
 use Rattle.ll_runs.specs.declared.failure.Failure.TheVariants.{CommandLine, Policy, Opening, File, Output, NoMemory}
 use Rattle.ll_runs.specs.declared.conclusion.Conclusion.{Conclusion}
-use Rattle.ll_runs.specs.declared.conclusion.Conclusion.TheVariants.{Done, Judged}
+use Rattle.ll_runs.specs.declared.conclusion.Conclusion.TheVariants.{Checked, Done, Judged}
+use Rattle.ll_runs.specs.declared.checks.Checked.TheVariants as checked
 
 abbrev pub failure_in_session : SessionFault → Failure
 failure_in_session session.Read = File
@@ -57,12 +58,15 @@ failure_at audit.Read = File
 failure_at audit.Write = Output
 failure_at audit.NoMemory = NoMemory
 
--- 3 only for a history that isn't found legal
+-- 3 only for a history that isn't found legal, and for checks of which one fails
 abbrev pub status_by : Conclusion → ℕ
 status_by Done = 0
 status_by (Judged (Legal entries)) = 0
 status_by (Judged (Illegal entry)) = 3
 status_by (Judged (BadLine line)) = 3
+status_by (Checked checked.Passed) = 0
+status_by (Checked checked.Failed) = 3
+status_by (Checked checked.BadLine) = 2
 
 abbrev pub status_at : Result Conclusion Failure → ℕ
 status_at (Ok conclusion) = status_by conclusion
@@ -81,6 +85,7 @@ line_of NoMemory = Some (codes "landtree: no memory")
 abbrev pub EndsRun : Result Conclusion Failure → Type 0
 EndsRun (Ok Done) = ⊤
 EndsRun (Ok (Judged verdict)) = ⊥
+EndsRun (Ok (Checked end)) = ⊥
 EndsRun (Err CommandLine) = ⊥
 EndsRun (Err failure) = ⊤
 
@@ -100,9 +105,25 @@ IsOfDevices failure = ⊥
 abbrev pub EndsAudit : Result Conclusion Failure → Type 0
 EndsAudit (Ok Done) = ⊥
 EndsAudit (Ok (Judged verdict)) = ⊤
+EndsAudit (Ok (Checked end)) = ⊥
 EndsAudit (Err failure) = IsOfDevices failure
 
 abbrev pub EndsSchedule : Result Conclusion Failure → Type 0
 EndsSchedule (Ok Done) = ⊤
 EndsSchedule (Ok (Judged verdict)) = ⊥
+EndsSchedule (Ok (Checked end)) = ⊥
 EndsSchedule (Err failure) = IsOfDevices failure
+
+-- rights are told, or why not
+abbrev pub EndsRights : Result Conclusion Failure → Type 0
+EndsRights (Ok Done) = ⊤
+EndsRights (Ok (Judged verdict)) = ⊥
+EndsRights (Ok (Checked end)) = ⊥
+EndsRights (Err failure) = ⊤
+
+-- a check ends so, or by any failure
+abbrev pub EndsCheck : Result Conclusion Failure → Type 0
+EndsCheck (Ok Done) = ⊥
+EndsCheck (Ok (Judged verdict)) = ⊥
+EndsCheck (Ok (Checked end)) = ⊤
+EndsCheck (Err failure) = ⊤

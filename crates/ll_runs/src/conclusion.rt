@@ -3,6 +3,7 @@
 ghost use Rattle.std.specs.Prelude.{◌≡◌};
 ghost use Rattle.ll_runs.specs.Failure.{status_by};
 
+use crate::checks::Checked;
 use ll_saved::Verdict;
 
 #[derive(Clone, Copy, Debug)]
@@ -11,6 +12,8 @@ pub enum Conclusion {
     Done,
     /// A history is judged.
     Judged(Verdict),
+    /// Files are checked, or one of them says nothing somewhere.
+    Checked(Checked),
 }
 
 impl Conclusion {
@@ -21,6 +24,9 @@ impl Conclusion {
         match self {
             Conclusion::Done | Conclusion::Judged(Verdict::Legal(_)) => 0,
             Conclusion::Judged(Verdict::Illegal(_) | Verdict::BadLine(_)) => 3,
+            Conclusion::Checked(Checked::Passed) => 0,
+            Conclusion::Checked(Checked::Failed) => 3,
+            Conclusion::Checked(Checked::BadLine) => 2,
         }
     }
 }

@@ -1,6 +1,7 @@
-//! Runs of scripts and audits of histories, as the program's words ask for them, and how each ends.
+//! Runs of scripts, audits of histories and checks of files, as the program's words ask for them, and how each ends.
 #![tactic(auto)]
 
+mod checks;
 mod conclusion;
 mod failure;
 mod policy;
@@ -8,6 +9,7 @@ mod program;
 mod shown;
 mod text;
 
+pub use checks::{Checked, check};
 pub use conclusion::Conclusion;
 pub use failure::Failure;
 pub use policy::setup_of;

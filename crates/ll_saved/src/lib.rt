@@ -10,9 +10,9 @@ mod reading;
 mod saving;
 mod verdict;
 
-pub use auditing::{FileAuditFault, run_audit};
+pub use auditing::{FileAuditFault, run_audit, run_audit_over};
 pub use judging::judge;
 pub use progress::{Progress, Untold};
 pub use reading::{ReadFault, Saved};
-pub use saving::{SaveFault, save};
+pub use saving::{SaveFault, save, save_over};
 pub use verdict::Verdict;

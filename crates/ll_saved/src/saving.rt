@@ -1,18 +1,20 @@
 //! Histories, saved.
 
-ghost use Rattle.std.specs.Prelude.{◌≡◌, ◌<◌, ◌≤◌, ◌++◌, ℕ, List, length, OnOk, OnErr, string_bytes};
+ghost use Rattle.std.specs.Prelude.{◌≡◌, ◌<◌, ◌≤◌, ◌++◌, ℕ, List, true, false, length, IfErr, OnOk, OnErr};
+ghost use Rattle.std.specs.Prelude.{string_bytes};
 ghost use Rattle.std.specs.List.{All};
 ghost use Rattle.std.specs.Io.KnownBytes.{Appends};
 ghost use Rattle.ll_rights.specs.declared.limits.TheConstants.{TREE_NODES};
 ghost use Rattle.ll_wire.specs.Entries.{IsEntry, entry_line};
+ghost use Rattle.ll_saved.specs.Faults.{BlamesSave};
 ghost use Rattle.ll_saved.specs.Saved.{saved_text};
 ghost use Rattle.ll_wire.specs.Writing.{AppendsFront};
 
+use ll_ends::{Broken, Ends, Pair, write_out};
 use ll_seq::Entry;
-use ll_wire::{Header, entry_text, header_text, write_whole};
+use ll_wire::{Header, entry_text, header_text};
 use std::alloc::{AllocError, Global};
-use std::io;
-use std::io::Write;
+use std::io::{Write, empty};
 use thiserror::Error;
 
 /// At how many bytes or more the text that waits is written.
@@ -37,22 +39,63 @@ fn push_entry(alloc: Global, entry: &Entry, text: &mut String) -> Result<(), All
 }
 
 // Writes the text where it is long, and leaves it empty then.
-fn write_block<W: Write>(text: &mut String, writer: &mut W) -> io::Result<()>
+fn write_block<E: Ends>(text: &mut String, ends: &mut E) -> Result<(), Broken>
+    requires { (E.devices ends.old).is_output_broken ≡ false }
     ensures ok { OnOk result ((front : List ℕ) × (string_bytes text.old ≡ front ++ string_bytes text.new)
-        × Appends (W.contents writer.old) (W.contents writer.new) front) }
+        × Appends (E.devices ends.old).contents (E.devices ends.new).contents front) }
     ensures short { OnOk result (length (string_bytes text.new) < 65536) }
-    ensures err { OnErr result
-        (AppendsFront (W.contents writer.old) (W.contents writer.new) (string_bytes text.old)) }
+    ensures whole { OnOk result ((E.devices ends.new).is_output_broken ≡ false) }
+    ensures err { OnErr result (AppendsFront (E.devices ends.old).contents (E.devices ends.new).contents
+        (string_bytes text.old)) }
+    ensures broken { OnErr result ((E.devices ends.new).is_output_broken ≡ true) }
+    ensures same { E.names ends.new ≡ E.names ends.old }
 {
     if text.len() < BLOCK {
         return Ok(());
     }
-    match write_whole(writer, text.as_str()) {
+    match write_out(ends, text.as_str().as_bytes()) {
         Ok(()) => {
             text.clear();
             Ok(())
         }
-        Err(error) => Err(error),
+        Err(broken) => Err(broken),
+    }
+}
+
+/// Writes a history's file to a device that counts its failures. One that failed isn't called again.
+pub fn save_over<E: Ends>(
+    alloc: Global,
+    header: Header,
+    entries: &[Entry],
+    ends: &mut E,
+) -> Result<(), SaveFault>
+    requires some { 1 ≤ header.nodes }
+    requires most { header.nodes ≤ TREE_NODES }
+    requires entries { All IsEntry entries.now }
+    requires whole { (E.devices ends.old).is_output_broken ≡ false }
+    ensures ok { OnOk result (Appends (E.devices ends.old).contents (E.devices ends.new).contents
+        (saved_text header entries.now)) }
+    // With a fault, what was written is a beginning of that text.
+    ensures err { OnErr result (AppendsFront (E.devices ends.old).contents (E.devices ends.new).contents
+        (saved_text header entries.now)) }
+    // The device is blamed only where it failed in this call.
+    ensures fault { IfErr result (λ fault. BlamesSave fault (E.devices ends.new)) }
+    ensures same { E.names ends.new ≡ E.names ends.old }
+{
+    let Ok(mut text) = header_text(alloc, header) else {
+        return Err(SaveFault::NoMemory);
+    };
+    for entry in entries {
+        let Ok(()) = push_entry(alloc, entry, &mut text) else {
+            return Err(SaveFault::NoMemory);
+        };
+        let Ok(()) = write_block(&mut text, ends) else {
+            return Err(SaveFault::Write);
+        };
+    }
+    match write_out(ends, text.as_str().as_bytes()) {
+        Ok(()) => Ok(()),
+        Err(_) => Err(SaveFault::Write),
     }
 }
 
@@ -72,19 +115,15 @@ pub fn save<W: Write>(
     ensures err { OnErr result
         (AppendsFront (W.contents writer.old) (W.contents writer.new) (saved_text header entries.now)) }
 {
-    let Ok(mut text) = header_text(alloc, header) else {
-        return Err(SaveFault::NoMemory);
+    let mut nothing = empty();
+    let mut ends = Pair {
+        reader: &mut nothing,
+        writer,
+        reads: 0,
+        owed: 0,
+        is_answering: false,
+        is_input_broken: false,
+        is_output_broken: false,
     };
-    for entry in entries {
-        let Ok(()) = push_entry(alloc, entry, &mut text) else {
-            return Err(SaveFault::NoMemory);
-        };
-        let Ok(()) = write_block(&mut text, writer) else {
-            return Err(SaveFault::Write);
-        };
-    }
-    match write_whole(writer, text.as_str()) {
-        Ok(()) => Ok(()),
-        Err(_) => Err(SaveFault::Write),
-    }
+    save_over(alloc, header, entries, &mut ends)
 }

@@ -7,7 +7,7 @@ use Rattle.ll_rights.specs.Map.{len}
 use Rattle.ll_seq.specs.declared.reply.Reply.TheVariants.{Refused}
 use Rattle.ll_lines.proofs.Cuts.{long}
 use Rattle.ll_lines.specs.Cutting.{Holds}
-use Rattle.ll_steps.specs.declared.outcome.Outcome.{Outcome}
+use Rattle.ll_steps.specs.declared.report.Report.{Report}
 use Rattle.ll_worlds.specs.World.{World, shown}
 use Rattle.ll_wire.specs.Grammar.{reply_line}
 use Rattle.ll_wire.specs.Reads.{ReadsBy}
@@ -27,7 +27,7 @@ of_piece w bytes piece clients value same count is =
     subst (λ (b : List ℕ). SpellsOne b (len (shown w).clients) value) same
     (subst (λ (n : ℕ). SpellsOne bytes n value) count is)
 
-pub is_done : (w w' : World) (bytes piece : List ℕ) (clients : ℕ) (value : ScheduleLine) (outcome : Outcome)
+pub is_done : (w w' : World) (bytes piece : List ℕ) (clients : ℕ) (value : ScheduleLine) (outcome : Report)
     → bytes ≡ piece → clients ≡ len (shown w).clients → SpellsOne bytes clients value
     → Does w value outcome w' → Tells w piece (outcome_line w'.history outcome) w'
 is_done w w' bytes piece clients value outcome same count is done =

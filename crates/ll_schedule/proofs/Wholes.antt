@@ -1,77 +1,104 @@
 -- Whole schedules.
-use Rattle.std.proofs.Common.{◌≡◌, ℕ, List, [], ◌++◌, Option, None, Some, ap, inl, inr, refl, subst, sym}
+use Rattle.std.proofs.Common.{◌≡◌, ℕ, ◌≤◌, List, [], ◌∷◌, ◌++◌, Option, None, Some, Result, Ok, Err, ap, inl, inr, refl}
+use Rattle.std.proofs.Common.{subst, sym, ◌∙◌}
 use Rattle.std.specs.Prelude.{IfSome}
+use Rattle.std.specs.List.{join_with_byte}
 use Rattle.std.specs.Io.KnownBytes.{Appends}
-use Rattle.ll_lines.specs.Reached.{AnswersAll, HasBegun, IsAnswered, IsStarted, IsWritten, StartsAll}
-use Rattle.ll_lines.specs.Transcript.{Writes}
+use Rattle.ll_ends.specs.Devices.{Devices, line_feeds}
+use Rattle.ll_ends.proofs.FeedsInParts.{feed_at_end}
+use Rattle.ll_rights.specs.declared.errno.Errno.{Errno}
+use Rattle.ll_seq.specs.declared.reply.Entry.{Entry}
+use Rattle.ll_seq.specs.declared.reply.Reply.TheVariants as reply
+use Rattle.ll_steps.specs.declared.report.Report.{Report}
+use Rattle.ll_lines.specs.Reached.{AnswersAll, StartsAll}
+use Rattle.ll_lines.specs.Transcript.{Transcript, Writes}
 use Rattle.ll_worlds.specs.World.{World}
 use Rattle.ll_wire.proofs.WrittenText.{appends-more, front-more, front-none}
+use Rattle.ll_wire.specs.Grammar.{reply_tokens}
 use Rattle.ll_wire.specs.Writing.{AppendsFront}
+use Rattle.ll_wire.specs.Pieces.{pieces}
+use Rattle.ll_schedule.specs.declared.schedule.Schedule.{Schedule}
 use Rattle.ll_schedule.specs.declared.setup.WorldSetup.{WorldSetup}
-use Rattle.ll_schedule.specs.Tells.{IsWorld, Tells}
+use Rattle.ll_schedule.specs.Tells.{Tells, answer_line, outcome_tokens}
 use Rattle.ll_schedule.specs.Told.{IsBegun, IsTold, last_line, opened}
 
-module _ (setup : WorldSetup) (input : List ℕ) where
-  module _ (w : World) (old mid new : Option (List ℕ)) (all : IsWritten Tells (IsWorld w) (opened setup) input old mid)
-    where
-      is_told : IsTold setup input (all.0 ++ last_line w)
-      is_told = (all.0, all.1, all.2, ap (λ (v : World). all.0 ++ last_line v) (sym all.3))
+-- every answer is a line
+pub answer_feeds : (history : List Entry) (answer : Result Report Errno) → 1 ≤ line_feeds (answer_line history answer)
+answer_feeds history (Ok outcome) = feed_at_end (join_with_byte 32 (outcome_tokens history outcome))
+answer_feeds history (Err errno) = feed_at_end (join_with_byte 32 (reply_tokens (reply.Refused errno)))
 
-      -- all lines are answered, and the last one is written
-      told : Appends mid new (last_line w) → Writes old new (IsTold setup input)
-      told wrote = (all.0 ++ last_line w, is_told, appends-more old mid new all.0 (last_line w) all.4 wrote)
+abbrev TellsOf : Schedule → List ℕ → List ℕ → Schedule → Type 0
+TellsOf before piece line after = Tells before.world piece line after.world
 
-      -- a beginning of it is
-      told_in_part : AppendsFront mid new (last_line w) → Writes old new (IsBegun setup input)
-      told_in_part wrote =
-          let front = front-more old mid new all.0 (last_line w) all.4 wrote in
-          (front.0, inl (all.0 ++ last_line w, front.1, is_told, front.2), front.3)
+-- a transcript of schedules is one of their worlds
+of_worlds : (a b : Schedule) (done : List (List ℕ)) (text : List ℕ) → Transcript TellsOf a done text b
+    → Transcript Tells a.world done text b.world
+of_worlds a b [] text h = (h.0, ap (λ (x : Schedule). x.world) h.1)
+of_worlds a b (piece ∷ done) text h = (h.0, h.1.world, h.2, h.3, of_worlds h.1 b done h.2 h.4, h.5)
 
-  -- a line is not answered, or not wholly told
-  begun_only : (old new : Option (List ℕ)) → HasBegun Tells (opened setup) input old new
-      → Writes old new (IsBegun setup input)
-  begun_only old new h = (h.6.0, inr (h.0, h.1, h.2, h.6.1, h.3, h.4, h.5, h.6.2), h.6.3)
-
-  -- nothing is read
-  not_opened : (old : Option (List ℕ)) → Writes old old (IsBegun setup input)
-  not_opened old = begun_only old old ([], _, [], opened setup, refl, (refl, refl), front-none old [])
-
--- ---- a line of the world that is there
-
-pub answered_from : (w w' : World) (piece : List ℕ) (old new : Option (List ℕ))
-    → IsAnswered Tells (IsWorld w') w piece old new → (v : World) → IsWorld w v
-    → IsAnswered Tells (IsWorld w') v piece old new
-answered_from w w' piece old new answer v is =
-    subst (λ (u : World). IsAnswered Tells (IsWorld w') u piece old new) (sym is) answer
-
-pub started_from : (w : World) (piece : List ℕ) (old new : Option (List ℕ)) → IsStarted Tells w piece old new
-    → (v : World) → IsWorld w v → IsStarted Tells v piece old new
-started_from w piece old new start v is = subst (λ (u : World). IsStarted Tells u piece old new) (sym is) start
+some_is : (o : Option (List ℕ)) (P : List ℕ → Type 0) → ((x : List ℕ) → o ≡ Some x → P x) → IfSome o P
+some_is None P f = tt
+some_is (Some x) P f = f x refl
 
 -- ---- a schedule that is opened with this world, and answered
 
-module _ (setup : WorldSetup) (w w' : World) (is : w ≡ opened setup) where
-  pub all_told : (remaining remaining' old mid new : Option (List ℕ))
-      → AnswersAll Tells (IsWorld w) (IsWorld w') remaining remaining' old mid → Appends mid new (last_line w')
-      → IfSome remaining (λ input. (remaining' ≡ Some []) × Writes old new (IsTold setup input))
-  all_told None remaining' old mid new answered wrote = tt
-  all_told (Some input) remaining' old mid new answered wrote =
-      let all = answered (opened setup) input (sym is) refl in (all.0, told setup input w' old mid new all.1 wrote)
+module _ (setup : WorldSetup) (a b : Schedule) (is : a.world ≡ opened setup) (old mid : Devices) where
+  module _ (all : AnswersAll TellsOf a b old mid) (new : Devices) where
+    told_lines : (input : List ℕ) → old.remaining ≡ Some input
+        → (lines : List ℕ) × IsTold setup input (lines ++ last_line b.world) × Appends old.contents mid.contents lines
+    told_lines input e =
+        let h = all input e in (
+          h.1.0,
+          (
+            h.1.0,
+            b.world,
+            subst (λ (w : World). Transcript Tells w (pieces input) h.1.0 b.world) is
+                (of_worlds a b (pieces input) h.1.0 h.1.1),
+            refl,
+          ),
+          h.1.2,
+        )
 
-  pub last_stops : (remaining remaining' old mid new : Option (List ℕ))
-      → AnswersAll Tells (IsWorld w) (IsWorld w') remaining remaining' old mid → AppendsFront mid new (last_line w')
-      → IfSome remaining (λ input. Writes old new (IsBegun setup input))
-  last_stops None remaining' old mid new answered wrote = tt
-  last_stops (Some input) remaining' old mid new answered wrote =
-      let all = answered (opened setup) input (sym is) refl in told_in_part setup input w' old mid new all.1 wrote
+    pub all_told : Appends mid.contents new.contents (last_line b.world) → new.remaining ≡ mid.remaining
+        → IfSome old.remaining (λ input. (new.remaining ≡ Some [])
+        × Writes old.contents new.contents (IsTold setup input))
+    all_told wrote same = some_is old.remaining _ (λ input e.
+        let t = told_lines input e in (
+          same ∙ (all input e).0,
+          (
+            t.0 ++ last_line b.world,
+            t.1,
+            appends-more old.contents mid.contents new.contents t.0 (last_line b.world) t.2 wrote,
+          ),
+        ))
 
-  pub line_stops : (remaining old new : Option (List ℕ)) → StartsAll Tells (IsWorld w) remaining old new
-      → IfSome remaining (λ input. Writes old new (IsBegun setup input))
-  line_stops None old new started = tt
-  line_stops (Some input) old new started =
-      begun_only setup input old new (started (opened setup) input (sym is) refl)
+    pub last_stops : AppendsFront mid.contents new.contents (last_line b.world)
+        → IfSome old.remaining (λ input. Writes old.contents new.contents (IsBegun setup input))
+    last_stops wrote = some_is old.remaining _ (λ input e.
+        let t = told_lines input e in
+        let front = front-more old.contents mid.contents new.contents t.0 (last_line b.world) t.2 wrote in
+        (front.0, inl (t.0 ++ last_line b.world, front.1, t.1, front.2), front.3))
 
-pub nothing_told : (setup : WorldSetup) (remaining old : Option (List ℕ))
-    → IfSome remaining (λ input. Writes old old (IsBegun setup input))
-nothing_told setup None old = tt
-nothing_told setup (Some input) old = not_opened setup input old
+  pub line_stops : StartsAll TellsOf a b old mid
+      → IfSome old.remaining (λ input. Writes old.contents mid.contents (IsBegun setup input))
+  line_stops start = some_is old.remaining _ (λ input e.
+      let h = start input e in (
+        h.5.0,
+        inr (
+          h.0,
+          h.1,
+          h.2,
+          h.5.1,
+          b.world,
+          h.3,
+          subst (λ (w : World). Transcript Tells w h.0 h.2 b.world) is (of_worlds a b h.0 h.2 h.4),
+          h.5.2,
+        ),
+        h.5.3,
+      ))
+
+pub nothing_told : (setup : WorldSetup) (d : Devices)
+    → IfSome d.remaining (λ input. Writes d.contents d.contents (IsBegun setup input))
+nothing_told setup d = some_is d.remaining _ (λ input e.
+    let none = front-none d.contents [] in
+    (none.0, inr ([], pieces input, [], none.1, opened setup, refl, (refl, refl), none.2), none.3))

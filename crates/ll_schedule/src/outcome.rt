@@ -2,13 +2,13 @@
 
 ghost use Rattle.std.specs.Prelude.{◌≡◌, [], ◌∷◌, IfErr, IfOk, decimal, string_bytes};
 ghost use Rattle.ll_seq.specs.declared.reply.Reply.{Reply};
-ghost use Rattle.ll_steps.specs.declared.outcome.Outcome.{Outcome};
+ghost use Rattle.ll_steps.specs.declared.report.Report.{Report};
 ghost use Rattle.ll_wire.specs.Grammar.{IsReply, line_of};
 ghost use Rattle.ll_schedule.specs.Tells.{answer_line, outcome_line};
 
 use ll_rights::Errno;
 use ll_seq::{Entry, Reply};
-use ll_steps::Outcome;
+use ll_steps::Report;
 use ll_wire::{line_text, reply_text, reply_text_behind};
 use std::alloc::{AllocError, Global};
 
@@ -21,7 +21,7 @@ fn number_line(alloc: Global, word: &str, number: u64) -> Result<String, AllocEr
 
 // The line of a reply, told by the entry that has it.
 fn entry_line(alloc: Global, history: &[Entry], number: u64) -> Result<String, AllocError>
-    ensures { IfOk result (λ line. string_bytes line ≡ outcome_line history.now (Outcome.Replied number)) }
+    ensures { IfOk result (λ line. string_bytes line ≡ outcome_line history.now (Report.Replied number)) }
 {
     match history.get(number as usize) {
         Some(entry) => reply_text_behind(alloc, "reply", &entry.reply),
@@ -30,18 +30,18 @@ fn entry_line(alloc: Global, history: &[Entry], number: u64) -> Result<String, A
 }
 
 // The line of an outcome, after which the history has these entries.
-fn outcome_text(alloc: Global, history: &[Entry], outcome: Outcome) -> Result<String, AllocError>
+fn outcome_text(alloc: Global, history: &[Entry], outcome: Report) -> Result<String, AllocError>
     ensures { IfOk result (λ line. string_bytes line ≡ outcome_line history.now outcome) }
 {
     match outcome {
-        Outcome::NotNow => line_text(alloc, "NotNow", &[]),
-        Outcome::Begun => line_text(alloc, "begun", &[]),
-        Outcome::Stands(inode) => number_line(alloc, "at", inode),
-        Outcome::Forked => line_text(alloc, "forked", &[]),
-        Outcome::Restarted => line_text(alloc, "restarted", &[]),
-        Outcome::Joined(client) => number_line(alloc, "client", client),
-        Outcome::Replied(number) => entry_line(alloc, history, number),
-        Outcome::Refused(errno) => reply_text_behind(alloc, "reply", &Reply::Refused(errno)),
+        Report::NotNow => line_text(alloc, "NotNow", &[]),
+        Report::Begun => line_text(alloc, "begun", &[]),
+        Report::Stands(inode) => number_line(alloc, "at", inode),
+        Report::Forked => line_text(alloc, "forked", &[]),
+        Report::Restarted => line_text(alloc, "restarted", &[]),
+        Report::Joined(client) => number_line(alloc, "client", client),
+        Report::Replied(number) => entry_line(alloc, history, number),
+        Report::Refused(errno) => reply_text_behind(alloc, "reply", &Reply::Refused(errno)),
     }
 }
 
@@ -49,7 +49,7 @@ fn outcome_text(alloc: Global, history: &[Entry], outcome: Outcome) -> Result<St
 pub fn answer_text(
     alloc: Global,
     history: &[Entry],
-    answer: Result<Outcome, Errno>,
+    answer: Result<Report, Errno>,
 ) -> Result<String, AllocError>
     requires { IfErr answer (λ errno. IsReply (Reply.Refused errno)) }
     ensures { IfOk result (λ line. string_bytes line ≡ answer_line history.now answer) }

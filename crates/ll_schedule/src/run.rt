@@ -1,36 +1,47 @@
 //! Runs of schedules.
 
-ghost use Rattle.std.specs.Prelude.{◌≡◌, ◌≤◌, ℕ, List, [], length, IfSome, OnErr, OnOk, Option, Some, Err};
+ghost use Rattle.std.specs.Prelude.{◌≡◌, ◌≤◌, ◌^◌, ℕ, List, [], length, IfErr, IfSome, OnErr, OnOk, Option, Some, Err};
 ghost use Rattle.ll_lines.specs.declared.fault.SessionFault.{SessionFault};
-ghost use Rattle.ll_lines.specs.Reached.{AnswersAll, StartsAll};
+ghost use Rattle.ll_ends.specs.Devices.{IsWhole};
+ghost use Rattle.ll_lines.specs.Reached.{Blames};
 ghost use Rattle.ll_lines.specs.Transcript.{Writes, most_reads};
-ghost use Rattle.ll_schedule.specs.Tells.{IsWorld, Tells};
 ghost use Rattle.ll_schedule.specs.Told.{IsBegun, IsTold};
 
 use crate::schedule::Schedule;
 use crate::setup::WorldSetup;
-use ll_lines::{LineReader, SessionFault};
+use ll_ends::{Ends, Pair};
+use ll_lines::{SessionFault, answer_lines};
 use std::alloc::Global;
 use std::io::{Read, Write};
 
-// Answers each line.
-fn answer_all<R: Read, W: Write>(
-    schedule: &mut Schedule,
-    reader: &mut R,
-    writer: &mut W,
+/// Runs a schedule, as `run_schedule` does, over two devices, which count their calls and failures. Before each read,
+/// what came of all lines that were read is written; a device that failed isn't called again.
+pub fn run_schedule_over<E: Ends>(
+    alloc: Global,
+    setup: WorldSetup,
+    ends: &mut E,
 ) -> Result<(), SessionFault>
-    ensures ok { OnOk result (AnswersAll Tells (IsWorld schedule.old.world) (IsWorld schedule.new.world)
-        (R.remaining reader.old) (R.remaining reader.new) (W.contents writer.old) (W.contents writer.new)) }
-    ensures err { OnErr result (StartsAll Tells (IsWorld schedule.old.world)
-        (R.remaining reader.old) (W.contents writer.old) (W.contents writer.new)) }
+    requires whole { IsWhole (E.devices ends.old) }
+    requires answered { (E.devices ends.old).owed ≡ 0 }
+    requires reads { (E.devices ends.old).reads ≤ 2 ^ 62 }
+    ensures transcript { OnOk result (IfSome (E.devices ends.old).remaining (λ input.
+        ((E.devices ends.new).remaining ≡ Some [])
+        × Writes (E.devices ends.old).contents (E.devices ends.new).contents (IsTold setup input))) }
+    ensures whole { OnOk result (IsWhole (E.devices ends.new)) }
+    ensures beginning { OnErr result (IfSome (E.devices ends.old).remaining (λ input.
+        Writes (E.devices ends.old).contents (E.devices ends.new).contents (IsBegun setup input))) }
+    // A device is blamed only where it failed in this call, and neither is where memory is wanted.
+    ensures fault { IfErr result (λ fault. Blames fault (E.devices ends.old) (E.devices ends.new)) }
+    // Each read gives a byte at least.
     ensures long { result ≡ Err SessionFault.TooLong
-        → (input : List ℕ) → R.remaining reader.old ≡ Some input → most_reads ≤ length input }
+        → (input : List ℕ) → (E.devices ends.old).remaining ≡ Some input → most_reads ≤ length input }
+    ensures same { E.names ends.new ≡ E.names ends.old }
 {
-    let mut lines = LineReader::new();
-    while lines.read_line(reader, &mut schedule.line)? {
-        schedule.answer(writer)?;
-    }
-    Ok(())
+    let Ok(mut schedule) = Schedule::open(alloc, setup) else {
+        return Err(SessionFault::NoMemory);
+    };
+    answer_lines(alloc, ends, &mut schedule)?;
+    schedule.finish(ends)
 }
 
 /// Reads a schedule to its end, does what each of its lines asks for in a tree of its own, and writes a line of what
@@ -51,9 +62,14 @@ pub fn run_schedule<R: Read, W: Write>(
     ensures long { result ≡ Err SessionFault.TooLong
         → (input : List ℕ) → R.remaining reader.old ≡ Some input → most_reads ≤ length input }
 {
-    let Ok(mut schedule) = Schedule::open(alloc, setup) else {
-        return Err(SessionFault::NoMemory);
+    let mut ends = Pair {
+        reader,
+        writer,
+        reads: 0,
+        owed: 0,
+        is_answering: true,
+        is_input_broken: false,
+        is_output_broken: false,
     };
-    answer_all(&mut schedule, reader, writer)?;
-    schedule.finish(writer)
+    run_schedule_over(alloc, setup, &mut ends)
 }

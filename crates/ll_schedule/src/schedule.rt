@@ -1,26 +1,27 @@
 //! A schedule under way.
 
-ghost use Rattle.std.specs.Prelude.{◌≡◌, ℕ, List, IfErr, IfOk, OnErr, OnOk};
+ghost use Rattle.std.specs.Prelude.{◌≡◌, ◌≢◌, ℕ, List, Err, IfErr, IfOk, OnErr, OnOk};
 ghost use Rattle.std.specs.Io.KnownBytes.{Appends};
 ghost use Rattle.ll_lines.specs.Cutting.{Holds};
-ghost use Rattle.ll_lines.specs.Reached.{AnswersLine, IsOfWriting, StartsLine};
+ghost use Rattle.ll_ends.specs.Devices.{IsWhole};
+ghost use Rattle.ll_lines.specs.Reached.{Blames};
+ghost use Rattle.ll_lines.specs.declared.fault.SessionFault.{SessionFault};
 ghost use Rattle.ll_wire.specs.Grammar.{IsReply};
 ghost use Rattle.ll_wire.specs.Writing.{AppendsFront};
-ghost use Rattle.ll_schedule.specs.Tells.{Does, IsWorld, Tells, answer_line};
+ghost use Rattle.ll_schedule.specs.Tells.{Does, Tells, answer_line};
 ghost use Rattle.ll_schedule.specs.Told.{last_line, opened};
 
-use crate::outcome::answer_text;
 use crate::setup::WorldSetup;
+use ll_ends::Ends;
 use ll_lines::{Line, SessionFault, write_line};
 use ll_rights::Errno;
 use ll_saved::Verdict;
-use ll_steps::{Outcome, World};
+use ll_steps::{Report, World};
 use ll_wire::{ScheduleLine, read_schedule_line};
 use std::alloc::{AllocError, Global};
-use std::io::Write;
 
 // Does what the line asks for.
-fn done(world: &mut World, line: ScheduleLine) -> Outcome
+fn done(world: &mut World, line: ScheduleLine) -> Report
     ensures { Does world.old line result world.new }
 {
     match line {
@@ -29,12 +30,11 @@ fn done(world: &mut World, line: ScheduleLine) -> Outcome
     }
 }
 
-/// The tree with its walks, and the line that is being read.
+/// The tree with its walks.
 #[derive(Drop)]
 pub struct Schedule {
-    alloc: Global,
+    pub alloc: Global,
     pub world: World,
-    pub line: Line,
 }
 
 impl Schedule {
@@ -44,18 +44,17 @@ impl Schedule {
     pub fn open(alloc: Global, setup: WorldSetup) -> Result<Schedule, AllocError>
         ensures { IfOk result (λ schedule. schedule.world ≡ opened setup) }
     {
-        let line = Line::new(alloc)?;
         let world = World::new(alloc, setup.rules, setup.nodes, setup.history)?;
-        Ok(Schedule { alloc, world, line })
+        Ok(Schedule { alloc, world })
     }
 
-    // Does what the line spells, if it spells anything. What comes of it.
-    fn outcome(&mut self) -> Result<Outcome, Errno>
-        ensures tells { (piece : List ℕ) → Holds self.old.line piece
+    /// Does what the line spells, if it spells anything. What comes of it.
+    pub fn outcome(&mut self, line: &Line) -> Result<Report, Errno>
+        ensures tells { (piece : List ℕ) → Holds line.now piece
             → Tells self.old.world piece (answer_line self.new.world.history result) self.new.world }
         ensures spelled { IfErr result (λ errno. IsReply (Reply.Refused errno)) }
     {
-        let Some(bytes) = self.line.bytes() else {
+        let Some(bytes) = line.bytes() else {
             return Err(Errno::BadLine);
         };
         match read_schedule_line(self.alloc, bytes, self.world.clients()) {
@@ -64,32 +63,23 @@ impl Schedule {
         }
     }
 
-    /// Answers the line.
-    pub fn answer<W: Write>(&mut self, writer: &mut W) -> Result<(), SessionFault>
-        ensures ok { OnOk result (AnswersLine Tells (IsWorld self.old.world) (IsWorld self.new.world) self.old.line
-            (W.contents writer.old) (W.contents writer.new)) }
-        ensures err { OnErr result (StartsLine Tells (IsWorld self.old.world) self.old.line
-            (W.contents writer.old) (W.contents writer.new)) }
-        ensures fault { IfErr result (λ fault. IsOfWriting fault) }
-    {
-        let answer = self.outcome();
-        let Ok(text) = answer_text(self.alloc, self.world.history().entries(), answer) else {
-            return Err(SessionFault::NoMemory);
-        };
-        write_line(writer, text.as_str())
-    }
-
     /// Writes the last line: how many entries the history has.
-    pub fn finish<W: Write>(&self, writer: &mut W) -> Result<(), SessionFault>
-        ensures ok { OnOk result (Appends (W.contents writer.old) (W.contents writer.new) (last_line self.now.world)) }
-        ensures err { OnErr result (AppendsFront (W.contents writer.old) (W.contents writer.new)
+    pub fn finish<E: Ends>(&self, ends: &mut E) -> Result<(), SessionFault>
+        requires { IsWhole (E.devices ends.old) }
+        ensures ok { OnOk result (Appends (E.devices ends.old).contents (E.devices ends.new).contents
             (last_line self.now.world)) }
-        ensures fault { IfErr result (λ fault. IsOfWriting fault) }
+        ensures whole { OnOk result (IsWhole (E.devices ends.new)) }
+        ensures err { OnErr result (AppendsFront (E.devices ends.old).contents (E.devices ends.new).contents
+            (last_line self.now.world)) }
+        ensures fault { IfErr result (λ fault. Blames fault (E.devices ends.old) (E.devices ends.new)) }
+        ensures few { result ≢ Err SessionFault.TooLong }
+        ensures remaining { (E.devices ends.new).remaining ≡ (E.devices ends.old).remaining }
+        ensures same { E.names ends.new ≡ E.names ends.old }
     {
         let count = self.world.history().entries().len();
         let Ok(text) = Verdict::Legal(count).text(self.alloc) else {
             return Err(SessionFault::NoMemory);
         };
-        write_line(writer, text.as_str())
+        write_line(ends, text.as_str())
     }
 }

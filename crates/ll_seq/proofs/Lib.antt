@@ -8,9 +8,11 @@ pub mod CallExamples
 pub mod Gaps
 pub mod Histories
 pub mod FactsKept
+pub mod OpensKept
 pub mod LowestFree
 pub mod Parted
 pub mod Results
+pub mod Settled
 pub mod Rising
 pub mod DentryRows
 pub mod Searches

@@ -46,7 +46,23 @@ fn search<V>(rows: &[(u64, V)], number: u64) -> Result<usize, usize>
     rows.binary_search_by_key(&number, |row| row.0)
 }
 
-/// Where the row of the number stands.
+/// Where the row of the number stands, if there is one for each number from the first row's on.
+fn numbered<V>(rows: &[(u64, V)], number: u64) -> Option<usize>
+    ensures within { IfSome result (λ i. i < length rows.now) }
+    ensures row { IfSome result (λ i. (v : V) × (slice_get rows.now i ≡ Some (number, v))) }
+{
+    if rows.is_empty() || number < rows[0].0 {
+        return None;
+    }
+    let place = (number - rows[0].0) as usize;
+    if place < rows.len() && rows[place].0 == number {
+        Some(place)
+    } else {
+        None
+    }
+}
+
+/// Where the row of the number stands. Numbers are given one after the other, so a look at one row often tells it.
 pub(crate) fn index_of<V>(rows: &[(u64, V)], number: u64) -> Option<usize>
     requires { IsTrue (is_sorted nat_cmp rows.now) }
     ensures none { IfNone result (find nat_cmp number rows.now ≡ None) }
@@ -54,6 +70,9 @@ pub(crate) fn index_of<V>(rows: &[(u64, V)], number: u64) -> Option<usize>
     ensures row { IfSome result (λ i. (v : V) × (find nat_cmp number rows.now ≡ Some v)
         × (slice_get rows.now i ≡ Some (number, v))) }
 {
+    if let Some(place) = numbered(rows, number) {
+        return Some(place);
+    }
     search(rows, number).ok()
 }
 

@@ -244,7 +244,7 @@ module _ (empty : State) where
   by_answer s t piece reply (calls n client call told u spells at was) sound =
       by_call s u client call told (no_connect call spells.is_call)
       (there_at s.tree s.clients (n - 1) client sound.there at) was sound
-  by_answer s t piece reply (unread n client call spells at holds) sound = sound
+  by_answer s t piece reply (unread n client call spells at room holds) sound = sound
   by_answer s t piece reply (bad none) sound = sound
 
   by_lines : (s t : Session) (done : List (List ℕ)) (text : List ℕ) → Transcript Tells s done text t → IsSound empty s
@@ -302,10 +302,6 @@ legally setup done left text last (inr h) = let sound = by_refused_opening setup
     (sound.legal, sound.tree)
 
 -- ---- sessions under way
-
-pub then_sound : (one two three : SessionTree) → StaysSound one two → StaysSound two three → StaysSound one three
-then_sound one two three first then empty s stands sound = let mid = first empty s stands sound in
-    then empty mid.0 mid.1 mid.2
 
 pub call_stays_sound : (before after : SessionTree) (place : ℕ) (call : Call) (reply : Reply) → is_connect call ≡ false
     → ((s : Session) → StandsAt before s → CalledAt s place call reply after)

@@ -28,7 +28,7 @@ use Rattle.ll_session.specs.declared.receipt.Receipt.TheVariants.{Apart, Entered
 use Rattle.ll_session.specs.declared.tree.SessionTree.{SessionTree}
 use Rattle.ll_session.specs.Session.{Session, Answers, Called, as_written, brought, next, answered, full, starved}
 use Rattle.ll_session.specs.Session.{calls, unread, bad}
-use Rattle.ll_session.specs.Progress.{StandsAt, last_reply, placed, told_by, written}
+use Rattle.ll_session.specs.Progress.{IsUnread, StandsAt, last_reply, placed, told_by, written}
 use Rattle.ll_lines.specs.Cutting.{Holds}
 use Rattle.ll_lines.proofs.Cuts.{long}
 use Rattle.ll_session.proofs.SessionPlaces.{how_many, in_place, no_place, with_brought}
@@ -267,13 +267,27 @@ too_long line piece clients none held v is = let more = long line piece none hel
     omega arith
 
 -- nothing was read from the piece: it spells nothing, or there was no memory for its word or bytes
-pub not_read : (s : Session) (piece bytes : List ℕ) (left : SessionTree) (errno : Errno) → bytes ≡ piece
-    → ReadsBy (Spells left.clients bytes) (λ (v : ℕ × Call). holds_text v.1 ≡ true) (Err errno) → StandsAt left s
-    → Answered s piece (Refused errno) left
-not_read s piece bytes left errno same (inl h) stands =
-    subst (λ (e : Errno). Answered s piece (Refused e) left) (sym h.0)
+pub not_read : (s : Session) (piece bytes : List ℕ) (left : SessionTree) (errno told : Errno) → bytes ≡ piece
+    → ReadsBy (Spells left.clients bytes) (λ (v : ℕ × Call). holds_text v.1 ≡ true) (Err errno)
+    → IsUnread left errno told → StandsAt left s
+    → Answered s piece (Refused told) left
+not_read s piece bytes left errno told same (inl h) (inl over) stands = absurd (let both = sym h.0 ∙ over.0 in cc)
+not_read s piece bytes left errno told same (inl h) (inr is) stands =
+    subst (λ (e : Errno). Answered s piece (Refused e) left) (sym (is.0 ∙ h.0))
     (spells_none s piece left (λ v is. h.1 v (subst (λ (p : List ℕ). Spells left.clients p v) (sym same) is)) stands)
-not_read s piece bytes left errno same (inr h) stands =
-    subst (λ (e : Errno). Answered s piece (Refused e) left) (sym h.0)
-    (let is = subst (λ (p : List ℕ). Spells left.clients p h.1) same h.2 in
-    (s, unread h.1.0 (left.before + h.1.0) h.1.1 is.0 (caller s left h.1.0 stands is.0.is_client.0 is.1) h.3, stands))
+not_read s piece bytes left errno told same (inr h) (inl over) stands =
+    subst (λ (e : Errno). Answered s piece (Refused e) left) (sym over.2)
+    (let is = subst (λ (p : List ℕ). Spells left.clients p h.1) same h.2 in (
+      s,
+      calls h.1.0 (left.before + h.1.0) h.1.1 (Refused HistoryFull) s is.0
+          (caller s left h.1.0 stands is.0.is_client.0 is.1) (full (is_full s left stands over.1)),
+      stands,
+    ))
+not_read s piece bytes left errno told same (inr h) (inr kept) stands =
+    subst (λ (e : Errno). Answered s piece (Refused e) left) (sym (kept.0 ∙ h.0))
+    (let is = subst (λ (p : List ℕ). Spells left.clients p h.1) same h.2 in (
+      s,
+      unread h.1.0 (left.before + h.1.0) h.1.1 is.0 (caller s left h.1.0 stands is.0.is_client.0 is.1)
+          (is_not_full s left stands (kept.1 h.0)) h.3,
+      stands,
+    ))

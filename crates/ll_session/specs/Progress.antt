@@ -1,15 +1,23 @@
 -- How far a run has come. (Support of the functions below `run_script`: no public contract cites this file.)
-use Rattle.std.specs.Prelude.{⊤, ◌≡◌, ℕ, ◌+◌, ◌-◌, true, List, length, slice_get}
+use Rattle.std.specs.Prelude.{⊤, ◌≡◌, ◌⊎◌, ◌<◌, ◌≤◌, ℕ, ◌+◌, ◌-◌, true, List, [], ◌++◌, length, slice_get, Option, Some}
+use Rattle.std.specs.Io.KnownBytes.{Appends}
 use Rattle.std.specs.List.{AllByRecursion}
 use Rattle.std.specs.Option.{option_map_or}
 use Rattle.ll_seq.specs.declared.reply.Entry.{Entry}
 use Rattle.ll_seq.specs.declared.reply.Reply.{Reply}
 use Rattle.ll_seq.specs.declared.reply.Reply.TheVariants as replies
+use Rattle.ll_rights.specs.declared.errno.Errno.{Errno}
+use Rattle.ll_rights.specs.declared.errno.Errno.TheVariants as errnos
 use Rattle.ll_rights.specs.Map.{has}
 use Rattle.ll_seq.specs.History.{IsLegal, state_after}
 use Rattle.ll_seq.specs.Stages.{numbers_from}
 use Rattle.ll_seq.specs.State.{State}
+use Rattle.ll_lines.specs.declared.fault.SessionFault.{SessionFault}
 use Rattle.ll_lines.specs.declared.fault.SessionFault.TheVariants as fault
+use Rattle.ll_ends.specs.Devices.{Devices}
+use Rattle.ll_lines.specs.Transcript.{Transcript}
+use Rattle.ll_wire.specs.Pieces.{pieces}
+use Rattle.ll_wire.specs.Writing.{AppendsFront}
 use Rattle.ll_session.specs.declared.fault.RunFault.{RunFault}
 use Rattle.ll_session.specs.declared.fault.RunFault.TheVariants as run
 use Rattle.ll_session.specs.declared.setup.Setup.{Setup}
@@ -22,7 +30,7 @@ use Rattle.ll_session.specs.declared.session.OpenSession.{OpenSession}
 use Rattle.ll_session.specs.declared.session.Opened.{Opened}
 use Rattle.ll_session.specs.declared.session.Opened.TheVariants.{Begun, Refused}
 use Rattle.ll_session.specs.Opening.{Coming, unconnected, unmade, Opens, stopped}
-use Rattle.ll_session.specs.Session.{Session}
+use Rattle.ll_session.specs.Session.{Session, Tells}
 
 -- this of the session that the opening began
 abbrev pub IfBegun : Opened → (OpenSession → Type 0) → Type 0
@@ -93,3 +101,43 @@ abbrev pub StaysSound : (before after : SessionTree) → Type 0
 StaysSound before after =
     (empty : State) (s : Session) → StandsAt before s → IsSound empty s
     → (t : Session) × StandsAt after t × IsSound empty t
+
+pub stays_itself : (tree : SessionTree) → StaysSound tree tree
+stays_itself tree empty s stands sound = (s, stands, sound)
+
+pub then_sound : (one two three : SessionTree) → StaysSound one two → StaysSound two three → StaysSound one three
+then_sound one two three first then empty s stands sound = let mid = first empty s stands sound in
+    then empty mid.0 mid.1 mid.2
+
+-- the one tree answers the piece by this line, and goes on as the other: in each session that it is the tree of
+abbrev pub Advances : SessionTree → (piece line : List ℕ) → SessionTree → Type 0
+Advances before piece line after =
+    (s : Session) → StandsAt before s → (t : Session) × Tells s piece line t × StandsAt after t
+
+-- what is written of a refusal's line that this fault kept from being written whole: a beginning where the write
+-- failed, and nothing where memory was wanted
+abbrev pub IsOfRefusal : SessionFault → (old new : Option (List ℕ)) → List ℕ → Type 0
+IsOfRefusal fault.Read old new line = ⊥
+IsOfRefusal fault.Write old new line = AppendsFront old new line
+IsOfRefusal fault.NoMemory old new line = Appends old new []
+IsOfRefusal fault.TooLong old new line = ⊥
+
+-- in each session that it is the tree of, all lines are answered, and the entries are those of the session that is left
+abbrev pub RunsFrom : SessionTree → List Entry → (old new : Devices) → Type 0
+RunsFrom tree entries old new =
+    (input : List ℕ) (first : Session) → old.remaining ≡ Some input → StandsAt tree first
+    → (new.remaining ≡ Some []) × ((text : List ℕ) × (last : Session) × Transcript Tells first (pieces input) text last
+    × (entries ≡ last.entries) × Appends old.contents new.contents text)
+
+-- in each such session a beginning of the lines of some first pieces is written
+abbrev pub StopsFrom : SessionTree → (old new : Devices) → Type 0
+StopsFrom tree old new =
+    (input : List ℕ) (first : Session) → old.remaining ≡ Some input → StandsAt tree first
+    → (done more : List (List ℕ)) × (text : List ℕ) × (last : Session) × (pieces input ≡ done ++ more)
+    × Transcript Tells first done text last × AppendsFront old.contents new.contents text
+
+-- how a line is refused that wasn't read for this reason: a full history comes before want of memory
+abbrev pub IsUnread : SessionTree → (errno told : Errno) → Type 0
+IsUnread tree errno told =
+    ((errno ≡ errnos.NoMemory) × (tree.history.limit ≤ length tree.history.entries) × (told ≡ errnos.HistoryFull))
+    ⊎ ((told ≡ errno) × (errno ≡ errnos.NoMemory → length tree.history.entries < tree.history.limit))

@@ -4,12 +4,15 @@ use Rattle.ll_seq.specs.declared.reply.Entry.{Entry}
 use Rattle.ll_seq.specs.declared.reply.Reply.{Reply}
 use Rattle.ll_seq.specs.State.{start}
 use Rattle.ll_seq.specs.History.{IsLegal, state_after}
+use Rattle.ll_ends.specs.Devices.{Devices, IsWhole}
 use Rattle.ll_wire.specs.Grammar.{reply_line}
 use Rattle.ll_wire.specs.Pieces.{pieces}
 use Rattle.ll_session.specs.declared.fault.RunFault.{RunFault}
 use Rattle.ll_session.specs.declared.fault.RunFault.TheVariants as run
 use Rattle.ll_session.specs.declared.setup.Setup.{Setup}
+use Rattle.ll_lines.specs.Reached.{Blames}
 use Rattle.ll_lines.specs.Transcript.{Transcript}
+use Rattle.ll_lines.specs.declared.fault.SessionFault.TheVariants as fault
 use Rattle.ll_session.specs.Session.{Session, Tells}
 use Rattle.ll_session.specs.Opening.{Opens, begun, refused, stopped}
 
@@ -34,6 +37,33 @@ abbrev pub Begins : Setup → (input text : List ℕ) → Type 0
 Begins setup input text =
     (done left more : List (List ℕ)) × (back : List ℕ) × (last : Session) × (pieces input ≡ done ++ more)
     × RunsOver setup done left (text ++ back) last
+
+-- ---- the same, told by what the devices count
+
+-- the fault ends a run of this setup, and is blamed on the device that failed in it
+abbrev pub EndsBy : Setup → RunFault → (old new : Devices) → Type 0
+EndsBy setup run.Opening old new = Opens setup stopped × IsWhole new
+EndsBy setup (run.Session of) old new = Blames of old new
+
+-- a beginning of the lines of some first pieces, in a session that was opened
+abbrev pub BeginsLines : Setup → (input text : List ℕ) → Type 0
+BeginsLines setup input text =
+    (first last : Session) × (done more : List (List ℕ)) × (back : List ℕ) × Opens setup (begun first)
+    × (pieces input ≡ done ++ more) × Transcript Tells first done (text ++ back) last
+
+-- a beginning of the line of a refused opening
+abbrev pub BeginsRefusal : Setup → List ℕ → Type 0
+BeginsRefusal setup text =
+    (reply : Reply) × (last : Session) × (back : List ℕ) × Opens setup (refused reply last)
+    × (reply_line reply ≡ text ++ back)
+
+-- What a run has written that this fault ends. Only a failed write cuts a refusal's line short: it reads nothing
+abbrev pub BeginsBy : Setup → RunFault → (input text : List ℕ) → Type 0
+BeginsBy setup run.Opening input text = text ≡ []
+BeginsBy setup (run.Session fault.Read) input text = BeginsLines setup input text
+BeginsBy setup (run.Session fault.Write) input text = BeginsLines setup input text ⊎ BeginsRefusal setup text
+BeginsBy setup (run.Session fault.NoMemory) input text = (text ≡ []) ⊎ BeginsLines setup input text
+BeginsBy setup (run.Session fault.TooLong) input text = BeginsLines setup input text
 
 -- the entries of a run, line after line, are a legal history of its tree, and lead to the tree that it has then
 abbrev pub RunsLegally : Type 0

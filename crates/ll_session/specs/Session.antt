@@ -53,14 +53,14 @@ abbrev pub as_written : List ℕ → Reply → Reply
 as_written clients (Spawned number) = Spawned (length clients + 1)
 as_written clients reply = reply
 
--- A piece that spells a call of a client of the session gets the reply to that call, or, where the call holds a word or
--- bytes, want of memory to read them; every other piece gets `refused 23 BadLine`
+-- A piece that spells a call of a client of the session gets the reply to that call, or, where the history has room and
+-- the call holds a word or bytes, want of memory to read them; every other piece gets `refused 23 BadLine`
 pub data Answers (s : Session) (piece : List ℕ) : Reply → Session → Type 0 where
   calls : (n client : ℕ) (call : Call) (reply : Reply) (t : Session) → SpellsCommand piece n call
       → slice_get s.clients (n - 1) ≡ Some client → Called s client call reply t
       → Answers s piece (as_written s.clients reply) t
   unread : (n client : ℕ) (call : Call) → SpellsCommand piece n call → slice_get s.clients (n - 1) ≡ Some client
-      → holds_text call ≡ true → Answers s piece (Refused NoMemory) s
+      → length s.entries < s.limit → holds_text call ≡ true → Answers s piece (Refused NoMemory) s
   bad : ((n : ℕ) (call : Call) → SpellsCommand piece n call → slice_get s.clients (n - 1) ≡ None)
       → Answers s piece (Refused BadLine) s
 

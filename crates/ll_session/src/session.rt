@@ -1,9 +1,8 @@
 //! A session under way.
 
-ghost use Rattle.std.specs.Prelude.{◌≡◌, ◌<◌, ◌≤◌, ◌+◌, ◌-◌, ◌^◌, ℕ, List, OnOk, OnErr, IfErr, IfOk};
+ghost use Rattle.std.specs.Prelude.{◌≡◌, ◌<◌, ◌≤◌, ◌+◌, ◌-◌, ◌^◌, ℕ, List, IfErr, IfOk};
 
 use crate::fault::RunFault;
-use crate::output::write_answer;
 use crate::receipt::{Receipt, Refusal};
 use crate::setup::Setup;
 use crate::tree::SessionTree;
@@ -13,14 +12,12 @@ use ll_rights::Errno;
 use ll_seq::History;
 use ll_wire::read_command;
 use std::alloc::{AllocError, Global};
-use std::io::Write;
 
-/// The session's tree, and the line that is being read.
+/// The session's tree.
 #[derive(Drop)]
 pub struct OpenSession {
-    alloc: Global,
+    pub alloc: Global,
     pub tree: SessionTree,
-    pub line: Line,
     ghost some: { 1 ≤ tree.clients },
 }
 
@@ -35,23 +32,21 @@ pub enum Opened {
 impl OpenSession {
     ghost use Rattle.ll_wire.specs.Grammar.{IsReply};
     ghost use Rattle.ll_lines.specs.declared.fault.SessionFault.{SessionFault};
-    ghost use Rattle.ll_session.specs.Session.{Session, Answers, Tells};
+    ghost use Rattle.ll_session.specs.Session.{Session, Answers};
     ghost use Rattle.ll_session.specs.Opening.{Opens, begun, fresh, refused};
     ghost use Rattle.ll_lines.specs.Cutting.{Holds};
-    ghost use Rattle.ll_lines.specs.Reached.{AnswersLine, IsOfWriting, StartsLine};
     ghost use Rattle.ll_session.specs.Progress.{used, written, IfBegun, IfRefused, OpensBadly, StandsAt, StaysSound};
 
-    // A fresh tree and an empty line.
-    fn fresh(alloc: Global, setup: &Setup) -> Result<(SessionTree, Line), AllocError>
-        ensures stands { IfOk result (λ x. StandsAt x.0 (fresh setup.now)) }
-        ensures before { IfOk result (λ x. x.0.before ≡ 0) }
-        ensures clients { IfOk result (λ x. x.0.clients ≡ 0) }
-        ensures numbers { IfOk result (λ x. used x.0 ≤ 2) }
+    // A fresh tree.
+    fn fresh(alloc: Global, setup: &Setup) -> Result<SessionTree, AllocError>
+        ensures stands { IfOk result (λ tree. StandsAt tree (fresh setup.now)) }
+        ensures before { IfOk result (λ tree. tree.before ≡ 0) }
+        ensures clients { IfOk result (λ tree. tree.clients ≡ 0) }
+        ensures numbers { IfOk result (λ tree. used tree ≤ 2) }
     {
         let plain = Plain::new(alloc, setup.rules, setup.nodes)?;
         let history = History::new(alloc, setup.history)?;
-        let line = Line::new(alloc)?;
-        Ok((SessionTree::new(plain, history), line))
+        Ok(SessionTree::new(plain, history))
     }
 
     /// Opens a fresh tree, to which the loader comes, if there is one, and then the first client.
@@ -64,7 +59,7 @@ impl OpenSession {
         ensures spelled { IfOk result (λ opened. IfRefused opened (λ tree answer. IsReply (written tree answer))) }
         ensures fault { IfErr result (λ fault. OpensBadly setup fault) }
     {
-        let Ok((mut tree, line)) = OpenSession::fresh(alloc, &setup) else {
+        let Ok(mut tree) = OpenSession::fresh(alloc, &setup) else {
             return Err(RunFault::Session(SessionFault::NoMemory));
         };
         match tree.load(setup.loader) {
@@ -79,42 +74,26 @@ impl OpenSession {
             Ok(()) => Ok(Opened::Begun(OpenSession {
                 alloc,
                 tree: tree.beginning_after(before),
-                line,
             })),
             Err(refusal) => Ok(Opened::Refused(tree, refusal.answer())),
         }
     }
 
-    // Makes the call that the line spells. How the line is answered, whether it spells one or not.
-    fn reply(&mut self) -> Receipt
+    /// Makes the call that the line spells. How the line is answered, whether it spells one or not.
+    pub fn reply(&mut self, line: &Line) -> Receipt
         requires room { used self.old.tree < 2 ^ 64 - 1 }
-        ensures answers { (s : Session) (piece : List ℕ) → Holds self.old.line piece → StandsAt self.old.tree s
+        ensures answers { (s : Session) (piece : List ℕ) → Holds line.now piece → StandsAt self.old.tree s
             → (t : Session) × Answers s piece (written self.new.tree result) t × StandsAt self.new.tree t }
         ensures spelled { IsReply (written self.new.tree result) }
         ensures sound { StaysSound self.old.tree self.new.tree }
         ensures numbers { used self.new.tree ≤ used self.old.tree + 2 }
     {
-        let Some(bytes) = self.line.bytes() else {
+        let Some(bytes) = line.bytes() else {
             return Receipt::Apart(Errno::BadLine);
         };
         match read_command(self.alloc, bytes, self.tree.clients) {
             Ok((place, call)) => self.tree.call_at(place, call),
-            Err(errno) => Receipt::Apart(errno),
+            Err(errno) => Receipt::Apart(self.tree.unread(errno)),
         }
-    }
-
-    /// Answers the line.
-    pub fn answer<W: Write>(&mut self, writer: &mut W) -> Result<(), SessionFault>
-        requires room { used self.old.tree < 2 ^ 64 - 1 }
-        ensures ok { OnOk result (AnswersLine Tells (StandsAt self.old.tree) (StandsAt self.new.tree) self.old.line
-            (W.contents writer.old) (W.contents writer.new)) }
-        ensures err { OnErr result (StartsLine Tells (StandsAt self.old.tree) self.old.line
-            (W.contents writer.old) (W.contents writer.new)) }
-        ensures sound { StaysSound self.old.tree self.new.tree }
-        ensures numbers { used self.new.tree ≤ used self.old.tree + 2 }
-        ensures fault { IfErr result (λ fault. IsOfWriting fault) }
-    {
-        let answer = self.reply();
-        write_answer(self.alloc, &self.tree, answer, writer)
     }
 }

@@ -34,7 +34,8 @@ pub struct SessionTree {
 impl SessionTree {
     ghost use Rattle.ll_session.specs.Session.{Session, AreOthers, Called, as_written};
     ghost use Rattle.ll_session.specs.Opening.{Connects, Comes, Loads, Makes, Stops, joined, made};
-    ghost use Rattle.ll_session.specs.Progress.{used, StandsAt, StaysSound, receipt_of, coming_in, told_by, written};
+    ghost use Rattle.ll_session.specs.Progress.{IsUnread, used, StandsAt, StaysSound, receipt_of, coming_in, told_by};
+    ghost use Rattle.ll_session.specs.Progress.{written};
 
     /// A fresh tree, to which nobody has connected, with an empty history.
     pub fn new(plain: Plain, history: History) -> SessionTree
@@ -74,6 +75,16 @@ impl SessionTree {
             (Receipt::Apart(_), _) => true,
             (Receipt::Entered, Some(reply)) => is_refused(reply),
             (Receipt::Entered, None) => false,
+        }
+    }
+
+    /// How a line is refused that wasn't read for this reason. A full history comes before want of memory.
+    pub fn unread(&self, errno: Errno) -> Errno
+        ensures { IsUnread self.now errno result }
+    {
+        match errno {
+            Errno::NoMemory if self.history.is_full() => Errno::HistoryFull,
+            _ => errno,
         }
     }
 

@@ -22,8 +22,8 @@ use Rattle.ll_rights.specs.Map.{get}
 use Rattle.ll_worlds.specs.Walk.{Walk}
 use Rattle.ll_worlds.specs.World as world
 use Rattle.ll_worlds.specs.World.{World, advance, is_full, shown, next_number}
-use Rattle.ll_steps.specs.declared.outcome.Outcome.{Outcome}
-use Rattle.ll_steps.specs.declared.outcome.Outcome.TheVariants as outcome
+use Rattle.ll_steps.specs.declared.report.Report.{Report}
+use Rattle.ll_steps.specs.declared.report.Report.TheVariants as report
 use Rattle.ll_steps.specs.Makes.{Makes, Adds, IsUntold, called, starved}
 use Rattle.ll_steps.specs.Headline.{Grows, IsLawful, IsHeadline, Runs}
 use Rattle.ll_worlds.proofs.StepGrowth.{Grown, Went, asked, client_in, entry_of, never_full, went}
@@ -72,10 +72,10 @@ unchanged w w' step' e = subst (Went w step') e (went w step')
 
 -- where the history has room, the reply is that of the entry which comes
 pub replied_makes : (w w' : World) (step' : Step) (reply : Reply) → is_full w ≡ false → step' ≢ Join
-    → advance w step' ≡ (world.Replied reply, w') → Makes w step' (outcome.Replied (length w.history)) w'
+    → advance w step' ≡ (world.Replied reply, w') → Makes w step' (report.Replied (length w.history)) w'
 replied_makes w w' step' reply room other e = by (subst (Went w step') e (went w step'))
   where
-    by : Went w step' (world.Replied reply, w') → Makes w step' (outcome.Replied (length w.history)) w'
+    by : Went w step' (world.Replied reply, w') → Makes w step' (report.Replied (length w.history)) w'
     by (inl g) = absurd (cc (sym g.0 ∙ room))
     by (inr (inl g)) = absurd (other g.0)
     by (inr (inr g)) = (
@@ -108,22 +108,22 @@ starved_grows w (FdCommit number call) = still w
 starved_grows w (ClientStep number call) = still w
 
 -- what a step adds
-pub adds : (w w' : World) (step' : Step) (o : Outcome) → Makes w step' o w' → (its : List Entry) × Adds w step' o its
+pub adds : (w w' : World) (step' : Step) (o : Report) → Makes w step' o w' → (its : List Entry) × Adds w step' o its
     × Grows w w' its
-adds w w' step' outcome.NotNow m = ([], refl, same_world w w' (unchanged w w' step' m))
-adds w w' step' outcome.Begun m = ([], refl, grown w w' _ _ [] (subst (Went w step') m (went w step')))
-adds w w' step' (outcome.Stands inode) m = ([], refl, grown w w' _ _ [] (subst (Went w step') m (went w step')))
-adds w w' step' outcome.Forked m = ([], refl, grown w w' _ _ [] (subst (Went w step') m (went w step')))
-adds w w' step' outcome.Restarted m = ([], refl, grown w w' _ _ [] (subst (Went w step') m (went w step')))
-adds w w' step' (outcome.Joined number) m =
+adds w w' step' report.NotNow m = ([], refl, same_world w w' (unchanged w w' step' m))
+adds w w' step' report.Begun m = ([], refl, grown w w' _ _ [] (subst (Went w step') m (went w step')))
+adds w w' step' (report.Stands inode) m = ([], refl, grown w w' _ _ [] (subst (Went w step') m (went w step')))
+adds w w' step' report.Forked m = ([], refl, grown w w' _ _ [] (subst (Went w step') m (went w step')))
+adds w w' step' report.Restarted m = ([], refl, grown w w' _ _ [] (subst (Went w step') m (went w step')))
+adds w w' step' (report.Joined number) m =
     let g = subst (Went w step') m (went w step') in (entry_of number Connect Done ∷ [], refl, grown w w' _ _ _ g.3)
-adds w w' step' (outcome.Replied k) m = by (subst (Went w step') m.3 (went w step'))
+adds w w' step' (report.Replied k) m = by (subst (Went w step') m.3 (went w step'))
   where
     old : (es : List Entry) → es ≡ w.history → slice_get es k ≡ Some m.1 → ⊥
     old es e is = none_past w.history m.1
         (subst (λ n. slice_get w.history n ≡ Some m.1) m.0 (subst (λ fs. slice_get fs k ≡ Some m.1) e is))
 
-    by : Went w step' (world.Replied m.1.reply, w') → (its : List Entry) × Adds w step' (outcome.Replied k) its
+    by : Went w step' (world.Replied m.1.reply, w') → (its : List Entry) × Adds w step' (report.Replied k) its
         × Grows w w' its
     by (inl g) = absurd (old w'.history (g.1.came ∙ append-nil w.history) m.2)
     by (inr (inl g)) = absurd (old w'.history (ap (λ (v : World). v.history) g.1) m.2)
@@ -132,14 +132,14 @@ adds w w' step' (outcome.Replied k) m = by (subst (Went w step') m.3 (went w ste
       (entry, called_is w step' ∙ ap (by_client (client_in w step')) g.2, refl),
       grown w w' _ _ _ g.4,
     )
-adds w w' step' (outcome.Refused errno) (inl m) = ([], refl, by (subst (Went w step') m.1 (went w step')) m.0)
+adds w w' step' (report.Refused errno) (inl m) = ([], refl, by (subst (Went w step') m.1 (went w step')) m.0)
   where
     by : Went w step' (world.Replied (Refused errno), w') → IsUntold w step' → Grows w w' []
     by (inl g) u = grown w w' _ _ [] g.1
     by (inr (inl g)) u = same_world w w' g.1
     by (inr (inr g)) (inl full) = absurd (cc (sym full ∙ g.0))
     by (inr (inr g)) (inr joins) = absurd (g.5 joins)
-adds w w' step' (outcome.Refused errno) (inr m) =
+adds w w' step' (report.Refused errno) (inr m) =
     ([], refl, subst (λ (v : World). Grows w v []) (sym m.1.left) (starved_grows w step'))
 
 -- ---- all steps
@@ -170,8 +170,8 @@ pub no_steps : (w : World) → Runs w [] [] [] w
 no_steps w = (refl, refl)
 
 -- one step more
-pub runs_on : (u v w : World) (steps : List Step) (outcomes : List Outcome) (added its : List Entry) (step' : Step)
-    (o : Outcome)
+pub runs_on : (u v w : World) (steps : List Step) (outcomes : List Report) (added its : List Entry) (step' : Step)
+    (o : Report)
     → Runs u steps outcomes added v → Makes v step' o w → Adds v step' o its → Grows v w its
     → Runs u (steps ++ step' ∷ []) (outcomes ++ o ∷ []) (added ++ its) w
 runs_on u v w [] [] added its step' o r m a g =
@@ -194,37 +194,37 @@ runs_on u v w (x ∷ steps) (y ∷ outcomes) added its step' o r m a g = (
 
 -- ---- the step that is asked for
 
-pub told_step : (w v v' : World) (s s' : Step) (o o' : Outcome) → s ≡ s' → o ≡ o' → v ≡ v' → Makes w s' o' v'
+pub told_step : (w v v' : World) (s s' : Step) (o o' : Report) → s ≡ s' → o ≡ o' → v ≡ v' → Makes w s' o' v'
     → Makes w s o v
 told_step w v v' s s' o o' e f g m =
-    subst (λ (t : Step × (Outcome × World)). Makes w t.0 t.1.0 t.1.1) (λ i. (sym e i, (sym f i, sym g i))) m
+    subst (λ (t : Step × (Report × World)). Makes w t.0 t.1.0 t.1.1) (λ i. (sym e i, (sym f i, sym g i))) m
 
 -- of a call that came back
-pub back_makes : (w v : World) (s : Step) (made : Result Outcome Call) (o : Outcome) → IfOk made (λ p. o ≡ p)
-    → OnErr made (o ≡ outcome.NotNow) → IfOk made (λ p. Makes w s p v) → OnErr made (Makes w s outcome.NotNow w)
+pub back_makes : (w v : World) (s : Step) (made : Result Report Call) (o : Report) → IfOk made (λ p. o ≡ p)
+    → OnErr made (o ≡ report.NotNow) → IfOk made (λ p. Makes w s p v) → OnErr made (Makes w s report.NotNow w)
     → OnErr made (v ≡ w)
     → Makes w s o v
-back_makes w v s (Ok p) o is back m not_now same = subst (λ (q : Outcome). Makes w s q v) (sym is) m
+back_makes w v s (Ok p) o is back m not_now same = subst (λ (q : Report). Makes w s q v) (sym is) m
 back_makes w v s (Err c) o is back m not_now same =
-    subst (λ (q : Outcome). Makes w s q v) (sym back)
-    (subst (λ (u : World). Makes w s outcome.NotNow u) (sym same) not_now)
+    subst (λ (q : Report). Makes w s q v) (sym back)
+    (subst (λ (u : World). Makes w s report.NotNow u) (sym same) not_now)
 
 -- ---- a run
 
-abbrev pub HasRun : World → List Step → List Outcome → World → Type 0
+abbrev pub HasRun : World → List Step → List Report → World → Type 0
 HasRun w steps outcomes v = (added : List Entry) × Runs w steps outcomes added v × Grows w v added
 
-pub ran_none : (w : World) (outcomes : List Outcome) → outcomes ≡ [] → HasRun w [] outcomes w
-ran_none w outcomes e = subst (λ (os : List Outcome). HasRun w [] os w) (sym e) ([], no_steps w, still w)
+pub ran_none : (w : World) (outcomes : List Report) → outcomes ≡ [] → HasRun w [] outcomes w
+ran_none w outcomes e = subst (λ (os : List Report). HasRun w [] os w) (sym e) ([], no_steps w, still w)
 
-ran_more : (u v w : World) (steps : List Step) (outcomes : List Outcome) (step' : Step) (o : Outcome)
+ran_more : (u v w : World) (steps : List Step) (outcomes : List Report) (step' : Step) (o : Report)
     → HasRun u steps outcomes v → Makes v step' o w → HasRun u (steps ++ step' ∷ []) (outcomes ++ o ∷ []) w
 ran_more u v w steps outcomes step' o h m =
     let a = adds v w step' o m in
     (h.0 ++ a.0, runs_on u v w steps outcomes h.0 a.0 step' o h.1 m a.1 a.2, grows_on u v w h.0 a.0 h.2 a.2)
 
 -- with the next of the items
-pub ran_on : (u v w : World) (items yielded : List Step) (outcomes more : List Outcome) (step' : Step) (o : Outcome)
+pub ran_on : (u v w : World) (items yielded : List Step) (outcomes more : List Report) (step' : Step) (o : Report)
     → HasRun u (take (length yielded) items) outcomes v
     → (length yielded < length items) × (step' ≡ get_or items (length yielded) step') → more ≡ outcomes ++ o ∷ []
     → Makes v step' o w → HasRun u (take (length (yielded ++ step' ∷ [])) items) more w
@@ -233,11 +233,11 @@ ran_on u v w items yielded outcomes more step' o h turn e m =
     let next : take (length (yielded ++ step' ∷ [])) items ≡ take (length yielded) items ++ step' ∷ [] =
     ap (λ n. take n items) one ∙ take_more items (length yielded) step' turn.0
     ∙ ap (λ s. take (length yielded) items ++ s ∷ []) (sym turn.1) in
-    subst (λ (os : List Outcome). HasRun u (take (length (yielded ++ step' ∷ [])) items) os w) (sym e)
+    subst (λ (os : List Report). HasRun u (take (length (yielded ++ step' ∷ [])) items) os w) (sym e)
     (subst (λ (ss : List Step). HasRun u ss (outcomes ++ o ∷ []) w) (sym next)
     (ran_more u v w (take (length yielded) items) outcomes step' o h m))
 
-pub ran_all : (u v : World) (items : List Step) (n : ℕ) (outcomes : List Outcome) → length items ≤ n
+pub ran_all : (u v : World) (items : List Step) (n : ℕ) (outcomes : List Report) → length items ≤ n
     → HasRun u (take n items) outcomes v → IsLawful v → IsHeadline u items outcomes v
 ran_all u v items n outcomes all h law =
     let r = subst (λ (ss : List Step). HasRun u ss outcomes v) (take_all n items all) h in

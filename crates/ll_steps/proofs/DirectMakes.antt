@@ -37,7 +37,7 @@ use Rattle.ll_journal.specs.SlotTree.{accounts_of}
 use Rattle.ll_steps.specs.Calling.{Calls, Waits, alone, waits}
 use Rattle.ll_steps.specs.Contents.{answered_as, IsKept}
 use Rattle.ll_steps.specs.Makes.{Makes, called, starved, succeeds}
-use Rattle.ll_steps.specs.declared.outcome.Outcome.TheVariants as outcome
+use Rattle.ll_steps.specs.declared.report.Report.TheVariants as report
 use Rattle.ll_steps.proofs.Adding.{replied_makes, full_told}
 use Rattle.ll_steps.proofs.ContentsKept.{kept_on, kept_alone, kept_same, same_accounts}
 use Rattle.ll_steps.proofs.LentContents.{put_one}
@@ -54,7 +54,7 @@ join_keeps b b' slots (Err errno) h joined same spares = kept_same b b' slots h 
 pub join_refused : (w : World) (errno : Errno)
     → (errno ≢ NoMemory → advance w Join ≡ (world.Replied (Refused errno), w))
     → (errno ≡ NoMemory → (after : World) × (advance w Join ≡ (world.Joined (next_number w), after)))
-    → Makes w Join (outcome.Refused errno) w
+    → Makes w Join (report.Refused errno) w
 join_refused w errno refused starves = elim (wants_memory errno) [
   | inl memory ↦ inr (
     memory,
@@ -115,7 +115,7 @@ answer_keeps b b' slots new step' answer.NoMemory h d e = record {
   within = subst (λ (b : Book). length b.world.history ≤ b.world.limit) (sym d.0) h.within;
 }
 
-pub answered_made : (number : ℕ) (a : Made) → answered_as number a ≢ outcome.NotNow
+pub answered_made : (number : ℕ) (a : Made) → answered_as number a ≢ report.NotNow
 answered_made number (answer.Replied reply) e = cc e
 answered_made number answer.HistoryFull e = cc e
 answered_made number answer.NoMemory e = cc e
@@ -148,9 +148,9 @@ made_calls b b' client c a takes d waits' =
 
 -- or may not set out
 pub back_calls : (b b' : Book) (client : ℕ) (c back : Call) → Starts b client c (start.Back back) b'
-    → Waits b.world (FdCommit client c) → Calls b.world client c outcome.NotNow b'.world
+    → Waits b.world (FdCommit client c) → Calls b.world client c report.NotNow b'.world
 back_calls b b' client c back d waits' =
-    subst (λ (v : Book). Calls b.world client c outcome.NotNow v.world) (sym d.1) (waits waits' d.2 d.3)
+    subst (λ (v : Book). Calls b.world client c report.NotNow v.world) (sym d.1) (waits waits' d.2 d.3)
 
 -- ---- a call on a descriptor
 
@@ -243,7 +243,7 @@ file_keeps b b' slots client c slot file (Err back) F h there does same lent spa
 pub join_makes : (b b' : Book) (errno : Errno) → b' ≡ b
     → (errno ≢ NoMemory → advance b.world Join ≡ (world.Replied (Refused errno), b.world))
     → (errno ≡ NoMemory → (after : World) × (advance b.world Join ≡ (world.Joined (next_number b.world), after)))
-    → Makes b.world Join (outcome.Refused errno) b'.world
+    → Makes b.world Join (report.Refused errno) b'.world
 join_makes b b' errno same refused starves =
-    subst (λ (b' : Book). Makes b.world Join (outcome.Refused errno) b'.world) (sym same)
+    subst (λ (b' : Book). Makes b.world Join (report.Refused errno) b'.world) (sym same)
     (join_refused b.world errno refused starves)

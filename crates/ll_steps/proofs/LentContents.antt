@@ -1,8 +1,11 @@
 -- The slots that are lent to a step, and what lies in all of them after it.
-use Rattle.std.specs.Prelude.{◌≡◌, ◌≢◌, ◌⊎◌, ℕ, ◌<◌, List, [], ◌∷◌, map, length, slice_set, slice_index_or, refl}
+use Rattle.std.specs.Prelude.{◌≡◌, ◌≢◌, ◌⊎◌, ℕ, ◌+◌, ◌-◌, ◌<◌, List, [], ◌∷◌, ◌++◌, map, length, slice_set}
+use Rattle.std.specs.Prelude.{slice_index_or, refl}
 use Rattle.std.specs.List.{AllByRecursion}
-use Rattle.std.proofs.Common.{sym, ap, subst, ◌∙◌, inl, inr}
-use Rattle.std.proofs.lemmas.List.{get_or-set_same, get_or_default, length-set}
+use Rattle.std.proofs.Common.{sym, ap, subst, ◌∙◌, inl, inr, arith}
+use Rattle.std.proofs.Math.Seq.{set-append_left}
+use Rattle.std.proofs.lemmas.List.{get_or-set_same, get_or_default, get_or_append_left, get_or-append-add, length-set}
+use Rattle.std.proofs.lemmas.List.{set-append_right}
 use Rattle.ll_held.specs.declared.held.Held.{Held}
 use Rattle.ll_held.specs.Lent.{vacant}
 use Rattle.ll_inodes.specs.InodeTable.{NotIn}
@@ -90,29 +93,52 @@ put_one b b' slots k held e there spares is =
     (λ i. (get_or-set_same slots k held vacant (bound_of b slots k e there) ∙ is) i ∷ [])
     (λ j out. elsewhere slots k j held out.0)
 
--- two, of which the second was taken out meanwhile
-pub put_two : (b b' : Book) (slots : List Held) (k l : ℕ) (out first second : Held) → slots ≡ accounts_of b
-    → k < length b.inodes → l < length b.inodes → k ≢ l
-    → Spares b b' (k ∷ l ∷ []) → first ≡ slot_of b' k → second ≡ slot_of b' l
-    → slice_set (slice_set (slice_set slots l out) k first) l second ≡ accounts_of b'
-put_two b b' slots k l out first second e here there other spares f s =
-    put_back b b' slots (slice_set (slice_set taken k first) l second) (k ∷ l ∷ []) e spares
-    (length-set (slice_set taken k first) l second ∙ length-set taken k first ∙ length-set slots l out)
-    (λ i. at_first i ∷ at_second i ∷ [])
-    (λ j absent. elsewhere (slice_set taken k first) l j second absent.1.0 ∙ elsewhere taken k j first absent.0
-    ∙ elsewhere slots l j out absent.1.0)
-  where
-    taken : List Held
-    taken = slice_set slots l out
+-- ---- two slots, where all are parted at the later one
 
-    at_first : held_at (slice_set (slice_set (slice_set slots l out) k first) l second) k ≡ slot_of b' k
-    at_first =
-        elsewhere (slice_set (slice_set slots l out) k first) l k second other
-        ∙ get_or-set_same (slice_set slots l out) k first vacant
-        (subst (λ n. k < n) (sym (length-set slots l out)) (bound_of b slots k e here)) ∙ f
+module _ (slots front back : List Held) (parts : slots ≡ front ++ back) where
+  pub in_front : (k : ℕ) (d : Held) → k < length front → slice_index_or front k d ≡ held_at slots k
+  in_front k d lt = get_or_default front k d vacant lt ∙ sym (get_or_append_left front back vacant k lt)
+      ∙ ap (λ (xs : List Held). held_at xs k) (sym parts)
 
-    at_second : held_at (slice_set (slice_set (slice_set slots l out) k first) l second) l ≡ slot_of b' l
-    at_second =
-        get_or-set_same (slice_set (slice_set slots l out) k first) l second vacant
-        (subst (λ n. l < n) (sym (length-set (slice_set slots l out) k first ∙ length-set slots l out))
-        (bound_of b slots l e there)) ∙ s
+  pub in_back : (l : ℕ) (d : Held) → length front ≡ l → 0 < length back → slice_index_or back 0 d ≡ held_at slots l
+  in_back l d size lt =
+      let here : length front + 0 ≡ l = omega (arith, size) in
+      get_or_default back 0 d vacant lt ∙ sym (get_or-append-add front back 0 vacant)
+      ∙ (λ i. held_at (sym parts i) (here i))
+
+  pub put_two : (b b' : Book) (k l : ℕ) (first second : Held) → slots ≡ accounts_of b → length front ≡ l → k < l
+      → l < length slots → Spares b b' (k ∷ l ∷ []) → first ≡ slot_of b' k → second ≡ slot_of b' l
+      → slice_set front k first ++ slice_set back 0 second ≡ accounts_of b'
+  put_two b b' k l first second e size before within spares f s =
+      together ∙ put_back b b' slots (slice_set (slice_set slots k first) l second) (k ∷ l ∷ []) e spares
+      (length-set (slice_set slots k first) l second ∙ length-set slots k first)
+      (λ i. at_first i ∷ at_second i ∷ [])
+      (λ j absent. elsewhere (slice_set slots k first) l j second absent.1.0 ∙ elsewhere slots k j first absent.0)
+    where
+      together : slice_set front k first ++ slice_set back 0 second ≡ slice_set (slice_set slots k first) l second
+      together =
+          let none : l - l ≡ 0 = omega arith in
+          sym (ap (λ (xs : List Held). slice_set (slice_set xs k first) l second) parts
+          ∙ ap (λ (xs : List Held). slice_set xs l second)
+          (set-append_left front back k first (omega (arith, size)))
+          ∙ set-append_right (slice_set front k first) back l l second (length-set front k first ∙ size) (omega arith)
+          ∙ ap (λ n. slice_set front k first ++ slice_set back n second) none)
+
+      other : k ≢ l
+      other same = absurd (omega (arith, same))
+
+      at_first : held_at (slice_set (slice_set slots k first) l second) k ≡ slot_of b' k
+      at_first = elsewhere (slice_set slots k first) l k second other
+          ∙ get_or-set_same slots k first vacant (omega arith) ∙ f
+
+      at_second : held_at (slice_set (slice_set slots k first) l second) l ≡ slot_of b' l
+      at_second = get_or-set_same (slice_set slots k first) l second vacant
+          (subst (λ n. l < n) (sym (length-set slots k first)) within) ∙ s
+
+-- in whichever order they are told
+pub spares_turned : (b b' : Book) (k l : ℕ) → Spares b b' (k ∷ l ∷ []) → Spares b b' (l ∷ k ∷ [])
+spares_turned b b' k l spares = record {
+  limit = spares.limit;
+  size = spares.size;
+  slots = λ j out. spares.slots j (out.1.0, (out.0, tt));
+}

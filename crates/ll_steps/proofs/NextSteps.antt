@@ -29,8 +29,8 @@ use Rattle.ll_journal.proofs.Advancing.{may_commit_stale}
 use Rattle.ll_steps.specs.Calling.{IsStuck, Leads, Waits, answered, waits}
 use Rattle.ll_steps.specs.Left.{StepsOn}
 use Rattle.ll_steps.specs.Makes.{Makes}
-use Rattle.ll_steps.specs.declared.outcome.Outcome.{Outcome}
-use Rattle.ll_steps.specs.declared.outcome.Outcome.TheVariants as outcome
+use Rattle.ll_steps.specs.declared.report.Report.{Report}
+use Rattle.ll_steps.specs.declared.report.Report.TheVariants as report
 use Rattle.ll_steps.proofs.Nearing.{after_descent, after_fork, after_restart}
 use Rattle.ll_steps.proofs.StepKinds.{forks, restarts, stands, waits_so}
 use Rattle.ll_steps.proofs.WalkMakes.{commit_nowhere, goes_further}
@@ -362,42 +362,42 @@ only_commit b client slots stop =
 -- ---- what comes of the step
 
 -- no walk is under way
-pub nothing_comes : (w : World) (client : ℕ) → station_in w client ≡ station.Idle → Leads client w outcome.NotNow w
+pub nothing_comes : (w : World) (client : ℕ) → station_in w client ≡ station.Idle → Leads client w report.NotNow w
 nothing_comes w client e =
     let none = none_idle w client e in
     waits w (commit_none w client none)
     (fork_none w client none, descend_none w client none, restart_none w client none)
 
-pub commit_comes : (b : Book) (client : ℕ) (slots : List ℕ) (v : World) (o : Outcome) → IsAtStop b client slots
+pub commit_comes : (b : Book) (client : ℕ) (slots : List ℕ) (v : World) (o : Report) → IsAtStop b client slots
     → Makes b.world (Commit client) o v → Leads client b.world o v
 commit_comes b client slots v o stop m = by o m
   where
-    by : (o : Outcome) → Makes b.world (Commit client) o v → Leads client b.world o v
-    by outcome.NotNow m =
-        let idle = waits_so b.world v (Commit client) outcome.NotNow m refl in
-        subst (λ (u : World). Leads client b.world outcome.NotNow u) (sym idle.1)
+    by : (o : Report) → Makes b.world (Commit client) o v → Leads client b.world o v
+    by report.NotNow m =
+        let idle = waits_so b.world v (Commit client) report.NotNow m refl in
+        subst (λ (u : World). Leads client b.world report.NotNow u) (sym idle.1)
         (waits b.world idle.0 (only_commit b client slots stop))
-    by outcome.Begun m = answered b.world v outcome.Begun m (λ e. cc e)
-    by (outcome.Stands inode) m = answered b.world v (outcome.Stands inode) m (λ e. cc e)
-    by outcome.Forked m = answered b.world v outcome.Forked m (λ e. cc e)
-    by outcome.Restarted m = answered b.world v outcome.Restarted m (λ e. cc e)
-    by (outcome.Joined number) m = answered b.world v (outcome.Joined number) m (λ e. cc e)
-    by (outcome.Replied k) m = answered b.world v (outcome.Replied k) m (λ e. cc e)
-    by (outcome.Refused errno) m = answered b.world v (outcome.Refused errno) m (λ e. cc e)
+    by report.Begun m = answered b.world v report.Begun m (λ e. cc e)
+    by (report.Stands inode) m = answered b.world v (report.Stands inode) m (λ e. cc e)
+    by report.Forked m = answered b.world v report.Forked m (λ e. cc e)
+    by report.Restarted m = answered b.world v report.Restarted m (λ e. cc e)
+    by (report.Joined number) m = answered b.world v (report.Joined number) m (λ e. cc e)
+    by (report.Replied k) m = answered b.world v (report.Replied k) m (λ e. cc e)
+    by (report.Refused errno) m = answered b.world v (report.Refused errno) m (λ e. cc e)
 
 -- what is told of a step that may have to wait: none where it was made
-pub record Told (o : Outcome) (r : Option Outcome) : Type 0 where
-  pub made : IfNone r (o ≢ outcome.NotNow)
-  pub idle : IfSome r (λ t. (t ≡ outcome.NotNow) × (o ≡ outcome.NotNow))
+pub record Told (o : Report) (r : Option Report) : Type 0 where
+  pub made : IfNone r (o ≢ report.NotNow)
+  pub idle : IfSome r (λ t. (t ≡ report.NotNow) × (o ≡ report.NotNow))
 
 -- the walk waits
-waiting : (w v : World) (client : ℕ) (t : Outcome) → t ≡ outcome.NotNow → v ≡ w → Waits w (Commit client)
+waiting : (w v : World) (client : ℕ) (t : Report) → t ≡ report.NotNow → v ≡ w → Waits w (Commit client)
     → IsStuck w client → Leads client w t v
 waiting w v client t is same commit stuck =
-    subst (λ (p : Outcome × World). Leads client w p.0 p.1) (λ i. (sym is i, sym same i)) (waits w commit stuck)
+    subst (λ (p : Report × World). Leads client w p.0 p.1) (λ i. (sym is i, sym same i)) (waits w commit stuck)
 
-module _ (w v : World) (client : ℕ) (o : Outcome) where
-  fork_tells : (r : Option Outcome) → OnlyFork w client → Makes w (Fork client) o v → Told o r → StepsOn w client r v
+module _ (w v : World) (client : ℕ) (o : Report) where
+  fork_tells : (r : Option Report) → OnlyFork w client → Makes w (Fork client) o v → Told o r → StepsOn w client r v
   fork_tells None only m t =
       let step = forks w v client o m t.made in
       (only.commit, inl step, after_fork w v client step)
@@ -405,7 +405,7 @@ module _ (w v : World) (client : ℕ) (o : Outcome) where
       let idle = waits_so w v (Fork client) o m t.idle.1 in
       waiting w v client p t.idle.0 idle.1 only.commit (idle.0, only.descend, only.restart)
 
-  descend_tells : (r : Option Outcome) → OnlyDescend w client → Makes w (Descend client) o v → Told o r
+  descend_tells : (r : Option Report) → OnlyDescend w client → Makes w (Descend client) o v → Told o r
       → StepsOn w client r v
   descend_tells None only m t =
       let step = stands w v client o m t.made in
@@ -414,7 +414,7 @@ module _ (w v : World) (client : ℕ) (o : Outcome) where
       let idle = waits_so w v (Descend client) o m t.idle.1 in
       waiting w v client p t.idle.0 idle.1 only.commit (only.fork, idle.0, only.restart)
 
-  restart_tells : (r : Option Outcome) → OnlyRestart w client → AreFew v → Makes w (Restart client) o v → Told o r
+  restart_tells : (r : Option Report) → OnlyRestart w client → AreFew v → Makes w (Restart client) o v → Told o r
       → StepsOn w client r v
   restart_tells None only few m t =
       let step = restarts w v client o m t.made in
@@ -423,7 +423,7 @@ module _ (w v : World) (client : ℕ) (o : Outcome) where
       let idle = waits_so w v (Restart client) o m t.idle.1 in
       waiting w v client p t.idle.0 idle.1 only.commit (only.fork, only.descend, idle.0)
 
-  module _ (r : Option Outcome) (told : Told o r) where
+  module _ (r : Option Report) (told : Told o r) where
     pub fork_comes : station_in w client ≡ station.Fork → Makes w (Fork client) o v → StepsOn w client r v
     fork_comes e m = fork_tells r (only_fork w client e) m told
 

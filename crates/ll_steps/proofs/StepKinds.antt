@@ -12,8 +12,8 @@ use Rattle.ll_worlds.specs.World as world
 use Rattle.ll_worlds.specs.World.{World, shown, domain_of, is_marked, with_walk, enter, stand, descend, fork, restart}
 use Rattle.ll_worlds.specs.World.{advance}
 use Rattle.ll_worlds.proofs.Shapes.{entered, may_hold, restarted, stood, walking}
-use Rattle.ll_steps.specs.declared.outcome.Outcome.{Outcome}
-use Rattle.ll_steps.specs.declared.outcome.Outcome.TheVariants as outcome
+use Rattle.ll_steps.specs.declared.report.Report.{Report}
+use Rattle.ll_steps.specs.declared.report.Report.TheVariants as report
 use Rattle.ll_steps.specs.Calling.{Waits, Leads, Calls, walks}
 use Rattle.ll_steps.specs.Makes.{Makes}
 use Rattle.ll_steps.proofs.Adding.{unchanged}
@@ -95,57 +95,57 @@ wrong : (test : world.Outcome → Bool) (p : world.Outcome × World) (q : world.
     → p ≡ (q, v) → test q ≡ false → ⊥
 wrong test p q v may is not_so = cc (sym may ∙ ap (λ (p : world.Outcome × World). test p.0) is ∙ not_so)
 
-pub forks : (w v : World) (client : ℕ) (o : Outcome) → Makes w (Fork client) o v → o ≢ outcome.NotNow
+pub forks : (w v : World) (client : ℕ) (o : Report) → Makes w (Fork client) o v → o ≢ report.NotNow
     → advance w (Fork client) ≡ (world.Forked, v)
-forks w v client outcome.NotNow m made = absurd (made refl)
-forks w v client outcome.Begun m made = absurd (wrong may_fork _ world.Begun v (fork_kind w client) m refl)
-forks w v client (outcome.Stands inode) m made =
+forks w v client report.NotNow m made = absurd (made refl)
+forks w v client report.Begun m made = absurd (wrong may_fork _ world.Begun v (fork_kind w client) m refl)
+forks w v client (report.Stands inode) m made =
     absurd (wrong may_fork _ (world.Stands inode) v (fork_kind w client) m refl)
-forks w v client outcome.Forked m made = m
-forks w v client outcome.Restarted m made = absurd (wrong may_fork _ world.Restarted v (fork_kind w client) m refl)
-forks w v client (outcome.Joined number) m made =
+forks w v client report.Forked m made = m
+forks w v client report.Restarted m made = absurd (wrong may_fork _ world.Restarted v (fork_kind w client) m refl)
+forks w v client (report.Joined number) m made =
     absurd (wrong may_fork _ (world.Joined number) v (fork_kind w client) m refl)
-forks w v client (outcome.Replied k) m made =
+forks w v client (report.Replied k) m made =
     absurd (wrong may_fork _ (world.Replied m.1.reply) v (fork_kind w client) m.3 refl)
-forks w v client (outcome.Refused errno) (inl m) made = absurd (wrong may_fork _ _ v (fork_kind w client) m.1 refl)
-forks w v client (outcome.Refused errno) (inr m) made = absurd (cc m.1.is)
+forks w v client (report.Refused errno) (inl m) made = absurd (wrong may_fork _ _ v (fork_kind w client) m.1 refl)
+forks w v client (report.Refused errno) (inr m) made = absurd (cc m.1.is)
 
-pub stands : (w v : World) (client : ℕ) (o : Outcome) → Makes w (Descend client) o v → o ≢ outcome.NotNow → (inode : ℕ)
+pub stands : (w v : World) (client : ℕ) (o : Report) → Makes w (Descend client) o v → o ≢ report.NotNow → (inode : ℕ)
     × (advance w (Descend client) ≡ (world.Stands inode, v))
-stands w v client outcome.NotNow m made = absurd (made refl)
-stands w v client outcome.Begun m made = absurd (wrong may_stand _ world.Begun v (descend_kind w client) m refl)
-stands w v client (outcome.Stands inode) m made = (inode, m)
-stands w v client outcome.Forked m made = absurd (wrong may_stand _ world.Forked v (descend_kind w client) m refl)
-stands w v client outcome.Restarted m made = absurd (wrong may_stand _ world.Restarted v (descend_kind w client) m refl)
-stands w v client (outcome.Joined number) m made =
+stands w v client report.NotNow m made = absurd (made refl)
+stands w v client report.Begun m made = absurd (wrong may_stand _ world.Begun v (descend_kind w client) m refl)
+stands w v client (report.Stands inode) m made = (inode, m)
+stands w v client report.Forked m made = absurd (wrong may_stand _ world.Forked v (descend_kind w client) m refl)
+stands w v client report.Restarted m made = absurd (wrong may_stand _ world.Restarted v (descend_kind w client) m refl)
+stands w v client (report.Joined number) m made =
     absurd (wrong may_stand _ (world.Joined number) v (descend_kind w client) m refl)
-stands w v client (outcome.Replied k) m made =
+stands w v client (report.Replied k) m made =
     absurd (wrong may_stand _ (world.Replied m.1.reply) v (descend_kind w client) m.3 refl)
-stands w v client (outcome.Refused errno) (inl m) made = absurd (wrong may_stand _ _ v (descend_kind w client) m.1 refl)
-stands w v client (outcome.Refused errno) (inr m) made = absurd (cc m.1.is)
+stands w v client (report.Refused errno) (inl m) made = absurd (wrong may_stand _ _ v (descend_kind w client) m.1 refl)
+stands w v client (report.Refused errno) (inr m) made = absurd (cc m.1.is)
 
-pub restarts : (w v : World) (client : ℕ) (o : Outcome) → Makes w (Restart client) o v → o ≢ outcome.NotNow
+pub restarts : (w v : World) (client : ℕ) (o : Report) → Makes w (Restart client) o v → o ≢ report.NotNow
     → advance w (Restart client) ≡ (world.Restarted, v)
-restarts w v client outcome.NotNow m made = absurd (made refl)
-restarts w v client outcome.Begun m made = absurd (wrong may_restart _ world.Begun v (restart_kind w client) m refl)
-restarts w v client (outcome.Stands inode) m made =
+restarts w v client report.NotNow m made = absurd (made refl)
+restarts w v client report.Begun m made = absurd (wrong may_restart _ world.Begun v (restart_kind w client) m refl)
+restarts w v client (report.Stands inode) m made =
     absurd (wrong may_restart _ (world.Stands inode) v (restart_kind w client) m refl)
-restarts w v client outcome.Forked m made = absurd (wrong may_restart _ world.Forked v (restart_kind w client) m refl)
-restarts w v client outcome.Restarted m made = m
-restarts w v client (outcome.Joined number) m made =
+restarts w v client report.Forked m made = absurd (wrong may_restart _ world.Forked v (restart_kind w client) m refl)
+restarts w v client report.Restarted m made = m
+restarts w v client (report.Joined number) m made =
     absurd (wrong may_restart _ (world.Joined number) v (restart_kind w client) m refl)
-restarts w v client (outcome.Replied k) m made =
+restarts w v client (report.Replied k) m made =
     absurd (wrong may_restart _ (world.Replied m.1.reply) v (restart_kind w client) m.3 refl)
-restarts w v client (outcome.Refused errno) (inl m) made =
+restarts w v client (report.Refused errno) (inl m) made =
     absurd (wrong may_restart _ _ v (restart_kind w client) m.1 refl)
-restarts w v client (outcome.Refused errno) (inr m) made = absurd (cc m.1.is)
+restarts w v client (report.Refused errno) (inr m) made = absurd (cc m.1.is)
 
 -- ---- a step that waits
 
-pub waits_so : (w v : World) (step' : Step) (o : Outcome) → Makes w step' o v → o ≡ outcome.NotNow → Waits w step'
+pub waits_so : (w v : World) (step' : Step) (o : Report) → Makes w step' o v → o ≡ report.NotNow → Waits w step'
     × (v ≡ w)
 waits_so w v step' o m e =
-    let a : advance w step' ≡ (world.NotNow, v) = subst (λ (q : Outcome). Makes w step' q v) e m in
+    let a : advance w step' ≡ (world.NotNow, v) = subst (λ (q : Report). Makes w step' q v) e m in
     let same : v ≡ w = unchanged w v step' a in
     (subst (λ (u : World). advance w step' ≡ (world.NotNow, u)) same a, same)
 
@@ -158,14 +158,14 @@ module _ (w : World) (client : ℕ) (call : Call) (on_file_waits : Waits w (FdCo
   waits_there =
       subst (λ (p : World × Call). Waits p.0 (FdCommit client p.1)) (λ i. (sym same i, sym back i)) on_file_waits
 
-  calls_here : (v : World) (o : Outcome) → Calls w1 client call1 o v → Calls w client call o v
+  calls_here : (v : World) (o : Report) → Calls w1 client call1 o v → Calls w client call o v
   calls_here v o = subst (λ (p : World × Call). Calls p.0 client p.1 o v) (λ i. (same i, back i))
 
-  pub calls_stop : (v : World) (o : Outcome) → (Waits w1 (FdCommit client call1) → Calls w1 client call1 o v)
+  pub calls_stop : (v : World) (o : Report) → (Waits w1 (FdCommit client call1) → Calls w1 client call1 o v)
       → Calls w client call o v
   calls_stop v o stops = calls_here v o (stops waits_there)
 
-  pub calls_walk : (v v' : World) (o : Outcome) → Waits w1 (ClientStep client call1)
-      → Makes w1 (Begin client call1) outcome.Begun v → Leads client v o v' → Calls w client call o v'
+  pub calls_walk : (v v' : World) (o : Report) → Waits w1 (ClientStep client call1)
+      → Makes w1 (Begin client call1) report.Begun v → Leads client v o v' → Calls w client call o v'
   calls_walk v v' o alone_waits begins leads =
       calls_here v' o (walks v v' o waits_there alone_waits begins leads)

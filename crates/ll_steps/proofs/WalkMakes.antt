@@ -26,11 +26,11 @@ use Rattle.ll_worlds.specs.Walk.{has_two_paths}
 use Rattle.ll_worlds.specs.World.{World, Outcome, NotNow, Stands, Replied, advance, shown, is_marked_by_other}
 use Rattle.ll_worlds.specs.World.{is_walked, last_nodes, domain_of, is_marked, stand, enter, descend}
 use Rattle.ll_worlds.proofs.Tests.{not_true}
-use Rattle.ll_worlds.proofs.Worlds.{found}
+use Rattle.ll_worlds.proofs.WalkMaps.{found}
 use Rattle.ll_worlds.specs.Sound.{IsSound}
 use Rattle.ll_worlds.proofs.Shapes.{leg_is_blocked, stood}
 use Rattle.ll_journal.specs.Book.{Book, Spares, inode_in, slot_of, has_mark}
-use Rattle.ll_journal.specs.Steps.{Does, GoesDown, IsNext, IsInTurn, IsAstrayAt, IsAstrayAtTop, IsAstrayBelow}
+use Rattle.ll_journal.specs.Steps.{Does, GoesDown, IsNext, IsInTurn, IsAstrayAt, IsAstrayAtTop}
 use Rattle.ll_journal.specs.Steps.{is_at_top, leg_in_turn}
 use Rattle.ll_journal.specs.WalkEnds.{AreEnough, Ends, IsAstrayAtEnd, MayTakeMemory, is_lent}
 use Rattle.ll_journal.specs.declared.progress.Ending.{Ending}
@@ -188,11 +188,6 @@ no_loop b number slot to same next = by (get b.world.walks number) refl
         ∙ ap (λ o. unwrap_or (option_and_then (stand b.world number walk) o) (NotNow, b.world)) next.further_is
         ∙ ap (λ t. unwrap_or (cond (not t) (Some (Stands next.next.here, stood b.world number walk next.next)) None)
         (NotNow, b.world)) marked
-
-pub near_below : (b : Book) (number from to : ℕ) → IsNext b number from to → IsAstrayBelow b number from to → ⊥
-near_below b number from to next astray =
-    let a = astray.1 next.leg next.in_turn next.from_here in
-    a.2 (next.to_there ∙ ap (λ (l : Leg). l.here) (same_Some next.next a.0 (sym next.further_is ∙ a.1)))
 
 -- ---- a commit
 

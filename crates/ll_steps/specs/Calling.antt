@@ -5,8 +5,8 @@ use Rattle.ll_worlds.specs.declared.step.Step.{Step}
 use Rattle.ll_worlds.specs.declared.step.Step.TheVariants.{Begin, Descend, Fork, Commit, Restart, FdCommit, ClientStep}
 use Rattle.ll_worlds.specs.World as world
 use Rattle.ll_worlds.specs.World.{World, advance}
-use Rattle.ll_steps.specs.declared.outcome.Outcome.{Outcome}
-use Rattle.ll_steps.specs.declared.outcome.Outcome.TheVariants as outcome
+use Rattle.ll_steps.specs.declared.report.Report.{Report}
+use Rattle.ll_steps.specs.declared.report.Report.TheVariants as report
 use Rattle.ll_steps.specs.Makes.{Makes}
 
 -- the step isn't enabled
@@ -16,28 +16,28 @@ Waits w step' = advance w step' ≡ (world.NotNow, w)
 -- the first of a fork, a descent and a restart that is enabled
 abbrev pub GoesOn : World → ℕ → World → Type 0
 GoesOn w client v =
-    Makes w (Fork client) outcome.Forked v
-    ⊎ (Waits w (Fork client) × (inode : ℕ) × Makes w (Descend client) (outcome.Stands inode) v)
-    ⊎ (Waits w (Fork client) × Waits w (Descend client) × Makes w (Restart client) outcome.Restarted v)
+    Makes w (Fork client) report.Forked v
+    ⊎ (Waits w (Fork client) × (inode : ℕ) × Makes w (Descend client) (report.Stands inode) v)
+    ⊎ (Waits w (Fork client) × Waits w (Descend client) × Makes w (Restart client) report.Restarted v)
 
 abbrev pub IsStuck : World → ℕ → Type 0
 IsStuck w client = Waits w (Fork client) × Waits w (Descend client) × Waits w (Restart client)
 
 -- The client's walk is answered as soon as it may be, and goes on before. It waits where none of its steps is enabled
-pub data Leads (client : ℕ) : World → Outcome → World → Type 0 where
-  answered : (w w' : World) (o : Outcome) → Makes w (Commit client) o w' → o ≢ outcome.NotNow → Leads client w o w'
-  goes_on : (w v w' : World) (o : Outcome) → Waits w (Commit client) → GoesOn w client v → Leads client v o w'
+pub data Leads (client : ℕ) : World → Report → World → Type 0 where
+  answered : (w w' : World) (o : Report) → Makes w (Commit client) o w' → o ≢ report.NotNow → Leads client w o w'
+  goes_on : (w v w' : World) (o : Report) → Waits w (Commit client) → GoesOn w client v → Leads client v o w'
       → Leads client w o w'
-  waits : (w : World) → Waits w (Commit client) → IsStuck w client → Leads client w outcome.NotNow w
+  waits : (w : World) → Waits w (Commit client) → IsStuck w client → Leads client w report.NotNow w
 
 -- A call on a descriptor, or for the client alone, is one step. Any other sets out, if it may, and then its walk is led
 -- on. The outcome is that of the last step; a walk that waits stays under way
-pub data Calls (w : World) (client : ℕ) (call : Call) : Outcome → World → Type 0 where
-  on_file : (w' : World) (o : Outcome) → Makes w (FdCommit client call) o w' → o ≢ outcome.NotNow
+pub data Calls (w : World) (client : ℕ) (call : Call) : Report → World → Type 0 where
+  on_file : (w' : World) (o : Report) → Makes w (FdCommit client call) o w' → o ≢ report.NotNow
       → Calls w client call o w'
-  alone : (w' : World) (o : Outcome) → Waits w (FdCommit client call) → Makes w (ClientStep client call) o w'
-      → o ≢ outcome.NotNow → Calls w client call o w'
-  walks : (v w' : World) (o : Outcome) → Waits w (FdCommit client call) → Waits w (ClientStep client call)
-      → Makes w (Begin client call) outcome.Begun v → Leads client v o w' → Calls w client call o w'
+  alone : (w' : World) (o : Report) → Waits w (FdCommit client call) → Makes w (ClientStep client call) o w'
+      → o ≢ report.NotNow → Calls w client call o w'
+  walks : (v w' : World) (o : Report) → Waits w (FdCommit client call) → Waits w (ClientStep client call)
+      → Makes w (Begin client call) report.Begun v → Leads client v o w' → Calls w client call o w'
   waits : Waits w (FdCommit client call) → Waits w (ClientStep client call) → Waits w (Begin client call)
-      → Calls w client call outcome.NotNow w
+      → Calls w client call report.NotNow w

@@ -12,8 +12,8 @@ use Rattle.ll_journal.specs.declared.progress.Ending.TheVariants as ending
 use Rattle.ll_journal.specs.declared.direct.Made.{Made}
 use Rattle.ll_journal.specs.declared.direct.Made.TheVariants as answer
 use Rattle.ll_rights.specs.declared.errno.Errno.TheVariants.{HistoryFull, NoMemory}
-use Rattle.ll_steps.specs.declared.outcome.Outcome.{Outcome}
-use Rattle.ll_steps.specs.declared.outcome.Outcome.TheVariants.{NotNow, Stands, Forked, Restarted, Replied, Refused}
+use Rattle.ll_steps.specs.declared.report.Report.{Report}
+use Rattle.ll_steps.specs.declared.report.Report.TheVariants.{NotNow, Stands, Forked, Restarted, Replied, Refused}
 
 abbrev pub held_at : List Held → ℕ → Held
 held_at slots k = slice_index_or slots k vacant
@@ -24,7 +24,7 @@ pub record IsKept (b : Book) (slots : List Held) : Type 0 where
   pub within : length b.world.history ≤ b.world.limit
 
 -- what the journal tells of a step
-abbrev pub told_as : journal.Progress → Outcome
+abbrev pub told_as : journal.Progress → Report
 told_as told.NotNow = NotNow
 told_as told.Astray = NotNow
 told_as (told.Stands inode) = Stands inode
@@ -32,13 +32,13 @@ told_as told.Forked = Forked
 told_as told.Restarted = Restarted
 
 -- what it tells of a call without a walk, whose entry would have this number
-abbrev pub answered_as : ℕ → Made → Outcome
+abbrev pub answered_as : ℕ → Made → Report
 answered_as number (answer.Replied reply) = Replied number
 answered_as number answer.HistoryFull = Refused HistoryFull
 answered_as number answer.NoMemory = Refused NoMemory
 
 -- what it tells of a commit
-abbrev pub ended_as : ℕ → Ending → Outcome
+abbrev pub ended_as : ℕ → Ending → Report
 ended_as number ending.NotNow = NotNow
 ended_as number ending.Astray = NotNow
 ended_as number (ending.Replied reply) = Replied number

@@ -9,7 +9,7 @@ use Rattle.ll_worlds.specs.declared.step.Step.{Step}
 use Rattle.ll_worlds.specs.World.{World}
 use Rattle.ll_worlds.specs.Growing.{Came}
 use Rattle.ll_worlds.specs.Walks.{AreValid, AreApart, AreFew, GateIsHeld}
-use Rattle.ll_steps.specs.declared.outcome.Outcome.{Outcome}
+use Rattle.ll_steps.specs.declared.report.Report.{Report}
 use Rattle.ll_steps.specs.Makes.{Makes, Adds}
 
 -- What holds of every world: of its history, of the walks that are under way, and between any two points of the history
@@ -36,14 +36,14 @@ pub record Grows (w w' : World) (added : List Entry) : Type 0 where
   pub limit : w'.limit ≡ w.limit
 
 -- Each step has its outcome, and adds what the outcome tells of to the history: these entries, in order, and no other
-abbrev pub Runs : World → List Step → List Outcome → List Entry → World → Type 0
+abbrev pub Runs : World → List Step → List Report → List Entry → World → Type 0
 Runs w [] [] added w' = (added ≡ []) × (w' ≡ w)
 Runs w (step' ∷ steps) (outcome ∷ outcomes) added w' =
     (v : World) × (its others : List Entry) × (added ≡ its ++ others)
     × Makes w step' outcome v × Adds w step' outcome its × Grows w v its × Runs v steps outcomes others w'
 Runs w steps outcomes added w' = ⊥
 
-pub record IsHeadline (w : World) (steps : List Step) (outcomes : List Outcome) (w' : World) : Type 0 where
+pub record IsHeadline (w : World) (steps : List Step) (outcomes : List Report) (w' : World) : Type 0 where
   pub added : List Entry
   pub runs : Runs w steps outcomes added w'
   pub grows : Grows w w' added

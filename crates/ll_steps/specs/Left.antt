@@ -9,7 +9,7 @@ use Rattle.ll_worlds.specs.Walk.{Walk, Position, Above, Down, Split, trunk_path}
 use Rattle.ll_worlds.specs.World.{World}
 use Rattle.ll_worlds.specs.declared.step.Step.TheVariants.{Commit}
 use Rattle.ll_steps.specs.Calling.{GoesOn, Leads, Waits}
-use Rattle.ll_steps.specs.declared.outcome.Outcome.{Outcome}
+use Rattle.ll_steps.specs.declared.report.Report.{Report}
 
 -- past the fork, and the fork itself
 abbrev pub most_past : Call → ℕ
@@ -31,7 +31,7 @@ abbrev pub steps_left : World → ℕ → ℕ
 steps_left w client = option_map_or walk_left (get w.walks client) 0
 
 -- One step of a walk that is led: it goes on, nearer to its answer; or it is led no further, which comes of its call
-abbrev pub StepsOn : World → ℕ → Option Outcome → World → Type 0
+abbrev pub StepsOn : World → ℕ → Option Report → World → Type 0
 StepsOn w client None v =
     Waits w (Commit client) × GoesOn w client v × (steps_left v client < steps_left w client)
 StepsOn w client (Some outcome) v = Leads client w outcome v

@@ -14,8 +14,8 @@ use Rattle.ll_worlds.specs.Walk.{Walk}
 use Rattle.ll_worlds.specs.World as world
 use Rattle.ll_worlds.specs.World.{World, advance, is_full, next_number, without_walk}
 use Rattle.ll_journal.specs.Starving.{is_refusal}
-use Rattle.ll_steps.specs.declared.outcome.Outcome.{Outcome}
-use Rattle.ll_steps.specs.declared.outcome.Outcome.TheVariants as outcome
+use Rattle.ll_steps.specs.declared.report.Report.{Report}
+use Rattle.ll_steps.specs.declared.report.Report.TheVariants as report
 
 -- the client and the call that an entry of this step is of
 abbrev pub called : World → Step → Option (ℕ × Call)
@@ -55,17 +55,17 @@ abbrev pub IsUntold : World → Step → Type 0
 IsUntold w step' = (is_full w ≡ true) ⊎ (step' ≡ Join)
 
 -- The outcome is that of the step, and so is the world after. A reply is that of the entry which is last then
-abbrev pub Makes : World → Step → Outcome → World → Type 0
-Makes w step' outcome.NotNow w' = advance w step' ≡ (world.NotNow, w')
-Makes w step' outcome.Begun w' = advance w step' ≡ (world.Begun, w')
-Makes w step' (outcome.Stands inode) w' = advance w step' ≡ (world.Stands inode, w')
-Makes w step' outcome.Forked w' = advance w step' ≡ (world.Forked, w')
-Makes w step' outcome.Restarted w' = advance w step' ≡ (world.Restarted, w')
-Makes w step' (outcome.Joined number) w' = advance w step' ≡ (world.Joined number, w')
-Makes w step' (outcome.Replied k) w' =
+abbrev pub Makes : World → Step → Report → World → Type 0
+Makes w step' report.NotNow w' = advance w step' ≡ (world.NotNow, w')
+Makes w step' report.Begun w' = advance w step' ≡ (world.Begun, w')
+Makes w step' (report.Stands inode) w' = advance w step' ≡ (world.Stands inode, w')
+Makes w step' report.Forked w' = advance w step' ≡ (world.Forked, w')
+Makes w step' report.Restarted w' = advance w step' ≡ (world.Restarted, w')
+Makes w step' (report.Joined number) w' = advance w step' ≡ (world.Joined number, w')
+Makes w step' (report.Replied k) w' =
     (k ≡ length w.history) × (entry : Entry) × (slice_get w'.history k ≡ Some entry)
     × (advance w step' ≡ (world.Replied entry.reply, w'))
-Makes w step' (outcome.Refused errno) w' =
+Makes w step' (report.Refused errno) w' =
     (IsUntold w step' × (advance w step' ≡ (world.Replied (reply.Refused errno), w')))
     ⊎ ((errno ≡ NoMemory) × Starves w step' w')
 
@@ -73,8 +73,8 @@ Makes w step' (outcome.Refused errno) w' =
 
 -- What the step adds to the history: where an entry tells of the outcome, that one, of the step's client and call. (Its
 -- number and its reply are above)
-abbrev pub Adds : World → Step → Outcome → List Entry → Type 0
-Adds w step' (outcome.Joined number) added = added ≡ record { client = number; call = Connect; reply = reply.Done } ∷ []
-Adds w step' (outcome.Replied k) added =
+abbrev pub Adds : World → Step → Report → List Entry → Type 0
+Adds w step' (report.Joined number) added = added ≡ record { client = number; call = Connect; reply = reply.Done } ∷ []
+Adds w step' (report.Replied k) added =
     (entry : Entry) × (called w step' ≡ Some (entry.client, entry.call)) × (added ≡ entry ∷ [])
 Adds w step' other added = added ≡ []

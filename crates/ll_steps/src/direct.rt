@@ -4,20 +4,20 @@ ghost use Rattle.std.specs.Prelude.{◌≡◌, ◌≢◌, IfSome, IfNone, IfOk, 
 ghost use Rattle.ll_steps.specs.Contents.{answered_as};
 ghost use Rattle.ll_worlds.specs.World as world;
 
-use crate::outcome::Outcome;
+use crate::report::Report;
 use crate::world::World;
 use ll_journal::{Made, Start, Unmade};
 use ll_rights::Errno;
 use ll_seq::Call;
 
 /// What comes of a call without a walk, where the history's next entry has this number.
-fn answered(number: u64, answer: Made) -> Outcome
+fn answered(number: u64, answer: Made) -> Report
     ensures { result ≡ answered_as number answer }
 {
     match answer {
-        Made::Replied(_) => Outcome::Replied(number),
-        Made::HistoryFull => Outcome::Refused(Errno::HistoryFull),
-        Made::NoMemory => Outcome::Refused(Errno::NoMemory),
+        Made::Replied(_) => Report::Replied(number),
+        Made::HistoryFull => Report::Refused(Errno::HistoryFull),
+        Made::NoMemory => Report::Refused(Errno::NoMemory),
     }
 }
 
@@ -39,20 +39,20 @@ impl World {
     ghost use Rattle.ll_steps.specs.Makes.{Makes};
 
     /// A new client.
-    pub(crate) fn join(&mut self) -> Outcome
+    pub(crate) fn join(&mut self) -> Report
         ensures { Makes self.old steps.Join result self.new }
     {
         match self.journal.connect() {
-            Ok(number) => Outcome::Joined(number),
-            Err(errno) => Outcome::Refused(errno),
+            Ok(number) => Report::Joined(number),
+            Err(errno) => Report::Refused(errno),
         }
     }
 
     /// The client's call for itself alone, which comes back where it isn't made.
-    pub(crate) fn client_step(&mut self, client: u64, call: Call) -> Result<Outcome, Call>
+    pub(crate) fn client_step(&mut self, client: u64, call: Call) -> Result<Report, Call>
         ensures makes { IfOk result (λ outcome. Makes self.old (steps.ClientStep client call) outcome self.new) }
-        ensures made { IfOk result (λ outcome. outcome ≢ Outcome.NotNow) }
-        ensures not_now { OnErr result (Makes self.old (steps.ClientStep client call) Outcome.NotNow self.old) }
+        ensures made { IfOk result (λ outcome. outcome ≢ Report.NotNow) }
+        ensures not_now { OnErr result (Makes self.old (steps.ClientStep client call) Report.NotNow self.old) }
         ensures back { IfErr result (λ back. back ≡ call) }
         ensures same { OnErr result (self.new ≡ self.old) }
     {
@@ -64,25 +64,25 @@ impl World {
     }
 
     /// What comes of the client's call, which is on no descriptor that it has. None where its walk is under way.
-    pub(crate) fn start(&mut self, client: u64, call: Call) -> Option<Outcome>
+    pub(crate) fn start(&mut self, client: u64, call: Call) -> Option<Report>
         ensures stops { IfSome result (λ outcome.
             Waits self.old (steps.FdCommit client call) → Calls self.old client call outcome self.new) }
         ensures alone { IfNone result (Waits self.old (steps.ClientStep client call)) }
-        ensures begins { IfNone result (Makes self.old (steps.Begin client call) Outcome.Begun self.new) }
+        ensures begins { IfNone result (Makes self.old (steps.Begin client call) Report.Begun self.new) }
     {
         let number = self.journal.entries().len() as u64;
         match self.journal.start(client, call) {
             Start::Made(answer) => Some(answered(number, answer)),
             Start::Begun => None,
-            Start::Back(_) => Some(Outcome::NotNow),
+            Start::Back(_) => Some(Report::NotNow),
         }
     }
 
     /// The client's call on a descriptor, which comes back where it isn't made.
-    pub(crate) fn fd_commit(&mut self, client: u64, call: Call) -> Result<Outcome, Call>
+    pub(crate) fn fd_commit(&mut self, client: u64, call: Call) -> Result<Report, Call>
         ensures makes { IfOk result (λ outcome. Makes self.old (steps.FdCommit client call) outcome self.new) }
-        ensures made { IfOk result (λ outcome. outcome ≢ Outcome.NotNow) }
-        ensures not_now { OnErr result (Makes self.old (steps.FdCommit client call) Outcome.NotNow self.old) }
+        ensures made { IfOk result (λ outcome. outcome ≢ Report.NotNow) }
+        ensures not_now { OnErr result (Makes self.old (steps.FdCommit client call) Report.NotNow self.old) }
         ensures back { IfErr result (λ back. back ≡ call) }
         ensures same { OnErr result (self.new ≡ self.old) }
     {

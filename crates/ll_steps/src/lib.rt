@@ -3,11 +3,11 @@
 
 mod direct;
 mod make;
-mod outcome;
+mod report;
 mod slots;
 mod step;
 mod walk;
 mod world;
 
-pub use outcome::Outcome;
+pub use report::Report;
 pub use world::World;

@@ -7,7 +7,7 @@ ghost use Rattle.ll_steps.specs.Contents.{IsKept};
 ghost use Rattle.ll_steps.specs.Headline.{IsLawful};
 ghost use Rattle.ll_steps.specs.Left.{StepsOn};
 
-use crate::outcome::Outcome;
+use crate::report::Report;
 use crate::walk::{commit_with, descend_between, enter_at, fork_in, restart_with};
 use crate::world::World;
 use ll_held::Held;
@@ -27,33 +27,33 @@ fn slot_in_turn(journal: &Journal, client: u64) -> u64
 }
 
 /// None where the step was made; else that its walk waits.
-fn unless_made(outcome: Outcome) -> Option<Outcome>
-    ensures made { IfNone result (outcome ≢ Outcome.NotNow) }
-    ensures waits { IfSome result (λ told. (told ≡ Outcome.NotNow) × (outcome ≡ Outcome.NotNow)) }
+fn unless_made(outcome: Report) -> Option<Report>
+    ensures made { IfNone result (outcome ≢ Report.NotNow) }
+    ensures waits { IfSome result (λ told. (told ≡ Report.NotNow) × (outcome ≡ Report.NotNow)) }
 {
     if outcome.was_enabled() {
         None
     } else {
-        Some(Outcome::NotNow)
+        Some(Report::NotNow)
     }
 }
 
 /// Makes the one step of the client's walk that comes next. None where the walk is to be led on; else what comes of its
 /// call, or that it waits.
-fn step_on(journal: &mut Journal, slots: &mut [Held], alloc: Global, client: u64) -> Option<Outcome>
+fn step_on(journal: &mut Journal, slots: &mut [Held], alloc: Global, client: u64) -> Option<Report>
     requires { IsKept journal.old slots.old }
     ensures steps { StepsOn journal.old.world client result journal.new.world }
     ensures kept { IsKept journal.new slots.new }
 {
     let from = slot_in_turn(journal, client);
     let outcome = match journal.next_step(client, from, &slots[from as usize]) {
-        Next::Nothing => return Some(Outcome::NotNow),
+        Next::Nothing => return Some(Report::NotNow),
         Next::Commit(needed) => {
             let outcome = commit_with(journal, slots, alloc, client, needed.as_slice());
             return Some(outcome);
         }
         Next::Enter(slot) => enter_at(journal, slots, client, slot),
-        Next::Descend(to) => descend_between(journal, slots, alloc, client, from, to),
+        Next::Descend(to) => descend_between(journal, slots, client, from, to),
         Next::Fork => fork_in(journal, slots, client),
         Next::Restart(needed) => restart_with(journal, slots, alloc, client, needed.as_slice()),
     };
@@ -63,14 +63,14 @@ fn step_on(journal: &mut Journal, slots: &mut [Held], alloc: Global, client: u64
 impl World {
     /// Makes the one step of the client's walk that comes next. None where the walk is to be led on; else what comes of
     /// its call, or that it waits.
-    fn go_on(&mut self, client: u64) -> Option<Outcome>
+    fn go_on(&mut self, client: u64) -> Option<Report>
         ensures { StepsOn self.old client result self.new }
     {
         step_on(&mut self.journal, &mut self.slots, self.alloc, client)
     }
 
     /// The client's walk is led to its answer, as far as it goes.
-    fn lead(&mut self, client: u64) -> Outcome
+    fn lead(&mut self, client: u64) -> Report
         ensures { Leads client self.old result self.new }
     {
         'steps: loop {
@@ -82,7 +82,7 @@ impl World {
 
     /// All steps of a call to its reply. NotNow where it may not begin, or where its walk waits for other walks: then
     /// it stays under way.
-    pub fn make(&mut self, client: u64, call: Call) -> Outcome
+    pub fn make(&mut self, client: u64, call: Call) -> Report
         ensures makes { Calls self.old client call result self.new }
         ensures lawful { IsLawful self.new }
     {
@@ -91,7 +91,7 @@ impl World {
         outcome
     }
 
-    fn steps_of(&mut self, client: u64, call: Call) -> Outcome
+    fn steps_of(&mut self, client: u64, call: Call) -> Report
         ensures { Calls self.old client call result self.new }
     {
         let call = match self.fd_commit(client, call) {

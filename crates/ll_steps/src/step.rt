@@ -4,20 +4,20 @@ ghost use Rattle.std.specs.Prelude.{◌≡◌, OnErr, IfOk};
 ghost use Rattle.ll_steps.specs.Headline.{IsHeadline, IsLawful};
 ghost use Rattle.ll_steps.specs.Makes.{Makes};
 
-use crate::outcome::Outcome;
+use crate::report::Report;
 use crate::world::World;
 use ll_seq::Call;
 use ll_worlds::Step;
 use std::alloc::AllocError;
 
 /// Of a call that came back.
-fn or_not_now(made: Result<Outcome, Call>) -> Outcome
+fn or_not_now(made: Result<Report, Call>) -> Report
     ensures made { IfOk made (λ outcome. result ≡ outcome) }
-    ensures back { OnErr made (result ≡ Outcome.NotNow) }
+    ensures back { OnErr made (result ≡ Report.NotNow) }
 {
     match made {
         Ok(outcome) => outcome,
-        Err(_) => Outcome::NotNow,
+        Err(_) => Report::NotNow,
     }
 }
 
@@ -30,7 +30,7 @@ impl World {
     }
 
     /// One step. Where it isn't enabled nothing has changed.
-    pub fn step(&mut self, step: Step) -> Outcome
+    pub fn step(&mut self, step: Step) -> Report
         ensures makes { Makes self.old step result self.new }
         ensures lawful { IsLawful self.new }
     {
@@ -50,7 +50,7 @@ impl World {
 
     /// All these steps, in their order. Room for the outcomes is taken first. Errors: there is none, and no step was
     /// made.
-    pub fn run(&mut self, steps: Vec<Step>) -> Result<Vec<Outcome>, AllocError>
+    pub fn run(&mut self, steps: Vec<Step>) -> Result<Vec<Report>, AllocError>
         ensures ran { IfOk result (λ outcomes. IsHeadline self.old steps.items outcomes.items self.new) }
         ensures not_run { OnErr result (self.new ≡ self.old) }
     {

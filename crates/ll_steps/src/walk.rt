@@ -13,7 +13,7 @@ ghost use Rattle.ll_steps.specs.Contents.{IsKept, ended_as, told_as};
 ghost use Rattle.ll_journal.specs.Steps.{IsNext, is_at_top};
 ghost use Rattle.ll_steps.specs.Makes.{Makes};
 
-use crate::outcome::Outcome;
+use crate::report::Report;
 use crate::slots::{trade, vacant};
 use crate::world::World;
 use ll_held::Held;
@@ -23,35 +23,35 @@ use ll_seq::Call;
 use std::alloc::Global;
 
 /// The same, where enough was lent.
-fn told(outcome: Progress) -> Outcome
+fn told(outcome: Progress) -> Report
     requires { outcome ≢ Progress.Astray }
     ensures { result ≡ told_as outcome }
 {
     match outcome {
-        Progress::NotNow => Outcome::NotNow,
-        Progress::Stands(inode) => Outcome::Stands(inode),
-        Progress::Forked => Outcome::Forked,
-        Progress::Restarted => Outcome::Restarted,
+        Progress::NotNow => Report::NotNow,
+        Progress::Stands(inode) => Report::Stands(inode),
+        Progress::Forked => Report::Forked,
+        Progress::Restarted => Report::Restarted,
         Progress::Astray => unreachable!(),
     }
 }
 
 /// What comes of a commit that was lent enough, where the history's next entry has this number.
-fn ended(number: u64, ending: Ending) -> Outcome
+fn ended(number: u64, ending: Ending) -> Report
     requires { ending ≢ Ending.Astray }
     ensures { result ≡ ended_as number ending }
 {
     match ending {
-        Ending::NotNow => Outcome::NotNow,
-        Ending::Replied(_) => Outcome::Replied(number),
-        Ending::HistoryFull => Outcome::Refused(Errno::HistoryFull),
-        Ending::NoMemory => Outcome::Refused(Errno::NoMemory),
+        Ending::NotNow => Report::NotNow,
+        Ending::Replied(_) => Report::Replied(number),
+        Ending::HistoryFull => Report::Refused(Errno::HistoryFull),
+        Ending::NoMemory => Report::Refused(Errno::NoMemory),
         Ending::Astray => unreachable!(),
     }
 }
 
 /// The client's walk, which is above the root, goes to it; it lies in this slot.
-pub(crate) fn enter_at(journal: &mut Journal, slots: &mut [Held], client: u64, slot: u64) -> Outcome
+pub(crate) fn enter_at(journal: &mut Journal, slots: &mut [Held], client: u64, slot: u64) -> Report
     requires kept { IsKept journal.old slots.old }
     requires top { is_at_top journal.old.world client ≡ true }
     requires root { inode_in journal.old slot ≡ root }
@@ -63,15 +63,54 @@ pub(crate) fn enter_at(journal: &mut Journal, slots: &mut [Held], client: u64, s
     told(journal.enter(client, slot, root))
 }
 
+/// The client's walk goes down from the directory in the one slot to that in a later one.
+fn descend_forth(
+    journal: &mut Journal,
+    slots: &mut [Held],
+    client: u64,
+    from: u64,
+    to: u64,
+) -> Report
+    requires kept { IsKept journal.old slots.old }
+    requires next { IsNext journal.old client from to }
+    requires here { from < length slots.old }
+    requires there { to < length slots.old }
+    requires later { from < to }
+    ensures makes { Makes journal.old.world (steps.Descend client) result journal.new.world }
+    ensures kept { IsKept journal.new slots.new }
+{
+    let (front, back) = slots.split_at_mut(to as usize);
+    told(journal.descend_to(client, from, &mut front[from as usize], to, &mut back[0]))
+}
+
+/// The same to an earlier one.
+fn descend_back(
+    journal: &mut Journal,
+    slots: &mut [Held],
+    client: u64,
+    from: u64,
+    to: u64,
+) -> Report
+    requires kept { IsKept journal.old slots.old }
+    requires next { IsNext journal.old client from to }
+    requires here { from < length slots.old }
+    requires there { to < length slots.old }
+    requires earlier { to < from }
+    ensures makes { Makes journal.old.world (steps.Descend client) result journal.new.world }
+    ensures kept { IsKept journal.new slots.new }
+{
+    let (front, back) = slots.split_at_mut(from as usize);
+    told(journal.descend_to(client, from, &mut back[0], to, &mut front[to as usize]))
+}
+
 /// The client's walk goes down from the directory in the one slot to that in the other.
 pub(crate) fn descend_between(
     journal: &mut Journal,
     slots: &mut [Held],
-    alloc: Global,
     client: u64,
     from: u64,
     to: u64,
-) -> Outcome
+) -> Report
     requires kept { IsKept journal.old slots.old }
     requires next { IsNext journal.old client from to }
     requires here { from < length slots.old }
@@ -79,15 +118,15 @@ pub(crate) fn descend_between(
     ensures makes { Makes journal.old.world (steps.Descend client) result journal.new.world }
     ensures kept { IsKept journal.new slots.new }
 {
-    // No directory has its own slot as a child's; this is what lets both be taken out at once.
+    // No directory has its own slot as a child's; this is what lets both be lent at once.
     if from == to {
-        return Outcome::NotNow;
+        return Report::NotNow;
     }
-    let mut next = std::mem::replace(&mut slots[to as usize], vacant(alloc));
-    let here = &mut slots[from as usize];
-    let outcome = journal.descend(client, from, here, to, &mut next);
-    slots[to as usize] = next;
-    told(outcome)
+    if from < to {
+        descend_forth(journal, slots, client, from, to)
+    } else {
+        descend_back(journal, slots, client, from, to)
+    }
 }
 
 /// The client's walk is answered, with these slots.
@@ -97,7 +136,7 @@ pub(crate) fn commit_with(
     alloc: Global,
     client: u64,
     numbers: &[u64],
-) -> Outcome
+) -> Report
     requires kept { IsKept journal.old slots.old }
     requires few { length numbers.now ≤ 4 }
     requires there { AllByRecursion (λ number. number < length slots.old) numbers.now }
@@ -117,7 +156,7 @@ pub(crate) fn commit_with(
 }
 
 /// The client's walk leaves what is common to both paths.
-pub(crate) fn fork_in(journal: &mut Journal, slots: &[Held], client: u64) -> Outcome
+pub(crate) fn fork_in(journal: &mut Journal, slots: &[Held], client: u64) -> Report
     requires { IsKept journal.old slots.now }
     ensures makes { Makes journal.old.world (steps.Fork client) result journal.new.world }
     ensures kept { IsKept journal.new slots.now }
@@ -132,7 +171,7 @@ pub(crate) fn restart_with(
     alloc: Global,
     client: u64,
     numbers: &[u64],
-) -> Outcome
+) -> Report
     requires kept { IsKept journal.old slots.old }
     requires few { length numbers.now ≤ 3 }
     requires there { AllByRecursion (λ number. number < length slots.old) numbers.now }
@@ -151,19 +190,19 @@ pub(crate) fn restart_with(
 
 impl World {
     /// The client's call sets out, or comes back where it may not.
-    pub(crate) fn begin(&mut self, client: u64, call: Call) -> Result<Outcome, Call>
+    pub(crate) fn begin(&mut self, client: u64, call: Call) -> Result<Report, Call>
         ensures makes { IfOk result (λ outcome. Makes self.old (steps.Begin client call) outcome self.new) }
-        ensures begun { IfOk result (λ outcome. outcome ≡ Outcome.Begun) }
-        ensures not_now { OnErr result (Makes self.old (steps.Begin client call) Outcome.NotNow self.old) }
+        ensures begun { IfOk result (λ outcome. outcome ≡ Report.Begun) }
+        ensures not_now { OnErr result (Makes self.old (steps.Begin client call) Report.NotNow self.old) }
         ensures back { IfErr result (λ back. back ≡ call) }
         ensures same { OnErr result (self.new ≡ self.old) }
     {
         self.journal.begin(client, call)?;
-        Ok(Outcome::Begun)
+        Ok(Report::Begun)
     }
 
     /// The client's walk, which is above the root, goes to it.
-    fn enter(&mut self, client: u64) -> Outcome
+    fn enter(&mut self, client: u64) -> Report
         requires { is_at_top self.old client ≡ true }
         ensures { Makes self.old (steps.Descend client) result self.new }
     {
@@ -172,44 +211,37 @@ impl World {
     }
 
     /// The client's walk goes one directory further.
-    pub(crate) fn descend(&mut self, client: u64) -> Outcome
+    pub(crate) fn descend(&mut self, client: u64) -> Report
         ensures { Makes self.old (steps.Descend client) result self.new }
     {
         if self.journal.station(client) == Station::Above {
             return self.enter(client);
         }
         let Some(from) = self.journal.turn_slot(client) else {
-            return Outcome::NotNow;
+            return Report::NotNow;
         };
         let Some(to) = self
             .journal
             .next_slot(client, from, &self.slots[from as usize])
         else {
-            return Outcome::NotNow;
+            return Report::NotNow;
         };
-        descend_between(
-            &mut self.journal,
-            &mut self.slots,
-            self.alloc,
-            client,
-            from,
-            to,
-        )
+        descend_between(&mut self.journal, &mut self.slots, client, from, to)
     }
 
     /// The client's walk leaves what is common to both paths.
-    pub(crate) fn fork(&mut self, client: u64) -> Outcome
+    pub(crate) fn fork(&mut self, client: u64) -> Report
         ensures { Makes self.old (steps.Fork client) result self.new }
     {
         fork_in(&mut self.journal, &self.slots, client)
     }
 
     /// The client's walk is answered.
-    pub(crate) fn commit(&mut self, client: u64) -> Outcome
+    pub(crate) fn commit(&mut self, client: u64) -> Report
         ensures { Makes self.old (steps.Commit client) result self.new }
     {
         let Some(slot) = self.journal.turn_slot(client) else {
-            return Outcome::NotNow;
+            return Report::NotNow;
         };
         let slots = self
             .journal
@@ -225,7 +257,7 @@ impl World {
     }
 
     /// The client's stale walk starts again.
-    pub(crate) fn restart(&mut self, client: u64) -> Outcome
+    pub(crate) fn restart(&mut self, client: u64) -> Report
         ensures { Makes self.old (steps.Restart client) result self.new }
     {
         let slots = self.journal.stands_in(client);

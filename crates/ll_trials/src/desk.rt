@@ -1,6 +1,6 @@
 //! A tree with one client, and its child: the client's walk makes a directory, with two slots lent.
 
-ghost use Rattle.std.specs.Prelude.{◌≡◌};
+ghost use Rattle.std.specs.Prelude.{◌≡◌, true};
 
 use crate::calls::target;
 use ll_client::{Account, Client, Desk, Leaving, Left, Locked, Opened, Rider, Shape, open};
@@ -83,6 +83,7 @@ fn begins<N: Shape + Send>(alloc: Global, blank: Blank<Account>) -> bool
     requires named { blank ≡ N.table }
     requires slots { N.slots ≡ 128 }
     requires limit { N.limit ≡ 10 }
+    requires rules { N.rules ≡ record { abi = 3; copies = true } }
 {
     let Ok(
         Opened {

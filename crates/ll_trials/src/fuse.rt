@@ -63,3 +63,34 @@ impl Write for Sink {
         Ok(())
     }
 }
+
+/// Takes one byte at a time, and none once its calls are used up. It counts how often it took none.
+#[derive(Drop)]
+pub struct Stuck {
+    pub held: Vec<u8>,
+    pub calls: usize,
+    pub stops: usize,
+}
+
+impl Write for Stuck {
+    ghost contents = { λ stuck. Some stuck.held.items };
+
+    fn write(&mut self, buf: &[u8]) -> io::Result<usize> {
+        if self.calls == 0 {
+            self.stops = self.stops.saturating_add(1);
+            return Ok(0);
+        }
+        self.calls -= 1;
+        match buf {
+            [] => Ok(0),
+            [first, ..] => {
+                self.held.push(*first)?;
+                Ok(1)
+            }
+        }
+    }
+
+    fn flush(&mut self) -> io::Result<()> {
+        Ok(())
+    }
+}

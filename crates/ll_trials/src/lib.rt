@@ -21,6 +21,7 @@
 //! | ll_journal | | `Journal::new`, `connect`, `client_step`; `begin`, which takes none: `journal` |
 //! | ll_client | | `open`, `connect`, `spawn`; `begin`, `enter`, `next_step`, `leave_2`: `desk` |
 //! | ll_walk | | `Table::open`, `connect`, `call`: `threads` |
+//! | ll_calls | | `Tree::open`, `connect`, `meet`, `close` and calls: `shared_tree` |
 //! | ll_lines | `Line::new` and `push` | |
 //! | ll_session | `run_script` | with devices that fail: `session` |
 //! | ll_steps | `World::new`, `step`, `make` | `World::run`: `steps`; `read`, `list`, whose replies are copied: `replies` |
@@ -55,10 +56,14 @@ mod seq;
 #[cfg(test)]
 mod session;
 #[cfg(test)]
+mod shared_tree;
+#[cfg(test)]
 mod steps;
 #[cfg(test)]
 mod threads;
 #[cfg(test)]
 mod tie;
+#[cfg(test)]
+mod two_threads;
 #[cfg(test)]
 mod wire;

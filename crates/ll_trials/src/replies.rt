@@ -4,7 +4,7 @@ use crate::calls::target;
 use ll_path::Data;
 use ll_rights::Abi;
 use ll_seq::{AccessMode, Call, Creation, Mode, Reply, Rules};
-use ll_steps::{Outcome, World};
+use ll_steps::{Report, World};
 use ll_worlds::Step;
 use std::alloc::{AllocError, Global};
 
@@ -21,7 +21,7 @@ const NEW_FILE: Mode = Mode {
 
 /// Whether the first client's call is answered by what may be copied.
 fn is_answered(alloc: Global, world: &mut World, call: Call) -> bool {
-    let Outcome::Replied(number) = world.make(1, call) else {
+    let Report::Replied(number) = world.make(1, call) else {
         return false;
     };
     match world.history().entries().get(number as usize) {
@@ -78,7 +78,7 @@ fn is_told(world: &World) -> bool {
 
 fn is_right(alloc: Global) -> Result<bool, AllocError> {
     let mut world = World::new(alloc, RULES, 64, 10)?;
-    let is_right = world.step(Step::Join) == Outcome::Joined(1)
+    let is_right = world.step(Step::Join) == Report::Joined(1)
         && opens(alloc, &mut world)
         && writes(alloc, &mut world)
         && lists(alloc, &mut world)

@@ -3,7 +3,7 @@
 //! The scenes are in worked/ at the top of the repository: the built program runs them. What is run and compared is in
 //! small functions, each slow thing once, since that is quick to prove.
 
-use crate::fuse::{Sink, Source};
+use crate::fuse::{Sink, Source, Stuck};
 use ll_lines::SessionFault;
 use ll_rights::Abi;
 use ll_seq::{History, Rules};
@@ -131,5 +131,83 @@ fn fails_once(alloc: Global, writes: usize) -> bool {
 fn writes_fail(rt: HostRuntime) {
     for writes in 0..TEN_REPLIES.len() + 2 {
         assert!(rt; fails_once(rt.alloc(), writes), "after {writes} writes");
+    }
+}
+
+/// Whether a write that takes no byte ends the run, and what came before it is right.
+fn stops_once(alloc: Global, writes: usize) -> bool {
+    let mut reader = Source {
+        rest: TEN_LINES,
+        calls: ENOUGH,
+    };
+    let mut writer = Stuck {
+        held: Vec::new(alloc),
+        calls: writes,
+        stops: 0,
+    };
+    let ended = run_script(alloc, setup(alloc), &mut reader, &mut writer);
+    let how = how(&ended);
+    drop(ended);
+    how == Ended::WriteFailed
+        && writer.stops == 1
+        && writer.held.len() == writes
+        && TEN_REPLIES.starts_with(writer.held.as_slice())
+}
+
+#[test]
+fn writes_take_nothing(rt: HostRuntime) {
+    for writes in 0..TEN_REPLIES.len() {
+        assert!(rt; stops_once(rt.alloc(), writes), "after {writes} writes");
+    }
+}
+
+/// How many bytes the first so many lines have.
+fn lines_end(text: &[u8], lines: usize) -> usize {
+    let mut left = lines;
+    for (at, byte) in text.iter().enumerate() {
+        if left == 0 {
+            return at;
+        }
+        if *byte == b'\n' {
+            left -= 1;
+        }
+    }
+    text.len()
+}
+
+/// Whether an input that ends after so many bytes gets the replies to its whole lines, and the piece after the last
+/// line feed, if there is one, is a bad line.
+fn ends_well(alloc: Global, bytes: usize) -> bool {
+    let Some(input) = TEN_LINES.get(..bytes) else {
+        return false;
+    };
+    let lines = input.iter().filter(|b| **b == b'\n').count();
+    let end = lines_end(TEN_REPLIES, lines);
+    let Some(whole) = TEN_REPLIES.get(..end) else {
+        return false;
+    };
+    let mut reader = Source {
+        rest: input,
+        calls: ENOUGH,
+    };
+    let mut writer = Sink {
+        held: Vec::new(alloc),
+        calls: ENOUGH,
+        failures: 0,
+    };
+    let ended = run_script(alloc, setup(alloc), &mut reader, &mut writer);
+    let how = how(&ended);
+    drop(ended);
+    let piece: &[u8] = match input.last() {
+        None | Some(b'\n') => b"",
+        Some(_) => b"refused 23 BadLine\n",
+    };
+    how == Ended::Well && writer.held.strip_prefix(whole) == Some(piece)
+}
+
+#[test]
+fn input_ends_anywhere(rt: HostRuntime) {
+    for bytes in 0..TEN_LINES.len() + 1 {
+        assert!(rt; ends_well(rt.alloc(), bytes), "after {bytes} bytes");
     }
 }

@@ -8,7 +8,7 @@ ghost use Rattle.ll_rights.specs.declared.limits.TheConstants.{HISTORY_ENTRIES};
 
 use ll_rights::Abi;
 use ll_seq::{Entry, Reply, Rules};
-use ll_steps::{Outcome, World};
+use ll_steps::{Report, World};
 use ll_wire::{ScheduleLine, line_text, read_schedule_line, reply_text_behind};
 use ll_worlds::Step;
 use std::alloc::{AllocError, Global};
@@ -29,19 +29,19 @@ fn number_line(alloc: Global, word: &str, number: u64) -> Result<String, AllocEr
 }
 
 /// What is told of an outcome, after which the history has these entries.
-fn told(alloc: Global, entries: &[Entry], outcome: Outcome) -> Result<String, AllocError> {
+fn told(alloc: Global, entries: &[Entry], outcome: Report) -> Result<String, AllocError> {
     match outcome {
-        Outcome::NotNow => line_text(alloc, "NotNow", &[]),
-        Outcome::Begun => line_text(alloc, "begun", &[]),
-        Outcome::Stands(inode) => number_line(alloc, "at", inode),
-        Outcome::Forked => line_text(alloc, "forked", &[]),
-        Outcome::Restarted => line_text(alloc, "restarted", &[]),
-        Outcome::Joined(client) => number_line(alloc, "client", client),
-        Outcome::Replied(number) => match entries.get(number as usize) {
+        Report::NotNow => line_text(alloc, "NotNow", &[]),
+        Report::Begun => line_text(alloc, "begun", &[]),
+        Report::Stands(inode) => number_line(alloc, "at", inode),
+        Report::Forked => line_text(alloc, "forked", &[]),
+        Report::Restarted => line_text(alloc, "restarted", &[]),
+        Report::Joined(client) => number_line(alloc, "client", client),
+        Report::Replied(number) => match entries.get(number as usize) {
             Some(entry) => reply_text_behind(alloc, "reply", &entry.reply),
             None => line_text(alloc, "no such entry", &[]),
         },
-        Outcome::Refused(errno) => reply_text_behind(alloc, "reply", &Reply::Refused(errno)),
+        Report::Refused(errno) => reply_text_behind(alloc, "reply", &Reply::Refused(errno)),
     }
 }
 
@@ -51,7 +51,7 @@ struct Trial {
     alloc: Global,
     world: World,
     steps: Vec<Step>,
-    outcomes: Vec<Outcome>,
+    outcomes: Vec<Report>,
 }
 
 impl Trial {

@@ -1,11 +1,12 @@
 //! Threads that share a tree: one is held in a directory while another one works beside it, and four that move, link
 //! and make in the same two directories come to their ends.
 
-ghost use Rattle.std.specs.Prelude.{◌≡◌, ◌<◌, ◌+◌, length};
+ghost use Rattle.std.specs.Prelude.{◌≡◌, ◌<◌, ◌+◌, length, true};
 ghost use Rattle.std.specs.Thread.{IsSync};
 ghost use Rattle.ll_rights.specs.declared.limits.TheConstants.{TREE_CLIENTS};
 
 use crate::calls::target;
+use ll_audit::audit;
 use ll_client::{Account, Client, Locked, Shape};
 use ll_journal::Made;
 use ll_rights::{Abi, Kind};
@@ -141,6 +142,7 @@ fn opens_holding<N: Shape + Send + Sync, R: Threads + Wait + Sync>(
     requires named { blank ≡ N.table }
     requires slots { N.slots ≡ 64 + TREE_CLIENTS }
     requires limit { N.limit ≡ 100 }
+    requires rules { N.rules ≡ record { abi = 3; copies = true } }
 {
     let flags = Arc::new(
         alloc,
@@ -185,44 +187,76 @@ fn call_of(alloc: Global, thread: usize, is_even: bool) -> Option<Call> {
     }
 }
 
-/// How many of a thread's calls were answered.
+/// The client of a thread whose calls were all answered.
 fn answered<N: Shape>(
     rt: &impl Wait,
     alloc: Global,
     table: &Table<N, NoGate>,
     thread: usize,
-) -> u64 {
-    let Ok(mut me) = table.connect(rt) else {
-        return 0;
-    };
-    let mut answered = 0u64;
+) -> Option<Client<N>> {
+    let mut me = table.connect(rt).ok()?;
     for round in 0..ROUNDS {
-        let Some(call) = call_of(alloc, thread, round % 2 == 0) else {
-            return answered;
-        };
-        let made = table.call(rt, &mut me, call);
-        if matches!(&made, Ok(Made::Replied(_))) && answered < ROUNDS {
-            answered += 1;
-        }
+        let made = table.call(rt, &mut me, call_of(alloc, thread, round % 2 == 0)?);
+        let is_answered = matches!(&made, Ok(Made::Replied(_)));
         drop(made);
+        if !is_answered {
+            return None;
+        }
     }
-    answered
+    Some(me)
 }
 
-/// The directories `/a`, `/b`, `/a/d` and `/b/e`, and the file `/a/f`.
-fn furnishes<N: Shape>(rt: &impl Wait, alloc: Global, table: &Table<N, NoGate>) -> bool {
-    let Ok(mut me) = table.connect(rt) else {
-        return false;
-    };
+/// The client that has made the directories `/a`, `/b`, `/a/d` and `/b/e`, and the file `/a/f`.
+fn furnishes<N: Shape>(
+    rt: &impl Wait,
+    alloc: Global,
+    table: &Table<N, NoGate>,
+) -> Option<Client<N>> {
+    let mut me = table.connect(rt).ok()?;
     for path in ["/a", "/b", "/a/d", "/b/e"] {
         if !does(rt, table, &mut me, make(alloc, Kind::Dir, path)) {
+            return None;
+        }
+    }
+    if does(rt, table, &mut me, make(alloc, Kind::Reg, "/a/f")) {
+        Some(me)
+    } else {
+        None
+    }
+}
+
+/// Whether the tree closes with the clients of the four threads, and its history is legal and has all calls.
+fn closes<N: Shape>(
+    alloc: Global,
+    table: Table<N, NoGate>,
+    maker: Option<Client<N>>,
+    others: Vec<Option<Client<N>>>,
+) -> bool {
+    let mut clients = Vec::new(alloc);
+    if let Some(maker) = maker
+        && clients.push(maker).is_err()
+    {
+        return false;
+    }
+    for other in others {
+        if let Some(other) = other
+            && clients.push(other).is_err()
+        {
             return false;
         }
     }
-    does(rt, table, &mut me, make(alloc, Kind::Reg, "/a/f"))
+    match table.close(clients) {
+        Ok(history) => {
+            history.entries().len() == 400_010 && audit(alloc, RULES, NODES, &history).is_ok()
+        }
+        Err(back) => {
+            drop(back);
+            false
+        }
+    }
 }
 
-/// Whether all calls of the four threads are answered, within the time.
+/// Whether all calls of the four threads are answered, and stand in a legal history.
 fn come_to_ends<N: Shape + Send + Sync, R: Threads + Wait + Sync>(
     rt: &R,
     alloc: Global,
@@ -231,14 +265,12 @@ fn come_to_ends<N: Shape + Send + Sync, R: Threads + Wait + Sync>(
     requires named { blank ≡ N.table }
     requires slots { N.slots ≡ 64 + TREE_CLIENTS }
     requires limit { N.limit ≡ 1000000 }
+    requires rules { N.rules ≡ record { abi = 3; copies = true } }
 {
     let table = Table::<N, NoGate>::open(alloc, blank, RULES, NODES, 1_000_000, NoGate)?;
-    let mut is_right = furnishes(rt, alloc, &table);
-    for count in thread::map_indices(rt, alloc, 4, &|i| answered(rt, alloc, &table, i))? {
-        is_right = is_right && count == ROUNDS;
-    }
-    drop(table);
-    Ok(is_right)
+    let maker = furnishes(rt, alloc, &table);
+    let others = thread::map_indices(rt, alloc, 4, &|i| answered(rt, alloc, &table, i))?;
+    Ok(closes(alloc, table, maker, others))
 }
 
 #[test]

@@ -1,5 +1,9 @@
 -- A client along its walk.
 use Rattle.std.proofs.Common.{◌≡◌, ℕ, Option, Some, None, ap, sym, ◌∙◌, subst, refl}
+use Rattle.std.specs.Prelude.{Bool, true, false, not, ◌&&◌}
+use Rattle.ll_answer.specs.Lean.{spares_memory}
+use Rattle.ll_answer.specs.Passed.{has_path}
+use Rattle.ll_seq.specs.Memory.{takes_memory}
 use Rattle.ll_seq.specs.declared.call.Call.{Call}
 use Rattle.ll_journal.specs.declared.direct.Made.{Made}
 use Rattle.ll_journal.specs.declared.direct.Made.TheVariants as made
@@ -13,15 +17,25 @@ use Rattle.ll_walk.specs.Sections.{Came}
 some_is : {A : Type 0} (x y : A) → Some x ≡ Some y → x ≡ y
 some_is x y e = cc
 
+-- a call of a path that doesn't spare memory takes some
+takes : (call : Call) → has_path call ≡ true → spares_memory call ≡ false → takes_memory call ≡ true
+takes call path spares = by (has_path call) (takes_memory call) path spares
+  where
+    by : (p t : Bool) → p ≡ true → (p && not t) ≡ false → t ≡ true
+    by true true e f = refl
+    by true false e f = absurd (cc f)
+    by false t e f = absurd (cc e)
+
 -- what a walk that was to be left has come to
 pub came : (limit : ℕ) (k : Knows) (it : Left) (k' : Knows) → Goes limit k it k' → Came limit k (made_of it) k'
 came limit k left.NotNow k' g = g
 came limit k left.Astray k' g = g
 came limit k (left.Answered reply) k' g =
-    λ call is. subst (λ (x : Call). Told x reply k k') (some_is g.0 call (sym g.1 ∙ is)) g.2
+    λ call is path. subst (λ (x : Call). Told x reply k k') (some_is g.0 call (sym g.1 ∙ is)) g.2
 came limit k left.Again k' g = g
-came limit k left.HistoryFull k' g = λ call is. g
-came limit k left.NoMemory k' g = λ call is. g
+came limit k left.HistoryFull k' g = λ call is path. g
+came limit k left.NoMemory k' g =
+    λ call is path. (takes call path (ap spares_memory (some_is call g.0 (sym is ∙ g.1)) ∙ g.2), g.3)
 
 -- from where it was when it set out
 pub came_as : (limit : ℕ) (k l : Knows) (it : Left) (o : Option Made) (k' : Knows) → l ≡ k → o ≡ made_of it
@@ -32,13 +46,15 @@ came_as limit k l it o k' is told g =
 
 -- a walk that was begun for a call, and that was answered
 pub gained : (limit : ℕ) (call : Call) (k l : Knows) (it : Made) (k' : Knows) → k.doing ≡ None
-    → l ≡ record k { doing = Some call } → Came limit l (Some it) k' → Gains limit call k it k'
-gained limit call k l it k' idle is c = from it (subst (λ (x : Knows). Came limit x (Some it) k') is c call refl)
+    → (has_path call ≡ true) × (l ≡ record k { doing = Some call }) → Came limit l (Some it) k'
+    → Gains limit call k it k'
+gained limit call k l it k' idle is c =
+    from it (subst (λ (x : Knows). Came limit x (Some it) k') is.1 c call refl is.0)
   where
     from : (it : Made) → Gains limit call (record k { doing = None }) it k' → Gains limit call k it k'
     from (made.Replied reply) h = h
     from made.HistoryFull h = h ∙ (λ i. record k { seen = limit; doing = sym idle i })
-    from made.NoMemory h = h ∙ (λ i. record k { doing = sym idle i })
+    from made.NoMemory h = (h.0, h.1 ∙ (λ i. record k { doing = sym idle i }))
 
 pub stays : (limit : ℕ) (l : Knows) (it : Left) (k' : Knows) → Goes limit l it k' → made_of it ≡ None → k' ≡ l
 stays limit l it k' g none = subst (λ (x : Option Made). Came limit l x k') none (came limit l it k' g)
@@ -49,6 +65,6 @@ again limit l it k' g is = subst (λ (x : Left). Goes limit l x k') is g
 -- a client that had no walk under way has none after its call
 pub idle_after : (limit : ℕ) (call : Call) (k : Knows) (it : Made) (k' : Knows) → k.doing ≡ None
     → Gains limit call k it k' → k'.doing ≡ None
-idle_after limit call k (made.Replied reply) k' idle g = ap (λ (x : Knows). x.doing) g.1
+idle_after limit call k (made.Replied reply) k' idle g = ap (λ (x : Knows). x.doing) g.2
 idle_after limit call k made.HistoryFull k' idle g = ap (λ (x : Knows). x.doing) g ∙ idle
-idle_after limit call k made.NoMemory k' idle g = ap (λ (x : Knows). x.doing) g ∙ idle
+idle_after limit call k made.NoMemory k' idle g = ap (λ (x : Knows). x.doing) g.1 ∙ idle

@@ -1,6 +1,7 @@
 -- What a section is, and what a walk's start comes to. own
-use Rattle.std.specs.Prelude.{◌≡◌, ℕ, ◌<◌, List, map, Option, Some, None, ⊤}
+use Rattle.std.specs.Prelude.{◌≡◌, ℕ, ◌<◌, List, map, Option, Some, None, ⊤, true}
 use Rattle.std.specs.List.{AllByRecursion}
+use Rattle.ll_answer.specs.Passed.{has_path}
 use Rattle.ll_seq.specs.declared.call.Call.{Call}
 use Rattle.ll_journal.specs.declared.direct.Made.{Made}
 use Rattle.ll_journal.specs.declared.next.Next.{Next}
@@ -17,11 +18,13 @@ pub record Shows (b w : Book) (before after : List Kept) : Type 0 where
   pub after_is : after ≡ map (λ (k : Kept). kept_at w k.number) before
   pub others : Spares b w (map (λ (k : Kept). k.number) before)
 
--- None: the client's walk is under way as it was. Some: its call is answered so, and no walk of it is under way
+-- None: the client's walk is under way as it was. Some: its call, of a path, is answered so, and no walk of it is under
+-- way
 abbrev pub Came : ℕ → Knows → Option Made → Knows → Type 0
 Came limit k None k' = k' ≡ k
 Came limit k (Some made) k' =
-    (call : Call) → k.doing ≡ Some call → Gains limit call (record k { doing = None }) made k'
+    (call : Call) → k.doing ≡ Some call → has_path call ≡ true
+    → Gains limit call (record k { doing = None }) made k'
 
 -- the slots that the next step needs are slots of the tree
 abbrev pub AreThere : ℕ → Next → Type 0

@@ -1,6 +1,6 @@
 //! Calls of clients.
 
-ghost use Rattle.std.specs.Prelude.{◌≡◌, ◌∷◌, [], None, IfOk, IfErr};
+ghost use Rattle.std.specs.Prelude.{◌≡◌, ◌∷◌, [], None, IfOk, IfErr, max};
 ghost use Rattle.ll_seq.specs.declared.call.Call.TheVariants as calls;
 ghost use Rattle.ll_seq.specs.declared.reply.Reply.TheVariants as replies;
 ghost use Rattle.ll_client.specs.Coming.{childless};
@@ -82,6 +82,16 @@ impl<N: Shape, G: Gate<N>> Table<N, G> {
             }
         }
         unreachable!()
+    }
+
+    /// Later calls of both stand after all entries of which one of them knew. It makes no entry, and takes no memory.
+    pub fn meet<R: Wait>(&self, rt: &R, one: &mut Client<N>, other: &mut Client<N>)
+        ensures one { one.new.rider
+            ≡ record one.old.rider { seen = max one.old.rider.seen other.old.rider.seen } }
+        ensures other { other.new.rider
+            ≡ record other.old.rider { seen = max one.old.rider.seen other.old.rider.seen } }
+    {
+        self.section(rt).meet(&self.tie, one, other);
     }
 
     /// A client's call, led to its reply. Connect and spawn come back: they have functions of their own.

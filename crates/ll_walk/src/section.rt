@@ -1,18 +1,17 @@
 //! The journal's lock, held.
 
-ghost use Rattle.std.specs.Prelude.{◌≡◌, ◌<◌, ◌≤◌, ℕ, ◌∷◌, [], Some, None, length};
+ghost use Rattle.std.specs.Prelude.{◌≡◌, ◌<◌, ℕ, ◌∷◌, [], Some, max};
 ghost use Rattle.std.specs.Sync.Mutex.{mutex_guard_value};
 ghost use Rattle.ll_journal.specs.Book.{Book};
 ghost use Rattle.ll_journal.specs.Steps.{Does};
 ghost use Rattle.ll_worlds.specs.declared.step.Step.TheVariants.{Descend, Fork};
-ghost use Rattle.ll_client.specs.Gains.{Goes, IsAstray, Leaves};
 ghost use Rattle.ll_walk.specs.Sections.{AreThere, Shows};
 ghost use Rattle.ll_seq.specs.History.{IsLegal};
 ghost use Rattle.ll_seq.specs.State.{start};
 ghost use Rattle.ll_worlds.specs.Walks.{AreApart, AreFew, AreValid, GateIsHeld};
 ghost use Rattle.ll_journal.specs.SlotTree.{HoldTree, accounts_of};
 
-use ll_client::{Account, Desk, Leaving, Left, Locked, Rider, Shape};
+use ll_client::{Account, Client, Desk, Locked, Rider, Shape};
 use ll_journal::{Next, Progress, Station};
 use ll_tie::Tie;
 use std::sync::MutexGuard;
@@ -196,6 +195,17 @@ impl<'a, N: Shape> Section<'a, N> {
     {
         let Section { mut desk } = self;
         view_at(&mut desk, tie, me, here)
+    }
+
+    /// From now on each of the two knows of all entries of which one of them did. It makes no entry.
+    pub fn meet(self, tie: &Tie<N, Account>, one: &mut Client<N>, other: &mut Client<N>)
+        ensures one { one.new.rider
+            ≡ record one.old.rider { seen = max one.old.rider.seen other.old.rider.seen } }
+        ensures other { other.new.rider
+            ≡ record other.old.rider { seen = max one.old.rider.seen other.old.rider.seen } }
+    {
+        let Section { mut desk } = self;
+        desk.meet(tie, one, other);
     }
 
     /// The slot of the root.

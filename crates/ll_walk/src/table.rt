@@ -1,14 +1,15 @@
 //! The locks of a tree.
 
-ghost use Rattle.std.specs.Prelude.{◌≡◌, ◌<◌, ◌≤◌, ◌+◌, IfOk, length, vec_len};
+ghost use Rattle.std.specs.Prelude.{◌≡◌, ℕ, ◌<◌, ◌≤◌, ◌+◌, IfOk, IfErr, length, map, vec_len};
+ghost use Rattle.ll_client.specs.Closed.{IsClosed};
 ghost use Rattle.std.specs.Sync.Mutex.{mutex_guard_value};
 ghost use Rattle.ll_client.specs.Entries.{Kept};
 ghost use Rattle.ll_rights.specs.declared.limits.TheConstants.{HISTORY_ENTRIES, TREE_CLIENTS, TREE_NODES};
 
 use crate::gate::Gate;
 use crate::section::Section;
-use ll_client::{Account, Desk, Locked, Opened, Shape, open};
-use ll_seq::Rules;
+use ll_client::{Account, Client, Desk, Locked, Opened, Shape, close, open};
+use ll_seq::{History, Rules};
 use ll_tie::{Blank, Tie};
 use std::alloc::{AllocError, Global};
 use std::sync::{Mutex, MutexGuard, Wait};
@@ -56,6 +57,7 @@ impl<N: Shape, G: Gate<N>> Table<N, G> {
         requires entries { history ≤ HISTORY_ENTRIES }
         requires slots { N.slots ≡ nodes + TREE_CLIENTS }
         requires limit { N.limit ≡ history }
+        requires rules { N.rules ≡ rules }
     {
         let Opened { tie, desk, slots } = open::<N>(alloc, blank, rules, nodes, history)?;
         Ok(Table {
@@ -65,6 +67,38 @@ impl<N: Shape, G: Gate<N>> Table<N, G> {
             moving: Mutex::new(()),
             gate,
         })
+    }
+
+    /// The history, where the list holds all clients of the tree; else tree and list come back. Waits for nobody, and
+    /// takes no memory.
+    pub fn close(self, clients: Vec<Client<N>>) -> Result<History, (Table<N, G>, Vec<Client<N>>)>
+        ensures closed { IfOk result (λ history. (nodes : ℕ) → N.slots ≡ nodes + TREE_CLIENTS
+            → IsClosed N.rules nodes history.entries (map (λ c. c.rider) clients.items)) }
+        ensures limit { IfOk result (λ history. history.limit ≡ N.limit) }
+        ensures back { IfErr result (λ back. back.1.items ≡ clients.items) }
+    {
+        let Table {
+            tie,
+            slots,
+            desk,
+            moving,
+            gate,
+        } = self;
+        let desk = desk.into_inner();
+        desk.by_law();
+        match close(&tie, desk, clients) {
+            Ok(history) => Ok(history),
+            Err((desk, clients)) => {
+                let table = Table {
+                    tie,
+                    slots,
+                    desk: Mutex::new(desk),
+                    moving,
+                    gate,
+                };
+                Err((table, clients))
+            }
+        }
     }
 
     /// The journal's lock, taken.

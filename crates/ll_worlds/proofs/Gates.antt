@@ -22,7 +22,8 @@ use Rattle.ll_worlds.specs.declared.step.Step.{Step}
 use Rattle.ll_worlds.specs.Walks.{needs_gate, AfterSteps, AreFew, GateIsHeld}
 use Rattle.ll_worlds.proofs.Shapes.{may_hold}
 use Rattle.ll_worlds.proofs.Tests.{or_false, is_nil}
-use Rattle.ll_worlds.proofs.Worlds.{was_other, moved_nothing}
+use Rattle.ll_worlds.proofs.Worlds.{moved_nothing}
+use Rattle.ll_worlds.proofs.WalkMaps.{was_other}
 use Rattle.ll_worlds.proofs.Turns.{Keeps, steps_kept}
 
 pub record IsGood (gate : Option ℕ) (number : ℕ) (walk : Walk) : Type 0 where

@@ -6,6 +6,7 @@ pub mod CarriedMasks
 pub mod Ways
 pub mod Legs
 pub mod Turns
+pub mod WalkMaps
 pub mod Worlds
 pub mod Marks
 pub mod LivingMarks

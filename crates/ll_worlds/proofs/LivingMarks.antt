@@ -32,7 +32,8 @@ use Rattle.ll_worlds.specs.Sound.{HasPlace}
 use Rattle.ll_worlds.proofs.Undisturbed.{done_kinds, done_kept, stays}
 use Rattle.ll_worlds.proofs.CarriedMasks.{one_further}
 use Rattle.ll_worlds.proofs.Legs.{placed_kept}
-use Rattle.ll_worlds.proofs.Worlds.{Holds, holds_on, tree_of, was_other, unwalked_away, marked_away}
+use Rattle.ll_worlds.proofs.Worlds.{Holds, holds_on, tree_of, unwalked_away, marked_away}
+use Rattle.ll_worlds.proofs.WalkMaps.{was_other}
 use Rattle.ll_worlds.proofs.Marks.{turn_marks, fork_marks}
 use Rattle.ll_worlds.proofs.Turns.{Keeps}
 

@@ -20,7 +20,7 @@ use Rattle.ll_worlds.specs.Walk.{with_turn, forked, marks, legs}
 use Rattle.ll_worlds.specs.World.{World, new_world, shown, domain_of, takes_gate, map_values, overtaken, is_marked}
 use Rattle.ll_worlds.specs.World.{moved_by, reply_to}
 use Rattle.ll_worlds.specs.Walks.{AfterSteps, AreApart}
-use Rattle.ll_worlds.proofs.Worlds.{found, was_other}
+use Rattle.ll_worlds.proofs.WalkMaps.{found, was_other}
 use Rattle.ll_worlds.proofs.Turns.{Keeps, steps_kept}
 
 abbrev pub Apart : World → Type 0

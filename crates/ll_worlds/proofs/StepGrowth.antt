@@ -31,8 +31,8 @@ use Rattle.ll_worlds.specs.World.{direct, advance}
 use Rattle.ll_worlds.proofs.Shapes.{begun, committed, entered, join, may_hold, replied, restarted, stood, walking}
 use Rattle.ll_worlds.proofs.Shapes.{with_entry, with_stale}
 use Rattle.ll_worlds.proofs.Tests.{both, not_true}
-use Rattle.ll_worlds.proofs.Worlds.{get-map_values}
-use Rattle.ll_seq.proofs.Consequences.{answered}
+use Rattle.ll_worlds.proofs.WalkMaps.{get-map_values}
+use Rattle.ll_seq.proofs.Settled.{answered}
 
 abbrev pub entry_of : ℕ → Call → Reply → Entry
 entry_of client call reply = record { client = client; call = call; reply = reply }

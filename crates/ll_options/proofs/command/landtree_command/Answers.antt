@@ -20,5 +20,9 @@ returns c =
     ∙ ap₂ with_subcommand top_is (ap (λ (a : App). a.top) c.in_ok-run.ensures.app) in
     let audits = c.in_ok-with_audit.ensures.shape c.in_ok-audit.ensures.local
     ∙ ap₂ with_subcommand runs (ap (λ (a : App). a.top) c.in_ok-audit.ensures.app) in
-    IfOk-weaker c.subcommand-3.result _ _ (λ command adds. adds.shape c.in_ok-schedule.ensures.local
-    ∙ ap₂ with_subcommand audits (ap (λ (a : App). a.top) c.in_ok-schedule.ensures.app)) c.subcommand-3.ensures
+    let schedules = c.in_ok-with_schedule.ensures.shape c.in_ok-schedule.ensures.local
+    ∙ ap₂ with_subcommand audits (ap (λ (a : App). a.top) c.in_ok-schedule.ensures.app) in
+    let tells = c.in_ok-with_rights.ensures.shape c.in_ok-rights.ensures.local
+    ∙ ap₂ with_subcommand schedules (ap (λ (a : App). a.top) c.in_ok-rights.ensures.app) in
+    IfOk-weaker c.subcommand-5.result _ _ (λ command adds. adds.shape c.in_ok-check.ensures.local
+    ∙ ap₂ with_subcommand tells (ap (λ (a : App). a.top) c.in_ok-check.ensures.app)) c.subcommand-5.ensures

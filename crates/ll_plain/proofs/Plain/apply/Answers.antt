@@ -4,8 +4,8 @@ use Rattle.ll_rights.specs.declared.errno.Errno.TheVariants.{NoMemory}
 use Rattle.ll_seq.specs.declared.reply.Reply.{Reply}
 use Rattle.ll_seq.specs.declared.reply.Reply.TheVariants.{Refused, Spawned}
 use Rattle.ll_seq.specs.State.{State}
-use Rattle.ll_seq.proofs.Consequences.{answered, step-clients_stay, step-no_other, step-spawned, step-next}
-use Rattle.ll_seq.proofs.Consequences.{step-not_starved}
+use Rattle.ll_seq.proofs.Consequences.{step-clients_stay, step-no_other, step-spawned, step-next}
+use Rattle.ll_seq.proofs.Settled.{answered, step-not_starved}
 use Rattle.ll_plain.proofs.RefusedCalls.{step-kept}
 use Rattle.ll_plain.specs.Refusal.{is_refusal}
 use Rattle.ll_plain.proofs.Plain.apply.Goals as goal

@@ -10,7 +10,7 @@ use Rattle.ll_plain.proofs.Records.{not_refused, no_denials}
 use Rattle.ll_plain.proofs.StepParts.{does, starves}
 use Rattle.ll_rights.specs.Map.{has}
 use Rattle.ll_seq.specs.State.{State, new_client}
-use Rattle.ll_seq.proofs.FactsKept.{kept_connect}
+use Rattle.ll_seq.proofs.OpensKept.{kept_connect}
 use Rattle.ll_plain.specs.contracts.Plain.{the_view}
 use Rattle.ll_plain.proofs.Tied.{tied_with}
 use Rattle.ll_plain.proofs.Plain.connect.Goals as goal

@@ -3,7 +3,7 @@ use Rattle.std.proofs.Common.{ap, sym, refl, inl, inr, ◌∙◌}
 use Rattle.std.proofs.lemmas.Bool.{false≢true}
 use Rattle.ll_seq.specs.declared.reply.Reply.{Reply}
 use Rattle.ll_seq.specs.State.{State}
-use Rattle.ll_seq.proofs.Consequences.{step-not_starved}
+use Rattle.ll_seq.proofs.Settled.{step-not_starved}
 use Rattle.ll_plain.proofs.Spared.{spared}
 use Rattle.ll_plain.proofs.Plain.perform.Goals as goal
 

@@ -3,7 +3,7 @@ use Rattle.ll_seq.specs.declared.call.Call.{Call}
 use Rattle.ll_seq.specs.declared.call.Call.TheVariants.{Close}
 use Rattle.ll_seq.specs.declared.reply.Reply.{Reply}
 use Rattle.ll_seq.specs.State.{State}
-use Rattle.ll_seq.proofs.Consequences.{step-not_starved}
+use Rattle.ll_seq.proofs.Settled.{step-not_starved}
 use Rattle.ll_plain.specs.Outcomes.{ComesBy}
 use Rattle.ll_plain.proofs.Plain.reply.Goals as goal
 

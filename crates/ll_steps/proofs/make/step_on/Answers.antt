@@ -8,7 +8,7 @@ use Rattle.ll_worlds.specs.declared.step.Step.{Step}
 use Rattle.ll_worlds.specs.declared.step.Step.TheVariants.{Descend, Fork, Restart}
 use Rattle.ll_steps.specs.Contents.{IsKept}
 use Rattle.ll_steps.specs.Makes.{Makes}
-use Rattle.ll_steps.specs.declared.outcome.Outcome.{Outcome}
+use Rattle.ll_steps.specs.declared.report.Report.{Report}
 use Rattle.ll_steps.proofs.ContentsKept.{account_at}
 use Rattle.ll_steps.proofs.LentContents.{bound_of, bounds_again}
 use Rattle.ll_steps.proofs.NextSteps.{Told, commit_comes, descent_comes, entry_comes, fork_comes, nothing_comes}
@@ -85,10 +85,10 @@ module _ (c : goal.After-unless_made) where
   told : Told c.match-next_step.outcome c.unless_made.result
   told = record { made = c.unless_made.ensures.made; idle = c.unless_made.ensures.waits }
 
-  makes : (step' : Step) (o : Outcome) (b : Book) → c.match-next_step.outcome ≡ o → c.match-next_step.journal ≡ b
+  makes : (step' : Step) (o : Report) (b : Book) → c.match-next_step.outcome ≡ o → c.match-next_step.journal ≡ b
       → Makes c.args.journal.now.world step' o b.world
       → Makes c.args.journal.now.world step' c.match-next_step.outcome c.match-next_step.journal.world
-  makes step' o b e f m = subst (λ (p : Outcome × Book). Makes c.args.journal.now.world step' p.0 p.1.world)
+  makes step' o b e f m = subst (λ (p : Report × Book). Makes c.args.journal.now.world step' p.0 p.1.world)
       (λ i. (sym e i, sym f i)) m
 
 pub returns-clause-steps : goal.returns-clause-steps

@@ -4,7 +4,7 @@ use Rattle.ll_seq.specs.declared.reply.Entry.{Entry}
 use Rattle.ll_worlds.specs.declared.step.Step.TheVariants.{Commit}
 use Rattle.ll_steps.specs.Contents.{ended_as}
 use Rattle.ll_steps.specs.Makes.{Makes}
-use Rattle.ll_steps.specs.declared.outcome.Outcome.{Outcome}
+use Rattle.ll_steps.specs.declared.report.Report.{Report}
 use Rattle.ll_steps.proofs.LentContents.{lent_in}
 use Rattle.ll_steps.proofs.WalkMakes.{near_end, ending_makes, ending_keeps, traded}
 use Rattle.ll_steps.proofs.walk.commit_with.Goals as goal
@@ -20,7 +20,7 @@ trade-requires-2-clause-there c =
 
 pub returns-clause-makes : goal.returns-clause-makes
 returns-clause-makes c =
-    subst (λ (o : Outcome). Makes c.args.journal.now.world (Commit c.args.client) o c.commit-ending.new.self.world)
+    subst (λ (o : Report). Makes c.args.journal.now.world (Commit c.args.client) o c.commit-ending.new.self.world)
     (sym (c.ended.ensures ∙ ap (λ (es : List Entry). ended_as (length es) c.commit-ending.result) c.entries.ensures))
     (ending_makes c.args.journal.now c.commit-ending.new.self c.args.client c.commit-ending.result c.requires.kept.sound
     (λ e. near_end c.args.journal.now c.args.client c.args.numbers.now c.requires.enough

@@ -1,3 +1,4 @@
+use Rattle.std.specs.Prelude.{true}
 use Rattle.ll_trials.proofs.threads.walk_held_in_one_directory.Given as goal
 
 -- the table that was just made
@@ -5,4 +6,4 @@ abbrev pub ghosts-opens_holding-N-Naming : goal.ghosts-opens_holding-N-Naming
 ghosts-opens_holding-N-Naming g a = record { table = a.blank }
 
 abbrev pub ghosts-opens_holding-N-Shape : goal.ghosts-opens_holding-N-Shape
-ghosts-opens_holding-N-Shape g a = record { slots = 128; limit = 100 }
+ghosts-opens_holding-N-Shape g a = record { slots = 128; limit = 100; rules = record { abi = 3; copies = true } }

@@ -28,7 +28,8 @@ give_client-requires-clause-seen g c =
 
 pub invariant_of-self : goal.invariant_of-self
 invariant_of-self g c =
-    desk_kept g.N.Shape.slots g.N.Shape.limit c.self.inside.journal c.begin-begun.new.self c.me.inside.number []
+    desk_kept g.N.Shape.slots g.N.Shape.limit g.N.Shape.rules c.self.inside.journal c.begin-begun.new.self
+    c.me.inside.number []
     c.self.inside.keeper c.give_client.new.keeper c.self.invariant
     (begin_steps c.self.inside.journal c.begin-begun.new.self c.me.inside.number c.args.call c.begin-begun.result
     c.self.invariant.sound c.self.invariant.within c.begin-begun.ensures.begun c.begin-begun.ensures.same)

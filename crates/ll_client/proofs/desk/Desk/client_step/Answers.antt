@@ -7,7 +7,7 @@ use Rattle.ll_client.specs.Gains.{Gains}
 use Rattle.ll_client.specs.Hands.{seen_made}
 use Rattle.ll_client.proofs.Accounts.{IsClient, accounts_kept}
 use Rattle.ll_client.proofs.Desks.{desk_kept}
-use Rattle.ll_client.proofs.Directs.{direct_gains, direct_low, direct_steps, direct_still}
+use Rattle.ll_client.proofs.Directs.{alone_takes, direct_gains, direct_low, direct_steps, direct_still}
 use Rattle.ll_client.proofs.desk.Desk.client_step.Goals as goal
 
 pub give_client-requires-clause-all : goal.give_client-requires-clause-all
@@ -43,7 +43,8 @@ give_client-requires-clause-seen g c =
 
 pub invariant_of-self : goal.invariant_of-self
 invariant_of-self g c =
-    desk_kept g.N.Shape.slots g.N.Shape.limit c.self.inside.journal c.client_step-made.new.self c.me.inside.number []
+    desk_kept g.N.Shape.slots g.N.Shape.limit g.N.Shape.rules c.self.inside.journal c.client_step-made.new.self
+    c.me.inside.number []
     c.self.inside.keeper c.give_client.new.keeper c.self.invariant
     (direct_steps c.self.inside.journal c.client_step-made.new.self c.me.inside.number c.args.call
     (ClientStep c.me.inside.number c.args.call) c.client_step-made.result
@@ -71,7 +72,8 @@ returns-clause-mine g c =
     (direct_gains c.self.inside.journal c.client_step-made.new.self c.me.inside.number c.me.inside.seen g.N.Shape.limit
     _ _ c.args.call (ClientStep c.me.inside.number c.args.call) c.client_step-made.result
     (record { mine = refl; asks = refl; idle = refl; other = λ e. cc e }) c.self.invariant.within
-    c.self.invariant.limit_is k c.client_step-made.ensures.does)
+    c.self.invariant.limit_is k
+    (λ e. alone_takes c.args.call (c.client_step-made.ensures.calm e)) c.client_step-made.ensures.does)
 
 pub returns-clause-still : goal.returns-clause-still
 returns-clause-still g c =

@@ -15,27 +15,28 @@ returns-in-Err-clause-starved g c none =
 
 pub newcomer-requires-clause-all : goal.newcomer-requires-clause-all
 newcomer-requires-clause-all g c =
-    let j = joins g.N.Shape.slots g.N.Shape.limit c.self.inside.journal c.connect.new.self c.in-Ok.number
+    let j = joins g.N.Shape.slots g.N.Shape.limit g.N.Shape.rules c.self.inside.journal c.connect.new.self
+    c.in-Ok.number
     c.self.inside.keeper c.self.invariant c.in-Ok.ensures.joined in
     accounts_kept c.self.inside.journal c.connect.new.self c.in-Ok.number [] c.self.inside.keeper
     c.connect.ensures.spares j.steps.moved tt j.came.free c.self.invariant.accounts
 
 pub newcomer-requires-clause-came : goal.newcomer-requires-clause-came
 newcomer-requires-clause-came g c =
-    (joins g.N.Shape.slots g.N.Shape.limit c.self.inside.journal c.connect.new.self c.in-Ok.number
+    (joins g.N.Shape.slots g.N.Shape.limit g.N.Shape.rules c.self.inside.journal c.connect.new.self c.in-Ok.number
     c.self.inside.keeper c.self.invariant c.in-Ok.ensures.joined).came
 
 pub invariant_of-self-2 : goal.invariant_of-self-2
 invariant_of-self-2 g c =
-    desk_kept g.N.Shape.slots g.N.Shape.limit c.self.inside.journal c.connect.new.self c.in-Ok.number []
+    desk_kept g.N.Shape.slots g.N.Shape.limit g.N.Shape.rules c.self.inside.journal c.connect.new.self c.in-Ok.number []
     c.self.inside.keeper c.newcomer.new.keeper c.self.invariant
-    (joins g.N.Shape.slots g.N.Shape.limit c.self.inside.journal c.connect.new.self c.in-Ok.number
+    (joins g.N.Shape.slots g.N.Shape.limit g.N.Shape.rules c.self.inside.journal c.connect.new.self c.in-Ok.number
     c.self.inside.keeper c.self.invariant c.in-Ok.ensures.joined).steps
     c.connect.ensures.spares c.newcomer.ensures.all
 
 pub returns-clause-client : goal.returns-clause-client
 returns-clause-client g c =
     connected c.connect.new.self c.in-Ok.number (length c.entries.result.now) c.newcomer.result.rider
-    (joins g.N.Shape.slots g.N.Shape.limit c.self.inside.journal c.connect.new.self c.in-Ok.number
+    (joins g.N.Shape.slots g.N.Shape.limit g.N.Shape.rules c.self.inside.journal c.connect.new.self c.in-Ok.number
     c.self.inside.keeper c.self.invariant c.in-Ok.ensures.joined).part
     (ap length c.entries.ensures) c.newcomer.ensures.client

@@ -33,7 +33,8 @@ put_slot-requires-2-clause-free g c =
 
 pub invariant_of-self : goal.invariant_of-self
 invariant_of-self g c =
-    desk_kept g.N.Shape.slots g.N.Shape.limit c.self.inside.journal c.descend-outcome.new.self c.me.inside.number
+    desk_kept g.N.Shape.slots g.N.Shape.limit g.N.Shape.rules c.self.inside.journal c.descend-outcome.new.self
+    c.me.inside.number
     (c.from.inside.number ∷ c.to.inside.number ∷ []) c.self.inside.keeper c.give_client.new.keeper c.self.invariant
     ((does_goes c.self.inside.journal c.descend-outcome.new.self (Descend c.me.inside.number) c.descend-outcome.result
     c.self.invariant.sound c.self.invariant.within refl c.descend-outcome.ensures.does).steps)

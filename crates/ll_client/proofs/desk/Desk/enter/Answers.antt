@@ -23,7 +23,8 @@ put_slot-requires-clause-free g c =
 
 pub invariant_of-self : goal.invariant_of-self
 invariant_of-self g c =
-    desk_kept g.N.Shape.slots g.N.Shape.limit c.self.inside.journal c.enter-outcome.new.self c.me.inside.number
+    desk_kept g.N.Shape.slots g.N.Shape.limit g.N.Shape.rules c.self.inside.journal c.enter-outcome.new.self
+    c.me.inside.number
     (c.root.inside.number ∷ []) c.self.inside.keeper c.give_client.new.keeper c.self.invariant
     ((does_goes c.self.inside.journal c.enter-outcome.new.self (Descend c.me.inside.number) c.enter-outcome.result
     c.self.invariant.sound c.self.invariant.within refl c.enter-outcome.ensures.does).steps)

@@ -8,7 +8,8 @@ use Rattle.ll_client.specs.Gains.{Gains}
 use Rattle.ll_client.specs.Hands.{seen_made}
 use Rattle.ll_client.proofs.Accounts.{IsClient, accounts_kept}
 use Rattle.ll_client.proofs.Desks.{desk_kept}
-use Rattle.ll_client.proofs.Directs.{direct_gains, direct_low, direct_steps, direct_still}
+use Rattle.ll_journal.specs.declared.open_file.Unmade.{Unmade}
+use Rattle.ll_client.proofs.Directs.{direct_gains, direct_low, direct_steps, direct_still, file_takes}
 use Rattle.ll_client.proofs.desk.Desk.fd_commit.Goals as goal
 
 pub put_slot-requires-clause-all : goal.put_slot-requires-clause-all
@@ -54,7 +55,8 @@ give_client-requires-clause-seen g c =
 
 pub invariant_of-self : goal.invariant_of-self
 invariant_of-self g c =
-    desk_kept g.N.Shape.slots g.N.Shape.limit c.self.inside.journal c.fd_commit-made.new.self c.me.inside.number
+    desk_kept g.N.Shape.slots g.N.Shape.limit g.N.Shape.rules c.self.inside.journal c.fd_commit-made.new.self
+    c.me.inside.number
     (c.file.inside.number ∷ []) c.self.inside.keeper c.give_client.new.keeper c.self.invariant
     (direct_steps c.self.inside.journal c.fd_commit-made.new.self c.me.inside.number c.args.call
     (FdCommit c.me.inside.number c.args.call) c.fd_commit-made.result
@@ -83,7 +85,10 @@ returns-clause-mine g c =
     (direct_gains c.self.inside.journal c.fd_commit-made.new.self c.me.inside.number c.me.inside.seen g.N.Shape.limit _
     _ c.args.call (FdCommit c.me.inside.number c.args.call) c.fd_commit-made.result
     (record { mine = refl; asks = refl; idle = refl; other = λ e. cc e }) c.self.invariant.within
-    c.self.invariant.limit_is k c.fd_commit-made.ensures.does)
+    c.self.invariant.limit_is k
+    (file_takes Unmade c.self.inside.journal c.fd_commit-made.new.self c.me.inside.number c.args.call
+    c.fd_commit-made.result c.fd_commit-made.ensures.calm c.fd_commit-made.ensures.does)
+    c.fd_commit-made.ensures.does)
 
 pub returns-clause-still : goal.returns-clause-still
 returns-clause-still g c =

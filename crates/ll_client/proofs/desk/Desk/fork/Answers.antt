@@ -16,7 +16,8 @@ give_client-requires-clause-all g c =
 
 pub invariant_of-self : goal.invariant_of-self
 invariant_of-self g c =
-    desk_kept g.N.Shape.slots g.N.Shape.limit c.self.inside.journal c.fork-outcome.new.self c.me.inside.number []
+    desk_kept g.N.Shape.slots g.N.Shape.limit g.N.Shape.rules c.self.inside.journal c.fork-outcome.new.self
+    c.me.inside.number []
     c.self.inside.keeper c.give_client.new.keeper c.self.invariant
     ((does_goes c.self.inside.journal c.fork-outcome.new.self (Fork c.me.inside.number) c.fork-outcome.result
     c.self.invariant.sound c.self.invariant.within refl c.fork-outcome.ensures.does).steps)

@@ -36,7 +36,8 @@ give_client-requires-clause-seen g c =
 
 pub invariant_of-self : goal.invariant_of-self
 invariant_of-self g c =
-    desk_kept g.N.Shape.slots g.N.Shape.limit c.self.inside.journal c.leave_with-left.new.journal c.me.inside.number []
+    desk_kept g.N.Shape.slots g.N.Shape.limit g.N.Shape.rules c.self.inside.journal c.leave_with-left.new.journal
+    c.me.inside.number []
     c.self.inside.keeper c.give_client.new.keeper c.self.invariant
     (left_steps c.args.leaving c.self.inside.journal c.leave_with-left.new.journal c.me.inside.number
     c.leave_with-left.result c.self.invariant.sound c.self.invariant.within c.leave_with-left.ensures.leaves)
@@ -61,4 +62,4 @@ returns-clause-mine g c =
     ))
     (left_goes c.args.leaving c.self.inside.journal c.leave_with-left.new.journal c.me.inside.number c.me.inside.seen
     g.N.Shape.limit _ _ c.leave_with-left.result c.self.invariant.sound c.self.invariant.within
-    c.self.invariant.limit_is k c.leave_with-left.ensures.leaves)
+    c.self.invariant.limit_is k c.leave_with-left.ensures.calm c.leave_with-left.ensures.leaves)

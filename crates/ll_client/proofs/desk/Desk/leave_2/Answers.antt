@@ -60,7 +60,8 @@ leave_by_2-left-requires-clause-distinct g c =
 
 pub invariant_of-self : goal.invariant_of-self
 invariant_of-self g c =
-    desk_kept g.N.Shape.slots g.N.Shape.limit c.self.inside.journal c.leave_by_2-left.new.journal c.me.inside.number
+    desk_kept g.N.Shape.slots g.N.Shape.limit g.N.Shape.rules c.self.inside.journal c.leave_by_2-left.new.journal
+    c.me.inside.number
     (c.a.inside.number ∷ c.b.inside.number ∷ []) c.self.inside.keeper c.give_client.new.keeper c.self.invariant
     (left_steps c.args.leaving c.self.inside.journal c.leave_by_2-left.new.journal c.me.inside.number
     c.leave_by_2-left.result c.self.invariant.sound c.self.invariant.within c.leave_by_2-left.ensures.leaves)
@@ -85,4 +86,4 @@ returns-clause-mine g c =
     ))
     (left_goes c.args.leaving c.self.inside.journal c.leave_by_2-left.new.journal c.me.inside.number c.me.inside.seen
     g.N.Shape.limit _ _ c.leave_by_2-left.result c.self.invariant.sound c.self.invariant.within
-    c.self.invariant.limit_is k c.leave_by_2-left.ensures.leaves)
+    c.self.invariant.limit_is k c.leave_by_2-left.ensures.calm c.leave_by_2-left.ensures.leaves)

@@ -7,5 +7,6 @@ put_slot-requires-clause-free g c = (c.take_slot.ensures.gone.out [] tt).0.0
 
 pub invariant_of-self : goal.invariant_of-self
 invariant_of-self g c =
-    desk_seen g.N.Shape.slots g.N.Shape.limit c.self.inside.journal c.self.inside.keeper c.put_slot.new.keeper
+    desk_seen g.N.Shape.slots g.N.Shape.limit g.N.Shape.rules c.self.inside.journal c.self.inside.keeper
+    c.put_slot.new.keeper
     c.self.invariant c.put_slot.ensures.all

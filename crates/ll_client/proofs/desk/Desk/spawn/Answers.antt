@@ -18,7 +18,7 @@ use Rattle.ll_client.proofs.desk.Desk.spawn.Goals as goal
 
 pub child-child-requires-clause-all : goal.child-child-requires-clause-all
 child-child-requires-clause-all g c =
-    let s : Spawning g.N.Shape.slots g.N.Shape.limit c.self.inside.journal c.client_step-made.new.self
+    let s : Spawning g.N.Shape.slots g.N.Shape.limit g.N.Shape.rules c.self.inside.journal c.client_step-made.new.self
     c.me.inside.number
     c.self.inside.keeper c.take_client.new.keeper c.client_step-made.result c.spawned.result =
     record {
@@ -33,14 +33,14 @@ child-child-requires-clause-all g c =
     } in
     accounts_kept c.self.inside.journal c.client_step-made.new.self c.me.inside.number [] c.take_client.new.keeper
     c.client_step-made.ensures.spares
-    (spawn_steps g.N.Shape.slots g.N.Shape.limit c.self.inside.journal c.client_step-made.new.self
+    (spawn_steps g.N.Shape.slots g.N.Shape.limit g.N.Shape.rules c.self.inside.journal c.client_step-made.new.self
     c.me.inside.number
     c.self.inside.keeper c.take_client.new.keeper c.client_step-made.result c.spawned.result s).moved
     (c.take_client.ensures.gone.out [] tt) c.take_client.ensures.gone.gone c.take_client.ensures.all
 
 pub child-child-requires-clause-came : goal.child-child-requires-clause-came
 child-child-requires-clause-came g c =
-    let s : Spawning g.N.Shape.slots g.N.Shape.limit c.self.inside.journal c.client_step-made.new.self
+    let s : Spawning g.N.Shape.slots g.N.Shape.limit g.N.Shape.rules c.self.inside.journal c.client_step-made.new.self
     c.me.inside.number
     c.self.inside.keeper c.take_client.new.keeper c.client_step-made.result c.spawned.result =
     record {
@@ -53,12 +53,13 @@ child-child-requires-clause-came g c =
       same = c.client_step-made.ensures.same;
       is = c.spawned.ensures;
     } in
-    told_come g.N.Shape.slots g.N.Shape.limit c.self.inside.journal c.client_step-made.new.self c.me.inside.number
+    told_come g.N.Shape.slots g.N.Shape.limit g.N.Shape.rules c.self.inside.journal c.client_step-made.new.self
+    c.me.inside.number
     c.self.inside.keeper c.take_client.new.keeper c.client_step-made.result c.spawned.result s
 
 pub give_client-requires-clause-free : goal.give_client-requires-clause-free
 give_client-requires-clause-free g c =
-    let s : Spawning g.N.Shape.slots g.N.Shape.limit c.self.inside.journal c.client_step-made.new.self
+    let s : Spawning g.N.Shape.slots g.N.Shape.limit g.N.Shape.rules c.self.inside.journal c.client_step-made.new.self
     c.me.inside.number
     c.self.inside.keeper c.take_client.new.keeper c.client_step-made.result c.spawned.result =
     record {
@@ -72,13 +73,14 @@ give_client-requires-clause-free g c =
       is = c.spawned.ensures;
     } in
     c.child-child.ensures.others c.me.inside.number
-    (not_own g.N.Shape.slots g.N.Shape.limit c.self.inside.journal c.client_step-made.new.self c.me.inside.number
+    (not_own g.N.Shape.slots g.N.Shape.limit g.N.Shape.rules c.self.inside.journal c.client_step-made.new.self
+    c.me.inside.number
     c.self.inside.keeper c.take_client.new.keeper c.client_step-made.result c.spawned.result s)
     ∙ c.take_client.ensures.gone.gone
 
 pub give_client-requires-clause-there : goal.give_client-requires-clause-there
 give_client-requires-clause-there g c =
-    let s : Spawning g.N.Shape.slots g.N.Shape.limit c.self.inside.journal c.client_step-made.new.self
+    let s : Spawning g.N.Shape.slots g.N.Shape.limit g.N.Shape.rules c.self.inside.journal c.client_step-made.new.self
     c.me.inside.number
     c.self.inside.keeper c.take_client.new.keeper c.client_step-made.result c.spawned.result =
     record {
@@ -91,13 +93,14 @@ give_client-requires-clause-there g c =
       same = c.client_step-made.ensures.same;
       is = c.spawned.ensures;
     } in
-    (spawn_steps g.N.Shape.slots g.N.Shape.limit c.self.inside.journal c.client_step-made.new.self c.me.inside.number
+    (spawn_steps g.N.Shape.slots g.N.Shape.limit g.N.Shape.rules c.self.inside.journal c.client_step-made.new.self
+    c.me.inside.number
     c.self.inside.keeper c.take_client.new.keeper c.client_step-made.result c.spawned.result s).moved.clients
     c.me.inside.number c.take_client.ensures.there
 
 pub invariant_of-me-2 : goal.invariant_of-me-2
 invariant_of-me-2 g c =
-    let s : Spawning g.N.Shape.slots g.N.Shape.limit c.self.inside.journal c.client_step-made.new.self
+    let s : Spawning g.N.Shape.slots g.N.Shape.limit g.N.Shape.rules c.self.inside.journal c.client_step-made.new.self
     c.me.inside.number
     c.self.inside.keeper c.take_client.new.keeper c.client_step-made.result c.spawned.result =
     record {
@@ -112,14 +115,14 @@ invariant_of-me-2 g c =
     } in
     record {
       idle = ap doing_in c.give_client.ensures.pass
-          ∙ still_idle g.N.Shape.slots g.N.Shape.limit c.self.inside.journal c.client_step-made.new.self
+          ∙ still_idle g.N.Shape.slots g.N.Shape.limit g.N.Shape.rules c.self.inside.journal c.client_step-made.new.self
           c.me.inside.number
           c.self.inside.keeper c.take_client.new.keeper c.client_step-made.result c.spawned.result s;
     }
 
 pub invariant_of-self : goal.invariant_of-self
 invariant_of-self g c =
-    let s : Spawning g.N.Shape.slots g.N.Shape.limit c.self.inside.journal c.client_step-made.new.self
+    let s : Spawning g.N.Shape.slots g.N.Shape.limit g.N.Shape.rules c.self.inside.journal c.client_step-made.new.self
     c.me.inside.number
     c.self.inside.keeper c.take_client.new.keeper c.client_step-made.result c.spawned.result =
     record {
@@ -132,15 +135,17 @@ invariant_of-self g c =
       same = c.client_step-made.ensures.same;
       is = c.spawned.ensures;
     } in
-    desk_kept g.N.Shape.slots g.N.Shape.limit c.self.inside.journal c.client_step-made.new.self c.me.inside.number []
+    desk_kept g.N.Shape.slots g.N.Shape.limit g.N.Shape.rules c.self.inside.journal c.client_step-made.new.self
+    c.me.inside.number []
     c.self.inside.keeper c.give_client.new.keeper c.self.invariant
-    (spawn_steps g.N.Shape.slots g.N.Shape.limit c.self.inside.journal c.client_step-made.new.self c.me.inside.number
+    (spawn_steps g.N.Shape.slots g.N.Shape.limit g.N.Shape.rules c.self.inside.journal c.client_step-made.new.self
+    c.me.inside.number
     c.self.inside.keeper c.take_client.new.keeper c.client_step-made.result c.spawned.result s)
     c.client_step-made.ensures.spares c.give_client.ensures.all
 
 pub returns-clause-refused : goal.returns-clause-refused
 returns-clause-refused g c =
-    let s : Spawning g.N.Shape.slots g.N.Shape.limit c.self.inside.journal c.client_step-made.new.self
+    let s : Spawning g.N.Shape.slots g.N.Shape.limit g.N.Shape.rules c.self.inside.journal c.client_step-made.new.self
     c.me.inside.number
     c.self.inside.keeper c.take_client.new.keeper c.client_step-made.result c.spawned.result =
     record {
@@ -153,7 +158,8 @@ returns-clause-refused g c =
       same = c.client_step-made.ensures.same;
       is = c.spawned.ensures;
     } in
-    let answers = spawn_answers g.N.Shape.slots g.N.Shape.limit c.self.inside.journal c.client_step-made.new.self
+    let answers = spawn_answers g.N.Shape.slots g.N.Shape.limit g.N.Shape.rules c.self.inside.journal
+    c.client_step-made.new.self
     c.me.inside.number
     c.self.inside.keeper c.take_client.new.keeper c.client_step-made.result c.spawned.result s in
     if_err c.child-child.result _ _ (λ errno is.
@@ -164,7 +170,7 @@ returns-clause-refused g c =
 
 pub returns-clause-mine : goal.returns-clause-mine
 returns-clause-mine g c =
-    let s : Spawning g.N.Shape.slots g.N.Shape.limit c.self.inside.journal c.client_step-made.new.self
+    let s : Spawning g.N.Shape.slots g.N.Shape.limit g.N.Shape.rules c.self.inside.journal c.client_step-made.new.self
     c.me.inside.number
     c.self.inside.keeper c.take_client.new.keeper c.client_step-made.result c.spawned.result =
     record {
@@ -186,7 +192,8 @@ returns-clause-mine g c =
     ≡ c.seen_alone-me-inside.result =
     ap (λ (es : List Entry). seen_made c.client_step-made.result c.me.inside.seen (length es)) (sym c.entries.ensures)
     ∙ sym c.seen_alone-me-inside.ensures in
-    let gains = spawn_gains g.N.Shape.slots g.N.Shape.limit c.self.inside.journal c.client_step-made.new.self
+    let gains = spawn_gains g.N.Shape.slots g.N.Shape.limit g.N.Shape.rules c.self.inside.journal
+    c.client_step-made.new.self
     c.me.inside.number
     c.self.inside.keeper c.take_client.new.keeper c.client_step-made.result c.spawned.result s
     c.me.inside.seen (part_in c.me.inside.pass) (doing_in c.me.inside.pass) k in
@@ -208,7 +215,7 @@ returns-clause-mine g c =
 
 pub returns-clause-alone : goal.returns-clause-alone
 returns-clause-alone g c =
-    let s : Spawning g.N.Shape.slots g.N.Shape.limit c.self.inside.journal c.client_step-made.new.self
+    let s : Spawning g.N.Shape.slots g.N.Shape.limit g.N.Shape.rules c.self.inside.journal c.client_step-made.new.self
     c.me.inside.number
     c.self.inside.keeper c.take_client.new.keeper c.client_step-made.result c.spawned.result =
     record {
@@ -230,7 +237,8 @@ returns-clause-alone g c =
     ≡ c.seen_alone-me-inside.result =
     ap (λ (es : List Entry). seen_made c.client_step-made.result c.me.inside.seen (length es)) (sym c.entries.ensures)
     ∙ sym c.seen_alone-me-inside.ensures in
-    let gains = spawn_gains g.N.Shape.slots g.N.Shape.limit c.self.inside.journal c.client_step-made.new.self
+    let gains = spawn_gains g.N.Shape.slots g.N.Shape.limit g.N.Shape.rules c.self.inside.journal
+    c.client_step-made.new.self
     c.me.inside.number
     c.self.inside.keeper c.take_client.new.keeper c.client_step-made.result c.spawned.result s
     c.me.inside.seen (part_in c.me.inside.pass) (doing_in c.me.inside.pass) k in
@@ -252,7 +260,7 @@ returns-clause-alone g c =
 
 pub returns-clause-child : goal.returns-clause-child
 returns-clause-child g c =
-    let s : Spawning g.N.Shape.slots g.N.Shape.limit c.self.inside.journal c.client_step-made.new.self
+    let s : Spawning g.N.Shape.slots g.N.Shape.limit g.N.Shape.rules c.self.inside.journal c.client_step-made.new.self
     c.me.inside.number
     c.self.inside.keeper c.take_client.new.keeper c.client_step-made.result c.spawned.result =
     record {
@@ -268,7 +276,7 @@ returns-clause-child g c =
     if_both c.child-child.result _ _ _ (λ child is known.
     known
     ∙ (λ i. knows child.rider.number
-    ((child_bears g.N.Shape.slots g.N.Shape.limit c.self.inside.journal c.client_step-made.new.self
+    ((child_bears g.N.Shape.slots g.N.Shape.limit g.N.Shape.rules c.self.inside.journal c.client_step-made.new.self
     c.me.inside.number
     c.self.inside.keeper c.take_client.new.keeper c.client_step-made.result c.spawned.result s
     child.rider.number is).part i)

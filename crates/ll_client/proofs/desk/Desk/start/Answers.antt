@@ -34,7 +34,8 @@ give_client-requires-clause-seen g c =
 
 pub invariant_of-self : goal.invariant_of-self
 invariant_of-self g c =
-    desk_kept g.N.Shape.slots g.N.Shape.limit c.self.inside.journal c.start-start.new.self c.me.inside.number []
+    desk_kept g.N.Shape.slots g.N.Shape.limit g.N.Shape.rules c.self.inside.journal c.start-start.new.self
+    c.me.inside.number []
     c.self.inside.keeper c.give_client.new.keeper c.self.invariant
     (started_steps c.self.inside.journal c.start-start.new.self c.me.inside.number c.args.call c.start-start.result
     c.self.invariant.sound c.self.invariant.within c.start-start.ensures.starts)
@@ -59,4 +60,4 @@ returns-clause-mine g c =
     ))
     (started_goes c.self.inside.journal c.start-start.new.self c.me.inside.number c.me.inside.seen g.N.Shape.limit
     _ _ c.args.call c.start-start.result c.self.invariant.within c.self.invariant.limit_is k
-    c.start-start.ensures.starts)
+    c.start-start.ensures.calm c.start-start.ensures.starts)

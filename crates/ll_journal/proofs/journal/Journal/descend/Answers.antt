@@ -1,17 +1,16 @@
-use Rattle.std.proofs.Common.{◌≡◌, [], ◌∷◌, ap, sym, subst, ◌∙◌, refl}
-use Rattle.std.specs.Prelude.{option_and_then, unwrap_or}
-use Rattle.ll_worlds.specs.World.{Stands, NotNow, advance}
+use Rattle.std.proofs.Common.{◌≡◌, ◌<◌, Option, Some, None, ℕ, length, true, ap, sym, subst, ◌∙◌}
+use Rattle.std.specs.Prelude.{is_none, option_and_then, unwrap_or}
+use Rattle.ll_worlds.specs.World.{NotNow, advance}
 use Rattle.ll_worlds.specs.declared.step.Step.TheVariants.{Descend}
 use Rattle.ll_worlds.specs.World as world
-use Rattle.ll_node.specs.Slot.{Slot}
-use Rattle.ll_journal.specs.Book.{Book, Seat, slot_of}
+use Rattle.ll_journal.specs.Book.{Book, slot_of}
 use Rattle.ll_journal.specs.Kept.{seat_at, world_of}
-use Rattle.ll_journal.specs.Checks.{check_descend}
-use Rattle.ll_journal.specs.Steps.{IsAstrayBelow}
-use Rattle.ll_journal.proofs.Starting.{at_place, changed_world, kept_by, over_spares, rest_kept}
-use Rattle.ll_journal.proofs.Entering.{no_walk, one_seat}
-use Rattle.ll_journal.proofs.Descending.{down_not_now, down_astray, down_goes, has_next, down_does, down_sound}
-use Rattle.ll_journal.proofs.Descending.{down_from, down_to, down_spares}
+use Rattle.ll_journal.specs.Steps.{IsAstrayBelow, IsNext}
+use Rattle.ll_journal.proofs.ClientTables.{many_spares}
+use Rattle.ll_journal.proofs.Starting.{at_place}
+use Rattle.ll_journal.proofs.Entering.{no_walk}
+use Rattle.ll_journal.proofs.Descending.{down_not_now, down_astray}
+use Rattle.ll_journal.proofs.SoughtNext.{goes_next, goes_there}
 use Rattle.ll_journal.proofs.journal.Journal.descend.Goals as goal
 
 pub returns-in_default-clause-does : goal.returns-in_default-clause-does
@@ -46,123 +45,28 @@ returns-in-Astray-clause-astray c e =
     c.in-Some.ensures.some.0 c.args.from_slot c.args.to_slot c.args.from.now c.args.to.now lent_from lent_to
     (sym c.check_descend.ensures ∙ c.in-Astray.is))
 
-pub descend-requires : goal.descend-requires
-descend-requires c =
+pub go_down-requires-clause-place : goal.go_down-requires-clause-place
+go_down-requires-clause-place c =
+    subst (λ n. c.in-Some.place < n) (ap length c.deref.ensures.value ∙ sym (many_spares c.self.inside.seats.items)
+    ∙ ap (λ (b : Book). length b.spares) c.self.view_is) c.in-Some.ensures.some.1
+
+pub go_down-requires-clause-next : goal.go_down-requires-clause-next
+go_down-requires-clause-next c =
     let first = at_place c.self.inside.seats.items c.deref.result.now c.args.client c.in-Some.place c.index.result.now
     c.deref.ensures.value c.in-Some.ensures.some c.index.ensures in
     let lent_from = subst (λ (b : Book). c.args.from.now ≡ slot_of b c.args.from_slot) (sym c.self.view_is)
     c.requires.from in
     let lent_to = subst (λ (b : Book). c.args.to.now ≡ slot_of b c.args.to_slot) (sym c.self.view_is) c.requires.to in
-    let at = at_place c.self.inside.seats.items c.deref.result.now c.args.client c.in-Some.place
-    c.index_mut-seat.result.now c.deref.ensures.value c.in-Some.ensures.some c.index_mut-seat.ensures.value in
-    let go = down_goes c.self.inside c.self.invariant c.args.client c.in-Some.place c.index_mut-seat.result.now at
+    subst (λ (b : Book). IsNext b c.args.client c.args.from_slot c.args.to_slot) c.self.view_is
+    (goes_next c.self.inside c.self.invariant c.args.client c.in-Some.place c.index.result.now first
     c.in-Some.ensures.some.0 c.args.from_slot c.args.to_slot c.args.from.now c.args.to.now lent_from lent_to
-    (ap (λ (s : Seat). check_descend c.self.inside.table.facts s c.args.from.now c.args.to.now)
-    (sym (one_seat c.self.inside c.in-Some.place _ _ first at)) ∙ sym c.check_descend.ensures ∙ c.in-Go.is) in
-    has_next c.self.inside c.self.invariant c.args.client c.in-Some.place c.index_mut-seat.result.now at
-    c.in-Some.ensures.some.0 c.args.from_slot c.args.to_slot c.args.from.now c.args.to.now lent_from lent_to go
+    (sym c.check_descend.ensures ∙ c.in-Go.is))
 
-pub invariant_of-self : goal.invariant_of-self
-invariant_of-self c =
-    let first = at_place c.self.inside.seats.items c.deref.result.now c.args.client c.in-Some.place c.index.result.now
-    c.deref.ensures.value c.in-Some.ensures.some c.index.ensures in
-    let lent_from = subst (λ (b : Book). c.args.from.now ≡ slot_of b c.args.from_slot) (sym c.self.view_is)
-    c.requires.from in
-    let lent_to = subst (λ (b : Book). c.args.to.now ≡ slot_of b c.args.to_slot) (sym c.self.view_is) c.requires.to in
-    let at = at_place c.self.inside.seats.items c.deref.result.now c.args.client c.in-Some.place
-    c.index_mut-seat.result.now c.deref.ensures.value c.in-Some.ensures.some c.index_mut-seat.ensures.value in
-    let go = down_goes c.self.inside c.self.invariant c.args.client c.in-Some.place c.index_mut-seat.result.now at
-    c.in-Some.ensures.some.0 c.args.from_slot c.args.to_slot c.args.from.now c.args.to.now lent_from lent_to
-    (ap (λ (s : Seat). check_descend c.self.inside.table.facts s c.args.from.now c.args.to.now)
-    (sym (one_seat c.self.inside c.in-Some.place _ _ first at)) ∙ sym c.check_descend.ensures ∙ c.in-Go.is) in
-    kept_by c.self.inside _ c.in-Some.place c.index_mut-seat.result.now c.descend.new.self c.self.inside.gate
-    c.self.invariant at
-    (ap (λ (s : Seat). s.client) c.descend.ensures) (ap (λ (s : Seat). s.spare) c.descend.ensures)
-    (down_sound c.self.inside c.self.invariant c.args.client c.in-Some.place c.index_mut-seat.result.now at
-    c.in-Some.ensures.some.0 c.args.from_slot c.args.to_slot c.args.from.now c.args.to.now lent_from lent_to go
-    c.descend.new.self c.descend.ensures)
-    refl refl refl refl refl refl
+unmarked : (o : Option ℕ) → is_none o ≡ true → o ≡ None
+unmarked None e = cc
+unmarked (Some x) e = absurd (cc e)
 
-pub returns-clause-does : goal.returns-clause-does
-returns-clause-does c =
-    let first = at_place c.self.inside.seats.items c.deref.result.now c.args.client c.in-Some.place c.index.result.now
-    c.deref.ensures.value c.in-Some.ensures.some c.index.ensures in
-    let lent_from = subst (λ (b : Book). c.args.from.now ≡ slot_of b c.args.from_slot) (sym c.self.view_is)
-    c.requires.from in
-    let lent_to = subst (λ (b : Book). c.args.to.now ≡ slot_of b c.args.to_slot) (sym c.self.view_is) c.requires.to in
-    let at = at_place c.self.inside.seats.items c.deref.result.now c.args.client c.in-Some.place
-    c.index_mut-seat.result.now c.deref.ensures.value c.in-Some.ensures.some c.index_mut-seat.ensures.value in
-    let go = down_goes c.self.inside c.self.invariant c.args.client c.in-Some.place c.index_mut-seat.result.now at
-    c.in-Some.ensures.some.0 c.args.from_slot c.args.to_slot c.args.from.now c.args.to.now lent_from lent_to
-    (ap (λ (s : Seat). check_descend c.self.inside.table.facts s c.args.from.now c.args.to.now)
-    (sym (one_seat c.self.inside c.in-Some.place _ _ first at)) ∙ sym c.check_descend.ensures ∙ c.in-Go.is) in
-    subst (λ (b : Book). advance b.world (Descend c.args.client)
-    ≡ (
-      Stands c.args.to.now.inode,
-      changed_world c.self.inside c.in-Some.place c.descend.new.self c.self.inside.gate,
-    )) c.self.view_is
-    (down_does c.self.inside c.self.invariant c.args.client c.in-Some.place c.index_mut-seat.result.now at
-    c.in-Some.ensures.some.0 c.args.from_slot c.args.to_slot c.args.from.now c.args.to.now lent_from lent_to go
-    c.descend.new.self c.descend.ensures)
-
-pub returns-clause-from : goal.returns-clause-from
-returns-clause-from c =
-    let first = at_place c.self.inside.seats.items c.deref.result.now c.args.client c.in-Some.place c.index.result.now
-    c.deref.ensures.value c.in-Some.ensures.some c.index.ensures in
-    let lent_from = subst (λ (b : Book). c.args.from.now ≡ slot_of b c.args.from_slot) (sym c.self.view_is)
-    c.requires.from in
-    let lent_to = subst (λ (b : Book). c.args.to.now ≡ slot_of b c.args.to_slot) (sym c.self.view_is) c.requires.to in
-    let at = at_place c.self.inside.seats.items c.deref.result.now c.args.client c.in-Some.place
-    c.index_mut-seat.result.now c.deref.ensures.value c.in-Some.ensures.some c.index_mut-seat.ensures.value in
-    let go = down_goes c.self.inside c.self.invariant c.args.client c.in-Some.place c.index_mut-seat.result.now at
-    c.in-Some.ensures.some.0 c.args.from_slot c.args.to_slot c.args.from.now c.args.to.now lent_from lent_to
-    (ap (λ (s : Seat). check_descend c.self.inside.table.facts s c.args.from.now c.args.to.now)
-    (sym (one_seat c.self.inside c.in-Some.place _ _ first at)) ∙ sym c.check_descend.ensures ∙ c.in-Go.is) in
-    down_from c.self.inside c.self.invariant c.args.client c.in-Some.place c.index_mut-seat.result.now at
-    c.in-Some.ensures.some.0 c.args.from_slot c.args.to_slot c.args.from.now c.args.to.now lent_from lent_to go
-    c.descend.new.self c.descend.ensures c.mark_in.result c.set_mark.new.self c.mark_in.ensures c.set_mark.ensures
-
-pub returns-clause-to : goal.returns-clause-to
-returns-clause-to c =
-    let first = at_place c.self.inside.seats.items c.deref.result.now c.args.client c.in-Some.place c.index.result.now
-    c.deref.ensures.value c.in-Some.ensures.some c.index.ensures in
-    let lent_from = subst (λ (b : Book). c.args.from.now ≡ slot_of b c.args.from_slot) (sym c.self.view_is)
-    c.requires.from in
-    let lent_to = subst (λ (b : Book). c.args.to.now ≡ slot_of b c.args.to_slot) (sym c.self.view_is) c.requires.to in
-    let at = at_place c.self.inside.seats.items c.deref.result.now c.args.client c.in-Some.place
-    c.index_mut-seat.result.now c.deref.ensures.value c.in-Some.ensures.some c.index_mut-seat.ensures.value in
-    let go = down_goes c.self.inside c.self.invariant c.args.client c.in-Some.place c.index_mut-seat.result.now at
-    c.in-Some.ensures.some.0 c.args.from_slot c.args.to_slot c.args.from.now c.args.to.now lent_from lent_to
-    (ap (λ (s : Seat). check_descend c.self.inside.table.facts s c.args.from.now c.args.to.now)
-    (sym (one_seat c.self.inside c.in-Some.place _ _ first at)) ∙ sym c.check_descend.ensures ∙ c.in-Go.is) in
-    down_to c.self.inside c.self.invariant c.args.client c.in-Some.place c.index_mut-seat.result.now at
-    c.in-Some.ensures.some.0 c.args.from_slot c.args.to_slot c.args.from.now c.args.to.now lent_from lent_to go
-    c.descend.new.self c.descend.ensures c.set_mark-2.new.self c.set_mark-2.ensures
-
-pub returns-clause-spares : goal.returns-clause-spares
-returns-clause-spares c =
-    let first = at_place c.self.inside.seats.items c.deref.result.now c.args.client c.in-Some.place c.index.result.now
-    c.deref.ensures.value c.in-Some.ensures.some c.index.ensures in
-    let lent_from = subst (λ (b : Book). c.args.from.now ≡ slot_of b c.args.from_slot) (sym c.self.view_is)
-    c.requires.from in
-    let lent_to = subst (λ (b : Book). c.args.to.now ≡ slot_of b c.args.to_slot) (sym c.self.view_is) c.requires.to in
-    let at = at_place c.self.inside.seats.items c.deref.result.now c.args.client c.in-Some.place
-    c.index_mut-seat.result.now c.deref.ensures.value c.in-Some.ensures.some c.index_mut-seat.ensures.value in
-    let go = down_goes c.self.inside c.self.invariant c.args.client c.in-Some.place c.index_mut-seat.result.now at
-    c.in-Some.ensures.some.0 c.args.from_slot c.args.to_slot c.args.from.now c.args.to.now lent_from lent_to
-    (ap (λ (s : Seat). check_descend c.self.inside.table.facts s c.args.from.now c.args.to.now)
-    (sym (one_seat c.self.inside c.in-Some.place _ _ first at)) ∙ sym c.check_descend.ensures ∙ c.in-Go.is) in
-    over_spares _ _ _ (c.args.from_slot ∷ c.args.to_slot ∷ []) c.self.view_is
-    (down_spares c.self.inside c.self.invariant c.args.client c.in-Some.place c.index_mut-seat.result.now at
-    c.in-Some.ensures.some.0 c.args.from_slot c.args.to_slot c.args.from.now c.args.to.now lent_from lent_to go
-    c.descend.new.self c.descend.ensures _ refl refl)
-
-pub returns-clause-rest : goal.returns-clause-rest
-returns-clause-rest c =
-    let at = at_place c.self.inside.seats.items c.deref.result.now c.args.client c.in-Some.place
-    c.index_mut-seat.result.now c.deref.ensures.value c.in-Some.ensures.some c.index_mut-seat.ensures.value in
-    rest_kept c.self.inside c.in-Some.place c.index_mut-seat.result.now c.descend.new.self at
-    (ap (λ (s : Seat). s.spare) c.descend.ensures) _ c.args.self.now c.self.view_is
-
-pub returns-clause-stands : goal.returns-clause-stands
-returns-clause-stands c inode e = (cc e, ap (λ (s : Slot). s.mark) c.set_mark-2.ensures)
+pub go_down-requires-clause-free : goal.go_down-requires-clause-free
+go_down-requires-clause-free c = unmarked c.args.to.now.node.mark
+    (goes_there c.self.inside.table.facts c.args.from.now c.args.to.now c.index.result.now
+    (sym c.check_descend.ensures ∙ c.in-Go.is)).1

@@ -7,9 +7,9 @@ use Rattle.ll_journal.specs.Book.{Book, Seat, slot_of}
 use Rattle.ll_journal.specs.Direct.{IsAstrayOn}
 use Rattle.ll_journal.specs.Kept.{seat_at}
 use Rattle.ll_journal.proofs.Starting.{at_place}
-use Rattle.ll_journal.proofs.FileSteps.{FileStepped, opened_idle, idle_open, no_seat, no_descriptor, not_open, astray}
-use Rattle.ll_journal.proofs.FileSteps.{file_full, same_inode, plain, served, over_file_stepped, over_file_not_now}
-use Rattle.ll_journal.proofs.FileSteps.{over_file_full}
+use Rattle.ll_journal.proofs.FileSteps.{FileStepped, served, over_file_stepped, over_file_not_now, over_file_full}
+use Rattle.ll_journal.proofs.CalledFiles.{opened_idle, idle_open, no_seat, no_descriptor, not_open, astray, file_full}
+use Rattle.ll_journal.proofs.CalledFiles.{same_inode, plain}
 use Rattle.ll_journal.proofs.journal.Journal.fd_commit.Goals as goal
 
 pub returns-in_default-clause-back : goal.returns-in_default-clause-back

@@ -1,7 +1,8 @@
 use Rattle.std.proofs.Common.{sym, subst}
 use Rattle.ll_rights.specs.Map.{remove}
 use Rattle.ll_seq.specs.Effects.{with_client}
-use Rattle.ll_seq.proofs.FactsKept.{Steps, less_opens, kept_closed, kept_let_go, goes}
+use Rattle.ll_seq.proofs.FactsKept.{Steps, kept_let_go, goes}
+use Rattle.ll_seq.proofs.OpensKept.{less_opens, kept_closed}
 use Rattle.ll_seq.proofs.facts.NumberMap+Fact.close.Goals as goal
 
 pub returns-clause-kept : goal.returns-clause-kept

@@ -1,7 +1,8 @@
 use Rattle.std.proofs.Common.{ap, sym, subst, ◌∙◌}
 use Rattle.ll_rights.specs.Map.{has}
 use Rattle.ll_seq.specs.Facts.{has_room}
-use Rattle.ll_seq.proofs.FactsKept.{Steps, more_opens, kept_open}
+use Rattle.ll_seq.proofs.FactsKept.{Steps}
+use Rattle.ll_seq.proofs.OpensKept.{more_opens, kept_open}
 use Rattle.ll_seq.proofs.facts.NumberMap+Fact.open.Goals as goal
 
 pub returns : goal.returns

@@ -7,7 +7,8 @@ use Rattle.ll_seq.specs.declared.client.Descriptor.{Descriptor}
 use Rattle.ll_seq.specs.Effects.{child_of}
 use Rattle.ll_seq.specs.Facts.{have_room}
 use Rattle.ll_seq.proofs.OrderedTables.{of_rows}
-use Rattle.ll_seq.proofs.FactsKept.{Steps, all_opens, none_yet, all_more, kept_copies}
+use Rattle.ll_seq.proofs.FactsKept.{Steps}
+use Rattle.ll_seq.proofs.OpensKept.{all_opens, none_yet, all_more, kept_copies}
 use Rattle.ll_seq.proofs.facts.NumberMap+Fact.open_all.Goals as goal
 
 pub loop-row-init : goal.loop-row-init

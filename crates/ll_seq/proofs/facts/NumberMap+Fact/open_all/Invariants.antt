@@ -1,5 +1,6 @@
 use Rattle.std.proofs.Common.{take}
-use Rattle.ll_seq.proofs.FactsKept.{Steps, all_opens}
+use Rattle.ll_seq.proofs.FactsKept.{Steps}
+use Rattle.ll_seq.proofs.OpensKept.{all_opens}
 use Rattle.ll_seq.proofs.facts.NumberMap+Fact.open_all.Given as goal
 
 -- those so far are counted

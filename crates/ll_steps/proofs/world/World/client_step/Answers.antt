@@ -5,7 +5,7 @@ use Rattle.ll_worlds.specs.World.{World}
 use Rattle.ll_worlds.specs.declared.step.Step.TheVariants.{ClientStep}
 use Rattle.ll_steps.specs.Contents.{answered_as}
 use Rattle.ll_steps.specs.Makes.{Makes}
-use Rattle.ll_steps.specs.declared.outcome.Outcome.{Outcome}
+use Rattle.ll_steps.specs.declared.report.Report.{Report}
 use Rattle.ll_steps.proofs.DirectMakes.{alone_keeps, answer_makes, takes_so}
 use Rattle.ll_steps.proofs.world.World.client_step.Goals as goal
 use Rattle.ll_steps.proofs.world.World.client_step.Goals.{in-Ok, in-Err}
@@ -18,13 +18,13 @@ invariant_of-self c = alone_keeps _ _ _ c.args.client c.args.call c.client_step.
 pub returns-clause-makes : goal.returns-clause-makes
 returns-clause-makes c = subst
     (λ (v : World). IfOk c.match-client_step.result
-    (λ (o : Outcome). Makes v (ClientStep c.args.client c.args.call) o c.client_step.new.self.world)) c.self.view_is
+    (λ (o : Report). Makes v (ClientStep c.args.client c.args.call) o c.client_step.new.self.world)) c.self.view_is
     (elim c.match-client_step.branch [
       | in-Ok w ↦
-          subst (λ (r : Result Outcome Call). IfOk r
-          (λ (o : Outcome). Makes c.self.inside.journal.world (ClientStep c.args.client c.args.call) o
+          subst (λ (r : Result Report Call). IfOk r
+          (λ (o : Report). Makes c.self.inside.journal.world (ClientStep c.args.client c.args.call) o
           c.client_step.new.self.world)) (sym w.result-is)
-          (subst (λ (o : Outcome). Makes c.self.inside.journal.world (ClientStep c.args.client c.args.call) o
+          (subst (λ (o : Report). Makes c.self.inside.journal.world (ClientStep c.args.client c.args.call) o
           c.client_step.new.self.world)
           (sym (w.answered.ensures
           ∙ ap (λ (es : List Entry). answered_as (length es) w.in-Ok.answer) c.entries.ensures))
@@ -32,7 +32,7 @@ returns-clause-makes c = subst
           c.args.client
           c.args.call w.in-Ok.answer (λ e. cc e) refl refl
           (λ e. takes_so c.args.call (w.in-Ok.ensures.calm (ap Ok e))) w.in-Ok.ensures.does))
-      | in-Err w ↦ subst (λ (r : Result Outcome Call). IfOk r
-          (λ (o : Outcome). Makes c.self.inside.journal.world (ClientStep c.args.client c.args.call) o
+      | in-Err w ↦ subst (λ (r : Result Report Call). IfOk r
+          (λ (o : Report). Makes c.self.inside.journal.world (ClientStep c.args.client c.args.call) o
           c.client_step.new.self.world)) (sym w.result-is) tt
     ])

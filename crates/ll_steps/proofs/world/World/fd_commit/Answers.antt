@@ -5,7 +5,7 @@ use Rattle.ll_worlds.specs.World.{World, NotNow, advance}
 use Rattle.ll_worlds.specs.declared.step.Step.TheVariants.{FdCommit}
 use Rattle.ll_steps.specs.Contents.{answered_as}
 use Rattle.ll_steps.specs.Makes.{Makes}
-use Rattle.ll_steps.specs.declared.outcome.Outcome.{Outcome}
+use Rattle.ll_steps.specs.declared.report.Report.{Report}
 use Rattle.ll_steps.proofs.DirectMakes.{not_open, file_keeps, answer_makes, file_takes}
 use Rattle.ll_steps.proofs.LentContents.{bound_of, at_index}
 use Rattle.ll_steps.proofs.world.World.fd_commit.Goals as goal
@@ -40,13 +40,13 @@ invariant_of-self c =
 pub returns-clause-makes : goal.returns-clause-makes
 returns-clause-makes c = subst
     (λ (v : World). IfOk c.match-fd_commit.result
-    (λ (o : Outcome). Makes v (FdCommit c.args.client c.args.call) o c.fd_commit.new.self.world)) c.self.view_is
+    (λ (o : Report). Makes v (FdCommit c.args.client c.args.call) o c.fd_commit.new.self.world)) c.self.view_is
     (elim c.match-fd_commit.branch [
       | in-Ok w ↦
-          subst (λ (r : Result Outcome Call). IfOk r
-          (λ (o : Outcome). Makes c.self.inside.journal.world (FdCommit c.args.client c.args.call) o
+          subst (λ (r : Result Report Call). IfOk r
+          (λ (o : Report). Makes c.self.inside.journal.world (FdCommit c.args.client c.args.call) o
           c.fd_commit.new.self.world)) (sym w.result-is)
-          (subst (λ (o : Outcome). Makes c.self.inside.journal.world (FdCommit c.args.client c.args.call) o
+          (subst (λ (o : Report). Makes c.self.inside.journal.world (FdCommit c.args.client c.args.call) o
           c.fd_commit.new.self.world)
           (sym (w.answered.ensures
           ∙ ap (λ (es : List Entry). answered_as (length es) w.in-Ok.answer) c.entries.ensures))
@@ -54,7 +54,7 @@ returns-clause-makes c = subst
           c.args.call w.in-Ok.answer (λ e. cc e) refl refl
           (λ e. file_takes c.args.call c.in-Some.fd (sym c.in-Some.ensures) (w.in-Ok.ensures.calm (ap Ok e)))
           w.in-Ok.ensures.does))
-      | in-Err-NotNow w ↦ subst (λ (r : Result Outcome Call). IfOk r
-          (λ (o : Outcome). Makes c.self.inside.journal.world (FdCommit c.args.client c.args.call) o
+      | in-Err-NotNow w ↦ subst (λ (r : Result Report Call). IfOk r
+          (λ (o : Report). Makes c.self.inside.journal.world (FdCommit c.args.client c.args.call) o
           c.fd_commit.new.self.world)) (sym w.result-is) tt
     ])

@@ -5,8 +5,8 @@ use Rattle.ll_worlds.specs.declared.step.Step.TheVariants.{FdCommit}
 use Rattle.ll_journal.specs.declared.start.Start.TheVariants as start
 use Rattle.ll_steps.specs.Calling.{Calls, Waits}
 use Rattle.ll_steps.specs.Contents.{answered_as}
-use Rattle.ll_steps.specs.declared.outcome.Outcome.{Outcome}
-use Rattle.ll_steps.specs.declared.outcome.Outcome.TheVariants.{NotNow}
+use Rattle.ll_steps.specs.declared.report.Report.{Report}
+use Rattle.ll_steps.specs.declared.report.Report.TheVariants.{NotNow}
 use Rattle.ll_steps.proofs.DirectMakes.{back_calls, made_calls, start_keeps}
 use Rattle.ll_steps.proofs.world.World.start.Goals as goal
 
@@ -23,7 +23,7 @@ invariant_of-self-in-Begun c =
 -- it is made at once, as the outcome is told
 pub returns-in-Made-clause-stops : goal.returns-in-Made-clause-stops
 returns-in-Made-clause-stops c =
-    let at : World → Outcome → Type 0 = λ v o.
+    let at : World → Report → Type 0 = λ v o.
     Waits v (FdCommit c.args.client c.args.call) → Calls v c.args.client c.args.call o c.start.new.self.world in
     let told : c.answered.result ≡ answered_as (length c.self.inside.journal.world.history) c.in-Made.answer =
     c.answered.ensures ∙ ap (λ (es : List Entry). answered_as (length es) c.in-Made.answer) c.entries.ensures in

@@ -1,0 +1,163 @@
+//! Calls on paths.
+
+ghost use Rattle.ll_seq.specs.declared.call.Call.TheVariants as calls;
+ghost use Rattle.ll_seq.specs.declared.reply.Reply.TheVariants as replies;
+ghost use Rattle.ll_client.specs.Gains.{Gains};
+ghost use Rattle.ll_calls.specs.Typed.{made_as};
+
+use crate::made::{done, found, listed, opened};
+use crate::refused::Refused;
+use crate::tree::Tree;
+use ll_client::{Client, Shape};
+use ll_path::Target;
+use ll_rights::Kind;
+use ll_seq::{Call, Listing, Mode, Status};
+use ll_walk::Gate;
+use std::sync::Wait;
+
+impl<N: Shape, G: Gate<N>> Tree<N, G> {
+    /// A new empty node of this kind. mkdir(2), mknod(2)
+    pub fn make<R: Wait>(
+        &self,
+        rt: &R,
+        me: &mut Client<N>,
+        kind: Kind,
+        target: Target,
+    ) -> Result<(), Refused>
+        ensures { Gains N.limit (calls.Make kind target) me.old.rider (made_as (λ nothing. replies.Done) result)
+            me.new.rider }
+    {
+        done(self.made(rt, me, Call::Make(kind, target)))
+    }
+
+    /// A descriptor of the file: the least number that is free, from 0 on. open(2)
+    pub fn open_file<R: Wait>(
+        &self,
+        rt: &R,
+        me: &mut Client<N>,
+        mode: Mode,
+        target: Target,
+    ) -> Result<u64, Refused>
+        ensures { Gains N.limit (calls.Open mode target) me.old.rider (made_as replies.Opened result) me.new.rider }
+    {
+        opened(self.made(rt, me, Call::Open(mode, target)))
+    }
+
+    /// The file is cut to this many bytes, or filled with zeros to them. truncate(2)
+    pub fn truncate<R: Wait>(
+        &self,
+        rt: &R,
+        me: &mut Client<N>,
+        target: Target,
+        size: u64,
+    ) -> Result<(), Refused>
+        ensures { Gains N.limit (calls.Truncate target size) me.old.rider (made_as (λ nothing. replies.Done) result)
+            me.new.rider }
+    {
+        done(self.made(rt, me, Call::Truncate(target, size)))
+    }
+
+    /// The names in the directory, rising by bytes. readdir(3)
+    pub fn read_dir<R: Wait>(
+        &self,
+        rt: &R,
+        me: &mut Client<N>,
+        target: Target,
+    ) -> Result<Listing, Refused>
+        ensures { Gains N.limit (calls.ReadDir target) me.old.rider (made_as replies.Listed result) me.new.rider }
+    {
+        listed(self.made(rt, me, Call::ReadDir(target)))
+    }
+
+    /// What the node is. Takes no memory. stat(2)
+    pub fn stat<R: Wait>(
+        &self,
+        rt: &R,
+        me: &mut Client<N>,
+        target: Target,
+    ) -> Result<Status, Refused>
+        ensures { Gains N.limit (calls.Stat target) me.old.rider (made_as replies.Found result) me.new.rider }
+    {
+        found(self.made(rt, me, Call::Stat(target)))
+    }
+
+    /// Whether the file may be executed. Takes no memory. execve(2)
+    pub fn exec<R: Wait>(&self, rt: &R, me: &mut Client<N>, target: Target) -> Result<(), Refused>
+        ensures { Gains N.limit (calls.Exec target) me.old.rider (made_as (λ nothing. replies.Done) result)
+            me.new.rider }
+    {
+        done(self.made(rt, me, Call::Exec(target)))
+    }
+
+    /// The name of a node that is no directory goes. Takes no memory. unlink(2)
+    pub fn unlink<R: Wait>(&self, rt: &R, me: &mut Client<N>, target: Target) -> Result<(), Refused>
+        ensures { Gains N.limit (calls.Unlink target) me.old.rider (made_as (λ nothing. replies.Done) result)
+            me.new.rider }
+    {
+        done(self.made(rt, me, Call::Unlink(target)))
+    }
+
+    /// The empty directory goes. Takes no memory. rmdir(2)
+    pub fn rmdir<R: Wait>(&self, rt: &R, me: &mut Client<N>, target: Target) -> Result<(), Refused>
+        ensures { Gains N.limit (calls.Rmdir target) me.old.rider (made_as (λ nothing. replies.Done) result)
+            me.new.rider }
+    {
+        done(self.made(rt, me, Call::Rmdir(target)))
+    }
+
+    /// The node at the first path gets the second in the place of it. What the second named loses that name. rename(2)
+    pub fn rename<R: Wait>(
+        &self,
+        rt: &R,
+        me: &mut Client<N>,
+        from: Target,
+        into: Target,
+    ) -> Result<(), Refused>
+        ensures { Gains N.limit (calls.Rename from into) me.old.rider (made_as (λ nothing. replies.Done) result)
+            me.new.rider }
+    {
+        done(self.made(rt, me, Call::Rename(from, into)))
+    }
+
+    /// The same, where the second path names nothing. rename(2), RENAME_NOREPLACE
+    pub fn rename_noreplace<R: Wait>(
+        &self,
+        rt: &R,
+        me: &mut Client<N>,
+        from: Target,
+        into: Target,
+    ) -> Result<(), Refused>
+        ensures { Gains N.limit (calls.RenameNoreplace from into) me.old.rider
+            (made_as (λ nothing. replies.Done) result) me.new.rider }
+    {
+        done(self.made(rt, me, Call::RenameNoreplace(from, into)))
+    }
+
+    /// The nodes at the two paths change places. Takes no memory. rename(2), RENAME_EXCHANGE
+    pub fn exchange<R: Wait>(
+        &self,
+        rt: &R,
+        me: &mut Client<N>,
+        from: Target,
+        into: Target,
+    ) -> Result<(), Refused>
+        ensures { Gains N.limit (calls.Exchange from into) me.old.rider (made_as (λ nothing. replies.Done) result)
+            me.new.rider }
+    {
+        done(self.made(rt, me, Call::Exchange(from, into)))
+    }
+
+    /// The node at the first path gets the second as a further name. link(2)
+    pub fn link<R: Wait>(
+        &self,
+        rt: &R,
+        me: &mut Client<N>,
+        from: Target,
+        into: Target,
+    ) -> Result<(), Refused>
+        ensures { Gains N.limit (calls.Link from into) me.old.rider (made_as (λ nothing. replies.Done) result)
+            me.new.rider }
+    {
+        done(self.made(rt, me, Call::Link(from, into)))
+    }
+}

@@ -1,0 +1,125 @@
+//! A tree that threads share.
+
+ghost use Rattle.std.specs.Prelude.{◌≡◌, ◌⊎◌, ℕ, ◌+◌, ◌∷◌, [], None, OnOk, IfOk, IfErr, map, max};
+ghost use Rattle.ll_rights.specs.declared.limits.TheConstants.{TREE_CLIENTS};
+ghost use Rattle.ll_seq.specs.declared.call.Call.TheVariants as calls;
+ghost use Rattle.ll_seq.specs.declared.reply.Reply.TheVariants as replies;
+ghost use Rattle.ll_client.specs.Closed.{IsClosed};
+ghost use Rattle.ll_client.specs.Coming.{childless};
+ghost use Rattle.ll_client.specs.Entries.{knows, numbered};
+ghost use Rattle.ll_client.specs.Gains.{Gains, Told};
+ghost use Rattle.ll_client.specs.Replies.{success};
+ghost use Rattle.ll_calls.specs.Opening.{MayOpen};
+ghost use Rattle.ll_calls.specs.Typed.{FitsMade};
+
+use ll_client::{Account, Client, Shape};
+use ll_journal::Made;
+use ll_rights::Errno;
+use ll_rights::limits::{HISTORY_ENTRIES, TREE_NODES};
+use ll_seq::{Call, History, Rules};
+use ll_tie::Blank;
+use ll_walk::{Gate, Table};
+use std::alloc::Global;
+use std::sync::Wait;
+use std::thread;
+
+/// A tree that threads share. Each call is answered as by a tree that makes the calls of all clients one after the
+/// other, each client's in its order.
+#[derive(Drop)]
+pub struct Tree<N: Shape, G: Gate<N>> {
+    table: Table<N, G>,
+}
+
+impl<N: Shape, G: Gate<N>> Tree<N, G> {
+    /// A tree of the root alone, in which 1 to 4,096 nodes may live, and whose history may have 1 to 1,000,000 entries,
+    /// for which room is reserved. Errors: EINVAL outside these limits, NoMemory. Waits for nobody.
+    pub fn open(
+        alloc: Global,
+        blank: Blank<Account>,
+        rules: Rules,
+        nodes: usize,
+        history: usize,
+        gate: G,
+    ) -> Result<Tree<N, G>, Errno>
+        requires named { blank ≡ N.table }
+        requires slots { N.slots ≡ nodes + TREE_CLIENTS }
+        requires limit { N.limit ≡ history }
+        requires rules { N.rules ≡ rules }
+        ensures ok { OnOk result (MayOpen nodes history) }
+        ensures err { IfErr result (λ errno. ((errno ≡ Errno.EINVAL) × ¬ MayOpen nodes history)
+            ⊎ ((errno ≡ Errno.NoMemory) × MayOpen nodes history)) }
+    {
+        if nodes < 1 || nodes > TREE_NODES || history < 1 || history > HISTORY_ENTRIES {
+            return Err(Errno::EINVAL);
+        }
+        match Table::open(alloc, blank, rules, nodes, history, gate) {
+            Ok(table) => Ok(Tree { table }),
+            Err(_) => Err(Errno::NoMemory),
+        }
+    }
+
+    /// A new client. It knows of all entries up to its own. Errors: EMFILE where as many clients were made as a tree
+    /// may have, HistoryFull, NoMemory.
+    pub fn connect<R: Wait>(&self, rt: &R) -> Result<Client<N>, Errno>
+        ensures { IfOk result (λ client. client.rider
+            ≡ knows client.rider.number (numbered client.rider.seen calls.Connect replies.Done ∷ []) client.rider.seen
+            None) }
+    {
+        self.table.connect(rt)
+    }
+
+    /// The client spawns a child: a client of its own, under the same layers, that has no entry yet and knows of all
+    /// entries up to the spawn. Errors: EMFILE where as many clients were made as a tree may have, HistoryFull,
+    /// NoMemory.
+    pub fn spawn<R: Wait>(&self, rt: &R, me: &mut Client<N>) -> Result<Client<N>, Errno>
+        ensures child { IfOk result (λ child.
+            Told calls.Spawn (replies.Spawned child.rider.number) me.old.rider me.new.rider
+            × (child.rider ≡ knows child.rider.number [] me.new.rider.seen None)) }
+        ensures alone { IfErr result (λ errno.
+            Gains N.limit calls.Spawn me.old.rider (childless errno) me.new.rider) }
+    {
+        self.table.spawn(rt, me)
+    }
+
+    /// Later calls of both stand after all entries of which one of them knew. It makes no entry, and takes no memory.
+    pub fn meet<R: Wait>(&self, rt: &R, one: &mut Client<N>, other: &mut Client<N>)
+        ensures one { one.new.rider
+            ≡ record one.old.rider { seen = max one.old.rider.seen other.old.rider.seen } }
+        ensures other { other.new.rider
+            ≡ record other.old.rider { seen = max one.old.rider.seen other.old.rider.seen } }
+    {
+        self.table.meet(rt, one, other);
+    }
+
+    /// The history, where the list holds all clients of the tree; else tree and list come back. Waits for nobody, and
+    /// takes no memory.
+    pub fn close(self, clients: Vec<Client<N>>) -> Result<History, (Tree<N, G>, Vec<Client<N>>)>
+        ensures closed { IfOk result (λ history. (nodes : ℕ) → N.slots ≡ nodes + TREE_CLIENTS
+            → IsClosed N.rules nodes history.entries (map (λ c. c.rider) clients.items)) }
+        ensures limit { IfOk result (λ history. history.limit ≡ N.limit) }
+        ensures back { IfErr result (λ back. back.1.items ≡ clients.items) }
+    {
+        let Tree { table } = self;
+        match table.close(clients) {
+            Ok(history) => Ok(history),
+            Err((table, clients)) => Err((Tree { table }, clients)),
+        }
+    }
+
+    /// The client's call, led to its reply. (A call that comes back is made again.)
+    #[tactic(auto, using(crate::proofs::Typing::gains_fit))]
+    pub(crate) fn made<R: Wait>(&self, rt: &R, me: &mut Client<N>, call: Call) -> Made
+        ensures gains { Gains N.limit call me.old.rider result me.new.rider }
+        ensures fits { FitsMade (success call) result }
+    {
+        let mut call = call;
+        for _ in rt.forever() {
+            match self.table.call(rt, me, call) {
+                Ok(made) => return made,
+                Err(back) => call = back,
+            }
+            thread::yield_now();
+        }
+        unreachable!()
+    }
+}

@@ -1,0 +1,20 @@
+//! Checks: files of commands, each with what its reply must be.
+#![tactic(auto)]
+
+mod checking;
+mod explaining;
+mod judging;
+mod line;
+mod lines;
+mod passing;
+mod reading;
+mod refusing;
+mod running;
+mod wanted;
+
+pub use checking::check_file;
+pub use explaining::{Blame, explain};
+pub use judging::{Detail, Tally};
+pub use line::{CheckLine, Wanted};
+pub use reading::{CheckFault, Checks};
+pub use running::Made;

@@ -1,0 +1,56 @@
+//! A text's lines.
+
+ghost use Rattle.std.specs.Prelude.{◌≡◌, ◌<◌, ◌∷◌, ◌++◌, [], ℕ, List, length, IfOk, IfSome, IfNone};
+ghost use Rattle.ll_wire.specs.Pieces.{pieces};
+ghost use Rattle.ll_check.specs.Checks.{body_of};
+
+use memchr::memchr;
+use std::alloc::{AllocError, Global};
+
+/// The first line of these bytes, its line feed included where it has one, and what comes after it.
+pub fn cut(bytes: &[u8]) -> (&[u8], &[u8])
+    requires { 0 < length bytes.now }
+    ensures first { pieces bytes.now ≡ result.0.now ∷ pieces result.1.now }
+    ensures shorter { length result.1.now < length bytes.now }
+{
+    match memchr(b'\n', bytes) {
+        Some(end) => bytes.split_at(end + 1),
+        None => (bytes, &[]),
+    }
+}
+
+/// A line without its line feed, if it has one.
+#[tactic(auto, using(crate::proofs::Bodies::if_ended, crate::proofs::Bodies::if_open, crate::proofs::Bodies::if_empty))]
+pub fn body_of(line: &[u8]) -> &[u8]
+    ensures { result.now ≡ body_of line.now }
+{
+    let Some((last, body)) = line.split_last() else {
+        return line;
+    };
+    if *last == b'\n' { body } else { line }
+}
+
+/// The bytes, and a line feed behind them.
+pub fn ended(alloc: Global, text: &[u8]) -> Result<Vec<u8>, AllocError>
+    ensures { IfOk result (λ line. line.items ≡ text.now ++ 10 ∷ []) }
+{
+    let mut line = Vec::from_slice(alloc, text)?;
+    line.push(b'\n')?;
+    Ok(line)
+}
+
+/// What stands in a text behind this front, if it has that.
+pub fn strip_front<'a>(text: &'a [u8], front: &[u8]) -> Option<&'a [u8]>
+    ensures found { IfSome result (λ rest. text.entry.now ≡ front.now ++ rest.now) }
+    ensures none { IfNone result ((rest : List ℕ) → text.entry.now ≡ front.now ++ rest → ⊥) }
+{
+    text.strip_prefix(front)
+}
+
+/// What stands in a text before this back, if it has that.
+pub fn strip_back<'a>(text: &'a [u8], back: &[u8]) -> Option<&'a [u8]>
+    ensures found { IfSome result (λ front. text.entry.now ≡ front.now ++ back.now) }
+    ensures none { IfNone result ((front : List ℕ) → text.entry.now ≡ front ++ back.now → ⊥) }
+{
+    text.strip_suffix(back)
+}

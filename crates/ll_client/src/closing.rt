@@ -1,0 +1,69 @@
+//! A tree is closed.
+
+ghost use Rattle.std.specs.Prelude.{◌≡◌, ◌≢◌, true, map, length, IfOk, IfErr, OnErr};
+ghost use Rattle.std.specs.List.{AllByRecursion};
+ghost use Rattle.ll_rights.specs.Map.{has, len};
+ghost use Rattle.ll_inodes.specs.InodeTable.{AreDistinct};
+ghost use Rattle.ll_worlds.specs.World.{shown};
+ghost use Rattle.ll_client.specs.Closed.{AreClients, HoldsPart, numbers_of};
+ghost use Rattle.ll_client.specs.Entries.{AreAccounts, Knows};
+
+use crate::account::Account;
+use crate::client::Client;
+use crate::desk::Desk;
+use crate::hand::take_client;
+use crate::rider::Rider;
+use crate::shape::Shape;
+use ll_journal::Journal;
+use ll_seq::History;
+use ll_tie::{Keeper, Tie};
+
+/// Takes back the passes of all these clients.
+fn settle<N: Shape>(
+    tie: &Tie<N, Account>,
+    mut keeper: Keeper<N, Account>,
+    journal: &Journal,
+    clients: Vec<Client<N>>,
+)
+    requires all { AreAccounts journal.now keeper }
+    ensures parts { AllByRecursion (HoldsPart journal.now.world.history) (map (λ c. c.rider) clients.items) }
+    ensures once { AreDistinct (numbers_of (map (λ c. c.rider) clients.items)) }
+    ensures there { AllByRecursion (λ k. has (shown journal.now.world).clients k.number ≡ true)
+        (map (λ c. c.rider) clients.items) }
+{
+    for client in clients {
+        let Client { rider } = client;
+        let Rider {
+            number,
+            seen,
+            mut pass,
+        } = rider;
+        take_client(tie, &mut keeper, journal, number, seen, &mut pass);
+    }
+}
+
+/// The history, where the list has as many clients as the tree: then it has all of them, since no two clients of a tree
+/// have one number. Else desk and list come back.
+pub fn close<N: Shape>(
+    tie: &Tie<N, Account>,
+    desk: Desk<N>,
+    clients: Vec<Client<N>>,
+) -> Result<History, (Desk<N>, Vec<Client<N>>)>
+    ensures history { IfOk result (λ history.
+        history ≡ record { entries = desk.world.history; limit = desk.world.limit }) }
+    ensures clients { IfOk result (λ history.
+        AreClients (shown desk.world) desk.world.history (map (λ c. c.rider) clients.items)) }
+    ensures back { IfErr result (λ back. (back.0 ≡ desk) × (back.1.items ≡ clients.items)) }
+    ensures missing { OnErr result (length clients.items ≢ len (shown desk.world).clients) }
+{
+    if desk.journal.clients() != clients.len() as u64 {
+        return Err((desk, clients));
+    }
+    let Desk {
+        journal,
+        keeper,
+        ..
+    } = desk;
+    settle(tie, keeper, &journal, clients);
+    Ok(journal.into_history())
+}

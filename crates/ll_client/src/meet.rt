@@ -1,0 +1,45 @@
+//! Clients that meet.
+
+ghost use Rattle.std.specs.Prelude.{◌≡◌, ◌≤◌, length, max};
+
+use crate::account::Account;
+use crate::client::Client;
+use crate::desk::Desk;
+use crate::hand::{give_client, take_client};
+use crate::rider::Rider;
+use crate::shape::Shape;
+use ll_tie::Tie;
+
+impl<N: Shape> Desk<N> {
+    /// The client knows from now on of all entries up to this one.
+    fn learn(&mut self, tie: &Tie<N, Account>, me: &mut Rider<N>, seen: u64)
+        requires { seen ≤ length self.old.world.history }
+        ensures same { self.new ≡ self.old }
+        ensures low { me.old.seen ≤ length self.old.world.history }
+        ensures mine { me.new ≡ record me.old { seen = max me.old.seen seen } }
+    {
+        let Desk {
+            journal,
+            keeper,
+            ..
+        } = self;
+        let number = me.number;
+        take_client(tie, keeper, journal, number, me.seen, &mut me.pass);
+        me.seen = me.seen.max(seen);
+        me.pass = give_client(tie, keeper, journal, number, me.seen);
+    }
+
+    /// From now on each of the two knows of all entries of which one of them did. Nothing else changes.
+    pub fn meet(&mut self, tie: &Tie<N, Account>, one: &mut Client<N>, other: &mut Client<N>)
+        ensures same { self.new ≡ self.old }
+        ensures one { one.new.rider
+            ≡ record one.old.rider { seen = max one.old.rider.seen other.old.rider.seen } }
+        ensures other { other.new.rider
+            ≡ record other.old.rider { seen = max one.old.rider.seen other.old.rider.seen } }
+    {
+        // What the first knows of is there.
+        self.learn(tie, &mut one.rider, 0);
+        self.learn(tie, &mut other.rider, one.rider.seen());
+        self.learn(tie, &mut one.rider, other.rider.seen());
+    }
+}

@@ -1,0 +1,3 @@
+pub mod Opening
+pub mod Rights
+pub mod Table

@@ -1,0 +1,87 @@
+//! What the words of `rights` ask for.
+
+ghost use Rattle.std.specs.Prelude.{◌≡◌, ◌≤◌, codes, map, option_map, unwrap_or, [], IfOk};
+ghost use Rattle.ll_rights.specs.declared.limits.TheConstants.{TREE_NODES};
+
+use clap::ArgMatches;
+use ll_rights::limits::TREE_NODES;
+use std::alloc::{AllocError, Global};
+
+/// The rights that are wanted: those of the profile of the policy in this file, in a tree in which so many nodes may
+/// live, on these paths, or on the policy's nodes where there is none, with what each layer grants where that is asked
+/// for.
+#[derive(Drop)]
+pub struct RightsOptions<'a> {
+    pub policy: &'a str,
+    pub profile: &'a str,
+    pub nodes: usize,
+    pub paths: Vec<&'a str>,
+    pub layers: bool,
+    ghost some: { 1 ≤ nodes },
+    ghost most: { nodes ≤ TREE_NODES },
+}
+
+impl<'a> RightsOptions<'a> {
+    ghost use Rattle.clap.specs.Words.{all_of, found_of, rows_of};
+    ghost use Rattle.ll_options.specs.Options.{is_set, rights_in, rights_order};
+
+    // These words.
+    fn copied(alloc: Global, told: &[&'a str]) -> Result<Vec<&'a str>, AllocError>
+        ensures { IfOk result (λ words. words.items ≡ told.now) }
+    {
+        let mut words = Vec::new(alloc);
+        words.extend_from_slice(told)?;
+        Ok(words)
+    }
+
+    // The paths that the matches tell.
+    fn paths_of(alloc: Global, rights: &ArgMatches<'a>) -> Result<Vec<&'a str>, AllocError>
+        ensures { IfOk result (λ paths. map (λ t. t.now) paths.items
+            ≡ unwrap_or (all_of (codes "PATH") (rows_of (found_of rights.now))) []) }
+    {
+        match rights.get_strs("PATH") {
+            Some(told) => RightsOptions::copied(alloc, told),
+            None => Ok(Vec::new(alloc)),
+        }
+    }
+
+    // Whether the layers are asked for.
+    fn shows_layers(rights: &ArgMatches) -> bool
+        ensures { result ≡ is_set (codes "layers") (rows_of (found_of rights.now)) }
+    {
+        match rights.get_str("layers") {
+            Some(told) => told == "true",
+            None => false,
+        }
+    }
+
+    /// What the matches of `rights` ask for. Errors: memory ran out.
+    pub(crate) fn of_matches(
+        alloc: Global,
+        rights: &ArgMatches<'a>,
+    ) -> Result<Option<RightsOptions<'a>>, AllocError>
+        ensures { IfOk result (λ o. option_map rights_in o ≡ rights_order (rows_of (found_of rights.now))) }
+    {
+        let paths = RightsOptions::paths_of(alloc, rights)?;
+        let Some(policy) = rights.get_str("policy") else {
+            return Ok(None);
+        };
+        let Some(profile) = rights.get_str("profile") else {
+            return Ok(None);
+        };
+        let Some(nodes) = rights.get_one::<usize>("nodes") else {
+            return Ok(None);
+        };
+        if nodes < 1 || TREE_NODES < nodes {
+            return Ok(None);
+        }
+        let layers = RightsOptions::shows_layers(rights);
+        Ok(Some(RightsOptions {
+            policy,
+            profile,
+            nodes,
+            paths,
+            layers,
+        }))
+    }
+}

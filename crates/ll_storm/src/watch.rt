@@ -1,0 +1,35 @@
+//! What a storm shows to who looks on.
+
+use std::sync::atomic::{AtomicU64, Ordering};
+
+/// How many calls were answered, and whether all were.
+#[derive(Drop)]
+pub struct Watch {
+    answered: AtomicU64,
+    has_ended: AtomicU64,
+}
+
+impl Watch {
+    pub fn new() -> Watch {
+        Watch {
+            answered: AtomicU64::new(0),
+            has_ended: AtomicU64::new(0),
+        }
+    }
+
+    pub fn count(&self) {
+        self.answered.fetch_add(1, Ordering::SeqCst);
+    }
+
+    pub fn answered(&self) -> u64 {
+        self.answered.load(Ordering::SeqCst)
+    }
+
+    pub fn end_calls(&self) {
+        self.has_ended.store(1, Ordering::SeqCst);
+    }
+
+    pub fn has_ended(&self) -> bool {
+        self.has_ended.load(Ordering::SeqCst) != 0
+    }
+}

@@ -1,0 +1,70 @@
+//! Two threads on one tree, one of them confined: the caller that the README of ll_calls shows.
+
+ghost use Rattle.std.specs.Prelude.{◌≡◌, true};
+
+use crate::calls::target;
+use ll_calls::{Refused, Tree};
+use ll_client::{Account, Shape};
+use ll_rights::{Abi, Access, Errno, Kind};
+use ll_seq::Rules;
+use ll_tie::Blank;
+use ll_walk::NoGate;
+use std::alloc::Global;
+use std::marker::Brand;
+use std::sync::Wait;
+use std::test::*;
+use std::thread::{Threads, join};
+
+/// What the free client and the confined one were answered.
+type Answers = (Result<(), Refused>, Result<(), Refused>);
+
+/// A free client makes `/log`, while another one, that may make nothing, tries to make `/tmp`.
+fn two_threads<N: Shape + Send + Sync, R: Threads + Wait + Sync>(
+    rt: &R,
+    alloc: Global,
+    blank: Blank<Account>,
+) -> Result<Answers, Refused>
+    requires named { blank ≡ N.table }
+    requires slots { N.slots ≡ 128 }
+    requires limit { N.limit ≡ 100 }
+    requires rules { N.rules ≡ record { abi = 3; copies = true } }
+{
+    let rules = Rules {
+        abi: Abi::NEWEST,
+        copies: true,
+    };
+    let tree = Tree::<N, NoGate>::open(alloc, blank, rules, 64, 100, NoGate)?;
+    let (mut free, mut confined) = (tree.connect(rt)?, tree.connect(rt)?);
+    let (Some(log), Some(tmp)) = (target(alloc, "/log"), target(alloc, "/tmp")) else {
+        return Err(Refused::Errno(Errno::NoMemory));
+    };
+    let layer = tree.ruleset(rt, &mut confined, Access::ALL)?;
+    tree.confine(rt, &mut confined, layer)?;
+    Ok(join(
+        rt,
+        || tree.make(rt, &mut free, Kind::Dir, log),
+        || tree.make(rt, &mut confined, Kind::Dir, tmp),
+    ))
+}
+
+/// Whether the text says this.
+fn says(alloc: Global, refused: Refused, words: &str) -> bool {
+    match refused.to_string(alloc) {
+        Ok(text) => text.as_str() == words,
+        Err(_) => false,
+    }
+}
+
+#[test]
+fn two_threads_and_one_is_confined(rt: HostRuntime) {
+    let alloc = rt.alloc();
+    let answers = match Blank::new(alloc) {
+        Ok(blank) => two_threads::<Brand, _>(&rt, alloc, blank),
+        Err(_) => Err(Refused::Errno(Errno::NoMemory)),
+    };
+    let is_right = match answers {
+        Ok((Ok(()), Err(refused))) => says(alloc, refused, "layer 1 denies make_dir on the path"),
+        _ => false,
+    };
+    assert!(rt; is_right);
+}

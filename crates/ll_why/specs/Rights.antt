@@ -1,0 +1,39 @@
+-- What all layers of a client grant on a path. own
+use Rattle.std.specs.Prelude.{◌≡◌, ℕ, ◌<◌, ◌≤◌, ◌^◌, ◌&&◌, List, Option, Some, None, option_and_then}
+use Rattle.std.specs.List.{AllZip, list_all}
+use Rattle.ll_rights.specs.declared.kind.Kind.{Kind}
+use Rattle.ll_rights.specs.Access.{holds}
+use Rattle.ll_rights.specs.Kind.{relevant}
+use Rattle.ll_path.specs.Path.{Path}
+use Rattle.ll_rules.specs.Layer.{Layer, grants_on}
+use Rattle.ll_seq.specs.Asked.{grants}
+use Rattle.ll_seq.specs.State.{State, kind_of}
+use Rattle.ll_seq.specs.Tree.{ancestors, named}
+use Rattle.ll_why.specs.Grants.{AreGrants}
+use Rattle.ll_why.specs.declared.rights.PathRights.{PathRights}
+
+-- the kind of what the path names
+abbrev pub kind_named : State → Path → Option Kind
+kind_named s path = option_and_then (kind_of s) (named s path)
+
+-- where it names nothing, no right means anything
+abbrev pub meant : Option Kind → ℕ
+meant None = 0
+meant (Some kind) = relevant kind
+
+-- what these layers grant of some rights on a path of these inodes: all of them together, and each
+pub record AreByLayers (domain : List Layer) (inodes : List ℕ) (all : ℕ) (told : PathRights) : Type 0 where
+  pub fewer : told.rights.0 ≤ all
+  pub rights : (right : ℕ) → right < 15 → holds told.rights.0 right
+      ≡ (holds all right && list_all (λ layer. grants_on layer inodes right) domain)
+  pub layers : AllZip (λ g layer. AreGrants layer inodes all g) told.layers.items domain
+
+-- The rights that mean something for what the path names and that every layer grants on it; and what each layer grants
+-- of those that mean something
+pub record AreRights (s : State) (domain : List Layer) (path : Path) (told : PathRights) : Type 0 where
+  pub kind : told.kind ≡ kind_named s path
+  pub known : told.rights.0 < 2 ^ 15
+  pub rights : (right : ℕ) → right < 15 → holds told.rights.0 right
+      ≡ (holds (meant (kind_named s path)) right && list_all (λ layer. grants s layer path right) domain)
+  pub layers : AllZip (λ g layer. AreGrants layer (ancestors s path) (meant (kind_named s path)) g)
+      told.layers.items domain
