@@ -1,0 +1,7 @@
+mod Seen
+mod Entered
+mod Kept
+mod Comers
+mod Points
+mod Growths
+mod Closings

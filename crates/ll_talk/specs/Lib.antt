@@ -1,0 +1,7 @@
+pub mod Between
+pub mod Copies
+pub mod Laws
+pub mod Made
+pub mod Replies
+pub mod Session
+pub mod Talk

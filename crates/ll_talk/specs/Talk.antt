@@ -1,0 +1,89 @@
+-- How the clients of a shared tree come on that one session owns: it makes their calls one after the other. own
+use Rattle.std.specs.Prelude.{◌≡◌, ℕ, ◌<◌, ◌≤◌, max, Bool, true, false, List, [], ◌∷◌, ◌++◌, None, Some}
+use Rattle.std.specs.Prelude.{slice_get, slice_set}
+use Rattle.std.specs.List.{AllByRecursion}
+use Rattle.ll_rights.specs.declared.errno.Errno.TheVariants as errnos
+use Rattle.ll_seq.specs.declared.call.Call.{Call}
+use Rattle.ll_seq.specs.declared.call.Call.TheVariants.{Connect, Spawn}
+use Rattle.ll_seq.specs.declared.reply.Reply.{Reply}
+use Rattle.ll_seq.specs.declared.reply.Reply.TheVariants.{Done, Spawned, Refused}
+use Rattle.ll_seq.specs.History.{is_connect}
+use Rattle.ll_talk.specs.Made as made
+use Rattle.ll_talk.specs.Made.{Made}
+use Rattle.ll_talk.specs.Copies.{Knows, Numbered, Starved, Gains, Told, knows, numbered}
+
+-- the number of the last entry that one of them knows of
+abbrev pub seen_by : List Knows → ℕ
+seen_by [] = 0
+seen_by (k ∷ ks) = max k.seen (seen_by ks)
+
+-- a client that has met all of them
+abbrev pub met : List Knows → Knows → Knows
+met ks k = record k { seen = seen_by ks }
+
+-- it brings a child
+abbrev pub is_birth : Made → Bool
+is_birth (made.Replied (Spawned number)) = true
+is_birth _ = false
+
+-- how a call is answered that this came of
+abbrev pub reply_of : Made → Reply
+reply_of (made.Replied reply) = reply
+reply_of made.HistoryFull = Refused errnos.HistoryFull
+reply_of made.NoMemory = Refused errnos.NoMemory
+
+-- The client at this place calls, when it has met all others, and knows of no less then. The call is no connect, and
+-- brings no child
+pub record Asks (limit : ℕ) (ks : List Knows) (place : ℕ) (call : Call) (made : Made) (ks' : List Knows) : Type 0 where
+  pub me : Knows
+  pub now : Knows
+  pub at : slice_get ks place ≡ Some me
+  pub other : is_connect call ≡ false
+  pub childless : is_birth made ≡ false
+  pub gains : Gains limit call (met ks me) made now
+  pub later : seen_by ks ≤ now.seen
+  pub after : ks' ≡ slice_set ks place now
+
+-- it spawns this child, which comes last
+pub record Spawns (ks : List Knows) (place child : ℕ) (ks' : List Knows) : Type 0 where
+  pub me : Knows
+  pub now : Knows
+  pub at : slice_get ks place ≡ Some me
+  pub told : Told Spawn (Spawned child) (met ks me) now
+  pub after : ks' ≡ slice_set ks place now ++ knows child [] [] now.seen None ∷ []
+
+-- a client connects, whose entry stands after all that one of them knows of
+pub record Joins (ks : List Knows) (number : ℕ) (ks' : List Knows) : Type 0 where
+  pub seen : ℕ
+  pub later : seen_by ks < seen
+  pub after : ks' ≡ ks ++ knows number (numbered seen Connect Done ∷ []) [] seen None ∷ []
+
+-- the client at this place knows of all entries made so far
+pub record Looks (ks : List Knows) (place : ℕ) (ks' : List Knows) : Type 0 where
+  pub me : Knows
+  pub seen : ℕ
+  pub at : slice_get ks place ≡ Some me
+  pub later : seen_by ks ≤ seen
+  pub after : ks' ≡ slice_set ks place (record me { seen = seen })
+
+-- ---- What stays, while clients come on
+
+-- all these entries are above this number
+abbrev pub AreAbove : ℕ → List Numbered → Type 0
+AreAbove n entries = AllByRecursion (λ (x : Numbered). n < x.number) entries
+
+-- a client has come on: its part goes on above this number, and it was refused memory for more calls
+pub record ComesOn (n : ℕ) (k k' : Knows) : Type 0 where
+  pub number : k'.number ≡ k.number
+  pub part : (more : List Numbered) × (k'.part ≡ k.part ++ more) × AreAbove n more
+  pub starved : (more : List Starved) × (k'.starved ≡ k.starved ++ more)
+
+-- each of them has come on, and others have come, all above this number
+abbrev pub GrowAbove : ℕ → (ks ks' : List Knows) → Type 0
+GrowAbove n [] ks' = AllByRecursion (λ (k : Knows). AreAbove n k.part) ks'
+GrowAbove n (k ∷ ks) [] = ⊥
+GrowAbove n (k ∷ ks) (k' ∷ ks') = ComesOn n k k' × GrowAbove n ks ks'
+
+-- what one of them knew stays, and what is new is above it
+abbrev pub Grows : (ks ks' : List Knows) → Type 0
+Grows ks ks' = GrowAbove (seen_by ks) ks ks' × (seen_by ks ≤ seen_by ks')

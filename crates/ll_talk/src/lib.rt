@@ -1,0 +1,2 @@
+//! Laws about a session that owns all clients of a tree that threads share.
+#![tactic(auto)]
