@@ -5,3 +5,5 @@ mod Comers
 mod Points
 mod Growths
 mod Closings
+mod Steps
+mod Turns
