@@ -29,7 +29,8 @@ use Rattle.ll_seq.proofs.Consequences.{step-clients_stay, step-no_other, step-sp
 
 -- it comes, or there are too many
 abbrev pub Ends : State → ℕ → Reply × State → Type 0
-Ends s n outcome = (outcome ≡ (Done, with_client s n new_client))
+Ends s n outcome =
+    ((nat_le TREE_CLIENTS (len s.clients) ≡ false) × (outcome ≡ (Done, with_client s n new_client)))
     ⊎ ((nat_le TREE_CLIENTS (len s.clients) ≡ true) × (outcome ≡ (Refused EMFILE, s)))
 
 -- nobody's record is a new one's
@@ -48,13 +49,13 @@ connects s n fresh free = subst
     go : (b : Bool) → nat_le TREE_CLIENTS (len s.clients) ≡ b
         → Ends s n (first_or s (map Refused (refuse b EMFILE)) (Done, with_client s n new_client))
     go true e = inr (e, refl)
-    go false e = inl refl
+    go false e = inl (e, refl)
 
 -- who is answered `ok` is there
 pub connected_there : (s : State) (n fresh : ℕ) → has s.clients n ≡ false → (step s n Connect fresh).0 ≡ Done
     → has (step s n Connect fresh).1.clients n ≡ true
 connected_there s n fresh free told = elim (connects s n fresh free) [
-  | inl e ↦ ap (λ (p : Reply × State). has p.1.clients n) e
+  | inl e ↦ ap (λ (p : Reply × State). has p.1.clients n) e.1
       ∙ ap is_some (get-insert_same nat_cmp_total nat_cmp-IsAntisymmetric s.clients n new_client)
   | inr e ↦ absurd (let both : Done ≡ Refused EMFILE = sym told ∙ ap (λ (p : Reply × State). p.0) e.1 in cc)
 ]

@@ -7,3 +7,4 @@ mod Growths
 mod Closings
 mod Steps
 mod Turns
+mod Edges

@@ -44,7 +44,7 @@ each_number P k (suc count) n all le less = elim (cases_lt k n) [
   | inr ge ↦ let same : k ≡ n = omega arith in subst P same all.0
 ]
 
-not_there : (b : Bool) → (b ≡ true → ⊥) → b ≡ false
+pub not_there : (b : Bool) → (b ≡ true → ⊥) → b ≡ false
 not_there true h = absurd (h refl)
 not_there false h = refl
 
