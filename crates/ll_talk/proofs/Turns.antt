@@ -20,8 +20,8 @@ use Rattle.ll_talk.specs.Between.{IsSettled, Leads, between, tree_at}
 use Rattle.ll_talk.specs.Copies.{Gains, IsClosed, IsStarved, Knows, Numbered, Starved, Told, knows, numbered, numbers_of}
 use Rattle.ll_talk.specs.Copies.{starved_at}
 use Rattle.ll_talk.specs.Laws.{AsksIsCall, JoinsIsConnect, LooksIsNothing, SpawnsIsCall}
-use Rattle.ll_talk.specs.Made as made
-use Rattle.ll_talk.specs.Made.{Made}
+use Rattle.ll_journal.specs.declared.direct.Made.TheVariants as made
+use Rattle.ll_journal.specs.declared.direct.Made.{Made}
 use Rattle.ll_talk.specs.Session.{Session, Called, Connects, brought, following, full, joined, next, starved}
 use Rattle.ll_talk.specs.Talk.{Asks, ComesOn, Grows, Joins, Looks, Spawns, is_birth, met, reply_of, seen_by}
 use Rattle.ll_talk.proofs.Closings.{was_starved}

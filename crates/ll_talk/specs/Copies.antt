@@ -18,8 +18,8 @@ use Rattle.ll_seq.specs.Memory.{takes_memory}
 use Rattle.ll_seq.specs.State.{State, start}
 use Rattle.ll_seq.specs.Step.{refusals, client_of}
 use Rattle.ll_worlds.specs.Walk.{is_in}
-use Rattle.ll_talk.specs.Made as made
-use Rattle.ll_talk.specs.Made.{Made}
+use Rattle.ll_journal.specs.declared.direct.Made.TheVariants as made
+use Rattle.ll_journal.specs.declared.direct.Made.{Made}
 use Rattle.ll_talk.specs.Replies.{Fits, success}
 
 pub record Numbered : Type 0 where

@@ -11,7 +11,7 @@ use Rattle.ll_seq.specs.History.{IsLegal, state_after}
 use Rattle.ll_seq.specs.State.{start}
 use Rattle.ll_talk.specs.Between.{IsSettled, Leads, between}
 use Rattle.ll_talk.specs.Copies.{IsClosed, Knows}
-use Rattle.ll_talk.specs.Made.{Made}
+use Rattle.ll_journal.specs.declared.direct.Made.{Made}
 use Rattle.ll_talk.specs.Session.{Session, Called, Connects, following, joined}
 use Rattle.ll_talk.specs.Talk.{Asks, Spawns, Joins, Looks, reply_of, seen_by}
 

@@ -1,7 +1,6 @@
 pub mod Between
 pub mod Copies
 pub mod Laws
-pub mod Made
 pub mod Replies
 pub mod Session
 pub mod Talk

@@ -8,8 +8,8 @@ use Rattle.ll_seq.specs.declared.call.Call.TheVariants.{Connect, Spawn}
 use Rattle.ll_seq.specs.declared.reply.Reply.{Reply}
 use Rattle.ll_seq.specs.declared.reply.Reply.TheVariants.{Done, Spawned, Refused}
 use Rattle.ll_seq.specs.History.{is_connect}
-use Rattle.ll_talk.specs.Made as made
-use Rattle.ll_talk.specs.Made.{Made}
+use Rattle.ll_journal.specs.declared.direct.Made.TheVariants as made
+use Rattle.ll_journal.specs.declared.direct.Made.{Made}
 use Rattle.ll_talk.specs.Copies.{Knows, Numbered, Starved, Gains, Told, knows, numbered}
 
 -- the number of the last entry that one of them knows of
