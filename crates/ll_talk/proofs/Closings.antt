@@ -1,15 +1,15 @@
 -- What a closed tree tells of clients that came on to its own.
-use Rattle.std.specs.Prelude.{◌≡◌, ℕ, ◌+◌, ◌-◌, ◌<◌, ◌≤◌, true, List, [], ◌∷◌, ◌++◌, length, take, drop, Some}
-use Rattle.std.specs.Prelude.{slice_get, refl}
+use Rattle.std.specs.Prelude.{◌≡◌, ℕ, ◌+◌, ◌-◌, ◌≤◌, true, List, ◌++◌, length, take, drop, Some}
+use Rattle.std.specs.Prelude.{slice_get}
 use Rattle.std.specs.List.{AllByRecursion}
-use Rattle.std.proofs.Common.{sym, ap, subst, ◌∙◌, inl, inr, arith}
+use Rattle.std.proofs.Common.{sym, subst, ◌∙◌, inl, inr, arith}
 use Rattle.std.proofs.lemmas.List.{take-append-drop}
 use Rattle.ll_rights.specs.Map.{has, len}
 use Rattle.ll_seq.specs.declared.reply.Entry.{Entry}
 use Rattle.ll_seq.specs.declared.rules.Rules.{Rules}
 use Rattle.ll_seq.specs.State.{start}
 use Rattle.ll_talk.specs.Between.{tree_at}
-use Rattle.ll_talk.specs.Copies.{IsClosed, IsStarved, HoldsPart, Knows, Numbered, Starved, part_from}
+use Rattle.ll_talk.specs.Copies.{IsClosed, IsStarved, HoldsPart, Knows, part_from}
 use Rattle.ll_talk.specs.Talk.{Grows, seen_by}
 use Rattle.ll_talk.proofs.Entered.{IsAmong, IsEntered, entered_before, entered_of, part_has}
 use Rattle.ll_talk.proofs.Kept.{IsEntry, all_at, all_first, all_map, part_entries, still_there}

@@ -1,12 +1,12 @@
 -- Which clients are there after an entry, and how many.
-use Rattle.std.specs.Prelude.{◌≡◌, ◌≢◌, ◌⊎◌, ℕ, ◌+◌, Bool, true, false, cond, not, List, [], ◌∷◌, map, Option, Some, None}
+use Rattle.std.specs.Prelude.{◌≡◌, ◌≢◌, ◌⊎◌, ℕ, ◌+◌, Bool, true, false, not, List, [], ◌∷◌, map, Option, Some}
+use Rattle.std.specs.Prelude.{None}
 use Rattle.std.specs.Prelude.{is_some, option_map, unwrap_or, nat_le, ◌==◌, refl}
 use Rattle.std.specs.Cmp.{nat_cmp_total}
 use Rattle.std.specs.FinMap.{nat_cmp-IsAntisymmetric}
 use Rattle.std.specs.Ordering.{nat_cmp}
-use Rattle.std.proofs.Common.{sym, ap, subst, ◌∙◌, inl, inr, arith}
-use Rattle.std.proofs.lemmas.Bool.{false≢true, eqb-true, ne_eqb, eq-eqb}
-use Rattle.ll_rights.specs.declared.errno.Errno.{Errno}
+use Rattle.std.proofs.Common.{sym, ap, subst, ◌∙◌, inl, inr}
+use Rattle.std.proofs.lemmas.Bool.{false≢true, eqb-true, eq-eqb}
 use Rattle.ll_rights.specs.declared.errno.Errno.TheVariants.{EMFILE}
 use Rattle.ll_rights.specs.declared.limits.TheConstants.{TREE_CLIENTS}
 use Rattle.ll_rights.specs.Errno.{refuse}
@@ -20,7 +20,7 @@ use Rattle.ll_seq.specs.declared.reply.Entry.{Entry}
 use Rattle.ll_seq.specs.declared.reply.Reply.{Reply}
 use Rattle.ll_seq.specs.declared.reply.Reply.TheVariants.{Done, Refused, Spawned}
 use Rattle.ll_seq.specs.Effects.{with_client}
-use Rattle.ll_seq.specs.History.{IsLegal, MayStand, after, fresh_of, is_connect, state_after}
+use Rattle.ll_seq.specs.History.{MayStand, after, fresh_of, is_connect, state_after}
 use Rattle.ll_seq.specs.State.{State, new_client}
 use Rattle.ll_seq.specs.Step.{step, refusals, client_of, first_or}
 use Rattle.ll_seq.proofs.Consequences.{step-clients_stay, step-no_other, step-spawned}

@@ -1,10 +1,11 @@
--- How sessions begin and end, how their points follow one another, and how a connect may fail.
-use Rattle.std.specs.Prelude.{◌≡◌, ◌⊎◌, ℕ, zero, suc, ◌+◌, ◌<◌, ◌≤◌, Bool, true, false, List, [], ◌∷◌, ◌++◌, length, map}
+-- How sessions begin and end, and how a connect may fail.
+use Rattle.std.specs.Prelude.{◌≡◌, ℕ, ◌<◌, ◌≤◌, false, List, [], length}
+use Rattle.std.specs.Prelude.{map}
 use Rattle.std.specs.Prelude.{take, drop, nat_le, refl}
 use Rattle.std.proofs.Common.{sym, ap, subst, ◌∙◌, inl, inr, arith}
 use Rattle.std.proofs.lemmas.Bool.{cases_lt, leb-false, leb-true}
 use Rattle.std.proofs.lemmas.List.{length-take-le, take-append-drop, take_all}
-use Rattle.ll_rights.specs.declared.errno.Errno.TheVariants.{EMFILE, HistoryFull, NoMemory}
+use Rattle.ll_rights.specs.declared.errno.Errno.TheVariants.{EMFILE}
 use Rattle.ll_rights.specs.declared.limits.TheConstants.{TREE_CLIENTS}
 use Rattle.ll_rights.specs.Errno.{refuse}
 use Rattle.ll_rights.specs.Map.{has, len}
@@ -12,42 +13,27 @@ use Rattle.ll_rights.proofs.Sizes.{len-empty}
 use Rattle.ll_seq.specs.declared.call.Call.TheVariants.{Connect}
 use Rattle.ll_seq.specs.declared.client.ClientRecord.{ClientRecord}
 use Rattle.ll_seq.specs.declared.reply.Entry.{Entry}
-use Rattle.ll_seq.specs.declared.reply.Reply.{Reply}
-use Rattle.ll_seq.specs.declared.reply.Reply.TheVariants.{Done, Refused}
+use Rattle.ll_seq.specs.declared.reply.Reply.TheVariants.{Refused}
 use Rattle.ll_seq.specs.declared.rules.Rules.{Rules}
 use Rattle.ll_seq.specs.History.{IsLegal}
 use Rattle.ll_seq.specs.Stages.{numbers_from}
-use Rattle.ll_seq.specs.State.{State, new_client, start}
-use Rattle.ll_seq.specs.Step.{step, refusals, client_of}
+use Rattle.ll_seq.specs.State.{State, start}
+use Rattle.ll_seq.specs.Step.{refusals, client_of}
 use Rattle.ll_seq.proofs.Histories.{legal_early}
-use Rattle.ll_talk.specs.Between.{IsSettled, Leads, between, tree_at}
+use Rattle.ll_talk.specs.Between.{IsSettled, between}
 use Rattle.ll_talk.specs.Copies.{IsClosed, Knows}
 use Rattle.ll_talk.specs.Laws.{ConnectsMayFail, PointsAreLegal}
-use Rattle.ll_talk.specs.Session.{Session, Called, Connects, answered, following, full, next, starved}
+use Rattle.ll_talk.specs.Session.{Session, answered, following, full, next, starved}
 use Rattle.ll_talk.specs.Talk.{seen_by}
 use Rattle.ll_talk.proofs.Closings.{all_entered, numbers_at}
 use Rattle.ll_talk.proofs.Comers.{connects, nobody_new}
 use Rattle.ll_talk.proofs.Entered.{entered_below}
-use Rattle.ll_talk.proofs.Growths.{then_grows}
 use Rattle.ll_talk.proofs.Seen.{count_numbers}
 use Rattle.ll_talk.proofs.Steps.{not_there}
 
--- ---- one act after the other
-
-pub then_leads : (rules : Rules) (room limit : ℕ) (is js ks : List Knows) (First Second : Session → Session → Type 0)
-    → Leads rules room limit is js First → Leads rules room limit js ks Second
-    → Leads rules room limit is ks (λ s u. (t : Session) × First s t × Second t u)
-then_leads rules room limit is js ks First Second one two = (
-  then_grows is js ks one.0 two.0,
-  λ history end c g s.
-      let first = one.1 history end c (then_grows js ks end two.0 g) s in
-      let second = two.1 history end c g first.0 in
-      (second.0, (between rules room limit history js, first.1, second.1)),
-)
-
 -- ---- the first point and the last
 
-nobody_yet : (rules : Rules) (room : ℕ) (history : List Entry) → IsSettled rules room history []
+pub nobody_yet : (rules : Rules) (room : ℕ) (history : List Entry) → IsSettled rules room history []
 unfolding numbers_from
 nobody_yet rules room history = record {
   low = omega arith;
@@ -119,11 +105,13 @@ may_fail rules room limit history ks end c s =
             | inl came ↦ let less = leb-false TREE_CLIENTS (len now.tree.clients) came.0 in
                 absurd (omega (arith, less, count, many))
             | inr over ↦ (
-                next now n Connect (Refused EMFILE) now.tree,
-                (out, answered (Refused EMFILE) now.tree n (omega (arith, room_left, all)) out (sym over.1)),
-              )
+              next now n Connect (Refused EMFILE) now.tree,
+              (out, answered (Refused EMFILE) now.tree n (omega (arith, room_left, all)) out (sym over.1)),
+            )
           ],
-      λ room_left few.
-          (out, starved (omega (arith, room_left, all)) refl (nothing_refuses now.tree n out
-          (few_then TREE_CLIENTS (len now.tree.clients) (let count = s.count in omega (arith, few, count))))),
+      λ room_left few. (
+        out,
+        starved (omega (arith, room_left, all)) refl (nothing_refuses now.tree n out
+            (few_then TREE_CLIENTS (len now.tree.clients) (let count = s.count in omega (arith, few, count)))),
+      ),
     )

@@ -1,8 +1,8 @@
 -- Which entries stand in the clients' parts.
 use Rattle.std.specs.Prelude.{◌≡◌, ◌⊎◌, ℕ, zero, suc, ◌+◌, ◌<◌, ◌≤◌, ◌==◌, Bool, true, false, cond, List, [], ◌∷◌}
-use Rattle.std.specs.Prelude.{◌++◌, length, Some, None, slice_get, slice_set, ◌||◌, refl}
+use Rattle.std.specs.Prelude.{◌++◌, Some, slice_get, slice_set, ◌||◌, refl}
 use Rattle.std.specs.List.{AllByRecursion}
-use Rattle.std.proofs.Common.{sym, ap, subst, ◌∙◌, inl, inr, arith}
+use Rattle.std.proofs.Common.{sym, ap, subst, inl, inr, arith}
 use Rattle.std.proofs.lemmas.Bool.{eq-eqb, eqb-true}
 use Rattle.ll_seq.specs.declared.reply.Entry.{Entry}
 use Rattle.ll_worlds.specs.Walk.{is_in}

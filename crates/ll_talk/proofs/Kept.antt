@@ -1,12 +1,12 @@
 -- What holds of all that a client knows at the end held of what it knew before.
-use Rattle.std.specs.Prelude.{◌≡◌, ◌≢◌, ◌⊎◌, ℕ, zero, suc, ◌+◌, ◌<◌, ◌≤◌, ◌==◌, Bool, true, false, cond, List, [], ◌∷◌}
-use Rattle.std.specs.Prelude.{◌++◌, length, Some, None, slice_get, slice_set, refl}
+use Rattle.std.specs.Prelude.{◌≡◌, ℕ, zero, suc, ◌+◌, ◌==◌, Bool, true, false, cond, List, [], ◌∷◌}
+use Rattle.std.specs.Prelude.{◌++◌, length, Some, slice_get, slice_set, refl}
 use Rattle.std.specs.List.{AllByRecursion}
-use Rattle.std.proofs.Common.{sym, ap, subst, ◌∙◌, inl, inr, arith}
+use Rattle.std.proofs.Common.{ap, subst, arith}
 use Rattle.std.proofs.lemmas.Bool.{eqb-true}
 use Rattle.ll_seq.specs.declared.reply.Entry.{Entry}
-use Rattle.ll_talk.specs.Copies.{Knows, Numbered, Starved, numbered, part_from}
-use Rattle.ll_talk.specs.Talk.{AreAbove, ComesOn, GrowAbove}
+use Rattle.ll_talk.specs.Copies.{Knows, Numbered, numbered, part_from}
+use Rattle.ll_talk.specs.Talk.{ComesOn, GrowAbove}
 
 pub all_first : {A : Type 0} (P : A → Type 0) (xs ys : List A) → AllByRecursion P (xs ++ ys) → AllByRecursion P xs
 all_first P [] ys all = tt
@@ -79,7 +79,8 @@ one_later : (before client : ℕ) (e : Entry) (es : List Entry) (x : Numbered) �
     → IsOneOf before client (e ∷ es) x
 one_later before client e es x h = let is = h.1 in (suc h.0, omega arith, h.2)
 
-part_true : (before client : ℕ) (es : List Entry) → AllByRecursion (IsOneOf before client es) (part_from before client es)
+part_true : (before client : ℕ) (es : List Entry)
+    → AllByRecursion (IsOneOf before client es) (part_from before client es)
 part_true before client [] = tt
 part_true before client (e ∷ es) = by (e.client == client) refl
     (all_map (IsOneOf (before + 1) client es) (IsOneOf before client (e ∷ es)) (part_from (before + 1) client es)

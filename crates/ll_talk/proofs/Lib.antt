@@ -1,10 +1,11 @@
-mod Seen
-mod Entered
-mod Kept
-mod Comers
-mod Points
-mod Growths
-mod Closings
-mod Steps
-mod Turns
-mod Edges
+pub mod Seen
+pub mod Entered
+pub mod Kept
+pub mod Comers
+pub mod Points
+pub mod Growths
+pub mod Closings
+pub mod Steps
+pub mod Turns
+pub mod Edges
+pub mod Leading

@@ -1,7 +1,7 @@
 -- A legal history, cut before and after one entry.
-use Rattle.std.specs.Prelude.{◌≡◌, ℕ, zero, suc, ◌+◌, ◌<◌, ◌≤◌, true, List, [], ◌∷◌, ◌++◌, length, take, drop, Some}
-use Rattle.std.specs.Prelude.{slice_get, Option, None, refl}
-use Rattle.std.proofs.Common.{sym, ap, subst, ◌∙◌, arith}
+use Rattle.std.specs.Prelude.{◌≡◌, ℕ, zero, suc, ◌<◌, true, List, [], ◌∷◌, ◌++◌, length, take, Some}
+use Rattle.std.specs.Prelude.{slice_get, refl}
+use Rattle.std.proofs.Common.{ap, subst, arith}
 use Rattle.ll_rights.specs.Map.{has}
 use Rattle.ll_seq.specs.declared.reply.Entry.{Entry}
 use Rattle.ll_seq.specs.History.{IsLegal, MayStand, after, state_after}

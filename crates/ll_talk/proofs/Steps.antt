@@ -1,27 +1,26 @@
 -- From one point of a session to the next: the history is as long as before, or one entry longer.
-use Rattle.std.specs.Prelude.{◌≡◌, ◌≢◌, ◌⊎◌, ℕ, zero, suc, ◌+◌, ◌<◌, ◌≤◌, Bool, true, false, not, List, [], ◌∷◌, ◌++◌}
+use Rattle.std.specs.Prelude.{◌≡◌, ◌≢◌, ◌⊎◌, ℕ, zero, suc, ◌+◌, ◌<◌, ◌≤◌, Bool, true, false, List, [], ◌∷◌, ◌++◌}
 use Rattle.std.specs.Prelude.{length, take, Some, slice_get, refl}
 use Rattle.std.specs.List.{AllByRecursion}
 use Rattle.std.proofs.Common.{sym, ap, subst, ◌∙◌, inl, inr, arith}
 use Rattle.std.proofs.lemmas.Bool.{false≢true, cases_lt}
-use Rattle.std.proofs.lemmas.List.{append-nil, length-append, length-take-le}
+use Rattle.std.proofs.lemmas.List.{length-append, length-take-le}
 use Rattle.ll_rights.specs.Map.{has, len}
 use Rattle.ll_seq.specs.declared.call.Call.{Call}
 use Rattle.ll_seq.specs.declared.reply.Entry.{Entry}
 use Rattle.ll_seq.specs.declared.reply.Reply.{Reply}
 use Rattle.ll_seq.specs.declared.reply.Reply.TheVariants.{Spawned}
 use Rattle.ll_seq.specs.declared.rules.Rules.{Rules}
-use Rattle.ll_seq.specs.History.{MayStand, after, fresh_of, is_connect, outcome_of, state_after}
+use Rattle.ll_seq.specs.History.{MayStand, after, fresh_of, is_connect}
 use Rattle.ll_seq.specs.Stages.{numbers_from}
 use Rattle.ll_seq.specs.State.{State, start}
-use Rattle.ll_seq.specs.Step.{step}
 use Rattle.ll_seq.proofs.Consequences.{step-clients_stay}
 use Rattle.ll_talk.specs.Between.{IsSettled, between, tree_at}
 use Rattle.ll_talk.specs.Copies.{IsClosed, Knows, Numbered, numbered, numbers_of}
-use Rattle.ll_talk.specs.Session.{Session, Called, answered, brought, next}
+use Rattle.ll_talk.specs.Session.{Called, answered, brought, next}
 use Rattle.ll_talk.specs.Talk.{Grows, seen_by}
-use Rattle.ll_talk.proofs.Closings.{covered, low, numbers_at, part_tells}
-use Rattle.ll_talk.proofs.Comers.{one_child, one_comer, same_many}
+use Rattle.ll_talk.proofs.Closings.{covered, numbers_at, part_tells}
+use Rattle.ll_talk.proofs.Comers.{same_many}
 use Rattle.ll_talk.proofs.Entered.{AreBelow, IsAmong, IsEntered, entered_below}
 use Rattle.ll_talk.proofs.Kept.{IsEntry, all_map, all_push, last_of}
 use Rattle.ll_talk.proofs.Points.{entry_within, may_stand, one_taken, state_next}
@@ -105,8 +104,8 @@ module _ (rules : Rules) (room limit : ℕ) (history : List Entry) (end : List K
   enters ks ks' place now old call reply below later at longer seen new g =
       let n : ℕ = seen_by ks in
       let next : now.seen ≡ suc n =
-      elim (new (suc n) (covered rules room limit history end c ks' g (suc n) (omega arith) (omega (arith, later, seen))))
-      [
+      elim (new (suc n) (covered rules room limit history end c ks' g (suc n) (omega arith)
+      (omega (arith, later, seen)))) [
         | inl was ↦ let less = entered_below n ks (suc n) below was in absurd (omega arith)
         | inr came ↦ elim came [ inl e ↦ e | inr e ↦ absurd e ]
       ] in

@@ -1,5 +1,5 @@
 -- What each act of a session comes to, when the tree is closed.
-use Rattle.std.specs.Prelude.{◌≡◌, ◌≢◌, ◌⊎◌, ℕ, zero, suc, ◌+◌, ◌<◌, ◌≤◌, Bool, true, false, not, List, [], ◌∷◌, ◌++◌}
+use Rattle.std.specs.Prelude.{◌≡◌, ◌≢◌, ℕ, ◌+◌, ◌<◌, ◌≤◌, true, false, List, [], ◌∷◌, ◌++◌}
 use Rattle.std.specs.Prelude.{length, take, Some, None, slice_get, slice_set, refl}
 use Rattle.std.specs.List.{AllByRecursion}
 use Rattle.std.proofs.Common.{sym, ap, subst, ◌∙◌, inl, inr, arith}
@@ -17,16 +17,17 @@ use Rattle.ll_seq.specs.State.{State}
 use Rattle.ll_seq.specs.Memory.{takes_memory}
 use Rattle.ll_seq.specs.Step.{refusals, client_of}
 use Rattle.ll_talk.specs.Between.{IsSettled, Leads, between, tree_at}
-use Rattle.ll_talk.specs.Copies.{Gains, IsClosed, IsStarved, Knows, Numbered, Starved, Told, knows, numbered, numbers_of}
+use Rattle.ll_talk.specs.Copies.{IsClosed, IsStarved, Knows, Numbered, Told, knows, numbered}
+use Rattle.ll_talk.specs.Copies.{numbers_of}
 use Rattle.ll_talk.specs.Copies.{starved_at}
 use Rattle.ll_talk.specs.Laws.{AsksIsCall, JoinsIsConnect, LooksIsNothing, SpawnsIsCall}
 use Rattle.ll_journal.specs.declared.direct.Made.TheVariants as made
 use Rattle.ll_journal.specs.declared.direct.Made.{Made}
 use Rattle.ll_talk.specs.Session.{Session, Called, Connects, brought, following, full, joined, next, starved}
-use Rattle.ll_talk.specs.Talk.{Asks, ComesOn, Grows, Joins, Looks, Spawns, is_birth, met, reply_of, seen_by}
+use Rattle.ll_talk.specs.Talk.{Asks, ComesOn, Grows, Joins, Looks, Spawns, is_birth, met, seen_by}
 use Rattle.ll_talk.proofs.Closings.{was_starved}
 use Rattle.ll_talk.proofs.Comers.{caller_there, child_there, one_child, one_comer}
-use Rattle.ll_talk.proofs.Entered.{AreBelow, IsAmong, IsEntered, entered_push, entered_set}
+use Rattle.ll_talk.proofs.Entered.{AreBelow, entered_push, entered_set}
 use Rattle.ll_talk.proofs.Growths.{grows_push, grows_set, stays_so}
 use Rattle.ll_talk.proofs.Kept.{all_at, all_map, all_push, all_set, first_there, last_of, push_there, set_there}
 use Rattle.ll_talk.proofs.Seen.{count_numbers, numbers_push, numbers_set, seen_push, seen_set}
@@ -116,24 +117,29 @@ module _ (rules : Rules) (room limit : ℕ) (ks : List Knows) (place : ℕ) (me 
 
     replied : is_connect call ≡ false → is_birth (made.Replied reply) ≡ false
         → Leads rules room limit ks then (λ s t. Called s me.number call reply t)
-    replied other childless = (told_grows, λ history end c g s.
-        let seen : seen_by then ≡ now.seen = seen_set ks place me now at told_later in
-        let e : Entry = record { client = now.number; call = call; reply = reply } in
-        let h : Enters rules room limit history end c ks then e =
-        enters rules room limit history end c ks then place now me.part call reply s.known told.0
-        (set_there ks place me now at) told_part seen
-        (λ i. entered_set ks place me now (numbered now.seen call reply ∷ []) i at told_part) g in
-        let numbers : numbers_of then ≡ numbers_of ks = numbers_set ks place me now at told_number in
-        let below : AreBelow (seen_by then) then =
-        subst (λ n. AreBelow n then) (sym seen) (told_below ks place me now at s.known call reply told_later told_part)
-        in (
-          settled_same rules room limit history end c ks then e s h numbers below other (no_child reply childless),
-          subst (λ n. Called (between rules room limit history ks) n call reply (between rules room limit history then))
-              told_number
-              (is_called rules room limit history end c ks then e s h
-              (numbers ∙ sym (append-nil (numbers_of ks)) ∙ ap (λ ns. numbers_of ks ++ ns)
-              (sym (no_birth reply childless)))),
-        ))
+    replied other childless = (
+      told_grows,
+      λ history end c g s.
+          let seen : seen_by then ≡ now.seen = seen_set ks place me now at told_later in
+          let e : Entry = record { client = now.number; call = call; reply = reply } in
+          let h : Enters rules room limit history end c ks then e =
+          enters rules room limit history end c ks then place now me.part call reply s.known told.0
+          (set_there ks place me now at) told_part seen
+          (λ i. entered_set ks place me now (numbered now.seen call reply ∷ []) i at told_part) g in
+          let numbers : numbers_of then ≡ numbers_of ks = numbers_set ks place me now at told_number in
+          let below : AreBelow (seen_by then) then =
+          subst (λ n. AreBelow n then) (sym seen)
+          (told_below ks place me now at s.known call reply told_later told_part)
+          in (
+            settled_same rules room limit history end c ks then e s h numbers below other (no_child reply childless),
+            subst (λ n. Called (between rules room limit history ks) n call reply
+                (between rules room limit history then))
+                told_number
+                (is_called rules room limit history end c ks then e s h
+                (numbers ∙ sym (append-nil (numbers_of ks)) ∙ ap (λ ns. numbers_of ks ++ ns)
+                (sym (no_birth reply childless)))),
+          ),
+    )
 
   -- ---- it isn't
 
@@ -162,14 +168,14 @@ module _ (rules : Rules) (room limit : ℕ) (ks : List Knows) (place : ℕ) (me 
       let on = full_on (seen_by ks) limit me now is in (
         grows_set ks place me now at on later,
         λ history end c g s.
-        let q = quiet on (ap (λ (k : Knows). k.part) is) later history end c g s in
-        let last : now.seen ≡ limit = ap (λ (k : Knows). k.seen) is in
-        let all = long history s in
-        let same = q.1 in (
-          q.0,
-          subst (Called (between rules room limit history ks) me.number call (Refused HistoryFull)) (sym q.2)
-              (full (omega (arith, last, all, same))),
-        ),
+            let q = quiet on (ap (λ (k : Knows). k.part) is) later history end c g s in
+            let last : now.seen ≡ limit = ap (λ (k : Knows). k.seen) is in
+            let all = long history s in
+            let same = q.1 in (
+              q.0,
+              subst (Called (between rules room limit history ks) me.number call (Refused HistoryFull)) (sym q.2)
+                  (full (omega (arith, last, all, same))),
+            ),
       )
 
   lean : (call : Call) → takes_memory call ≡ true → seen_by ks ≤ now.seen
@@ -179,21 +185,22 @@ module _ (rules : Rules) (room limit : ℕ) (ks : List Knows) (place : ℕ) (me 
       let on = lean_on (seen_by ks) now.seen me now call is in (
         grows_set ks place me now at on later,
         λ history end c g s.
-        let q = quiet on (ap (λ (k : Knows). k.part) is) later history end c g s in
-        let all = long history s in
-        let same : now.seen ≡ seen_by ks = q.1 in
-        let lacked : IsStarved rules room limit history me.number (starved_at now.seen call) =
-        subst (λ n. IsStarved rules room limit history n (starved_at now.seen call)) on.number
-        (last_of (IsStarved rules room limit history now.number) me.starved (starved_at now.seen call)
-        (subst (AllByRecursion (IsStarved rules room limit history now.number)) (ap (λ (k : Knows). k.starved) is)
-        (was_starved rules room limit history end c then g place now (set_there ks place me now at)))) in
-        let fits : now.seen < limit = lacked.1 in (
-          q.0,
-          subst (Called (between rules room limit history ks) me.number call (Refused NoMemory)) (sym q.2)
-              (starved (omega (arith, fits, all, same)) takes
-              (subst (λ n. refusals (tree_at rules room history n) (client_of (tree_at rules room history n) me.number)
-              call ≡ []) same lacked.2)),
-        ),
+            let q = quiet on (ap (λ (k : Knows). k.part) is) later history end c g s in
+            let all = long history s in
+            let same : now.seen ≡ seen_by ks = q.1 in
+            let lacked : IsStarved rules room limit history me.number (starved_at now.seen call) =
+            subst (λ n. IsStarved rules room limit history n (starved_at now.seen call)) on.number
+            (last_of (IsStarved rules room limit history now.number) me.starved (starved_at now.seen call)
+            (subst (AllByRecursion (IsStarved rules room limit history now.number)) (ap (λ (k : Knows). k.starved) is)
+            (was_starved rules room limit history end c then g place now (set_there ks place me now at)))) in
+            let fits : now.seen < limit = lacked.1 in (
+              q.0,
+              subst (Called (between rules room limit history ks) me.number call (Refused NoMemory)) (sym q.2)
+                  (starved (omega (arith, fits, all, same)) takes
+                  (subst (λ n. refusals (tree_at rules room history n)
+                  (client_of (tree_at rules room history n) me.number)
+                  call ≡ []) same lacked.2)),
+            ),
       )
 
 -- ---- by what came of it
@@ -218,7 +225,7 @@ looks rules room limit ks ks' place l =
     subst (λ m. Leads rules room limit ks m (λ s t. t ≡ s)) (sym l.after) (
       grows_set ks place l.me now l.at on l.later,
       λ history end c g s.
-      let q = quiet rules room limit ks place l.me now l.at on refl l.later history end c g s in (q.0, q.2),
+          let q = quiet rules room limit ks place l.me now l.at on refl l.later history end c g s in (q.0, q.2),
     )
 
 -- ---- a child comes
@@ -239,33 +246,33 @@ spawns_so rules room limit ks place child me now at told =
       grows_push ks mid young (grows_set ks place me now at (told_on ks me now Spawn (Spawned child) told) later) tt
           (omega (arith, seen_mid)),
       λ history end c g s.
-      let e : Entry = record { client = now.number; call = Spawn; reply = Spawned child } in
-      let h : Enters rules room limit history end c ks then e =
-      enters rules room limit history end c ks then place now me.part Spawn (Spawned child) s.known told.0
-      (first_there mid (young ∷ []) place now (set_there ks place me now at)) part seen
-      (λ i is. elim (entered_push mid young i is) [
-        | inl was ↦ entered_set ks place me now (numbered now.seen Spawn (Spawned child) ∷ []) i at part was
-        | inr none ↦ absurd none
-      ]) g in
-      let numbers : numbers_of then ≡ numbers_of ks ++ child ∷ [] =
-      numbers_push mid young ∙ ap (λ ns. ns ++ child ∷ []) (numbers_set ks place me now at number) in
-      let may = stands rules room limit history end c ks then e s h in
-      let was = tree_at rules room history (seen_by ks) in
-      let there : has (after was e).clients child ≡ true = child_there was e may child refl in
-      let count = one_child was e may refl child refl in
-      let next : child ≡ length ks + 1 =
-      comes_next rules room limit history end c ks then e s h child (may.spawned child refl) there count in
-      let below : AreBelow (seen_by then) then = subst (λ n. AreBelow n then) (sym seen)
-      (all_push (λ (k : Knows). AllByRecursion (λ (x : Numbered). x.number ≤ now.seen) k.part) mid young
-      (told_below ks place me now at s.known Spawn (Spawned child) later part) tt) in (
-        settled_more rules room limit history end c ks then e s h child numbers below next there count,
-        (
-          subst (λ n. Called (between rules room limit history ks) n Spawn (Spawned child)
-              (between rules room limit history then)) number
-              (is_called rules room limit history end c ks then e s h numbers),
-          next ∙ ap (λ n. n + 1) (sym (count_numbers ks)),
-        ),
-      ),
+          let e : Entry = record { client = now.number; call = Spawn; reply = Spawned child } in
+          let h : Enters rules room limit history end c ks then e =
+          enters rules room limit history end c ks then place now me.part Spawn (Spawned child) s.known told.0
+          (first_there mid (young ∷ []) place now (set_there ks place me now at)) part seen
+          (λ i is. elim (entered_push mid young i is) [
+            | inl was ↦ entered_set ks place me now (numbered now.seen Spawn (Spawned child) ∷ []) i at part was
+            | inr none ↦ absurd none
+          ]) g in
+          let numbers : numbers_of then ≡ numbers_of ks ++ child ∷ [] =
+          numbers_push mid young ∙ ap (λ ns. ns ++ child ∷ []) (numbers_set ks place me now at number) in
+          let may = stands rules room limit history end c ks then e s h in
+          let was = tree_at rules room history (seen_by ks) in
+          let there : has (after was e).clients child ≡ true = child_there was e may child refl in
+          let count = one_child was e may refl child refl in
+          let next : child ≡ length ks + 1 =
+          comes_next rules room limit history end c ks then e s h child (may.spawned child refl) there count in
+          let below : AreBelow (seen_by then) then = subst (λ n. AreBelow n then) (sym seen)
+          (all_push (λ (k : Knows). AllByRecursion (λ (x : Numbered). x.number ≤ now.seen) k.part) mid young
+          (told_below ks place me now at s.known Spawn (Spawned child) later part) tt) in (
+            settled_more rules room limit history end c ks then e s h child numbers below next there count,
+            (
+              subst (λ n. Called (between rules room limit history ks) n Spawn (Spawned child)
+                  (between rules room limit history then)) number
+                  (is_called rules room limit history end c ks then e s h numbers),
+              next ∙ ap (λ n. n + 1) (sym (count_numbers ks)),
+            ),
+          ),
     )
 
 pub spawns : (rules : Rules) (room limit : ℕ) (ks ks' : List Knows) (place child : ℕ) (a : Spawns ks place child ks')
@@ -296,7 +303,7 @@ connects_so rules room limit ks ks' number history end c e s h client call reply
     ap (λ ns. ns ++ following now ∷ []) (append-nil now.clients)
     ∙ ap (λ n. now.clients ++ n ∷ []) (sym one) ∙ sym numbers in
     let tree_is : tree ≡ then.tree = sym (tree_then rules room limit history end c ks ks' e s h) in
-    let entries_are : now.entries ++ e ∷ [] ≡ then.entries = sym (taken rules room limit history end c ks ks' e s h) in (
+    let longer : now.entries ++ e ∷ [] ≡ then.entries = sym (taken rules room limit history end c ks ks' e s h) in (
       next now (following now) Connect Done tree,
       (
         ap (has now.tree.clients) (sym one) ∙ out,
@@ -306,7 +313,7 @@ connects_so rules room limit ks ks' number history end c e s h client call reply
       λ i. record {
         tree = tree_is i;
         clients = clients i;
-        entries = (ap (λ (x : Entry). now.entries ++ x ∷ []) entry ∙ entries_are) i;
+        entries = (ap (λ (x : Entry). now.entries ++ x ∷ []) entry ∙ longer) i;
         limit = limit;
       },
       one,
@@ -321,25 +328,25 @@ joins_so rules room limit ks number seen later =
     let last : seen_by then ≡ seen = seen_push ks young (omega (arith, later)) in (
       grows_push ks ks young (stays_so ks) (later, tt) (omega (arith, later)),
       λ history end c g s.
-      let e : Entry = record { client = number; call = Connect; reply = Done } in
-      let h : Enters rules room limit history end c ks then e =
-      enters rules room limit history end c ks then (length ks) young [] Connect Done s.known later
-      (push_there ks young) refl last (λ i. entered_push ks young i) g in
-      let numbers : numbers_of then ≡ numbers_of ks ++ number ∷ [] = numbers_push ks young in
-      let may = stands rules room limit history end c ks then e s h in
-      let was = tree_at rules room history (seen_by ks) in
-      let there : has (after was e).clients number ≡ true = caller_there was e may in
-      let count = one_comer was e may refl in
-      let next : number ≡ length ks + 1 =
-      comes_next rules room limit history end c ks then e s h number may.caller there count in
-      let below : AreBelow (seen_by then) then = subst (λ n. AreBelow n then) (sym last)
-      (all_push (λ (k : Knows). AllByRecursion (λ (x : Numbered). x.number ≤ seen) k.part) ks young
-      (below_more (seen_by ks) seen ks (omega (arith, later)) s.known) (omega arith, tt)) in
-      let one : number ≡ following (between rules room limit history ks) =
-      next ∙ ap (λ n. n + 1) (sym (count_numbers ks)) in (
-        settled_more rules room limit history end c ks then e s h number numbers below next there count,
-        connects_so rules room limit ks then number history end c e s h refl refl refl numbers one may.caller,
-      ),
+          let e : Entry = record { client = number; call = Connect; reply = Done } in
+          let h : Enters rules room limit history end c ks then e =
+          enters rules room limit history end c ks then (length ks) young [] Connect Done s.known later
+          (push_there ks young) refl last (λ i. entered_push ks young i) g in
+          let numbers : numbers_of then ≡ numbers_of ks ++ number ∷ [] = numbers_push ks young in
+          let may = stands rules room limit history end c ks then e s h in
+          let was = tree_at rules room history (seen_by ks) in
+          let there : has (after was e).clients number ≡ true = caller_there was e may in
+          let count = one_comer was e may refl in
+          let next : number ≡ length ks + 1 =
+          comes_next rules room limit history end c ks then e s h number may.caller there count in
+          let below : AreBelow (seen_by then) then = subst (λ n. AreBelow n then) (sym last)
+          (all_push (λ (k : Knows). AllByRecursion (λ (x : Numbered). x.number ≤ seen) k.part) ks young
+          (below_more (seen_by ks) seen ks (omega (arith, later)) s.known) (omega arith, tt)) in
+          let one : number ≡ following (between rules room limit history ks) =
+          next ∙ ap (λ n. n + 1) (sym (count_numbers ks)) in (
+            settled_more rules room limit history end c ks then e s h number numbers below next there count,
+            connects_so rules room limit ks then number history end c e s h refl refl refl numbers one may.caller,
+          ),
     )
 
 pub joins : (rules : Rules) (room limit : ℕ) (ks ks' : List Knows) (number : ℕ) (j : Joins ks number ks')

@@ -15,7 +15,7 @@ use Rattle.ll_seq.specs.declared.reply.Entry.{Entry}
 use Rattle.ll_seq.specs.declared.rules.Rules.{Rules}
 use Rattle.ll_seq.specs.History.{IsLegal, state_after}
 use Rattle.ll_seq.specs.Memory.{takes_memory}
-use Rattle.ll_seq.specs.State.{State, start}
+use Rattle.ll_seq.specs.State.{start}
 use Rattle.ll_seq.specs.Step.{refusals, client_of}
 use Rattle.ll_worlds.specs.Walk.{is_in}
 use Rattle.ll_journal.specs.declared.direct.Made.TheVariants as made
