@@ -9,3 +9,4 @@ pub mod Steps
 pub mod Turns
 pub mod Edges
 pub mod Leading
+pub mod Acts

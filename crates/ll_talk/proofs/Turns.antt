@@ -24,7 +24,7 @@ use Rattle.ll_talk.specs.Laws.{AsksIsCall, JoinsIsConnect, LooksIsNothing, Spawn
 use Rattle.ll_journal.specs.declared.direct.Made.TheVariants as made
 use Rattle.ll_journal.specs.declared.direct.Made.{Made}
 use Rattle.ll_talk.specs.Session.{Session, Called, Connects, brought, following, full, joined, next, starved}
-use Rattle.ll_talk.specs.Talk.{Asks, ComesOn, Grows, Joins, Looks, Spawns, is_birth, met, seen_by}
+use Rattle.ll_talk.specs.Talk.{Asks, ComesOn, Grows, Joins, Looks, LooksAt, Spawns, is_birth, met, seen_by}
 use Rattle.ll_talk.proofs.Closings.{was_starved}
 use Rattle.ll_talk.proofs.Comers.{caller_there, child_there, one_child, one_comer}
 use Rattle.ll_talk.proofs.Entered.{AreBelow, entered_push, entered_set}
@@ -212,14 +212,17 @@ asks rules room limit ks ks' place call (made.Replied reply) a =
     (replied rules room limit ks place a.me a.now a.at call reply a.gains a.other a.childless)
 asks rules room limit ks ks' place call made.HistoryFull a =
     subst (λ l. Leads rules room limit ks l (λ s t. Called s a.me.number call (Refused HistoryFull) t)) (sym a.after)
-    (filled rules room limit ks place a.me a.now a.at call a.gains a.later)
+    (filled rules room limit ks place a.me a.now a.at call a.gains.1
+    (let last : a.now.seen ≡ limit = ap (λ (k : Knows). k.seen) a.gains.1 in
+    let less = a.gains.0 in
+    omega (arith, last, less)))
 asks rules room limit ks ks' place call made.NoMemory a =
     subst (λ l. Leads rules room limit ks l (λ s t. Called s a.me.number call (Refused NoMemory) t)) (sym a.after)
     (lean rules room limit ks place a.me a.now a.at call a.gains.0 a.gains.1 a.gains.2)
 
-pub looks : (rules : Rules) (room limit : ℕ) (ks ks' : List Knows) (place : ℕ) (l : Looks ks place ks')
-    → LooksIsNothing rules room limit ks ks' place l
-looks rules room limit ks ks' place l =
+looks_at : (rules : Rules) (room limit : ℕ) (ks ks' : List Knows) (place : ℕ) → LooksAt ks place ks'
+    → Leads rules room limit ks ks' (λ s t. t ≡ s)
+looks_at rules room limit ks ks' place l =
     let now : Knows = record l.me { seen = l.seen } in
     let on = full_on (seen_by ks) l.seen l.me now refl in
     subst (λ m. Leads rules room limit ks m (λ s t. t ≡ s)) (sym l.after) (
@@ -227,6 +230,13 @@ looks rules room limit ks ks' place l =
       λ history end c g s.
           let q = quiet rules room limit ks place l.me now l.at on refl l.later history end c g s in (q.0, q.2),
     )
+
+pub looks : (rules : Rules) (room limit : ℕ) (ks ks' : List Knows) (l : Looks ks ks')
+    → LooksIsNothing rules room limit ks ks' l
+looks rules room limit ks ks' (inl none) =
+    subst (λ m. Leads rules room limit ks m (λ s t. t ≡ s)) (none.0 ∙ sym none.1)
+    (stays_so ks, λ history end c g s. (s, refl))
+looks rules room limit ks ks' (inr l) = looks_at rules room limit ks ks' l.0 l.1
 
 -- ---- a child comes
 

@@ -61,7 +61,7 @@ Told call reply k k' =
 
 abbrev pub Gains : ℕ → Call → Knows → Made → Knows → Type 0
 Gains limit call k (made.Replied reply) k' = Told call reply k k'
-Gains limit call k made.HistoryFull k' = k' ≡ record k { seen = limit }
+Gains limit call k made.HistoryFull k' = (k.seen ≤ limit) × (k' ≡ record k { seen = limit })
 Gains limit call k made.NoMemory k' =
     (takes_memory call ≡ true) × (k.seen ≤ k'.seen)
     × (k' ≡ record k { starved = k.starved ++ starved_at k'.seen call ∷ []; seen = k'.seen })

@@ -31,8 +31,8 @@ module _ (rules : Rules) (room limit : ℕ) (ks ks' : List Knows) where
       (λ s t. (mid : Session) × Connects s Done mid × (joined s mid ≡ t) × (number ≡ following s))
 
   -- a look changes nothing
-  abbrev pub LooksIsNothing : (place : ℕ) → Looks ks place ks' → Type 0
-  LooksIsNothing place l = Leads rules room limit ks ks' (λ s t. t ≡ s)
+  abbrev pub LooksIsNothing : Looks ks ks' → Type 0
+  LooksIsNothing l = Leads rules room limit ks ks' (λ s t. t ≡ s)
 
 -- ---- The laws
 
@@ -53,8 +53,8 @@ ConnectsAreSteps =
 
 abbrev pub LooksChangeNothing : Type 0
 LooksChangeNothing =
-    (rules : Rules) (room limit : ℕ) (ks ks' : List Knows) (place : ℕ) → (l : Looks ks place ks')
-    → LooksIsNothing rules room limit ks ks' place l
+    (rules : Rules) (room limit : ℕ) (ks ks' : List Knows) → (l : Looks ks ks')
+    → LooksIsNothing rules room limit ks ks' l
 
 -- Of the next client's connect: where the history is full, it is refused so; where there are too many clients, so; and
 -- else memory may run out for it

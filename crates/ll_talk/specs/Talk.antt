@@ -1,5 +1,5 @@
 -- How the clients of a shared tree come on that one session owns: it makes their calls one after the other. own
-use Rattle.std.specs.Prelude.{◌≡◌, ℕ, ◌<◌, ◌≤◌, max, Bool, true, false, List, [], ◌∷◌, ◌++◌, None, Some}
+use Rattle.std.specs.Prelude.{◌≡◌, ◌⊎◌, ℕ, ◌<◌, ◌≤◌, max, Bool, true, false, List, [], ◌∷◌, ◌++◌, None, Some}
 use Rattle.std.specs.Prelude.{slice_get, slice_set}
 use Rattle.std.specs.List.{AllByRecursion}
 use Rattle.ll_rights.specs.declared.errno.Errno.TheVariants as errnos
@@ -21,6 +21,14 @@ seen_by (k ∷ ks) = max k.seen (seen_by ks)
 abbrev pub met : List Knows → Knows → Knows
 met ks k = record k { seen = seen_by ks }
 
+-- The client at this place knows of all that one of them knows of, or nobody is there
+abbrev pub IsLast : List Knows → ℕ → Type 0
+IsLast ks place = (ks ≡ []) ⊎ ((k : Knows) × (slice_get ks place ≡ Some k) × (k.seen ≡ seen_by ks))
+
+-- it has met all of them
+abbrev pub IsMet : List Knows → ℕ → List Knows → Type 0
+IsMet ks place ks' = (me : Knows) × (slice_get ks place ≡ Some me) × (ks' ≡ slice_set ks place (met ks me))
+
 -- it brings a child
 abbrev pub is_birth : Made → Bool
 is_birth (made.Replied (Spawned number)) = true
@@ -32,8 +40,7 @@ reply_of (made.Replied reply) = reply
 reply_of made.HistoryFull = Refused errnos.HistoryFull
 reply_of made.NoMemory = Refused errnos.NoMemory
 
--- The client at this place calls, when it has met all others, and knows of no less then. The call is no connect, and
--- brings no child
+-- The client at this place calls, when it has met all others. The call is no connect, and brings no child
 pub record Asks (limit : ℕ) (ks : List Knows) (place : ℕ) (call : Call) (made : Made) (ks' : List Knows) : Type 0 where
   pub me : Knows
   pub now : Knows
@@ -41,7 +48,6 @@ pub record Asks (limit : ℕ) (ks : List Knows) (place : ℕ) (call : Call) (mad
   pub other : is_connect call ≡ false
   pub childless : is_birth made ≡ false
   pub gains : Gains limit call (met ks me) made now
-  pub later : seen_by ks ≤ now.seen
   pub after : ks' ≡ slice_set ks place now
 
 -- it spawns this child, which comes last
@@ -59,12 +65,16 @@ pub record Joins (ks : List Knows) (number : ℕ) (ks' : List Knows) : Type 0 wh
   pub after : ks' ≡ ks ++ knows number (numbered seen Connect Done ∷ []) [] seen None ∷ []
 
 -- the client at this place knows of all entries made so far
-pub record Looks (ks : List Knows) (place : ℕ) (ks' : List Knows) : Type 0 where
+pub record LooksAt (ks : List Knows) (place : ℕ) (ks' : List Knows) : Type 0 where
   pub me : Knows
   pub seen : ℕ
   pub at : slice_get ks place ≡ Some me
   pub later : seen_by ks ≤ seen
   pub after : ks' ≡ slice_set ks place (record me { seen = seen })
+
+-- one of them does, if somebody is there
+abbrev pub Looks : (ks ks' : List Knows) → Type 0
+Looks ks ks' = ((ks ≡ []) × (ks' ≡ [])) ⊎ ((place : ℕ) × LooksAt ks place ks')
 
 -- ---- What stays, while clients come on
 
