@@ -10,3 +10,4 @@ pub mod Turns
 pub mod Edges
 pub mod Leading
 pub mod Acts
+pub mod Later
