@@ -1,17 +1,12 @@
 -- The line that each piece gives in a session. own
-use Rattle.std.specs.Prelude.{◌≡◌, ℕ, ◌+◌, ◌-◌, ◌<◌, ◌≤◌, true, false, List, [], ◌∷◌, ◌++◌, length, Some, None}
+use Rattle.std.specs.Prelude.{◌≡◌, ℕ, ◌+◌, ◌-◌, ◌<◌, true, false, List, length, Some, None}
 use Rattle.std.specs.Prelude.{slice_get}
 use Rattle.std.specs.List.{All}
-use Rattle.ll_rights.specs.declared.errno.Errno.TheVariants.{HistoryFull, NoMemory, BadLine}
+use Rattle.ll_rights.specs.declared.errno.Errno.TheVariants.{NoMemory, BadLine}
 use Rattle.ll_seq.specs.declared.call.Call.{Call}
 use Rattle.ll_seq.specs.declared.reply.Reply.{Reply}
 use Rattle.ll_seq.specs.declared.reply.Reply.TheVariants.{Refused, Spawned}
-use Rattle.ll_seq.specs.declared.reply.Entry.{Entry}
-use Rattle.ll_rights.specs.Map.{has}
 use Rattle.ll_seq.specs.History.{is_connect}
-use Rattle.ll_seq.specs.State.{State}
-use Rattle.ll_seq.specs.Step.{step, refusals, client_of}
-use Rattle.ll_seq.specs.Memory.{takes_memory}
 use Rattle.ll_talk.specs.Session.{Session, Called}
 use Rattle.ll_wire.specs.Grammar.{SpellsCommand, reply_line}
 use Rattle.ll_wire.specs.Reads.{holds_text}
