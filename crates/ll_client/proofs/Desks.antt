@@ -192,12 +192,18 @@ same_goes b b' c h fits e =
       doing = ap (λ (x : Book). doing_of x.world c) e;
     }
 
-grown_goes : (b b' : Book) (s : Step) (p : Outcome) → OnlyJoins s p → IsSound b.world → length b.world.history ≤ b.world.limit
+grown_goes : (b b' : Book) (s : Step) (p : Outcome) → OnlyJoins s p → IsSound b.world
+    → length b.world.history ≤ b.world.limit
     → advance b.world s ≡ (p, b'.world)
     → doing_after b.world s ≡ doing_of b.world (client_in b.world s)
     → Grown b.world b'.world (client_in b.world s) (doing_after b.world s) [] → GoesOn b b' (client_in b.world s)
 grown_goes b b' s p only h fits e after g =
-    record { steps = stepped b b' s p only h fits e; history = g.came ∙ append-nil b.world.history; doing = g.mine ∙ after }
+    record {
+      steps = stepped b b' s p only h fits e;
+      history = g.came ∙ append-nil b.world.history;
+      doing = g.mine
+          ∙ after;
+    }
 
 not_now : (b b' : Book) (s : Step) → IsSound b.world → length b.world.history ≤ b.world.limit
     → advance b.world s ≡ (NotNow, b'.world) → GoesOn b b' (client_in b.world s)

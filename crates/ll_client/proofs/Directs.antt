@@ -1,5 +1,6 @@
 -- What comes of a call that doesn't walk: of the tree, and of its client.
-use Rattle.std.specs.Prelude.{◌≡◌, ◌≢◌, ℕ, ◌≤◌, List, [], ◌∷◌, ◌++◌, length, Option, Some, None, Result, Ok, Err, IfOk, OnErr}
+use Rattle.std.specs.Prelude.{◌≡◌, ◌≢◌, ℕ, ◌≤◌, List, [], ◌∷◌, ◌++◌, length, Option, Some, None, Result, Ok, Err, IfOk}
+use Rattle.std.specs.Prelude.{OnErr}
 use Rattle.std.specs.Prelude.{Bool, true, false, refl, unwrap_or, if◌then◌else◌, ◌&&◌, ◌||◌, not, is_none}
 use Rattle.std.proofs.Common.{sym, subst, ap, ◌∙◌, arith, inl, inr}
 use Rattle.ll_seq.specs.Memory.{takes_memory}

@@ -129,17 +129,21 @@ given_up b b' c walk h fits is e = record {
 
 pub left_steps : (how : Leaving) (b b' : Book) (c : ℕ) (l : Left) → IsSound b.world
     → length b.world.history ≤ b.world.limit → Leaves how b c l b' → Steps b b' c
-left_steps Commit b b' c left.NotNow h fits d = stepped b b' (steps.Commit c) world.NotNow (λ n f. absurd (cc f)) h fits d
+left_steps Commit b b' c left.NotNow h fits d =
+    stepped b b' (steps.Commit c) world.NotNow (λ n f. absurd (cc f)) h fits d
 left_steps Commit b b' c left.Astray h fits d = stood b b' c h fits d
-left_steps Commit b b' c (left.Answered reply) h fits d = stepped b b' (steps.Commit c) (world.Replied reply) (λ n f. absurd (cc f)) h fits d.1
+left_steps Commit b b' c (left.Answered reply) h fits d =
+    stepped b b' (steps.Commit c) (world.Replied reply) (λ n f. absurd (cc f)) h fits d.1
 left_steps Commit b b' c left.Again h fits d = absurd d
 left_steps Commit b b' c left.HistoryFull h fits d =
     stepped b b' (steps.Commit c) (world.Replied (Refused HistoryFull)) (λ n f. absurd (cc f)) h fits d
 left_steps Commit b b' c left.NoMemory h fits d = given_up b b' c d.0.walk h fits d.0.is d.1
-left_steps Restart b b' c left.NotNow h fits d = stepped b b' (steps.Restart c) world.NotNow (λ n f. absurd (cc f)) h fits d
+left_steps Restart b b' c left.NotNow h fits d =
+    stepped b b' (steps.Restart c) world.NotNow (λ n f. absurd (cc f)) h fits d
 left_steps Restart b b' c left.Astray h fits d = stood b b' c h fits d
 left_steps Restart b b' c (left.Answered reply) h fits d = absurd d
-left_steps Restart b b' c left.Again h fits d = stepped b b' (steps.Restart c) world.Restarted (λ n f. absurd (cc f)) h fits d
+left_steps Restart b b' c left.Again h fits d =
+    stepped b b' (steps.Restart c) world.Restarted (λ n f. absurd (cc f)) h fits d
 left_steps Restart b b' c left.HistoryFull h fits d = absurd d
 left_steps Restart b b' c left.NoMemory h fits d = absurd d
 

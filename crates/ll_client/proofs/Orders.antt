@@ -37,7 +37,8 @@ first_ones : (s : State) (n : ℕ) (call : Call) → 1 ≤ n → ((c : ℕ) → 
     → has (step s n call (len s.clients + 1)).1.clients c ≡ true → 1 ≤ c
 first_ones s n call some low zero there =
     let fresh = len s.clients + 1 in
-    let same = other_client s (step s n call fresh).1 n fresh (step_clients s n call fresh) 0 (λ e. omega (arith, e, some))
+    let same = other_client s (step s n call fresh).1 n fresh (step_clients s n call fresh) 0
+    (λ e. omega (arith, e, some))
     (λ e. omega (arith, e)) in
     low 0 (ap is_some (sym same) ∙ there)
 first_ones s n call some low (suc c) there = omega arith

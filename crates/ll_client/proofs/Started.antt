@@ -33,7 +33,8 @@ started_steps b b' c call start.Begun h fits d =
 started_steps b b' c call (start.Back back) h fits d = stood b b' c h fits d.1
 
 pub started_goes : (b b' : Book) (c seen limit : ℕ) (part : List Numbered) (starved : List Starved)
-    (doing : Option Call) (call : Call) (r : Start) → length b.world.history ≤ b.world.limit → b.world.limit ≡ limit → IsClient b c part seen doing
+    (doing : Option Call) (call : Call) (r : Start) → length b.world.history ≤ b.world.limit → b.world.limit ≡ limit
+    → IsClient b c part seen doing
     → (r ≡ start.Made made.NoMemory → TakesMemory call) → Starts b c call r b'
     → SetsOut limit call (knows c part starved seen doing) r
     (knows c (part_of b'.world c) (starved_if (starves_started r) starved (length b.world.history) (Some call))

@@ -98,8 +98,8 @@ coded_knows =
     (λ k. (k.number, (k.part, (k.starved, (k.seen, k.doing)))))
     (λ p. record { number = p.0; part = p.1.0; starved = p.1.1.0; seen = p.1.1.1.0; doing = p.1.1.1.1 }) (λ _. refl)
 
--- ---- Entries: of their numbers those of slots are 0, 3, 6, ..; of clients' accounts 1, 4, 7, ..; of clients' wants 2, 5,
--- 8, ..
+-- ---- Entries: the numbers 0, 3, 6 and so on are those of slots, 1, 4, 7 those of clients' accounts, 2, 5, 8 those of
+-- clients' wants
 
 abbrev pub slot_entry : ℕ → Held → ℕ × Account
 slot_entry k held = (3 * k, Slot held)

@@ -20,7 +20,8 @@ note_want-requires g c κs within = (within, (c.requires.1.1.1.0, (all, (c.requi
         (λ i. (sym c.requires.1.0 i, sym c.requires.1.1.0 i))
         (result_starves c.args.journal.now c.client_step-made.new.self c.args.number c.args.call
         (ClientStep c.args.number c.args.call) (starved_in c.args.wants.now) c.client_step-made.result
-        (record { mine = refl; asks = refl; idle = refl; other = λ e. cc e }) c.client_step-made.ensures.does (sym c.starves-ran_out.ensures ∙ ran))
+        (record { mine = refl; asks = refl; idle = refl; other = λ e. cc e }) c.client_step-made.ensures.does
+        (sym c.starves-ran_out.ensures ∙ ran))
 
 pub returns-clause-all : goal.returns-clause-all
 returns-clause-all g c =

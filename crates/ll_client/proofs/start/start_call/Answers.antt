@@ -18,7 +18,8 @@ note_want-requires g c κs within = (within, (c.requires.1.1.1.0, (all, (c.requi
         subst (λ (p : Book × Call). GoOn p.0.world c.args.number (starved_in c.args.wants.now) (Some p.1))
         (λ i. (sym c.requires.1.0 i, sym c.requires.1.1.0 i))
         (start_starves c.args.journal.now c.start-start.new.self c.args.number c.args.call
-        (starved_in c.args.wants.now) c.start-start.result c.start-start.ensures.starts (sym c.starves_at_start-ran_out.ensures ∙ ran))
+        (starved_in c.args.wants.now) c.start-start.result c.start-start.ensures.starts
+        (sym c.starves_at_start-ran_out.ensures ∙ ran))
 
 pub returns-clause-all : goal.returns-clause-all
 returns-clause-all g c =

@@ -45,7 +45,8 @@ returns-clause-mine g c =
           (doing_in (sym c.give_client.ensures.pass i)),
     ))
     (begin_mine c.self.inside.journal c.begin-begun.new.self c.me.inside.number c.me.inside.seen
-    (part_in c.me.inside.pass) (starved_in c.me.inside.wants) (doing_in c.me.inside.pass) c.args.call c.begin-begun.result
+    (part_in c.me.inside.pass) (starved_in c.me.inside.wants) (doing_in c.me.inside.pass) c.args.call
+    c.begin-begun.result
     c.take_client.ensures.part c.begin-begun.ensures.begun)
 
 pub returns-clause-still : goal.returns-clause-still
@@ -58,5 +59,6 @@ returns-clause-still g c =
           (doing_in (sym c.give_client.ensures.pass i)),
     ))
     (begin_still c.self.inside.journal c.begin-begun.new.self c.me.inside.number c.me.inside.seen
-    (part_in c.me.inside.pass) (starved_in c.me.inside.wants) (doing_in c.me.inside.pass) c.begin-begun.result c.take_client.ensures.part
+    (part_in c.me.inside.pass) (starved_in c.me.inside.wants) (doing_in c.me.inside.pass) c.begin-begun.result
+    c.take_client.ensures.part
     c.take_client.ensures.doing c.begin-begun.ensures.same)

@@ -72,10 +72,12 @@ returns-clause-mine g c =
     subst (λ (x : Knows × Knows). IfOk c.step_alone-made.result (λ a. Gains g.N.Shape.limit c.args.call x.0 a x.1))
     (λ i. (
       c.me.view_is i,
-      knows c.me.inside.number (part_in (sym c.give_client.ensures.pass i)) (sym c.step_alone-made.ensures.starved i) (seen i)
+      knows c.me.inside.number (part_in (sym c.give_client.ensures.pass i)) (sym c.step_alone-made.ensures.starved i)
+          (seen i)
           (doing_in (sym c.give_client.ensures.pass i)),
     ))
-    (direct_gains c.self.inside.journal c.step_alone-made.new.journal c.me.inside.number c.me.inside.seen g.N.Shape.limit
+    (direct_gains c.self.inside.journal c.step_alone-made.new.journal c.me.inside.number c.me.inside.seen
+    g.N.Shape.limit
     _ (starved_in c.me.inside.wants) _ c.args.call (ClientStep c.me.inside.number c.args.call) c.step_alone-made.result
     (record { mine = refl; asks = refl; idle = refl; other = λ e. cc e }) c.self.invariant.within
     c.self.invariant.limit_is k
@@ -95,7 +97,8 @@ returns-clause-still g c =
     subst (λ (x : Knows × Knows). OnErr c.step_alone-made.result (x.1 ≡ x.0))
     (λ i. (
       c.me.view_is i,
-      knows c.me.inside.number (part_in (sym c.give_client.ensures.pass i)) (sym c.step_alone-made.ensures.starved i) (seen i)
+      knows c.me.inside.number (part_in (sym c.give_client.ensures.pass i)) (sym c.step_alone-made.ensures.starved i)
+          (seen i)
           (doing_in (sym c.give_client.ensures.pass i)),
     ))
     (direct_still c.self.inside.journal c.step_alone-made.new.journal c.me.inside.number c.me.inside.seen _

@@ -36,7 +36,8 @@ put_slot-requires-clause-free g c =
 
 pub give_client-requires-clause-free : goal.give_client-requires-clause-free
 give_client-requires-clause-free g c =
-    c.put_slot.ensures.others.client (c.step_on_file-made.ensures.only.clients c.me.inside.number ∙ c.take_client.ensures.gone.gone)
+    c.put_slot.ensures.others.client (c.step_on_file-made.ensures.only.clients c.me.inside.number
+    ∙ c.take_client.ensures.gone.gone)
 
 pub give_client-requires-clause-there : goal.give_client-requires-clause-there
 give_client-requires-clause-there g c =
@@ -69,7 +70,8 @@ invariant_of-self g c =
     (FdCommit c.me.inside.number c.args.call) c.step_on_file-made.result
     (record { mine = refl; asks = refl; idle = refl; other = λ e. cc e }) c.self.invariant.sound
     c.self.invariant.within c.step_on_file-made.ensures.does
-    (when_err c.step_on_file-made.result (λ e. e.0) c.step_on_file-made.ensures.same)) c.step_on_file-made.ensures.spares
+    (when_err c.step_on_file-made.result (λ e. e.0) c.step_on_file-made.ensures.same))
+    c.step_on_file-made.ensures.spares
     c.give_client.ensures.all
 
 pub returns-clause-mine : goal.returns-clause-mine
@@ -79,17 +81,20 @@ returns-clause-mine g c =
     (doing_in c.me.inside.pass) =
     record { there = known.there; few = known.few; part_is = known.part; low = known.seen; doing_is = known.doing }
     in
-    let seen : seen_made c.step_on_file-made.result c.me.inside.seen (length c.step_on_file-made.new.journal.world.history)
+    let seen : seen_made c.step_on_file-made.result c.me.inside.seen
+    (length c.step_on_file-made.new.journal.world.history)
     ≡ c.seen_on_file-me-inside.result =
     ap (λ (es : List Entry). seen_made c.step_on_file-made.result c.me.inside.seen (length es)) (sym c.entries.ensures)
     ∙ sym c.seen_on_file-me-inside.ensures in
     subst (λ (x : Knows × Knows). IfOk c.step_on_file-made.result (λ a. Gains g.N.Shape.limit c.args.call x.0 a x.1))
     (λ i. (
       c.me.view_is i,
-      knows c.me.inside.number (part_in (sym c.give_client.ensures.pass i)) (sym c.step_on_file-made.ensures.starved i) (seen i)
+      knows c.me.inside.number (part_in (sym c.give_client.ensures.pass i)) (sym c.step_on_file-made.ensures.starved i)
+          (seen i)
           (doing_in (sym c.give_client.ensures.pass i)),
     ))
-    (direct_gains c.self.inside.journal c.step_on_file-made.new.journal c.me.inside.number c.me.inside.seen g.N.Shape.limit _
+    (direct_gains c.self.inside.journal c.step_on_file-made.new.journal c.me.inside.number c.me.inside.seen
+    g.N.Shape.limit _
     (starved_in c.me.inside.wants) _ c.args.call (FdCommit c.me.inside.number c.args.call) c.step_on_file-made.result
     (record { mine = refl; asks = refl; idle = refl; other = λ e. cc e }) c.self.invariant.within
     c.self.invariant.limit_is k
@@ -104,15 +109,18 @@ returns-clause-still g c =
     (doing_in c.me.inside.pass) =
     record { there = known.there; few = known.few; part_is = known.part; low = known.seen; doing_is = known.doing }
     in
-    let seen : seen_made c.step_on_file-made.result c.me.inside.seen (length c.step_on_file-made.new.journal.world.history)
+    let seen : seen_made c.step_on_file-made.result c.me.inside.seen
+    (length c.step_on_file-made.new.journal.world.history)
     ≡ c.seen_on_file-me-inside.result =
     ap (λ (es : List Entry). seen_made c.step_on_file-made.result c.me.inside.seen (length es)) (sym c.entries.ensures)
     ∙ sym c.seen_on_file-me-inside.ensures in
     subst (λ (x : Knows × Knows). OnErr c.step_on_file-made.result (x.1 ≡ x.0))
     (λ i. (
       c.me.view_is i,
-      knows c.me.inside.number (part_in (sym c.give_client.ensures.pass i)) (sym c.step_on_file-made.ensures.starved i) (seen i)
+      knows c.me.inside.number (part_in (sym c.give_client.ensures.pass i)) (sym c.step_on_file-made.ensures.starved i)
+          (seen i)
           (doing_in (sym c.give_client.ensures.pass i)),
     ))
     (direct_still c.self.inside.journal c.step_on_file-made.new.journal c.me.inside.number c.me.inside.seen _
-    (starved_in c.me.inside.wants) _ c.args.call c.step_on_file-made.result k (when_err c.step_on_file-made.result (λ e. e.0) c.step_on_file-made.ensures.same))
+    (starved_in c.me.inside.wants) _ c.args.call c.step_on_file-made.result k
+    (when_err c.step_on_file-made.result (λ e. e.0) c.step_on_file-made.ensures.same))

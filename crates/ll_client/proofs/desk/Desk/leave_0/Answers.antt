@@ -63,7 +63,8 @@ returns-clause-mine g c =
     subst (λ (x : Knows × Knows). Goes g.N.Shape.limit x.0 c.leave_with-left.result x.1)
     (λ i. (
       c.me.view_is i,
-      knows c.me.inside.number (part_in (sym c.give_client.ensures.pass i)) (sym c.leave_with-left.ensures.starved i) (seen i)
+      knows c.me.inside.number (part_in (sym c.give_client.ensures.pass i)) (sym c.leave_with-left.ensures.starved i)
+          (seen i)
           (doing_in (sym c.give_client.ensures.pass i)),
     ))
     (left_goes c.self.inside.journal c.leave_with-left.new.journal c.me.inside.number c.me.inside.seen

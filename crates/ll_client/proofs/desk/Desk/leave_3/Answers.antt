@@ -55,7 +55,10 @@ put_slot-requires-3-clause-free g c =
 
 pub give_client-requires-clause-free : goal.give_client-requires-clause-free
 give_client-requires-clause-free g c =
-    c.put_slot-3.ensures.others.client (c.put_slot-2.ensures.others.client (c.put_slot.ensures.others.client (c.leave_by_3-left.ensures.only.clients c.me.inside.number ∙ c.take_client.ensures.gone.gone)))
+    c.put_slot-3.ensures.others.client
+    (c.put_slot-2.ensures.others.client
+    (c.put_slot.ensures.others.client (c.leave_by_3-left.ensures.only.clients c.me.inside.number
+    ∙ c.take_client.ensures.gone.gone)))
 
 pub give_client-requires-clause-there : goal.give_client-requires-clause-there
 give_client-requires-clause-there g c =
@@ -105,7 +108,8 @@ returns-clause-mine g c =
     subst (λ (x : Knows × Knows). Goes g.N.Shape.limit x.0 c.leave_by_3-left.result x.1)
     (λ i. (
       c.me.view_is i,
-      knows c.me.inside.number (part_in (sym c.give_client.ensures.pass i)) (sym c.leave_by_3-left.ensures.starved i) (seen i)
+      knows c.me.inside.number (part_in (sym c.give_client.ensures.pass i)) (sym c.leave_by_3-left.ensures.starved i)
+          (seen i)
           (doing_in (sym c.give_client.ensures.pass i)),
     ))
     (left_goes c.self.inside.journal c.leave_by_3-left.new.journal c.me.inside.number c.me.inside.seen

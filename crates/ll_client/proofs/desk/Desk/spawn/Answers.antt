@@ -38,7 +38,8 @@ child-child-requires-clause-all g c =
     c.me.inside.number
     c.self.inside.keeper c.step_alone-made.new.keeper c.step_alone-made.result c.spawned.result s).moved
     (c.step_alone-made.ensures.only.out [] (c.take_client.ensures.gone.out [] tt))
-    (c.step_alone-made.ensures.only.clients c.me.inside.number ∙ c.take_client.ensures.gone.gone) c.step_alone-made.ensures.all
+    (c.step_alone-made.ensures.only.clients c.me.inside.number ∙ c.take_client.ensures.gone.gone)
+    c.step_alone-made.ensures.all
 
 pub child-child-requires-clause-came : goal.child-child-requires-clause-came
 child-child-requires-clause-came g c =
@@ -117,7 +118,8 @@ invariant_of-me-2 g c =
     } in
     record {
       idle = ap doing_in c.give_client.ensures.pass
-          ∙ still_idle g.N.Shape.slots g.N.Shape.limit g.N.Shape.rules c.self.inside.journal c.step_alone-made.new.journal
+          ∙ still_idle g.N.Shape.slots g.N.Shape.limit g.N.Shape.rules c.self.inside.journal
+          c.step_alone-made.new.journal
           c.me.inside.number
           c.self.inside.keeper c.step_alone-made.new.keeper c.step_alone-made.result c.spawned.result s;
     }
@@ -204,7 +206,8 @@ returns-clause-mine g c =
     (doing_in c.me.inside.pass) in
     let later : Knows =
     knows c.me.inside.number (part_of c.step_alone-made.new.journal.world c.me.inside.number)
-    (starved_if (starves_made c.step_alone-made.result) (starved_in c.me.inside.wants) (length c.self.inside.journal.world.history)
+    (starved_if (starves_made c.step_alone-made.result) (starved_in c.me.inside.wants)
+    (length c.self.inside.journal.world.history)
     (Some calls.Spawn))
     (seen_made c.step_alone-made.result c.me.inside.seen (length c.step_alone-made.new.journal.world.history))
     (doing_of c.step_alone-made.new.journal.world c.me.inside.number) in
@@ -252,7 +255,8 @@ returns-clause-alone g c =
     (doing_in c.me.inside.pass) in
     let later : Knows =
     knows c.me.inside.number (part_of c.step_alone-made.new.journal.world c.me.inside.number)
-    (starved_if (starves_made c.step_alone-made.result) (starved_in c.me.inside.wants) (length c.self.inside.journal.world.history)
+    (starved_if (starves_made c.step_alone-made.result) (starved_in c.me.inside.wants)
+    (length c.self.inside.journal.world.history)
     (Some calls.Spawn))
     (seen_made c.step_alone-made.result c.me.inside.seen (length c.step_alone-made.new.journal.world.history))
     (doing_of c.step_alone-made.new.journal.world c.me.inside.number) in

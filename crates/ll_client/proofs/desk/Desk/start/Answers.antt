@@ -12,9 +12,11 @@ pub give_client-requires-clause-all : goal.give_client-requires-clause-all
 give_client-requires-clause-all g c =
     let out = c.start_call-start.ensures.only.out []
     (c.take_client.ensures.gone.out [] tt) in
-    accounts_kept c.self.inside.journal c.start_call-start.new.journal c.me.inside.number [] c.start_call-start.new.keeper
+    accounts_kept c.self.inside.journal c.start_call-start.new.journal c.me.inside.number []
+    c.start_call-start.new.keeper
     c.start_call-start.ensures.spares
-    (started_steps c.self.inside.journal c.start_call-start.new.journal c.me.inside.number c.args.call c.start_call-start.result
+    (started_steps c.self.inside.journal c.start_call-start.new.journal c.me.inside.number c.args.call
+    c.start_call-start.result
     c.self.invariant.sound c.self.invariant.within c.start_call-start.ensures.starts).moved
     out (c.start_call-start.ensures.only.clients c.me.inside.number ∙ c.take_client.ensures.gone.gone)
     c.start_call-start.ensures.all
@@ -25,7 +27,8 @@ give_client-requires-clause-free g c =
 
 pub give_client-requires-clause-there : goal.give_client-requires-clause-there
 give_client-requires-clause-there g c =
-    (started_steps c.self.inside.journal c.start_call-start.new.journal c.me.inside.number c.args.call c.start_call-start.result
+    (started_steps c.self.inside.journal c.start_call-start.new.journal c.me.inside.number c.args.call
+    c.start_call-start.result
     c.self.invariant.sound c.self.invariant.within c.start_call-start.ensures.starts).moved.clients c.me.inside.number
     c.take_client.ensures.there
 
@@ -36,7 +39,8 @@ give_client-requires-clause-seen g c =
     (sym c.entries.ensures) ∙ sym c.seen_after_start-me-inside.ensures)
     (started_low c.start_call-start.result c.me.inside.seen (length c.self.inside.journal.world.history)
     (length c.start_call-start.new.journal.world.history) c.take_client.ensures.seen
-    (started_steps c.self.inside.journal c.start_call-start.new.journal c.me.inside.number c.args.call c.start_call-start.result
+    (started_steps c.self.inside.journal c.start_call-start.new.journal c.me.inside.number c.args.call
+    c.start_call-start.result
     c.self.invariant.sound c.self.invariant.within c.start_call-start.ensures.starts).moved.long)
 
 pub invariant_of-self : goal.invariant_of-self
@@ -44,7 +48,8 @@ invariant_of-self g c =
     desk_kept g.N.Shape.slots g.N.Shape.limit g.N.Shape.rules c.self.inside.journal c.start_call-start.new.journal
     c.me.inside.number []
     c.self.inside.keeper c.give_client.new.keeper c.self.invariant
-    (started_steps c.self.inside.journal c.start_call-start.new.journal c.me.inside.number c.args.call c.start_call-start.result
+    (started_steps c.self.inside.journal c.start_call-start.new.journal c.me.inside.number c.args.call
+    c.start_call-start.result
     c.self.invariant.sound c.self.invariant.within c.start_call-start.ensures.starts)
     c.start_call-start.ensures.spares c.give_client.ensures.all
 
@@ -55,16 +60,21 @@ returns-clause-mine g c =
     (doing_in c.me.inside.pass) =
     record { there = known.there; few = known.few; part_is = known.part; low = known.seen; doing_is = known.doing }
     in
-    let seen : seen_started c.start_call-start.result c.me.inside.seen (length c.start_call-start.new.journal.world.history)
+    let seen : seen_started c.start_call-start.result c.me.inside.seen
+    (length c.start_call-start.new.journal.world.history)
     ≡ c.seen_after_start-me-inside.result =
-    ap (λ (es : List Entry). seen_started c.start_call-start.result c.me.inside.seen (length es)) (sym c.entries.ensures)
+    ap (λ (es : List Entry). seen_started c.start_call-start.result c.me.inside.seen (length es))
+    (sym c.entries.ensures)
     ∙ sym c.seen_after_start-me-inside.ensures in
     subst (λ (x : Knows × Knows). SetsOut g.N.Shape.limit c.args.call x.0 c.start_call-start.result x.1)
     (λ i. (
       c.me.view_is i,
-      knows c.me.inside.number (part_in (sym c.give_client.ensures.pass i)) (sym c.start_call-start.ensures.starved i) (seen i)
+      knows c.me.inside.number (part_in (sym c.give_client.ensures.pass i)) (sym c.start_call-start.ensures.starved i)
+          (seen i)
           (doing_in (sym c.give_client.ensures.pass i)),
     ))
-    (started_goes c.self.inside.journal c.start_call-start.new.journal c.me.inside.number c.me.inside.seen g.N.Shape.limit
-    _ (starved_in c.me.inside.wants) _ c.args.call c.start_call-start.result c.self.invariant.within c.self.invariant.limit_is k
+    (started_goes c.self.inside.journal c.start_call-start.new.journal c.me.inside.number c.me.inside.seen
+    g.N.Shape.limit
+    _ (starved_in c.me.inside.wants) _ c.args.call c.start_call-start.result c.self.invariant.within
+    c.self.invariant.limit_is k
     c.start_call-start.ensures.calm c.start_call-start.ensures.starts)
