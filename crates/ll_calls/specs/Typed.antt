@@ -1,6 +1,8 @@
 -- What a call came to, as its answer's type tells it. own
-use Rattle.std.specs.Prelude.{Result, Ok, Err, Bool, ⊤}
+use Rattle.std.specs.Prelude.{Result, Ok, Err, Bool, true, false, ⊤}
 use Rattle.ll_rights.specs.declared.errno.Errno.TheVariants as errno
+use Rattle.ll_seq.specs.declared.call.Call.{Call}
+use Rattle.ll_seq.specs.declared.call.Call.TheVariants.{Connect, Spawn}
 use Rattle.ll_seq.specs.declared.reply.Reply.{Reply}
 use Rattle.ll_seq.specs.declared.reply.Reply.TheVariants as reply
 use Rattle.ll_journal.specs.declared.direct.Made.{Made}
@@ -26,3 +28,9 @@ abbrev pub FitsMade : (Reply → Bool) → Made → Type 0
 FitsMade succeeds (made.Replied told) = Fits succeeds told
 FitsMade succeeds made.HistoryFull = ⊤
 FitsMade succeeds made.NoMemory = ⊤
+
+-- the call brings a client
+abbrev pub brings_client : Call → Bool
+brings_client Connect = true
+brings_client Spawn = true
+brings_client _ = false

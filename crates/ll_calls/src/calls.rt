@@ -27,7 +27,7 @@ impl<N: Shape, G: Gate<N>> Tree<N, G> {
         ensures { Gains N.limit (calls.Make kind target) me.old.rider (made_as (λ nothing. replies.Done) result)
             me.new.rider }
     {
-        done(self.made(rt, me, Call::Make(kind, target)))
+        done(self.call(rt, me, Call::Make(kind, target)))
     }
 
     /// A descriptor of the file: the least number that is free, from 0 on. open(2)
@@ -40,7 +40,7 @@ impl<N: Shape, G: Gate<N>> Tree<N, G> {
     ) -> Result<u64, Refused>
         ensures { Gains N.limit (calls.Open mode target) me.old.rider (made_as replies.Opened result) me.new.rider }
     {
-        opened(self.made(rt, me, Call::Open(mode, target)))
+        opened(self.call(rt, me, Call::Open(mode, target)))
     }
 
     /// The file is cut to this many bytes, or filled with zeros to them. truncate(2)
@@ -54,7 +54,7 @@ impl<N: Shape, G: Gate<N>> Tree<N, G> {
         ensures { Gains N.limit (calls.Truncate target size) me.old.rider (made_as (λ nothing. replies.Done) result)
             me.new.rider }
     {
-        done(self.made(rt, me, Call::Truncate(target, size)))
+        done(self.call(rt, me, Call::Truncate(target, size)))
     }
 
     /// The names in the directory, rising by bytes. readdir(3)
@@ -66,7 +66,7 @@ impl<N: Shape, G: Gate<N>> Tree<N, G> {
     ) -> Result<Listing, Refused>
         ensures { Gains N.limit (calls.ReadDir target) me.old.rider (made_as replies.Listed result) me.new.rider }
     {
-        listed(self.made(rt, me, Call::ReadDir(target)))
+        listed(self.call(rt, me, Call::ReadDir(target)))
     }
 
     /// What the node is. Takes no memory. stat(2)
@@ -78,7 +78,7 @@ impl<N: Shape, G: Gate<N>> Tree<N, G> {
     ) -> Result<Status, Refused>
         ensures { Gains N.limit (calls.Stat target) me.old.rider (made_as replies.Found result) me.new.rider }
     {
-        found(self.made(rt, me, Call::Stat(target)))
+        found(self.call(rt, me, Call::Stat(target)))
     }
 
     /// Whether the file may be executed. Takes no memory. execve(2)
@@ -86,7 +86,7 @@ impl<N: Shape, G: Gate<N>> Tree<N, G> {
         ensures { Gains N.limit (calls.Exec target) me.old.rider (made_as (λ nothing. replies.Done) result)
             me.new.rider }
     {
-        done(self.made(rt, me, Call::Exec(target)))
+        done(self.call(rt, me, Call::Exec(target)))
     }
 
     /// The name of a node that is no directory goes. Takes no memory. unlink(2)
@@ -94,7 +94,7 @@ impl<N: Shape, G: Gate<N>> Tree<N, G> {
         ensures { Gains N.limit (calls.Unlink target) me.old.rider (made_as (λ nothing. replies.Done) result)
             me.new.rider }
     {
-        done(self.made(rt, me, Call::Unlink(target)))
+        done(self.call(rt, me, Call::Unlink(target)))
     }
 
     /// The empty directory goes. Takes no memory. rmdir(2)
@@ -102,7 +102,7 @@ impl<N: Shape, G: Gate<N>> Tree<N, G> {
         ensures { Gains N.limit (calls.Rmdir target) me.old.rider (made_as (λ nothing. replies.Done) result)
             me.new.rider }
     {
-        done(self.made(rt, me, Call::Rmdir(target)))
+        done(self.call(rt, me, Call::Rmdir(target)))
     }
 
     /// The node at the first path gets the second in the place of it. What the second named loses that name. rename(2)
@@ -116,7 +116,7 @@ impl<N: Shape, G: Gate<N>> Tree<N, G> {
         ensures { Gains N.limit (calls.Rename from into) me.old.rider (made_as (λ nothing. replies.Done) result)
             me.new.rider }
     {
-        done(self.made(rt, me, Call::Rename(from, into)))
+        done(self.call(rt, me, Call::Rename(from, into)))
     }
 
     /// The same, where the second path names nothing. rename(2), RENAME_NOREPLACE
@@ -130,7 +130,7 @@ impl<N: Shape, G: Gate<N>> Tree<N, G> {
         ensures { Gains N.limit (calls.RenameNoreplace from into) me.old.rider
             (made_as (λ nothing. replies.Done) result) me.new.rider }
     {
-        done(self.made(rt, me, Call::RenameNoreplace(from, into)))
+        done(self.call(rt, me, Call::RenameNoreplace(from, into)))
     }
 
     /// The nodes at the two paths change places. Takes no memory. rename(2), RENAME_EXCHANGE
@@ -144,7 +144,7 @@ impl<N: Shape, G: Gate<N>> Tree<N, G> {
         ensures { Gains N.limit (calls.Exchange from into) me.old.rider (made_as (λ nothing. replies.Done) result)
             me.new.rider }
     {
-        done(self.made(rt, me, Call::Exchange(from, into)))
+        done(self.call(rt, me, Call::Exchange(from, into)))
     }
 
     /// The node at the first path gets the second as a further name. link(2)
@@ -158,6 +158,6 @@ impl<N: Shape, G: Gate<N>> Tree<N, G> {
         ensures { Gains N.limit (calls.Link from into) me.old.rider (made_as (λ nothing. replies.Done) result)
             me.new.rider }
     {
-        done(self.made(rt, me, Call::Link(from, into)))
+        done(self.call(rt, me, Call::Link(from, into)))
     }
 }

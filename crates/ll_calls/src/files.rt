@@ -27,7 +27,7 @@ impl<N: Shape, G: Gate<N>> Tree<N, G> {
         ensures { Gains N.limit (calls.Read number offset count) me.old.rider (made_as replies.Bytes result)
             me.new.rider }
     {
-        made::bytes(self.made(rt, me, Call::Read(number, offset, count)))
+        made::bytes(self.call(rt, me, Call::Read(number, offset, count)))
     }
 
     /// The bytes come into the descriptor's file, from an offset on. How many they were. pwrite(2)
@@ -42,7 +42,7 @@ impl<N: Shape, G: Gate<N>> Tree<N, G> {
         ensures { Gains N.limit (calls.Write number offset bytes) me.old.rider (made_as replies.Wrote result)
             me.new.rider }
     {
-        wrote(self.made(rt, me, Call::Write(number, offset, bytes)))
+        wrote(self.call(rt, me, Call::Write(number, offset, bytes)))
     }
 
     /// The descriptor's file is cut to this many bytes, or filled with zeros to them. ftruncate(2)
@@ -56,7 +56,7 @@ impl<N: Shape, G: Gate<N>> Tree<N, G> {
         ensures { Gains N.limit (calls.Ftruncate number size) me.old.rider (made_as (λ nothing. replies.Done) result)
             me.new.rider }
     {
-        done(self.made(rt, me, Call::Ftruncate(number, size)))
+        done(self.call(rt, me, Call::Ftruncate(number, size)))
     }
 
     /// The descriptor is free. Takes no memory. close(2)
@@ -69,6 +69,6 @@ impl<N: Shape, G: Gate<N>> Tree<N, G> {
         ensures { Gains N.limit (calls.Close number) me.old.rider (made_as (λ nothing. replies.Done) result)
             me.new.rider }
     {
-        done(self.made(rt, me, Call::Close(number)))
+        done(self.call(rt, me, Call::Close(number)))
     }
 }

@@ -25,7 +25,7 @@ impl<N: Shape, G: Gate<N>> Tree<N, G> {
     ) -> Result<u64, Refused>
         ensures { Gains N.limit (calls.Ruleset handled) me.old.rider (made_as replies.Created result) me.new.rider }
     {
-        created(self.made(rt, me, Call::Ruleset(handled)))
+        created(self.call(rt, me, Call::Ruleset(handled)))
     }
 
     /// A rule of the ruleset: these rights on the node that the path names, and beneath it. landlock_add_rule(2)
@@ -40,7 +40,7 @@ impl<N: Shape, G: Gate<N>> Tree<N, G> {
         ensures { Gains N.limit (calls.Allow number target rights) me.old.rider
             (made_as (λ nothing. replies.Done) result) me.new.rider }
     {
-        done(self.made(rt, me, Call::Allow(number, target, rights)))
+        done(self.call(rt, me, Call::Allow(number, target, rights)))
     }
 
     /// The ruleset as it is now becomes the client's newest layer. landlock_restrict_self(2)
@@ -48,6 +48,6 @@ impl<N: Shape, G: Gate<N>> Tree<N, G> {
         ensures { Gains N.limit (calls.Confine number) me.old.rider (made_as (λ nothing. replies.Done) result)
             me.new.rider }
     {
-        done(self.made(rt, me, Call::Confine(number)))
+        done(self.call(rt, me, Call::Confine(number)))
     }
 }

@@ -1,16 +1,16 @@
 //! A tree that threads share.
 
-ghost use Rattle.std.specs.Prelude.{◌≡◌, ◌⊎◌, ℕ, ◌+◌, ◌∷◌, [], None, OnOk, IfOk, IfErr, map, max};
+ghost use Rattle.std.specs.Prelude.{◌≡◌, ◌⊎◌, ℕ, ◌+◌, ◌<◌, ◌≤◌, ◌∷◌, [], None, false, OnOk, IfOk, IfErr, map, max};
 ghost use Rattle.ll_rights.specs.declared.limits.TheConstants.{TREE_CLIENTS};
 ghost use Rattle.ll_seq.specs.declared.call.Call.TheVariants as calls;
 ghost use Rattle.ll_seq.specs.declared.reply.Reply.TheVariants as replies;
 ghost use Rattle.ll_client.specs.Closed.{IsClosed};
-ghost use Rattle.ll_client.specs.Coming.{childless};
+ghost use Rattle.ll_client.specs.Coming.{HasNoPlace, childless};
 ghost use Rattle.ll_client.specs.Entries.{knows, numbered};
 ghost use Rattle.ll_client.specs.Gains.{Gains, Told};
 ghost use Rattle.ll_client.specs.Replies.{success};
 ghost use Rattle.ll_calls.specs.Opening.{MayOpen};
-ghost use Rattle.ll_calls.specs.Typed.{FitsMade};
+ghost use Rattle.ll_calls.specs.Typed.{FitsMade, brings_client};
 
 use ll_client::{Account, Client, Shape};
 use ll_journal::Made;
@@ -61,11 +61,25 @@ impl<N: Shape, G: Gate<N>> Tree<N, G> {
     /// A new client. It knows of all entries up to its own. Errors: EMFILE where as many clients were made as a tree
     /// may have, HistoryFull, NoMemory.
     pub fn connect<R: Wait>(&self, rt: &R) -> Result<Client<N>, Errno>
-        ensures { IfOk result (λ client. client.rider
-            ≡ knows client.rider.number (numbered client.rider.seen calls.Connect replies.Done ∷ []) client.rider.seen
-            None) }
+        ensures client { IfOk result (λ client. client.rider
+            ≡ knows client.rider.number (numbered client.rider.seen calls.Connect replies.Done ∷ []) []
+            client.rider.seen None) }
+        ensures some { IfOk result (λ client. 0 < client.rider.seen) }
+        ensures errors { IfErr result HasNoPlace }
     {
         self.table.connect(rt)
+    }
+
+    /// A new client, whose entry stands after all entries that this one knows of. Errors: those of `connect`.
+    pub fn connect_after<R: Wait>(&self, rt: &R, me: &mut Client<N>) -> Result<Client<N>, Errno>
+        ensures client { IfOk result (λ client. client.rider
+            ≡ knows client.rider.number (numbered client.rider.seen calls.Connect replies.Done ∷ []) []
+            client.rider.seen None) }
+        ensures after { IfOk result (λ client. me.old.rider.seen < client.rider.seen) }
+        ensures errors { IfErr result HasNoPlace }
+        ensures mine { me.new.rider ≡ me.old.rider }
+    {
+        self.table.connect_after(rt, me)
     }
 
     /// The client spawns a child: a client of its own, under the same layers, that has no entry yet and knows of all
@@ -74,9 +88,10 @@ impl<N: Shape, G: Gate<N>> Tree<N, G> {
     pub fn spawn<R: Wait>(&self, rt: &R, me: &mut Client<N>) -> Result<Client<N>, Errno>
         ensures child { IfOk result (λ child.
             Told calls.Spawn (replies.Spawned child.rider.number) me.old.rider me.new.rider
-            × (child.rider ≡ knows child.rider.number [] me.new.rider.seen None)) }
+            × (child.rider ≡ knows child.rider.number [] [] me.new.rider.seen None)) }
         ensures alone { IfErr result (λ errno.
             Gains N.limit calls.Spawn me.old.rider (childless errno) me.new.rider) }
+        ensures errors { IfErr result HasNoPlace }
     {
         self.table.spawn(rt, me)
     }
@@ -91,11 +106,19 @@ impl<N: Shape, G: Gate<N>> Tree<N, G> {
         self.table.meet(rt, one, other);
     }
 
+    /// Later calls of the client stand after all entries made so far. It makes no entry, and takes no memory.
+    pub fn catch_up<R: Wait>(&self, rt: &R, me: &mut Client<N>)
+        ensures low { me.old.rider.seen ≤ me.new.rider.seen }
+        ensures mine { me.new.rider ≡ record me.old.rider { seen = me.new.rider.seen } }
+    {
+        self.table.catch_up(rt, me);
+    }
+
     /// The history, where the list holds all clients of the tree; else tree and list come back. Waits for nobody, and
     /// takes no memory.
     pub fn close(self, clients: Vec<Client<N>>) -> Result<History, (Tree<N, G>, Vec<Client<N>>)>
         ensures closed { IfOk result (λ history. (nodes : ℕ) → N.slots ≡ nodes + TREE_CLIENTS
-            → IsClosed N.rules nodes history.entries (map (λ c. c.rider) clients.items)) }
+            → IsClosed N.rules nodes N.limit history.entries (map (λ c. c.rider) clients.items)) }
         ensures limit { IfOk result (λ history. history.limit ≡ N.limit) }
         ensures back { IfErr result (λ back. back.1.items ≡ clients.items) }
     {
@@ -106,9 +129,11 @@ impl<N: Shape, G: Gate<N>> Tree<N, G> {
         }
     }
 
-    /// The client's call, led to its reply. (A call that comes back is made again.)
+    /// The client's call, led to its reply. A call that brings a client has a function of its own: `connect`, or
+    /// `spawn`. (A call that comes back is made again.)
     #[tactic(auto, using(crate::proofs::Typing::gains_fit))]
-    pub(crate) fn made<R: Wait>(&self, rt: &R, me: &mut Client<N>, call: Call) -> Made
+    pub fn call<R: Wait>(&self, rt: &R, me: &mut Client<N>, call: Call) -> Made
+        requires { brings_client call ≡ false }
         ensures gains { Gains N.limit call me.old.rider result me.new.rider }
         ensures fits { FitsMade (success call) result }
     {

@@ -14,7 +14,7 @@ use Rattle.ll_rights.proofs.Sizes.{one_goes}
 use Rattle.ll_inodes.specs.InodeTable.{AreDistinct, NotIn}
 use Rattle.ll_laws.proofs.Gain.{no_gain}
 use Rattle.ll_laws.proofs.Withholding.{bytes_are_withheld}
-use Rattle.ll_seq.specs.History.{IsLegal, state_after}
+use Rattle.ll_seq.specs.History.{IsLegal}
 use Rattle.ll_seq.specs.State.{start}
 use Rattle.ll_seq.specs.declared.reply.Entry.{Entry}
 use Rattle.ll_seq.specs.declared.rules.Rules.{Rules}
@@ -23,10 +23,10 @@ use Rattle.ll_worlds.specs.Walk.{is_in}
 use Rattle.ll_worlds.specs.World.{shown}
 use Rattle.ll_journal.specs.Book.{Book}
 use Rattle.ll_client.specs.declared.account.Account.{Account}
-use Rattle.ll_client.specs.Closed.{AreClients, HoldsPart, IsClosed, numbers_of}
-use Rattle.ll_client.specs.Entries.{AreAccounts, Knows}
-use Rattle.ll_client.specs.Hands.{ClientGoes}
-use Rattle.ll_client.proofs.Accounts.{IsClient}
+use Rattle.ll_client.specs.Closed.{AreClients, IsClosed, numbers_of}
+use Rattle.ll_client.specs.Entries.{AreAccounts, AreInOrder, AreStarved, Knows}
+use Rattle.ll_client.specs.Hands.{ClientGoes, HoldsPartIn}
+use Rattle.ll_client.proofs.Accounts.{IsClient, one_more}
 
 -- ---- numbers in a map
 
@@ -89,11 +89,11 @@ all_of m ns once are count c there = by (is_in ns c) refl
 -- ---- passes taken back, one after the other
 
 abbrev AreGone : Map nat_cmp Account → List Knows → Type 0
-AreGone m ks = AllByRecursion (λ k. get m (2 * k.number + 1) ≡ None) ks
+AreGone m ks = AllByRecursion (λ k. get m (3 * k.number + 1) ≡ None) ks
 
 pub record Settled (b : Book) (m : Map nat_cmp Account) (ks : List Knows) : Type 0 where
   pub all : AreAccounts b m
-  pub parts : AllByRecursion (HoldsPart b.world.history) ks
+  pub parts : AllByRecursion (HoldsPartIn b.world) ks
   pub once : AreDistinct (numbers_of ks)
   pub there : AllByRecursion (λ k. has (shown b.world).clients k.number ≡ true) ks
   pub gone : AreGone m ks
@@ -101,17 +101,12 @@ pub record Settled (b : Book) (m : Map nat_cmp Account) (ks : List Knows) : Type
 pub none_settled : (b : Book) (m : Map nat_cmp Account) → AreAccounts b m → Settled b m []
 none_settled b m all = record { all = all; parts = tt; once = tt; there = tt; gone = tt }
 
-one_more : {A : Type 0} (P : A → Type 0) (xs : List A) (x : A) → AllByRecursion P xs → P x
-    → AllByRecursion P (xs ++ x ∷ [])
-one_more P [] x h p = (p, tt)
-one_more P (y ∷ ys) x h p = (h.0, one_more P ys x h.1 p)
-
 -- it is none of those that went before
-apart_from : (m : Map nat_cmp Account) (k : Knows) (ks : List Knows) → get m (2 * k.number + 1) ≢ None → AreGone m ks
+apart_from : (m : Map nat_cmp Account) (k : Knows) (ks : List Knows) → get m (3 * k.number + 1) ≢ None → AreGone m ks
     → AllByRecursion (λ (j : Knows). j.number ≢ k.number) ks
 apart_from m k [] was gone = tt
 apart_from m k (j ∷ ks) was gone = (
-  (λ same. was (ap (λ n. get m (2 * n + 1)) (sym same) ∙ gone.0)),
+  (λ same. was (ap (λ n. get m (3 * n + 1)) (sym same) ∙ gone.0)),
   apart_from m k ks was gone.1,
 )
 
@@ -133,15 +128,15 @@ pushed k (j ∷ ks) apart once = (not_pushed j.number k ks apart.0 once.0, pushe
 
 pub one_settled : (b : Book) (m n : Map nat_cmp Account) (ks : List Knows) (k : Knows) → Settled b m ks
     → ClientGoes k.number m n → AreAccounts b n → IsClient b k.number k.part k.seen k.doing
-    → Settled b n (ks ++ k ∷ [])
-one_settled b m n ks k s g all known =
+    → AreStarved b.world k.number k.starved → Settled b n (ks ++ k ∷ [])
+one_settled b m n ks k s g all known starved =
     let apart = apart_from m k ks g.was s.gone in
     record {
       all = all;
-      parts = one_more (HoldsPart b.world.history) ks k s.parts (known.part_is, known.low);
+      parts = one_more (HoldsPartIn b.world) ks k s.parts (known.part_is, starved, known.low);
       once = pushed k ks apart s.once;
       there = one_more (λ (j : Knows). has (shown b.world).clients j.number ≡ true) ks k s.there known.there;
-      gone = one_more (λ (j : Knows). get n (2 * j.number + 1) ≡ None) ks k (still_gone m n k.number g ks apart s.gone)
+      gone = one_more (λ (j : Knows). get n (3 * j.number + 1) ≡ None) ks k (still_gone m n k.number g ks apart s.gone)
           g.gone;
     }
 
@@ -163,9 +158,10 @@ there_numbers : (b : Book) (ks : List Knows) → AllByRecursion (λ k. has (show
 there_numbers b [] h = tt
 there_numbers b (k ∷ ks) h = (h.0, there_numbers b ks h.1)
 
-pub all_clients : (b : Book) (ks : List Knows) → AllByRecursion (HoldsPart b.world.history) ks
+pub all_clients : (b : Book) (ks : List Knows) → AllByRecursion (HoldsPartIn b.world) ks
     → AreDistinct (numbers_of ks) → AllByRecursion (λ k. has (shown b.world).clients k.number ≡ true) ks
-    → length ks ≡ len (shown b.world).clients → AreClients (shown b.world) b.world.history ks
+    → length ks ≡ len (shown b.world).clients
+    → AreClients b.world.rules b.world.room b.world.limit b.world.history ks
 all_clients b ks parts once there count = record {
   parts = parts;
   once = once;
@@ -173,13 +169,16 @@ all_clients b ks parts once there count = record {
   all = all_of (shown b.world).clients (numbers_of ks) once (there_numbers b ks there) (count_numbers ks ∙ count);
 }
 
-pub closed : (rules : Rules) (room : ℕ) (history : List Entry) (ks : List Knows) → IsLegal (start rules room) history
-    → AreClients (state_after (start rules room) history) history ks → IsClosed rules room history ks
-closed rules room history ks legal clients = record {
+pub closed : (rules : Rules) (room limit : ℕ) (history : List Entry) (ks : List Knows)
+    → IsLegal (start rules room) history → AreClients rules room limit history ks → length history ≤ limit
+    → AreInOrder rules room history → IsClosed rules room limit history ks
+closed rules room limit history ks legal clients within numbered = record {
   legal = legal;
   clients = clients;
   between = λ early late rest is.
       let whole = legal_early (start rules room) (early ++ late) rest
       (subst (IsLegal (start rules room)) is legal) in
       (no_gain rules room early late whole, bytes_are_withheld rules room early late whole);
+  within = within;
+  numbered = numbered;
 }

@@ -24,8 +24,10 @@ use Rattle.ll_journal.specs.declared.progress.Progress as told
 use Rattle.ll_journal.specs.declared.progress.Progress.TheVariants as tells
 use Rattle.ll_client.specs.declared.account.Account.{Account}
 use Rattle.ll_client.specs.declared.account.Numbered.{Numbered}
+use Rattle.ll_client.specs.declared.account.Starved.{Starved}
 use Rattle.ll_client.specs.Entries.{AreAccounts, IsDesk, doing_of, knows, numbered, part_from, part_of}
 use Rattle.ll_client.proofs.Accounts.{Moved}
+use Rattle.ll_client.proofs.Orders.{InOrder, OnlyJoins, in_order_after}
 use Rattle.ll_worlds.proofs.Growth.{still_within}
 use Rattle.ll_worlds.proofs.StepGrowth.{Grown, Went, client_in, doing_after, entry_of, went}
 use Rattle.ll_client.proofs.Walked.{clients_none, clients_one}
@@ -75,6 +77,9 @@ module _ (w v : World) (c : ℕ) (doing : Option Call) where
         doing = g.others;
         long = (let n = ap length same in omega (arith, n));
         clients = clients_none w v c doing g;
+        came = ([], g.came);
+        rules = g.rules;
+        room = g.room;
       }
 
   pub moved_one : (call : Call) (reply : Reply) → reply ≡ reply_to w c call
@@ -86,11 +91,22 @@ module _ (w v : World) (c : ℕ) (doing : Option Call) where
         doing = g.others;
         long = (let n = ap length g.came in let m = length-append w.history (e ∷ []) in omega (arith, n, m));
         clients = clients_one w v c c doing call reply is g;
+        came = (e ∷ [], g.came);
+        rules = g.rules;
+        room = g.room;
       }
 
 same_moved : (w v : World) (c : ℕ) → v ≡ w → Moved w v c
 same_moved w v c e = subst (λ (u : World). Moved w u c) (sym e)
-    (record { parts = λ d other. refl; doing = λ d other. refl; long = omega arith; clients = λ d h. h })
+    (record {
+      parts = λ d other. refl;
+      doing = λ d other. refl;
+      long = omega arith;
+      clients = λ d h. h;
+      came = ([], sym (append-nil w.history));
+      rules = refl;
+      room = refl;
+    })
 
 -- nothing else of the tree changes its limit
 pub record Steps (b b' : Book) (c : ℕ) : Type 0 where
@@ -99,6 +115,7 @@ pub record Steps (b b' : Book) (c : ℕ) : Type 0 where
   pub room : b'.world.room ≡ b.world.room
   pub sound : IsSound b'.world
   pub within : length b'.world.history ≤ b'.world.limit
+  pub numbered : InOrder b.world → InOrder b'.world
 
 moved_so : (w : World) (s : Step) (p : Outcome × World) → Went w s p → Moved w p.1 (client_in w s)
 moved_so w s (NotNow, v) g = same_moved w v (client_in w s) g
@@ -136,20 +153,29 @@ ruled_so w s (Joined number, v) g = ruled w v _ _ _ g.3
 after_ruled : (w : World) (s : Step) → KeepsRules w (advance w s).1
 after_ruled w s = ruled_so w s (advance w s) (went w s)
 
-pub stepped : (b b' : Book) (s : Step) (p : Outcome) → IsSound b.world → length b.world.history ≤ b.world.limit
-    → advance b.world s ≡ (p, b'.world) → Steps b b' (client_in b.world s)
-stepped b b' s p h fits e = record {
+pub stepped : (b b' : Book) (s : Step) (p : Outcome) → OnlyJoins s p → IsSound b.world
+    → length b.world.history ≤ b.world.limit → advance b.world s ≡ (p, b'.world) → Steps b b' (client_in b.world s)
+stepped b b' s p only h fits e = record {
   moved = subst (λ (q : Outcome × World). Moved b.world q.1 (client_in b.world s)) e
       (moved_so b.world s (advance b.world s) (went b.world s));
   sound = subst (λ (q : Outcome × World). IsSound q.1) e (sound_kept b.world s h);
   rules = subst (λ (q : Outcome × World). q.1.rules ≡ b.world.rules) e (after_ruled b.world s).rules;
   room = subst (λ (q : Outcome × World). q.1.room ≡ b.world.room) e (after_ruled b.world s).room;
   within = subst (λ (q : Outcome × World). length q.1.history ≤ q.1.limit) e (still_within b.world s fits);
+  numbered = in_order_after b.world s p b'.world h.valid only e (subst (Went b.world s) e (went b.world s))
+      (subst (λ (q : Outcome × World). IsSound q.1) e (sound_kept b.world s h)).numbers;
 }
 
 pub stood : (b b' : Book) (c : ℕ) → IsSound b.world → length b.world.history ≤ b.world.limit → b' ≡ b → Steps b b' c
 stood b b' c h fits e = subst (λ (x : Book). Steps b x c) (sym e)
-    (record { moved = same_moved b.world b.world c refl; rules = refl; room = refl; sound = h; within = fits })
+    (record {
+      moved = same_moved b.world b.world c refl;
+      rules = refl;
+      room = refl;
+      sound = h;
+      within = fits;
+      numbered = λ order. order;
+    })
 
 -- ---- steps of a walk that goes on: its client knows what it knew
 
@@ -166,19 +192,25 @@ same_goes b b' c h fits e =
       doing = ap (λ (x : Book). doing_of x.world c) e;
     }
 
-grown_goes : (b b' : Book) (s : Step) (p : Outcome) → IsSound b.world → length b.world.history ≤ b.world.limit
+grown_goes : (b b' : Book) (s : Step) (p : Outcome) → OnlyJoins s p → IsSound b.world
+    → length b.world.history ≤ b.world.limit
     → advance b.world s ≡ (p, b'.world)
     → doing_after b.world s ≡ doing_of b.world (client_in b.world s)
     → Grown b.world b'.world (client_in b.world s) (doing_after b.world s) [] → GoesOn b b' (client_in b.world s)
-grown_goes b b' s p h fits e after g =
-    record { steps = stepped b b' s p h fits e; history = g.came ∙ append-nil b.world.history; doing = g.mine ∙ after }
+grown_goes b b' s p only h fits e after g =
+    record {
+      steps = stepped b b' s p only h fits e;
+      history = g.came ∙ append-nil b.world.history;
+      doing = g.mine
+          ∙ after;
+    }
 
 not_now : (b b' : Book) (s : Step) → IsSound b.world → length b.world.history ≤ b.world.limit
     → advance b.world s ≡ (NotNow, b'.world) → GoesOn b b' (client_in b.world s)
 not_now b b' s h fits e =
     let same : b'.world ≡ b.world = subst (Went b.world s) e (went b.world s) in
     record {
-      steps = stepped b b' s NotNow h fits e;
+      steps = stepped b b' s NotNow (λ n f. absurd (cc f)) h fits e;
       history = ap (λ (x : World). x.history) same;
       doing = ap (λ (x : World). doing_of x (client_in b.world s)) same;
     }
@@ -188,18 +220,18 @@ pub does_goes : (b b' : Book) (s : Step) (o : told.Progress) → IsSound b.world
 does_goes b b' s tells.NotNow h fits after d = not_now b b' s h fits d
 does_goes b b' s tells.Astray h fits after d = same_goes b b' (client_in b.world s) h fits d
 does_goes b b' s (tells.Stands inode) h fits after d =
-    grown_goes b b' s (Stands inode) h fits d after (subst (Went b.world s) d (went b.world s))
+    grown_goes b b' s (Stands inode) (λ n f. absurd (cc f)) h fits d after (subst (Went b.world s) d (went b.world s))
 does_goes b b' s tells.Forked h fits after d =
-    grown_goes b b' s Forked h fits d after (subst (Went b.world s) d (went b.world s))
+    grown_goes b b' s Forked (λ n f. absurd (cc f)) h fits d after (subst (Went b.world s) d (went b.world s))
 does_goes b b' s tells.Restarted h fits after d =
-    grown_goes b b' s Restarted h fits d after (subst (Went b.world s) d (went b.world s))
+    grown_goes b b' s Restarted (λ n f. absurd (cc f)) h fits d after (subst (Went b.world s) d (went b.world s))
 
 -- the client is as it was
-pub knows_same : (b b' : Book) (c seen : ℕ) (part : List Numbered) (doing : Option Call) → GoesOn b b' c
-    → part ≡ part_of b.world c → doing ≡ doing_of b.world c
-    → knows c (part_of b'.world c) seen (doing_of b'.world c) ≡ knows c part seen doing
-knows_same b b' c seen part doing g part_is doing_is =
-    λ i. knows c ((ap (part_from 0 c) g.history ∙ sym part_is) i) seen ((g.doing ∙ sym doing_is) i)
+pub knows_same : (b b' : Book) (c seen : ℕ) (part : List Numbered) (starved : List Starved) (doing : Option Call)
+    → GoesOn b b' c → part ≡ part_of b.world c → doing ≡ doing_of b.world c
+    → knows c (part_of b'.world c) starved seen (doing_of b'.world c) ≡ knows c part starved seen doing
+knows_same b b' c seen part starved doing g part_is doing_is =
+    λ i. knows c ((ap (part_from 0 c) g.history ∙ sym part_is) i) starved seen ((g.doing ∙ sym doing_is) i)
 
 -- ---- the desk after a step
 
@@ -209,6 +241,7 @@ pub desk_kept : (slots limit : ℕ) (rules : Rules) (b b' : Book) (c : ℕ) (ks 
 desk_kept slots limit rules b b' c ks m n d s p all = record {
   accounts = all;
   sound = s.sound;
+  numbered = s.numbered d.numbered;
   within = s.within;
   limit_is = p.limit ∙ d.limit_is;
   rules_are = s.rules ∙ d.rules_are;
@@ -224,6 +257,7 @@ pub desk_seen : (slots limit : ℕ) (rules : Rules) (b : Book) (m n : Map nat_cm
 desk_seen slots limit rules b m n d all = record {
   accounts = all;
   sound = d.sound;
+  numbered = d.numbered;
   within = d.within;
   limit_is = d.limit_is;
   rules_are = d.rules_are;
@@ -237,23 +271,24 @@ desk_seen slots limit rules b m n d all = record {
 pub begin_steps : (b b' : Book) (c : ℕ) (call : Call) (r : Result (Unit {0}) Call) → IsSound b.world
     → length b.world.history ≤ b.world.limit
     → OnOk r (advance b.world (Begin c call) ≡ (Begun, b'.world)) → OnErr r (b' ≡ b) → Steps b b' c
-begin_steps b b' c call (Ok o) h fits begun same = stepped b b' (Begin c call) Begun h fits begun
+begin_steps b b' c call (Ok o) h fits begun same =
+    stepped b b' (Begin c call) Begun (λ n f. absurd (cc f)) h fits begun
 begin_steps b b' c call (Err e) h fits begun same = stood b b' c h fits same
 
-pub begin_mine : (b b' : Book) (c seen : ℕ) (part : List Numbered) (doing : Option Call) (call : Call)
-    (r : Result (Unit {0}) Call) → part ≡ part_of b.world c
+pub begin_mine : (b b' : Book) (c seen : ℕ) (part : List Numbered) (starved : List Starved) (doing : Option Call)
+    (call : Call) (r : Result (Unit {0}) Call) → part ≡ part_of b.world c
     → OnOk r (advance b.world (Begin c call) ≡ (Begun, b'.world))
-    → OnOk r (knows c (part_of b'.world c) seen (doing_of b'.world c)
-    ≡ record (knows c part seen doing) { doing = Some call })
-begin_mine b b' c seen part doing call (Err e) is begun = tt
-begin_mine b b' c seen part doing call (Ok o) is begun =
+    → OnOk r (knows c (part_of b'.world c) starved seen (doing_of b'.world c)
+    ≡ record (knows c part starved seen doing) { doing = Some call })
+begin_mine b b' c seen part starved doing call (Err e) is begun = tt
+begin_mine b b' c seen part starved doing call (Ok o) is begun =
     let g = subst (Went b.world (Begin c call)) begun (went b.world (Begin c call)) in
-    λ i. knows c ((ap (part_from 0 c) (g.came ∙ append-nil b.world.history) ∙ sym is) i) seen (g.mine i)
+    λ i. knows c ((ap (part_from 0 c) (g.came ∙ append-nil b.world.history) ∙ sym is) i) starved seen (g.mine i)
 
-pub begin_still : (b b' : Book) (c seen : ℕ) (part : List Numbered) (doing : Option Call) (r : Result (Unit {0}) Call)
-    → part ≡ part_of b.world c → doing ≡ doing_of b.world c
-    → OnErr r (b' ≡ b) → OnErr r (knows c (part_of b'.world c) seen (doing_of b'.world c) ≡ knows c part seen doing)
-begin_still b b' c seen part doing (Ok o) is did same = tt
-begin_still b b' c seen part doing (Err e) is did same =
-    λ i. knows c ((ap (λ (x : Book). part_of x.world c) same ∙ sym is) i) seen
+pub begin_still : (b b' : Book) (c seen : ℕ) (part : List Numbered) (starved : List Starved) (doing : Option Call)
+    (r : Result (Unit {0}) Call) → part ≡ part_of b.world c → doing ≡ doing_of b.world c → OnErr r (b' ≡ b)
+    → OnErr r (knows c (part_of b'.world c) starved seen (doing_of b'.world c) ≡ knows c part starved seen doing)
+begin_still b b' c seen part starved doing (Ok o) is did same = tt
+begin_still b b' c seen part starved doing (Err e) is did same =
+    λ i. knows c ((ap (λ (x : Book). part_of x.world c) same ∙ sym is) i) starved seen
     ((ap (λ (x : Book). doing_of x.world c) same ∙ sym did) i)

@@ -29,16 +29,18 @@ use Rattle.ll_journal.specs.declared.progress.Progress as told
 use Rattle.ll_journal.specs.declared.progress.Progress.TheVariants as tells
 use Rattle.ll_journal.proofs.Ended.{gives_up}
 use Rattle.ll_client.specs.declared.account.Numbered.{Numbered}
+use Rattle.ll_client.specs.declared.account.Starved.{Starved}
 use Rattle.ll_client.specs.declared.left.Leaving.{Leaving}
 use Rattle.ll_client.specs.declared.left.Leaving.TheVariants.{Commit, Restart}
 use Rattle.ll_client.specs.declared.left.Left.{Left}
 use Rattle.ll_client.specs.declared.left.Left.TheVariants as left
 use Rattle.ll_client.specs.Entries.{doing_of, knows, numbered, part_of, part_from}
 use Rattle.ll_client.specs.Gains.{Goes, Leaves, Told}
-use Rattle.ll_client.specs.Hands.{ended_as, restarted_as, seen_of}
+use Rattle.ll_client.specs.Hands.{ended_as, restarted_as, seen_of, starved_if, starves_left, with_starved}
 use Rattle.ll_client.specs.Replies.{Fits, success}
 use Rattle.ll_client.proofs.Replies.{step_fits}
 use Rattle.ll_client.proofs.Accounts.{IsClient, Moved}
+use Rattle.ll_client.proofs.Orders.{InOrder}
 use Rattle.ll_worlds.proofs.StepGrowth.{Grown, Went, asked, client_in, doing_after, entry_of, never_full, gone, went}
 use Rattle.ll_client.proofs.Desks.{Steps, does_goes, knows_same, part_mine, stepped, stood}
 
@@ -114,45 +116,56 @@ given_up b b' c walk h fits is e = record {
     doing = λ d other. ap call_in (get-remove_other nat_cmp_total nat_cmp-IsAntisymmetric b.world.walks c d other);
     long = omega arith;
     clients = λ d there. there;
+    came = ([], sym (append-nil b.world.history));
+    rules = refl;
+    room = refl;
   });
   rules = ap (λ (v : World). v.rules) e;
   room = ap (λ (v : World). v.room) e;
   sound = subst IsSound (sym e) (gives_up b.world c walk h is);
   within = subst (λ (v : World). length v.history ≤ v.limit) (sym e) fits;
+  numbered = subst (λ (v : World). InOrder b.world → InOrder v) (sym e) (λ order. order);
 }
 
 pub left_steps : (how : Leaving) (b b' : Book) (c : ℕ) (l : Left) → IsSound b.world
     → length b.world.history ≤ b.world.limit → Leaves how b c l b' → Steps b b' c
-left_steps Commit b b' c left.NotNow h fits d = stepped b b' (steps.Commit c) world.NotNow h fits d
+left_steps Commit b b' c left.NotNow h fits d =
+    stepped b b' (steps.Commit c) world.NotNow (λ n f. absurd (cc f)) h fits d
 left_steps Commit b b' c left.Astray h fits d = stood b b' c h fits d
-left_steps Commit b b' c (left.Answered reply) h fits d = stepped b b' (steps.Commit c) (world.Replied reply) h fits d.1
+left_steps Commit b b' c (left.Answered reply) h fits d =
+    stepped b b' (steps.Commit c) (world.Replied reply) (λ n f. absurd (cc f)) h fits d.1
 left_steps Commit b b' c left.Again h fits d = absurd d
 left_steps Commit b b' c left.HistoryFull h fits d =
-    stepped b b' (steps.Commit c) (world.Replied (Refused HistoryFull)) h fits d
+    stepped b b' (steps.Commit c) (world.Replied (Refused HistoryFull)) (λ n f. absurd (cc f)) h fits d
 left_steps Commit b b' c left.NoMemory h fits d = given_up b b' c d.0.walk h fits d.0.is d.1
-left_steps Restart b b' c left.NotNow h fits d = stepped b b' (steps.Restart c) world.NotNow h fits d
+left_steps Restart b b' c left.NotNow h fits d =
+    stepped b b' (steps.Restart c) world.NotNow (λ n f. absurd (cc f)) h fits d
 left_steps Restart b b' c left.Astray h fits d = stood b b' c h fits d
 left_steps Restart b b' c (left.Answered reply) h fits d = absurd d
-left_steps Restart b b' c left.Again h fits d = stepped b b' (steps.Restart c) world.Restarted h fits d
+left_steps Restart b b' c left.Again h fits d =
+    stepped b b' (steps.Restart c) world.Restarted (λ n f. absurd (cc f)) h fits d
 left_steps Restart b b' c left.HistoryFull h fits d = absurd d
 left_steps Restart b b' c left.NoMemory h fits d = absurd d
 
 -- ---- of the client
 
 -- one entry more
-pub told_one : (b b' : Book) (c seen : ℕ) (part : List Numbered) (doing : Option Call) (call : Call) (reply : Reply)
-    → IsClient b c part seen doing → Fits (success call) reply
+pub told_one : (b b' : Book) (c seen : ℕ) (part : List Numbered) (starved : List Starved) (doing : Option Call)
+    (call : Call) (reply : Reply) → IsClient b c part seen doing → Fits (success call) reply
     → Grown b.world b'.world c None (entry_of c call reply ∷ [])
-    → Told call reply (knows c part seen doing)
-    (knows c (part_of b'.world c) (length b'.world.history) (doing_of b'.world c))
-told_one b b' c seen part doing call reply k fits g =
+    → Told call reply (knows c part starved seen doing)
+    (knows c (part_of b'.world c) starved (length b'.world.history) (doing_of b'.world c))
+told_one b b' c seen part starved doing call reply k fits g =
     let e = entry_of c call reply in
     let more : length b'.world.history ≡ length b.world.history + 1 =
     ap length g.came ∙ length-append b.world.history (e ∷ []) in
     let new : part_of b'.world c ≡ part ++ numbered (length b'.world.history) call reply ∷ [] =
     ap (part_from 0 c) g.came ∙ part_mine b.world.history e
-    ∙ (λ i. sym k.part_is i ++ numbered (sym more i) call reply ∷ []) in
-    ((let low = k.low in omega (arith, more, low)), fits, λ i. knows c (new i) (length b'.world.history) (g.mine i))
+    ∙ (λ i. sym k.part_is i ++ numbered (sym more i) call reply ∷ []) in (
+      (let low = k.low in omega (arith, more, low)),
+      fits,
+      λ i. knows c (new i) starved (length b'.world.history) (g.mine i),
+    )
 
 -- the history is full, and stays so
 pub full_is : (w v : World) (c limit : ℕ) (doing : Option Call) → is_full w ≡ true → length w.history ≤ w.limit
@@ -169,6 +182,11 @@ full_grown w v s other (inl g) = g
 full_grown w v s other (inr (inl g)) = absurd (other g.0)
 full_grown w v s other (inr (inr g)) = absurd (never_full (shown w) (client_in w s) g.1 (next_number w) g.3)
 
+-- so the client knew of no later entry
+pub low_full : (b : Book) (c seen limit : ℕ) (part : List Numbered) (doing : Option Call) → IsClient b c part seen doing
+    → length b.world.history ≤ b.world.limit → b.world.limit ≡ limit → seen ≤ limit
+low_full b c seen limit part doing k fits is = let low = k.low in omega (arith, low, fits, is)
+
 -- with a reply where there is room
 pub room_grown : (w v : World) (s : Step) (reply : Reply) → s ≢ steps.Join → is_full w ≡ false
     → Went w s (world.Replied reply, v)
@@ -180,55 +198,71 @@ room_grown w v s reply other room (inr (inr g)) =
     (g.1, g.2, subst (Fits (success g.1)) (sym g.3) (step_fits (shown w) (client_in w s) g.1 (next_number w)), g.4)
 
 -- the walk's call is what its client does
-thrifty : (b : Book) (c seen : ℕ) (part : List Numbered) (doing : Option Call) → IsClient b c part seen doing
-    → MayTakeMemory b.world c → (call : Call) × (doing ≡ Some call) × (spares_memory call ≡ false)
-thrifty b c seen part doing k m = (m.0.call, k.doing_is ∙ ap call_in m.1, m.2)
+abbrev Thrifty : Book → ℕ → Option Call → Type 0
+Thrifty b c doing =
+    (call : Call) × (doing_of b.world c ≡ Some call) × (doing ≡ Some call) × (spares_memory call ≡ false)
 
-pub left_goes : (how : Leaving) (b b' : Book) (c seen limit : ℕ) (part : List Numbered) (doing : Option Call) (l : Left)
-    → IsSound b.world → length b.world.history ≤ b.world.limit → b.world.limit ≡ limit → IsClient b c part seen doing
-    → (l ≡ left.NoMemory → MayTakeMemory b.world c) → Leaves how b c l b'
-    → Goes limit (knows c part seen doing) l
-    (knows c (part_of b'.world c) (seen_of l seen (length b'.world.history)) (doing_of b'.world c))
-left_goes Commit b b' c seen limit part doing left.NotNow h fits is k calm d =
-    let same : b'.world ≡ b.world = subst (Went b.world (steps.Commit c)) d (went b.world (steps.Commit c)) in
-    λ i. knows c ((ap (λ w. part_of w c) same ∙ sym k.part_is) i) seen
-    ((ap (λ w. doing_of w c) same ∙ sym k.doing_is) i)
-left_goes Commit b b' c seen limit part doing left.Astray h fits is k calm d =
-    let same : b'.world ≡ b.world = ap (λ (x : Book). x.world) d in
-    λ i. knows c ((ap (λ w. part_of w c) same ∙ sym k.part_is) i) seen
-    ((ap (λ w. doing_of w c) same ∙ sym k.doing_is) i)
-left_goes Commit b b' c seen limit part doing (left.Answered reply) h fits is k calm d =
-    let g = room_grown b.world b'.world (steps.Commit c) reply (λ e. cc e) d.0
-    (subst (Went b.world (steps.Commit c)) d.1 (went b.world (steps.Commit c))) in
-    (g.0, k.doing_is ∙ g.1, told_one b b' c seen part doing g.0 reply k g.2 g.3)
-left_goes Commit b b' c seen limit part doing left.Again h fits is k calm d = absurd d
-left_goes Commit b b' c seen limit part doing left.HistoryFull h fits is k calm d =
-    let g = full_grown b.world b'.world (steps.Commit c) (λ e. cc e)
-    (subst (Went b.world (steps.Commit c)) d (went b.world (steps.Commit c))) in
-    let full = full_is b.world b'.world c limit None g.0 fits is g.1 in
-    λ i. knows c ((ap (part_from 0 c) (g.1.came ∙ append-nil b.world.history) ∙ sym k.part_is) i) (full i) (g.1.mine i)
-left_goes Commit b b' c seen limit part doing left.NoMemory h fits is k calm d =
-    let m = thrifty b c seen part doing k (calm refl) in (
-      m.0,
-      m.1,
-      m.2,
-      λ i. knows c ((ap (λ (w : World). part_of w c) d.1 ∙ sym k.part_is) i) seen
-          ((ap (λ (w : World). doing_of w c) d.1 ∙ none_doing b.world c) i),
-    )
-left_goes Restart b b' c seen limit part doing left.NotNow h fits is k calm d =
-    let same : b'.world ≡ b.world = subst (Went b.world (steps.Restart c)) d (went b.world (steps.Restart c)) in
-    λ i. knows c ((ap (λ w. part_of w c) same ∙ sym k.part_is) i) seen
-    ((ap (λ w. doing_of w c) same ∙ sym k.doing_is) i)
-left_goes Restart b b' c seen limit part doing left.Astray h fits is k calm d =
-    let same : b'.world ≡ b.world = ap (λ (x : Book). x.world) d in
-    λ i. knows c ((ap (λ w. part_of w c) same ∙ sym k.part_is) i) seen
-    ((ap (λ w. doing_of w c) same ∙ sym k.doing_is) i)
-left_goes Restart b b' c seen limit part doing (left.Answered reply) h fits is k calm d = absurd d
-left_goes Restart b b' c seen limit part doing left.Again h fits is k calm d =
-    knows_same b b' c seen part doing (does_goes b b' (steps.Restart c) tells.Restarted h fits refl d) k.part_is
-    k.doing_is
-left_goes Restart b b' c seen limit part doing left.HistoryFull h fits is k calm d = absurd d
-left_goes Restart b b' c seen limit part doing left.NoMemory h fits is k calm d = absurd d
+thrifty : (b : Book) (c seen : ℕ) (part : List Numbered) (doing : Option Call) → IsClient b c part seen doing
+    → MayTakeMemory b.world c → Thrifty b c doing
+thrifty b c seen part doing k m = (m.0.call, ap call_in m.1, k.doing_is ∙ ap call_in m.1, m.2)
+
+module _ (b b' : Book) (c seen limit : ℕ) (part : List Numbered) (starved : List Starved) (doing : Option Call)
+    (fits : length b.world.history ≤ b.world.limit) (is : b.world.limit ≡ limit)
+    (k : IsClient b c part seen doing) where
+  -- the world is the same
+  still : b'.world ≡ b.world
+      → knows c (part_of b'.world c) starved seen (doing_of b'.world c) ≡ knows c part starved seen doing
+  still same = λ i. knows c ((ap (λ w. part_of w c) same ∙ sym k.part_is) i) starved seen
+      ((ap (λ w. doing_of w c) same ∙ sym k.doing_is) i)
+
+  -- memory ran out
+  without : b'.world ≡ without_walk b.world c → Thrifty b c doing
+      → Goes limit (knows c part starved seen doing) left.NoMemory
+      (knows c (part_of b'.world c) (with_starved starved (length b.world.history) (doing_of b.world c))
+      (length b'.world.history) (doing_of b'.world c))
+  without gone m =
+      let same : length b'.world.history ≡ length b.world.history = ap (λ (w : World). length w.history) gone in (
+        m.0,
+        m.2,
+        m.3,
+        (let low = k.low in omega (arith, low, same)),
+        λ i. knows c ((ap (λ (w : World). part_of w c) gone ∙ sym k.part_is) i)
+            (with_starved starved (sym same i) (m.1 i)) (length b'.world.history)
+            ((ap (λ (w : World). doing_of w c) gone ∙ none_doing b.world c) i),
+      )
+
+  pub left_goes : (how : Leaving) (l : Left) → IsSound b.world → (l ≡ left.NoMemory → MayTakeMemory b.world c)
+      → Leaves how b c l b'
+      → Goes limit (knows c part starved seen doing) l
+      (knows c (part_of b'.world c)
+      (starved_if (starves_left l) starved (length b.world.history) (doing_of b.world c))
+      (seen_of l seen (length b'.world.history)) (doing_of b'.world c))
+  left_goes Commit left.NotNow h calm d =
+      still (subst (Went b.world (steps.Commit c)) d (went b.world (steps.Commit c)))
+  left_goes Commit left.Astray h calm d = still (ap (λ (x : Book). x.world) d)
+  left_goes Commit (left.Answered reply) h calm d =
+      let g = room_grown b.world b'.world (steps.Commit c) reply (λ e. cc e) d.0
+      (subst (Went b.world (steps.Commit c)) d.1 (went b.world (steps.Commit c))) in
+      (g.0, k.doing_is ∙ g.1, told_one b b' c seen part starved doing g.0 reply k g.2 g.3)
+  left_goes Commit left.Again h calm d = absurd d
+  left_goes Commit left.HistoryFull h calm d =
+      let g = full_grown b.world b'.world (steps.Commit c) (λ e. cc e)
+      (subst (Went b.world (steps.Commit c)) d (went b.world (steps.Commit c))) in
+      let full = full_is b.world b'.world c limit None g.0 fits is g.1 in (
+        low_full b c seen limit part doing k fits is,
+        λ i. knows c ((ap (part_from 0 c) (g.1.came ∙ append-nil b.world.history) ∙ sym k.part_is) i) starved (full i)
+            (g.1.mine i),
+      )
+  left_goes Commit left.NoMemory h calm d = without d.1 (thrifty b c seen part doing k (calm refl))
+  left_goes Restart left.NotNow h calm d =
+      still (subst (Went b.world (steps.Restart c)) d (went b.world (steps.Restart c)))
+  left_goes Restart left.Astray h calm d = still (ap (λ (x : Book). x.world) d)
+  left_goes Restart (left.Answered reply) h calm d = absurd d
+  left_goes Restart left.Again h calm d =
+      knows_same b b' c seen part starved doing (does_goes b b' (steps.Restart c) tells.Restarted h fits refl d)
+      k.part_is k.doing_is
+  left_goes Restart left.HistoryFull h calm d = absurd d
+  left_goes Restart left.NoMemory h calm d = absurd d
 
 -- what it knows of is there
 pub seen_low : (l : Left) (seen before after : ℕ) → seen ≤ before → before ≤ after → seen_of l seen after ≤ after
@@ -237,4 +271,4 @@ seen_low left.Astray seen before after low long = omega (arith, low, long)
 seen_low (left.Answered reply) seen before after low long = omega arith
 seen_low left.Again seen before after low long = omega (arith, low, long)
 seen_low left.HistoryFull seen before after low long = omega arith
-seen_low left.NoMemory seen before after low long = omega (arith, low, long)
+seen_low left.NoMemory seen before after low long = omega arith

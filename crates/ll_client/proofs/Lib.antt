@@ -1,8 +1,10 @@
 pub mod Accounts
 pub mod Walked
+pub mod Orders
 pub mod Desks
 pub mod Leavings
 pub mod Directs
+pub mod Starving
 pub mod Newcomers
 pub mod Replies
 pub mod AllClients

@@ -18,8 +18,9 @@ use Rattle.ll_worlds.specs.Sound.{IsSound}
 use Rattle.ll_worlds.proofs.SoundSteps.{sound_start}
 use Rattle.ll_journal.specs.Book.{Book, new_book, slot_of, held_of}
 use Rattle.ll_client.specs.declared.account.Account.{Account}
-use Rattle.ll_client.specs.Entries.{AreAccounts, IsDesk}
+use Rattle.ll_client.specs.Entries.{AreAccounts, AreInOrder, IsDesk}
 use Rattle.ll_client.specs.Hands.{held_first}
+use Rattle.ll_client.proofs.Orders.{none_in_order}
 
 root_account : (rules : Rules) (room limit : ℕ) → held_of (new_world rules room limit) root ≡ filled root Dir
 unfolding empty checked get insert remove entries from_sorted
@@ -59,6 +60,8 @@ desk_new slots limit named rules room history b m e some most size bound same al
     record {
       accounts = all;
       sound = subst (λ (x : Book). IsSound x.world) (sym e) (sound_start rules room history);
+      numbered = subst (λ (x : Book). AreInOrder x.world.rules x.world.room x.world.history) (sym e)
+          (none_in_order rules room);
       within = subst (λ (x : Book). length x.world.history ≤ x.world.limit) (sym e) (omega arith);
       limit_is = ap (λ (x : Book). x.world.limit) e ∙ sym bound;
       rules_are = ap (λ (x : Book). x.world.rules) e ∙ sym same;

@@ -11,7 +11,8 @@ use Rattle.std.proofs.Common.{sym, subst, ap, ◌∙◌, inl, inr, arith}
 use Rattle.std.proofs.lemmas.Bool.{false≢true, leb-false, ne_eqb}
 use Rattle.std.proofs.lemmas.List.{length-append}
 use Rattle.ll_rights.specs.declared.errno.Errno.{Errno}
-use Rattle.ll_rights.specs.declared.errno.Errno.TheVariants.{EMFILE}
+use Rattle.ll_rights.specs.declared.errno.Errno.TheVariants as errnos
+use Rattle.ll_rights.specs.declared.errno.Errno.TheVariants.{EMFILE, HistoryFull, NoMemory}
 use Rattle.ll_rights.specs.declared.limits.TheConstants.{TREE_CLIENTS}
 use Rattle.ll_rights.specs.Errno.{refuse}
 use Rattle.ll_rights.specs.Map.{Map, get, has, len}
@@ -43,18 +44,20 @@ use Rattle.ll_journal.specs.declared.direct.Made.TheVariants as made
 use Rattle.ll_journal.proofs.OwnAnswers.{connect_done, nothing_denied, spawn_refused, spawned}
 use Rattle.ll_journal.proofs.Shown.{step_refused}
 use Rattle.ll_client.specs.declared.account.Account.{Account}
-use Rattle.ll_client.specs.declared.account.Account.TheVariants.{Slot, Client}
+use Rattle.ll_client.specs.declared.account.Account.TheVariants.{Slot, Client, Wants}
 use Rattle.ll_client.specs.declared.account.Numbered.{Numbered}
-use Rattle.ll_client.specs.Coming.{spawn_made}
+use Rattle.ll_client.specs.declared.account.Starved.{Starved}
+use Rattle.ll_client.specs.Coming.{HasNoPlace, spawn_made}
 use Rattle.ll_client.specs.Entries.{AreAccounts, IsAccount, IsDesk, Knows, doing_of, knows, numbered, part_from}
 use Rattle.ll_client.specs.Entries.{part_of}
-use Rattle.ll_client.specs.Hands.{HasCome, child_of, child_told, seen_made}
+use Rattle.ll_client.specs.Hands.{HasCome, child_of, child_told, seen_made, starved_if, starves_made}
 use Rattle.ll_client.specs.Gains.{Gains}
 use Rattle.ll_client.proofs.Accounts.{IsClient}
 use Rattle.ll_client.proofs.Directs.{IsDirect, direct_gains, direct_steps}
 use Rattle.ll_client.proofs.Desks.{Steps, part_mine, part_other, stepped}
 use Rattle.ll_worlds.proofs.StepGrowth.{Grown, Went, entry_of, went}
 use Rattle.ll_client.proofs.Walked.{shown_one}
+use Rattle.ll_worlds.proofs.Shapes.{with_entry}
 
 -- ---- who connects is there then, and isn't one too many
 
@@ -143,18 +146,34 @@ idle_out w number valid out = by (get w.walks number) refl
     by (Some walk) e = absurd (false≢true (sym out ∙ (valid number walk e).0.there))
 
 no_pass : (b : Book) (m : Map nat_cmp Account) (number : ℕ) → AreAccounts b m
-    → has (shown b.world).clients number ≡ false → get m (2 * number + 1) ≡ None
-no_pass b m number all out = by (get m (2 * number + 1)) refl
+    → has (shown b.world).clients number ≡ false → get m (3 * number + 1) ≡ None
+no_pass b m number all out = by (get m (3 * number + 1)) refl
   where
-    none : (x : Account) → IsAccount b (2 * number + 1) x → ⊥
+    none : (x : Account) → IsAccount b (3 * number + 1) x → ⊥
     none (Slot held) h = let e = h.1 in omega (arith, e)
     none (Client part seen doing) h =
         let same : h.0 ≡ number = (let e = h.1 in omega (arith, e)) in
         false≢true (sym out ∙ ap (has (shown b.world).clients) (sym same) ∙ h.2)
+    none (Wants starved) h = let e = h.1 in omega (arith, e)
 
-    by : (o : Option Account) → get m (2 * number + 1) ≡ o → o ≡ None
+    by : (o : Option Account) → get m (3 * number + 1) ≡ o → o ≡ None
     by None e = refl
-    by (Some x) e = absurd (none x (all (2 * number + 1) x e))
+    by (Some x) e = absurd (none x (all (3 * number + 1) x e))
+
+no_wants : (b : Book) (m : Map nat_cmp Account) (number : ℕ) → AreAccounts b m
+    → has (shown b.world).clients number ≡ false → get m (3 * number + 2) ≡ None
+no_wants b m number all out = by (get m (3 * number + 2)) refl
+  where
+    none : (x : Account) → IsAccount b (3 * number + 2) x → ⊥
+    none (Slot held) h = let e = h.1 in omega (arith, e)
+    none (Client part seen doing) h = let e = h.1 in omega (arith, e)
+    none (Wants starved) h =
+        let same : h.0 ≡ number = (let e = h.1 in omega (arith, e)) in
+        false≢true (sym out ∙ ap (has (shown b.world).clients) (sym same) ∙ h.2)
+
+    by : (o : Option Account) → get m (3 * number + 2) ≡ o → o ≡ None
+    by None e = refl
+    by (Some x) e = absurd (none x (all (3 * number + 2) x e))
 
 next_few : (w : World) → nat_le TREE_CLIENTS (len (shown w).clients) ≡ false → next_number w ≤ TREE_CLIENTS
 next_few w few = let lt = leb-false TREE_CLIENTS (len (shown w).clients) few in omega (arith, lt)
@@ -180,7 +199,8 @@ joins slots limit rules b b' number m d is =
     let e : Entry = entry_of number calls.Connect replies.Done in
     let more : length v.history ≡ length w.history + 1 = ap length g.3.came ∙ length-append w.history (e ∷ []) in
     record {
-      steps = subst (Steps b b') (sym next) (stepped b b' Join (world.Joined number) d.sound d.within is);
+      steps = subst (Steps b b') (sym next)
+          (stepped b b' Join (world.Joined number) (λ n f. refl) d.sound d.within is);
       came = record {
         there = ap (λ (s : State). has s.clients number)
             (shown_one w v number number (doing_of w number) calls.Connect replies.Done g.2 g.3)
@@ -189,12 +209,20 @@ joins slots limit rules b b' number m d is =
             (next_few w (connect_few (shown w) number (next_number w) g.2));
         idle = g.3.mine ∙ idle_out w number d.sound.valid out;
         free = no_pass b m number d.accounts out;
+        sated = no_wants b m number d.accounts out;
       };
       part = ap (part_from 0 number) g.3.came ∙ part_mine w.history e
           ∙ (λ i. no_entry (start w.rules w.room) w.history 0 number d.sound.legal out i
           ++ numbered (sym more i) calls.Connect replies.Done ∷ []);
       some = omega (arith, more);
     }
+
+-- the history is one entry longer then
+pub joined_longer : (w v : World) (number : ℕ) → advance w Join ≡ (world.Joined number, v)
+    → length v.history ≡ length w.history + 1
+joined_longer w v number is =
+    let g = subst (Went w Join) is (went w Join) in
+    ap length g.3.came ∙ length-append w.history (entry_of number calls.Connect replies.Done ∷ [])
 
 -- ---- as a child
 
@@ -291,9 +319,7 @@ spawn_idle b b' c (Err back) idle does same = ap (λ (x : Book). doing_of x.worl
 -- where there is a child, its parent knows of all entries
 pub seen_child : (r : Result Made Call) (seen entries number : ℕ) → child_of r ≡ Ok number
     → seen_made r seen entries ≡ entries
-seen_child (Ok (made.Replied reply)) seen entries number e = refl
-seen_child (Ok made.HistoryFull) seen entries number e = refl
-seen_child (Ok made.NoMemory) seen entries number e = absurd (cc e)
+seen_child (Ok answer) seen entries number e = refl
 seen_child (Err back) seen entries number e = absurd (cc e)
 
 -- what is known of a child
@@ -331,21 +357,113 @@ bears slots limit rules b b' c number m n d all there does =
         few = subst (λ k. k ≤ TREE_CLIENTS) (sym next) (next_few w few);
         idle = g.1.others number apart ∙ idle_out w number d.sound.valid out;
         free = no_pass b n number all out;
+        sated = no_wants b n number all out;
       };
       part = ap (part_from 0 number) g.1.came
           ∙ part_other w.history (entry_of c calls.Spawn (replies.Spawned number)) number (λ same. apart (sym same))
           ∙ no_entry (start w.rules w.room) w.history 0 number d.sound.legal out;
     }
 
+-- ---- why none comes
+
+-- a connect is refused only where there are too many clients
+connect_told : (w : World) (reply : Reply) → reply ≡ reply_to w (next_number w) calls.Connect
+    → (reply ≡ replies.Refused EMFILE) ⊎ (reply ≡ replies.Done)
+connect_told w reply is = by (nat_le TREE_CLIENTS (len (shown w).clients)) refl
+  where
+    by : (b : Bool) → nat_le TREE_CLIENTS (len (shown w).clients) ≡ b
+        → (reply ≡ replies.Refused EMFILE) ⊎ (reply ≡ replies.Done)
+    by true e = inl (is ∙ ap (λ (p : Reply × State). p.0)
+        (connect_refused (shown w) (next_number w) (next_number w) e))
+    by false e = inr (is ∙ ap (λ (p : Reply × State). p.0)
+        (connect_done (shown w) (next_number w) (next_number w) e))
+
+-- as it is answered in a history that is full, or isn't
+abbrev as_answered : World → Bool → Reply × World
+as_answered w full = cond full (replies.Refused HistoryFull, w) (
+  reply_to w (next_number w) calls.Connect,
+  with_entry w (next_number w) calls.Connect (reply_to w (next_number w) calls.Connect),
+)
+
+abbrev joined_as : World → Bool → Outcome
+joined_as w full = (world.joined w (as_answered w full).0 (as_answered w full).1).0
+
+-- what a connect comes to where it brings nobody
+join_refused : (w : World) (errno : Errno) → advance w Join ≡ (world.Replied (replies.Refused errno), w)
+    → HasNoPlace errno
+join_refused w errno is = by (is_full w) refl
+  where
+    said : (full : Bool) → is_full w ≡ full → joined_as w full ≡ world.Replied (replies.Refused errno)
+    said full e = ap (joined_as w) (sym e) ∙ ap (λ (p : Outcome × World). p.0) is
+
+    by : (full : Bool) → is_full w ≡ full → HasNoPlace errno
+    by true e = inr (inl (let told = said true e in cc told))
+    by false e = elim (connect_told w (reply_to w (next_number w) calls.Connect) refl) [
+      | inl none ↦
+          inl (let told = sym (ap (λ (r : Reply). (world.joined w r (as_answered w false).1).0) none) ∙ said false e
+          in cc told)
+      | inr some ↦
+          absurd (cc (sym (ap (λ (r : Reply). (world.joined w r (as_answered w false).1).0) some) ∙ said false e))
+    ]
+
+is_no_memory : (errno : Errno) → (errno ≡ NoMemory) ⊎ (errno ≢ NoMemory)
+is_no_memory errnos.EACCES = inr (λ e. cc e)
+is_no_memory errnos.EXDEV = inr (λ e. cc e)
+is_no_memory errnos.ENOENT = inr (λ e. cc e)
+is_no_memory errnos.EEXIST = inr (λ e. cc e)
+is_no_memory errnos.ENOTDIR = inr (λ e. cc e)
+is_no_memory errnos.EISDIR = inr (λ e. cc e)
+is_no_memory errnos.ENOTEMPTY = inr (λ e. cc e)
+is_no_memory errnos.EINVAL = inr (λ e. cc e)
+is_no_memory errnos.EPERM = inr (λ e. cc e)
+is_no_memory errnos.EBUSY = inr (λ e. cc e)
+is_no_memory errnos.EBADF = inr (λ e. cc e)
+is_no_memory errnos.EMFILE = inr (λ e. cc e)
+is_no_memory errnos.ENOSPC = inr (λ e. cc e)
+is_no_memory errnos.EMLINK = inr (λ e. cc e)
+is_no_memory errnos.ENAMETOOLONG = inr (λ e. cc e)
+is_no_memory errnos.EFBIG = inr (λ e. cc e)
+is_no_memory errnos.ELOOP = inr (λ e. cc e)
+is_no_memory errnos.ENXIO = inr (λ e. cc e)
+is_no_memory errnos.E2BIG = inr (λ e. cc e)
+is_no_memory errnos.ENOMSG = inr (λ e. cc e)
+is_no_memory errnos.HistoryFull = inr (λ e. cc e)
+is_no_memory errnos.NoMemory = inl refl
+is_no_memory errnos.BadLine = inr (λ e. cc e)
+is_no_memory errnos.Stale = inr (λ e. cc e)
+
+pub connect_errors : (w : World) (errno : Errno)
+    → (errno ≢ NoMemory → advance w Join ≡ (world.Replied (replies.Refused errno), w)) → HasNoPlace errno
+connect_errors w errno refused = elim (is_no_memory errno) [
+  | inl none ↦ inr (inr none)
+  | inr other ↦ join_refused w errno (refused other)
+]
+
+-- where a spawn of an idle client brings none
+childless_for : (b b' : Book) (c : ℕ) (r : Result Made Call) → has (shown b.world).clients c ≡ true
+    → IfOk r (λ a. Answers b (ClientStep c calls.Spawn) a b') → IfErr (child_of r) HasNoPlace
+childless_for b b' c (Ok made.HistoryFull) there does = inr (inl refl)
+childless_for b b' c (Ok made.NoMemory) there does = inr (inr refl)
+childless_for b b' c (Err back) there does = inl refl
+childless_for b b' c (Ok (made.Replied reply)) there does =
+    let w : World = b.world in
+    let s : Step = ClientStep c calls.Spawn in
+    let told = (spawn_grown w b'.world c reply does.0 (subst (Went w s) does.1 (went w s))).0 in
+    elim (spawn_told (shown w) c (next_number w) there) [
+      | inl none ↦
+          subst (λ (x : Reply). IfErr (child_told x) HasNoPlace) (sym (told ∙ none)) (inl refl)
+      | inr some ↦ subst (λ (x : Reply). IfErr (child_told x) HasNoPlace) (sym (told ∙ some.0)) tt
+    ]
+
 -- ---- what it knows then
 
 pub connected : (b : Book) (number seen : ℕ) (k : Knows)
     → part_of b.world number ≡ numbered (length b.world.history) calls.Connect replies.Done ∷ []
-    → seen ≡ length b.world.history → k ≡ knows number (part_of b.world number) seen None
-    → k ≡ knows k.number (numbered k.seen calls.Connect replies.Done ∷ []) k.seen None
+    → seen ≡ length b.world.history → k ≡ knows number (part_of b.world number) [] seen None
+    → k ≡ knows k.number (numbered k.seen calls.Connect replies.Done ∷ []) [] k.seen None
 connected b number seen k part long is =
-    subst (λ (x : Knows). x ≡ knows x.number (numbered x.seen calls.Connect replies.Done ∷ []) x.seen None) (sym is)
-    (ap (λ (p : List Numbered). knows number p seen None)
+    subst (λ (x : Knows). x ≡ knows x.number (numbered x.seen calls.Connect replies.Done ∷ []) [] x.seen None) (sym is)
+    (ap (λ (p : List Numbered). knows number p [] seen None)
     (part ∙ ap (λ n. numbered n calls.Connect replies.Done ∷ []) (sym long)))
 
 -- ---- the act: what is known of a spawn of an idle client, whose pass was taken back
@@ -375,14 +493,24 @@ module _ (slots limit : ℕ) (rules : Rules) (b b' : Book) (c : ℕ) (m n : Map 
   spawn_answers = spawn_gives b b' c r told s.there s.idle s.does s.not_now s.is
       (λ a. Answers b (ClientStep c calls.Spawn) a b') s.does
 
-  pub spawn_gains : (seen : ℕ) (part : List Numbered) (doing : Option Call) → IsClient b c part seen doing
-      → Gains limit calls.Spawn (knows c part seen doing) (spawn_made told)
-      (knows c (part_of b'.world c) (seen_made r seen (length b'.world.history)) (doing_of b'.world c))
-  spawn_gains seen part doing k = spawn_gives b b' c r told s.there s.idle s.does s.not_now s.is
-      (λ a. Gains limit calls.Spawn (knows c part seen doing) a
-      (knows c (part_of b'.world c) (seen_made r seen (length b'.world.history)) (doing_of b'.world c)))
-      (direct_gains b b' c seen limit part doing calls.Spawn (ClientStep c calls.Spawn) r direct s.desk.within
+  pub spawn_gains : (seen : ℕ) (part : List Numbered) (starved : List Starved) (doing : Option Call)
+      → IsClient b c part seen doing
+      → Gains limit calls.Spawn (knows c part starved seen doing) (spawn_made told)
+      (knows c (part_of b'.world c)
+      (starved_if (starves_made r) starved (length b.world.history) (Some calls.Spawn))
+      (seen_made r seen (length b'.world.history)) (doing_of b'.world c))
+  spawn_gains seen part starved doing k = spawn_gives b b' c r told s.there s.idle s.does s.not_now s.is
+      (λ a. Gains limit calls.Spawn (knows c part starved seen doing) a
+      (knows c (part_of b'.world c)
+      (starved_if (starves_made r) starved (length b.world.history) (Some calls.Spawn))
+      (seen_made r seen (length b'.world.history)) (doing_of b'.world c)))
+      (direct_gains b b' c seen limit part starved doing calls.Spawn (ClientStep c calls.Spawn) r direct s.desk.within
       s.desk.limit_is k (λ e. refl) s.does)
+
+  -- why there is no child
+  pub spawn_errors : IfErr told HasNoPlace
+  spawn_errors = subst (λ (x : Result ℕ Errno). IfErr x HasNoPlace) (sym s.is)
+      (childless_for b b' c r s.there s.does)
 
   pub still_idle : doing_of b'.world c ≡ None
   still_idle = spawn_idle b b' c r s.idle s.does s.same

@@ -83,6 +83,18 @@ first_fits : (succeeds : Reply → Bool) (s : State) (rs : List Reply) (o : Repl
 first_fits succeeds s [] o are h done = done
 first_fits succeeds s (r ∷ rs) o are h done = settled succeeds r are.0 h
 
+-- no refusal comes first, so there is none
+granted : (s : State) (rs : List Reply) (o : Reply × State) → AreRefusals rs → is_refusal (first_or s rs o).0 ≡ false
+    → rs ≡ []
+granted s [] o are e = refl
+granted s (r ∷ rs) o are e = absurd (cc (sym are.0 ∙ e))
+
+pub none_refuses : (s : State) (number : ℕ) (call : Call) (fresh : ℕ)
+    → is_refusal (step s number call fresh).0 ≡ false → refusals s (client_of s number) call ≡ []
+none_refuses s number call fresh e =
+    granted s (refusals s (client_of s number) call) (done_of s number (client_of s number) call fresh)
+    (stages _ _ _ _ _ _ _ _) e
+
 pub step_fits : (s : State) (number : ℕ) (call : Call) (fresh : ℕ) → Fits (success call) (step s number call fresh).0
 step_fits s number call fresh =
     first_fits (success call) s (refusals s (client_of s number) call)

@@ -5,31 +5,38 @@ use Rattle.ll_rights.specs.Map.{has}
 use Rattle.ll_laws.specs.NoGain.{GainsNothing}
 use Rattle.ll_laws.specs.Withheld.{Withholds}
 use Rattle.ll_seq.specs.History.{IsLegal, state_after}
-use Rattle.ll_seq.specs.State.{State, start}
+use Rattle.ll_seq.specs.State.{start}
 use Rattle.ll_seq.specs.declared.rules.Rules.{Rules}
 use Rattle.ll_seq.specs.declared.reply.Entry.{Entry}
 use Rattle.ll_inodes.specs.InodeTable.{AreDistinct}
 use Rattle.ll_worlds.specs.Walk.{is_in}
-use Rattle.ll_client.specs.Entries.{Knows, part_from}
+use Rattle.ll_client.specs.Entries.{AreInOrder, IsStarved, Knows, part_from}
 
 abbrev pub numbers_of : List Knows → List ℕ
 numbers_of ks = map (λ (k : Knows). k.number) ks
 
--- what it holds is its part of the history, with the entries' numbers, and it knows of no entry that isn't there
-abbrev pub HoldsPart : List Entry → Knows → Type 0
-HoldsPart history k = (k.part ≡ part_from 0 k.number history) × (k.seen ≤ length history)
+-- What it holds is its part of the history, with the entries' numbers; nothing refused the calls for which memory ran
+-- out; and it knows of no entry that isn't there
+abbrev pub HoldsPart : Rules → (room limit : ℕ) → List Entry → Knows → Type 0
+HoldsPart rules room limit history k =
+    (k.part ≡ part_from 0 k.number history)
+    × AllByRecursion (IsStarved rules room limit history k.number) k.starved × (k.seen ≤ length history)
 
 -- These are all clients of the tree, each of them once, and each holds its part of the history
-pub record AreClients (s : State) (history : List Entry) (ks : List Knows) : Type 0 where
-  pub parts : AllByRecursion (HoldsPart history) ks
+pub record AreClients (rules : Rules) (room limit : ℕ) (history : List Entry) (ks : List Knows) : Type 0 where
+  pub parts : AllByRecursion (HoldsPart rules room limit history) ks
   pub once : AreDistinct (numbers_of ks)
-  pub there : AllByRecursion (λ k. has s.clients k.number ≡ true) ks
-  pub all : (c : ℕ) → has s.clients c ≡ true → is_in (numbers_of ks) c ≡ true
+  pub there : AllByRecursion (λ k. has (state_after (start rules room) history).clients k.number ≡ true) ks
+  pub all : (c : ℕ) → has (state_after (start rules room) history).clients c ≡ true → is_in (numbers_of ks) c ≡ true
 
--- What a tree has come to that was opened with these rules, for so many nodes: a legal history, and all its clients
-pub record IsClosed (rules : Rules) (room : ℕ) (history : List Entry) (ks : List Knows) : Type 0 where
+-- What a tree has come to that was opened with these rules, for so many nodes and entries: a legal history, and all its
+-- clients
+pub record IsClosed (rules : Rules) (room limit : ℕ) (history : List Entry) (ks : List Knows) : Type 0 where
   pub legal : IsLegal (start rules room) history
-  pub clients : AreClients (state_after (start rules room) history) history ks
+  pub clients : AreClients rules room limit history ks
   -- reach never grows under a layer, and withheld bytes stay withheld, between any two points of the history
   pub between : (early late rest : List Entry) → history ≡ early ++ late ++ rest →
       GainsNothing rules room early late × Withholds rules room early late
+  pub within : length history ≤ limit
+  -- clients have their numbers in the order in which they came
+  pub numbered : AreInOrder rules room history

@@ -1,8 +1,8 @@
 -- What lies in the slots of a tree, what becomes of a client whose call is started, and what comes of a spawn. own
-use Rattle.std.specs.Prelude.{◌≡◌, ℕ, List, map, length, Some, Result, Ok, Err, true}
+use Rattle.std.specs.Prelude.{◌≡◌, ◌⊎◌, ℕ, List, map, length, Some, Result, Ok, Err, true}
 use Rattle.std.specs.List.{range_with_len}
 use Rattle.ll_rights.specs.declared.errno.Errno.{Errno}
-use Rattle.ll_rights.specs.declared.errno.Errno.TheVariants.{HistoryFull, NoMemory}
+use Rattle.ll_rights.specs.declared.errno.Errno.TheVariants.{EMFILE, HistoryFull, NoMemory}
 use Rattle.ll_seq.specs.declared.call.Call.{Call}
 use Rattle.ll_seq.specs.declared.reply.Reply.TheVariants.{Refused, Spawned}
 use Rattle.ll_answer.specs.Passed.{has_path}
@@ -37,3 +37,7 @@ childless errno = made.Replied (Refused errno)
 abbrev pub spawn_made : Result ℕ Errno → Made
 spawn_made (Ok child) = made.Replied (Spawned child)
 spawn_made (Err errno) = childless errno
+
+-- Why no client comes: as many were made as a tree may have, the history is full, or memory ran out
+abbrev pub HasNoPlace : Errno → Type 0
+HasNoPlace errno = (errno ≡ EMFILE) ⊎ (errno ≡ HistoryFull) ⊎ (errno ≡ NoMemory)

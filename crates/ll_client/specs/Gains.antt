@@ -1,5 +1,5 @@
 -- What becomes of a client by a step, and what a walk's end is. own
-use Rattle.std.specs.Prelude.{◌≡◌, ℕ, ◌<◌, List, [], ◌∷◌, ◌++◌, Some, None, true, false}
+use Rattle.std.specs.Prelude.{◌≡◌, ℕ, ◌<◌, ◌≤◌, List, [], ◌∷◌, ◌++◌, Some, None, true, false}
 use Rattle.ll_seq.specs.declared.call.Call.{Call}
 use Rattle.ll_seq.specs.declared.reply.Reply.{Reply}
 use Rattle.ll_seq.specs.Memory.{takes_memory}
@@ -17,21 +17,23 @@ use Rattle.ll_client.specs.declared.left.Leaving.{Leaving}
 use Rattle.ll_client.specs.declared.left.Leaving.TheVariants.{Commit, Restart}
 use Rattle.ll_client.specs.declared.left.Left.{Left}
 use Rattle.ll_client.specs.declared.left.Left.TheVariants as left
-use Rattle.ll_client.specs.Entries.{Knows, knows, numbered}
+use Rattle.ll_client.specs.Entries.{Knows, knows, numbered, starved_at}
 use Rattle.ll_client.specs.Replies.{Fits, success}
 
 -- one entry more, above all that it knew of, with a reply that this call may have; no walk of it is under way
 abbrev pub Told : Call → Reply → Knows → Knows → Type 0
 Told call reply k k' =
     (k.seen < k'.seen) × Fits (success call) reply
-    × (k' ≡ knows k.number (k.part ++ numbered k'.seen call reply ∷ []) k'.seen None)
+    × (k' ≡ knows k.number (k.part ++ numbered k'.seen call reply ∷ []) k.starved k'.seen None)
 
--- by a call of its own, in a tree whose history may have so many entries. Memory runs out only for a call that takes
--- some
+-- By a call of its own, in a tree whose history may have so many entries. Memory runs out only for a call that takes
+-- some: then the client knows of all entries made so far, and of that call
 abbrev pub Gains : ℕ → Call → Knows → Made → Knows → Type 0
 Gains limit call k (made.Replied reply) k' = Told call reply k k'
-Gains limit call k made.HistoryFull k' = k' ≡ record k { seen = limit }
-Gains limit call k made.NoMemory k' = (takes_memory call ≡ true) × (k' ≡ k)
+Gains limit call k made.HistoryFull k' = (k.seen ≤ limit) × (k' ≡ record k { seen = limit })
+Gains limit call k made.NoMemory k' =
+    (takes_memory call ≡ true) × (k.seen ≤ k'.seen)
+    × (k' ≡ record k { starved = k.starved ++ starved_at k'.seen call ∷ []; seen = k'.seen })
 
 -- where its walk is left
 abbrev pub Goes : ℕ → Knows → Left → Knows → Type 0
@@ -39,9 +41,10 @@ Goes limit k left.NotNow k' = k' ≡ k
 Goes limit k left.Astray k' = k' ≡ k
 Goes limit k (left.Answered reply) k' = (call : Call) × (k.doing ≡ Some call) × Told call reply k k'
 Goes limit k left.Again k' = k' ≡ k
-Goes limit k left.HistoryFull k' = k' ≡ record k { seen = limit; doing = None }
+Goes limit k left.HistoryFull k' = (k.seen ≤ limit) × (k' ≡ record k { seen = limit; doing = None })
 Goes limit k left.NoMemory k' =
-    (call : Call) × (k.doing ≡ Some call) × (spares_memory call ≡ false) × (k' ≡ record k { doing = None })
+    (call : Call) × (k.doing ≡ Some call) × (spares_memory call ≡ false) × (k.seen ≤ k'.seen)
+    × (k' ≡ record k { starved = k.starved ++ starved_at k'.seen call ∷ []; seen = k'.seen; doing = None })
 
 -- the step, and the world after: a commit ends as the journal says, and a restart is above the root again
 abbrev pub Leaves : Leaving → Book → ℕ → Left → Book → Type 0

@@ -1,5 +1,6 @@
 -- What becomes of the entries where passes are taken back and given out. No public contract cites it. own
-use Rattle.std.specs.Prelude.{◌≡◌, ◌≢◌, ℕ, ◌+◌, ◌*◌, ◌≤◌, ◌==◌, true, List, [], ◌∷◌, None, ⊤, Result, Ok, Err}
+use Rattle.std.specs.Prelude.{◌≡◌, ◌≢◌, ℕ, ◌+◌, ◌*◌, ◌≤◌, ◌==◌, Bool, true, false, List, [], ◌∷◌, ◌++◌, ⊤}
+use Rattle.std.specs.Prelude.{Option, Some, None, Result, Ok, Err}
 use Rattle.std.specs.Prelude.{if◌then◌else◌}
 use Rattle.std.specs.Ordering.{nat_cmp}
 use Rattle.ll_rights.specs.declared.errno.Errno.{Errno}
@@ -10,7 +11,7 @@ use Rattle.ll_rights.specs.Map.{Map, get, has}
 use Rattle.ll_seq.specs.declared.call.Call.{Call}
 use Rattle.ll_seq.specs.declared.reply.Reply.{Reply}
 use Rattle.ll_seq.specs.declared.reply.Reply.TheVariants as replies
-use Rattle.ll_worlds.specs.World.{shown}
+use Rattle.ll_worlds.specs.World.{World, shown}
 use Rattle.ll_journal.specs.Book.{Book}
 use Rattle.ll_seq.specs.State.{root}
 use Rattle.ll_held.specs.declared.held.Held.{Held}
@@ -25,14 +26,16 @@ use Rattle.ll_journal.specs.declared.progress.Ending.TheVariants as ending
 use Rattle.ll_journal.specs.declared.progress.Progress.{Progress}
 use Rattle.ll_journal.specs.declared.progress.Progress.TheVariants as outcome
 use Rattle.ll_client.specs.declared.account.Account.{Account}
+use Rattle.ll_client.specs.declared.account.Starved.{Starved}
 use Rattle.ll_client.specs.declared.left.Left.{Left}
 use Rattle.ll_client.specs.declared.left.Left.TheVariants as left
-use Rattle.ll_client.specs.Entries.{doing_of}
+use Rattle.ll_client.specs.Closed.{HoldsPart}
+use Rattle.ll_client.specs.Entries.{Knows, doing_of, starved_at}
 
 -- no slot of this list has an entry
 abbrev pub AllOut : List ℕ → Map nat_cmp Account → Type 0
 AllOut [] m = ⊤
-AllOut (k ∷ ks) m = (get m (2 * k) ≡ None) × AllOut ks m
+AllOut (k ∷ ks) m = (get m (3 * k) ≡ None) × AllOut ks m
 
 -- a slot's entry went, so it is none of those that had gone
 pub record SlotGoes (k : ℕ) (m n : Map nat_cmp Account) : Type 0 where
@@ -40,26 +43,36 @@ pub record SlotGoes (k : ℕ) (m n : Map nat_cmp Account) : Type 0 where
 
 -- a client's entry went, and no other client's
 pub record ClientGoes (c : ℕ) (m n : Map nat_cmp Account) : Type 0 where
-  pub was : get m (2 * c + 1) ≢ None
-  pub others : (d : ℕ) → d ≢ c → get n (2 * d + 1) ≡ get m (2 * d + 1)
+  pub was : get m (3 * c + 1) ≢ None
+  pub others : (d : ℕ) → d ≢ c → get n (3 * d + 1) ≡ get m (3 * d + 1)
   pub out : (ks : List ℕ) → AllOut ks m → AllOut ks n
-  pub gone : get n (2 * c + 1) ≡ None
+  pub gone : get n (3 * c + 1) ≡ None
+
+-- of the accounts of slots and of clients none came, and none went
+pub record OnlyWants (m n : Map nat_cmp Account) : Type 0 where
+  pub out : (ks : List ℕ) → AllOut ks m → AllOut ks n
+  pub clients : (d : ℕ) → get n (3 * d + 1) ≡ get m (3 * d + 1)
 
 -- a slot's entry came
 pub record SlotComes (k c : ℕ) (m n : Map nat_cmp Account) : Type 0 where
   pub out : (ks : List ℕ) → NotIn k ks → AllOut ks m → AllOut ks n
-  pub client : get m (2 * c + 1) ≡ None → get n (2 * c + 1) ≡ None
+  pub client : get m (3 * c + 1) ≡ None → get n (3 * c + 1) ≡ None
 
 -- what lies in the slot of this number in a tree of the root alone
 abbrev pub held_first : ℕ → Held
 held_first k = if k == 0 then filled root Dir else vacant
 
--- a client that has just come: it is there, it has no walk, and no pass of its number is out
+-- a client that has just come: it is there, it has no walk, and neither pass of its number is out
 pub record HasCome (b : Book) (c : ℕ) (m : Map nat_cmp Account) : Type 0 where
   pub there : has (shown b.world).clients c ≡ true
   pub few : c ≤ TREE_CLIENTS
   pub idle : doing_of b.world c ≡ None
-  pub free : get m (2 * c + 1) ≡ None
+  pub free : get m (3 * c + 1) ≡ None
+  pub sated : get m (3 * c + 2) ≡ None
+
+-- the same of a client in this world
+abbrev pub HoldsPartIn : World → Knows → Type 0
+HoldsPartIn w k = HoldsPart w.rules w.room w.limit w.history k
 
 -- ---- how a walk is left, by what the journal tells
 
@@ -85,13 +98,11 @@ seen_of left.HistoryFull seen entries = entries
 seen_of left.NotNow seen entries = seen
 seen_of left.Astray seen entries = seen
 seen_of left.Again seen entries = seen
-seen_of left.NoMemory seen entries = seen
+seen_of left.NoMemory seen entries = entries
 
 -- the same of a call that doesn't walk
 abbrev pub seen_made : {E : Type 0} → Result Made E → ℕ → ℕ → ℕ
-seen_made (Ok (made.Replied reply)) seen entries = entries
-seen_made (Ok made.HistoryFull) seen entries = entries
-seen_made (Ok made.NoMemory) seen entries = seen
+seen_made (Ok answer) seen entries = entries
 seen_made (Err back) seen entries = seen
 
 -- the same of a call that is started
@@ -99,6 +110,36 @@ abbrev pub seen_started : Start → ℕ → ℕ → ℕ
 seen_started (start.Made answer) seen entries = seen_made {E = Call} (Ok answer) seen entries
 seen_started start.Begun seen entries = seen
 seen_started (start.Back back) seen entries = seen
+
+-- ---- want of memory
+
+abbrev pub starves_left : Left → Bool
+starves_left left.NoMemory = true
+starves_left left.NotNow = false
+starves_left left.Astray = false
+starves_left (left.Answered reply) = false
+starves_left left.Again = false
+starves_left left.HistoryFull = false
+
+abbrev pub starves_made : {E : Type 0} → Result Made E → Bool
+starves_made (Ok made.NoMemory) = true
+starves_made (Ok (made.Replied reply)) = false
+starves_made (Ok made.HistoryFull) = false
+starves_made (Err back) = false
+
+abbrev pub starves_started : Start → Bool
+starves_started (start.Made answer) = starves_made {E = Call} (Ok answer)
+starves_started start.Begun = false
+starves_started (start.Back back) = false
+
+-- the client's calls for which it ran out, after this one, where the history has so many entries
+abbrev pub with_starved : List Starved → ℕ → Option Call → List Starved
+with_starved starved entries None = starved
+with_starved starved entries (Some call) = starved ++ starved_at entries call ∷ []
+
+-- where it ran out for it
+abbrev pub starved_if : Bool → List Starved → ℕ → Option Call → List Starved
+starved_if ran_out starved entries call = if ran_out then with_starved starved entries call else starved
 
 -- ---- what comes of a spawn, by what the journal tells. A spawn's reply is the child's number or a refusal
 

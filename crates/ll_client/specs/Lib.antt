@@ -1,6 +1,6 @@
 pub mod Entries
+pub mod Closed
 pub mod Hands
 pub mod Gains
 pub mod Replies
 pub mod Coming
-pub mod Closed

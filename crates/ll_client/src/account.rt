@@ -11,9 +11,16 @@ pub struct Numbered {
     pub reply: Reply,
 }
 
+/// A call for which memory ran out: it has no entry. Beside it stands how many entries the history had then.
+pub struct Starved {
+    pub at: u64,
+    pub call: Call,
+}
+
 /// What has to lie behind a slot's lock; or a client's part of the history, the number of the last entry that it knows
-/// of, and the call of its walk under way. No value of it is made.
+/// of, and the call of its walk under way; or a client's calls for which memory ran out. No value of it is made.
 pub enum Account {
     Slot(Held),
     Client(LinkedList<Numbered>, u64, Option<Call>),
+    Wants(LinkedList<Starved>),
 }

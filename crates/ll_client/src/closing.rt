@@ -5,8 +5,9 @@ ghost use Rattle.std.specs.List.{AllByRecursion};
 ghost use Rattle.ll_rights.specs.Map.{has, len};
 ghost use Rattle.ll_inodes.specs.InodeTable.{AreDistinct};
 ghost use Rattle.ll_worlds.specs.World.{shown};
-ghost use Rattle.ll_client.specs.Closed.{AreClients, HoldsPart, numbers_of};
+ghost use Rattle.ll_client.specs.Closed.{AreClients, numbers_of};
 ghost use Rattle.ll_client.specs.Entries.{AreAccounts, Knows};
+ghost use Rattle.ll_client.specs.Hands.{HoldsPartIn};
 
 use crate::account::Account;
 use crate::client::Client;
@@ -14,6 +15,7 @@ use crate::desk::Desk;
 use crate::hand::take_client;
 use crate::rider::Rider;
 use crate::shape::Shape;
+use crate::want::take_wants;
 use ll_journal::Journal;
 use ll_seq::History;
 use ll_tie::{Keeper, Tie};
@@ -26,7 +28,7 @@ fn settle<N: Shape>(
     clients: Vec<Client<N>>,
 )
     requires all { AreAccounts journal.now keeper }
-    ensures parts { AllByRecursion (HoldsPart journal.now.world.history) (map (λ c. c.rider) clients.items) }
+    ensures parts { AllByRecursion (HoldsPartIn journal.now.world) (map (λ c. c.rider) clients.items) }
     ensures once { AreDistinct (numbers_of (map (λ c. c.rider) clients.items)) }
     ensures there { AllByRecursion (λ k. has (shown journal.now.world).clients k.number ≡ true)
         (map (λ c. c.rider) clients.items) }
@@ -37,8 +39,10 @@ fn settle<N: Shape>(
             number,
             seen,
             mut pass,
+            mut wants,
         } = rider;
         take_client(tie, &mut keeper, journal, number, seen, &mut pass);
+        take_wants(tie, &mut keeper, journal, number, &mut wants);
     }
 }
 
@@ -52,7 +56,8 @@ pub fn close<N: Shape>(
     ensures history { IfOk result (λ history.
         history ≡ record { entries = desk.world.history; limit = desk.world.limit }) }
     ensures clients { IfOk result (λ history.
-        AreClients (shown desk.world) desk.world.history (map (λ c. c.rider) clients.items)) }
+        AreClients desk.world.rules desk.world.room desk.world.limit desk.world.history
+        (map (λ c. c.rider) clients.items)) }
     ensures back { IfErr result (λ back. (back.0 ≡ desk) × (back.1.items ≡ clients.items)) }
     ensures missing { OnErr result (length clients.items ≢ len (shown desk.world).clients) }
 {

@@ -36,11 +36,13 @@ impl<N: Shape> Desk<N> {
     ghost use Rattle.ll_seq.specs.History.{IsLegal};
     ghost use Rattle.ll_seq.specs.State.{start};
     ghost use Rattle.ll_worlds.specs.Walks.{AreApart, AreFew, AreValid, GateIsHeld};
+    ghost use Rattle.ll_client.specs.Entries.{AreInOrder};
     ghost use Rattle.ll_journal.specs.SlotTree.{HoldTree, accounts_of};
 
     /// What holds of it, whatever was done before. Takes no memory.
     pub fn by_law(&self)
         ensures legal { IsLegal (start self.now.world.rules self.now.world.room) self.now.world.history }
+        ensures numbered { AreInOrder self.now.world.rules self.now.world.room self.now.world.history }
         ensures within { length self.now.world.history ≤ self.now.world.limit }
         ensures valid { AreValid self.now.world }
         ensures apart { AreApart self.now.world }

@@ -1,7 +1,13 @@
 //! A client's calls that don't walk.
 
-ghost use Rattle.std.specs.Prelude.{◌≡◌, ◌≢◌, ℕ, [], ◌∷◌, Ok, IfOk, IfErr, OnErr};
-ghost use Rattle.ll_client.specs.Hands.{seen_made};
+ghost use Rattle.std.specs.Prelude.{◌≡◌, ◌≢◌, ℕ, ◌≤◌, [], ◌∷◌, Some, Ok, length, IfOk, IfErr, OnErr};
+ghost use Rattle.ll_rights.specs.declared.limits.TheConstants.{TREE_CLIENTS};
+ghost use Rattle.ll_journal.specs.Book.{Book, Spares, slot_of};
+ghost use Rattle.ll_journal.specs.Direct.{Answers, ComesBack, LeavesSlot, LeavesSlots, TakesMemory};
+ghost use Rattle.ll_worlds.specs.World.{NotNow, advance};
+ghost use Rattle.ll_worlds.specs.declared.step.Step.TheVariants.{ClientStep, FdCommit};
+ghost use Rattle.ll_client.specs.Entries.{AreAccounts, starved_in, wants_entry};
+ghost use Rattle.ll_client.specs.Hands.{OnlyWants, seen_made, starved_if, starves_made};
 
 use crate::account::Account;
 use crate::desk::Desk;
@@ -9,18 +15,18 @@ use crate::hand::{give_client, put_slot, take_client, take_slot};
 use crate::locked::Locked;
 use crate::rider::Rider;
 use crate::shape::Shape;
-use ll_journal::{Made, Unmade};
+use crate::want::note_want;
+use ll_held::Held;
+use ll_journal::{Journal, Made, Unmade};
 use ll_seq::Call;
-use ll_tie::Tie;
+use ll_tie::{Keeper, Pass, Tie};
 
 /// The last entry that the client knows of, where the history is so long.
 pub(crate) fn seen_alone(made: &Result<Made, Call>, seen: u64, entries: u64) -> u64
     ensures { result ≡ seen_made made.now seen entries }
 {
     match made {
-        Ok(Made::Replied(_)) => entries,
-        Ok(Made::HistoryFull) => entries,
-        Ok(Made::NoMemory) => seen,
+        Ok(_) => entries,
         Err(_) => seen,
     }
 }
@@ -30,18 +36,110 @@ fn seen_on_file(made: &Result<Made, Unmade>, seen: u64, entries: u64) -> u64
     ensures { result ≡ seen_made made.now seen entries }
 {
     match made {
-        Ok(Made::Replied(_)) => entries,
-        Ok(Made::HistoryFull) => entries,
-        Ok(Made::NoMemory) => seen,
+        Ok(_) => entries,
         Err(_) => seen,
     }
 }
 
+/// Whether memory ran out.
+fn starves(made: &Result<Made, Call>) -> bool
+    ensures { result ≡ starves_made made.now }
+{
+    match made {
+        Ok(Made::NoMemory) => true,
+        Ok(Made::Replied(_)) => false,
+        Ok(Made::HistoryFull) => false,
+        Err(_) => false,
+    }
+}
+
+/// The same of a call on a descriptor.
+fn starves_on_file(made: &Result<Made, Unmade>) -> bool
+    ensures { result ≡ starves_made made.now }
+{
+    match made {
+        Ok(Made::NoMemory) => true,
+        Ok(Made::Replied(_)) => false,
+        Ok(Made::HistoryFull) => false,
+        Err(_) => false,
+    }
+}
+
+/// The client's call for itself alone, in the journal. Where memory runs out for it, the client's wants tell so.
+pub(crate) fn step_alone<N: Shape>(
+    tie: &Tie<N, Account>,
+    keeper: &mut Keeper<N, Account>,
+    journal: &mut Journal,
+    number: u64,
+    call: Call,
+    wants: &mut Pass<N, Account>,
+) -> Result<Made, Call>
+    ghost asked: { Book × Call }
+    requires before { asked.0 ≡ journal.old }
+    requires call { asked.1 ≡ call }
+    requires few { number ≤ TREE_CLIENTS }
+    requires all { AreAccounts journal.old keeper.old }
+    requires wants { wants.old ≡ Some (wants_entry number (starved_in wants.old)) }
+    ensures does { IfOk result (λ answer. Answers journal.old (ClientStep number call) answer journal.new) }
+    ensures not_now { OnErr result
+        (advance journal.old.world (ClientStep number call) ≡ (NotNow, journal.old.world)) }
+    ensures back { IfErr result (λ back. back ≡ call) }
+    ensures same { OnErr result (journal.new ≡ journal.old) }
+    ensures spares { Spares journal.old journal.new [] }
+    ensures calm { result ≡ Ok Made.NoMemory → TakesMemory call }
+    ensures rest { LeavesSlots call journal.old journal.new }
+    ensures all { AreAccounts journal.old keeper.new }
+    ensures only { OnlyWants keeper.old keeper.new }
+    ensures wants { wants.new ≡ Some (wants_entry number (starved_in wants.new)) }
+    ensures starved { starved_in wants.new
+        ≡ starved_if (starves_made result) (starved_in wants.old) (length journal.old.world.history)
+        (Some call) }
+{
+    let made = journal.client_step(number, call);
+    let ran_out = starves(&made);
+    note_want(tie, keeper, number, ran_out, wants);
+    made
+}
+
+/// The same of a call on a descriptor, with the slot of its file.
+fn step_on_file<N: Shape>(
+    tie: &Tie<N, Account>,
+    keeper: &mut Keeper<N, Account>,
+    journal: &mut Journal,
+    number: u64,
+    call: Call,
+    slot: u64,
+    held: &mut Held,
+    wants: &mut Pass<N, Account>,
+) -> Result<Made, Unmade>
+    ghost asked: { Book × Call }
+    requires before { asked.0 ≡ journal.old }
+    requires call { asked.1 ≡ call }
+    requires few { number ≤ TREE_CLIENTS }
+    requires all { AreAccounts journal.old keeper.old }
+    requires wants { wants.old ≡ Some (wants_entry number (starved_in wants.old)) }
+    requires held { held.old ≡ slot_of journal.old slot }
+    ensures does { IfOk result (λ answer. Answers journal.old (FdCommit number call) answer journal.new) }
+    ensures back { IfErr result (ComesBack journal.old number call slot) }
+    ensures same { OnErr result ((journal.new ≡ journal.old) × (held.new ≡ held.old)) }
+    ensures lent { held.new ≡ slot_of journal.new slot }
+    ensures spares { Spares journal.old journal.new (slot ∷ []) }
+    ensures calm { result ≡ Ok Made.NoMemory → (number : ℕ) → call ≢ Call.Close number }
+    ensures rest { LeavesSlot call slot journal.old journal.new }
+    ensures all { AreAccounts journal.old keeper.new }
+    ensures only { OnlyWants keeper.old keeper.new }
+    ensures wants { wants.new ≡ Some (wants_entry number (starved_in wants.new)) }
+    ensures starved { starved_in wants.new
+        ≡ starved_if (starves_made result) (starved_in wants.old) (length journal.old.world.history)
+        (Some call) }
+{
+    let made = journal.fd_commit(number, call, slot, held);
+    let ran_out = starves_on_file(&made);
+    note_want(tie, keeper, number, ran_out, wants);
+    made
+}
+
 impl<N: Shape> Desk<N> {
-    ghost use Rattle.ll_journal.specs.Book.{Spares, slot_of};
-    ghost use Rattle.ll_journal.specs.Direct.{Answers, ComesBack, LeavesSlot, LeavesSlots, TakesMemory};
-    ghost use Rattle.ll_worlds.specs.World.{NotNow, advance};
-    ghost use Rattle.ll_worlds.specs.declared.step.Step.TheVariants.{ClientStep, FdCommit};
     ghost use Rattle.ll_client.specs.Gains.{Gains};
 
     /// The client's call for itself alone is made and answered, or comes back where it is none, or a walk of the client
@@ -71,7 +169,7 @@ impl<N: Shape> Desk<N> {
         } = self;
         let (number, seen) = (me.number, me.seen);
         take_client(tie, keeper, journal, number, seen, &mut me.pass);
-        let made = journal.client_step(number, call);
+        let made = step_alone(tie, keeper, journal, number, call, &mut me.wants);
         me.seen = seen_alone(&made, seen, journal.entries().len() as u64);
         me.pass = give_client(tie, keeper, journal, number, me.seen);
         made
@@ -112,7 +210,16 @@ impl<N: Shape> Desk<N> {
             &mut file.pass,
         );
         take_client(tie, keeper, journal, number, seen, &mut me.pass);
-        let made = journal.fd_commit(number, call, file.number, &mut file.held);
+        let made = step_on_file(
+            tie,
+            keeper,
+            journal,
+            number,
+            call,
+            file.number,
+            &mut file.held,
+            &mut me.wants,
+        );
         me.seen = seen_on_file(&made, seen, journal.entries().len() as u64);
         put_slot(
             tie,

@@ -55,7 +55,7 @@ pub(crate) fn put_slot<N: Shape>(
     client: u64,
 )
     requires all { AreAccounts journal.now keeper.old }
-    requires free { get keeper.old (2 * number) ≡ None }
+    requires free { get keeper.old (3 * number) ≡ None }
     requires there { number < length journal.now.inodes }
     requires few { length journal.now.inodes ≤ TREE_NODES + TREE_CLIENTS }
     requires account { held.now ≡ slot_of journal.now number }
@@ -65,7 +65,7 @@ pub(crate) fn put_slot<N: Shape>(
 {
     let _ = journal;
     let _ = client;
-    *pass = tie.give_out(keeper, 2 * number, held);
+    *pass = tie.give_out(keeper, 3 * number, held);
 }
 
 /// Takes back the pass of a client.
@@ -102,19 +102,20 @@ pub(crate) fn give_client<N: Shape>(
     seen: u64,
 ) -> Pass<N, Account>
     requires all { AreAccounts journal.now keeper.old }
-    requires free { get keeper.old (2 * number + 1) ≡ None }
+    requires free { get keeper.old (3 * number + 1) ≡ None }
     requires there { has (shown journal.now.world).clients number ≡ true }
     requires few { number ≤ TREE_CLIENTS }
     requires seen { seen ≤ length journal.now.world.history }
     ensures all { AreAccounts journal.now keeper.new }
     ensures pass { result ≡ Some (client_entry number (part_of journal.now.world number) seen
         (doing_of journal.now.world number)) }
-    ensures others { (c : ℕ) → c ≢ number → get keeper.new (2 * c + 1) ≡ get keeper.old (2 * c + 1) }
+    ensures others { (c : ℕ) → c ≢ number → get keeper.new (3 * c + 1) ≡ get keeper.old (3 * c + 1) }
+    ensures wants { get keeper.new (3 * number + 2) ≡ get keeper.old (3 * number + 2) }
 {
     let known = Known {
         number,
         seen,
         journal,
     };
-    tie.give_out(keeper, 2 * number + 1, &known)
+    tie.give_out(keeper, 3 * number + 1, &known)
 }

@@ -5,6 +5,7 @@ ghost use Rattle.std.specs.Prelude.{OnErr};
 ghost use Rattle.ll_rights.specs.Map.{get};
 ghost use Rattle.ll_seq.specs.declared.call.Call.TheVariants.{Connect};
 ghost use Rattle.ll_seq.specs.declared.reply.Reply.TheVariants.{Done, Refused};
+ghost use Rattle.ll_client.specs.Coming.{HasNoPlace};
 ghost use Rattle.ll_client.specs.Entries.{AreAccounts, knows, numbered, part_of};
 ghost use Rattle.ll_client.specs.Hands.{HasCome};
 
@@ -14,6 +15,7 @@ use crate::desk::Desk;
 use crate::hand::give_client;
 use crate::rider::Rider;
 use crate::shape::Shape;
+use crate::want::give_wants;
 use ll_journal::Journal;
 use ll_rights::Errno;
 use ll_tie::{Keeper, Tie};
@@ -30,12 +32,18 @@ pub(crate) fn newcomer<N: Shape>(
     requires came { HasCome journal.now number keeper.old }
     requires seen { seen ≤ length journal.now.world.history }
     ensures all { AreAccounts journal.now keeper.new }
-    ensures client { result.rider ≡ knows number (part_of journal.now.world number) seen None }
-    ensures others { (c : ℕ) → c ≢ number → get keeper.new (2 * c + 1) ≡ get keeper.old (2 * c + 1) }
+    ensures client { result.rider ≡ knows number (part_of journal.now.world number) [] seen None }
+    ensures others { (c : ℕ) → c ≢ number → get keeper.new (3 * c + 1) ≡ get keeper.old (3 * c + 1) }
 {
     let pass = give_client(tie, keeper, journal, number, seen);
+    let wants = give_wants(tie, keeper, journal, number);
     Client {
-        rider: Rider { number, seen, pass },
+        rider: Rider {
+            number,
+            seen,
+            pass,
+            wants,
+        },
     }
 }
 
@@ -54,11 +62,12 @@ impl<N: Shape> Desk<N> {
             → advance self.old.world Join ≡ (Replied (Refused errno), self.old.world)) }
         ensures starved { IfErr result (λ errno. errno ≡ Errno.NoMemory → (after : World)
             × (advance self.old.world Join ≡ (Joined (next_number self.old.world), after))) }
+        ensures errors { IfErr result HasNoPlace }
         ensures same { OnErr result (self.new ≡ self.old) }
         ensures spares { Spares self.old self.new [] }
         ensures rest { OnOk result (TakesSpare self.old self.new) }
         ensures client { IfOk result (λ client. client.rider
-            ≡ knows client.rider.number (numbered client.rider.seen Connect Done ∷ []) client.rider.seen None) }
+            ≡ knows client.rider.number (numbered client.rider.seen Connect Done ∷ []) [] client.rider.seen None) }
         ensures seen { IfOk result (λ client. client.rider.seen ≡ length self.new.world.history) }
         ensures some { IfOk result (λ client. 0 < client.rider.seen) }
     {
@@ -73,5 +82,24 @@ impl<N: Shape> Desk<N> {
         };
         let seen = journal.entries().len() as u64;
         Ok(newcomer(tie, keeper, journal, number, seen))
+    }
+    /// The same, where this client's entries so far, and all others that it knows of, stand before the new one's.
+    pub fn connect_after(
+        &mut self,
+        tie: &Tie<N, Account>,
+        me: &mut Client<N>,
+    ) -> Result<Client<N>, Errno>
+        ensures joined { IfOk result (λ client.
+            advance self.old.world Join ≡ (Joined client.rider.number, self.new.world)) }
+        ensures errors { IfErr result HasNoPlace }
+        ensures same { OnErr result (self.new ≡ self.old) }
+        ensures spares { Spares self.old self.new [] }
+        ensures client { IfOk result (λ client. client.rider
+            ≡ knows client.rider.number (numbered client.rider.seen Connect Done ∷ []) [] client.rider.seen None) }
+        ensures after { IfOk result (λ client. me.old.rider.seen < client.rider.seen) }
+        ensures mine { me.new.rider ≡ me.old.rider }
+    {
+        self.learn(tie, &mut me.rider, 0);
+        self.connect(tie)
     }
 }

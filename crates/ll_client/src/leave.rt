@@ -1,25 +1,28 @@
 //! A walk is left: its call is answered, or it starts again. There is an act for each number of slots that it is lent.
 
-ghost use Rattle.std.specs.Prelude.{◌≡◌, ℕ, [], ◌∷◌, map};
+ghost use Rattle.std.specs.Prelude.{◌≡◌, ℕ, ◌≤◌, [], ◌∷◌, Some, length, map};
+ghost use Rattle.ll_rights.specs.declared.limits.TheConstants.{TREE_CLIENTS};
 ghost use Rattle.ll_inodes.specs.InodeTable.{AreDistinct};
 ghost use Rattle.ll_held.specs.Lent as contents;
-ghost use Rattle.ll_journal.specs.Book.{Spares, slot_of};
+ghost use Rattle.ll_journal.specs.Book.{Book, Spares, slot_of};
 ghost use Rattle.ll_journal.specs.WalkEnds.{MayTakeMemory};
 ghost use Rattle.ll_client.specs.Gains.{Goes, IsAstray, Leaves, LeavesRest};
-ghost use Rattle.ll_client.specs.Hands.{ended_as, restarted_as, seen_of};
+ghost use Rattle.ll_client.specs.Entries.{AreAccounts, doing_of, starved_in, wants_entry};
+ghost use Rattle.ll_client.specs.Hands.{OnlyWants, seen_of, starved_if, starves_left};
 
 use crate::account::Account;
 use crate::desk::Desk;
 use crate::hand::{give_client, put_slot, take_client, take_slot};
-use crate::left::{Leaving, Left};
+use crate::left::{Leaving, Left, ended, restarted};
 use crate::locked::Locked;
 use crate::rider::Rider;
 use crate::shape::Shape;
+use crate::want::note_want;
 use ll_held::Held;
-use ll_journal::{Ending, Journal, Progress};
+use ll_journal::Journal;
 use ll_node::Slot;
 use ll_rights::Kind;
-use ll_tie::Tie;
+use ll_tie::{Keeper, Pass, Tie};
 use std::alloc::Global;
 use std::mem;
 
@@ -43,36 +46,26 @@ fn seen_after(left: &Left, seen: u64, entries: u64) -> u64
         Left::NotNow => seen,
         Left::Astray => seen,
         Left::Again => seen,
-        Left::NoMemory => seen,
+        Left::NoMemory => entries,
     }
 }
 
-fn ended(ending: Ending) -> Left
-    ensures { result ≡ ended_as ending }
+/// Whether memory ran out.
+fn starves(left: &Left) -> bool
+    ensures { result ≡ starves_left left.now }
 {
-    match ending {
-        Ending::NotNow => Left::NotNow,
-        Ending::Astray => Left::Astray,
-        Ending::Replied(reply) => Left::Answered(reply),
-        Ending::HistoryFull => Left::HistoryFull,
-        Ending::NoMemory => Left::NoMemory,
-    }
-}
-
-fn restarted(outcome: Progress) -> Left
-    ensures { result ≡ restarted_as outcome }
-{
-    match outcome {
-        Progress::NotNow => Left::NotNow,
-        Progress::Astray => Left::Astray,
-        Progress::Restarted => Left::Again,
-        Progress::Stands(_) => Left::NotNow,
-        Progress::Forked => Left::NotNow,
+    match left {
+        Left::NoMemory => true,
+        Left::Answered(_) => false,
+        Left::HistoryFull => false,
+        Left::NotNow => false,
+        Left::Astray => false,
+        Left::Again => false,
     }
 }
 
 /// With what is lent, which lies in these slots.
-fn leave_with(
+fn leave_lent(
     journal: &mut Journal,
     client: u64,
     leaving: Leaving,
@@ -94,15 +87,58 @@ fn leave_with(
     }
 }
 
+/// The same. Where memory runs out, the client's wants tell so.
+fn leave_with<N: Shape>(
+    tie: &Tie<N, Account>,
+    keeper: &mut Keeper<N, Account>,
+    journal: &mut Journal,
+    client: u64,
+    leaving: Leaving,
+    slots: &[u64],
+    lent: &mut [Held],
+    wants: &mut Pass<N, Account>,
+) -> Left
+    ghost before: { Book }
+    requires before { before ≡ journal.old }
+    requires few { client ≤ TREE_CLIENTS }
+    requires all { AreAccounts journal.old keeper.old }
+    requires wants { wants.old ≡ Some (wants_entry client (starved_in wants.old)) }
+    requires distinct { AreDistinct slots.now }
+    requires lent { lent.old ≡ map (slot_of journal.old) slots.now }
+    ensures leaves { Leaves leaving journal.old client result journal.new }
+    ensures astray { result ≡ Left.Astray → IsAstray leaving journal.old client slots.now }
+    ensures lent { lent.new ≡ map (slot_of journal.new) slots.now }
+    ensures spares { Spares journal.old journal.new slots.now }
+    ensures calm { result ≡ Left.NoMemory → MayTakeMemory journal.old.world client }
+    ensures rest { LeavesRest leaving journal.old client slots.now journal.new }
+    ensures all { AreAccounts journal.old keeper.new }
+    ensures only { OnlyWants keeper.old keeper.new }
+    ensures wants { wants.new ≡ Some (wants_entry client (starved_in wants.new)) }
+    ensures starved { starved_in wants.new
+        ≡ starved_if (starves_left result) (starved_in wants.old) (length journal.old.world.history)
+        (doing_of journal.old.world client) }
+{
+    let left = leave_lent(journal, client, leaving, slots, lent);
+    let ran_out = starves(&left);
+    note_want(tie, keeper, client, ran_out, wants);
+    left
+}
+
 /// With one slot.
-fn leave_by_1(
+fn leave_by_1<N: Shape>(
+    tie: &Tie<N, Account>,
+    keeper: &mut Keeper<N, Account>,
     journal: &mut Journal,
     alloc: Global,
     client: u64,
     leaving: Leaving,
     j: u64,
     a: &mut Held,
+    wants: &mut Pass<N, Account>,
 ) -> Left
+    requires few { client ≤ TREE_CLIENTS }
+    requires all { AreAccounts journal.old keeper.old }
+    requires wants { wants.old ≡ Some (wants_entry client (starved_in wants.old)) }
     requires distinct { AreDistinct (j ∷ []) }
     requires a { a.old ≡ slot_of journal.old j }
     ensures leaves { Leaves leaving journal.old client result journal.new }
@@ -111,15 +147,32 @@ fn leave_by_1(
     ensures spares { Spares journal.old journal.new (j ∷ []) }
     ensures calm { result ≡ Left.NoMemory → MayTakeMemory journal.old.world client }
     ensures rest { LeavesRest leaving journal.old client (j ∷ []) journal.new }
+    ensures all { AreAccounts journal.old keeper.new }
+    ensures only { OnlyWants keeper.old keeper.new }
+    ensures wants { wants.new ≡ Some (wants_entry client (starved_in wants.new)) }
+    ensures starved { starved_in wants.new
+        ≡ starved_if (starves_left result) (starved_in wants.old) (length journal.old.world.history)
+        (doing_of journal.old.world client) }
 {
     let mut lent = [mem::replace(a, vacant(alloc))];
-    let left = leave_with(journal, client, leaving, &[j], &mut lent);
+    let left = leave_with(
+        tie,
+        keeper,
+        journal,
+        client,
+        leaving,
+        &[j],
+        &mut lent,
+        wants,
+    );
     mem::swap(a, &mut lent[0]);
     left
 }
 
 /// With two slots.
-fn leave_by_2(
+fn leave_by_2<N: Shape>(
+    tie: &Tie<N, Account>,
+    keeper: &mut Keeper<N, Account>,
     journal: &mut Journal,
     alloc: Global,
     client: u64,
@@ -128,7 +181,11 @@ fn leave_by_2(
     a: &mut Held,
     k: u64,
     b: &mut Held,
+    wants: &mut Pass<N, Account>,
 ) -> Left
+    requires few { client ≤ TREE_CLIENTS }
+    requires all { AreAccounts journal.old keeper.old }
+    requires wants { wants.old ≡ Some (wants_entry client (starved_in wants.old)) }
     requires distinct { AreDistinct (j ∷ k ∷ []) }
     requires a { a.old ≡ slot_of journal.old j }
     requires b { b.old ≡ slot_of journal.old k }
@@ -139,19 +196,36 @@ fn leave_by_2(
     ensures spares { Spares journal.old journal.new (j ∷ k ∷ []) }
     ensures calm { result ≡ Left.NoMemory → MayTakeMemory journal.old.world client }
     ensures rest { LeavesRest leaving journal.old client (j ∷ k ∷ []) journal.new }
+    ensures all { AreAccounts journal.old keeper.new }
+    ensures only { OnlyWants keeper.old keeper.new }
+    ensures wants { wants.new ≡ Some (wants_entry client (starved_in wants.new)) }
+    ensures starved { starved_in wants.new
+        ≡ starved_if (starves_left result) (starved_in wants.old) (length journal.old.world.history)
+        (doing_of journal.old.world client) }
 {
     let mut lent = [
         mem::replace(a, vacant(alloc)),
         mem::replace(b, vacant(alloc)),
     ];
-    let left = leave_with(journal, client, leaving, &[j, k], &mut lent);
+    let left = leave_with(
+        tie,
+        keeper,
+        journal,
+        client,
+        leaving,
+        &[j, k],
+        &mut lent,
+        wants,
+    );
     mem::swap(a, &mut lent[0]);
     mem::swap(b, &mut lent[1]);
     left
 }
 
 /// With three slots.
-fn leave_by_3(
+fn leave_by_3<N: Shape>(
+    tie: &Tie<N, Account>,
+    keeper: &mut Keeper<N, Account>,
     journal: &mut Journal,
     alloc: Global,
     client: u64,
@@ -162,7 +236,11 @@ fn leave_by_3(
     b: &mut Held,
     l: u64,
     d: &mut Held,
+    wants: &mut Pass<N, Account>,
 ) -> Left
+    requires few { client ≤ TREE_CLIENTS }
+    requires all { AreAccounts journal.old keeper.old }
+    requires wants { wants.old ≡ Some (wants_entry client (starved_in wants.old)) }
     requires distinct { AreDistinct (j ∷ k ∷ l ∷ []) }
     requires a { a.old ≡ slot_of journal.old j }
     requires b { b.old ≡ slot_of journal.old k }
@@ -175,13 +253,28 @@ fn leave_by_3(
     ensures spares { Spares journal.old journal.new (j ∷ k ∷ l ∷ []) }
     ensures calm { result ≡ Left.NoMemory → MayTakeMemory journal.old.world client }
     ensures rest { LeavesRest leaving journal.old client (j ∷ k ∷ l ∷ []) journal.new }
+    ensures all { AreAccounts journal.old keeper.new }
+    ensures only { OnlyWants keeper.old keeper.new }
+    ensures wants { wants.new ≡ Some (wants_entry client (starved_in wants.new)) }
+    ensures starved { starved_in wants.new
+        ≡ starved_if (starves_left result) (starved_in wants.old) (length journal.old.world.history)
+        (doing_of journal.old.world client) }
 {
     let mut lent = [
         mem::replace(a, vacant(alloc)),
         mem::replace(b, vacant(alloc)),
         mem::replace(d, vacant(alloc)),
     ];
-    let left = leave_with(journal, client, leaving, &[j, k, l], &mut lent);
+    let left = leave_with(
+        tie,
+        keeper,
+        journal,
+        client,
+        leaving,
+        &[j, k, l],
+        &mut lent,
+        wants,
+    );
     mem::swap(a, &mut lent[0]);
     mem::swap(b, &mut lent[1]);
     mem::swap(d, &mut lent[2]);
@@ -189,7 +282,9 @@ fn leave_by_3(
 }
 
 /// With four slots.
-fn leave_by_4(
+fn leave_by_4<N: Shape>(
+    tie: &Tie<N, Account>,
+    keeper: &mut Keeper<N, Account>,
     journal: &mut Journal,
     alloc: Global,
     client: u64,
@@ -202,7 +297,11 @@ fn leave_by_4(
     d: &mut Held,
     m: u64,
     e: &mut Held,
+    wants: &mut Pass<N, Account>,
 ) -> Left
+    requires few { client ≤ TREE_CLIENTS }
+    requires all { AreAccounts journal.old keeper.old }
+    requires wants { wants.old ≡ Some (wants_entry client (starved_in wants.old)) }
     requires distinct { AreDistinct (j ∷ k ∷ l ∷ m ∷ []) }
     requires a { a.old ≡ slot_of journal.old j }
     requires b { b.old ≡ slot_of journal.old k }
@@ -217,6 +316,12 @@ fn leave_by_4(
     ensures spares { Spares journal.old journal.new (j ∷ k ∷ l ∷ m ∷ []) }
     ensures calm { result ≡ Left.NoMemory → MayTakeMemory journal.old.world client }
     ensures rest { LeavesRest leaving journal.old client (j ∷ k ∷ l ∷ m ∷ []) journal.new }
+    ensures all { AreAccounts journal.old keeper.new }
+    ensures only { OnlyWants keeper.old keeper.new }
+    ensures wants { wants.new ≡ Some (wants_entry client (starved_in wants.new)) }
+    ensures starved { starved_in wants.new
+        ≡ starved_if (starves_left result) (starved_in wants.old) (length journal.old.world.history)
+        (doing_of journal.old.world client) }
 {
     let mut lent = [
         mem::replace(a, vacant(alloc)),
@@ -224,7 +329,16 @@ fn leave_by_4(
         mem::replace(d, vacant(alloc)),
         mem::replace(e, vacant(alloc)),
     ];
-    let left = leave_with(journal, client, leaving, &[j, k, l, m], &mut lent);
+    let left = leave_with(
+        tie,
+        keeper,
+        journal,
+        client,
+        leaving,
+        &[j, k, l, m],
+        &mut lent,
+        wants,
+    );
     mem::swap(a, &mut lent[0]);
     mem::swap(b, &mut lent[1]);
     mem::swap(d, &mut lent[2]);
@@ -249,7 +363,16 @@ impl<N: Shape> Desk<N> {
         } = self;
         let (number, seen) = (me.number, me.seen);
         take_client(tie, keeper, journal, number, seen, &mut me.pass);
-        let left = leave_with(journal, number, leaving, &[], &mut []);
+        let left = leave_with(
+            tie,
+            keeper,
+            journal,
+            number,
+            leaving,
+            &[],
+            &mut [],
+            &mut me.wants,
+        );
         me.seen = seen_after(&left, seen, journal.entries().len() as u64);
         me.pass = give_client(tie, keeper, journal, number, me.seen);
         left
@@ -280,7 +403,17 @@ impl<N: Shape> Desk<N> {
         let (number, seen) = (me.number, me.seen);
         take_slot(tie, keeper, journal, a.number, &a.held, &mut a.pass);
         take_client(tie, keeper, journal, number, seen, &mut me.pass);
-        let left = leave_by_1(journal, *alloc, number, leaving, a.number, &mut a.held);
+        let left = leave_by_1(
+            tie,
+            keeper,
+            journal,
+            *alloc,
+            number,
+            leaving,
+            a.number,
+            &mut a.held,
+            &mut me.wants,
+        );
         me.seen = seen_after(&left, seen, journal.entries().len() as u64);
         put_slot(tie, keeper, journal, a.number, &a.held, &mut a.pass, number);
         me.pass = give_client(tie, keeper, journal, number, me.seen);
@@ -318,6 +451,8 @@ impl<N: Shape> Desk<N> {
         take_slot(tie, keeper, journal, a.number, &a.held, &mut a.pass);
         take_client(tie, keeper, journal, number, seen, &mut me.pass);
         let left = leave_by_2(
+            tie,
+            keeper,
             journal,
             *alloc,
             number,
@@ -326,6 +461,7 @@ impl<N: Shape> Desk<N> {
             &mut a.held,
             b.number,
             &mut b.held,
+            &mut me.wants,
         );
         me.seen = seen_after(&left, seen, journal.entries().len() as u64);
         put_slot(tie, keeper, journal, a.number, &a.held, &mut a.pass, number);
@@ -370,6 +506,8 @@ impl<N: Shape> Desk<N> {
         take_slot(tie, keeper, journal, a.number, &a.held, &mut a.pass);
         take_client(tie, keeper, journal, number, seen, &mut me.pass);
         let left = leave_by_3(
+            tie,
+            keeper,
             journal,
             *alloc,
             number,
@@ -380,6 +518,7 @@ impl<N: Shape> Desk<N> {
             &mut b.held,
             d.number,
             &mut d.held,
+            &mut me.wants,
         );
         me.seen = seen_after(&left, seen, journal.entries().len() as u64);
         put_slot(tie, keeper, journal, a.number, &a.held, &mut a.pass, number);
@@ -429,6 +568,8 @@ impl<N: Shape> Desk<N> {
         take_slot(tie, keeper, journal, a.number, &a.held, &mut a.pass);
         take_client(tie, keeper, journal, number, seen, &mut me.pass);
         let left = leave_by_4(
+            tie,
+            keeper,
             journal,
             *alloc,
             number,
@@ -441,6 +582,7 @@ impl<N: Shape> Desk<N> {
             &mut d.held,
             e.number,
             &mut e.held,
+            &mut me.wants,
         );
         me.seen = seen_after(&left, seen, journal.entries().len() as u64);
         put_slot(tie, keeper, journal, a.number, &a.held, &mut a.pass, number);

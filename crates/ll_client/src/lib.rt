@@ -19,8 +19,9 @@ mod shape;
 mod spawn;
 mod start;
 mod walk;
+mod want;
 
-pub use account::{Account, Numbered};
+pub use account::{Account, Numbered, Starved};
 pub use client::Client;
 pub use closing::close;
 pub use desk::Desk;

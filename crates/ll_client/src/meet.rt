@@ -12,7 +12,7 @@ use ll_tie::Tie;
 
 impl<N: Shape> Desk<N> {
     /// The client knows from now on of all entries up to this one.
-    fn learn(&mut self, tie: &Tie<N, Account>, me: &mut Rider<N>, seen: u64)
+    pub(crate) fn learn(&mut self, tie: &Tie<N, Account>, me: &mut Rider<N>, seen: u64)
         requires { seen ≤ length self.old.world.history }
         ensures same { self.new ≡ self.old }
         ensures low { me.old.seen ≤ length self.old.world.history }
@@ -41,5 +41,14 @@ impl<N: Shape> Desk<N> {
         self.learn(tie, &mut one.rider, 0);
         self.learn(tie, &mut other.rider, one.rider.seen());
         self.learn(tie, &mut one.rider, other.rider.seen());
+    }
+    /// The client knows from now on of all entries made so far. Nothing else changes.
+    pub fn catch_up(&mut self, tie: &Tie<N, Account>, me: &mut Client<N>)
+        ensures same { self.new ≡ self.old }
+        ensures low { me.old.rider.seen ≤ me.new.rider.seen }
+        ensures mine { me.new.rider ≡ record me.old.rider { seen = length self.new.world.history } }
+    {
+        let entries = self.journal.entries().len() as u64;
+        self.learn(tie, &mut me.rider, entries);
     }
 }

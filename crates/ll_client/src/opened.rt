@@ -54,16 +54,16 @@ fn new_slot<N: Shape>(
     held: Held,
 ) -> Locked<N>
     requires all { AreAccounts journal.now keeper.old }
-    requires free { get keeper.old (2 * number) ≡ None }
+    requires free { get keeper.old (3 * number) ≡ None }
     requires there { number < length journal.now.inodes }
     requires few { length journal.now.inodes ≤ TREE_NODES + TREE_CLIENTS }
     requires account { held ≡ slot_of journal.now number }
     ensures all { AreAccounts journal.now keeper.new }
     ensures slot { result ≡ kept_at journal.now number }
-    ensures others { (k : ℕ) → number < k → get keeper.new (2 * k) ≡ get keeper.old (2 * k) }
+    ensures others { (k : ℕ) → number < k → get keeper.new (3 * k) ≡ get keeper.old (3 * k) }
 {
     let _ = journal;
-    let pass = tie.give_out(keeper, 2 * number, &held);
+    let pass = tie.give_out(keeper, 3 * number, &held);
     Locked { number, held, pass }
 }
 

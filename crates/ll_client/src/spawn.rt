@@ -4,14 +4,14 @@ ghost use Rattle.std.specs.Prelude.{◌≡◌, ◌≢◌, ℕ, ◌≤◌, ◌+�
 ghost use Rattle.ll_rights.specs.Map.{get};
 ghost use Rattle.ll_seq.specs.declared.call.Call.TheVariants as calls;
 ghost use Rattle.ll_seq.specs.declared.reply.Reply.TheVariants as replies;
-ghost use Rattle.ll_client.specs.Coming.{childless};
+ghost use Rattle.ll_client.specs.Coming.{HasNoPlace, childless};
 ghost use Rattle.ll_client.specs.Entries.{AreAccounts, knows, part_of};
 ghost use Rattle.ll_client.specs.Hands.{HasCome, child_of, child_told};
 
 use crate::account::Account;
 use crate::client::Client;
 use crate::desk::Desk;
-use crate::direct::seen_alone;
+use crate::direct::{seen_alone, step_alone};
 use crate::hand::{give_client, take_client};
 use crate::join::newcomer;
 use crate::shape::Shape;
@@ -57,9 +57,9 @@ fn child<N: Shape>(
     ensures all { AreAccounts journal.now keeper.new }
     ensures ok { IfOk result (λ client. told ≡ Ok client.rider.number) }
     ensures client { IfOk result (λ client. client.rider
-        ≡ knows client.rider.number (part_of journal.now.world client.rider.number) seen None) }
+        ≡ knows client.rider.number (part_of journal.now.world client.rider.number) [] seen None) }
     ensures err { IfErr result (λ errno. told ≡ Err errno) }
-    ensures others { (c : ℕ) → told ≢ Ok c → get keeper.new (2 * c + 1) ≡ get keeper.old (2 * c + 1) }
+    ensures others { (c : ℕ) → told ≢ Ok c → get keeper.new (3 * c + 1) ≡ get keeper.old (3 * c + 1) }
 {
     match told {
         Ok(number) => Ok(newcomer(tie, keeper, journal, number, seen)),
@@ -81,6 +81,7 @@ impl<N: Shape> Desk<N> {
             (Made.Replied (replies.Spawned child.rider.number)) self.new) }
         ensures refused { IfErr result (λ errno. Answers self.old (ClientStep me.old.rider.number calls.Spawn)
             (childless errno) self.new) }
+        ensures errors { IfErr result HasNoPlace }
         ensures spares { Spares self.old self.new [] }
         ensures rest { LeavesSlots calls.Spawn self.old self.new }
         ensures mine { IfOk result (λ child.
@@ -88,7 +89,7 @@ impl<N: Shape> Desk<N> {
         ensures alone { IfErr result (λ errno.
             Gains N.limit calls.Spawn me.old.rider (childless errno) me.new.rider) }
         ensures child { IfOk result (λ child.
-            child.rider ≡ knows child.rider.number [] me.new.rider.seen None) }
+            child.rider ≡ knows child.rider.number [] [] me.new.rider.seen None) }
         ensures seen { OnOk result (me.new.rider.seen ≡ length self.new.world.history) }
     {
         let Desk {
@@ -99,7 +100,7 @@ impl<N: Shape> Desk<N> {
         let me = &mut me.rider;
         let (number, seen) = (me.number, me.seen);
         take_client(tie, keeper, journal, number, seen, &mut me.pass);
-        let made = journal.client_step(number, Call::Spawn);
+        let made = step_alone(tie, keeper, journal, number, Call::Spawn, &mut me.wants);
         let entries = journal.entries().len() as u64;
         me.seen = seen_alone(&made, seen, entries);
         let child = child(tie, keeper, journal, spawned(made), entries);

@@ -1,34 +1,80 @@
 //! What becomes of a call that isn't on a descriptor.
 
-ghost use Rattle.std.specs.Prelude.{◌≡◌, []};
-ghost use Rattle.ll_client.specs.Hands.{seen_started};
+ghost use Rattle.std.specs.Prelude.{◌≡◌, ℕ, ◌≤◌, [], Some, length};
+ghost use Rattle.ll_rights.specs.declared.limits.TheConstants.{TREE_CLIENTS};
+ghost use Rattle.ll_journal.specs.Book.{Book, Spares};
+ghost use Rattle.ll_journal.specs.Direct.{LeavesSlots, TakesMemory};
+ghost use Rattle.ll_journal.specs.Starts.{Starts};
+ghost use Rattle.ll_client.specs.Entries.{AreAccounts, starved_in, wants_entry};
+ghost use Rattle.ll_client.specs.Hands.{OnlyWants, seen_started, starved_if, starves_started};
 
 use crate::account::Account;
 use crate::desk::Desk;
 use crate::hand::{give_client, take_client};
 use crate::rider::Rider;
 use crate::shape::Shape;
-use ll_journal::{Made, Start};
+use crate::want::note_want;
+use ll_journal::{Journal, Made, Start};
 use ll_seq::Call;
-use ll_tie::Tie;
+use ll_tie::{Keeper, Pass, Tie};
 
 /// The last entry that the client knows of, where the history is so long.
 fn seen_after_start(start: &Start, seen: u64, entries: u64) -> u64
     ensures { result ≡ seen_started start.now seen entries }
 {
     match start {
-        Start::Made(Made::Replied(_)) => entries,
-        Start::Made(Made::HistoryFull) => entries,
-        Start::Made(Made::NoMemory) => seen,
+        Start::Made(_) => entries,
         Start::Begun => seen,
         Start::Back(_) => seen,
     }
 }
 
+/// Whether memory ran out.
+fn starves_at_start(start: &Start) -> bool
+    ensures { result ≡ starves_started start.now }
+{
+    match start {
+        Start::Made(Made::NoMemory) => true,
+        Start::Made(Made::Replied(_)) => false,
+        Start::Made(Made::HistoryFull) => false,
+        Start::Begun => false,
+        Start::Back(_) => false,
+    }
+}
+
+/// What becomes of the client's call in the journal. Where memory runs out for it, the client's wants tell so.
+fn start_call<N: Shape>(
+    tie: &Tie<N, Account>,
+    keeper: &mut Keeper<N, Account>,
+    journal: &mut Journal,
+    number: u64,
+    call: Call,
+    wants: &mut Pass<N, Account>,
+) -> Start
+    ghost asked: { Book × Call }
+    requires before { asked.0 ≡ journal.old }
+    requires call { asked.1 ≡ call }
+    requires few { number ≤ TREE_CLIENTS }
+    requires all { AreAccounts journal.old keeper.old }
+    requires wants { wants.old ≡ Some (wants_entry number (starved_in wants.old)) }
+    ensures starts { Starts journal.old number call result journal.new }
+    ensures spares { Spares journal.old journal.new [] }
+    ensures calm { result ≡ Start.Made Made.NoMemory → TakesMemory call }
+    ensures rest { LeavesSlots call journal.old journal.new }
+    ensures all { AreAccounts journal.old keeper.new }
+    ensures only { OnlyWants keeper.old keeper.new }
+    ensures wants { wants.new ≡ Some (wants_entry number (starved_in wants.new)) }
+    ensures starved { starved_in wants.new
+        ≡ starved_if (starves_started result) (starved_in wants.old) (length journal.old.world.history)
+        (Some call) }
+{
+    let start = journal.start(number, call);
+    let ran_out = starves_at_start(&start);
+    note_want(tie, keeper, number, ran_out, wants);
+    start
+}
+
 impl<N: Shape> Desk<N> {
-    ghost use Rattle.ll_journal.specs.Book.{Spares};
-    ghost use Rattle.ll_journal.specs.Direct.{LeavesSlots, TakesMemory};
-    ghost use Rattle.ll_journal.specs.Starts.{Starts};
     ghost use Rattle.ll_client.specs.Coming.{SetsOut};
 
     /// The client's call is made and answered where it is one for the client alone; else it sets out, or comes back
@@ -48,7 +94,7 @@ impl<N: Shape> Desk<N> {
         } = self;
         let (number, seen) = (me.number, me.seen);
         take_client(tie, keeper, journal, number, seen, &mut me.pass);
-        let start = journal.start(number, call);
+        let start = start_call(tie, keeper, journal, number, call, &mut me.wants);
         me.seen = seen_after_start(&start, seen, journal.entries().len() as u64);
         me.pass = give_client(tie, keeper, journal, number, me.seen);
         start

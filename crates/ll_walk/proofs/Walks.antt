@@ -1,6 +1,6 @@
 -- A client along its walk.
 use Rattle.std.proofs.Common.{◌≡◌, ℕ, Option, Some, None, ap, sym, ◌∙◌, subst, refl}
-use Rattle.std.specs.Prelude.{Bool, true, false, not, ◌&&◌}
+use Rattle.std.specs.Prelude.{Bool, true, false, not, ◌&&◌, [], ◌∷◌, ◌++◌}
 use Rattle.ll_answer.specs.Lean.{spares_memory}
 use Rattle.ll_answer.specs.Passed.{has_path}
 use Rattle.ll_seq.specs.Memory.{takes_memory}
@@ -9,7 +9,7 @@ use Rattle.ll_journal.specs.declared.direct.Made.{Made}
 use Rattle.ll_journal.specs.declared.direct.Made.TheVariants as made
 use Rattle.ll_client.specs.declared.left.Left.{Left}
 use Rattle.ll_client.specs.declared.left.Left.TheVariants as left
-use Rattle.ll_client.specs.Entries.{Knows}
+use Rattle.ll_client.specs.Entries.{Knows, starved_at}
 use Rattle.ll_client.specs.Gains.{Gains, Goes, Told}
 use Rattle.ll_walk.specs.Ends.{made_of}
 use Rattle.ll_walk.specs.Sections.{Came}
@@ -35,7 +35,16 @@ came limit k (left.Answered reply) k' g =
 came limit k left.Again k' g = g
 came limit k left.HistoryFull k' g = λ call is path. g
 came limit k left.NoMemory k' g =
-    λ call is path. (takes call path (ap spares_memory (some_is call g.0 (sym is ∙ g.1)) ∙ g.2), g.3)
+    λ call is path.
+    let same : call ≡ g.0 = some_is call g.0 (sym is ∙ g.1) in (
+      takes call path (ap spares_memory same ∙ g.2),
+      g.3,
+      subst (λ (x : Call). k' ≡ record k {
+        starved = k.starved ++ starved_at k'.seen x ∷ [];
+        seen = k'.seen;
+        doing = None;
+      }) (sym same) g.4,
+    )
 
 -- from where it was when it set out
 pub came_as : (limit : ℕ) (k l : Knows) (it : Left) (o : Option Made) (k' : Knows) → l ≡ k → o ≡ made_of it
@@ -53,8 +62,16 @@ gained limit call k l it k' idle is c =
   where
     from : (it : Made) → Gains limit call (record k { doing = None }) it k' → Gains limit call k it k'
     from (made.Replied reply) h = h
-    from made.HistoryFull h = h ∙ (λ i. record k { seen = limit; doing = sym idle i })
-    from made.NoMemory h = (h.0, h.1 ∙ (λ i. record k { doing = sym idle i }))
+    from made.HistoryFull h = (h.0, h.1 ∙ (λ i. record k { seen = limit; doing = sym idle i }))
+    from made.NoMemory h = (
+      h.0,
+      h.1,
+      h.2 ∙ (λ i. record k {
+        starved = k.starved ++ starved_at k'.seen call ∷ [];
+        seen = k'.seen;
+        doing = sym idle i;
+      }),
+    )
 
 pub stays : (limit : ℕ) (l : Knows) (it : Left) (k' : Knows) → Goes limit l it k' → made_of it ≡ None → k' ≡ l
 stays limit l it k' g none = subst (λ (x : Option Made). Came limit l x k') none (came limit l it k' g)
@@ -66,5 +83,5 @@ again limit l it k' g is = subst (λ (x : Left). Goes limit l x k') is g
 pub idle_after : (limit : ℕ) (call : Call) (k : Knows) (it : Made) (k' : Knows) → k.doing ≡ None
     → Gains limit call k it k' → k'.doing ≡ None
 idle_after limit call k (made.Replied reply) k' idle g = ap (λ (x : Knows). x.doing) g.2
-idle_after limit call k made.HistoryFull k' idle g = ap (λ (x : Knows). x.doing) g ∙ idle
-idle_after limit call k made.NoMemory k' idle g = ap (λ (x : Knows). x.doing) g.1 ∙ idle
+idle_after limit call k made.HistoryFull k' idle g = ap (λ (x : Knows). x.doing) g.1 ∙ idle
+idle_after limit call k made.NoMemory k' idle g = ap (λ (x : Knows). x.doing) g.2 ∙ idle

@@ -1,9 +1,9 @@
 //! Calls of clients.
 
-ghost use Rattle.std.specs.Prelude.{◌≡◌, ◌∷◌, [], None, IfOk, IfErr, max};
+ghost use Rattle.std.specs.Prelude.{◌≡◌, ◌<◌, ◌≤◌, ◌∷◌, [], None, IfOk, IfErr, max};
 ghost use Rattle.ll_seq.specs.declared.call.Call.TheVariants as calls;
 ghost use Rattle.ll_seq.specs.declared.reply.Reply.TheVariants as replies;
-ghost use Rattle.ll_client.specs.Coming.{childless};
+ghost use Rattle.ll_client.specs.Coming.{HasNoPlace, childless};
 ghost use Rattle.ll_client.specs.Entries.{knows, numbered};
 ghost use Rattle.ll_client.specs.Gains.{Gains, Told};
 
@@ -41,11 +41,25 @@ fn descriptor_of(call: &Call) -> Option<u64> {
 impl<N: Shape, G: Gate<N>> Table<N, G> {
     /// A new client. Errors: HistoryFull, EMFILE where as many clients were made as a tree may have, NoMemory.
     pub fn connect<R: Wait>(&self, rt: &R) -> Result<Client<N>, Errno>
-        ensures { IfOk result (λ client. client.rider
-            ≡ knows client.rider.number (numbered client.rider.seen calls.Connect replies.Done ∷ []) client.rider.seen
-            None) }
+        ensures client { IfOk result (λ client. client.rider
+            ≡ knows client.rider.number (numbered client.rider.seen calls.Connect replies.Done ∷ []) []
+            client.rider.seen None) }
+        ensures some { IfOk result (λ client. 0 < client.rider.seen) }
+        ensures errors { IfErr result HasNoPlace }
     {
         self.section(rt).connect(&self.tie)
+    }
+
+    /// A new client, whose entry stands after all entries that this one knows of. Errors: those of `connect`.
+    pub fn connect_after<R: Wait>(&self, rt: &R, me: &mut Client<N>) -> Result<Client<N>, Errno>
+        ensures client { IfOk result (λ client. client.rider
+            ≡ knows client.rider.number (numbered client.rider.seen calls.Connect replies.Done ∷ []) []
+            client.rider.seen None) }
+        ensures after { IfOk result (λ client. me.old.rider.seen < client.rider.seen) }
+        ensures errors { IfErr result HasNoPlace }
+        ensures mine { me.new.rider ≡ me.old.rider }
+    {
+        self.section(rt).connect_after(&self.tie, me)
     }
 
     /// The client spawns a child, which knows of all entries up to the spawn. Errors: HistoryFull, EMFILE where as many
@@ -53,9 +67,10 @@ impl<N: Shape, G: Gate<N>> Table<N, G> {
     pub fn spawn<R: Wait>(&self, rt: &R, me: &mut Client<N>) -> Result<Client<N>, Errno>
         ensures child { IfOk result (λ child.
             Told calls.Spawn (replies.Spawned child.rider.number) me.old.rider me.new.rider
-            × (child.rider ≡ knows child.rider.number [] me.new.rider.seen None)) }
+            × (child.rider ≡ knows child.rider.number [] [] me.new.rider.seen None)) }
         ensures alone { IfErr result (λ errno.
             Gains N.limit calls.Spawn me.old.rider (childless errno) me.new.rider) }
+        ensures errors { IfErr result HasNoPlace }
     {
         self.section(rt).spawn(&self.tie, me)
     }
@@ -92,6 +107,15 @@ impl<N: Shape, G: Gate<N>> Table<N, G> {
             ≡ record other.old.rider { seen = max one.old.rider.seen other.old.rider.seen } }
     {
         self.section(rt).meet(&self.tie, one, other);
+    }
+
+    /// The client knows from now on of all entries made so far: its later calls stand after them. It makes no entry,
+    /// and takes no memory.
+    pub fn catch_up<R: Wait>(&self, rt: &R, me: &mut Client<N>)
+        ensures low { me.old.rider.seen ≤ me.new.rider.seen }
+        ensures mine { me.new.rider ≡ record me.old.rider { seen = me.new.rider.seen } }
+    {
+        self.section(rt).catch_up(&self.tie, me);
     }
 
     /// A client's call, led to its reply. Connect and spawn come back: they have functions of their own.

@@ -9,7 +9,7 @@ ghost use Rattle.ll_worlds.specs.declared.step.Step.TheVariants.{ClientStep, FdC
 ghost use Rattle.ll_journal.specs.Book.{Book};
 ghost use Rattle.ll_journal.specs.Direct.{Answers, ComesBack};
 ghost use Rattle.ll_journal.specs.Starts.{Starts};
-ghost use Rattle.ll_client.specs.Coming.{SetsOut, childless};
+ghost use Rattle.ll_client.specs.Coming.{HasNoPlace, SetsOut, childless};
 ghost use Rattle.ll_client.specs.Entries.{knows, numbered};
 ghost use Rattle.ll_client.specs.Gains.{Gains, Told};
 ghost use Rattle.ll_walk.specs.Sections.{Shows};
@@ -66,11 +66,30 @@ impl<'a, N: Shape> Section<'a, N> {
             × (advance (mutex_guard_value self.entry.desk).world Join ≡ (Joined client.rider.number, w.world))
             × Shows (mutex_guard_value self.entry.desk) w [] []) }
         ensures client { IfOk result (λ client. client.rider
-            ≡ knows client.rider.number (numbered client.rider.seen calls.Connect replies.Done ∷ []) client.rider.seen
-            None) }
+            ≡ knows client.rider.number (numbered client.rider.seen calls.Connect replies.Done ∷ []) []
+            client.rider.seen None) }
+        ensures some { IfOk result (λ client. 0 < client.rider.seen) }
+        ensures errors { IfErr result HasNoPlace }
     {
         let Section { mut desk } = self;
         desk.connect(tie)
+    }
+
+    /// The same, after all that this client knows of.
+    pub fn connect_after(
+        self,
+        tie: &Tie<N, Account>,
+        me: &mut Client<N>,
+    ) -> Result<Client<N>, Errno>
+        ensures client { IfOk result (λ client. client.rider
+            ≡ knows client.rider.number (numbered client.rider.seen calls.Connect replies.Done ∷ []) []
+            client.rider.seen None) }
+        ensures after { IfOk result (λ client. me.old.rider.seen < client.rider.seen) }
+        ensures errors { IfErr result HasNoPlace }
+        ensures mine { me.new.rider ≡ me.old.rider }
+    {
+        let Section { mut desk } = self;
+        desk.connect_after(tie, me)
     }
 
     /// A client's child, or why there is none.
@@ -80,12 +99,13 @@ impl<'a, N: Shape> Section<'a, N> {
             (Made.Replied (replies.Spawned child.rider.number)) w
             × Shows (mutex_guard_value self.entry.desk) w [] []
             × Told calls.Spawn (replies.Spawned child.rider.number) me.old.rider me.new.rider
-            × (child.rider ≡ knows child.rider.number [] me.new.rider.seen None)) }
+            × (child.rider ≡ knows child.rider.number [] [] me.new.rider.seen None)) }
         ensures alone { IfErr result (λ errno. (w : Book)
             × Answers (mutex_guard_value self.entry.desk) (ClientStep me.old.rider.number calls.Spawn)
             (childless errno) w
             × Shows (mutex_guard_value self.entry.desk) w [] []
             × Gains N.limit calls.Spawn me.old.rider (childless errno) me.new.rider) }
+        ensures errors { IfErr result HasNoPlace }
     {
         let Section { mut desk } = self;
         desk.spawn(tie, me)

@@ -1,6 +1,6 @@
 //! The journal's lock, held.
 
-ghost use Rattle.std.specs.Prelude.{◌≡◌, ◌<◌, ℕ, ◌∷◌, [], Some, max};
+ghost use Rattle.std.specs.Prelude.{◌≡◌, ◌<◌, ◌≤◌, ℕ, ◌∷◌, [], Some, length, max};
 ghost use Rattle.std.specs.Sync.Mutex.{mutex_guard_value};
 ghost use Rattle.ll_journal.specs.Book.{Book};
 ghost use Rattle.ll_journal.specs.Steps.{Does};
@@ -206,6 +206,16 @@ impl<'a, N: Shape> Section<'a, N> {
     {
         let Section { mut desk } = self;
         desk.meet(tie, one, other);
+    }
+
+    /// The client knows from now on of all entries made so far. It makes none.
+    pub fn catch_up(self, tie: &Tie<N, Account>, me: &mut Client<N>)
+        ensures low { me.old.rider.seen ≤ me.new.rider.seen }
+        ensures mine { me.new.rider
+            ≡ record me.old.rider { seen = length (mutex_guard_value self.entry.desk).world.history } }
+    {
+        let Section { mut desk } = self;
+        desk.catch_up(tie, me);
     }
 
     /// The slot of the root.

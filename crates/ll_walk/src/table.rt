@@ -73,7 +73,7 @@ impl<N: Shape, G: Gate<N>> Table<N, G> {
     /// takes no memory.
     pub fn close(self, clients: Vec<Client<N>>) -> Result<History, (Table<N, G>, Vec<Client<N>>)>
         ensures closed { IfOk result (λ history. (nodes : ℕ) → N.slots ≡ nodes + TREE_CLIENTS
-            → IsClosed N.rules nodes history.entries (map (λ c. c.rider) clients.items)) }
+            → IsClosed N.rules nodes N.limit history.entries (map (λ c. c.rider) clients.items)) }
         ensures limit { IfOk result (λ history. history.limit ≡ N.limit) }
         ensures back { IfErr result (λ back. back.1.items ≡ clients.items) }
     {

@@ -15,5 +15,12 @@ pub returns-clause-others : goal.returns-clause-others
 returns-clause-others g c d other =
     let w = c.args.journal.now.world in
     let n = c.args.number in
-    gave_other (2 * d + 1) (client_entry n (part_of w n) c.args.seen (doing_of w n)) c.args.keeper.now
+    gave_other (3 * d + 1) (client_entry n (part_of w n) c.args.seen (doing_of w n)) c.args.keeper.now
     c.give_out.new.keeper c.give_out.ensures.came (λ e. other (omega (arith, e)))
+
+pub returns-clause-wants : goal.returns-clause-wants
+returns-clause-wants g c =
+    let w = c.args.journal.now.world in
+    let n = c.args.number in
+    gave_other (3 * n + 2) (client_entry n (part_of w n) c.args.seen (doing_of w n)) c.args.keeper.now
+    c.give_out.new.keeper c.give_out.ensures.came (λ e. omega (arith, e))

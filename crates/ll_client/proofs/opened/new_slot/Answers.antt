@@ -10,5 +10,5 @@ returns-clause-all g c =
 
 pub returns-clause-others : goal.returns-clause-others
 returns-clause-others g c k above =
-    gave_other (2 * k) (slot_entry c.args.number c.args.held) c.args.keeper.now c.give_out-pass.new.keeper
+    gave_other (3 * k) (slot_entry c.args.number c.args.held) c.args.keeper.now c.give_out-pass.new.keeper
     c.give_out-pass.ensures.came (λ e. omega (arith, e, above))

@@ -15,7 +15,7 @@ pub loop-place-init : goal.loop-place-init
 loop-place-init g c = record {
   slots = c.in_ok-slots.ensures.items;
   all = none_out c.args.journal.now c.args.keeper.now c.requires.none;
-  free = λ k le. ap (λ (m : Map nat_cmp Account). get m (2 * k)) c.requires.none ∙ get-empty Account nat_cmp (2 * k);
+  free = λ k le. ap (λ (m : Map nat_cmp Account). get m (3 * k)) c.requires.none ∙ get-empty Account nat_cmp (3 * k);
 }
 
 pub loop-place-preserved : goal.loop-place-preserved

@@ -9,5 +9,5 @@ abbrev pub invariant-loop-place : goal.invariant-loop-place
 invariant-loop-place g l = record {
   slots : l.slots.items ≡ map (kept_at l.journal) (range_with_len 0 l.place);
   all : AreAccounts l.journal l.keeper;
-  free : (k : ℕ) → l.place ≤ k → get l.keeper (2 * k) ≡ None;
+  free : (k : ℕ) → l.place ≤ k → get l.keeper (3 * k) ≡ None;
 }

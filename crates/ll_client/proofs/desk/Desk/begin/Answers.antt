@@ -1,6 +1,6 @@
 use Rattle.std.proofs.Common.{◌≡◌, [], Some, sym, subst, arith}
 use Rattle.std.specs.Prelude.{OnOk, OnErr}
-use Rattle.ll_client.specs.Entries.{Knows, doing_in, knows, part_in}
+use Rattle.ll_client.specs.Entries.{Knows, doing_in, knows, part_in, starved_in}
 use Rattle.ll_client.proofs.Accounts.{accounts_kept}
 use Rattle.ll_client.proofs.Desks.{begin_mine, begin_steps, begin_still, desk_kept}
 use Rattle.ll_client.proofs.desk.Desk.begin.Goals as goal
@@ -40,11 +40,13 @@ returns-clause-mine g c =
     subst (λ (x : Knows × Knows). OnOk c.begin-begun.result (x.1 ≡ record x.0 { doing = Some c.args.call }))
     (λ i. (
       c.me.view_is i,
-      knows c.me.inside.number (part_in (sym c.give_client.ensures.pass i)) c.me.inside.seen
+      knows c.me.inside.number (part_in (sym c.give_client.ensures.pass i))
+          (starved_in c.me.inside.wants) c.me.inside.seen
           (doing_in (sym c.give_client.ensures.pass i)),
     ))
     (begin_mine c.self.inside.journal c.begin-begun.new.self c.me.inside.number c.me.inside.seen
-    (part_in c.me.inside.pass) (doing_in c.me.inside.pass) c.args.call c.begin-begun.result
+    (part_in c.me.inside.pass) (starved_in c.me.inside.wants) (doing_in c.me.inside.pass) c.args.call
+    c.begin-begun.result
     c.take_client.ensures.part c.begin-begun.ensures.begun)
 
 pub returns-clause-still : goal.returns-clause-still
@@ -52,9 +54,11 @@ returns-clause-still g c =
     subst (λ (x : Knows × Knows). OnErr c.begin-begun.result (x.1 ≡ x.0))
     (λ i. (
       c.me.view_is i,
-      knows c.me.inside.number (part_in (sym c.give_client.ensures.pass i)) c.me.inside.seen
+      knows c.me.inside.number (part_in (sym c.give_client.ensures.pass i))
+          (starved_in c.me.inside.wants) c.me.inside.seen
           (doing_in (sym c.give_client.ensures.pass i)),
     ))
     (begin_still c.self.inside.journal c.begin-begun.new.self c.me.inside.number c.me.inside.seen
-    (part_in c.me.inside.pass) (doing_in c.me.inside.pass) c.begin-begun.result c.take_client.ensures.part
+    (part_in c.me.inside.pass) (starved_in c.me.inside.wants) (doing_in c.me.inside.pass) c.begin-begun.result
+    c.take_client.ensures.part
     c.take_client.ensures.doing c.begin-begun.ensures.same)

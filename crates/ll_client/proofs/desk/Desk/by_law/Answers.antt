@@ -4,12 +4,17 @@ use Rattle.ll_seq.specs.State.{start}
 use Rattle.ll_worlds.specs.Walks.{AreApart, AreFew, AreValid, GateIsHeld}
 use Rattle.ll_journal.specs.Book.{Book}
 use Rattle.ll_journal.specs.SlotTree.{HoldTree, accounts_of}
+use Rattle.ll_client.specs.Entries.{AreInOrder}
 use Rattle.ll_client.proofs.desk.Desk.by_law.Goals as goal
 
 pub returns-clause-legal : goal.returns-clause-legal
 returns-clause-legal g c =
     subst (λ (b : Book). IsLegal (start b.world.rules b.world.room) b.world.history) c.self.view_is
     c.self.invariant.sound.legal
+
+pub returns-clause-numbered : goal.returns-clause-numbered
+returns-clause-numbered g c =
+    subst (λ (b : Book). AreInOrder b.world.rules b.world.room b.world.history) c.self.view_is c.self.invariant.numbered
 
 pub returns-clause-within : goal.returns-clause-within
 returns-clause-within g c =

@@ -2,7 +2,7 @@ use Rattle.std.proofs.Common.{◌≡◌, ◌≤◌, [], length, List, refl, sym,
 use Rattle.std.specs.Prelude.{IfOk, OnErr}
 use Rattle.ll_seq.specs.declared.reply.Entry.{Entry}
 use Rattle.ll_worlds.specs.declared.step.Step.TheVariants.{ClientStep}
-use Rattle.ll_client.specs.Entries.{Knows, doing_in, knows, part_in}
+use Rattle.ll_client.specs.Entries.{Knows, doing_in, knows, part_in, starved_in}
 use Rattle.ll_client.specs.Gains.{Gains}
 use Rattle.ll_client.specs.Hands.{seen_made}
 use Rattle.ll_client.proofs.Accounts.{IsClient, accounts_kept}
@@ -12,45 +12,51 @@ use Rattle.ll_client.proofs.desk.Desk.client_step.Goals as goal
 
 pub give_client-requires-clause-all : goal.give_client-requires-clause-all
 give_client-requires-clause-all g c =
-    let out = c.take_client.ensures.gone.out [] tt in
-    accounts_kept c.self.inside.journal c.client_step-made.new.self c.me.inside.number [] c.take_client.new.keeper
-    c.client_step-made.ensures.spares
-    (direct_steps c.self.inside.journal c.client_step-made.new.self c.me.inside.number c.args.call
-    (ClientStep c.me.inside.number c.args.call) c.client_step-made.result
+    let out = c.step_alone-made.ensures.only.out []
+    (c.take_client.ensures.gone.out [] tt) in
+    accounts_kept c.self.inside.journal c.step_alone-made.new.journal c.me.inside.number [] c.step_alone-made.new.keeper
+    c.step_alone-made.ensures.spares
+    (direct_steps c.self.inside.journal c.step_alone-made.new.journal c.me.inside.number c.args.call
+    (ClientStep c.me.inside.number c.args.call) c.step_alone-made.result
     (record { mine = refl; asks = refl; idle = refl; other = λ e. cc e }) c.self.invariant.sound
-    c.self.invariant.within c.client_step-made.ensures.does c.client_step-made.ensures.same).moved out
-    c.take_client.ensures.gone.gone c.take_client.ensures.all
+    c.self.invariant.within c.step_alone-made.ensures.does c.step_alone-made.ensures.same).moved out
+    (c.step_alone-made.ensures.only.clients c.me.inside.number ∙ c.take_client.ensures.gone.gone)
+    c.step_alone-made.ensures.all
+
+pub give_client-requires-clause-free : goal.give_client-requires-clause-free
+give_client-requires-clause-free g c =
+    c.step_alone-made.ensures.only.clients c.me.inside.number ∙ c.take_client.ensures.gone.gone
 
 pub give_client-requires-clause-there : goal.give_client-requires-clause-there
 give_client-requires-clause-there g c =
-    (direct_steps c.self.inside.journal c.client_step-made.new.self c.me.inside.number c.args.call
-    (ClientStep c.me.inside.number c.args.call) c.client_step-made.result
+    (direct_steps c.self.inside.journal c.step_alone-made.new.journal c.me.inside.number c.args.call
+    (ClientStep c.me.inside.number c.args.call) c.step_alone-made.result
     (record { mine = refl; asks = refl; idle = refl; other = λ e. cc e }) c.self.invariant.sound c.self.invariant.within
-    c.client_step-made.ensures.does c.client_step-made.ensures.same).moved.clients c.me.inside.number
+    c.step_alone-made.ensures.does c.step_alone-made.ensures.same).moved.clients c.me.inside.number
     c.take_client.ensures.there
 
 pub give_client-requires-clause-seen : goal.give_client-requires-clause-seen
 give_client-requires-clause-seen g c =
-    subst (λ k. k ≤ length c.client_step-made.new.self.world.history)
-    (ap (λ (es : List Entry). seen_made c.client_step-made.result c.me.inside.seen (length es))
+    subst (λ k. k ≤ length c.step_alone-made.new.journal.world.history)
+    (ap (λ (es : List Entry). seen_made c.step_alone-made.result c.me.inside.seen (length es))
     (sym c.entries.ensures) ∙ sym c.seen_alone-me-inside.ensures)
-    (direct_low c.client_step-made.result c.me.inside.seen (length c.self.inside.journal.world.history)
-    (length c.client_step-made.new.self.world.history) c.take_client.ensures.seen
-    (direct_steps c.self.inside.journal c.client_step-made.new.self c.me.inside.number c.args.call
-    (ClientStep c.me.inside.number c.args.call) c.client_step-made.result
+    (direct_low c.step_alone-made.result c.me.inside.seen (length c.self.inside.journal.world.history)
+    (length c.step_alone-made.new.journal.world.history) c.take_client.ensures.seen
+    (direct_steps c.self.inside.journal c.step_alone-made.new.journal c.me.inside.number c.args.call
+    (ClientStep c.me.inside.number c.args.call) c.step_alone-made.result
     (record { mine = refl; asks = refl; idle = refl; other = λ e. cc e }) c.self.invariant.sound
-    c.self.invariant.within c.client_step-made.ensures.does c.client_step-made.ensures.same).moved.long)
+    c.self.invariant.within c.step_alone-made.ensures.does c.step_alone-made.ensures.same).moved.long)
 
 pub invariant_of-self : goal.invariant_of-self
 invariant_of-self g c =
-    desk_kept g.N.Shape.slots g.N.Shape.limit g.N.Shape.rules c.self.inside.journal c.client_step-made.new.self
+    desk_kept g.N.Shape.slots g.N.Shape.limit g.N.Shape.rules c.self.inside.journal c.step_alone-made.new.journal
     c.me.inside.number []
     c.self.inside.keeper c.give_client.new.keeper c.self.invariant
-    (direct_steps c.self.inside.journal c.client_step-made.new.self c.me.inside.number c.args.call
-    (ClientStep c.me.inside.number c.args.call) c.client_step-made.result
+    (direct_steps c.self.inside.journal c.step_alone-made.new.journal c.me.inside.number c.args.call
+    (ClientStep c.me.inside.number c.args.call) c.step_alone-made.result
     (record { mine = refl; asks = refl; idle = refl; other = λ e. cc e }) c.self.invariant.sound
-    c.self.invariant.within c.client_step-made.ensures.does c.client_step-made.ensures.same)
-    c.client_step-made.ensures.spares c.give_client.ensures.all
+    c.self.invariant.within c.step_alone-made.ensures.does c.step_alone-made.ensures.same)
+    c.step_alone-made.ensures.spares c.give_client.ensures.all
 
 pub returns-clause-mine : goal.returns-clause-mine
 returns-clause-mine g c =
@@ -59,21 +65,23 @@ returns-clause-mine g c =
     (doing_in c.me.inside.pass) =
     record { there = known.there; few = known.few; part_is = known.part; low = known.seen; doing_is = known.doing }
     in
-    let seen : seen_made c.client_step-made.result c.me.inside.seen (length c.client_step-made.new.self.world.history)
+    let seen : seen_made c.step_alone-made.result c.me.inside.seen (length c.step_alone-made.new.journal.world.history)
     ≡ c.seen_alone-me-inside.result =
-    ap (λ (es : List Entry). seen_made c.client_step-made.result c.me.inside.seen (length es)) (sym c.entries.ensures)
+    ap (λ (es : List Entry). seen_made c.step_alone-made.result c.me.inside.seen (length es)) (sym c.entries.ensures)
     ∙ sym c.seen_alone-me-inside.ensures in
-    subst (λ (x : Knows × Knows). IfOk c.client_step-made.result (λ a. Gains g.N.Shape.limit c.args.call x.0 a x.1))
+    subst (λ (x : Knows × Knows). IfOk c.step_alone-made.result (λ a. Gains g.N.Shape.limit c.args.call x.0 a x.1))
     (λ i. (
       c.me.view_is i,
-      knows c.me.inside.number (part_in (sym c.give_client.ensures.pass i)) (seen i)
+      knows c.me.inside.number (part_in (sym c.give_client.ensures.pass i)) (sym c.step_alone-made.ensures.starved i)
+          (seen i)
           (doing_in (sym c.give_client.ensures.pass i)),
     ))
-    (direct_gains c.self.inside.journal c.client_step-made.new.self c.me.inside.number c.me.inside.seen g.N.Shape.limit
-    _ _ c.args.call (ClientStep c.me.inside.number c.args.call) c.client_step-made.result
+    (direct_gains c.self.inside.journal c.step_alone-made.new.journal c.me.inside.number c.me.inside.seen
+    g.N.Shape.limit
+    _ (starved_in c.me.inside.wants) _ c.args.call (ClientStep c.me.inside.number c.args.call) c.step_alone-made.result
     (record { mine = refl; asks = refl; idle = refl; other = λ e. cc e }) c.self.invariant.within
     c.self.invariant.limit_is k
-    (λ e. alone_takes c.args.call (c.client_step-made.ensures.calm e)) c.client_step-made.ensures.does)
+    (λ e. alone_takes c.args.call (c.step_alone-made.ensures.calm e)) c.step_alone-made.ensures.does)
 
 pub returns-clause-still : goal.returns-clause-still
 returns-clause-still g c =
@@ -82,15 +90,16 @@ returns-clause-still g c =
     (doing_in c.me.inside.pass) =
     record { there = known.there; few = known.few; part_is = known.part; low = known.seen; doing_is = known.doing }
     in
-    let seen : seen_made c.client_step-made.result c.me.inside.seen (length c.client_step-made.new.self.world.history)
+    let seen : seen_made c.step_alone-made.result c.me.inside.seen (length c.step_alone-made.new.journal.world.history)
     ≡ c.seen_alone-me-inside.result =
-    ap (λ (es : List Entry). seen_made c.client_step-made.result c.me.inside.seen (length es)) (sym c.entries.ensures)
+    ap (λ (es : List Entry). seen_made c.step_alone-made.result c.me.inside.seen (length es)) (sym c.entries.ensures)
     ∙ sym c.seen_alone-me-inside.ensures in
-    subst (λ (x : Knows × Knows). OnErr c.client_step-made.result (x.1 ≡ x.0))
+    subst (λ (x : Knows × Knows). OnErr c.step_alone-made.result (x.1 ≡ x.0))
     (λ i. (
       c.me.view_is i,
-      knows c.me.inside.number (part_in (sym c.give_client.ensures.pass i)) (seen i)
+      knows c.me.inside.number (part_in (sym c.give_client.ensures.pass i)) (sym c.step_alone-made.ensures.starved i)
+          (seen i)
           (doing_in (sym c.give_client.ensures.pass i)),
     ))
-    (direct_still c.self.inside.journal c.client_step-made.new.self c.me.inside.number c.me.inside.seen _ _
-    c.client_step-made.result k c.client_step-made.ensures.same)
+    (direct_still c.self.inside.journal c.step_alone-made.new.journal c.me.inside.number c.me.inside.seen _
+    (starved_in c.me.inside.wants) _ c.args.call c.step_alone-made.result k c.step_alone-made.ensures.same)

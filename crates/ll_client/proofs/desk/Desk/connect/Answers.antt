@@ -4,7 +4,7 @@ use Rattle.ll_worlds.specs.declared.step.Step.TheVariants.{Join}
 use Rattle.ll_journal.specs.Book.{Book}
 use Rattle.ll_client.proofs.Accounts.{accounts_kept}
 use Rattle.ll_client.proofs.Desks.{desk_kept}
-use Rattle.ll_client.proofs.Newcomers.{connected, joins}
+use Rattle.ll_client.proofs.Newcomers.{connect_errors, connected, joins}
 use Rattle.ll_client.proofs.desk.Desk.connect.Goals as goal
 
 pub returns-in-Err-clause-starved : goal.returns-in-Err-clause-starved
@@ -12,6 +12,10 @@ returns-in-Err-clause-starved g c none =
     subst (λ (b : Book). (after : World) × (advance b.world Join ≡ (Joined (next_number b.world), after)))
     c.self.view_is
     (c.connect.ensures.starved (c.in-Err.is ∙ ap (λ e. Err e) none))
+
+pub returns-in-Err-clause-errors : goal.returns-in-Err-clause-errors
+returns-in-Err-clause-errors g c =
+    connect_errors c.self.inside.journal.world c.in-Err.errno c.in-Err.ensures.refused
 
 pub newcomer-requires-clause-all : goal.newcomer-requires-clause-all
 newcomer-requires-clause-all g c =

@@ -3,7 +3,7 @@ use Rattle.std.specs.Prelude.{IfOk, OnErr}
 use Rattle.ll_seq.specs.declared.reply.Entry.{Entry}
 use Rattle.ll_worlds.specs.declared.step.Step.TheVariants.{FdCommit}
 use Rattle.ll_journal.proofs.Starved.{when_err}
-use Rattle.ll_client.specs.Entries.{Knows, doing_in, knows, part_in}
+use Rattle.ll_client.specs.Entries.{Knows, doing_in, knows, part_in, starved_in}
 use Rattle.ll_client.specs.Gains.{Gains}
 use Rattle.ll_client.specs.Hands.{seen_made}
 use Rattle.ll_client.proofs.Accounts.{IsClient, accounts_kept}
@@ -15,54 +15,63 @@ use Rattle.ll_client.proofs.desk.Desk.fd_commit.Goals as goal
 pub put_slot-requires-clause-all : goal.put_slot-requires-clause-all
 put_slot-requires-clause-all g c =
     let o0 = c.take_slot.ensures.gone.out [] tt in
-    let out = c.take_client.ensures.gone.out (c.file.inside.number ∷ []) o0.0 in
-    accounts_kept c.self.inside.journal c.fd_commit-made.new.self c.me.inside.number (c.file.inside.number ∷ [])
-    c.take_client.new.keeper c.fd_commit-made.ensures.spares
-    (direct_steps c.self.inside.journal c.fd_commit-made.new.self c.me.inside.number c.args.call
-    (FdCommit c.me.inside.number c.args.call) c.fd_commit-made.result
+    let out = c.step_on_file-made.ensures.only.out (c.file.inside.number ∷ [])
+    (c.take_client.ensures.gone.out (c.file.inside.number ∷ []) o0.0) in
+    accounts_kept c.self.inside.journal c.step_on_file-made.new.journal c.me.inside.number (c.file.inside.number ∷ [])
+    c.step_on_file-made.new.keeper c.step_on_file-made.ensures.spares
+    (direct_steps c.self.inside.journal c.step_on_file-made.new.journal c.me.inside.number c.args.call
+    (FdCommit c.me.inside.number c.args.call) c.step_on_file-made.result
     (record { mine = refl; asks = refl; idle = refl; other = λ e. cc e }) c.self.invariant.sound
-    c.self.invariant.within c.fd_commit-made.ensures.does
-    (when_err c.fd_commit-made.result (λ e. e.0) c.fd_commit-made.ensures.same)).moved out
-    c.take_client.ensures.gone.gone c.take_client.ensures.all
+    c.self.invariant.within c.step_on_file-made.ensures.does
+    (when_err c.step_on_file-made.result (λ e. e.0) c.step_on_file-made.ensures.same)).moved out
+    (c.step_on_file-made.ensures.only.clients c.me.inside.number ∙ c.take_client.ensures.gone.gone)
+    c.step_on_file-made.ensures.all
 
 pub put_slot-requires-clause-free : goal.put_slot-requires-clause-free
 put_slot-requires-clause-free g c =
     let o0 = c.take_slot.ensures.gone.out [] tt in
-    let out = c.take_client.ensures.gone.out (c.file.inside.number ∷ []) o0.0 in
+    let out = c.step_on_file-made.ensures.only.out (c.file.inside.number ∷ [])
+    (c.take_client.ensures.gone.out (c.file.inside.number ∷ []) o0.0) in
     out.0
+
+pub give_client-requires-clause-free : goal.give_client-requires-clause-free
+give_client-requires-clause-free g c =
+    c.put_slot.ensures.others.client (c.step_on_file-made.ensures.only.clients c.me.inside.number
+    ∙ c.take_client.ensures.gone.gone)
 
 pub give_client-requires-clause-there : goal.give_client-requires-clause-there
 give_client-requires-clause-there g c =
-    (direct_steps c.self.inside.journal c.fd_commit-made.new.self c.me.inside.number c.args.call
-    (FdCommit c.me.inside.number c.args.call) c.fd_commit-made.result
+    (direct_steps c.self.inside.journal c.step_on_file-made.new.journal c.me.inside.number c.args.call
+    (FdCommit c.me.inside.number c.args.call) c.step_on_file-made.result
     (record { mine = refl; asks = refl; idle = refl; other = λ e. cc e }) c.self.invariant.sound c.self.invariant.within
-    c.fd_commit-made.ensures.does
-    (when_err c.fd_commit-made.result (λ e. e.0) c.fd_commit-made.ensures.same)).moved.clients c.me.inside.number
+    c.step_on_file-made.ensures.does
+    (when_err c.step_on_file-made.result (λ e. e.0) c.step_on_file-made.ensures.same)).moved.clients c.me.inside.number
     c.take_client.ensures.there
 
 pub give_client-requires-clause-seen : goal.give_client-requires-clause-seen
 give_client-requires-clause-seen g c =
-    subst (λ k. k ≤ length c.fd_commit-made.new.self.world.history)
-    (ap (λ (es : List Entry). seen_made c.fd_commit-made.result c.me.inside.seen (length es))
+    subst (λ k. k ≤ length c.step_on_file-made.new.journal.world.history)
+    (ap (λ (es : List Entry). seen_made c.step_on_file-made.result c.me.inside.seen (length es))
     (sym c.entries.ensures) ∙ sym c.seen_on_file-me-inside.ensures)
-    (direct_low c.fd_commit-made.result c.me.inside.seen (length c.self.inside.journal.world.history)
-    (length c.fd_commit-made.new.self.world.history) c.take_client.ensures.seen
-    (direct_steps c.self.inside.journal c.fd_commit-made.new.self c.me.inside.number c.args.call
-    (FdCommit c.me.inside.number c.args.call) c.fd_commit-made.result
+    (direct_low c.step_on_file-made.result c.me.inside.seen (length c.self.inside.journal.world.history)
+    (length c.step_on_file-made.new.journal.world.history) c.take_client.ensures.seen
+    (direct_steps c.self.inside.journal c.step_on_file-made.new.journal c.me.inside.number c.args.call
+    (FdCommit c.me.inside.number c.args.call) c.step_on_file-made.result
     (record { mine = refl; asks = refl; idle = refl; other = λ e. cc e }) c.self.invariant.sound
-    c.self.invariant.within c.fd_commit-made.ensures.does
-    (when_err c.fd_commit-made.result (λ e. e.0) c.fd_commit-made.ensures.same)).moved.long)
+    c.self.invariant.within c.step_on_file-made.ensures.does
+    (when_err c.step_on_file-made.result (λ e. e.0) c.step_on_file-made.ensures.same)).moved.long)
 
 pub invariant_of-self : goal.invariant_of-self
 invariant_of-self g c =
-    desk_kept g.N.Shape.slots g.N.Shape.limit g.N.Shape.rules c.self.inside.journal c.fd_commit-made.new.self
+    desk_kept g.N.Shape.slots g.N.Shape.limit g.N.Shape.rules c.self.inside.journal c.step_on_file-made.new.journal
     c.me.inside.number
     (c.file.inside.number ∷ []) c.self.inside.keeper c.give_client.new.keeper c.self.invariant
-    (direct_steps c.self.inside.journal c.fd_commit-made.new.self c.me.inside.number c.args.call
-    (FdCommit c.me.inside.number c.args.call) c.fd_commit-made.result
+    (direct_steps c.self.inside.journal c.step_on_file-made.new.journal c.me.inside.number c.args.call
+    (FdCommit c.me.inside.number c.args.call) c.step_on_file-made.result
     (record { mine = refl; asks = refl; idle = refl; other = λ e. cc e }) c.self.invariant.sound
-    c.self.invariant.within c.fd_commit-made.ensures.does
-    (when_err c.fd_commit-made.result (λ e. e.0) c.fd_commit-made.ensures.same)) c.fd_commit-made.ensures.spares
+    c.self.invariant.within c.step_on_file-made.ensures.does
+    (when_err c.step_on_file-made.result (λ e. e.0) c.step_on_file-made.ensures.same))
+    c.step_on_file-made.ensures.spares
     c.give_client.ensures.all
 
 pub returns-clause-mine : goal.returns-clause-mine
@@ -72,23 +81,26 @@ returns-clause-mine g c =
     (doing_in c.me.inside.pass) =
     record { there = known.there; few = known.few; part_is = known.part; low = known.seen; doing_is = known.doing }
     in
-    let seen : seen_made c.fd_commit-made.result c.me.inside.seen (length c.fd_commit-made.new.self.world.history)
+    let seen : seen_made c.step_on_file-made.result c.me.inside.seen
+    (length c.step_on_file-made.new.journal.world.history)
     ≡ c.seen_on_file-me-inside.result =
-    ap (λ (es : List Entry). seen_made c.fd_commit-made.result c.me.inside.seen (length es)) (sym c.entries.ensures)
+    ap (λ (es : List Entry). seen_made c.step_on_file-made.result c.me.inside.seen (length es)) (sym c.entries.ensures)
     ∙ sym c.seen_on_file-me-inside.ensures in
-    subst (λ (x : Knows × Knows). IfOk c.fd_commit-made.result (λ a. Gains g.N.Shape.limit c.args.call x.0 a x.1))
+    subst (λ (x : Knows × Knows). IfOk c.step_on_file-made.result (λ a. Gains g.N.Shape.limit c.args.call x.0 a x.1))
     (λ i. (
       c.me.view_is i,
-      knows c.me.inside.number (part_in (sym c.give_client.ensures.pass i)) (seen i)
+      knows c.me.inside.number (part_in (sym c.give_client.ensures.pass i)) (sym c.step_on_file-made.ensures.starved i)
+          (seen i)
           (doing_in (sym c.give_client.ensures.pass i)),
     ))
-    (direct_gains c.self.inside.journal c.fd_commit-made.new.self c.me.inside.number c.me.inside.seen g.N.Shape.limit _
-    _ c.args.call (FdCommit c.me.inside.number c.args.call) c.fd_commit-made.result
+    (direct_gains c.self.inside.journal c.step_on_file-made.new.journal c.me.inside.number c.me.inside.seen
+    g.N.Shape.limit _
+    (starved_in c.me.inside.wants) _ c.args.call (FdCommit c.me.inside.number c.args.call) c.step_on_file-made.result
     (record { mine = refl; asks = refl; idle = refl; other = λ e. cc e }) c.self.invariant.within
     c.self.invariant.limit_is k
-    (file_takes Unmade c.self.inside.journal c.fd_commit-made.new.self c.me.inside.number c.args.call
-    c.fd_commit-made.result c.fd_commit-made.ensures.calm c.fd_commit-made.ensures.does)
-    c.fd_commit-made.ensures.does)
+    (file_takes Unmade c.self.inside.journal c.step_on_file-made.new.journal c.me.inside.number c.args.call
+    c.step_on_file-made.result c.step_on_file-made.ensures.calm c.step_on_file-made.ensures.does)
+    c.step_on_file-made.ensures.does)
 
 pub returns-clause-still : goal.returns-clause-still
 returns-clause-still g c =
@@ -97,15 +109,18 @@ returns-clause-still g c =
     (doing_in c.me.inside.pass) =
     record { there = known.there; few = known.few; part_is = known.part; low = known.seen; doing_is = known.doing }
     in
-    let seen : seen_made c.fd_commit-made.result c.me.inside.seen (length c.fd_commit-made.new.self.world.history)
+    let seen : seen_made c.step_on_file-made.result c.me.inside.seen
+    (length c.step_on_file-made.new.journal.world.history)
     ≡ c.seen_on_file-me-inside.result =
-    ap (λ (es : List Entry). seen_made c.fd_commit-made.result c.me.inside.seen (length es)) (sym c.entries.ensures)
+    ap (λ (es : List Entry). seen_made c.step_on_file-made.result c.me.inside.seen (length es)) (sym c.entries.ensures)
     ∙ sym c.seen_on_file-me-inside.ensures in
-    subst (λ (x : Knows × Knows). OnErr c.fd_commit-made.result (x.1 ≡ x.0))
+    subst (λ (x : Knows × Knows). OnErr c.step_on_file-made.result (x.1 ≡ x.0))
     (λ i. (
       c.me.view_is i,
-      knows c.me.inside.number (part_in (sym c.give_client.ensures.pass i)) (seen i)
+      knows c.me.inside.number (part_in (sym c.give_client.ensures.pass i)) (sym c.step_on_file-made.ensures.starved i)
+          (seen i)
           (doing_in (sym c.give_client.ensures.pass i)),
     ))
-    (direct_still c.self.inside.journal c.fd_commit-made.new.self c.me.inside.number c.me.inside.seen _ _
-    c.fd_commit-made.result k (when_err c.fd_commit-made.result (λ e. e.0) c.fd_commit-made.ensures.same))
+    (direct_still c.self.inside.journal c.step_on_file-made.new.journal c.me.inside.number c.me.inside.seen _
+    (starved_in c.me.inside.wants) _ c.args.call c.step_on_file-made.result k
+    (when_err c.step_on_file-made.result (λ e. e.0) c.step_on_file-made.ensures.same))

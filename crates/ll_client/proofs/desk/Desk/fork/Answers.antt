@@ -1,6 +1,6 @@
 use Rattle.std.proofs.Common.{[], refl, ◌∙◌}
 use Rattle.ll_worlds.specs.declared.step.Step.TheVariants.{Fork}
-use Rattle.ll_client.specs.Entries.{doing_in, knows, part_in}
+use Rattle.ll_client.specs.Entries.{doing_in, knows, part_in, starved_in}
 use Rattle.ll_client.proofs.Accounts.{accounts_kept}
 use Rattle.ll_client.proofs.Desks.{desk_kept, does_goes, knows_same}
 use Rattle.ll_client.proofs.desk.Desk.fork.Goals as goal
@@ -25,9 +25,10 @@ invariant_of-self g c =
 
 pub returns-clause-mine : goal.returns-clause-mine
 returns-clause-mine g c =
-    (λ i. knows c.me.inside.number (part_in (c.give_client.ensures.pass i)) c.me.inside.seen
+    (λ i. knows c.me.inside.number (part_in (c.give_client.ensures.pass i))
+    (starved_in c.me.inside.wants) c.me.inside.seen
     (doing_in (c.give_client.ensures.pass i)))
-    ∙ knows_same c.self.inside.journal c.fork-outcome.new.self c.me.inside.number c.me.inside.seen _ _
+    ∙ knows_same c.self.inside.journal c.fork-outcome.new.self c.me.inside.number c.me.inside.seen _ _ _
     (does_goes c.self.inside.journal c.fork-outcome.new.self (Fork c.me.inside.number) c.fork-outcome.result
     c.self.invariant.sound c.self.invariant.within refl c.fork-outcome.ensures.does) c.take_client.ensures.part
     c.take_client.ensures.doing ∙ c.me.view_is

@@ -1,6 +1,6 @@
 use Rattle.std.proofs.Common.{◌≡◌, ◌≤◌, ◌∷◌, [], length, List, sym, ap, ◌∙◌, subst}
 use Rattle.ll_seq.specs.declared.reply.Entry.{Entry}
-use Rattle.ll_client.specs.Entries.{Knows, doing_in, knows, part_in}
+use Rattle.ll_client.specs.Entries.{Knows, doing_in, knows, part_in, starved_in}
 use Rattle.ll_client.specs.Gains.{Goes}
 use Rattle.ll_client.specs.Hands.{seen_of}
 use Rattle.ll_client.proofs.Accounts.{IsClient, accounts_kept}
@@ -11,18 +11,26 @@ use Rattle.ll_client.proofs.desk.Desk.leave_1.Goals as goal
 pub put_slot-requires-clause-all : goal.put_slot-requires-clause-all
 put_slot-requires-clause-all g c =
     let o0 = c.take_slot.ensures.gone.out [] tt in
-    let out = c.take_client.ensures.gone.out (c.a.inside.number ∷ []) o0.0 in
+    let out = c.leave_by_1-left.ensures.only.out (c.a.inside.number ∷ [])
+    (c.take_client.ensures.gone.out (c.a.inside.number ∷ []) o0.0) in
     accounts_kept c.self.inside.journal c.leave_by_1-left.new.journal c.me.inside.number (c.a.inside.number ∷ [])
-    c.take_client.new.keeper c.leave_by_1-left.ensures.spares
+    c.leave_by_1-left.new.keeper c.leave_by_1-left.ensures.spares
     (left_steps c.args.leaving c.self.inside.journal c.leave_by_1-left.new.journal c.me.inside.number
     c.leave_by_1-left.result c.self.invariant.sound c.self.invariant.within c.leave_by_1-left.ensures.leaves).moved
-    out c.take_client.ensures.gone.gone c.take_client.ensures.all
+    out (c.leave_by_1-left.ensures.only.clients c.me.inside.number ∙ c.take_client.ensures.gone.gone)
+    c.leave_by_1-left.ensures.all
 
 pub put_slot-requires-clause-free : goal.put_slot-requires-clause-free
 put_slot-requires-clause-free g c =
     let o0 = c.take_slot.ensures.gone.out [] tt in
-    let out = c.take_client.ensures.gone.out (c.a.inside.number ∷ []) o0.0 in
+    let out = c.leave_by_1-left.ensures.only.out (c.a.inside.number ∷ [])
+    (c.take_client.ensures.gone.out (c.a.inside.number ∷ []) o0.0) in
     out.0
+
+pub give_client-requires-clause-free : goal.give_client-requires-clause-free
+give_client-requires-clause-free g c =
+    c.put_slot.ensures.others.client (c.leave_by_1-left.ensures.only.clients c.me.inside.number
+    ∙ c.take_client.ensures.gone.gone)
 
 pub give_client-requires-clause-there : goal.give_client-requires-clause-there
 give_client-requires-clause-there g c =
@@ -64,9 +72,11 @@ returns-clause-mine g c =
     subst (λ (x : Knows × Knows). Goes g.N.Shape.limit x.0 c.leave_by_1-left.result x.1)
     (λ i. (
       c.me.view_is i,
-      knows c.me.inside.number (part_in (sym c.give_client.ensures.pass i)) (seen i)
+      knows c.me.inside.number (part_in (sym c.give_client.ensures.pass i)) (sym c.leave_by_1-left.ensures.starved i)
+          (seen i)
           (doing_in (sym c.give_client.ensures.pass i)),
     ))
-    (left_goes c.args.leaving c.self.inside.journal c.leave_by_1-left.new.journal c.me.inside.number c.me.inside.seen
-    g.N.Shape.limit _ _ c.leave_by_1-left.result c.self.invariant.sound c.self.invariant.within
-    c.self.invariant.limit_is k c.leave_by_1-left.ensures.calm c.leave_by_1-left.ensures.leaves)
+    (left_goes c.self.inside.journal c.leave_by_1-left.new.journal c.me.inside.number c.me.inside.seen
+    g.N.Shape.limit _ (starved_in c.me.inside.wants) _ c.self.invariant.within c.self.invariant.limit_is k
+    c.args.leaving c.leave_by_1-left.result c.self.invariant.sound c.leave_by_1-left.ensures.calm
+    c.leave_by_1-left.ensures.leaves)

@@ -12,6 +12,7 @@ returns-in-Ok-clause-closed g c = λ nodes size.
     let law = c.by_law.ensures in
     let ks = map (λ it. it.rider) c.args.clients.items in
     let room : b.world.room ≡ nodes = (let r = law.room in omega (arith, r, size)) in
-    subst (λ (p : Rules × (ℕ × List Entry)). IsClosed p.0 p.1.0 p.1.1 ks)
-    (λ i. (law.rules i, (room i, ap (λ (log : Log). log.entries) (sym c.in-Ok.ensures.history) i)))
-    (closed b.world.rules b.world.room b.world.history ks law.legal c.in-Ok.ensures.clients)
+    subst (λ (p : Rules × (ℕ × (ℕ × List Entry))). IsClosed p.0 p.1.0 p.1.1.0 p.1.1.1 ks)
+    (λ i. (law.rules i, (room i, (law.limit i, ap (λ (log : Log). log.entries) (sym c.in-Ok.ensures.history) i))))
+    (closed b.world.rules b.world.room b.world.limit b.world.history ks law.legal c.in-Ok.ensures.clients law.within
+    law.numbered)

@@ -1,5 +1,5 @@
 use Rattle.std.specs.Prelude.{◌≡◌}
-use Rattle.ll_calls.proofs.tree.Tree.made.Given as goal
+use Rattle.ll_calls.proofs.tree.Tree.call.Given as goal
 
 -- what came back is the call, and the client is as it was
 abbrev pub invariant-loop : goal.invariant-loop
