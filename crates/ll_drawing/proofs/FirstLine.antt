@@ -29,3 +29,8 @@ first_feed (b ∷ bytes) zero before within is = let e : eqb b 10 ≡ true = eq-
 first_feed (b ∷ bytes) (suc end) before within is =
     let e : eqb b 10 ≡ false = ne_eqb b 10 (before 0 (omega arith)) in
     rw e (ap (onto_first b) (first_feed bytes end (later b bytes end before) (omega (arith, within)) is))
+
+-- where nothing is left
+pub none_left : (bytes : List ℕ) → length bytes ≡ 0 → length (pieces bytes) ≡ 0
+none_left [] none = refl
+none_left (b ∷ bytes) none = absurd (omega (arith, none))
