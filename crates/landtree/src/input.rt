@@ -19,7 +19,7 @@ pub trait Sources {
 
     /// Opens the file of this name, or without one standard input, at its first byte.
     fn open(&self, file: Option<&str>) -> io::Result<Self::Input>
-        ensures { IfOk result (λ input. IfSome (texts self.now (option_map (λ name. name.now) file))
+        ensures { IfOk result (λ input. IfSome (texts self.now (option_map (λ name. name.now) file.entry))
             (λ told. Self.Input.remaining input ≡ Some told)) };
 }
 
@@ -56,7 +56,7 @@ impl<'a, S: Sources> Late<'a, S> {
     pub fn new(sources: &'a S, file: Option<&'a str>) -> Self
         ensures { option_map_or S.Input.remaining result.input
             (S.texts result.sources.now (option_map (λ name. name.now) result.file))
-            ≡ S.texts sources.now (option_map (λ name. name.now) file) }
+            ≡ S.texts sources.now (option_map (λ name. name.now) file.entry) }
     {
         Late {
             sources,

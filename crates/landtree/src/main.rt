@@ -76,11 +76,7 @@ fn run_options<S: Sources>(
 }
 
 // Judges the history in the file of this name.
-fn audit_file<S: Sources>(
-    rt: &HostRuntime,
-    sources: &S,
-    file: &str,
-) -> Result<Verdict, Failure>
+fn audit_file<S: Sources>(rt: &HostRuntime, sources: &S, file: &str) -> Result<Verdict, Failure>
     ensures verdict { IfOk result (λ verdict. IfSome (S.texts sources.now (named file.now))
         (λ bytes. Judges (pieces bytes) verdict)) }
     ensures failure { IfErr result IsOfDevices }

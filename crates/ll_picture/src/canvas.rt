@@ -102,8 +102,7 @@ impl Canvas {
     pub fn open(alloc: Global, width: f64, height: f64) -> Result<Canvas, AllocError>
         ensures { IfOk result (λ canvas. Begins (string_bytes canvas.text)) }
     {
-        let size = format!(
-            in alloc;
+        let size = format!(in alloc;
             "width='{width:.0}' height='{height:.0}' viewBox='0 0 {width:.0} {height:.0}'>\n"
         )?;
         let mut text = String::from_str(alloc, "<svg xmlns='http://www.w3.org/2000/svg' ")?;
@@ -158,8 +157,7 @@ impl Canvas {
     pub fn line(&mut self, class: &str, from: Point, to: Point) -> Result<(), AllocError>
         ensures { OnOk result (IsFrontOf (string_bytes self.old.text) (string_bytes self.new.text)) }
     {
-        let path = format!(
-            in *self.text.allocator();
+        let path = format!(in *self.text.allocator();
             "<path class='{class}' d='M{from} L{to}'/>\n"
         )?;
         self.add(path.as_str())
@@ -210,8 +208,7 @@ impl Canvas {
             (string_bytes self.old.text ++ (codes "<text class='" ++ class.now ++ codes "' "))
             (string_bytes self.new.text)) }
     {
-        let rest = format!(
-            in *self.text.allocator();
+        let rest = format!(in *self.text.allocator();
             "transform='translate({from}) rotate(-55)' y='{below:.1}'>{words}</text>\n"
         )?;
         self.text.push_str("<text class='")?;

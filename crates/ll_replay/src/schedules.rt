@@ -42,11 +42,7 @@ pub fn setup_by(options: &ScheduleOptions) -> WorldSetup
 
 /// Does what the lines of a schedule ask for, as `perform_schedule` does, over two devices that count their failures:
 /// each fault is told as what it is, of the device that failed in this call.
-pub fn perform_over<E: Ends>(
-    alloc: Global,
-    setup: WorldSetup,
-    ends: &mut E,
-) -> Result<(), Failure>
+pub fn perform_over<E: Ends>(alloc: Global, setup: WorldSetup, ends: &mut E) -> Result<(), Failure>
     requires whole { IsWhole (E.devices ends.old) }
     requires answered { (E.devices ends.old).owed ≡ 0 }
     requires reads { (E.devices ends.old).reads ≤ 2 ^ 62 }

@@ -73,8 +73,8 @@ abbrev pub IsSaved : Option (List ℕ) → Setup → List Entry → (old new : O
 IsSaved None setup entries old new = new ≡ old
 IsSaved (Some name) setup entries old new = Appends old new (saved_text (header_of setup) entries)
 
--- A run of the setup that is wanted, where the policy's file has this text: what was read of the script and written, and
--- what is saved, are of one history, which is legal in the setup's tree
+-- A run of the setup that is wanted, where the policy's file has this text: what was read of the script and written,
+-- and what is saved, are of one history, which is legal in the setup's tree
 abbrev pub IsDone : RunOrder → List ℕ → (script script' out out' file file' : Option (List ℕ)) → Type 0
 IsDone order text script script' out out' file file' =
     (setup : Setup) × (entries : List Entry) × IsSetup order text setup
@@ -83,8 +83,8 @@ IsDone order text script script' out out' file file' =
     × Writes out out' (λ written. Runs setup input left written entries))
     × IsSaved order.save setup entries file file'
 
--- Why nothing is run to its end and saved: a policy is named, and there is no setup by it, or a fault ends the run of the
--- setup there is, or a history that is to be saved can't be
+-- Why nothing is run to its end and saved: a policy is named, and there is no setup by it, or a fault ends the run of
+-- the setup there is, or a history that is to be saved can't be
 abbrev pub MayFail : RunOrder → List ℕ → Failure → Type 0
 MayFail order text failure =
     ((is_some order.policy ≡ true) × Lacks order text failure)

@@ -81,8 +81,8 @@ pub fn save_history<W: Write>(
     }
 }
 
-/// Runs a script as the options ask for it, by the policy in this file where they name one, and saves the history in the
-/// other file, under the header of the tree that it is of, where they name that.
+/// Runs a script as the options ask for it, by the policy in this file where they name one, and saves the history in
+/// the other file, under the header of the tree that it is of, where they name that.
 pub fn run<P: Read, R: Read, W: Write, F: Write>(
     alloc: Global,
     options: &RunOptions,
