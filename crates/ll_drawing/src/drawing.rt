@@ -1,9 +1,11 @@
 //! From a schedule's text to its picture.
 
-ghost use Rattle.std.specs.Prelude.{◌≤◌, IfOk, string_bytes};
+ghost use Rattle.std.specs.Prelude.{◌≤◌, IfOk, length, string_bytes};
 ghost use Rattle.ll_rights.specs.declared.limits.TheConstants.{HISTORY_ENTRIES, TREE_NODES};
-ghost use Rattle.ll_picture.specs.Pictures.{IsWhole};
+ghost use Rattle.ll_picture.specs.Pictures.{IsPicture};
+ghost use Rattle.ll_wire.specs.Pieces.{pieces};
 
+use crate::lines::cut;
 use crate::replay::Replay;
 use ll_picture::picture_of;
 use ll_seq::Rules;
@@ -23,12 +25,16 @@ pub fn draw(
     requires most { nodes ≤ TREE_NODES }
     requires entry { 1 ≤ history }
     requires entries { history ≤ HISTORY_ENTRIES }
-    ensures { IfOk result (λ text. IsWhole (string_bytes text)) }
+    ensures { IfOk result (λ text. IsPicture (length (pieces schedule.now)) (string_bytes text)) }
 {
     let mut replay = Replay::new(alloc, World::new(alloc, rules, nodes, history)?);
-    for line in schedule.split_inclusive(|byte| *byte == b'\n') {
-        replay.take_line(line)?;
+    let mut columns = Vec::new(alloc);
+    let mut rest = schedule;
+    while !rest.is_empty() {
+        let (line, more) = cut(rest);
+        columns.push(replay.take_line(line)?)?;
+        rest = more;
     }
-    let scene = replay.into_scene()?;
+    let scene = replay.into_scene(columns)?;
     picture_of(alloc, &scene)
 }

@@ -3,6 +3,7 @@
 
 mod course;
 mod drawing;
+mod lines;
 mod replay;
 mod seat;
 mod told;

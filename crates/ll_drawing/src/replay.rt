@@ -1,5 +1,7 @@
 //! A schedule, made once more for its picture.
 
+ghost use Rattle.std.specs.Prelude.{◌≡◌, IfOk};
+
 use crate::course::Course;
 use crate::seat::Seat;
 use crate::told::{answer_in, outcome_words, refusal_words};
@@ -14,12 +16,13 @@ use std::alloc::{AllocError, Global};
 /// The most bytes of a line that are kept to be shown.
 const MOST_KEPT: usize = 256;
 
-/// The tree, and what its picture shows up to now.
+/// The tree, and what happened to each client up to now.
 #[derive(Drop)]
 pub struct Replay {
     alloc: Global,
     world: World,
-    columns: Vec<Column>,
+    // The column of the line that is made, from 0.
+    column: usize,
     seats: Vec<Seat>,
 }
 
@@ -60,7 +63,7 @@ impl Replay {
         Replay {
             alloc,
             world,
-            columns: Vec::new(alloc),
+            column: 0,
             seats: Vec::new(alloc),
         }
     }
@@ -68,14 +71,14 @@ impl Replay {
     // The client's walk begins.
     fn begin(&mut self, client: u64, course: Course) -> Result<(), AllocError> {
         match self.seats.get_mut(row_of(client)) {
-            Some(seat) => seat.begin(self.columns.len(), course),
+            Some(seat) => seat.begin(self.column, course),
             None => Ok(()),
         }
     }
 
     // What came of a step, or of all steps of a call, but for one that begins a walk.
     fn tell(&mut self, client: u64, from: Station, outcome: Report) -> Result<(), AllocError> {
-        let column = self.columns.len();
+        let column = self.column;
         let answer = answer_in(self.alloc, &self.world, outcome)?;
         match (self.seats.get_mut(row_of(client)), answer) {
             (Some(seat), Some(answer)) => seat.answer(column, from, answer),
@@ -111,7 +114,7 @@ impl Replay {
     fn leave(&mut self, client: u64, at: Station, course: Course) -> Result<(), AllocError> {
         self.begin(client, course)?;
         match self.seats.get_mut(row_of(client)) {
-            Some(seat) => seat.leave(self.alloc, self.columns.len(), at),
+            Some(seat) => seat.leave(self.alloc, self.column, at),
             None => Ok(()),
         }
     }
@@ -132,7 +135,7 @@ impl Replay {
 
     // Looks at each walk, whether the line's step overtook it.
     fn see_walks(&mut self, mover: usize) -> Result<(), AllocError> {
-        let column = self.columns.len();
+        let column = self.column;
         let mut client = 0u64;
         for seat in self.seats.iter_mut() {
             client = client.saturating_add(1);
@@ -145,46 +148,49 @@ impl Replay {
     fn seat_all(&mut self) -> Result<(), AllocError> {
         for _ in self.seats.len() as u64..self.world.clients() {
             let mut seat = Seat::new(self.alloc);
-            seat.come(self.columns.len())?;
+            seat.come(self.column)?;
             self.seats.push(seat)?;
         }
         Ok(())
     }
 
-    fn push_column(
+    // The column of a line, after which the next one comes.
+    fn column_of(
         &mut self,
         line: &[u8],
         outcome: String,
         row: Option<usize>,
-    ) -> Result<(), AllocError> {
+    ) -> Result<Column, AllocError> {
+        self.column = self.column.saturating_add(1);
         let line = shown(self.alloc, line)?;
-        self.columns.push(Column { line, outcome, row })?;
-        Ok(())
+        Ok(Column { line, outcome, row })
     }
 
-    /// Makes what a line of the schedule asks for.
-    pub fn take_line(&mut self, line: &[u8]) -> Result<(), AllocError> {
+    /// Makes what a line of the schedule asks for. The line's column.
+    pub fn take_line(&mut self, line: &[u8]) -> Result<Column, AllocError> {
         let (client, outcome) = match read_schedule_line(self.alloc, line, self.world.clients()) {
             Ok(ScheduleLine::Step(step)) => self.take_step(step)?,
             Ok(ScheduleLine::Do(client, call)) => self.take_call(client, call)?,
             Err(errno) => {
                 let words = refusal_words(self.alloc, errno)?;
-                return self.push_column(line, words, None);
+                return self.column_of(line, words, None);
             }
         };
         self.see_walks(row_of(client))?;
         self.seat_all()?;
         let words = outcome_words(self.alloc, &self.world, outcome)?;
-        self.push_column(line, words, Some(row_of(client)))
+        self.column_of(line, words, Some(row_of(client)))
     }
 
-    /// What the picture shows.
-    pub fn into_scene(self) -> Result<Scene, AllocError> {
+    /// What the picture of these columns shows.
+    pub fn into_scene(self, columns: Vec<Column>) -> Result<Scene, AllocError>
+        ensures { IfOk result (λ scene. scene.columns ≡ columns) }
+    {
         let Replay {
             alloc,
             world,
-            columns,
             seats,
+            ..
         } = self;
         drop(world);
         let mut rows = Vec::with_capacity(alloc, seats.len())?;

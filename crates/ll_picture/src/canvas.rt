@@ -1,7 +1,7 @@
 //! Elements of SVG, written.
 
-ghost use Rattle.std.specs.Prelude.{IfOk, string_bytes};
-ghost use Rattle.ll_picture.specs.Pictures.{IsWhole};
+ghost use Rattle.std.specs.Prelude.{◌≡◌, ◌++◌, IfOk, OnOk, codes, string_bytes};
+ghost use Rattle.ll_picture.specs.Pictures.{Begins, Ends, IsFrontOf};
 
 use std::alloc::{AllocError, Global};
 use std::fmt;
@@ -84,35 +84,51 @@ impl Display for Point {
     }
 }
 
-/// A picture's text as it grows. The class of an element names its style.
+/// The text of a picture, or of a part of one, as it grows. The class of an element names its style.
 #[derive(Drop)]
 pub struct Canvas {
     text: String,
 }
 
 impl Canvas {
-    /// An empty picture of this size.
-    pub fn new(alloc: Global, width: f64, height: f64) -> Result<Canvas, AllocError> {
-        let mut text = String::new(alloc);
-        writeln!(
-            text,
-            "<svg xmlns='http://www.w3.org/2000/svg' width='{width:.0}' height='{height:.0}' viewBox='0 0 {width:.0} {height:.0}'>"
+    /// A part of a picture, without an element.
+    pub fn new(alloc: Global) -> Canvas {
+        Canvas {
+            text: String::new(alloc),
+        }
+    }
+
+    /// The beginning of a picture of this size.
+    pub fn open(alloc: Global, width: f64, height: f64) -> Result<Canvas, AllocError>
+        ensures { IfOk result (λ canvas. Begins (string_bytes canvas.text)) }
+    {
+        let size = format!(in alloc;
+            "width='{width:.0}' height='{height:.0}' viewBox='0 0 {width:.0} {height:.0}'>\n"
         )?;
+        let mut text = String::from_str(alloc, "<svg xmlns='http://www.w3.org/2000/svg' ")?;
+        text.push_str(size.as_str())?;
         Ok(Canvas { text })
     }
 
     /// Elements that are spelled already.
-    pub fn add(&mut self, elements: &str) -> Result<(), AllocError> {
+    pub fn add(&mut self, elements: &str) -> Result<(), AllocError>
+        ensures { OnOk result (IsFrontOf (string_bytes self.old.text) (string_bytes self.new.text)) }
+    {
         self.text.push_str(elements)
     }
 
     /// What comes now, up to the end of the group, has this colour.
-    pub fn begin_group(&mut self, color: &str) -> Result<(), AllocError> {
-        writeln!(self.text, "<g color='{color}'>")
+    pub fn begin_group(&mut self, color: &str) -> Result<(), AllocError>
+        ensures { OnOk result (IsFrontOf (string_bytes self.old.text) (string_bytes self.new.text)) }
+    {
+        let group = format!(in *self.text.allocator(); "<g color='{color}'>\n")?;
+        self.add(group.as_str())
     }
 
-    pub fn end_group(&mut self) -> Result<(), AllocError> {
-        self.text.push_str("</g>\n")
+    pub fn end_group(&mut self) -> Result<(), AllocError>
+        ensures { OnOk result (IsFrontOf (string_bytes self.old.text) (string_bytes self.new.text)) }
+    {
+        self.add("</g>\n")
     }
 
     /// A box with this upper left corner.
@@ -138,8 +154,13 @@ impl Canvas {
         )
     }
 
-    pub fn line(&mut self, class: &str, from: Point, to: Point) -> Result<(), AllocError> {
-        writeln!(self.text, "<path class='{class}' d='M{from} L{to}'/>")
+    pub fn line(&mut self, class: &str, from: Point, to: Point) -> Result<(), AllocError>
+        ensures { OnOk result (IsFrontOf (string_bytes self.old.text) (string_bytes self.new.text)) }
+    {
+        let path = format!(in *self.text.allocator();
+            "<path class='{class}' d='M{from} L{to}'/>\n"
+        )?;
+        self.add(path.as_str())
     }
 
     pub fn diamond(&mut self, class: &str, middle: Point, radius: f64) -> Result<(), AllocError> {
@@ -182,18 +203,37 @@ impl Canvas {
         from: Point,
         below: f64,
         words: Cut<'_>,
-    ) -> Result<(), AllocError> {
-        writeln!(
-            self.text,
-            "<text class='{class}' transform='translate({from}) rotate(-55)' y='{below:.1}'>{words}</text>"
-        )
+    ) -> Result<(), AllocError>
+        ensures { OnOk result (IsFrontOf
+            (string_bytes self.old.text ++ (codes "<text class='" ++ class.now ++ codes "' "))
+            (string_bytes self.new.text)) }
+    {
+        let rest = format!(in *self.text.allocator();
+            "transform='translate({from}) rotate(-55)' y='{below:.1}'>{words}</text>\n"
+        )?;
+        self.text.push_str("<text class='")?;
+        self.text.push_str(class)?;
+        self.text.push_str("' ")?;
+        self.text.push_str(rest.as_str())?;
+        Ok(())
     }
 
-    /// The picture's whole text.
-    pub fn finish(mut self) -> Result<String, AllocError>
-        ensures { IfOk result (λ text. IsWhole (string_bytes text)) }
+    /// The picture's end.
+    pub fn close(&mut self) -> Result<(), AllocError>
+        ensures front { OnOk result (IsFrontOf (string_bytes self.old.text) (string_bytes self.new.text)) }
+        ensures ends { OnOk result (Ends (string_bytes self.new.text)) }
     {
-        self.text.push_str("</svg>\n")?;
-        Ok(self.text)
+        self.text.push_str("</svg>\n")
+    }
+
+    /// The text, as it is.
+    pub fn as_str(&self) -> &str {
+        self.text.as_str()
+    }
+
+    pub fn into_text(self) -> String
+        ensures { string_bytes result ≡ string_bytes self.text }
+    {
+        self.text
     }
 }

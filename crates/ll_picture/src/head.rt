@@ -1,5 +1,8 @@
 //! The head of a picture: the lines of the schedule, and what came of them.
 
+ghost use Rattle.std.specs.Prelude.{◌++◌, ℕ, List, OnOk, length, string_bytes};
+ghost use Rattle.ll_picture.specs.Pictures.{HasMarks, IsFrontOf, mark};
+
 use crate::canvas::{Canvas, Cut, Point};
 use crate::scene::{Column, Scene};
 use crate::sheet::{MOST_SHOWN, Sheet};
@@ -23,7 +26,10 @@ fn write_column(
     sheet: &Sheet,
     index: usize,
     column: &Column,
-) -> Result<(), AllocError> {
+) -> Result<(), AllocError>
+    ensures { OnOk result ((mid : List ℕ) × IsFrontOf (string_bytes canvas.old.text) mid
+        × IsFrontOf (mid ++ mark) (string_bytes canvas.new.text)) }
+{
     let outcome = column.outcome.as_str();
     let from = Point::new(sheet.column(index), sheet.top - 6.0);
     canvas.line(
@@ -39,13 +45,19 @@ fn write_column(
         Cut::new(column.line.as_str(), MOST_SHOWN),
     )?;
     canvas.end_group()?;
-    canvas.write_rising(class_of(outcome), from, 13.0, Cut::new(outcome, MOST_SHOWN))
+    canvas.write_rising(class_of(outcome), from, 13.0, Cut::new(outcome, MOST_SHOWN))?;
+    Ok(())
 }
 
 /// Each line with its outcome, above its column.
-pub fn write_head(canvas: &mut Canvas, sheet: &Sheet, scene: &Scene) -> Result<(), AllocError> {
-    for (index, column) in scene.columns.iter().enumerate() {
+pub fn write_head(canvas: &mut Canvas, sheet: &Sheet, scene: &Scene) -> Result<(), AllocError>
+    ensures front { OnOk result (IsFrontOf (string_bytes canvas.old.text) (string_bytes canvas.new.text)) }
+    ensures marks { OnOk result (HasMarks (length scene.now.columns.items) (string_bytes canvas.new.text)) }
+{
+    let mut index: usize = 0;
+    for column in scene.columns.as_slice() {
         write_column(canvas, sheet, index, column)?;
+        index = index.saturating_add(1);
     }
     Ok(())
 }

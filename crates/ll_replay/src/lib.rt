@@ -3,4 +3,4 @@
 
 mod schedules;
 
-pub use schedules::{draw_schedule, perform_schedule, setup_by};
+pub use schedules::{draw_over, draw_schedule, perform_over, perform_schedule, setup_by};

@@ -1,25 +1,30 @@
 //! Schedules and their pictures, as the program makes them.
 
-ghost use Rattle.std.specs.Prelude.{◌≡◌, ℕ, List, [], Err, OnOk, OnErr, IfErr, IfSome, Some};
+ghost use Rattle.std.specs.Prelude.{◌≡◌, ◌≤◌, ◌^◌, ℕ, List, [], Err, length, OnOk, OnErr, IfErr, IfSome, Some, false};
+ghost use Rattle.std.specs.Prelude.{true};
 ghost use Rattle.std.specs.Io.KnownBytes.{Appends};
+ghost use Rattle.ll_ends.specs.Devices.{IsWhole};
+ghost use Rattle.ll_lines.specs.Reached.{Blames};
 ghost use Rattle.ll_lines.specs.Transcript.{Writes};
+ghost use Rattle.ll_lines.specs.declared.fault.SessionFault.{SessionFault};
 ghost use Rattle.ll_options.specs.Options.{scheduled_in};
-ghost use Rattle.ll_picture.specs.Pictures.{IsWhole};
+ghost use Rattle.ll_picture.specs.Pictures.{IsPicture};
 ghost use Rattle.ll_replay.specs.Schedules.{IsWorldSetup};
 ghost use Rattle.ll_runs.specs.declared.failure.Failure.{Failure};
-ghost use Rattle.ll_runs.specs.Failure.{IsOfDevices, IsOfSaving};
+ghost use Rattle.ll_runs.specs.Failure.{failure_in_session, IsOfDevices, IsOfSaving};
 ghost use Rattle.ll_schedule.specs.Told.{IsBegun, IsTold};
+ghost use Rattle.ll_wire.specs.Pieces.{pieces};
 ghost use Rattle.ll_wire.specs.Writing.{AppendsFront};
 
 use ll_drawing::draw;
+use ll_ends::{Ends, Pair, write_out};
 use ll_options::ScheduleOptions;
 use ll_rights::Abi;
 use ll_runs::Failure;
 use ll_schedule::{WorldSetup, run_schedule};
 use ll_seq::Rules;
-use ll_wire::write_whole;
 use std::alloc::Global;
-use std::io::{Read, Write};
+use std::io::{Read, Write, empty};
 
 /// What the options of a schedule ask for.
 pub fn setup_by(options: &ScheduleOptions) -> WorldSetup
@@ -32,6 +37,28 @@ pub fn setup_by(options: &ScheduleOptions) -> WorldSetup
         },
         nodes: options.nodes,
         history: options.history,
+    }
+}
+
+/// Does what the lines of a schedule ask for, as `perform_schedule` does, over two devices that count their failures:
+/// each fault is told as what it is, of the device that failed in this call.
+pub fn perform_over<E: Ends>(alloc: Global, setup: WorldSetup, ends: &mut E) -> Result<(), Failure>
+    requires whole { IsWhole (E.devices ends.old) }
+    requires answered { (E.devices ends.old).owed ≡ 0 }
+    requires reads { (E.devices ends.old).reads ≤ 2 ^ 62 }
+    ensures transcript { OnOk result (IfSome (E.devices ends.old).remaining (λ input.
+        ((E.devices ends.new).remaining ≡ Some [])
+        × Writes (E.devices ends.old).contents (E.devices ends.new).contents (IsTold setup input))) }
+    ensures beginning { OnErr result (IfSome (E.devices ends.old).remaining (λ input.
+        Writes (E.devices ends.old).contents (E.devices ends.new).contents (IsBegun setup input))) }
+    ensures fault { IfErr result (λ failure. (fault : SessionFault)
+        × Blames fault (E.devices ends.old) (E.devices ends.new) × (failure ≡ failure_in_session fault)) }
+    ensures failure { IfErr result IsOfDevices }
+    ensures same { E.names ends.new ≡ E.names ends.old }
+{
+    match run_schedule(alloc, setup, ends) {
+        Ok(()) => Ok(()),
+        Err(fault) => Err(Failure::of_session(fault)),
     }
 }
 
@@ -48,9 +75,41 @@ pub fn perform_schedule<R: Read, W: Write>(
         Writes (W.contents out.old) (W.contents out.new) (IsBegun setup input))) }
     ensures failure { IfErr result IsOfDevices }
 {
-    match run_schedule(alloc, setup, schedule, out) {
+    let mut ends = Pair {
+        reader: schedule,
+        writer: out,
+        reads: 0,
+        owed: 0,
+        is_answering: true,
+        is_input_broken: false,
+        is_output_broken: false,
+    };
+    perform_over(alloc, setup, &mut ends)
+}
+
+/// Draws a schedule, as `draw_schedule` does, to a device that counts its failures. A failed write isn't tried again.
+pub fn draw_over<E: Ends>(
+    alloc: Global,
+    setup: WorldSetup,
+    schedule: &[u8],
+    ends: &mut E,
+) -> Result<(), Failure>
+    requires { (E.devices ends.old).is_output_broken ≡ false }
+    ensures drawn { OnOk result ((text : List ℕ) × IsPicture (length (pieces schedule.now)) text
+        × Appends (E.devices ends.old).contents (E.devices ends.new).contents text) }
+    ensures file { result ≡ Err Failure.File → (text : List ℕ) × IsPicture (length (pieces schedule.now)) text
+        × AppendsFront (E.devices ends.old).contents (E.devices ends.new).contents text }
+    ensures broken { result ≡ Err Failure.File → (E.devices ends.new).is_output_broken ≡ true }
+    ensures memory { result ≡ Err Failure.NoMemory → E.devices ends.new ≡ E.devices ends.old }
+    ensures failure { IfErr result IsOfSaving }
+    ensures same { E.names ends.new ≡ E.names ends.old }
+{
+    let Ok(picture) = draw(alloc, setup.rules, setup.nodes, setup.history, schedule) else {
+        return Err(Failure::NoMemory);
+    };
+    match write_out(ends, picture.as_str().as_bytes()) {
         Ok(()) => Ok(()),
-        Err(fault) => Err(Failure::of_session(fault)),
+        Err(_) => Err(Failure::File),
     }
 }
 
@@ -62,18 +121,22 @@ pub fn draw_schedule<W: Write>(
     schedule: &[u8],
     file: &mut W,
 ) -> Result<(), Failure>
-    ensures drawn { OnOk result ((text : List ℕ) × IsWhole text
+    ensures drawn { OnOk result ((text : List ℕ) × IsPicture (length (pieces schedule.now)) text
         × Appends (W.contents file.old) (W.contents file.new) text) }
-    ensures file { result ≡ Err Failure.File → (text : List ℕ) × IsWhole text
+    ensures file { result ≡ Err Failure.File → (text : List ℕ) × IsPicture (length (pieces schedule.now)) text
         × AppendsFront (W.contents file.old) (W.contents file.new) text }
     ensures memory { result ≡ Err Failure.NoMemory → W.contents file.new ≡ W.contents file.old }
     ensures failure { IfErr result IsOfSaving }
 {
-    let Ok(picture) = draw(alloc, setup.rules, setup.nodes, setup.history, schedule) else {
-        return Err(Failure::NoMemory);
+    let mut nothing = empty();
+    let mut ends = Pair {
+        reader: &mut nothing,
+        writer: file,
+        reads: 0,
+        owed: 0,
+        is_answering: false,
+        is_input_broken: false,
+        is_output_broken: false,
     };
-    match write_whole(file, picture.as_str()) {
-        Ok(()) => Ok(()),
-        Err(_) => Err(Failure::File),
-    }
+    draw_over(alloc, setup, schedule, &mut ends)
 }

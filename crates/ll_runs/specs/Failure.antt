@@ -1,5 +1,5 @@
 -- How the program ends where it fails. own
-use Rattle.std.specs.Prelude.{⊤, ℕ, List, Option, Some, None, Result, Ok, Err, codes}
+use Rattle.std.specs.Prelude.{⊤, ℕ, List, Option, Some, None, Result, Ok, Err, codes, IfSome}
 use Rattle.clap.specs.declared.error.kind.ErrorKind.{ErrorKind}
 use Rattle.clap.specs.declared.error.kind.ErrorKind.TheVariants.{DisplayHelp, DisplayVersion}
 use Rattle.clap.specs.declared.error.kind.ErrorKind.TheVariants as kind
@@ -14,6 +14,8 @@ use Rattle.ll_saved.specs.declared.auditing.FileAuditFault.TheVariants as audit
 use Rattle.ll_saved.specs.declared.saving.SaveFault.{SaveFault}
 use Rattle.ll_saved.specs.declared.saving.SaveFault.TheVariants as saving
 use Rattle.ll_saved.specs.declared.verdict.Verdict.TheVariants.{Legal, Illegal, BadLine}
+use Rattle.ll_saved.specs.Saved.{Judges}
+use Rattle.ll_wire.specs.Pieces.{pieces}
 use Rattle.ll_runs.specs.declared.failure.Failure.{Failure}
 use Rattle.ll_runs.specs.declared.failure.Failure.TheVariants.{CommandLine, Policy, Opening, File, Output, NoMemory}
 use Rattle.ll_runs.specs.declared.conclusion.Conclusion.{Conclusion}
@@ -102,11 +104,12 @@ IsOfDevices Output = ⊤
 IsOfDevices NoMemory = ⊤
 IsOfDevices failure = ⊥
 
-abbrev pub EndsAudit : Result Conclusion Failure → Type 0
-EndsAudit (Ok Done) = ⊥
-EndsAudit (Ok (Judged verdict)) = ⊤
-EndsAudit (Ok (Checked end)) = ⊥
-EndsAudit (Err failure) = IsOfDevices failure
+-- an audit ends with the answer for the bytes of its file, where these are known
+abbrev pub EndsAudit : Option (List ℕ) → Result Conclusion Failure → Type 0
+EndsAudit text (Ok Done) = ⊥
+EndsAudit text (Ok (Judged verdict)) = IfSome text (λ bytes. Judges (pieces bytes) verdict)
+EndsAudit text (Ok (Checked end)) = ⊥
+EndsAudit text (Err failure) = IsOfDevices failure
 
 abbrev pub EndsSchedule : Result Conclusion Failure → Type 0
 EndsSchedule (Ok Done) = ⊤

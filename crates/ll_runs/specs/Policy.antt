@@ -1,10 +1,14 @@
 -- What the words and the policy's file set up. own
 use Rattle.std.specs.Prelude.{bytes_eq, ◌≡◌, ◌⊎◌, ⊤, ℕ, true, List, [], Option, Some, None, option_map, slice_get}
-use Rattle.std.specs.Prelude.{unwrap_or, is_some}
+use Rattle.std.specs.Prelude.{unwrap_or, is_some, IfSome}
+use Rattle.std.specs.Io.KnownBytes.{Appends}
 use Rattle.std.specs.Map.{lookup}
 use Rattle.std.specs.Str.{IsUtf8}
 use Rattle.toml.specs.Parse.{parse_document}
 use Rattle.ll_seq.specs.declared.call.Call.{Call}
+use Rattle.ll_seq.specs.declared.reply.Entry.{Entry}
+use Rattle.ll_seq.specs.History.{IsLegal}
+use Rattle.ll_seq.specs.State.{start}
 use Rattle.ll_policy.specs.declared.fault.PolicyFault.TheVariants.{NotToml}
 use Rattle.ll_policy.specs.Faults.{document_faults}
 use Rattle.ll_policy.specs.Plan.{Plan, IsPlanOf}
@@ -15,7 +19,9 @@ use Rattle.ll_session.specs.declared.setup.Setup.{Setup}
 use Rattle.ll_runs.specs.Failure.{failure_of, IsOfSaving}
 use Rattle.ll_wire.specs.declared.header.Header.{Header}
 use Rattle.ll_wire.specs.declared.header.Version.TheVariants.{Three}
-use Rattle.ll_session.specs.Run.{MayEnd}
+use Rattle.ll_session.specs.Run.{MayEnd, Runs}
+use Rattle.ll_lines.specs.Transcript.{Writes}
+use Rattle.ll_saved.specs.Saved.{saved_text}
 use Rattle.ll_options.specs.Options.{RunOrder}
 
 -- the calls of the profile that is wanted, none where none is. There is no answer where the plan hasn't that profile
@@ -62,11 +68,26 @@ Lacks order text Output = ⊥
 abbrev pub header_of : Setup → Header
 header_of setup = record { version = Three setup.rules.abi; nodes = setup.nodes }
 
--- Why nothing is run to its end and saved: there is no setup, or a fault ends the run of the one there is, or a history
--- that is to be saved can't be
+-- what comes into a file: a run's history under the header of that run, where a file is named, and else nothing
+abbrev pub IsSaved : Option (List ℕ) → Setup → List Entry → (old new : Option (List ℕ)) → Type 0
+IsSaved None setup entries old new = new ≡ old
+IsSaved (Some name) setup entries old new = Appends old new (saved_text (header_of setup) entries)
+
+-- A run of the setup that is wanted, where the policy's file has this text: what was read of the script and written,
+-- and what is saved, are of one history, which is legal in the setup's tree
+abbrev pub IsDone : RunOrder → List ℕ → (script script' out out' file file' : Option (List ℕ)) → Type 0
+IsDone order text script script' out out' file file' =
+    (setup : Setup) × (entries : List Entry) × IsSetup order text setup
+    × IsLegal (start setup.rules setup.nodes) entries
+    × IfSome script (λ input. (left : List ℕ) × (script' ≡ Some left)
+    × Writes out out' (λ written. Runs setup input left written entries))
+    × IsSaved order.save setup entries file file'
+
+-- Why nothing is run to its end and saved: a policy is named, and there is no setup by it, or a fault ends the run of
+-- the setup there is, or a history that is to be saved can't be
 abbrev pub MayFail : RunOrder → List ℕ → Failure → Type 0
 MayFail order text failure =
-    Lacks order text failure
+    ((is_some order.policy ≡ true) × Lacks order text failure)
     ⊎ ((setup : Setup) × IsSetup order text setup × (fault : RunFault)
     × MayEnd setup fault × (failure ≡ failure_of fault))
     ⊎ ((is_some order.save ≡ true) × IsOfSaving failure)

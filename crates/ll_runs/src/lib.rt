@@ -13,6 +13,6 @@ pub use checks::{Checked, check};
 pub use conclusion::Conclusion;
 pub use failure::Failure;
 pub use policy::setup_of;
-pub use program::{audit, header_of, perform, save_history};
+pub use program::{audit, run};
 pub use shown::Shown;
 pub use text::read_text;

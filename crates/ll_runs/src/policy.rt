@@ -1,6 +1,7 @@
 //! What the program sets up, by its words and by a policy.
 
-ghost use Rattle.std.specs.Prelude.{◌≡◌, ◌⊎◌, ℕ, List, Some, None, IfOk, IfErr, IfSome, IsOk};
+ghost use Rattle.std.specs.Prelude.{◌≡◌, ◌⊎◌, ℕ, List, Some, None, true, is_some, IfOk, IfErr, IfSome, IsOk};
+ghost use Rattle.std.specs.Prelude.{OnErr};
 ghost use Rattle.toml.specs.Parse.{parse_document};
 ghost use Rattle.ll_policy.specs.Plan.{IsPlanOf};
 ghost use Rattle.ll_options.specs.Options.{RunOrder, order_in};
@@ -101,6 +102,7 @@ pub fn setup_of<R: Read>(
     ensures failure { IfErr result (λ failure. (text : List ℕ) × IfSome (R.remaining file.old) (λ told. text ≡ told)
         × Lacks (order_in options.now) text failure) }
     ensures alone { options.now.policy ≡ None → IsOk result }
+    ensures named { OnErr result (is_some options.now.policy ≡ true) }
 {
     if options.policy.is_none() {
         return Ok(by_level(alloc, options));

@@ -5,15 +5,20 @@ ghost use Rattle.std.specs.Io.KnownBytes.{Appends};
 ghost use Rattle.std.specs.List.{All};
 ghost use Rattle.ll_rights.specs.declared.limits.TheConstants.{TREE_NODES};
 ghost use Rattle.ll_lines.specs.Transcript.{Writes};
+ghost use Rattle.ll_options.specs.Options.{order_in};
 ghost use Rattle.ll_saved.specs.Saved.{Judges, saved_text, verdict_line};
 ghost use Rattle.ll_session.specs.declared.fault.RunFault.{RunFault};
 ghost use Rattle.ll_session.specs.Run.{Runs, Begins, MayEnd};
 ghost use Rattle.ll_wire.specs.Entries.{IsEntry};
 ghost use Rattle.ll_wire.specs.Pieces.{pieces};
 ghost use Rattle.ll_runs.specs.Failure.{failure_of, IsOfDevices, IsOfSaving};
-ghost use Rattle.ll_runs.specs.Policy.{header_of};
+ghost use Rattle.ll_runs.specs.Policy.{header_of, IsDone, MayFail};
+ghost use Rattle.ll_seq.specs.History.{IsLegal};
+ghost use Rattle.ll_seq.specs.State.{start};
 
 use crate::failure::Failure;
+use crate::policy::setup_of;
+use ll_options::RunOptions;
 use ll_saved::{Progress, Verdict, run_audit, save};
 use ll_seq::History;
 use ll_session::{Setup, run_script};
@@ -31,6 +36,7 @@ pub fn perform<R: Read, W: Write>(
     ensures transcript { IfOk result (λ history. IfSome (R.remaining script.old) (λ input. (left : List ℕ)
         × (R.remaining script.new ≡ Some left)
         × Writes (W.contents out.old) (W.contents out.new) (λ text. Runs setup input left text history.entries))) }
+    ensures legal { IfOk result (λ history. IsLegal (start setup.rules setup.nodes) history.entries) }
     ensures entries { IfOk result (λ history. All IsEntry history.entries) }
     ensures beginning { OnErr result (IfSome (R.remaining script.old) (λ input.
         Writes (W.contents out.old) (W.contents out.new) (Begins setup input))) }
@@ -73,6 +79,37 @@ pub fn save_history<W: Write>(
         Ok(()) => Ok(()),
         Err(fault) => Err(Failure::of_saving(fault)),
     }
+}
+
+/// Runs a script as the options ask for it, by the policy in this file where they name one, and saves the history in
+/// the other file, under the header of the tree that it is of, where they name that.
+pub fn run<P: Read, R: Read, W: Write, F: Write>(
+    alloc: Global,
+    options: &RunOptions,
+    policy: &mut P,
+    script: &mut R,
+    out: &mut W,
+    file: &mut F,
+) -> Result<(), Failure>
+    ensures done { OnOk result ((text : List ℕ) × IfSome (P.remaining policy.old) (λ told. text ≡ told)
+        × IsDone (order_in options.now) text (R.remaining script.old) (R.remaining script.new)
+        (W.contents out.old) (W.contents out.new) (F.contents file.old) (F.contents file.new)) }
+    ensures failure { IfErr result (λ failure. (text : List ℕ) × IfSome (P.remaining policy.old) (λ told. text ≡ told)
+        × MayFail (order_in options.now) text failure) }
+{
+    let setup = match setup_of(alloc, options, policy) {
+        Ok(setup) => setup,
+        Err(failure) => return Err(failure),
+    };
+    let header = header_of(&setup);
+    let history = match perform(alloc, setup, script, out) {
+        Ok(history) => history,
+        Err(failure) => return Err(failure),
+    };
+    if options.save.is_none() {
+        return Ok(());
+    }
+    save_history(alloc, header, &history, file)
 }
 
 /// Judges the history in a file, and writes the answer's line.

@@ -1,4 +1,4 @@
-//! Schedules: lines of steps of many clients' calls, made in a tree that they share, from a reader to a writer.
+//! Schedules: lines of steps of many clients' calls, made in a tree that they share, from one device to another.
 #![tactic(auto)]
 
 mod answers;
@@ -7,5 +7,5 @@ mod run;
 mod schedule;
 mod setup;
 
-pub use run::{run_schedule, run_schedule_over};
+pub use run::run_schedule;
 pub use setup::WorldSetup;

@@ -9,14 +9,14 @@ ghost use Rattle.ll_schedule.specs.Told.{IsBegun, IsTold};
 
 use crate::schedule::Schedule;
 use crate::setup::WorldSetup;
-use ll_ends::{Ends, Pair};
+use ll_ends::Ends;
 use ll_lines::{SessionFault, answer_lines};
 use std::alloc::Global;
-use std::io::{Read, Write};
 
-/// Runs a schedule, as `run_schedule` does, over two devices, which count their calls and failures. Before each read,
-/// what came of all lines that were read is written; a device that failed isn't called again.
-pub fn run_schedule_over<E: Ends>(
+/// Reads a schedule to its end, does what each of its lines asks for in a tree of its own, and writes a line of what
+/// came of it; and then how many entries the history has. Before each read, what came of all lines that were read is
+/// written; a device that failed isn't called again.
+pub fn run_schedule<E: Ends>(
     alloc: Global,
     setup: WorldSetup,
     ends: &mut E,
@@ -24,10 +24,12 @@ pub fn run_schedule_over<E: Ends>(
     requires whole { IsWhole (E.devices ends.old) }
     requires answered { (E.devices ends.old).owed ≡ 0 }
     requires reads { (E.devices ends.old).reads ≤ 2 ^ 62 }
+    // Where no fault is answered, all is read, and all is told.
     ensures transcript { OnOk result (IfSome (E.devices ends.old).remaining (λ input.
         ((E.devices ends.new).remaining ≡ Some [])
         × Writes (E.devices ends.old).contents (E.devices ends.new).contents (IsTold setup input))) }
     ensures whole { OnOk result (IsWhole (E.devices ends.new)) }
+    // With a fault, what was written is a beginning of such a text.
     ensures beginning { OnErr result (IfSome (E.devices ends.old).remaining (λ input.
         Writes (E.devices ends.old).contents (E.devices ends.new).contents (IsBegun setup input))) }
     // A device is blamed only where it failed in this call, and neither is where memory is wanted.
@@ -42,34 +44,4 @@ pub fn run_schedule_over<E: Ends>(
     };
     answer_lines(alloc, ends, &mut schedule)?;
     schedule.finish(ends)
-}
-
-/// Reads a schedule to its end, does what each of its lines asks for in a tree of its own, and writes a line of what
-/// came of it; and then how many entries the history has.
-pub fn run_schedule<R: Read, W: Write>(
-    alloc: Global,
-    setup: WorldSetup,
-    reader: &mut R,
-    writer: &mut W,
-) -> Result<(), SessionFault>
-    // Where no fault is answered, all is read, and all is told.
-    ensures transcript { OnOk result (IfSome (R.remaining reader.old) (λ input. (R.remaining reader.new ≡ Some [])
-        × Writes (W.contents writer.old) (W.contents writer.new) (IsTold setup input))) }
-    // With a fault, what was written is a beginning of such a text.
-    ensures beginning { OnErr result (IfSome (R.remaining reader.old) (λ input.
-        Writes (W.contents writer.old) (W.contents writer.new) (IsBegun setup input))) }
-    // Each read gives a byte at least.
-    ensures long { result ≡ Err SessionFault.TooLong
-        → (input : List ℕ) → R.remaining reader.old ≡ Some input → most_reads ≤ length input }
-{
-    let mut ends = Pair {
-        reader,
-        writer,
-        reads: 0,
-        owed: 0,
-        is_answering: true,
-        is_input_broken: false,
-        is_output_broken: false,
-    };
-    run_schedule_over(alloc, setup, &mut ends)
 }

@@ -25,7 +25,7 @@ use Rattle.ll_lines.specs.declared.fault.SessionFault.TheVariants.{Read, Write, 
 use Rattle.ll_talk.specs.Session as at
 use Rattle.ll_session.specs.Session.{Tells}
 use Rattle.ll_session.specs.Opening.{begun, fresh, refused, Opens}
-use Rattle.ll_session.specs.Run.{Begins, BeginsBy, BeginsLines, BeginsRefusal, EndsBy, Runs}
+use Rattle.ll_session.specs.Run.{Begins, BeginsBy, BeginsLines, BeginsRefusal, EndsBy, MayEnd, Runs}
 use Rattle.ll_session.specs.Progress.{Advances, IfBegun, IfRefused, IsOfRefusal, OpensBadly, RunsFrom, StandsAt}
 use Rattle.ll_session.specs.Progress.{StopsFrom}
 use Rattle.ll_wire.proofs.WrittenText.{appends-none}
@@ -194,6 +194,27 @@ pub ends_unopened : (setup : Setup) (fault : RunFault) (d : Devices) → IsWhole
     → EndsBy setup fault d d
 ends_unopened setup Opening d whole is = (is, whole)
 ends_unopened setup (Session of) d whole is = subst (λ (x : SessionFault). Blames x d d) (sym is) whole
+
+-- ---- which fault may end a run
+
+pub may_begun : (setup : Setup) (fault : SessionFault) (first : at.Session) → Opens setup (begun first)
+    → MayEnd setup (Session fault)
+may_begun setup Read first is = (first, is)
+may_begun setup Write first is = inl (first, is)
+may_begun setup NoMemory first is = tt
+may_begun setup TooLong first is = (first, is)
+
+pub may_refused : (setup : Setup) (fault : SessionFault) (old new : Option (List ℕ)) (line : List ℕ) (reply : Reply)
+    (last : at.Session) → Opens setup (refused reply last) → IsOfRefusal fault old new line
+    → MayEnd setup (Session fault)
+may_refused setup Read old new line reply last is wrote = absurd wrote
+may_refused setup Write old new line reply last is wrote = inr (reply, last, is)
+may_refused setup NoMemory old new line reply last is wrote = tt
+may_refused setup TooLong old new line reply last is wrote = absurd wrote
+
+pub may_unopened : (setup : Setup) (fault : RunFault) → OpensBadly setup fault → MayEnd setup fault
+may_unopened setup Opening is = is
+may_unopened setup (Session of) is = subst (λ (x : SessionFault). MayEnd setup (Session x)) (sym is) tt
 
 -- with any fault, what was written is such a beginning
 pub of_err : {T : Type 0} (setup : Setup) (r : Result T RunFault) (remaining old new : Option (List ℕ))

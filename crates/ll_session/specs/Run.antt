@@ -17,10 +17,21 @@ use Rattle.ll_talk.specs.Session.{Session}
 use Rattle.ll_session.specs.Session.{Tells}
 use Rattle.ll_session.specs.Opening.{Opens, begun, refused, stopped}
 
--- the fault may end a run of this setup
+-- the opening may begin a session
+abbrev pub MayBegin : Setup → Type 0
+MayBegin setup = (first : Session) × Opens setup (begun first)
+
+-- one of the calls of the opening may be refused by a line that is written
+abbrev pub MayRefuse : Setup → Type 0
+MayRefuse setup = (reply : Reply) × (last : Session) × Opens setup (refused reply last)
+
+-- The fault may end a run of this setup. Only a session that was begun reads; memory may be wanted at any time
 abbrev pub MayEnd : Setup → RunFault → Type 0
 MayEnd setup run.Opening = Opens setup stopped
-MayEnd setup (run.Session fault) = ⊤
+MayEnd setup (run.Session fault.Read) = MayBegin setup
+MayEnd setup (run.Session fault.Write) = MayBegin setup ⊎ MayRefuse setup
+MayEnd setup (run.Session fault.NoMemory) = ⊤
+MayEnd setup (run.Session fault.TooLong) = MayBegin setup
 
 -- A run over these pieces writes their transcript and leaves none, or writes the refusal and leaves all. It ends there
 abbrev pub RunsOver : Setup → (done left : List (List ℕ)) → List ℕ → Session → Type 0

@@ -62,6 +62,7 @@ pub fn run_over<E: Ends>(alloc: Global, setup: Setup, ends: &mut E) -> Result<Hi
         Writes (E.devices ends.old).contents (E.devices ends.new).contents (BeginsBy setup fault input))) }
     // A device is blamed only where it failed in this call, and neither is where memory is wanted.
     ensures fault { IfErr result (λ fault. EndsBy setup fault (E.devices ends.old) (E.devices ends.new)) }
+    ensures may { IfErr result (λ fault. MayEnd setup fault) }
     // Each read gives a byte at least.
     ensures long { result ≡ Err (RunFault.Session SessionFault.TooLong)
         → (input : List ℕ) → (E.devices ends.old).remaining ≡ Some input → most_reads ≤ length input }

@@ -1,7 +1,7 @@
 use Rattle.std.proofs.lemmas.Result.{on_ok_weaker, on_err_weaker}
 use Rattle.ll_lines.proofs.Advance.{on_err}
 use Rattle.ll_schedule.proofs.Wholes.{all_told, last_stops, line_stops, nothing_told}
-use Rattle.ll_schedule.proofs.run.run_schedule_over.Goals as goal
+use Rattle.ll_schedule.proofs.run.run_schedule.Goals as goal
 
 pub returns-in_default-clause-beginning : goal.returns-in_default-clause-beginning
 returns-in_default-clause-beginning g c = nothing_told c.args.setup (g.E.Ends.devices c.args.ends.now)
