@@ -1,7 +1,7 @@
 //! Calls at random. Each function makes one, and tells whether it has its entry: all have but those that found no
 //! memory or no room in the history.
 
-use crate::paths::path;
+use crate::paths::{Aim, TOP, path, target, two_paths};
 use crate::random::Random;
 use ll_calls::{Refused, Tree};
 use ll_client::{Client, Shape};
@@ -18,9 +18,20 @@ const CONFINES: u64 = 2_000;
 /// Of a hundred calls so many are on one path, on two paths, and on descriptors; the others are for layers.
 const ONE_PATH: u64 = 52;
 
-const TWO_PATHS: u64 = 30;
+const TWO_PATHS: u64 = 15;
 
-const DESCRIPTORS: u64 = 15;
+const DESCRIPTORS: u64 = 31;
+
+/// A client has seldom more descriptors than this, since as many are closed as are opened.
+const MOST_OPEN: u64 = 24;
+
+/// What a layer grants on the root, so that calls go on under it.
+const MUCH: &str =
+    "execute,write_file,read_file,read_dir,remove_dir,remove_file,make_dir,make_reg,make_fifo,\
+    refer,truncate";
+
+/// What it grants on directories here and there.
+const MORE: &str = "make_sym";
 
 fn has_entry<T: Drop>(answer: Result<T, Refused>) -> bool {
     !matches!(
@@ -30,23 +41,22 @@ fn has_entry<T: Drop>(answer: Result<T, Refused>) -> bool {
 }
 
 fn kind(random: &mut Random) -> Kind {
-    match random.below(12) {
-        0..=6 => Kind::Dir,
-        7 => Kind::Fifo,
-        8 => Kind::Sym,
+    match random.below(8) {
+        0 => Kind::Fifo,
+        1 => Kind::Sym,
         _ => Kind::Reg,
     }
 }
 
 fn mode(random: &mut Random) -> Mode {
-    let access = match random.below(3) {
+    let access = match random.below(4) {
         0 => AccessMode::Read,
         1 => AccessMode::Write,
         _ => AccessMode::ReadWrite,
     };
-    let creation = match random.below(4) {
-        0 => Creation::IfMissing,
-        1 => Creation::Exclusive,
+    let creation = match random.below(8) {
+        0..=4 => Creation::IfMissing,
+        5 => Creation::Exclusive,
         _ => Creation::Never,
     };
     Mode {
@@ -56,17 +66,6 @@ fn mode(random: &mut Random) -> Mode {
     }
 }
 
-fn rights(random: &mut Random) -> Access {
-    let text = match random.below(5) {
-        0 => "write_file,truncate",
-        1 => "read_file,read_dir",
-        2 => "remove_file,remove_dir",
-        3 => "make_reg,make_dir",
-        _ => "execute,refer",
-    };
-    Access::parse(text).unwrap_or(Access::FILE)
-}
-
 fn on_one_path<N: Shape>(
     rt: &impl Wait,
     alloc: Global,
@@ -74,17 +73,24 @@ fn on_one_path<N: Shape>(
     me: &mut Client<N>,
     random: &mut Random,
 ) -> bool {
-    let Some(path) = path(alloc, random) else {
+    let turn = random.below(ONE_PATH);
+    let aim = match turn {
+        0..=28 => Aim::File,
+        29..=36 => Aim::Any,
+        _ => Aim::Directory,
+    };
+    let Some(path) = path(alloc, random, aim) else {
         return false;
     };
-    match random.below(ONE_PATH) {
-        0..=15 => has_entry(tree.make(rt, me, kind(random), path)),
-        16..=23 => has_entry(tree.open_file(rt, me, mode(random), path)),
-        24..=26 => has_entry(tree.truncate(rt, me, path, random.below(100))),
-        27..=30 => has_entry(tree.read_dir(rt, me, path)),
+    match turn {
+        0..=15 => has_entry(tree.open_file(rt, me, mode(random), path)),
+        16..=17 => has_entry(tree.make(rt, me, kind(random), path)),
+        18..=21 => has_entry(tree.truncate(rt, me, path, random.below(100))),
+        22..=25 => has_entry(tree.exec(rt, me, path)),
+        26..=30 => has_entry(tree.unlink(rt, me, path)),
         31..=36 => has_entry(tree.stat(rt, me, path)),
-        37..=39 => has_entry(tree.exec(rt, me, path)),
-        40..=47 => has_entry(tree.unlink(rt, me, path)),
+        37..=44 => has_entry(tree.read_dir(rt, me, path)),
+        45..=49 => has_entry(tree.make(rt, me, Kind::Dir, path)),
         _ => has_entry(tree.rmdir(rt, me, path)),
     }
 }
@@ -96,13 +102,13 @@ fn on_two_paths<N: Shape>(
     me: &mut Client<N>,
     random: &mut Random,
 ) -> bool {
-    let (Some(from), Some(into)) = (path(alloc, random), path(alloc, random)) else {
+    let Some((from, into)) = two_paths(alloc, random) else {
         return false;
     };
     match random.below(TWO_PATHS) {
-        0..=9 => has_entry(tree.rename(rt, me, from, into)),
-        10..=14 => has_entry(tree.rename_noreplace(rt, me, from, into)),
-        15..=22 => has_entry(tree.exchange(rt, me, from, into)),
+        0..=4 => has_entry(tree.rename(rt, me, from, into)),
+        5..=6 => has_entry(tree.rename_noreplace(rt, me, from, into)),
+        7..=12 => has_entry(tree.exchange(rt, me, from, into)),
         _ => has_entry(tree.link(rt, me, from, into)),
     }
 }
@@ -123,18 +129,19 @@ fn on_descriptor<N: Shape>(
     me: &mut Client<N>,
     random: &mut Random,
 ) -> bool {
-    let number = random.below(6);
+    let number = random.low(MOST_OPEN);
     match random.below(DESCRIPTORS) {
-        0..=2 => has_entry(tree.read(rt, me, number, random.below(50), random.below(50))),
-        3..=7 => match data(alloc, random) {
+        0..=7 => has_entry(tree.read(rt, me, number, random.below(50), random.below(50))),
+        8..=15 => match data(alloc, random) {
             Some(data) => has_entry(tree.write(rt, me, number, random.below(200), data)),
             None => false,
         },
-        8..=9 => has_entry(tree.ftruncate(rt, me, number, random.below(100))),
+        16..=18 => has_entry(tree.ftruncate(rt, me, number, random.below(100))),
         _ => has_entry(tree.close_file(rt, me, number)),
     }
 }
 
+/// A ruleset handles all rights, and its rules grant much.
 fn for_layers<N: Shape>(
     rt: &impl Wait,
     alloc: Global,
@@ -142,14 +149,33 @@ fn for_layers<N: Shape>(
     me: &mut Client<N>,
     random: &mut Random,
 ) -> bool {
-    let rights = rights(random);
-    if random.below(3) == 0 {
-        return has_entry(tree.ruleset(rt, me, rights));
+    let (number, path, rights) = match random.below(4) {
+        0 => return has_entry(tree.ruleset(rt, me, Access::ALL)),
+        1 => (random.below(2), path(alloc, random, Aim::Directory), MORE),
+        _ => (0, target(alloc, "/"), MUCH),
+    };
+    match (path, Access::parse(rights)) {
+        (Some(path), Some(rights)) => has_entry(tree.allow(rt, me, number, path, rights)),
+        _ => false,
     }
-    match path(alloc, random) {
-        Some(path) => has_entry(tree.allow(rt, me, random.below(4), path, rights)),
-        None => false,
+}
+
+/// Makes the directories that the others lie in. Some may be there.
+pub fn makes_top<N: Shape>(
+    rt: &impl Wait,
+    alloc: Global,
+    tree: &Tree<N, NoGate>,
+    me: &mut Client<N>,
+) -> bool {
+    for text in TOP {
+        let Some(path) = target(alloc, text) else {
+            return false;
+        };
+        if !has_entry(tree.make(rt, me, Kind::Dir, path)) {
+            return false;
+        }
     }
+    true
 }
 
 /// Makes a call of the client's, any but a spawn.
@@ -161,7 +187,7 @@ pub fn makes_any<N: Shape>(
     random: &mut Random,
 ) -> bool {
     if random.below(CONFINES) == 0 {
-        return has_entry(tree.confine(rt, me, random.below(4)));
+        return has_entry(tree.confine(rt, me, 0));
     }
     let turn = random.below(100);
     if turn < ONE_PATH {

@@ -3,8 +3,9 @@
 //!     ll_storm [THREADS [CALLS [SEED]]]
 //!     ll_storm pace THREADS DEPTH LAYERS CALLS (own|one)
 //!
-//! Each of up to 32 threads makes so many calls, 900,000 in all at most. Where no call is answered for 40 seconds the
-//! program ends with status 70. `pace` times calls of a fixed mix, and prints how many threads make in a second.
+//! Each of up to 32 threads makes so many calls, 900,000 in all at most. With words the program also prints how many
+//! calls of each kind were done. Where no call is answered for 40 seconds it ends with status 70. `pace` times calls of
+//! a fixed mix, and prints how many threads make in a second.
 #![tactic(auto)]
 
 mod calls;
@@ -13,6 +14,7 @@ mod pace;
 mod paths;
 mod random;
 mod storm;
+mod tally;
 mod watch;
 
 use orders::{Asked, Orders, Pace, asked_by};

@@ -1,11 +1,13 @@
 //! What the words ask for.
 
-/// How many threads a storm has, how many calls each makes, and what its numbers are drawn from.
+/// How many threads a storm has, how many calls each makes, what its numbers are drawn from, and whether it tells how
+/// many calls of each kind were done.
 #[derive(Clone, Copy, Debug, PartialEq, Eq)]
 pub struct Orders {
     pub threads: usize,
     pub calls: u64,
     pub seed: u64,
+    pub tells: bool,
 }
 
 /// How many threads are timed, at which depth their files stand, under how many layers, how many calls each makes, and
@@ -54,6 +56,7 @@ fn storm_by(words: &[String]) -> Option<Asked> {
         threads: threads_in(words, 0)?,
         calls: number_in(words, 1, 2_000)?,
         seed: number_in(words, 2, 1)?,
+        tells: !words.is_empty(),
     };
     if words.len() <= 3 && fit(orders.threads, orders.calls) {
         Some(Asked::Storm(orders))

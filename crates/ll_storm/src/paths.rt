@@ -1,54 +1,42 @@
 //! The paths that calls collide on.
 
+ghost use Rattle.std.specs.Prelude.{◌<◌};
+
 use crate::random::Random;
 use ll_path::{Target, Word};
 use std::alloc::Global;
 
-const COUNT: usize = 40;
+/// The directories that each thread makes first.
+pub const TOP: [&str; 4] = ["/a", "/b", "/c", "/d"];
 
-/// Forty paths, at most six names deep, each beneath others.
-const PATHS: [&str; COUNT] = [
+/// The places in each of them, so that there are forty paths, at most six names deep: five meant for directories, then
+/// five meant for files.
+const PLACES: [&str; 10] = [
+    "",
     "/a",
-    "/b",
-    "/c",
-    "/d",
     "/a/a",
-    "/a/b",
-    "/b/a",
-    "/b/b",
-    "/c/a",
-    "/d/a",
     "/a/a/a",
-    "/a/a/b",
-    "/a/b/a",
-    "/b/a/a",
-    "/b/a/b",
-    "/b/b/a",
-    "/c/a/a",
     "/a/a/a/a",
-    "/a/a/a/b",
-    "/a/a/b/a",
-    "/a/b/a/a",
-    "/b/a/a/a",
-    "/b/a/b/a",
-    "/b/b/a/a",
-    "/c/a/a/a",
-    "/a/a/a/a/a",
-    "/a/a/a/b/a",
-    "/a/a/b/a/a",
-    "/a/b/a/a/a",
-    "/b/a/a/a/a",
-    "/b/a/b/a/a",
-    "/b/b/a/a/a",
-    "/c/a/a/a/a",
-    "/a/a/a/a/a/a",
-    "/a/a/a/b/a/a",
-    "/a/a/b/a/a/a",
-    "/a/b/a/a/a/a",
-    "/b/a/a/a/a/a",
-    "/b/a/b/a/a/a",
-    "/b/b/a/a/a/a",
+    "/f",
+    "/a/f",
+    "/a/a/f",
+    "/a/a/a/f",
+    "/a/a/a/a/f",
 ];
+
+/// One path of this many is drawn from all, whatever it is meant for.
+const STRAYS: u64 = 48;
+
+/// So seldom both paths of a call are: a directory that is moved may come to lie where no path leads on.
+const STRAY_PAIRS: u64 = 400;
+
+/// What a call wants to find under a path, or to make there.
+#[derive(Clone, Copy, PartialEq, Eq)]
+pub enum Aim {
+    Directory,
+    File,
+    Any,
+}
 
 /// What the text spells.
 pub fn target(alloc: Global, text: &str) -> Option<Target> {
@@ -57,8 +45,51 @@ pub fn target(alloc: Global, text: &str) -> Option<Target> {
     Some(Target::read(word))
 }
 
-/// One of the forty.
-pub fn path(alloc: Global, random: &mut Random) -> Option<Target> {
-    let number = random.below(COUNT as u64) as usize;
-    target(alloc, PATHS[number])
+/// One of the places, more often one that isn't deep.
+fn place(random: &mut Random, aim: Aim) -> u64
+    ensures { result < 10 }
+{
+    match aim {
+        Aim::Directory => random.low(5),
+        Aim::File => 5 + random.low(5),
+        Aim::Any => random.below(10),
+    }
+}
+
+fn path_at(alloc: Global, top: u64, place: u64) -> Option<Target>
+    requires top { top < 4 }
+    requires place { place < 10 }
+{
+    let mut text = String::from_str(alloc, TOP[top as usize]).ok()?;
+    text.push_str(PLACES[place as usize]).ok()?;
+    target(alloc, text.as_str())
+}
+
+/// One of the forty, mostly one that is meant for this.
+pub fn path(alloc: Global, random: &mut Random, aim: Aim) -> Option<Target> {
+    let aim = if random.below(STRAYS) == 0 {
+        Aim::Any
+    } else {
+        aim
+    };
+    let place = place(random, aim);
+    path_at(alloc, random.below(4), place)
+}
+
+/// Two of the forty: mostly both meant for files, or one place of a directory in both.
+pub fn two_paths(alloc: Global, random: &mut Random) -> Option<(Target, Target)> {
+    let from = match random.below(STRAY_PAIRS) {
+        0 => Aim::Any,
+        1..=100 => Aim::Directory,
+        _ => Aim::File,
+    };
+    let first = place(random, from);
+    let second = match from {
+        Aim::Directory => first,
+        _ => place(random, from),
+    };
+    Some((
+        path_at(alloc, random.below(4), first)?,
+        path_at(alloc, random.below(4), second)?,
+    ))
 }

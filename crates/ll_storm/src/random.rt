@@ -28,4 +28,12 @@ impl Random {
         self.state = state;
         (state >> 11) % limit
     }
+
+    /// A number below the limit, the smaller one of two: so low ones come more often.
+    pub fn low(&mut self, limit: u64) -> u64
+        requires { 0 < limit }
+        ensures { result < limit }
+    {
+        self.below(limit).min(self.below(limit))
+    }
 }

@@ -3,9 +3,11 @@
 ghost use Rattle.std.specs.Prelude.{◌≡◌, ◌+◌, true};
 ghost use Rattle.ll_rights.specs.declared.limits.TheConstants.{TREE_CLIENTS};
 
-use crate::calls::makes_any;
+use crate::calls::{makes_any, makes_top};
 use crate::orders::Orders;
+use crate::paths::TOP;
 use crate::random::Random;
+use crate::tally::tell;
 use crate::watch::Watch;
 use ll_audit::audit;
 use ll_calls::Tree;
@@ -25,7 +27,7 @@ const RULES: Rules = Rules {
     copies: true,
 };
 
-const NODES: usize = 64;
+const NODES: usize = 1_024;
 
 /// One call of this many is a spawn, as long as the thread has one client, and clients meet as often.
 const SPAWNS: u64 = 500;
@@ -101,7 +103,10 @@ fn thread_clients<N: Shape>(
 ) -> Option<Vec<Client<N>>> {
     let mut random = Random::new(orders.seed, thread as u64);
     let mut clients = Vec::new(alloc);
-    let client = tree.connect(rt).ok()?;
+    let mut client = tree.connect(rt).ok()?;
+    if !makes_top(rt, alloc, tree, &mut client) {
+        return None;
+    }
     clients.push(client).ok()?;
     for _ in 0..orders.calls {
         if !makes_one(rt, alloc, tree, &mut clients, &mut random) {
@@ -124,7 +129,8 @@ fn list<N: Shape>(alloc: Global, threads: Vec<Option<Vec<Client<N>>>>) -> Option
 }
 
 fn judged(alloc: Global, orders: Orders, history: &History) -> Ended {
-    let wanted = (orders.threads as u64).saturating_mul(orders.calls.saturating_add(1));
+    let of_one = orders.calls.saturating_add(TOP.len() as u64 + 1);
+    let wanted = (orders.threads as u64).saturating_mul(of_one);
     if audit(alloc, RULES, NODES, history).is_err() {
         Ended::Illegal
     } else if history.entries().len() as u64 != wanted {
@@ -134,7 +140,7 @@ fn judged(alloc: Global, orders: Orders, history: &History) -> Ended {
     }
 }
 
-fn storm<N: Shape + Send + Sync, R: Threads + Wait + Sync>(
+fn storm<N: Shape + Send + Sync, R: Threads + Wait + Print + Sync>(
     rt: &R,
     alloc: Global,
     blank: Blank<Account>,
@@ -142,7 +148,7 @@ fn storm<N: Shape + Send + Sync, R: Threads + Wait + Sync>(
     watch: &Watch,
 ) -> Ended
     requires named { blank ≡ N.table }
-    requires slots { N.slots ≡ 64 + TREE_CLIENTS }
+    requires slots { N.slots ≡ 1024 + TREE_CLIENTS }
     requires limit { N.limit ≡ 1000000 }
     requires rules { N.rules ≡ record { abi = 3; copies = true } }
 {
@@ -164,7 +170,12 @@ fn storm<N: Shape + Send + Sync, R: Threads + Wait + Sync>(
         return Ended::NoMemory;
     };
     match tree.close(clients) {
-        Ok(history) => judged(alloc, orders, &history),
+        Ok(history) => {
+            if orders.tells {
+                tell(rt, &history);
+            }
+            judged(alloc, orders, &history)
+        }
         Err(back) => {
             drop(back);
             Ended::Open
@@ -173,7 +184,7 @@ fn storm<N: Shape + Send + Sync, R: Threads + Wait + Sync>(
 }
 
 /// How the storm that was ordered ends.
-pub fn storm_of<R: Threads + Wait + Sync>(
+pub fn storm_of<R: Threads + Wait + Print + Sync>(
     rt: &R,
     alloc: Global,
     orders: Orders,

@@ -6,4 +6,4 @@ abbrev pub ghosts-storm-N-Naming : goal.ghosts-storm-N-Naming
 ghosts-storm-N-Naming g a = record { table = a.blank }
 
 abbrev pub ghosts-storm-N-Shape : goal.ghosts-storm-N-Shape
-ghosts-storm-N-Shape g a = record { slots = 128; limit = 1000000; rules = record { abi = 3; copies = true } }
+ghosts-storm-N-Shape g a = record { slots = 1088; limit = 1000000; rules = record { abi = 3; copies = true } }
