@@ -12,8 +12,10 @@ use Rattle.ll_seq.specs.declared.call.Call.TheVariants.{Connect, Spawn}
 use Rattle.ll_seq.specs.declared.reply.Reply.{Reply}
 use Rattle.ll_seq.specs.declared.reply.Reply.TheVariants.{Done, Spawned}
 use Rattle.ll_seq.specs.History.{is_connect}
-use Rattle.ll_talk.specs.Copies.{Gains, Knows, Told, childless, knows, numbered}
-use Rattle.ll_talk.specs.Replies.{Fits, success}
+use Rattle.ll_client.specs.Coming.{childless}
+use Rattle.ll_client.specs.Entries.{Knows, knows, numbered}
+use Rattle.ll_client.specs.Gains.{Gains, Told}
+use Rattle.ll_client.specs.Replies.{Fits, success}
 use Rattle.ll_talk.specs.Talk.{Asks, IsLast, IsMet, Joins, LooksAt, Spawns, is_birth, met, seen_by}
 use Rattle.ll_talk.proofs.Kept.{push_there, set_there}
 use Rattle.ll_talk.proofs.Seen.{seen_push, seen_set}

@@ -21,7 +21,8 @@ use Rattle.ll_seq.specs.State.{State, start}
 use Rattle.ll_seq.specs.Step.{refusals, client_of}
 use Rattle.ll_seq.proofs.Histories.{legal_early}
 use Rattle.ll_talk.specs.Between.{IsSettled, between}
-use Rattle.ll_talk.specs.Copies.{IsClosed, Knows}
+use Rattle.ll_client.specs.Closed.{IsClosed}
+use Rattle.ll_client.specs.Entries.{Knows}
 use Rattle.ll_talk.specs.Laws.{ConnectsMayFail, PointsAreLegal}
 use Rattle.ll_talk.specs.Session.{Session, answered, following, full, next, starved}
 use Rattle.ll_talk.specs.Talk.{seen_by}

@@ -6,7 +6,9 @@ use Rattle.std.proofs.Common.{sym, ap, subst, inl, inr, arith}
 use Rattle.std.proofs.lemmas.Bool.{eq-eqb, eqb-true}
 use Rattle.ll_seq.specs.declared.reply.Entry.{Entry}
 use Rattle.ll_worlds.specs.Walk.{is_in}
-use Rattle.ll_talk.specs.Copies.{Knows, Numbered, numbered, numbers_of, part_from}
+use Rattle.ll_client.specs.Closed.{numbers_of}
+use Rattle.ll_client.specs.Entries.{Knows, numbered, part_from}
+use Rattle.ll_client.specs.declared.account.Numbered.{Numbered}
 use Rattle.ll_talk.specs.Talk.{AreAbove, ComesOn, GrowAbove}
 
 -- one of them has this number

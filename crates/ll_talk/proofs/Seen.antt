@@ -4,7 +4,8 @@ use Rattle.std.specs.Prelude.{slice_set}
 use Rattle.std.specs.Prelude.{refl}
 use Rattle.std.specs.List.{AllByRecursion}
 use Rattle.std.proofs.Common.{sym, ap, ◌∙◌, arith}
-use Rattle.ll_talk.specs.Copies.{Knows, numbers_of}
+use Rattle.ll_client.specs.Closed.{numbers_of}
+use Rattle.ll_client.specs.Entries.{Knows}
 use Rattle.ll_talk.specs.Talk.{seen_by}
 
 pub seen_low : (ks : List Knows) (i : ℕ) (k : Knows) → slice_get ks i ≡ Some k → k.seen ≤ seen_by ks

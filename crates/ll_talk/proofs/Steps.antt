@@ -16,7 +16,9 @@ use Rattle.ll_seq.specs.Stages.{numbers_from}
 use Rattle.ll_seq.specs.State.{State, start}
 use Rattle.ll_seq.proofs.Consequences.{step-clients_stay}
 use Rattle.ll_talk.specs.Between.{IsSettled, between, tree_at}
-use Rattle.ll_talk.specs.Copies.{IsClosed, Knows, Numbered, numbered, numbers_of}
+use Rattle.ll_client.specs.Closed.{IsClosed, numbers_of}
+use Rattle.ll_client.specs.Entries.{Knows, numbered}
+use Rattle.ll_client.specs.declared.account.Numbered.{Numbered}
 use Rattle.ll_talk.specs.Session.{Called, answered, brought, next}
 use Rattle.ll_talk.specs.Talk.{Grows, seen_by}
 use Rattle.ll_talk.proofs.Closings.{covered, numbers_at, part_tells}

@@ -17,9 +17,12 @@ use Rattle.ll_seq.specs.State.{State}
 use Rattle.ll_seq.specs.Memory.{takes_memory}
 use Rattle.ll_seq.specs.Step.{refusals, client_of}
 use Rattle.ll_talk.specs.Between.{IsSettled, Leads, between, tree_at}
-use Rattle.ll_talk.specs.Copies.{IsClosed, IsStarved, Knows, Numbered, Told, knows, numbered}
-use Rattle.ll_talk.specs.Copies.{numbers_of}
-use Rattle.ll_talk.specs.Copies.{starved_at}
+use Rattle.ll_client.specs.Closed.{IsClosed}
+use Rattle.ll_client.specs.Entries.{IsStarved, Knows, knows, numbered}
+use Rattle.ll_client.specs.Gains.{Told}
+use Rattle.ll_client.specs.declared.account.Numbered.{Numbered}
+use Rattle.ll_client.specs.Closed.{numbers_of}
+use Rattle.ll_client.specs.Entries.{starved_at}
 use Rattle.ll_talk.specs.Laws.{AsksIsCall, JoinsIsConnect, LooksIsNothing, SpawnsIsCall}
 use Rattle.ll_journal.specs.declared.direct.Made.TheVariants as made
 use Rattle.ll_journal.specs.declared.direct.Made.{Made}

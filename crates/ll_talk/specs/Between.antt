@@ -7,7 +7,9 @@ use Rattle.ll_seq.specs.declared.rules.Rules.{Rules}
 use Rattle.ll_seq.specs.History.{state_after}
 use Rattle.ll_seq.specs.Stages.{numbers_from}
 use Rattle.ll_seq.specs.State.{State, start}
-use Rattle.ll_talk.specs.Copies.{IsClosed, Knows, Numbered, numbers_of}
+use Rattle.ll_client.specs.Closed.{IsClosed, numbers_of}
+use Rattle.ll_client.specs.Entries.{Knows}
+use Rattle.ll_client.specs.declared.account.Numbered.{Numbered}
 use Rattle.ll_talk.specs.Session.{Session}
 use Rattle.ll_talk.specs.Talk.{Grows, seen_by}
 

@@ -10,7 +10,8 @@ use Rattle.ll_seq.specs.declared.rules.Rules.{Rules}
 use Rattle.ll_seq.specs.History.{IsLegal, state_after}
 use Rattle.ll_seq.specs.State.{start}
 use Rattle.ll_talk.specs.Between.{IsSettled, Leads, between}
-use Rattle.ll_talk.specs.Copies.{IsClosed, Knows}
+use Rattle.ll_client.specs.Closed.{IsClosed}
+use Rattle.ll_client.specs.Entries.{Knows}
 use Rattle.ll_journal.specs.declared.direct.Made.{Made}
 use Rattle.ll_talk.specs.Session.{Session, Called, Connects, following, joined}
 use Rattle.ll_talk.specs.Talk.{Asks, Spawns, Joins, Looks, reply_of, seen_by}

@@ -10,7 +10,10 @@ use Rattle.ll_seq.specs.declared.reply.Reply.TheVariants.{Done, Spawned, Refused
 use Rattle.ll_seq.specs.History.{is_connect}
 use Rattle.ll_journal.specs.declared.direct.Made.TheVariants as made
 use Rattle.ll_journal.specs.declared.direct.Made.{Made}
-use Rattle.ll_talk.specs.Copies.{Knows, Numbered, Starved, Gains, Told, knows, numbered}
+use Rattle.ll_client.specs.Entries.{Knows, knows, numbered}
+use Rattle.ll_client.specs.Gains.{Gains, Told}
+use Rattle.ll_client.specs.declared.account.Numbered.{Numbered}
+use Rattle.ll_client.specs.declared.account.Starved.{Starved}
 
 -- the number of the last entry that one of them knows of
 abbrev pub seen_by : List Knows → ℕ
