@@ -1,4 +1,3 @@
 pub mod Between
 pub mod Laws
-pub mod Session
 pub mod Talk
