@@ -66,4 +66,6 @@ mod tie;
 #[cfg(test)]
 mod two_threads;
 #[cfg(test)]
+mod watched;
+#[cfg(test)]
 mod wire;

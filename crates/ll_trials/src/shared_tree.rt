@@ -5,6 +5,7 @@ ghost use Rattle.std.specs.Prelude.{◌≡◌, ◌+◌, true};
 ghost use Rattle.ll_rights.specs.declared.limits.TheConstants.{TREE_CLIENTS};
 
 use crate::calls::target;
+use crate::watched::{Outcome, outcome_of};
 use ll_audit::audit;
 use ll_calls::{Refused, Tree};
 use ll_client::{Account, Client, Shape};
@@ -388,12 +389,16 @@ fn who_has_met_the_maker_finds_what_it_made(rt: HostRuntime) {
 
 #[test]
 fn four_clients_in_four_threads(rt: HostRuntime) {
-    assert!(rt; succeeds(&rt, rt.alloc(), ENTRIES, Trial::FourClients));
+    let alloc = rt.alloc();
+    let trial = move || succeeds(&rt, alloc, ENTRIES, Trial::FourClients);
+    assert_eq!(rt; outcome_of(&rt, alloc, trial), Outcome::Right);
 }
 
 #[test]
 fn confined_reader_and_exchanges(rt: HostRuntime) {
-    assert!(rt; succeeds(&rt, rt.alloc(), ENTRIES, Trial::Race));
+    let alloc = rt.alloc();
+    let trial = move || succeeds(&rt, alloc, ENTRIES, Trial::Race);
+    assert_eq!(rt; outcome_of(&rt, alloc, trial), Outcome::Right);
 }
 
 #[test]

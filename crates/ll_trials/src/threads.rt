@@ -6,6 +6,7 @@ ghost use Rattle.std.specs.Thread.{IsSync};
 ghost use Rattle.ll_rights.specs.declared.limits.TheConstants.{TREE_CLIENTS};
 
 use crate::calls::target;
+use crate::watched::{Outcome, outcome_of};
 use ll_audit::audit;
 use ll_client::{Account, Client, Locked, Shape};
 use ll_journal::Made;
@@ -161,14 +162,18 @@ fn opens_holding<N: Shape + Send + Sync, R: Threads + Wait + Sync>(
     Ok(is_right)
 }
 
+fn holds_one<R: Threads + Wait + Sync>(rt: &R, alloc: Global) -> bool {
+    match Blank::new(alloc) {
+        Ok(blank) => matches!(opens_holding::<Brand, _>(rt, alloc, blank), Ok(true)),
+        Err(_) => false,
+    }
+}
+
 #[test]
 fn walk_held_in_one_directory(rt: HostRuntime) {
     let alloc = rt.alloc();
-    let is_right = match Blank::new(alloc) {
-        Ok(blank) => matches!(opens_holding::<Brand, _>(&rt, alloc, blank), Ok(true)),
-        Err(_) => false,
-    };
-    assert!(rt; is_right);
+    let outcome = outcome_of(&rt, alloc, move || holds_one(&rt, alloc));
+    assert_eq!(rt; outcome, Outcome::Right);
 }
 
 /// The call of one of four threads in a round: two move a directory there and back, one links a file and takes the link
@@ -273,12 +278,16 @@ fn come_to_ends<N: Shape + Send + Sync, R: Threads + Wait + Sync>(
     Ok(closes(alloc, table, maker, others))
 }
 
+fn four_move<R: Threads + Wait + Sync>(rt: &R, alloc: Global) -> bool {
+    match Blank::new(alloc) {
+        Ok(blank) => matches!(come_to_ends::<Brand, _>(rt, alloc, blank), Ok(true)),
+        Err(_) => false,
+    }
+}
+
 #[test]
 fn four_threads_that_move(rt: HostRuntime) {
     let alloc = rt.alloc();
-    let is_right = match Blank::new(alloc) {
-        Ok(blank) => matches!(come_to_ends::<Brand, _>(&rt, alloc, blank), Ok(true)),
-        Err(_) => false,
-    };
-    assert!(rt; is_right);
+    let outcome = outcome_of(&rt, alloc, move || four_move(&rt, alloc));
+    assert_eq!(rt; outcome, Outcome::Right);
 }

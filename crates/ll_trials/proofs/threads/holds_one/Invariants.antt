@@ -1,5 +1,5 @@
 use Rattle.std.specs.Prelude.{true}
-use Rattle.ll_trials.proofs.threads.walk_held_in_one_directory.Given as goal
+use Rattle.ll_trials.proofs.threads.holds_one.Given as goal
 
 -- the table that was just made
 abbrev pub ghosts-opens_holding-N-Naming : goal.ghosts-opens_holding-N-Naming

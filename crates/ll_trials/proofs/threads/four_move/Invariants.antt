@@ -1,5 +1,5 @@
 use Rattle.std.specs.Prelude.{true}
-use Rattle.ll_trials.proofs.threads.four_threads_that_move.Given as goal
+use Rattle.ll_trials.proofs.threads.four_move.Given as goal
 
 -- the table that was just made
 abbrev pub ghosts-come_to_ends-N-Naming : goal.ghosts-come_to_ends-N-Naming

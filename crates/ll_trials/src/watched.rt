@@ -1,0 +1,65 @@
+//! Trials in threads that may hang: someone looks on, so that the test fails then, and isn't stopped from outside.
+
+use std::alloc::Global;
+use std::rt::Clock;
+use std::sync::Arc;
+use std::sync::atomic::{AtomicU64, Ordering};
+use std::thread::{self, Threads};
+use std::time::Duration;
+
+/// How long is slept between two looks, in milliseconds.
+const LOOK: u64 = 100;
+
+/// So many looks are taken: 40 seconds. (The kit stops a test after 60.)
+const LOOKS: u64 = 400;
+
+/// What came of a trial.
+#[derive(Clone, Copy, Debug, PartialEq, Eq)]
+pub enum Outcome {
+    Right,
+    Wrong,
+    /// It hadn't ended after 40 seconds.
+    Hangs,
+    /// No thread could be made for it.
+    Untried,
+}
+
+/// Makes the trial in a thread of its own, which isn't waited for any longer where it hangs.
+pub fn outcome_of<R: Clock + Threads, F: FnOnce() -> bool + Send + 'static>(
+    rt: &R,
+    alloc: Global,
+    trial: F,
+) -> Outcome
+    requires { F.pre trial }
+{
+    let Ok(ended) = Arc::new(alloc, AtomicU64::new(0)) else {
+        return Outcome::Untried;
+    };
+    let Ok(theirs) = Arc::try_clone(&ended) else {
+        return Outcome::Untried;
+    };
+    let spawned = thread::spawn(
+        rt,
+        move || -> bool
+            requires { F.pre trial }
+        {
+            let is_right = trial();
+            theirs.store(1, Ordering::SeqCst);
+            is_right
+        },
+    );
+    let Ok(thread) = spawned else {
+        return Outcome::Untried;
+    };
+    for _ in 0..LOOKS {
+        if ended.load(Ordering::SeqCst) != 0 {
+            return if thread.join(rt) {
+                Outcome::Right
+            } else {
+                Outcome::Wrong
+            };
+        }
+        let _ = thread::sleep(rt, Duration::from_millis(LOOK));
+    }
+    Outcome::Hangs
+}
