@@ -19,6 +19,7 @@ impl<N: Shape> Desk<N> {
     ghost use Rattle.ll_inodes.specs.InodeTable.{AreDistinct};
     ghost use Rattle.ll_journal.specs.Book.{has_mark, inode_in, slot_of};
     ghost use Rattle.ll_journal.specs.Direct.{IsOpen};
+    ghost use Rattle.ll_journal.specs.InWay.{IsFreeFrom, IsInWay};
     ghost use Rattle.ll_journal.specs.NextStep.{CanBeLent, ComesNext};
     ghost use Rattle.ll_journal.specs.Stations.{station_in};
     ghost use Rattle.ll_journal.specs.Steps.{leg_in_turn};
@@ -105,5 +106,48 @@ impl<N: Shape> Desk<N> {
             number,
         );
         next
+    }
+
+    /// Of the client's walk at its ends: the slot of a node under a last name in which another client's walk stands, so
+    /// that this one isn't answered yet. It is looked for in the directory of this slot alone, for each path that ends
+    /// there. The slot's pass is taken back for the look, and given out again as it was.
+    pub fn slot_in_way(
+        &mut self,
+        tie: &Tie<N, Account>,
+        me: &Rider<N>,
+        here: &mut Locked<N>,
+    ) -> Option<u64>
+        ensures some { IfSome result (IsInWay self.old me.now.number) }
+        ensures within { IfSome result (λ way. way < length self.old.inodes) }
+        ensures none { IfNone result (IsFreeFrom self.old me.now.number here.old.number) }
+        ensures same { self.new ≡ self.old }
+        ensures before { here.old.held ≡ slot_of self.old here.old.number }
+        ensures after { here.new ≡ here.old }
+    {
+        let Desk {
+            journal,
+            keeper,
+            ..
+        } = self;
+        let number = me.number();
+        take_slot(
+            tie,
+            keeper,
+            journal,
+            here.number,
+            &here.held,
+            &mut here.pass,
+        );
+        let way = journal.slot_in_way(number, here.number, &here.held);
+        put_slot(
+            tie,
+            keeper,
+            journal,
+            here.number,
+            &here.held,
+            &mut here.pass,
+            number,
+        );
+        way
     }
 }

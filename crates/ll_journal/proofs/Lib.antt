@@ -56,3 +56,4 @@ pub mod SettingOut
 pub mod LastNodes
 pub mod EntryDirs
 pub mod SlotTrees
+pub mod InTheWay

@@ -79,7 +79,7 @@ second_stands walk (Split trunk old new) leg e =
     (or_left (new.here == leg.here) _ (eq-eqb new.here leg.here (ap (λ (l : Leg). l.here) (same_Some new leg e)))))
 
 -- the leg that stands here
-standing : (o : Option Leg) (i : ℕ) → option_map (λ (leg : Leg). leg.here) o ≡ Some i → (leg : Leg) × (o ≡ Some leg)
+pub standing : (o : Option Leg) (i : ℕ) → option_map (λ (leg : Leg). leg.here) o ≡ Some i → (leg : Leg) × (o ≡ Some leg)
     × (leg.here ≡ i)
 standing None i e = absurd (cc e)
 standing (Some leg) i e = (leg, refl, same_Some leg.here i e)

@@ -17,3 +17,4 @@ pub mod Needs
 pub mod NextStep
 pub mod Starts
 pub mod SlotTree
+pub mod InWay

@@ -157,7 +157,7 @@ fn is_root(target: &Target) -> bool
 }
 
 /// Whether the first path is the root's, and the second one.
-fn are_roots(call: &Call) -> (bool, bool)
+pub(crate) fn are_roots(call: &Call) -> (bool, bool)
     ensures first { result.0 ≡ paths.is_root (first_path call.now) }
     ensures second { result.1 ≡ paths.is_root (second_path call.now) }
 {
@@ -169,7 +169,7 @@ fn are_roots(call: &Call) -> (bool, bool)
 }
 
 /// Whether another client's walk stands in the node under the last name.
-fn is_marked_at(seats: &[Seat], client: u64, is_root: bool, spot: &Spot) -> bool
+pub(crate) fn is_marked_at(seats: &[Seat], client: u64, is_root: bool, spot: &Spot) -> bool
     ensures { (w : world.World) (path : Path) → w.walks ≡ walks_from 1 seats.now → is_root ≡ paths.is_root path
         → result ≡ checks.is_marked_at (world.is_marked_by_other w client) path spot.now }
 {

@@ -43,7 +43,7 @@ fn nowhere(table: &Inodes, here: &Held) -> Spot
 }
 
 /// The spots of both paths, which end in these directories.
-fn spots(table: &Inodes, first: &Held, second: &Held, call: &Call) -> (Spot, Spot)
+pub(crate) fn spots(table: &Inodes, first: &Held, second: &Held, call: &Call) -> (Spot, Spot)
     ensures first { result.0 ≡ spot_at table.now.facts first.now (first_path call.now) }
     ensures second { result.1 ≡ spot_at table.now.facts second.now (second_path call.now) }
 {

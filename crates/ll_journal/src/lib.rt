@@ -10,6 +10,7 @@ mod direct;
 mod ending;
 mod files;
 mod find_ends;
+mod in_way;
 mod journal;
 mod laws;
 mod leg;

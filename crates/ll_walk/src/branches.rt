@@ -127,7 +127,8 @@ impl<N: Shape, G: Gate<N>> Table<N, G> {
                 return Some(made);
             }
             drop(last);
-            thread::yield_now();
+            let way = split.slot_in_way(self.section(rt), &self.tie, me);
+            self.wait_for(rt, way);
             view = self.view_split(rt, me, &mut split);
         }
         unreachable!()

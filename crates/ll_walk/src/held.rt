@@ -32,6 +32,16 @@ pub(crate) fn other_than(slots: &[u64], held: &[u64]) -> Option<u64>
     None
 }
 
+/// The slot, if it isn't held.
+pub(crate) fn unless_held(slot: Option<u64>, held: &[u64]) -> Option<u64>
+    ensures { (n : ℕ) → IfSome slot (λ slot. slot < n) → IfSome result (λ slot. slot < n) }
+{
+    match slot {
+        Some(slot) if !held.contains(&slot) => Some(slot),
+        _ => None,
+    }
+}
+
 fn number_in<N: Shape>(place: &Place<'_, N>, otherwise: u64) -> u64 {
     match place {
         None => otherwise,
@@ -40,14 +50,43 @@ fn number_in<N: Shape>(place: &Place<'_, N>, otherwise: u64) -> u64 {
 }
 
 impl<'a, N: Shape> Split<'a, N> {
+    /// The numbers of the slots that are held, the directory of the fork in place of a leg's where that stands there.
+    fn numbers(&self) -> [u64; 3] {
+        let common = self.common.number();
+        let first = number_in(&self.first, common);
+        let second = number_in(&self.second, common);
+        [common, first, second]
+    }
+
     /// The first of these slots that isn't held.
     pub(crate) fn other_than(&self, slots: &[u64]) -> Option<u64>
         ensures { (n : ℕ) → AllByRecursion (λ slot. slot < n) slots.now → IfSome result (λ slot. slot < n) }
     {
-        let common = self.common.number();
-        let first = number_in(&self.first, common);
-        let second = number_in(&self.second, common);
-        other_than(slots, &[common, first, second])
+        other_than(slots, &self.numbers())
+    }
+
+    /// The slot of a node under a last name in which another client's walk stands, if it isn't held.
+    pub(crate) fn slot_in_way(
+        &mut self,
+        section: Section<'_, N>,
+        tie: &Tie<N, Account>,
+        me: &Rider<N>,
+    ) -> Option<u64>
+        ensures { IfSome result (λ way. way < N.slots) }
+    {
+        let held = self.numbers();
+        let Split {
+            common,
+            first,
+            second,
+        } = self;
+        let way = match (first, second) {
+            (None, None) => section.slot_in_way_here(tie, me, common),
+            (Some(a), None) => section.slot_in_way(tie, me, a, common),
+            (None, Some(b)) => section.slot_in_way(tie, me, common, b),
+            (Some(a), Some(b)) => section.slot_in_way(tie, me, a, b),
+        };
+        unless_held(way, &held)
     }
 
     /// The walk is left with all that is held, and with one slot more, if there is one.

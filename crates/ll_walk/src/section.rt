@@ -1,8 +1,9 @@
 //! The journal's lock, held.
 
-ghost use Rattle.std.specs.Prelude.{◌≡◌, ◌<◌, ◌≤◌, ℕ, ◌∷◌, [], Some, length, max};
+ghost use Rattle.std.specs.Prelude.{◌≡◌, ◌<◌, ◌≤◌, ℕ, ◌∷◌, [], Some, IfSome, length, max};
 ghost use Rattle.std.specs.Sync.Mutex.{mutex_guard_value};
 ghost use Rattle.ll_journal.specs.Book.{Book};
+ghost use Rattle.ll_journal.specs.InWay.{IsInWay};
 ghost use Rattle.ll_journal.specs.Steps.{Does};
 ghost use Rattle.ll_worlds.specs.declared.step.Step.TheVariants.{Descend, Fork};
 ghost use Rattle.ll_walk.specs.Sections.{AreThere, Shows};
@@ -86,6 +87,22 @@ fn view_below<N: Shape>(
         Progress::Stands(_) => view_from(desk, tie, me, to, common),
         _ => view_from(desk, tie, me, from, common),
     }
+}
+
+/// A look from this slot's directory at what stands in the way of the client's walk at its ends.
+fn slot_in_way<N: Shape>(
+    desk: &mut Desk<N>,
+    tie: &Tie<N, Account>,
+    me: &Rider<N>,
+    here: &mut Locked<N>,
+) -> Option<u64>
+    ensures desk { desk.new ≡ desk.old }
+    ensures here { here.new ≡ here.old }
+    ensures way { IfSome result (IsInWay desk.old me.now.number) }
+    ensures there { IfSome result (λ way. way < N.slots) }
+{
+    desk.by_law();
+    desk.slot_in_way(tie, me, here)
 }
 
 impl<'a, N: Shape> Section<'a, N> {
@@ -195,6 +212,42 @@ impl<'a, N: Shape> Section<'a, N> {
     {
         let Section { mut desk } = self;
         view_at(&mut desk, tie, me, here)
+    }
+
+    /// The slot of a node under a last name of the client's walk, in which another client's walk stands, so that this one
+    /// isn't answered yet: where a path ends in the directory of the one slot or of the other.
+    pub fn slot_in_way(
+        self,
+        tie: &Tie<N, Account>,
+        me: &Rider<N>,
+        one: &mut Locked<N>,
+        other: &mut Locked<N>,
+    ) -> Option<u64>
+        ensures one { one.new ≡ one.old }
+        ensures other { other.new ≡ other.old }
+        ensures way { IfSome result (IsInWay (mutex_guard_value self.entry.desk) me.now.number) }
+        ensures there { IfSome result (λ way. way < N.slots) }
+    {
+        let Section { mut desk } = self;
+        match slot_in_way(&mut desk, tie, me, one) {
+            Some(way) => Some(way),
+            None => slot_in_way(&mut desk, tie, me, other),
+        }
+    }
+
+    /// The same from one slot.
+    pub fn slot_in_way_here(
+        self,
+        tie: &Tie<N, Account>,
+        me: &Rider<N>,
+        here: &mut Locked<N>,
+    ) -> Option<u64>
+        ensures here { here.new ≡ here.old }
+        ensures way { IfSome result (IsInWay (mutex_guard_value self.entry.desk) me.now.number) }
+        ensures there { IfSome result (λ way. way < N.slots) }
+    {
+        let Section { mut desk } = self;
+        slot_in_way(&mut desk, tie, me, here)
     }
 
     /// From now on each of the two knows of all entries of which one of them did. It makes no entry.

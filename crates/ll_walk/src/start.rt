@@ -6,7 +6,7 @@ ghost use Rattle.ll_client.specs.Gains.{Goes};
 ghost use Rattle.ll_walk.specs.Ends.{made_of};
 
 use crate::gate::Gate;
-use crate::held::other_than;
+use crate::held::{other_than, unless_held};
 use crate::section::View;
 use crate::table::Table;
 use ll_client::{Leaving, Left, Locked, Rider, Shape};
@@ -135,7 +135,8 @@ impl<N: Shape, G: Gate<N>> Table<N, G> {
                 }
                 Next::Nothing | Next::Enter(_) => {}
             }
-            thread::yield_now();
+            let way = self.section(rt).slot_in_way_here(&self.tie, me, &mut here);
+            self.wait_for(rt, unless_held(way, &[here.number()]));
             view = self.section(rt).view_here(&self.tie, me, &mut here);
         }
         unreachable!()

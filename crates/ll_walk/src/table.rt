@@ -1,6 +1,6 @@
 //! The locks of a tree.
 
-ghost use Rattle.std.specs.Prelude.{◌≡◌, ℕ, ◌<◌, ◌≤◌, ◌+◌, IfOk, IfErr, length, map, vec_len};
+ghost use Rattle.std.specs.Prelude.{◌≡◌, ℕ, ◌<◌, ◌≤◌, ◌+◌, IfOk, IfErr, IfSome, length, map, vec_len};
 ghost use Rattle.ll_client.specs.Closed.{IsClosed};
 ghost use Rattle.std.specs.Sync.Mutex.{mutex_guard_value};
 ghost use Rattle.ll_client.specs.Entries.{Kept};
@@ -13,6 +13,7 @@ use ll_seq::{History, Rules};
 use ll_tie::{Blank, Tie};
 use std::alloc::{AllocError, Global};
 use std::sync::{Mutex, MutexGuard, Wait};
+use std::thread;
 
 /// A tree that threads share: a lock for each slot, one for the journal, and the move gate.
 #[derive(Drop)]
@@ -122,5 +123,15 @@ impl<N: Shape, G: Gate<N>> Table<N, G> {
             }
         }
         unreachable!()
+    }
+
+    /// Waits until the slot of this number is free; without one, leaves the processor to others once.
+    pub(crate) fn wait_for<R: Wait>(&self, rt: &R, slot: Option<u64>)
+        requires { IfSome slot (λ slot. slot < N.slots) }
+    {
+        match slot {
+            Some(slot) => drop(self.locked(rt, slot)),
+            None => thread::yield_now(),
+        }
     }
 }

@@ -1,0 +1,116 @@
+//! What stands in the way of a walk at its ends, so that whoever leads it can wait for that.
+
+ghost use Rattle.std.specs.Prelude.{◌≡◌, ◌<◌, ◌&&◌, length, IfSome, IfNone};
+ghost use Rattle.ll_path.specs.Path as paths;
+ghost use Rattle.ll_path.specs.Path.{Path};
+ghost use Rattle.ll_worlds.specs.World as world;
+ghost use Rattle.ll_journal.specs.Checks.{goes_on};
+ghost use Rattle.ll_journal.specs.InWay as in_way;
+ghost use Rattle.ll_journal.specs.Kept.{walks_from};
+ghost use Rattle.ll_journal.specs.Seated.{first_here_in, is_at_ends, second_here_in};
+
+use crate::check_commit::{are_roots, is_marked_at};
+use crate::find_ends::spots;
+use crate::journal::{Journal, place_of};
+use crate::seat::Seat;
+use ll_answer::Spot;
+use ll_held::Held;
+use ll_inodes::Inodes;
+use ll_seq::Call;
+
+/// Whether its walk goes on, and is at its ends.
+fn has_come(seat: &Seat) -> bool
+    ensures { result ≡ (goes_on seat.now && is_at_ends seat.now) }
+{
+    seat.goes_on() && seat.is_at_ends()
+}
+
+/// The node of a path's last name, if the path's leg ends here, and another client's walk stands in the node.
+fn node_at_end(
+    seats: &[Seat],
+    client: u64,
+    end: Option<u64>,
+    here: &Held,
+    is_root: bool,
+    spot: &Spot,
+) -> Option<u64>
+    ensures { (w : world.World) (path : Path) → w.walks ≡ walks_from 1 seats.now → is_root ≡ paths.is_root path
+        → result ≡ in_way.node_at_end (world.is_marked_by_other w client) end here.now path spot.now }
+{
+    match end {
+        Some(inode) if inode == here.inode => {}
+        _ => return None,
+    }
+    if !is_marked_at(seats, client, is_root, spot) {
+        return None;
+    }
+    match spot.there {
+        None => None,
+        Some(there) => Some(there.inode),
+    }
+}
+
+/// The node of the last name of one of the call's paths, whose leg ends here, if another client's walk stands in it.
+fn node_in_way(
+    table: &Inodes,
+    seats: &[Seat],
+    client: u64,
+    seat: &Seat,
+    call: &Call,
+    here: &Held,
+) -> Option<u64>
+    ensures { (w : world.World) → w.walks ≡ walks_from 1 seats.now
+        → result ≡ in_way.node_in_way (world.is_marked_by_other w client) table.now.facts (first_here_in seat.now)
+        (second_here_in seat.now) here.now call.now }
+{
+    let (first, second) = spots(table, here, here, call);
+    let (first_is_root, second_is_root) = are_roots(call);
+    match node_at_end(
+        seats,
+        client,
+        seat.first_here(),
+        here,
+        first_is_root,
+        &first,
+    ) {
+        Some(node) => Some(node),
+        None => node_at_end(
+            seats,
+            client,
+            seat.second_here(),
+            here,
+            second_is_root,
+            &second,
+        ),
+    }
+}
+
+impl Journal {
+    ghost use Rattle.ll_journal.specs.Book.{slot_of};
+    ghost use Rattle.ll_journal.specs.InWay.{IsFreeFrom, IsInWay};
+
+    /// Of the client's walk at its ends: the slot of a node under a last name in which another client's walk stands, so
+    /// that this one isn't answered yet. It is looked for in the directory of this slot alone, for each path that ends
+    /// there.
+    pub fn slot_in_way(&self, client: u64, slot: u64, here: &Held) -> Option<u64>
+        requires { here.now ≡ slot_of self.now slot }
+        ensures some { IfSome result (IsInWay self.now client) }
+        ensures within { IfSome result (λ way. way < length self.now.inodes) }
+        ensures none { IfNone result (IsFreeFrom self.now client slot) }
+    {
+        let Some(place) = place_of(&self.seats, client) else {
+            return None;
+        };
+        let seat = &self.seats[place];
+        if !has_come(seat) {
+            return None;
+        }
+        let Some(call) = seat.call() else {
+            unreachable!()
+        };
+        let Some(node) = node_in_way(&self.table, &self.seats, client, seat, call, here) else {
+            return None;
+        };
+        self.table.slot(node)
+    }
+}
