@@ -14,7 +14,7 @@ use Rattle.ll_seq.specs.declared.call.Call.{Call}
 use Rattle.ll_seq.specs.declared.reply.Entry.{Entry}
 use Rattle.ll_seq.specs.declared.rules.Rules.{Rules}
 use Rattle.ll_seq.specs.History.{state_after}
-use Rattle.ll_seq.specs.State.{State, start}
+use Rattle.ll_seq.specs.State.{start}
 use Rattle.ll_seq.specs.Step.{client_of, refusals}
 use Rattle.ll_held.specs.declared.held.Held.{Held}
 use Rattle.ll_inodes.specs.InodeTable.{NotIn}

@@ -1,10 +1,10 @@
 -- What lies behind the journal's lock after a step, and what the step's client gains.
-use Rattle.std.specs.Prelude.{◌≡◌, ◌≢◌, ℕ, ◌+◌, ◌<◌, ◌≤◌, ◌==◌, Bool, true, false, cond, List, [], ◌∷◌, ◌++◌}
+use Rattle.std.specs.Prelude.{◌≡◌, ◌≢◌, ℕ, ◌+◌, ◌≤◌, ◌==◌, Bool, true, false, cond, List, [], ◌∷◌, ◌++◌}
 use Rattle.std.specs.Prelude.{length, Option, Some, Result, Ok, Err, OnOk, OnErr, refl}
 use Rattle.std.specs.Ordering.{nat_cmp}
 use Rattle.std.proofs.Common.{sym, subst, ap, ◌∙◌, inl, inr, arith}
 use Rattle.std.proofs.lemmas.List.{append-nil, length-append}
-use Rattle.std.proofs.lemmas.Bool.{leb-false, ne_eqb, eq-eqb}
+use Rattle.std.proofs.lemmas.Bool.{ne_eqb, eq-eqb}
 use Rattle.ll_rights.specs.declared.limits.TheConstants.{TREE_CLIENTS, TREE_NODES}
 use Rattle.ll_rights.specs.Map.{Map}
 use Rattle.ll_seq.specs.declared.call.Call.{Call}
@@ -15,7 +15,7 @@ use Rattle.ll_seq.specs.declared.reply.Reply.TheVariants as replies
 use Rattle.ll_worlds.specs.declared.step.Step.{Step}
 use Rattle.ll_worlds.specs.declared.step.Step.TheVariants.{Begin}
 use Rattle.ll_worlds.specs.World.{World, Outcome, NotNow, Begun, Stands, Forked, Restarted, Replied, Joined}
-use Rattle.ll_worlds.specs.World.{is_full, reply_to, advance}
+use Rattle.ll_worlds.specs.World.{reply_to, advance}
 use Rattle.ll_worlds.specs.Sound.{IsSound}
 use Rattle.ll_worlds.proofs.SoundSteps.{sound_kept}
 use Rattle.ll_journal.specs.Book.{Book, Spares}

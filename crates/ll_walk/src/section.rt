@@ -214,8 +214,8 @@ impl<'a, N: Shape> Section<'a, N> {
         view_at(&mut desk, tie, me, here)
     }
 
-    /// The slot of a node under a last name of the client's walk, in which another client's walk stands, so that this one
-    /// isn't answered yet: where a path ends in the directory of the one slot or of the other.
+    /// The slot of a node under a last name of the client's walk in which another client's walk stands, so that this
+    /// one isn't answered yet: under a path that ends in the directory of the one slot or of the other.
     pub fn slot_in_way(
         self,
         tie: &Tie<N, Account>,
