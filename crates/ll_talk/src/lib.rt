@@ -1,5 +1,9 @@
-//! Laws about a session that owns all clients of a tree that threads share, and makes their calls one after the other.
+//! A session that owns all clients of a tree that threads share, and makes their calls one after the other.
 #![tactic(auto)]
+
+mod party;
+
+pub use party::Party;
 
 ghost use Rattle.ll_talk.specs.Laws.{CallsAreSteps, ConnectsAreSteps, ConnectsMayFail, LooksChangeNothing};
 ghost use Rattle.ll_talk.specs.Laws.{PointsAreLegal, SpawnsAreSteps};
