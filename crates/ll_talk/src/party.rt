@@ -1,6 +1,6 @@
 //! All clients of a shared tree, in one hand.
 
-ghost use Rattle.std.specs.Prelude.{◌≡◌, ℕ, ◌+◌, ◌<◌, ◌≤◌, ◌↔◌, [], IsTrue, Some, IfErr, OnErr, OnOk, false, length};
+ghost use Rattle.std.specs.Prelude.{◌≡◌, ℕ, ◌+◌, ◌<◌, ◌≤◌, ◌↔◌, [], IsTrue, Some, IfErr, IfOk, OnErr, OnOk, false, length};
 ghost use Rattle.std.specs.Prelude.{slice_get};
 ghost use Rattle.ll_rights.specs.declared.limits.TheConstants.{TREE_CLIENTS};
 ghost use Rattle.ll_seq.specs.History.{is_connect};
@@ -14,9 +14,10 @@ ghost use Rattle.ll_talk.specs.Talk.{seen_by};
 use ll_calls::Tree;
 use ll_client::{Client, Shape};
 use ll_rights::Errno;
+use ll_rights::limits::TREE_CLIENTS;
 use ll_seq::{Call, History, Reply};
 use ll_walk::Gate;
-use std::alloc::Global;
+use std::alloc::{AllocError, Global};
 use std::marker::Model;
 use std::sync::Wait;
 
@@ -43,16 +44,16 @@ impl<N: Shape> Model for Party<N> {
 }
 
 impl<N: Shape> Party<N> {
-    /// Nobody has come yet. The tree's history may have so many entries.
-    pub fn new(alloc: Global, limit: u64) -> Party<N>
+    /// Nobody has come yet. The tree's history may have so many entries. Room is reserved for all clients that may come.
+    pub fn new(alloc: Global, limit: u64) -> Result<Party<N>, AllocError>
         requires { limit ≡ N.limit }
-        ensures { result ≡ [] }
+        ensures { IfOk result (λ party. party ≡ []) }
     {
-        Party {
-            clients: Vec::new(alloc),
+        Ok(Party {
+            clients: Vec::with_capacity(alloc, TREE_CLIENTS as usize)?,
             limit,
             last: 0,
-        }
+        })
     }
 
     /// How many clients have come.
