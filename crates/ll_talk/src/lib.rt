@@ -1,6 +1,7 @@
 //! A session that owns all clients of a tree that threads share, and makes their calls one after the other.
 #![tactic(auto)]
 
+mod clients;
 mod party;
 
 pub use party::Party;
