@@ -1,5 +1,6 @@
 -- What an act of a party comes to, after a look whether the history is full.
-use Rattle.std.specs.Prelude.{◌≡◌, ◌⊎◌, ◌↔◌, ℕ, ◌<◌, ◌≤◌, Bool, IsTrue, false, List, [], ◌∷◌, ◌++◌, length, Some, option_map, slice_get, refl}
+use Rattle.std.specs.Prelude.{◌≡◌, ◌⊎◌, ◌↔◌, ℕ, ◌<◌, ◌≤◌, Bool, IsTrue, false, List, length}
+use Rattle.std.specs.Prelude.{Some, option_map, slice_get, refl}
 use Rattle.std.proofs.Common.{sym, ap, subst, ◌∙◌, inl, inr, arith}
 use Rattle.std.proofs.lemmas.Bool.{false≢true}
 use Rattle.std.proofs.lemmas.Option.{slice_get-map}
@@ -79,8 +80,10 @@ module _ (rules : Rules) (room limit : ℕ) where
       → length ks < TREE_CLIENTS → Leads rules room limit is ks (Refuses NoMemory)
   starved_so is ks one free few =
       refused_so NoMemory is ks one
-      (λ history end c s. (between rules room limit history ks,
-      (may_fail rules room limit history ks end c s).2 free few))
+      (λ history end c s. (
+        between rules room limit history ks,
+        (may_fail rules room limit history ks end c s).2 free few,
+      ))
 
   pub joined_so : (is js ks : List Knows) (number : ℕ) → Leads rules room limit is js Stays → Joins js number ks
       → Leads rules room limit is ks Brings

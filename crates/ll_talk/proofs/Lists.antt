@@ -1,6 +1,6 @@
 -- What contracts see of a list of clients, when one of them has come on, or one more has come.
-use Rattle.std.specs.Prelude.{◌≡◌, ◌≢◌, ℕ, ◌+◌, ◌<◌, ◌≤◌, ◌==◌, false, List, [], ◌∷◌, ◌++◌, length, map, None, Some, option_map}
-use Rattle.std.specs.Prelude.{slice_get, slice_index_or, slice_set, refl}
+use Rattle.std.specs.Prelude.{◌≡◌, ◌≢◌, ℕ, ◌+◌, ◌<◌, ◌≤◌, ◌==◌, false, List, [], ◌∷◌, ◌++◌, length, map}
+use Rattle.std.specs.Prelude.{None, Some, option_map, slice_get, slice_index_or, slice_set, refl}
 use Rattle.std.proofs.Common.{sym, ap, subst, ◌∙◌, inl, inr, arith}
 use Rattle.std.proofs.lemmas.Bool.{false≢true}
 use Rattle.std.proofs.lemmas.List.{length-map, length-set, length_push, map-append, map-set}
@@ -17,17 +17,22 @@ use Rattle.ll_talk.specs.Talk.{Asks, IsLast, IsMet, Joins, LooksAt, Spawns, is_b
 use Rattle.ll_talk.proofs.Acts.{asks_so, looks_last, push_last, spawns_so, told_last, told_seen}
 use Rattle.ll_talk.proofs.Meeting.{last_knows, set_same}
 
-pub some_there : {A : Type 0} (xs : List A) (n : ℕ) → n ≡ length xs → (n == 0) ≡ false → 0 < length xs
+some_there : {A : Type 0} (xs : List A) (n : ℕ) → n ≡ length xs → (n == 0) ≡ false → 0 < length xs
 some_there [] n size is = absurd (false≢true (sym is ∙ ap (λ m. m == 0) size))
 some_there (x ∷ xs) n size is = omega arith
 
 -- where somebody is there, the last one is
-pub last_within : {A : Type 0} (f : A → Knows) (xs : List A) (last : ℕ) → IsLast (map f xs) last → 0 < length xs
-    → last < length xs
-last_within f xs last (inl none) some =
-    let size = length-map xs f in let empty = ap length none in absurd (omega (arith, size, empty, some))
-last_within f xs last (inr l) some =
-    let size = length-map xs f in let within = slice_get_within (map f xs) last l.0 l.1 in omega (arith, size, within)
+pub last_within : {A : Type 0} (f : A → Knows) (xs : List A) (n last : ℕ) → n ≡ length xs → (n == 0) ≡ false
+    → IsLast (map f xs) last → last < length xs
+last_within f xs n last size is (inl none) =
+    let some = some_there xs n size is in
+    let mapped = length-map xs f in
+    let empty = ap length none in
+    absurd (omega (arith, mapped, empty, some))
+last_within f xs n last size is (inr l) =
+    let mapped = length-map xs f in
+    let within = slice_get_within (map f xs) last l.0 l.1 in
+    omega (arith, mapped, within)
 
 module _ {A : Type 0} (f : A → Knows) (xs : List A) (i : ℕ) (x : A) (there : x ≡ slice_index_or xs i x)
     (within : i < length xs)
@@ -58,15 +63,12 @@ module _ {A : Type 0} (f : A → Knows) (xs : List A) (i : ℕ) (x : A) (there :
     last_again x' is_last later same =
         looks_last (map f xs) (map f (slice_set xs i x')) i (looked_at x' is_last later same)
 
-pub pushed : {A : Type 0} (f : A → Knows) (xs ys : List A) (x : A) → ys ≡ xs ++ x ∷ []
-    → map f ys ≡ map f xs ++ f x ∷ []
-pushed f xs ys x is = ap (map f) is ∙ map-append f xs (x ∷ [])
-
-pub pushed_last : {A : Type 0} (f : A → Knows) (xs ys : List A) (x : A) (n : ℕ) → ys ≡ xs ++ x ∷ []
-    → seen_by (map f xs) ≤ (f x).seen → n ≡ length xs → IsLast (map f ys) n
-pushed_last f xs ys x n is later size =
+pub pushed_last : {A : Type 0} (f : A → Knows) (ks : List Knows) (xs ys : List A) (x : A) (n : ℕ) → map f xs ≡ ks
+    → ys ≡ xs ++ x ∷ [] → seen_by ks ≤ (f x).seen → n ≡ length xs → IsLast (map f ys) n
+pushed_last f ks xs ys x n view is later size =
+    let same = ap seen_by view in
     subst (λ m. IsLast (map f ys) m) (length-map xs f ∙ sym size)
-    (push_last (map f xs) (map f ys) (f x) later (pushed f xs ys x is))
+    (push_last (map f xs) (map f ys) (f x) (omega (arith, same, later)) (ap (map f) is ∙ map-append f xs (x ∷ [])))
 
 -- whoever has connected after all of them joins them
 pub joins_them : (js is ks : List Knows) (k : Knows) → is ≡ js → ks ≡ is ++ k ∷ []

@@ -1,5 +1,5 @@
 -- Clients in one list meet: what contracts see of the list afterwards.
-use Rattle.std.specs.Prelude.{◌≡◌, ◌≢◌, ℕ, zero, suc, ◌+◌, ◌-◌, ◌<◌, ◌≤◌, max, List, [], ◌∷◌, ◌++◌, length, map}
+use Rattle.std.specs.Prelude.{◌≡◌, ◌≢◌, ℕ, zero, suc, ◌-◌, ◌<◌, max, List, [], ◌∷◌, ◌++◌, length, map}
 use Rattle.std.specs.Prelude.{None, Some, option_map, slice_get, slice_index_or, slice_set, refl}
 use Rattle.std.proofs.Common.{sym, ap, subst, ◌∙◌, inl, inr, arith}
 use Rattle.std.proofs.lemmas.List.{get_or_append_left, get_or-append_right, length-set, map-set}
@@ -7,7 +7,6 @@ use Rattle.std.proofs.lemmas.List.{set-append_left, set-append_right}
 use Rattle.std.proofs.lemmas.Option.{slice_get-get_or, slice_get-map}
 use Rattle.ll_client.specs.Entries.{Knows}
 use Rattle.ll_talk.specs.Talk.{HaveMet, IsLast, IsMet, met, seen_by}
-use Rattle.ll_talk.proofs.Kept.{set_there}
 use Rattle.ll_talk.proofs.Seen.{seen_low, seen_set}
 
 -- ---- the same client in its place
@@ -58,9 +57,11 @@ module _ {A : Type 0} (f : A → Knows) (xs front back : List A) (i j : ℕ) (x 
 
     pub have_met : (x' y' : A)
         → f x' ≡ record (f (slice_index_or front i x)) {
-          seen = max (f (slice_index_or front i x)).seen (f (slice_index_or back 0 y)).seen }
+          seen = max (f (slice_index_or front i x)).seen (f (slice_index_or back 0 y)).seen;
+        }
         → f y' ≡ record (f (slice_index_or back 0 y)) {
-          seen = max (f (slice_index_or front i x)).seen (f (slice_index_or back 0 y)).seen }
+          seen = max (f (slice_index_or front i x)).seen (f (slice_index_or back 0 y)).seen;
+        }
         → HaveMet (map f xs) i j (map f (slice_set front i x' ++ slice_set back 0 y'))
     have_met x' y' first second = (
       f (slice_index_or front i x),
@@ -68,8 +69,8 @@ module _ {A : Type 0} (f : A → Knows) (xs front back : List A) (i j : ℕ) (x 
       at_one,
       at_other,
       ap (map f) (together x' y') ∙ map-set f (slice_set xs i x') j y'
-      ∙ ap (λ l. slice_set l j (f y')) (map-set f xs i x')
-      ∙ (λ k. slice_set (slice_set (map f xs) i (first k)) j (second k)),
+          ∙ ap (λ l. slice_set l j (f y')) (map-set f xs i x')
+          ∙ (λ k. slice_set (slice_set (map f xs) i (first k)) j (second k)),
     )
 
 -- ---- whoever meets the last one has met all
@@ -120,17 +121,19 @@ pub meets_last : (ks ks' : List Knows) (last place : ℕ) → IsLast ks last →
     → IsMet ks place ks' × IsLast ks' last
 meets_last ks ks' last place is_last before h =
     let other : last ≢ place = λ e. absurd (omega (arith, e)) in
-    let is = h.4 ∙ after_last ks last place h.0 h.1 is_last h.2 h.3 in
-    ((h.1, h.3, is),
-    subst (λ l. IsLast l last) (sym is) (stays_last ks last place h.0 h.1 is_last h.2 h.3 other))
+    let is = h.4 ∙ after_last ks last place h.0 h.1 is_last h.2 h.3 in (
+      (h.1, h.3, is),
+      subst (λ l. IsLast l last) (sym is) (stays_last ks last place h.0 h.1 is_last h.2 h.3 other),
+    )
 
 pub met_by_last : (ks ks' : List Knows) (last place : ℕ) → IsLast ks last → place < last → HaveMet ks place last ks'
     → IsMet ks place ks' × IsLast ks' last
 met_by_last ks ks' last place is_last before h =
     let other : last ≢ place = λ e. absurd (omega (arith, e)) in
-    let is = h.4 ∙ before_last ks last place h.1 h.0 is_last h.3 h.2 other in
-    ((h.0, h.2, is),
-    subst (λ l. IsLast l last) (sym is) (stays_last ks last place h.1 h.0 is_last h.3 h.2 other))
+    let is = h.4 ∙ before_last ks last place h.1 h.0 is_last h.3 h.2 other in (
+      (h.0, h.2, is),
+      subst (λ l. IsLast l last) (sym is) (stays_last ks last place h.1 h.0 is_last h.3 h.2 other),
+    )
 
 -- the last one itself has met all
 pub met_itself : (ks : List Knows) (last place : ℕ) → IsLast ks last → place ≡ last → place < length ks

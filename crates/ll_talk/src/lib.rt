@@ -4,10 +4,10 @@
 mod clients;
 mod party;
 
-pub use party::Party;
-
 ghost use Rattle.ll_talk.specs.Laws.{CallsAreSteps, ConnectsAreSteps, ConnectsMayFail, LooksChangeNothing};
 ghost use Rattle.ll_talk.specs.Laws.{PointsAreLegal, SpawnsAreSteps};
+
+pub use party::Party;
 
 /// A client's call that brings nobody is answered as the plain tree answers it at that point of the session.
 pub fn calls_are_steps()

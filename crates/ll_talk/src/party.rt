@@ -53,7 +53,8 @@ impl<N: Shape> Model for Party<N> {
 }
 
 impl<N: Shape> Party<N> {
-    /// Nobody has come yet. The tree's history may have so many entries. Room is reserved for all clients that may come.
+    /// Nobody has come yet. The tree's history may have so many entries. Room is reserved for all clients that may
+    /// come.
     pub fn new(alloc: Global, limit: u64) -> Result<Party<N>, AllocError>
         requires { limit ≡ N.limit }
         ensures { IfOk result (λ party. party ≡ []) }
@@ -103,7 +104,11 @@ impl<N: Shape> Party<N> {
     }
 
     /// A new client, whose entry stands after all that one of them knows of. It isn't one of them yet.
-    fn connect<R: Wait, G: Gate<N>>(&mut self, rt: &R, tree: &Tree<N, G>) -> Result<Client<N>, Errno>
+    fn connect<R: Wait, G: Gate<N>>(
+        &mut self,
+        rt: &R,
+        tree: &Tree<N, G>,
+    ) -> Result<Client<N>, Errno>
         ensures client { IfOk result (λ client. client.rider
             ≡ knows client.rider.number (numbered client.rider.seen calls.Connect replies.Done ∷ []) []
             client.rider.seen None) }

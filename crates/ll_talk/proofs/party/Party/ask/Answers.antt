@@ -1,4 +1,4 @@
-use Rattle.std.proofs.Common.{◌≤◌, sym, subst, arith}
+use Rattle.std.proofs.Common.{sym, subst, arith}
 use Rattle.ll_seq.specs.declared.call.Call.{Call}
 use Rattle.ll_talk.specs.Between.{Leads}
 use Rattle.ll_talk.proofs.Leadings.{Replies, call_so, spawn_so}
@@ -16,10 +16,10 @@ returns-in-Spawn-clause-leads g c = λ room.
 pub returns-in_default : goal.returns-in_default
 returns-in_default g c =
     let same = asks_count g.N.Shape.limit c.args.self.now c.call.new.self c.args.place c.args.call c.call.ensures.0
-        c.call.ensures.1 in
+    c.call.ensures.1 in
     record {
       leads = λ room. call_so g.N.Shape.rules room g.N.Shape.limit c.args.self.now c.call.new.self c.args.place
-        c.args.call c.call.result c.call.ensures;
+          c.args.call c.call.result c.call.ensures;
       count = omega (arith, same);
       most = omega (arith, same);
     }

@@ -51,10 +51,11 @@ returns-in-Err-NoMemory-clause-err g c = λ room.
     (omega (arith, few, size)))
 
 pub loop-preserved : goal.loop-preserved
-loop-preserved g c =
-    (λ room.
-    subst (λ (ks : List Knows). Leads g.N.Shape.rules room g.N.Shape.limit c.args.self.now ks Stays)
-    (sym c.connect.ensures.same)
-    (stays_on g.N.Shape.rules room g.N.Shape.limit c.args.self.now c.loop.self c.is_full.new.self
-    (c.loop.invariant.0 room) (c.is_full.ensures.leads room)),
-    ap length c.connect.ensures.same ∙ c.is_full.ensures.count ∙ c.loop.invariant.1)
+loop-preserved g c = (
+  λ room.
+      subst (λ (ks : List Knows). Leads g.N.Shape.rules room g.N.Shape.limit c.args.self.now ks Stays)
+      (sym c.connect.ensures.same)
+      (stays_on g.N.Shape.rules room g.N.Shape.limit c.args.self.now c.loop.self c.is_full.new.self
+      (c.loop.invariant.0 room) (c.is_full.ensures.leads room)),
+  ap length c.connect.ensures.same ∙ c.is_full.ensures.count ∙ c.loop.invariant.1,
+)

@@ -9,17 +9,18 @@ use Rattle.ll_talk.proofs.Lists.{asks_them, parent_last, parent_seen, spawns_the
 use Rattle.ll_talk.proofs.party.Party.spawn.Goals as goal
 
 pub invariant_of-self : goal.invariant_of-self
-invariant_of-self g c =
-    (parent_last (λ it. it.rider) c.args.self.now c.meet.new.self c.self.inside.clients.items c.args.place
-    c.index_mut.result.now c.self.view_is c.meet.ensures c.index_mut.ensures.value c.spawn-child.new.me
-    c.in-Ok.ensures.child.0.0,
-    c.self.invariant.1)
+invariant_of-self g c = (
+  parent_last (λ it. it.rider) c.args.self.now c.meet.new.self c.self.inside.clients.items c.args.place
+      c.index_mut.result.now c.self.view_is c.meet.ensures c.index_mut.ensures.value c.spawn-child.new.me
+      c.in-Ok.ensures.child.0.0,
+  c.self.invariant.1,
+)
 
 pub add-requires : goal.add-requires
 add-requires g c =
     let seen = parent_seen (λ it. it.rider) c.args.self.now c.meet.new.self c.self.inside.clients.items c.args.place
-        c.index_mut.result.now c.self.view_is c.meet.ensures c.index_mut.ensures.value c.spawn-child.new.me
-        c.in-Ok.ensures.child.0.0 in
+    c.index_mut.result.now c.self.view_is c.meet.ensures c.index_mut.ensures.value c.spawn-child.new.me
+    c.in-Ok.ensures.child.0.0 in
     let same = ap (λ (k : Knows). k.seen) c.in-Ok.ensures.child.1 in
     omega (arith, seen, same)
 
@@ -29,8 +30,8 @@ returns-in-Ok g c =
     inl (
       child.number,
       spawns_them (λ it. it.rider) c.args.self.now c.meet.new.self c.self.inside.clients.items c.args.place
-      c.index_mut.result.now c.self.view_is c.meet.ensures c.index_mut.ensures.value child.number c.spawn-child.new.me
-      child c.add.new.self c.in-Ok.ensures.child.0 c.in-Ok.ensures.child.1 c.add.ensures,
+          c.index_mut.result.now c.self.view_is c.meet.ensures c.index_mut.ensures.value child.number c.spawn-child.new.me
+          child c.add.new.self c.in-Ok.ensures.child.0 c.in-Ok.ensures.child.1 c.add.ensures,
       ap Spawned c.number-number.ensures,
     )
 
@@ -39,12 +40,13 @@ invariant_of-self-in-Err g c =
     let items = c.self.inside.clients.items in
     let limit = g.N.Shape.limit in
     let made = childless c.in-Err.errno in
-    let after = c.spawn-child.new.me in
-    (asks_last limit c.args.self.now (map (λ it. it.rider) (slice_set items c.args.place after)) c.args.place Spawn made
-    (asks_them (λ it. it.rider) c.args.self.now c.meet.new.self items c.args.place c.index_mut.result.now c.self.view_is
-    c.meet.ensures c.index_mut.ensures.value limit Spawn made after refl (childless_brings_none c.in-Err.errno)
-    c.in-Err.ensures.alone),
-    c.self.invariant.1)
+    let after = c.spawn-child.new.me in (
+      asks_last limit c.args.self.now (map (λ it. it.rider) (slice_set items c.args.place after)) c.args.place Spawn made
+          (asks_them (λ it. it.rider) c.args.self.now c.meet.new.self items c.args.place c.index_mut.result.now c.self.view_is
+          c.meet.ensures c.index_mut.ensures.value limit Spawn made after refl (childless_brings_none c.in-Err.errno)
+          c.in-Err.ensures.alone),
+      c.self.invariant.1,
+    )
 
 pub returns-in-Err : goal.returns-in-Err
 returns-in-Err g c =
@@ -52,7 +54,7 @@ returns-in-Err g c =
     inr (
       made,
       asks_them (λ it. it.rider) c.args.self.now c.meet.new.self c.self.inside.clients.items c.args.place
-      c.index_mut.result.now c.self.view_is c.meet.ensures c.index_mut.ensures.value g.N.Shape.limit Spawn made
-      c.spawn-child.new.me refl (childless_brings_none c.in-Err.errno) c.in-Err.ensures.alone,
+          c.index_mut.result.now c.self.view_is c.meet.ensures c.index_mut.ensures.value g.N.Shape.limit Spawn made
+          c.spawn-child.new.me refl (childless_brings_none c.in-Err.errno) c.in-Err.ensures.alone,
       sym (refusal_of c.in-Err.errno),
     )
