@@ -13,8 +13,9 @@ use Rattle.ll_seq.specs.State.{start}
 use Rattle.ll_seq.specs.Stages.{numbers_from}
 use Rattle.ll_session.specs.declared.setup.Setup.{Setup}
 use Rattle.ll_session.specs.declared.tree.SessionTree.{SessionTree}
-use Rattle.ll_session.specs.Session.{Session, starved}
-use Rattle.ll_session.specs.Opening.{Coming, Connects, Comes, Loads, Opens, made, unconnected, unmade, begun, refused}
+use Rattle.ll_talk.specs.Session.{Session, starved}
+use Rattle.ll_talk.specs.Session.{Connects}
+use Rattle.ll_session.specs.Opening.{Coming, Comes, Loads, Opens, made, unconnected, unmade, begun, refused}
 use Rattle.ll_session.specs.Opening.{fresh}
 use Rattle.ll_session.specs.declared.receipt.Receipt.{Receipt}
 use Rattle.ll_session.specs.declared.receipt.Refusal.{Refusal}

@@ -22,8 +22,8 @@ use Rattle.ll_seq.specs.State.{State, start, new_client}
 use Rattle.ll_seq.specs.Stages.{numbers_from}
 use Rattle.ll_seq.specs.Step.{step, refusals, client_of, first_or}
 use Rattle.ll_session.specs.declared.tree.SessionTree.{SessionTree}
-use Rattle.ll_session.specs.Session.{Session, answered, full, starved, next}
-use Rattle.ll_session.specs.Opening.{Connects, following, joined}
+use Rattle.ll_talk.specs.Session.{Session, answered, full, starved, next}
+use Rattle.ll_talk.specs.Session.{Connects, following, joined}
 use Rattle.ll_session.specs.Progress.{StandsAt}
 use Rattle.ll_session.proofs.StarvedPieces.{is_starved}
 use Rattle.ll_session.proofs.SessionPlaces.{how_many, one_more}

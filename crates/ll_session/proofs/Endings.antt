@@ -22,7 +22,7 @@ use Rattle.ll_lines.specs.Reached.{AnswersAll, Blames, StartsAll}
 use Rattle.ll_lines.specs.Transcript.{Transcript, Writes}
 use Rattle.ll_lines.specs.declared.fault.SessionFault.{SessionFault}
 use Rattle.ll_lines.specs.declared.fault.SessionFault.TheVariants.{Read, Write, NoMemory, TooLong}
-use Rattle.ll_session.specs.Session as at
+use Rattle.ll_talk.specs.Session as at
 use Rattle.ll_session.specs.Session.{Tells}
 use Rattle.ll_session.specs.Opening.{begun, fresh, refused, Opens}
 use Rattle.ll_session.specs.Run.{Begins, BeginsBy, BeginsLines, BeginsRefusal, EndsBy, MayEnd, Runs}

@@ -26,14 +26,17 @@ use Rattle.ll_wire.specs.Grammar.{IsCall}
 use Rattle.ll_session.proofs.Connecting.{paired, there_by}
 use Rattle.ll_session.specs.declared.setup.Setup.{Setup}
 use Rattle.ll_session.specs.declared.tree.SessionTree.{SessionTree}
-use Rattle.ll_session.specs.Opening.{Comes, Loads, Makes, Opens, Stops, begun, following, fresh, joined, made, refused}
+use Rattle.ll_talk.specs.Session.{following, joined}
+use Rattle.ll_session.specs.Opening.{Comes, Loads, Makes, Opens, Stops, begun, fresh, made, refused}
 use Rattle.ll_session.specs.Opening.{unconnected, unmade}
 use Rattle.ll_session.specs.Progress.{AreThere, IsSound, StandsAt, StaysSound}
 use Rattle.ll_session.specs.Run.{RunsLegally}
 use Rattle.ll_session.proofs.Replies.{CalledAt}
 use Rattle.ll_lines.specs.Transcript.{Transcript}
-use Rattle.ll_session.specs.Session.{Session, AreOthers, Called, Answers, Tells, answered, full, starved, calls, unread}
-use Rattle.ll_session.specs.Session.{bad, brought}
+use Rattle.ll_talk.specs.Session.{Session, Called, answered, full, starved}
+use Rattle.ll_session.specs.Session.{AreOthers, Answers, Tells, calls, unread}
+use Rattle.ll_talk.specs.Session.{brought}
+use Rattle.ll_session.specs.Session.{bad}
 
 -- a call that has a spelling is no connect
 pub no_connect : (call : Call) → IsCall call → is_connect call ≡ false

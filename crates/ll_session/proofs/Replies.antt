@@ -26,7 +26,8 @@ use Rattle.ll_wire.specs.Reads.{ReadsBy, holds_text}
 use Rattle.ll_session.specs.declared.receipt.Receipt.{Receipt}
 use Rattle.ll_session.specs.declared.receipt.Receipt.TheVariants.{Apart, Entered}
 use Rattle.ll_session.specs.declared.tree.SessionTree.{SessionTree}
-use Rattle.ll_session.specs.Session.{Session, Answers, Called, as_written, brought, next, answered, full, starved}
+use Rattle.ll_talk.specs.Session.{Session, Called, brought, next, answered, full, starved}
+use Rattle.ll_session.specs.Session.{Answers, as_written}
 use Rattle.ll_session.specs.Session.{calls, unread, bad}
 use Rattle.ll_session.specs.Progress.{IsUnread, StandsAt, last_reply, placed, told_by, written}
 use Rattle.ll_lines.specs.Cutting.{Holds}

@@ -6,7 +6,8 @@ use Rattle.std.proofs.lemmas.List.{append-nil}
 use Rattle.ll_seq.specs.declared.reply.Reply.{Reply}
 use Rattle.ll_seq.specs.declared.reply.Reply.TheVariants.{Spawned}
 use Rattle.ll_seq.specs.Stages.{numbers_from}
-use Rattle.ll_session.specs.Session.{brought, as_written}
+use Rattle.ll_talk.specs.Session.{brought}
+use Rattle.ll_session.specs.Session.{as_written}
 
 at : (k count i : ℕ) → i < count → slice_get (numbers_from k count) i ≡ Some (k + i)
 unfolding numbers_from

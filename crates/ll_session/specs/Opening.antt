@@ -1,32 +1,18 @@
 -- The clients that come before the first line. own
-use Rattle.std.specs.Prelude.{◌≡◌, ◌≢◌, ◌⊎◌, ℕ, ◌+◌, true, false, List, [], ◌∷◌, ◌++◌, length, drop, Option, Some, None}
+use Rattle.std.specs.Prelude.{◌≡◌, ◌≢◌, ◌⊎◌, ℕ, true, false, List, [], ◌∷◌, length, drop, Option, Some, None}
 use Rattle.std.specs.declared.vec.Vec.{Vec}
 use Rattle.std.specs.declared.alloc.Global.{Global}
-use Rattle.ll_rights.specs.Map.{has}
 use Rattle.ll_seq.specs.declared.call.Call.{Call}
-use Rattle.ll_seq.specs.declared.call.Call.TheVariants.{Connect}
 use Rattle.ll_seq.specs.declared.reply.Reply.{Reply}
 use Rattle.ll_seq.specs.declared.reply.Reply.TheVariants.{Done}
 use Rattle.ll_seq.specs.State.{start}
 use Rattle.ll_plain.specs.Refusal.{is_refusal}
+use Rattle.ll_talk.specs.Session.{Session, Called, Connects, following, joined}
 use Rattle.ll_session.specs.declared.setup.Setup.{Setup}
-use Rattle.ll_session.specs.Session.{Session, Called}
 
 -- a fresh tree, to which nobody has connected
 abbrev pub fresh : Setup → Session
 fresh setup = record { tree = start setup.rules setup.nodes; clients = []; entries = []; limit = setup.history }
-
--- the next client by number
-abbrev pub following : Session → ℕ
-following s = length s.clients + 1
-
--- Its connect gets this reply. Nobody has that number
-abbrev pub Connects : Session → Reply → Session → Type 0
-Connects s reply t = (has s.tree.clients (following s) ≡ false) × Called s (following s) Connect reply t
-
--- from s, after its connect has led to t, it is one of the clients
-abbrev pub joined : Session → Session → Session
-joined s t = record t { clients = t.clients ++ following s ∷ [] }
 
 -- A client makes these calls in turn, and none is refused
 abbrev pub Makes : ℕ → Session → List Call → Session → Type 0

@@ -30,7 +30,8 @@ use Rattle.ll_session.specs.declared.session.OpenSession.{OpenSession}
 use Rattle.ll_session.specs.declared.session.Opened.{Opened}
 use Rattle.ll_session.specs.declared.session.Opened.TheVariants.{Begun, Refused}
 use Rattle.ll_session.specs.Opening.{Coming, unconnected, unmade, Opens, stopped}
-use Rattle.ll_session.specs.Session.{Session, Tells}
+use Rattle.ll_talk.specs.Session.{Session}
+use Rattle.ll_session.specs.Session.{Tells}
 
 -- this of the session that the opening began
 abbrev pub IfBegun : Opened → (OpenSession → Type 0) → Type 0

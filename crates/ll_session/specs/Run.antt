@@ -13,7 +13,8 @@ use Rattle.ll_session.specs.declared.setup.Setup.{Setup}
 use Rattle.ll_lines.specs.Reached.{Blames}
 use Rattle.ll_lines.specs.Transcript.{Transcript}
 use Rattle.ll_lines.specs.declared.fault.SessionFault.TheVariants as fault
-use Rattle.ll_session.specs.Session.{Session, Tells}
+use Rattle.ll_talk.specs.Session.{Session}
+use Rattle.ll_session.specs.Session.{Tells}
 use Rattle.ll_session.specs.Opening.{Opens, begun, refused, stopped}
 
 -- the opening may begin a session

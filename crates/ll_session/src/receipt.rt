@@ -4,7 +4,7 @@ ghost use Rattle.std.specs.Prelude.{◌≡◌, ◌≤◌, ◌↔◌, IsTrue, len
 ghost use Rattle.ll_rights.specs.declared.errno.Errno.{Errno};
 ghost use Rattle.ll_seq.specs.declared.reply.Reply.{Reply};
 ghost use Rattle.ll_plain.specs.Refusal.{is_refusal};
-ghost use Rattle.ll_session.specs.Session.{brought};
+ghost use Rattle.ll_talk.specs.Session.{brought};
 ghost use Rattle.ll_session.specs.Progress.{receipt_of};
 
 use ll_rights::Errno;

@@ -7,7 +7,7 @@ ghost use Rattle.ll_seq.specs.State.{State, start};
 ghost use Rattle.ll_wire.specs.Entries.{IsEntry};
 ghost use Rattle.ll_session.specs.declared.fault.RunFault.{RunFault};
 ghost use Rattle.ll_lines.specs.declared.fault.SessionFault.{SessionFault};
-ghost use Rattle.ll_session.specs.Session.{Session};
+ghost use Rattle.ll_talk.specs.Session.{Session};
 ghost use Rattle.ll_lines.specs.Transcript.{Writes, most_reads};
 ghost use Rattle.ll_session.specs.Run.{Begins, BeginsBy, EndsBy, MayEnd, Runs};
 ghost use Rattle.ll_ends.specs.Devices.{IsWhole};

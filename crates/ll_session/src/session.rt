@@ -32,7 +32,8 @@ pub enum Opened {
 impl OpenSession {
     ghost use Rattle.ll_wire.specs.Grammar.{IsReply};
     ghost use Rattle.ll_lines.specs.declared.fault.SessionFault.{SessionFault};
-    ghost use Rattle.ll_session.specs.Session.{Session, Answers};
+    ghost use Rattle.ll_talk.specs.Session.{Session};
+    ghost use Rattle.ll_session.specs.Session.{Answers};
     ghost use Rattle.ll_session.specs.Opening.{Opens, begun, fresh, refused};
     ghost use Rattle.ll_lines.specs.Cutting.{Holds};
     ghost use Rattle.ll_session.specs.Progress.{used, written, IfBegun, IfRefused, OpensBadly, StandsAt, StaysSound};

@@ -32,8 +32,10 @@ pub struct SessionTree {
 }
 
 impl SessionTree {
-    ghost use Rattle.ll_session.specs.Session.{Session, AreOthers, Called, as_written};
-    ghost use Rattle.ll_session.specs.Opening.{Connects, Comes, Loads, Makes, Stops, joined, made};
+    ghost use Rattle.ll_talk.specs.Session.{Session, Called};
+    ghost use Rattle.ll_session.specs.Session.{AreOthers, as_written};
+    ghost use Rattle.ll_talk.specs.Session.{Connects, joined};
+    ghost use Rattle.ll_session.specs.Opening.{Comes, Loads, Makes, Stops, made};
     ghost use Rattle.ll_session.specs.Progress.{IsUnread, used, StandsAt, StaysSound, receipt_of, coming_in, told_by};
     ghost use Rattle.ll_session.specs.Progress.{written};
 

@@ -1,5 +1,5 @@
 -- What a client does that has met all others is an act of the session, and it is the last one then.
-use Rattle.std.specs.Prelude.{◌≡◌, ◌≢◌, ℕ, zero, suc, ◌≤◌, false, List, [], ◌∷◌, ◌++◌, length, Some, None}
+use Rattle.std.specs.Prelude.{◌≡◌, ◌≢◌, ℕ, zero, suc, ◌<◌, ◌≤◌, false, List, [], ◌∷◌, ◌++◌, length, Some, None}
 use Rattle.std.specs.Prelude.{slice_get, slice_set, refl}
 use Rattle.std.proofs.Common.{sym, ap, subst, ◌∙◌, inr, arith}
 use Rattle.std.proofs.lemmas.Bool.{false≢true}
@@ -51,6 +51,14 @@ set_again [] place j k = refl
 set_again (i ∷ ks) zero j k = refl
 set_again (i ∷ ks) (suc place) j k = ap (λ l. i ∷ l) (set_again ks place j k)
 
+set_last : (ks ks' : List Knows) (place : ℕ) (me now : Knows) → slice_get ks place ≡ Some me → seen_by ks ≤ now.seen
+    → ks' ≡ slice_set ks place now → IsLast ks' place
+set_last ks ks' place me now at later is = inr (
+  now,
+  ap (λ l. slice_get l place) is ∙ set_there ks place me now at,
+  sym (ap seen_by is ∙ seen_set ks place me now at later),
+)
+
 module _ (ks mid : List Knows) (place : ℕ) (m : IsMet ks place mid) (known : Knows)
     (at : slice_get mid place ≡ Some known)
   where
@@ -84,17 +92,23 @@ module _ (ks mid : List Knows) (place : ℕ) (m : IsMet ks place mid) (known : K
       after = is ∙ ap (λ l. l ++ knows child [] [] now.seen None ∷ []) (set_met now);
     }
 
+    is_seen : known.seen ≡ seen_by ks
+    is_seen = ap (λ (k : Knows). k.seen) is_met
+
+    pub told_last : (now : Knows) (ks' : List Knows) → known.seen < now.seen → ks' ≡ slice_set mid place now
+        → IsLast ks' place
+    told_last now ks' later is =
+        let same = is_seen in set_last ks ks' place m.0 now m.1 (omega (arith, same, later)) (is ∙ set_met now)
+
+    pub told_seen : (now : Knows) (ks' : List Knows) → known.seen < now.seen → ks' ≡ slice_set mid place now
+        → seen_by ks' ≡ now.seen
+    told_seen now ks' later is =
+        let same = is_seen in
+        ap seen_by (is ∙ set_met now) ∙ seen_set ks place m.0 now m.1 (omega (arith, same, later))
+
 -- ---- who is the last one then
 
-set_last : (ks ks' : List Knows) (place : ℕ) (me now : Knows) → slice_get ks place ≡ Some me → seen_by ks ≤ now.seen
-    → ks' ≡ slice_set ks place now → IsLast ks' place
-set_last ks ks' place me now at later is = inr (
-  now,
-  ap (λ l. slice_get l place) is ∙ set_there ks place me now at,
-  sym (ap seen_by is ∙ seen_set ks place me now at later),
-)
-
-push_last : (ks ks' : List Knows) (now : Knows) → seen_by ks ≤ now.seen → ks' ≡ ks ++ now ∷ []
+pub push_last : (ks ks' : List Knows) (now : Knows) → seen_by ks ≤ now.seen → ks' ≡ ks ++ now ∷ []
     → IsLast ks' (length ks)
 push_last ks ks' now later is = inr (
   now,

@@ -24,8 +24,7 @@ use Rattle.ll_talk.specs.Between.{IsSettled, between}
 use Rattle.ll_client.specs.Closed.{IsClosed}
 use Rattle.ll_client.specs.Entries.{Knows}
 use Rattle.ll_talk.specs.Laws.{ConnectsMayFail, PointsAreLegal}
-use Rattle.ll_session.specs.Opening.{following}
-use Rattle.ll_session.specs.Session.{Session, answered, full, next, starved}
+use Rattle.ll_talk.specs.Session.{Session, answered, following, full, next, starved}
 use Rattle.ll_talk.specs.Talk.{seen_by}
 use Rattle.ll_talk.proofs.Closings.{all_entered, numbers_at}
 use Rattle.ll_talk.proofs.Comers.{connects, nobody_new}

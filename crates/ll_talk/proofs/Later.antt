@@ -3,7 +3,7 @@ use Rattle.std.specs.Prelude.{◌≡◌, ℕ, zero, suc, ◌≤◌, List, [], �
 use Rattle.std.proofs.Common.{sym, ap, subst, arith}
 use Rattle.ll_seq.specs.declared.call.Call.{Call}
 use Rattle.ll_seq.specs.declared.reply.Reply.{Reply}
-use Rattle.ll_session.specs.Session.{Session, Called, answered, brought, full, next, starved}
+use Rattle.ll_talk.specs.Session.{Session, Called, answered, brought, full, next, starved}
 
 abbrev pub without_first : ℕ → Session → Session
 without_first n s = record s { clients = drop n s.clients }

@@ -5,7 +5,7 @@ use Rattle.ll_seq.specs.declared.rules.Rules.{Rules}
 use Rattle.ll_talk.specs.Between.{IsSettled, Leads, between}
 use Rattle.ll_client.specs.Closed.{IsClosed}
 use Rattle.ll_client.specs.Entries.{Knows}
-use Rattle.ll_session.specs.Session.{Session}
+use Rattle.ll_talk.specs.Session.{Session}
 use Rattle.ll_talk.proofs.Edges.{nobody_yet}
 use Rattle.ll_talk.proofs.Growths.{stays_so, then_grows}
 

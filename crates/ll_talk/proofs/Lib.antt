@@ -11,3 +11,6 @@ pub mod Edges
 pub mod Leading
 pub mod Acts
 pub mod Later
+pub mod Meeting
+pub mod Leadings
+pub mod Lists

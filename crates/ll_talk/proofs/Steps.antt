@@ -19,7 +19,7 @@ use Rattle.ll_talk.specs.Between.{IsSettled, between, tree_at}
 use Rattle.ll_client.specs.Closed.{IsClosed, numbers_of}
 use Rattle.ll_client.specs.Entries.{Knows, numbered}
 use Rattle.ll_client.specs.declared.account.Numbered.{Numbered}
-use Rattle.ll_session.specs.Session.{Called, answered, brought, next}
+use Rattle.ll_talk.specs.Session.{Called, answered, brought, next}
 use Rattle.ll_talk.specs.Talk.{Grows, seen_by}
 use Rattle.ll_talk.proofs.Closings.{covered, numbers_at, part_tells}
 use Rattle.ll_talk.proofs.Comers.{same_many}

@@ -26,8 +26,7 @@ use Rattle.ll_client.specs.Entries.{starved_at}
 use Rattle.ll_talk.specs.Laws.{AsksIsCall, JoinsIsConnect, LooksIsNothing, SpawnsIsCall}
 use Rattle.ll_journal.specs.declared.direct.Made.TheVariants as made
 use Rattle.ll_journal.specs.declared.direct.Made.{Made}
-use Rattle.ll_session.specs.Opening.{Connects, following, joined}
-use Rattle.ll_session.specs.Session.{Session, Called, brought, full, next, starved}
+use Rattle.ll_talk.specs.Session.{Session, Called, Connects, brought, following, full, joined, next, starved}
 use Rattle.ll_talk.specs.Talk.{Asks, ComesOn, Grows, Joins, Looks, LooksAt, Spawns, is_birth, met, seen_by}
 use Rattle.ll_talk.proofs.Closings.{was_starved}
 use Rattle.ll_talk.proofs.Comers.{caller_there, child_there, one_child, one_comer}

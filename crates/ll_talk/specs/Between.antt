@@ -10,7 +10,7 @@ use Rattle.ll_seq.specs.State.{State, start}
 use Rattle.ll_client.specs.Closed.{IsClosed, numbers_of}
 use Rattle.ll_client.specs.Entries.{Knows}
 use Rattle.ll_client.specs.declared.account.Numbered.{Numbered}
-use Rattle.ll_session.specs.Session.{Session}
+use Rattle.ll_talk.specs.Session.{Session}
 use Rattle.ll_talk.specs.Talk.{Grows, seen_by}
 
 -- the tree after so many entries

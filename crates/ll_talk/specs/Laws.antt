@@ -13,8 +13,7 @@ use Rattle.ll_talk.specs.Between.{IsSettled, Leads, between}
 use Rattle.ll_client.specs.Closed.{IsClosed}
 use Rattle.ll_client.specs.Entries.{Knows}
 use Rattle.ll_journal.specs.declared.direct.Made.{Made}
-use Rattle.ll_session.specs.Opening.{Connects, following, joined}
-use Rattle.ll_session.specs.Session.{Session, Called}
+use Rattle.ll_talk.specs.Session.{Session, Called, Connects, following, joined}
 use Rattle.ll_talk.specs.Talk.{Asks, Spawns, Joins, Looks, reply_of, seen_by}
 
 module _ (rules : Rules) (room limit : ℕ) (ks ks' : List Knows) where

@@ -1,3 +1,4 @@
 pub mod Between
 pub mod Laws
+pub mod Session
 pub mod Talk

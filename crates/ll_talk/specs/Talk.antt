@@ -32,6 +32,12 @@ IsLast ks place = (ks ≡ []) ⊎ ((k : Knows) × (slice_get ks place ≡ Some k
 abbrev pub IsMet : List Knows → ℕ → List Knows → Type 0
 IsMet ks place ks' = (me : Knows) × (slice_get ks place ≡ Some me) × (ks' ≡ slice_set ks place (met ks me))
 
+-- the clients at these two places have met: both know of all that one of them knew of
+abbrev pub HaveMet : List Knows → (one other : ℕ) → List Knows → Type 0
+HaveMet ks one other ks' = (a : Knows) × (b : Knows) × (slice_get ks one ≡ Some a) × (slice_get ks other ≡ Some b)
+    × (ks' ≡ slice_set (slice_set ks one (record a { seen = max a.seen b.seen })) other
+    (record b { seen = max a.seen b.seen }))
+
 -- it brings a child
 abbrev pub is_birth : Made → Bool
 is_birth (made.Replied (Spawned number)) = true

@@ -1,8 +1,13 @@
-//! Laws about a session that owns all clients of a tree that threads share, and makes their calls one after the other.
+//! A session that owns all clients of a tree that threads share, and makes their calls one after the other.
 #![tactic(auto)]
+
+mod clients;
+mod party;
 
 ghost use Rattle.ll_talk.specs.Laws.{CallsAreSteps, ConnectsAreSteps, ConnectsMayFail, LooksChangeNothing};
 ghost use Rattle.ll_talk.specs.Laws.{PointsAreLegal, SpawnsAreSteps};
+
+pub use party::Party;
 
 /// A client's call that brings nobody is answered as the plain tree answers it at that point of the session.
 pub fn calls_are_steps()

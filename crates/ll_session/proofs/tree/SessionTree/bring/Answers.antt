@@ -1,5 +1,6 @@
 use Rattle.std.proofs.Common.{sym, subst, refl, ℕ}
-use Rattle.ll_session.specs.Opening.{Makes, Stops, joined}
+use Rattle.ll_talk.specs.Session.{joined}
+use Rattle.ll_session.specs.Opening.{Makes, Stops}
 use Rattle.ll_session.specs.Progress.{written}
 use Rattle.ll_session.proofs.Connecting.{next_number}
 use Rattle.ll_session.proofs.tree.SessionTree.bring.Goals as goal

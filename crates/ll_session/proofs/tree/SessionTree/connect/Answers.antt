@@ -4,8 +4,8 @@ use Rattle.ll_rights.specs.Map.{has}
 use Rattle.ll_rights.specs.declared.errno.Errno.TheVariants.{NoMemory}
 use Rattle.ll_seq.specs.declared.reply.Reply.{Reply}
 use Rattle.ll_seq.specs.declared.reply.Reply.TheVariants.{Done, Spawned, Refused}
-use Rattle.ll_session.specs.Opening.{Connects}
-use Rattle.ll_session.specs.Session.{Session}
+use Rattle.ll_talk.specs.Session.{Connects}
+use Rattle.ll_talk.specs.Session.{Session}
 use Rattle.ll_session.proofs.StarvedPieces.{is_starved}
 use Rattle.ll_session.proofs.Connecting.{comes_to, connected, no_connect_by_tree, no_connect_fits}
 use Rattle.ll_session.proofs.Connecting.{no_connect_for_memory}

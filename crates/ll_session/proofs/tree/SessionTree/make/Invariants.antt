@@ -1,6 +1,6 @@
 use Rattle.std.proofs.Common.{◌≡◌, ◌+◌, ◌*◌, ◌≤◌, drop, length}
 use Rattle.ll_seq.specs.declared.reply.Reply.{Reply}
-use Rattle.ll_session.specs.Session.{Session}
+use Rattle.ll_talk.specs.Session.{Session}
 use Rattle.ll_session.specs.Opening.{Makes, Stops}
 use Rattle.ll_session.specs.Progress.{used, StandsAt}
 use Rattle.ll_session.proofs.tree.SessionTree.make.Given as goal
