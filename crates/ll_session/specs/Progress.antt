@@ -16,6 +16,7 @@ use Rattle.ll_lines.specs.declared.fault.SessionFault.TheVariants as fault
 use Rattle.ll_wire.specs.Writing.{AppendsFront}
 use Rattle.ll_talk.specs.Between.{Leads}
 use Rattle.ll_talk.specs.Session.{Session}
+use Rattle.ll_talk.proofs.Growths.{stays_so, then_grows}
 use Rattle.ll_session.specs.declared.opening.Refusal.{Refusal}
 use Rattle.ll_session.specs.declared.opening.Refusal.TheVariants.{AtCall, AtConnect}
 use Rattle.ll_session.specs.declared.opening.Shut.{Shut}
@@ -67,6 +68,17 @@ module _ (rules : Rules) (limit : ℕ) where
   -- these clients have come on to those
   abbrev pub ComesOn : (ks ks' : List Knows) → Type 0
   ComesOn ks ks' = (room : ℕ) → Leads rules room limit ks ks' (λ s t. ⊤)
+
+  pub comes_nowhere : (ks : List Knows) → ComesOn ks ks
+  comes_nowhere ks room = (stays_so ks, λ history end c g s. (s, tt))
+
+  pub comes_further : (is js ks : List Knows) → ComesOn is js → ComesOn js ks → ComesOn is ks
+  comes_further is js ks one two room = (
+    then_grows is js ks (one room).0 (two room).0,
+    λ history end c g s.
+        let first = (one room).1 history end c (then_grows js ks end (two room).0 g) s in
+        (((two room).1 history end c g first.0).0, tt),
+  )
 
 -- The tree was closed with these entries, and to the clients that it had then these came on, so
 abbrev pub Closes : Rules → (room limit : ℕ) → List Knows → List Entry → (Session → Session → Type 0) → Type 0

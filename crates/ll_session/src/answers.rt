@@ -8,8 +8,7 @@ use std::alloc::AllocError;
 use std::sync::Wait;
 
 impl<'a, N: Shape, R: Wait> Answers for OpenSession<'a, N, R> {
-    ghost use Rattle.ll_session.proofs.Ways.{comes_nowhere, comes_further};
-    ghost use Rattle.ll_session.specs.Progress.{ComesOn, TellsOn};
+    ghost use Rattle.ll_session.specs.Progress.{ComesOn, TellsOn, comes_further, comes_nowhere};
 
     ghost tells = { λ before piece line after. TellsOn N.rules N.limit before.before before.shared.party piece line
         after.before after.shared.party };

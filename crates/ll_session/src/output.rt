@@ -12,7 +12,7 @@ use ll_ends::Ends;
 use ll_lines::{SessionFault, write_line};
 use ll_rights::Errno;
 use ll_seq::Reply;
-use ll_wire::{line_text, reply_text};
+use ll_wire::{is_entered, line_text, reply_text};
 use std::alloc::{AllocError, Global};
 
 // The line of a refusal.
@@ -31,6 +31,7 @@ pub fn reply_line(alloc: Global, reply: &Reply) -> Result<String, AllocError>
         Reply::Refused(errno) => refusal_line(alloc, *errno),
         reply => {
             reply.by_type();
+            is_entered(reply);
             reply_text(alloc, reply)
         }
     }
