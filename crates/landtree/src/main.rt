@@ -31,6 +31,7 @@ use ll_saved::Verdict;
 use output::NewFile;
 use std::io::{IsTerminal, Read};
 use std::process::ExitCode;
+use std::sync::Wait;
 use std::{env, io};
 
 fn words_of(rt: &HostRuntime) -> Result<Vec<String>, Failure> {
@@ -56,7 +57,7 @@ fn told(rt: &HostRuntime, error: &clap::Error) -> Result<Conclusion, Failure>
 }
 
 // Sets up the run that is wanted, runs the script, and saves the history, if a file is named.
-fn run_options<S: Sources>(
+fn run_options<S: Sources + Wait>(
     rt: &HostRuntime,
     sources: &S,
     options: &RunOptions,
@@ -66,6 +67,7 @@ fn run_options<S: Sources>(
         × MayFail (order_in options.now) text failure) }
 {
     run(
+        sources,
         rt.alloc(),
         options,
         &mut Late::new(sources, Some(options.policy.unwrap_or(""))),
@@ -152,7 +154,7 @@ fn texts_of<S: Sources>(
 }
 
 // Checks the files that are wanted.
-fn check_files<S: Sources>(
+fn check_files<S: Sources + Wait>(
     rt: &HostRuntime,
     sources: &S,
     options: &CheckOptions,
@@ -163,6 +165,7 @@ fn check_files<S: Sources>(
     };
     let texts = texts_of(rt, sources, options.files.as_slice())?;
     check(
+        sources,
         rt.alloc(),
         options,
         policy.as_slice(),
@@ -173,7 +176,7 @@ fn check_files<S: Sources>(
 }
 
 // Does what is wanted.
-fn carry_out<S: Sources>(
+fn carry_out<S: Sources + Wait>(
     rt: &HostRuntime,
     sources: &S,
     options: &Options,
@@ -213,7 +216,7 @@ fn carry_out<S: Sources>(
     }
 }
 
-fn run_words<S: Sources>(
+fn run_words<S: Sources + Wait>(
     rt: &HostRuntime,
     sources: &S,
     words: &[&str],
@@ -248,7 +251,7 @@ fn run_words<S: Sources>(
     }
 }
 
-fn run_program(rt: &HostRuntime) -> Result<Conclusion, Failure> {
+fn run_program<S: Sources + Wait>(rt: &HostRuntime, sources: &S) -> Result<Conclusion, Failure> {
     let words = words_of(rt)?;
     let Ok(words) = words
         .iter()
@@ -257,7 +260,7 @@ fn run_program(rt: &HostRuntime) -> Result<Conclusion, Failure> {
     else {
         return Err(Failure::NoMemory);
     };
-    run_words(rt, rt, words.as_slice())
+    run_words(rt, sources, words.as_slice())
 }
 
 // Says why the program fails, where it does. The status that it ends with.
@@ -274,5 +277,5 @@ fn concluded(rt: &HostRuntime, ended: Result<Conclusion, Failure>) -> ExitCode
 }
 
 fn main(rt: HostRuntime) -> ExitCode {
-    concluded(&rt, run_program(&rt))
+    concluded(&rt, run_program(&rt, &rt))
 }

@@ -14,6 +14,7 @@ use ll_lines::SessionFault;
 use ll_seq::History;
 use ll_session::{RunFault, Setup};
 use std::alloc::{AllocError, Global};
+use std::sync::Wait;
 
 // Reports on how the tests were made.
 fn report(
@@ -46,7 +47,8 @@ fn report(
 }
 
 /// Makes a file's tests in a tree of its own, judges the replies, and writes the report at the end.
-pub fn check_file(
+pub fn check_file<R: Wait>(
+    rt: &R,
     out: &mut Vec<u8>,
     alloc: Global,
     detail: Detail,
@@ -58,7 +60,7 @@ pub fn check_file(
         IsChecked detail setup file.now (map meaning_of lines.now) out.old.items out.new.items tally) }
     ensures fault { IfErr result (λ fault. MayEnd setup fault) }
 {
-    let (made, history) = make(alloc, setup, lines)?;
+    let (made, history) = make(rt, alloc, setup, lines)?;
     match report(out, alloc, detail, file, lines, &made, &history) {
         Ok(tally) => Ok(tally),
         Err(_) => Err(RunFault::Session(SessionFault::NoMemory)),

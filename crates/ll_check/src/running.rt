@@ -12,6 +12,7 @@ use ll_lines::SessionFault;
 use ll_seq::History;
 use ll_session::{RunFault, Setup, run_script};
 use std::alloc::{AllocError, Global};
+use std::sync::Wait;
 
 /// How the tests of a file are made.
 #[derive(Drop)]
@@ -59,14 +60,19 @@ fn is_answered(script: &[u8], rest: &[u8], replies: &[u8]) -> bool
 }
 
 // Makes the calls of a script.
-fn make_script(alloc: Global, setup: Setup, script: &[u8]) -> Result<(Made, History), RunFault>
+fn make_script<R: Wait>(
+    rt: &R,
+    alloc: Global,
+    setup: Setup,
+    script: &[u8],
+) -> Result<(Made, History), RunFault>
     ensures made { IfOk result (λ done. Makes setup script.now done.0 done.1.entries) }
     ensures entries { IfOk result (λ done. All IsEntry done.1.entries) }
     ensures fault { IfErr result (λ fault. MayEnd setup fault) }
 {
     let mut rest = script;
     let mut replies = Vec::new(alloc);
-    match run_script(alloc, setup, &mut rest, &mut replies) {
+    match run_script(rt, alloc, setup, &mut rest, &mut replies) {
         Ok(history) => {
             if is_answered(script, rest, replies.as_slice()) {
                 Ok((Made::Answered(replies), history))
@@ -79,7 +85,8 @@ fn make_script(alloc: Global, setup: Setup, script: &[u8]) -> Result<(Made, Hist
 }
 
 /// Makes the calls of a file's tests in a tree of its own, as `run` makes a script's. The history of that is left.
-pub fn make(
+pub fn make<R: Wait>(
+    rt: &R,
     alloc: Global,
     setup: Setup,
     lines: &[CheckLine<'_>],
@@ -92,5 +99,5 @@ pub fn make(
     let Ok(script) = script_of(alloc, lines) else {
         return Err(RunFault::Session(SessionFault::NoMemory));
     };
-    make_script(alloc, setup, script.as_slice())
+    make_script(rt, alloc, setup, script.as_slice())
 }

@@ -14,6 +14,7 @@ use ll_rights::limits::HISTORY_ENTRIES;
 use ll_session::Setup;
 use std::alloc::{AllocError, Global};
 use std::io::Write;
+use std::sync::Wait;
 
 /// How a check ends.
 #[derive(Clone, Copy, Debug, PartialEq, Eq)]
@@ -111,7 +112,8 @@ fn name_of<'a>(options: &CheckOptions<'a>, file: usize) -> &'a str {
 }
 
 // Checks all files, one after the other. What is reported comes behind the report so far.
-fn check_all(
+fn check_all<R: Wait>(
+    rt: &R,
     alloc: Global,
     options: &CheckOptions,
     policy: &[u8],
@@ -129,6 +131,7 @@ fn check_all(
         let lines = checks.lines.as_slice();
         let setup = setup_for(alloc, options, policy, lines.len())?;
         let tally = match check_file(
+            rt,
             report,
             alloc,
             detail_of(options),
@@ -157,7 +160,8 @@ fn push_total(report: &mut Vec<u8>, alloc: Global, total: Tally) -> Result<(), A
     report.extend_from_slice(b" failed\n")
 }
 
-fn check_and_tell<W: Write>(
+fn check_and_tell<R: Wait, W: Write>(
+    rt: &R,
     alloc: Global,
     options: &CheckOptions,
     policy: &[u8],
@@ -167,7 +171,7 @@ fn check_and_tell<W: Write>(
     ensures { IfOk result (λ end. end ≢ checked.Checked.BadLine) }
 {
     let mut report = Vec::new(alloc);
-    let total = check_all(alloc, options, policy, all, &mut report)?;
+    let total = check_all(rt, alloc, options, policy, all, &mut report)?;
     if push_total(&mut report, alloc, total).is_err() {
         return Err(Failure::NoMemory);
     }
@@ -213,7 +217,8 @@ fn tell_bad<E: Write>(
 
 /// Checks these files' texts, each over a tree of its own, and writes the report. All are read before anything is run:
 /// where a line says nothing, that is told, and nothing else is done.
-pub fn check<W: Write, E: Write>(
+pub fn check<R: Wait, W: Write, E: Write>(
+    rt: &R,
     alloc: Global,
     options: &CheckOptions,
     policy: &[u8],
@@ -225,7 +230,7 @@ pub fn check<W: Write, E: Write>(
     ensures nothing { result ≡ Ok checked.Checked.BadLine → Keeps (W.contents out.old) (W.contents out.new) }
 {
     match read_all(alloc, texts) {
-        Ok(all) => check_and_tell(alloc, options, policy, all.as_slice(), out),
+        Ok(all) => check_and_tell(rt, alloc, options, policy, all.as_slice(), out),
         Err(
             BadFile {
                 fault: CheckFault::NoMemory,

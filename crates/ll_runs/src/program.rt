@@ -25,9 +25,11 @@ use ll_session::{Setup, run_script};
 use ll_wire::{Header, Version};
 use std::alloc::Global;
 use std::io::{Read, Write};
+use std::sync::Wait;
 
 /// Runs a script over a tree that is set up so. What is left is its history.
-pub fn perform<R: Read, W: Write>(
+pub fn perform<H: Wait, R: Read, W: Write>(
+    rt: &H,
     alloc: Global,
     setup: Setup,
     script: &mut R,
@@ -43,7 +45,7 @@ pub fn perform<R: Read, W: Write>(
     ensures failure { IfErr result (λ failure. (fault : RunFault)
         × MayEnd setup fault × (failure ≡ failure_of fault)) }
 {
-    match run_script(alloc, setup, script, out) {
+    match run_script(rt, alloc, setup, script, out) {
         Ok(history) => Ok(history),
         Err(fault) => Err(Failure::of_run(fault)),
     }
@@ -83,7 +85,8 @@ pub fn save_history<W: Write>(
 
 /// Runs a script as the options ask for it, by the policy in this file where they name one, and saves the history in
 /// the other file, under the header of the tree that it is of, where they name that.
-pub fn run<P: Read, R: Read, W: Write, F: Write>(
+pub fn run<H: Wait, P: Read, R: Read, W: Write, F: Write>(
+    rt: &H,
     alloc: Global,
     options: &RunOptions,
     policy: &mut P,
@@ -102,7 +105,7 @@ pub fn run<P: Read, R: Read, W: Write, F: Write>(
         Err(failure) => return Err(failure),
     };
     let header = header_of(&setup);
-    let history = match perform(alloc, setup, script, out) {
+    let history = match perform(rt, alloc, setup, script, out) {
         Ok(history) => history,
         Err(failure) => return Err(failure),
     };

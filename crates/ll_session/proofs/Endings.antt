@@ -3,45 +3,34 @@ use Rattle.std.proofs.Common.{◌≡◌, ℕ, List, [], ◌∷◌, ◌++◌, Opt
 use Rattle.std.proofs.Common.{Result, Ok, Err}
 use Rattle.std.specs.Prelude.{IfErr, IfSome, OnErr, IsErrAnd}
 use Rattle.std.specs.Io.KnownBytes.{Appends}
+use Rattle.ll_client.specs.Closed.{IsClosed}
+use Rattle.ll_client.specs.Entries.{Knows}
 use Rattle.ll_ends.specs.Devices.{Devices, IsWhole}
-use Rattle.ll_session.specs.declared.receipt.Receipt.{Receipt}
-use Rattle.ll_session.specs.declared.tree.SessionTree.{SessionTree}
 use Rattle.ll_wire.specs.Grammar.{reply_line}
 use Rattle.ll_wire.specs.Pieces.{pieces}
 use Rattle.ll_rights.specs.declared.errno.Errno.TheVariants as errno
 use Rattle.ll_seq.specs.declared.reply.Entry.{Entry}
 use Rattle.ll_seq.specs.declared.reply.Reply.{Reply}
 use Rattle.ll_seq.specs.declared.reply.Reply.TheVariants.{Refused}
+use Rattle.ll_seq.specs.declared.rules.Rules.{Rules}
 use Rattle.ll_session.specs.declared.fault.RunFault.{RunFault}
 use Rattle.ll_session.specs.declared.fault.RunFault.TheVariants.{Opening, Session}
 use Rattle.ll_session.specs.declared.setup.Setup.{Setup}
-use Rattle.ll_session.specs.declared.session.OpenSession.{OpenSession}
-use Rattle.ll_session.specs.declared.session.Opened.{Opened}
-use Rattle.ll_session.specs.declared.session.Opened.TheVariants as opened
 use Rattle.ll_lines.specs.Reached.{AnswersAll, Blames, StartsAll}
 use Rattle.ll_lines.specs.Transcript.{Transcript, Writes}
 use Rattle.ll_lines.specs.declared.fault.SessionFault.{SessionFault}
 use Rattle.ll_lines.specs.declared.fault.SessionFault.TheVariants.{Read, Write, NoMemory, TooLong}
+use Rattle.ll_talk.specs.Between.{IsSettled, Leads, between}
 use Rattle.ll_talk.specs.Session as at
+use Rattle.ll_talk.specs.Talk.{Grows}
+use Rattle.ll_talk.proofs.Growths.{stays_so, then_grows}
 use Rattle.ll_session.specs.Session.{Tells}
 use Rattle.ll_session.specs.Opening.{begun, fresh, refused, Opens}
 use Rattle.ll_session.specs.Run.{Begins, BeginsBy, BeginsLines, BeginsRefusal, EndsBy, MayEnd, Runs}
-use Rattle.ll_session.specs.Progress.{Advances, IfBegun, IfRefused, IsOfRefusal, OpensBadly, RunsFrom, StandsAt}
-use Rattle.ll_session.specs.Progress.{StopsFrom}
+use Rattle.ll_session.specs.Progress.{ComesOn, IsOfRefusal, RunsTo, StopsAt, TellsOn, without}
 use Rattle.ll_wire.proofs.WrittenText.{appends-none}
 use Rattle.ll_session.proofs.Coming.{may_be_refused}
-
-pub of_begun : (P : OpenSession → Type 0) (o : Opened) (session : OpenSession) → o ≡ opened.Begun session → IfBegun o P
-    → P session
-of_begun P o session is h = subst (λ (x : Opened). IfBegun x P) is h
-
-pub of_refused : (P : SessionTree → Receipt → Type 0) (o : Opened) (tree : SessionTree) (answer : Receipt)
-    → o ≡ opened.Refused tree answer → IfRefused o P → P tree answer
-of_refused P o tree answer is h = subst (λ (x : Opened). IfRefused x P) is h
-
--- the session that an opening began
-abbrev pub Begun : Setup → OpenSession → Type 0
-Begun setup session = (first : at.Session) × Opens setup (begun first) × StandsAt session.tree first
+use Rattle.ll_session.proofs.Ways.{AtEnd}
 
 some_is : (o : Option (List ℕ)) (P : List ℕ → Type 0) → ((x : List ℕ) → o ≡ Some x → P x) → IfSome o P
 some_is None P f = tt
@@ -53,62 +42,97 @@ pub if_err : {T : Type 0} (r : Result T RunFault) (of : SessionFault) (P : RunFa
 if_err (Ok value) of P is p = tt
 if_err (Err fault) of P is p = subst P (sym is) p
 
--- a transcript of the session's tree is one of each session that it is the tree of
-pub of_sessions : (a b : OpenSession) (done : List (List ℕ)) (text : List ℕ)
-    → Transcript {S = OpenSession} (λ before piece line after. Advances before.tree piece line after.tree) a done text b
-    → (s : at.Session) → StandsAt a.tree s
-    → (t : at.Session) × Transcript Tells s done text t × StandsAt b.tree t
-of_sessions a b [] text h s stands = (s, (h.0, refl), subst (λ (x : OpenSession). StandsAt x.tree s) (sym h.1) stands)
-of_sessions a b (piece ∷ done) text h s stands =
-    let one = h.3 s stands in
-    let more = of_sessions h.1 b done h.2 h.4 one.0 one.2 in
-    (more.0, (h.0, one.0, h.2, one.1, more.1, h.5), more.2)
+-- ---- lines, one after the other
 
-pub runs_from : (a b : OpenSession) (old new : Devices) (entries : List Entry) → entries ≡ b.tree.history.entries
-    → AnswersAll {S = OpenSession} (λ before piece line after. Advances before.tree piece line after.tree) a b old new
-    → RunsFrom a.tree entries old new
-runs_from a b old new entries same all input first is stands =
-    let h = all input is in
-    let t = of_sessions a b (pieces input) h.1.0 h.1.1 first stands in
-    (h.0, (h.1.0, t.0, t.1, same ∙ sym t.2.entries, h.1.2))
+module _ {S : Type 0} (clients : S → List Knows) (before : S → ℕ) (rules : Rules) (limit : ℕ) where
+  abbrev pub On : S → List ℕ → List ℕ → S → Type 0
+  On a piece line b = TellsOn rules limit (before a) (clients a) piece line (before b) (clients b)
 
-pub stops_from : (a b : OpenSession) (old new : Devices)
-    → StartsAll {S = OpenSession} (λ before piece line after. Advances before.tree piece line after.tree) a b old new
-    → StopsFrom a.tree old new
-stops_from a b old new start input first is stands =
-    let h = start input is in
-    let t = of_sessions a b h.0 h.2 h.4 first stands in
-    (h.0, h.1, h.2, t.0, h.3, t.1, h.5)
+  lines_grow : (a b : S) (done : List (List ℕ)) (text : List ℕ) → Transcript On a done text b
+      → Grows (clients a) (clients b)
+  lines_grow a b [] text h = subst (λ (x : S). Grows (clients a) (clients x)) (sym h.1) (stays_so (clients a))
+  lines_grow a b (piece ∷ done) text h =
+      then_grows (clients a) (clients h.1) (clients b) (h.3 0).0 (lines_grow h.1 b done h.2 h.4)
+
+  module _ (room : ℕ) (history : List Entry) (end : List Knows) (c : IsClosed rules room limit history end) where
+    -- the session at this point
+    abbrev point : S → at.Session
+    point a = without (before a) (between rules room limit history (clients a))
+
+    of_lines : (a b : S) (done : List (List ℕ)) (text : List ℕ) → Transcript On a done text b
+        → Grows (clients b) end → IsSettled rules room history (clients a)
+        → Transcript Tells (point a) done text (point b)
+    of_lines a b [] text h g s = (h.0, ap point h.1)
+    of_lines a b (piece ∷ done) text h g s =
+        let on = then_grows (clients h.1) (clients b) end (lines_grow h.1 b done h.2 h.4) g in
+        let one = (h.3 room).1 history end c on s in
+        (h.0, point h.1, h.2, one.1, of_lines h.1 b done h.2 h.4 g one.0, h.5)
+
+  module _ (a b : S) (old new : Devices) (comes : ComesOn rules limit (clients a) (clients b)) (room : ℕ) where
+    pub runs_to : AnswersAll On a b old new
+        → Leads rules room limit (clients a) (clients b) (RunsTo (before a) old new)
+    runs_to all = (
+      (comes room).0,
+      λ history end c g s. (
+        ((comes room).1 history end c g s).0,
+        (
+          point room history end c b,
+          λ input is. let h = all input is in
+              (h.0, (h.1.0, of_lines room history end c a b (pieces input) h.1.0 h.1.1 g s, h.1.2)),
+          refl,
+        ),
+      ),
+    )
+
+    pub stops_at : StartsAll On a b old new
+        → Leads rules room limit (clients a) (clients b) (StopsAt (before a) old new)
+    stops_at start = (
+      (comes room).0,
+      λ history end c g s. (
+        ((comes room).1 history end c g s).0,
+        (
+          point room history end c b,
+          λ input is. let h = start input is in
+              (h.0, h.1, h.2, h.3, of_lines room history end c a b h.0 h.2 h.4 g s, h.5),
+        ),
+      ),
+    )
 
 -- this of what is read and written, where what the devices read is known
 abbrev pub IfKnown : (old new : Devices) → (List ℕ → List ℕ → Type 0) → Type 0
 IfKnown old new P = IfSome old.remaining (λ input. Writes old.contents new.contents (P input))
 
-pub runs : (setup : Setup) (old new : Devices) (session : OpenSession) (entries : List Entry) → Begun setup session
-    → RunsFrom session.tree entries old new
+-- what holds of a session that was opened, after so many clients, and is answered
+pub runs : (setup : Setup) (old new : Devices) (before : ℕ) (entries : List Entry)
+    → AtEnd (λ mid. Opens setup (begun (without before mid))) (RunsTo before old new) entries
     → IfSome old.remaining (λ input. (left : List ℕ) × (new.remaining ≡ Some left)
     × Writes old.contents new.contents (λ text. Runs setup input left text entries))
-runs setup old new session entries b whole = some_is old.remaining _ (λ input is.
-    let w = whole input b.0 is b.2 in
-    ([], w.0, (w.1.0, (w.1.1, inl (b.0, b.1, refl, w.1.2), w.1.3), w.1.4)))
+runs setup old new before entries e = some_is old.remaining _ (λ input is.
+    let first = without before e.0 in
+    let last = e.3.0 in
+    let w = e.3.1 input is in
+    ([], w.0, (w.1.0, (last, inl (first, e.2, refl, w.1.1), sym e.4 ∙ e.3.2), w.1.2)))
 
 -- a beginning of the lines of some first pieces
-pub begins_lines : (setup : Setup) (old new : Devices) (session : OpenSession) → Begun setup session
-    → StopsFrom session.tree old new → IfKnown old new (BeginsLines setup)
-begins_lines setup old new session b part = some_is old.remaining _ (λ input is.
-    let h = part input b.0 is b.2 in (
-      h.6.0,
+pub begins_lines : (setup : Setup) (old new : Devices) (before : ℕ) (entries : List Entry)
+    → AtEnd (λ mid. Opens setup (begun (without before mid))) (StopsAt before old new) entries
+    → IfKnown old new (BeginsLines setup)
+begins_lines setup old new before entries e = some_is old.remaining _ (λ input is.
+    let first = without before e.0 in
+    let last = e.3.0 in
+    let h = e.3.1 input is in (
+      h.5.0,
       (
-        b.0,
-        h.3,
+        first,
+        last,
         h.0,
         h.1,
-        h.6.1,
-        b.1,
-        h.4,
-        subst (λ (text : List ℕ). Transcript Tells b.0 h.0 text h.3) h.6.2 h.5,
+        h.5.1,
+        e.2,
+        h.3,
+        subst (λ (text : List ℕ). Transcript Tells first h.0 text last) h.5.2 h.4,
       ),
-      h.6.3,
+      h.5.3,
     ))
 
 weaker : (old new : Devices) (P Q : List ℕ → List ℕ → Type 0) → ((input text : List ℕ) → P input text → Q input text)
@@ -160,17 +184,20 @@ begins setup (Session TooLong) input text b = lines_begin setup input text b
 
 -- ---- runs whose opening is refused
 
--- the tree of an opening that this reply refuses
-abbrev pub Refuses : Setup → Reply → SessionTree → Type 0
-Refuses setup reply tree = (last : at.Session) × Opens setup (refused reply last) × StandsAt tree last
-
-pub refusal : (setup : Setup) (old new : Devices) (reply : Reply) (tree : SessionTree)
-    (entries : List Entry) → Refuses setup reply tree → entries ≡ tree.history.entries
+pub refusal : (setup : Setup) (old new : Devices) (reply : Reply) (entries : List Entry)
+    → AtEnd (λ t. Opens setup (refused reply t)) (λ s t. t ≡ s) entries
     → Appends old.contents new.contents (reply_line reply) → new.remaining ≡ old.remaining
     → IfSome old.remaining (λ input. (left : List ℕ) × (new.remaining ≡ Some left)
     × Writes old.contents new.contents (λ text. Runs setup input left text entries))
-refusal setup old new reply tree entries is same wrote still = some_is old.remaining _ (λ input told.
-    (input, still ∙ told, (reply_line reply, (is.0, inr (reply, is.1, refl, refl), same ∙ sym is.2.entries), wrote)))
+refusal setup old new reply entries e wrote still = some_is old.remaining _ (λ input told. (
+  input,
+  still ∙ told,
+  (
+    reply_line reply,
+    (e.0, inr (reply, e.2, refl, refl), sym e.4 ∙ ap (λ (t : at.Session). t.entries) e.3),
+    wrote,
+  ),
+))
 
 pub refusal_stops : (setup : Setup) (fault : SessionFault) (old new : Devices) (reply : Reply) (last : at.Session)
     → Opens setup (refused reply last) → IsOfRefusal fault old.contents new.contents (reply_line reply)
@@ -181,19 +208,11 @@ refusal_stops setup Write old new reply last is wrote = some_is old.remaining _ 
 refusal_stops setup NoMemory old new reply last is wrote = some_is old.remaining _ (λ input told. ([], inl refl, wrote))
 refusal_stops setup TooLong old new reply last is wrote = absurd wrote
 
--- ---- runs that were not opened
+-- ---- runs that read and write nothing
 
-pub not_opened : (setup : Setup) (fault : RunFault) (d : Devices) → OpensBadly setup fault
-    → IfKnown d d (BeginsBy setup fault)
-not_opened setup Opening d is = some_is d.remaining _ (λ input told. ([], refl, appends-none d.contents))
-not_opened setup (Session of) d is =
-    subst (λ (x : SessionFault). IfKnown d d (BeginsBy setup (Session x))) (sym is)
-    (some_is d.remaining _ (λ input told. ([], inl refl, appends-none d.contents)))
-
-pub ends_unopened : (setup : Setup) (fault : RunFault) (d : Devices) → IsWhole d → OpensBadly setup fault
-    → EndsBy setup fault d d
-ends_unopened setup Opening d whole is = (is, whole)
-ends_unopened setup (Session of) d whole is = subst (λ (x : SessionFault). Blames x d d) (sym is) whole
+pub nothing_done : (setup : Setup) (fault : RunFault) (d : Devices)
+    → ((input : List ℕ) → BeginsBy setup fault input []) → IfKnown d d (BeginsBy setup fault)
+nothing_done setup fault d none = some_is d.remaining _ (λ input told. ([], none input, appends-none d.contents))
 
 -- ---- which fault may end a run
 
@@ -211,10 +230,6 @@ may_refused setup Read old new line reply last is wrote = absurd wrote
 may_refused setup Write old new line reply last is wrote = inr (reply, last, is)
 may_refused setup NoMemory old new line reply last is wrote = tt
 may_refused setup TooLong old new line reply last is wrote = absurd wrote
-
-pub may_unopened : (setup : Setup) (fault : RunFault) → OpensBadly setup fault → MayEnd setup fault
-may_unopened setup Opening is = is
-may_unopened setup (Session of) is = subst (λ (x : SessionFault). MayEnd setup (Session x)) (sym is) tt
 
 -- with any fault, what was written is such a beginning
 pub of_err : {T : Type 0} (setup : Setup) (r : Result T RunFault) (remaining old new : Option (List ℕ))

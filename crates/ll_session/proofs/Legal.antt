@@ -17,26 +17,33 @@ use Rattle.ll_seq.specs.declared.reply.Reply.TheVariants.{Done, Opened, Bytes, W
 use Rattle.ll_seq.specs.declared.reply.Reply.TheVariants.{Refused, Denied}
 use Rattle.ll_seq.specs.Call.{first_path, second_path}
 use Rattle.ll_seq.specs.CallParts.{done}
-use Rattle.ll_seq.specs.History.{is_connect, fresh_of, Log, MayStand, IsLegal}
+use Rattle.ll_seq.specs.History.{is_connect, fresh_of, MayStand, IsLegal, state_after}
 use Rattle.ll_seq.specs.State.{State, start}
 use Rattle.ll_seq.specs.Step.{step, first_or, refusals, client_of}
 use Rattle.ll_seq.proofs.Consequences.{step-clients_stay, step-spawned}
 use Rattle.ll_seq.proofs.Histories.{after_push, legal_append}
 use Rattle.ll_wire.specs.Grammar.{IsCall}
-use Rattle.ll_session.proofs.Connecting.{paired, there_by}
+use Rattle.ll_talk.proofs.Comers.{connected_there}
 use Rattle.ll_session.specs.declared.setup.Setup.{Setup}
-use Rattle.ll_session.specs.declared.tree.SessionTree.{SessionTree}
 use Rattle.ll_talk.specs.Session.{following, joined}
 use Rattle.ll_session.specs.Opening.{Comes, Loads, Makes, Opens, Stops, begun, fresh, made, refused}
 use Rattle.ll_session.specs.Opening.{unconnected, unmade}
-use Rattle.ll_session.specs.Progress.{AreThere, IsSound, StandsAt, StaysSound}
 use Rattle.ll_session.specs.Run.{RunsLegally}
-use Rattle.ll_session.proofs.Replies.{CalledAt}
 use Rattle.ll_lines.specs.Transcript.{Transcript}
 use Rattle.ll_talk.specs.Session.{Session, Called, answered, full, starved}
 use Rattle.ll_session.specs.Session.{AreOthers, Answers, Tells, calls, unread}
 use Rattle.ll_talk.specs.Session.{brought}
 use Rattle.ll_session.specs.Session.{bad}
+
+-- these clients are there
+abbrev AreThere : State → List ℕ → Type 0
+AreThere tree = AllByRecursion (λ number. has tree.clients number ≡ true)
+
+-- the entries are a legal history that leads to the tree, and the clients are there
+record IsSound (empty : State) (s : Session) : Type 0 where
+  legal : IsLegal empty s.entries
+  tree : s.tree ≡ state_after empty s.entries
+  there : AreThere s.tree s.clients
 
 -- a call that has a spelling is no connect
 pub no_connect : (call : Call) → IsCall call → is_connect call ≡ false
@@ -189,8 +196,11 @@ module _ (empty : State) where
         spawned = λ number e. absurd (let both : Done ≡ Spawned number = sym done ∙ e in cc);
         answered = ap (λ (p : Reply × State). p.0) outcome;
       } in
-      let here : has tree.clients n ≡ true = there_by s.tree tree n fresh vacant
-      (sym (ap (λ (r : Reply). paired r tree) done) ∙ is ∙ ap (λ (c : Call). step s.tree n c fresh) connects) in
+      let same : ◌≡◌ {A = Reply × State} (reply, tree) (step s.tree n Connect fresh) =
+      is ∙ ap (λ (c : Call). step s.tree n c fresh) connects in
+      let here : has tree.clients n ≡ true =
+      ap (λ (p : Reply × State). has p.1.clients n) same
+      ∙ connected_there s.tree n fresh vacant (sym (ap (λ (p : Reply × State). p.0) same) ∙ done) in
       let others : AreThere tree s.clients = still_there s.tree tree s.clients
       (λ k e. ap (λ (p : Reply × State). has p.1.clients k) is ∙ step-clients_stay s.tree n call fresh k e) sound.there
       in
@@ -265,7 +275,7 @@ by_loading : (empty : State) (s t : Session) (loader : Option (Vec Call Global))
 by_loading empty s t (Some list) others h sound = by_coming empty s t list.items others h sound
 by_loading empty s t None others h sound = subst (IsSound empty) (sym h) sound
 
-pub by_opening : (setup : Setup) (first : Session) → Opens setup (begun first)
+by_opening : (setup : Setup) (first : Session) → Opens setup (begun first)
     → IsSound (start setup.rules setup.nodes) first
 by_opening setup first h =
     let empty = start setup.rules setup.nodes in
@@ -303,28 +313,3 @@ legally setup done left text last (inl h) =
     (sound.legal, sound.tree)
 legally setup done left text last (inr h) = let sound = by_refused_opening setup h.0 last h.1 in
     (sound.legal, sound.tree)
-
--- ---- sessions under way
-
-pub call_stays_sound : (before after : SessionTree) (place : ℕ) (call : Call) (reply : Reply) → is_connect call ≡ false
-    → ((s : Session) → StandsAt before s → CalledAt s place call reply after)
-    → StaysSound before after
-call_stays_sound before after place call reply other called empty s stands sound =
-    let c = called s stands in (
-      c.2,
-      c.6,
-      by_call empty s c.2 c.0 call c.1 other (there_at s.tree s.clients (place - 1) c.0 sound.there c.3) c.4 sound,
-    )
-
--- what such a session leaves is a legal history
-pub leaves_legally : (empty : State) (tree : SessionTree) (log : Log) (t : Session) → StandsAt tree t → IsSound empty t
-    → log ≡ tree.history → IsLegal empty log.entries
-leaves_legally empty tree log t stands sound same =
-    subst (IsLegal empty) (stands.entries ∙ sym (ap (λ (l : Log). l.entries) same)) sound.legal
-
-pub leaves_refused : (setup : Setup) (reply : Reply) (tree : SessionTree) (log : Log) → (last : Session)
-    × Opens setup (refused reply last) × StandsAt tree last → log ≡ tree.history
-    → IsLegal (start setup.rules setup.nodes) log.entries
-leaves_refused setup reply tree log is same =
-    subst (IsLegal (start setup.rules setup.nodes)) (is.2.entries ∙ sym (ap (λ (l : Log). l.entries) same))
-    (by_refused_opening setup reply is.0 is.1).legal

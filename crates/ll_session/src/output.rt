@@ -1,38 +1,55 @@
-//! Writing a reply.
+//! The lines of replies.
 
-ghost use Rattle.std.specs.Prelude.{◌≡◌, IfErr, OnOk, OnErr};
+ghost use Rattle.std.specs.Prelude.{◌≡◌, IfErr, IfOk, OnOk, string_bytes};
 ghost use Rattle.std.specs.Io.KnownBytes.{Appends};
 ghost use Rattle.ll_ends.specs.Devices.{IsWhole};
 ghost use Rattle.ll_lines.specs.Reached.{Blames};
+ghost use Rattle.ll_seq.specs.declared.reply.Reply.{Reply};
 ghost use Rattle.ll_wire.specs.Grammar.{IsReply, reply_line};
-ghost use Rattle.ll_wire.specs.Writing.{AppendsFront};
-ghost use Rattle.ll_session.specs.Progress.{IsOfRefusal, written};
+ghost use Rattle.ll_session.specs.Progress.{IsOfRefusal};
 
-use crate::receipt::Receipt;
-use crate::tree::SessionTree;
 use ll_ends::Ends;
 use ll_lines::{SessionFault, write_line};
-use std::alloc::Global;
+use ll_rights::Errno;
+use ll_seq::Reply;
+use ll_wire::{is_entered, line_text, reply_text};
+use std::alloc::{AllocError, Global};
 
-/// Writes the reply's line of a call that is answered so.
-pub fn write_answer<E: Ends>(
-    alloc: Global,
-    tree: &SessionTree,
-    answer: Receipt,
-    ends: &mut E,
-) -> Result<(), SessionFault>
-    requires reply { IsReply (written tree.now answer) }
-    requires whole { IsWhole (E.devices ends.old) }
+// The line of a refusal.
+fn refusal_line(alloc: Global, errno: Errno) -> Result<String, AllocError>
+    ensures { IfOk result (λ line. string_bytes line ≡ reply_line (Reply.Refused errno)) }
+{
+    let number = errno.number().to_string(alloc)?;
+    line_text(alloc, "refused", &[number.as_str(), errno.text()])
+}
+
+/// The line of a reply. Nothing is known of it but its type.
+pub fn reply_line(alloc: Global, reply: &Reply) -> Result<String, AllocError>
+    ensures { IfOk result (λ line. string_bytes line ≡ reply_line reply.now) }
+{
+    match reply {
+        Reply::Refused(errno) => refusal_line(alloc, *errno),
+        reply => {
+            reply.by_type();
+            is_entered(reply);
+            reply_text(alloc, reply)
+        }
+    }
+}
+
+/// Writes the line of a reply.
+pub fn write_reply<E: Ends>(alloc: Global, reply: &Reply, ends: &mut E) -> Result<(), SessionFault>
+    requires { IsWhole (E.devices ends.old) }
     ensures ok { OnOk result (Appends (E.devices ends.old).contents (E.devices ends.new).contents
-        (reply_line (written tree.now answer))) }
+        (reply_line reply.now)) }
     ensures err { IfErr result (λ fault. IsOfRefusal fault (E.devices ends.old).contents (E.devices ends.new).contents
-        (reply_line (written tree.now answer))) }
+        (reply_line reply.now)) }
     ensures fault { IfErr result (λ fault. Blames fault (E.devices ends.old) (E.devices ends.new)) }
     ensures remaining { (E.devices ends.new).remaining ≡ (E.devices ends.old).remaining }
     ensures same { E.names ends.new ≡ E.names ends.old }
 {
-    let Ok(text) = tree.text_of(alloc, answer) else {
+    let Ok(line) = reply_line(alloc, reply) else {
         return Err(SessionFault::NoMemory);
     };
-    write_line(ends, text.as_str())
+    write_line(ends, line.as_str())
 }

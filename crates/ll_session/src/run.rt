@@ -1,53 +1,152 @@
 //! Runs of scripts.
 
-ghost use Rattle.std.specs.Prelude.{◌≡◌, ◌≤◌, ◌^◌, [], length, All, IfOk, IfErr, ℕ, List, OnOk, OnErr, IfSome, Option};
-ghost use Rattle.std.specs.Prelude.{Some, Err};
+ghost use Rattle.std.specs.Prelude.{◌≡◌, ◌+◌, ◌≤◌, ◌^◌, [], length, All, IfOk, IfErr, ℕ, List, OnOk, OnErr, IfSome};
+ghost use Rattle.std.specs.Prelude.{Option, Some, Err};
+ghost use Rattle.std.specs.Io.KnownBytes.{Appends};
+ghost use Rattle.ll_rights.specs.declared.limits.TheConstants.{TREE_CLIENTS};
 ghost use Rattle.ll_seq.specs.History.{IsLegal};
-ghost use Rattle.ll_seq.specs.State.{State, start};
+ghost use Rattle.ll_seq.specs.State.{start};
+ghost use Rattle.ll_seq.specs.declared.reply.Entry.{Entry};
+ghost use Rattle.ll_client.specs.Closed.{IsClosed};
 ghost use Rattle.ll_wire.specs.Entries.{IsEntry};
+ghost use Rattle.ll_wire.specs.Grammar.{reply_line};
 ghost use Rattle.ll_session.specs.declared.fault.RunFault.{RunFault};
 ghost use Rattle.ll_lines.specs.declared.fault.SessionFault.{SessionFault};
-ghost use Rattle.ll_talk.specs.Session.{Session};
 ghost use Rattle.ll_lines.specs.Transcript.{Writes, most_reads};
 ghost use Rattle.ll_session.specs.Run.{Begins, BeginsBy, EndsBy, MayEnd, Runs};
 ghost use Rattle.ll_ends.specs.Devices.{IsWhole};
 ghost use Rattle.ll_lines.specs.Reached.{Blames};
-ghost use Rattle.ll_session.specs.Progress.{used, IsSound, RunsFrom, StandsAt, StopsFrom};
+ghost use Rattle.ll_session.specs.Progress.{Closes, IsOfRefusal, RunsTo, StopsAt};
 
 use crate::fault::RunFault;
-use crate::output::write_answer;
-use crate::session::{OpenSession, Opened};
+use crate::opening::Shut;
+use crate::output::write_reply;
+use crate::session::OpenSession;
 use crate::setup::Setup;
+use crate::shared::Shared;
+use ll_client::{Account, Shape};
 use ll_ends::{Ends, Pair};
 use ll_lines::{SessionFault, answer_lines};
-use ll_seq::History;
+use ll_seq::{History, Reply};
+use ll_tie::Blank;
 use std::alloc::Global;
 use std::io::{Read, Write};
+use std::marker::Brand;
+use std::sync::Wait;
 
-// Answers each line of the input. The session's history is left.
-fn run_session<E: Ends>(mut session: OpenSession, ends: &mut E) -> Result<History, SessionFault>
-    requires room { used session.tree ≤ 2 ^ 62 }
+// Answers each line of the input, and closes the tree. Its history is left.
+fn run_session<N: Shape, R: Wait, E: Ends>(
+    mut session: OpenSession<'_, N, R>,
+    ends: &mut E,
+) -> Result<History, SessionFault>
     requires whole { IsWhole (E.devices ends.old) }
     requires answered { (E.devices ends.old).owed ≡ 0 }
     requires reads { (E.devices ends.old).reads ≤ 2 ^ 62 }
-    ensures ok { IfOk result (λ history. RunsFrom session.tree history.entries (E.devices ends.old)
-        (E.devices ends.new)) }
+    ensures ok { IfOk result (λ history. (room : ℕ) → N.slots ≡ room + TREE_CLIENTS
+        → Closes N.rules room N.limit session.entry.shared.party history.entries
+        (RunsTo session.entry.before (E.devices ends.old) (E.devices ends.new))) }
+    ensures err { OnErr result ((room : ℕ) → N.slots ≡ room + TREE_CLIENTS → (entries : List Entry)
+        × Closes N.rules room N.limit session.entry.shared.party entries
+        (StopsAt session.entry.before (E.devices ends.old) (E.devices ends.new))) }
     ensures entries { IfOk result (λ history. All IsEntry history.entries) }
-    ensures legal { IfOk result (λ history. (empty : State) (first : Session) → StandsAt session.tree first
-        → IsSound empty first → IsLegal empty history.entries) }
-    ensures err { OnErr result (StopsFrom session.tree (E.devices ends.old) (E.devices ends.new)) }
     ensures fault { IfErr result (λ fault. Blames fault (E.devices ends.old) (E.devices ends.new)) }
     ensures long { result ≡ Err SessionFault.TooLong
         → (input : List ℕ) → (E.devices ends.old).remaining ≡ Some input → most_reads ≤ length input }
     ensures same { E.names ends.new ≡ E.names ends.old }
 {
-    answer_lines(session.alloc, ends, &mut session)?;
-    Ok(session.tree.into_history())
+    let ended = answer_lines(session.alloc, ends, &mut session);
+    let OpenSession { rt, shared, .. } = session;
+    let history = shared.close(rt);
+    ended?;
+    Ok(history)
+}
+
+// Writes the line of the refusal that no session begins with, and closes the tree. Its history is left.
+fn tell_refusal<N: Shape, R: Wait, E: Ends>(
+    rt: &R,
+    alloc: Global,
+    shared: Shared<N>,
+    reply: &Reply,
+    ends: &mut E,
+) -> Result<History, SessionFault>
+    requires { IsWhole (E.devices ends.old) }
+    ensures closed { IfOk result (λ history. (room : ℕ) → N.slots ≡ room + TREE_CLIENTS
+        → IsClosed N.rules room N.limit history.entries shared.party) }
+    ensures ok { OnOk result (Appends (E.devices ends.old).contents (E.devices ends.new).contents
+        (reply_line reply.now)) }
+    ensures over { OnErr result ((room : ℕ) → N.slots ≡ room + TREE_CLIENTS → (entries : List Entry)
+        × IsClosed N.rules room N.limit entries shared.party) }
+    ensures err { IfErr result (λ fault. IsOfRefusal fault (E.devices ends.old).contents (E.devices ends.new).contents
+        (reply_line reply.now)) }
+    ensures entries { IfOk result (λ history. All IsEntry history.entries) }
+    ensures fault { IfErr result (λ fault. Blames fault (E.devices ends.old) (E.devices ends.new)) }
+    ensures remaining { (E.devices ends.new).remaining ≡ (E.devices ends.old).remaining }
+    ensures same { E.names ends.new ≡ E.names ends.old }
+{
+    let ended = write_reply(alloc, reply, ends);
+    let history = shared.close(rt);
+    ended?;
+    Ok(history)
+}
+
+// The same, over a tree that this blank is of.
+fn run_in<N: Shape, R: Wait, E: Ends>(
+    rt: &R,
+    alloc: Global,
+    blank: Blank<Account>,
+    setup: Setup,
+    ends: &mut E,
+) -> Result<History, RunFault>
+    requires named { blank ≡ N.table }
+    requires slots { N.slots ≡ setup.nodes + TREE_CLIENTS }
+    requires limit { N.limit ≡ setup.history }
+    requires rules { N.rules ≡ setup.rules }
+    requires whole { IsWhole (E.devices ends.old) }
+    requires answered { (E.devices ends.old).owed ≡ 0 }
+    requires reads { (E.devices ends.old).reads ≤ 2 ^ 62 }
+    ensures transcript { IfOk result (λ history. IfSome (E.devices ends.old).remaining (λ input. (left : List ℕ)
+        × ((E.devices ends.new).remaining ≡ Some left)
+        × Writes (E.devices ends.old).contents (E.devices ends.new).contents
+        (λ text. Runs setup input left text history.entries))) }
+    ensures legal { IfOk result (λ history. IsLegal (start setup.rules setup.nodes) history.entries) }
+    ensures entries { IfOk result (λ history. All IsEntry history.entries) }
+    ensures beginning { IfErr result (λ fault. IfSome (E.devices ends.old).remaining (λ input.
+        Writes (E.devices ends.old).contents (E.devices ends.new).contents (BeginsBy setup fault input))) }
+    ensures fault { IfErr result (λ fault. EndsBy setup fault (E.devices ends.old) (E.devices ends.new)) }
+    ensures may { IfErr result (λ fault. MayEnd setup fault) }
+    ensures long { result ≡ Err (RunFault.Session SessionFault.TooLong)
+        → (input : List ℕ) → (E.devices ends.old).remaining ≡ Some input → most_reads ≤ length input }
+    ensures same { E.names ends.new ≡ E.names ends.old }
+{
+    let Some(mut shared) = Shared::<N>::new(alloc, blank, &setup) else {
+        return Err(RunFault::Session(SessionFault::NoMemory));
+    };
+    match shared.open(rt, setup) {
+        Ok(before) => {
+            let session = OpenSession {
+                rt,
+                alloc,
+                shared,
+                before,
+            };
+            Ok(run_session(session, ends)?)
+        }
+        Err(Shut::Refused(reply)) => Ok(tell_refusal(rt, alloc, shared, &reply, ends)?),
+        Err(Shut::Stopped) => {
+            drop(shared.close(rt));
+            Err(RunFault::Opening)
+        }
+    }
 }
 
 /// Runs a script, as `run_script` does, over two devices, which count their calls and failures. Before each read, the
 /// replies to all lines that were read are written; a device that failed isn't called again.
-pub fn run_over<E: Ends>(alloc: Global, setup: Setup, ends: &mut E) -> Result<History, RunFault>
+pub fn run_over<R: Wait, E: Ends>(
+    rt: &R,
+    alloc: Global,
+    setup: Setup,
+    ends: &mut E,
+) -> Result<History, RunFault>
     requires whole { IsWhole (E.devices ends.old) }
     requires answered { (E.devices ends.old).owed ≡ 0 }
     requires reads { (E.devices ends.old).reads ≤ 2 ^ 62 }
@@ -68,19 +167,17 @@ pub fn run_over<E: Ends>(alloc: Global, setup: Setup, ends: &mut E) -> Result<Hi
         → (input : List ℕ) → (E.devices ends.old).remaining ≡ Some input → most_reads ≤ length input }
     ensures same { E.names ends.new ≡ E.names ends.old }
 {
-    match OpenSession::open(alloc, setup)? {
-        Opened::Begun(session) => Ok(run_session(session, ends)?),
-        Opened::Refused(tree, answer) => {
-            write_answer(alloc, &tree, answer, ends)?;
-            Ok(tree.into_history())
-        }
+    match Blank::new(alloc) {
+        Ok(blank) => run_in::<Brand, R, E>(rt, alloc, blank, setup, ends),
+        Err(_) => Err(RunFault::Session(SessionFault::NoMemory)),
     }
 }
 
 /// Reads a script of command lines, and writes the reply lines. The history of the run is left, with an entry for each
 /// call that the tree has answered. Where the opening is refused, that reply's line is all that it writes, and it reads
 /// nothing.
-pub fn run_script<R: Read, W: Write>(
+pub fn run_script<H: Wait, R: Read, W: Write>(
+    rt: &H,
     alloc: Global,
     setup: Setup,
     reader: &mut R,
@@ -113,5 +210,5 @@ pub fn run_script<R: Read, W: Write>(
         is_input_broken: false,
         is_output_broken: false,
     };
-    run_over(alloc, setup, &mut ends)
+    run_over(rt, alloc, setup, &mut ends)
 }

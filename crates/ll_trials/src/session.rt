@@ -9,6 +9,7 @@ use ll_rights::Abi;
 use ll_seq::{History, Rules};
 use ll_session::{RunFault, Setup, run_script};
 use std::alloc::Global;
+use std::sync::Wait;
 
 fn setup(alloc: Global) -> Setup {
     Setup {
@@ -69,7 +70,7 @@ fn how(ended: &Result<History, RunFault>) -> Ended {
 }
 
 /// Runs the ten lines with a reader and a writer that take so many calls before they fail.
-fn run(alloc: Global, reads: usize, writes: usize) -> (Ended, Sink) {
+fn run<R: Wait>(rt: &R, alloc: Global, reads: usize, writes: usize) -> (Ended, Sink) {
     let mut reader = Source {
         rest: TEN_LINES,
         calls: reads,
@@ -79,15 +80,15 @@ fn run(alloc: Global, reads: usize, writes: usize) -> (Ended, Sink) {
         calls: writes,
         failures: 0,
     };
-    let ended = run_script(alloc, setup(alloc), &mut reader, &mut writer);
+    let ended = run_script(rt, alloc, setup(alloc), &mut reader, &mut writer);
     let how = how(&ended);
     drop(ended);
     (how, writer)
 }
 
 /// How many bytes are written before the read after so many fails, where it does and they are right.
-fn written(alloc: Global, reads: usize) -> Option<usize> {
-    let (ended, writer) = run(alloc, reads, ENOUGH);
+fn written<R: Wait>(rt: &R, alloc: Global, reads: usize) -> Option<usize> {
+    let (ended, writer) = run(rt, alloc, reads, ENOUGH);
     let want = if reads > TEN_LINES.len() {
         Ended::Well
     } else {
@@ -104,7 +105,7 @@ fn written(alloc: Global, reads: usize) -> Option<usize> {
 fn reads_fail(rt: HostRuntime) {
     let mut most = 0;
     for reads in 0..TEN_LINES.len() + 2 {
-        let len = written(rt.alloc(), reads);
+        let len = written(&rt, rt.alloc(), reads);
         assert!(rt;
             matches!(len, Some(len) if most <= len),
             "after {reads} reads"
@@ -115,8 +116,8 @@ fn reads_fail(rt: HostRuntime) {
 }
 
 /// Whether the write after so many fails once and ends the run, and what came before it is right.
-fn fails_once(alloc: Global, writes: usize) -> bool {
-    let (ended, writer) = run(alloc, ENOUGH, writes);
+fn fails_once<R: Wait>(rt: &R, alloc: Global, writes: usize) -> bool {
+    let (ended, writer) = run(rt, alloc, ENOUGH, writes);
     if writes >= TEN_REPLIES.len() {
         return ended == Ended::Well
             && writer.failures == 0
@@ -130,12 +131,12 @@ fn fails_once(alloc: Global, writes: usize) -> bool {
 #[test]
 fn writes_fail(rt: HostRuntime) {
     for writes in 0..TEN_REPLIES.len() + 2 {
-        assert!(rt; fails_once(rt.alloc(), writes), "after {writes} writes");
+        assert!(rt; fails_once(&rt, rt.alloc(), writes), "after {writes} writes");
     }
 }
 
 /// Whether a write that takes no byte ends the run, and what came before it is right.
-fn stops_once(alloc: Global, writes: usize) -> bool {
+fn stops_once<R: Wait>(rt: &R, alloc: Global, writes: usize) -> bool {
     let mut reader = Source {
         rest: TEN_LINES,
         calls: ENOUGH,
@@ -145,7 +146,7 @@ fn stops_once(alloc: Global, writes: usize) -> bool {
         calls: writes,
         stops: 0,
     };
-    let ended = run_script(alloc, setup(alloc), &mut reader, &mut writer);
+    let ended = run_script(rt, alloc, setup(alloc), &mut reader, &mut writer);
     let how = how(&ended);
     drop(ended);
     how == Ended::WriteFailed
@@ -157,7 +158,7 @@ fn stops_once(alloc: Global, writes: usize) -> bool {
 #[test]
 fn writes_take_nothing(rt: HostRuntime) {
     for writes in 0..TEN_REPLIES.len() {
-        assert!(rt; stops_once(rt.alloc(), writes), "after {writes} writes");
+        assert!(rt; stops_once(&rt, rt.alloc(), writes), "after {writes} writes");
     }
 }
 
@@ -177,7 +178,7 @@ fn lines_end(text: &[u8], lines: usize) -> usize {
 
 /// Whether an input that ends after so many bytes gets the replies to its whole lines, and the piece after the last
 /// line feed, if there is one, is a bad line.
-fn ends_well(alloc: Global, bytes: usize) -> bool {
+fn ends_well<R: Wait>(rt: &R, alloc: Global, bytes: usize) -> bool {
     let Some(input) = TEN_LINES.get(..bytes) else {
         return false;
     };
@@ -195,7 +196,7 @@ fn ends_well(alloc: Global, bytes: usize) -> bool {
         calls: ENOUGH,
         failures: 0,
     };
-    let ended = run_script(alloc, setup(alloc), &mut reader, &mut writer);
+    let ended = run_script(rt, alloc, setup(alloc), &mut reader, &mut writer);
     let how = how(&ended);
     drop(ended);
     let piece: &[u8] = match input.last() {
@@ -208,6 +209,6 @@ fn ends_well(alloc: Global, bytes: usize) -> bool {
 #[test]
 fn input_ends_anywhere(rt: HostRuntime) {
     for bytes in 0..TEN_LINES.len() + 1 {
-        assert!(rt; ends_well(rt.alloc(), bytes), "after {bytes} bytes");
+        assert!(rt; ends_well(&rt, rt.alloc(), bytes), "after {bytes} bytes");
     }
 }

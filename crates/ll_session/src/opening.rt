@@ -1,0 +1,139 @@
+//! The clients that come before the first line.
+
+ghost use Rattle.std.specs.Prelude.{◌≡◌, ℕ, ◌+◌, ◌<◌, ◌≤◌, length, IfErr, IfOk, IfSome, OnOk};
+ghost use Rattle.ll_plain.specs.Refusal.{is_refusal};
+ghost use Rattle.ll_seq.specs.declared.reply.Reply.{Reply};
+ghost use Rattle.ll_session.specs.Progress.{reply_at};
+
+use crate::setup::Setup;
+use crate::shared::Shared;
+use ll_client::Shape;
+use ll_rights::Errno;
+use ll_seq::{Call, Reply};
+use std::sync::Wait;
+
+/// What keeps a client from making all its calls.
+#[derive(Drop)]
+pub enum Refusal {
+    /// Its connect is refused.
+    AtConnect(Errno),
+    /// One of its calls is, by this reply.
+    AtCall(Reply),
+}
+
+impl Refusal {
+    /// The reply of the connect or the call.
+    pub fn reply(self) -> Reply
+        ensures { result ≡ reply_at self }
+    {
+        match self {
+            Refusal::AtConnect(errno) => Reply::Refused(errno),
+            Refusal::AtCall(reply) => reply,
+        }
+    }
+}
+
+/// Why no session begins.
+#[derive(Drop)]
+pub enum Shut {
+    /// A connect or a profile's call gets this refusal, which is told.
+    Refused(Reply),
+    /// A loader's call is refused.
+    Stopped,
+}
+
+// Whether the call is refused, or denied.
+fn is_refused(reply: &Reply) -> bool
+    ensures { result ≡ is_refusal reply.now }
+{
+    matches!(reply, Reply::Refused(_) | Reply::Denied(_))
+}
+
+impl<N: Shape> Shared<N> {
+    ghost use Rattle.ll_talk.specs.Between.{Leads};
+    ghost use Rattle.ll_session.specs.Session.{AreOthers};
+    ghost use Rattle.ll_session.specs.Opening.{Comes, Loads, Makes, Opens, Stops, begun, fresh, made};
+    ghost use Rattle.ll_session.specs.Progress.{coming_at, opening_at, without};
+
+    // Makes the calls of the client that came after so many others in turn, up to the first that is refused.
+    fn make<R: Wait>(&mut self, rt: &R, before: u64, calls: Vec<Call>) -> Result<(), Reply>
+        requires caller { before < length self.old.party }
+        requires calls { AreOthers calls.items }
+        ensures ok { OnOk result ((room : ℕ) → Leads N.rules room N.limit self.old.party self.new.party
+            (λ s t. Makes (before + 1) s calls.items t)) }
+        ensures err { IfErr result (λ reply. (room : ℕ) → Leads N.rules room N.limit self.old.party self.new.party
+            (λ s t. Stops (before + 1) s calls.items reply t)) }
+        ensures count { length self.old.party ≤ length self.new.party }
+    {
+        for call in calls {
+            let reply = self.ask(rt, before, call);
+            if is_refused(&reply) {
+                return Err(reply);
+            }
+        }
+        Ok(())
+    }
+
+    // The next client comes, and makes these calls.
+    fn bring<R: Wait>(&mut self, rt: &R, calls: Vec<Call>) -> Result<(), Refusal>
+        requires { AreOthers calls.items }
+        ensures ok { OnOk result ((room : ℕ) → Leads N.rules room N.limit self.old.party self.new.party
+            (λ s t. Comes s calls.items (made t))) }
+        ensures err { IfErr result (λ refusal. (room : ℕ)
+            → Leads N.rules room N.limit self.old.party self.new.party
+            (λ s t. Comes s calls.items (coming_at refusal t))) }
+        ensures count { OnOk result (length self.old.party < length self.new.party) }
+    {
+        let before = self.len();
+        match self.party.join(rt, &self.tree) {
+            Ok(()) => {}
+            Err(errno) => {
+                drop(calls);
+                return Err(Refusal::AtConnect(errno));
+            }
+        }
+        match self.make(rt, before, calls) {
+            Ok(()) => Ok(()),
+            Err(reply) => Err(Refusal::AtCall(reply)),
+        }
+    }
+
+    // The loader comes, if there is one, and makes its calls.
+    fn load<R: Wait>(&mut self, rt: &R, loader: Option<Vec<Call>>) -> Result<(), Refusal>
+        requires { IfSome loader (λ calls. AreOthers calls.items) }
+        ensures ok { OnOk result ((room : ℕ) → Leads N.rules room N.limit self.old.party self.new.party
+            (λ s t. Loads s loader (made t))) }
+        ensures err { IfErr result (λ refusal. (room : ℕ)
+            → Leads N.rules room N.limit self.old.party self.new.party
+            (λ s t. Loads s loader (coming_at refusal t))) }
+    {
+        match loader {
+            Some(calls) => self.bring(rt, calls),
+            None => Ok(()),
+        }
+    }
+
+    /// To a fresh tree the loader comes, if there is one, and then the first client of the session. How many clients
+    /// came before that.
+    pub fn open<R: Wait>(&mut self, rt: &R, setup: Setup) -> Result<u64, Shut>
+        ensures ok { IfOk result (λ before. (room : ℕ) → Leads N.rules room N.limit self.old.party self.new.party
+            (λ s t. s ≡ fresh setup → Opens setup (begun (without before t)))) }
+        ensures err { IfErr result (λ shut. (room : ℕ) → Leads N.rules room N.limit self.old.party self.new.party
+            (λ s t. s ≡ fresh setup → Opens setup (opening_at shut t))) }
+        ensures some { IfOk result (λ before. before < length self.new.party) }
+    {
+        match self.load(rt, setup.loader) {
+            Ok(()) => {}
+            Err(Refusal::AtConnect(errno)) => return Err(Shut::Refused(Reply::Refused(errno))),
+            Err(Refusal::AtCall(reply)) => {
+                drop(reply);
+                return Err(Shut::Stopped);
+            }
+        }
+        let before = self.len();
+        match self.bring(rt, setup.profile) {
+            Ok(()) => Ok(before),
+            Err(refusal) => Err(Shut::Refused(refusal.reply())),
+        }
+    }
+}
