@@ -74,6 +74,14 @@ at_end setup rules limit ks entries First Second same most opens closes =
       (points rules setup.nodes limit entries end closes.1).2 h.0,
     )
 
+pub at_last : (setup : Setup) (rules : Rules) (limit : ℕ) (none ks : List Knows) (entries : List Entry)
+    (First : Session → Type 0) (Second : Session → Session → Type 0) → rules ≡ setup.rules → limit ≡ setup.history
+    → none ≡ [] → Leads rules setup.nodes limit none ks (λ s t. s ≡ fresh setup → First t)
+    → Closes rules setup.nodes limit ks entries Second → AtEnd First Second entries
+at_last setup rules limit none ks entries First Second same most nobody opens =
+    at_end setup rules limit ks entries First Second same most
+    (subst (λ (is : List Knows). Leads rules setup.nodes limit is ks (λ s t. s ≡ fresh setup → First t)) nobody opens)
+
 -- the tree is closed at once
 pub closes_here : (rules : Rules) (room limit : ℕ) (ks : List Knows) (entries : List Entry)
     → IsClosed rules room limit entries ks → Closes rules room limit ks entries (λ s t. t ≡ s)
