@@ -107,8 +107,8 @@ module _ (rules : Rules) (room limit : ℕ) (ks ks' : List Knows) (before : ℕ)
   too_long none = so_leads rules room limit ks ks (λ s t. t ≡ s) (AnswersLine line before (Refused BadLine))
       (nothing_leads rules room limit ks)
       (λ history end c s t h piece held.
-          spells_none rules room limit history ks before s (omega (arith, less)) piece
-          (λ v is. let more = long line piece none held in let short = is.0.short in omega (arith, more, short)))
+      spells_none rules room limit history ks before s (omega (arith, less)) piece
+      (λ v is. let more = long line piece none held in let short = is.0.short in omega (arith, more, short)))
 
   pub called_at : (bytes : List ℕ) (place clients count : ℕ) (call : Call) (reply : Reply) → line ≡ Some bytes
       → Spells clients bytes (place, call) → clients + before ≡ length ks → count + before ≡ length ks'
@@ -117,24 +117,24 @@ module _ (rules : Rules) (room limit : ℕ) (ks ks' : List Knows) (before : ℕ)
   called_at bytes place clients count call reply some is all all' leads = so_leads rules room limit ks ks'
       (λ s t. Called s (before + place - 1 + 1) call reply t) (AnswersLine line before (placed count reply)) leads
       (λ history end c s s' h piece held.
-          let now = between rules room limit history ks in
-          let then = between rules room limit history ks' in
-          let first = is.0.is_client.0 in
-          let last = is.1 in
-          let number : before + place - 1 + 1 ≡ before + place = omega (arith, first) in
-          let many = count_numbers ks in
-          let called : Called (without before now) (before + place) call reply (without before then) =
-          called_later before now then (before + place) call reply (omega (arith, less, many))
-          (subst (λ n. Called now n call reply then) number h) in
-          let left : count ≡ length (drop before (numbers_of ks')) =
-          (let cut = length-drop before (numbers_of ks') in let many' = count_numbers ks' in
-          omega (arith, all', cut, many')) in
-          subst (λ (r : Reply). Answers (without before now) piece r (without before then))
-          (sym (placed_as (without before now) (without before then) (before + place) count call reply called left))
-          (calls place (before + place) call reply (without before then)
-          (subst (λ (p : List ℕ). SpellsCommand p place call) (kept line bytes piece some held) is.0)
-          (caller rules room limit history ks before s (omega (arith, less)) place first
-          (omega (arith, last, all))) called))
+      let now = between rules room limit history ks in
+      let then = between rules room limit history ks' in
+      let first = is.0.is_client.0 in
+      let last = is.1 in
+      let number : before + place - 1 + 1 ≡ before + place = omega (arith, first) in
+      let many = count_numbers ks in
+      let called : Called (without before now) (before + place) call reply (without before then) =
+      called_later before now then (before + place) call reply (omega (arith, less, many))
+      (subst (λ n. Called now n call reply then) number h) in
+      let left : count ≡ length (drop before (numbers_of ks')) =
+      (let cut = length-drop before (numbers_of ks') in let many' = count_numbers ks' in
+      omega (arith, all', cut, many')) in
+      subst (λ (r : Reply). Answers (without before now) piece r (without before then))
+      (sym (placed_as (without before now) (without before then) (before + place) count call reply called left))
+      (calls place (before + place) call reply (without before then)
+      (subst (λ (p : List ℕ). SpellsCommand p place call) (kept line bytes piece some held) is.0)
+      (caller rules room limit history ks before s (omega (arith, less)) place first
+      (omega (arith, last, all))) called))
 
   -- nothing was read from the line: it spells nothing, or there was no memory for its word or bytes
   pub not_read : (bytes : List ℕ) (clients before' : ℕ) (errno told : Errno) → line ≡ Some bytes
@@ -148,9 +148,9 @@ module _ (rules : Rules) (room limit : ℕ) (ks ks' : List Knows) (before : ℕ)
       (sym same_before) (so_leads rules room limit ks ks'
       (λ s t. (t ≡ s) × IsUnread s errno told) (AnswersLine line before (Refused told)) leads
       (λ history end c s s' h piece held.
-          let now = between rules room limit history ks in
-          subst (λ (t : Session). Answers (without before now) piece (Refused told) (without before t)) (sym h.0)
-          (stays history s h.1 piece (kept line bytes piece some held))))
+      let now = between rules room limit history ks in
+      subst (λ (t : Session). Answers (without before now) piece (Refused told) (without before t)) (sym h.0)
+      (stays history s h.1 piece (kept line bytes piece some held))))
     where
       count : clients ≡ length ks - before
       count = omega (arith, all)

@@ -43,8 +43,8 @@ by_number rules room limit ks ks' before call reply less leads = so_leads rules 
     (λ s t. (client : ℕ) × (slice_get s.clients before ≡ Some client) × Called s client call reply t)
     (λ s t. Called s (before + 1) call reply t) leads
     (λ history end c s t h.
-        subst (λ n. Called (between rules room limit history ks) n call reply (between rules room limit history ks'))
-        (number_at rules room history ks before h.0 s less h.1) h.2)
+    subst (λ n. Called (between rules room limit history ks) n call reply (between rules room limit history ks'))
+    (number_at rules room history ks before h.0 s less h.1) h.2)
 
 -- ---- at the end
 
