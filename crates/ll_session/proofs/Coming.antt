@@ -63,36 +63,43 @@ module _ (rules : Rules) (room limit n : ℕ) (items : List Call) where
   pub makes_none : (ks : List Knows) → Leads rules room limit ks ks (MakesSome n items 0)
   makes_none ks = (stays_so ks, λ history end c g s. (s, (λ t h. h, λ reply t h. h)))
 
-  module _ (is js ks : List Knows) (yielded : List Call) (call : Call) (reply : Reply)
-      (some : Leads rules room limit is js (MakesSome n items (length yielded)))
-      (one : Leads rules room limit js ks (λ s t. Called s n call reply t))
-      (split : drop (length yielded) items ≡ call ∷ drop (length (yielded ++ call ∷ [])) items) where
-    abbrev both : Leads rules room limit is ks
-        (λ s u. (t : Session) × MakesSome n items (length yielded) s t × Called t n call reply u)
-    both = then_leads rules room limit is js ks (MakesSome n items (length yielded)) (λ s t. Called s n call reply t)
-        some one
+  both : (is js ks : List Knows) (yielded : List Call) (call : Call) (reply : Reply)
+      → Leads rules room limit is js (MakesSome n items (length yielded))
+      → Leads rules room limit js ks (λ s t. Called s n call reply t)
+      → Leads rules room limit is ks
+      (λ s u. (t : Session) × MakesSome n items (length yielded) s t × Called t n call reply u)
+  both is js ks yielded call reply =
+      then_leads rules room limit is js ks (MakesSome n items (length yielded)) (λ s t. Called s n call reply t)
 
-    pub makes_one : is_refusal reply ≡ false
-        → Leads rules room limit is ks (MakesSome n items (length (yielded ++ call ∷ [])))
-    makes_one quiet = so_leads rules room limit is ks
-        (λ s u. (t : Session) × MakesSome n items (length yielded) s t × Called t n call reply u)
-        (MakesSome n items (length (yielded ++ call ∷ []))) both
-        (λ history end c s s' h.
-            let mid = between rules room limit history ks in (
-              λ t rest. h.1.0 t (subst (λ (l : List Call). Makes n h.0 l t) (sym split)
-                  (reply, mid, h.2, quiet, rest)),
-              λ told t rest. h.1.1 told t (subst (λ (l : List Call). Stops n h.0 l told t) (sym split)
-                  (reply, mid, h.2, inr (quiet, rest))),
-            ))
+  pub makes_one : (is js ks : List Knows) (yielded : List Call) (call : Call) (reply : Reply)
+      → Leads rules room limit is js (MakesSome n items (length yielded))
+      → Leads rules room limit js ks (λ s t. Called s n call reply t)
+      → drop (length yielded) items ≡ call ∷ drop (length (yielded ++ call ∷ [])) items → is_refusal reply ≡ false
+      → Leads rules room limit is ks (MakesSome n items (length (yielded ++ call ∷ [])))
+  makes_one is js ks yielded call reply some one split quiet = so_leads rules room limit is ks
+      (λ s u. (t : Session) × MakesSome n items (length yielded) s t × Called t n call reply u)
+      (MakesSome n items (length (yielded ++ call ∷ []))) (both is js ks yielded call reply some one)
+      (λ history end c s s' h.
+      let mid = between rules room limit history ks in (
+        λ t rest. h.1.0 t (subst (λ (l : List Call). Makes n h.0 l t) (sym split)
+            (reply, mid, h.2, quiet, rest)),
+        λ told t rest. h.1.1 told t (subst (λ (l : List Call). Stops n h.0 l told t) (sym split)
+            (reply, mid, h.2, inr (quiet, rest))),
+      ))
 
-    pub stops_here : is_refusal reply ≡ true → Leads rules room limit is ks (λ s t. Stops n s items reply t)
-    stops_here loud = so_leads rules room limit is ks
-        (λ s u. (t : Session) × MakesSome n items (length yielded) s t × Called t n call reply u)
-        (λ s t. Stops n s items reply t) both
-        (λ history end c s s' h.
-            let mid = between rules room limit history ks in
-            h.1.1 reply mid (subst (λ (l : List Call). Stops n h.0 l reply mid) (sym split)
-            (reply, mid, h.2, inl (loud, refl, refl))))
+  pub stops_here : (is js ks : List Knows) (yielded : List Call) (call : Call) (reply told : Reply)
+      → Leads rules room limit is js (MakesSome n items (length yielded))
+      → Leads rules room limit js ks (λ s t. Called s n call reply t)
+      → drop (length yielded) items ≡ call ∷ drop (length (yielded ++ call ∷ [])) items
+      → (told ≡ reply) × (is_refusal reply ≡ true)
+      → Leads rules room limit is ks (λ s t. Stops n s items told t)
+  stops_here is js ks yielded call reply told some one split loud = so_leads rules room limit is ks
+      (λ s u. (t : Session) × MakesSome n items (length yielded) s t × Called t n call reply u)
+      (λ s t. Stops n s items told t) (both is js ks yielded call reply some one)
+      (λ history end c s s' h.
+      let mid = between rules room limit history ks in
+      h.1.1 told mid (subst (λ (l : List Call). Stops n h.0 l told mid) (sym split)
+      (reply, mid, h.2, inl (loud.1, loud.0, refl))))
 
   pub makes_all : (ks ks' : List Knows) (count : ℕ) → length items ≤ count
       → Leads rules room limit ks ks' (MakesSome n items count)
@@ -100,30 +107,31 @@ module _ (rules : Rules) (room limit n : ℕ) (items : List Call) where
   makes_all ks ks' count over some = so_leads rules room limit ks ks' (MakesSome n items count)
       (λ s t. Makes n s items t) some
       (λ history end c s s' h.
-          let mid = between rules room limit history ks' in
-          h.0 mid (subst (λ (l : List Call). Makes n mid l mid) (sym (drop_all count items over)) refl))
+      let mid = between rules room limit history ks' in
+      h.0 mid (subst (λ (l : List Call). Makes n mid l mid) (sym (drop_all count items over)) refl))
 
 -- ---- a client that comes
 
 -- its connect, and then this of the client
-pub comes_then : (rules : Rules) (room limit : ℕ) (ks js ls : List Knows) (Does : ℕ → Session → Session → Type 0)
+pub comes_then : (rules : Rules) (room limit : ℕ) (ks js ls : List Knows) (count : ℕ)
+    (Does : ℕ → Session → Session → Type 0) → count ≡ length ks
     → Leads rules room limit ks js (λ s t. (mid : Session) × Connects s Done mid × (joined s mid ≡ t))
-    → Leads rules room limit js ls (Does (length ks + 1))
+    → Leads rules room limit js ls (Does (count + 1))
     → Leads rules room limit ks ls
     (λ s t. (mid : Session) × Connects s Done mid × Does (following s) (joined s mid) t)
-comes_then rules room limit ks js ls Does connects does = so_leads rules room limit ks ls
-    (λ s u. (t : Session) × ((mid : Session) × Connects s Done mid × (joined s mid ≡ t)) × Does (length ks + 1) t u)
+comes_then rules room limit ks js ls count Does all connects does = so_leads rules room limit ks ls
+    (λ s u. (t : Session) × ((mid : Session) × Connects s Done mid × (joined s mid ≡ t)) × Does (count + 1) t u)
     (λ s t. (mid : Session) × Connects s Done mid × Does (following s) (joined s mid) t)
     (then_leads rules room limit ks js ls
-    (λ s t. (mid : Session) × Connects s Done mid × (joined s mid ≡ t)) (Does (length ks + 1)) connects does)
+    (λ s t. (mid : Session) × Connects s Done mid × (joined s mid ≡ t)) (Does (count + 1)) connects does)
     (λ history end c s s' h.
-        let now = between rules room limit history ks in
-        let then = between rules room limit history ls in (
-          h.1.0,
-          h.1.1,
-          subst (λ (t : Session). Does (following now) t then) (sym h.1.2)
-              (subst (λ m. Does m h.0 then) (ap (λ m. m + 1) (sym (count_numbers ks))) h.2),
-        ))
+    let now = between rules room limit history ks in
+    let then = between rules room limit history ls in (
+      h.1.0,
+      h.1.1,
+      subst (λ (t : Session). Does (following now) t then) (sym h.1.2)
+          (subst (λ m. Does m h.0 then) (ap (λ m. m + 1) (all ∙ sym (count_numbers ks))) h.2),
+    ))
 
 -- a refused connect
 pub comes_not : (rules : Rules) (room limit : ℕ) (ks ks' : List Knows) (calls : List Call) (errno : Errno)
@@ -192,10 +200,10 @@ module _ (setup : Setup) (rules : Rules) (room limit : ℕ) where
         (λ s t. Loads s setup.loader (coming_at refusal t))
         (λ s t. s ≡ fresh setup → Opens setup (refused (Refused errno) t)) loads
         (λ history end c s t h is.
-            let left = between rules room limit history js in
-            inl (subst (λ (z : Session). Loads z setup.loader (unconnected (Refused errno) left)) is
-            (subst (λ (r : Refusal). Loads (between rules room limit history ks) setup.loader (coming_at r left)) same
-            h)))
+        let left = between rules room limit history js in
+        inl (subst (λ (z : Session). Loads z setup.loader (unconnected (Refused errno) left)) is
+        (subst (λ (r : Refusal). Loads (between rules room limit history ks) setup.loader (coming_at r left)) same
+        h)))
 
     -- one of its calls is refused
     pub loader_stops : (reply : Reply) → refusal ≡ AtCall reply
@@ -204,13 +212,13 @@ module _ (setup : Setup) (rules : Rules) (room limit : ℕ) where
         (λ s t. Loads s setup.loader (coming_at refusal t))
         (λ s t. s ≡ fresh setup → Opens setup stopped) loads
         (λ history end c s t h is.
-            let left = between rules room limit history js in (
-              reply,
-              left,
-              subst (λ (z : Session). Loads z setup.loader (unmade reply left)) is
-                  (subst (λ (r : Refusal). Loads (between rules room limit history ks) setup.loader (coming_at r left))
-                  same h),
-            ))
+        let left = between rules room limit history js in (
+          reply,
+          left,
+          subst (λ (z : Session). Loads z setup.loader (unmade reply left)) is
+              (subst (λ (r : Refusal). Loads (between rules room limit history ks) setup.loader (coming_at r left))
+              same h),
+        ))
 
   -- the first client doesn't come, or one of its calls is refused
   pub no_session : (ks js ls : List Knows) (refusal : Refusal)

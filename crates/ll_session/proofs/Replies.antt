@@ -17,7 +17,7 @@ use Rattle.ll_client.specs.Closed.{numbers_of}
 use Rattle.ll_client.specs.Entries.{Knows}
 use Rattle.ll_lines.specs.Cutting.{Holds}
 use Rattle.ll_lines.proofs.Cuts.{kept, long}
-use Rattle.ll_wire.specs.Grammar.{SpellsCommand}
+use Rattle.ll_wire.specs.Grammar.{SpellsCommand, reply_line}
 use Rattle.ll_wire.specs.Reads.{ReadsBy, holds_text}
 use Rattle.ll_talk.specs.Between.{IsSettled, Leads, between}
 use Rattle.ll_talk.specs.Session.{Session, Called, answered, brought, full, starved}
@@ -26,8 +26,8 @@ use Rattle.ll_talk.proofs.Growths.{stays_so}
 use Rattle.ll_talk.proofs.Later.{called_later}
 use Rattle.ll_talk.proofs.Leading.{nothing_leads, so_leads}
 use Rattle.ll_talk.proofs.Seen.{count_numbers}
-use Rattle.ll_session.specs.Session.{Answers, as_written, bad, calls, unread}
-use Rattle.ll_session.specs.Progress.{IsUnread, placed, without}
+use Rattle.ll_session.specs.Session.{Answers, Tells, as_written, bad, calls, unread}
+use Rattle.ll_session.specs.Progress.{IsUnread, TellsOn, placed, without}
 use Rattle.ll_session.proofs.SessionPlaces.{after_first, in_place, no_place}
 
 -- the bytes spell a call of one of the first so many clients
@@ -107,8 +107,8 @@ module _ (rules : Rules) (room limit : ℕ) (ks ks' : List Knows) (before : ℕ)
   too_long none = so_leads rules room limit ks ks (λ s t. t ≡ s) (AnswersLine line before (Refused BadLine))
       (nothing_leads rules room limit ks)
       (λ history end c s t h piece held.
-          spells_none rules room limit history ks before s (omega (arith, less)) piece
-          (λ v is. let more = long line piece none held in let short = is.0.short in omega (arith, more, short)))
+      spells_none rules room limit history ks before s (omega (arith, less)) piece
+      (λ v is. let more = long line piece none held in let short = is.0.short in omega (arith, more, short)))
 
   pub called_at : (bytes : List ℕ) (place clients count : ℕ) (call : Call) (reply : Reply) → line ≡ Some bytes
       → Spells clients bytes (place, call) → clients + before ≡ length ks → count + before ≡ length ks'
@@ -117,37 +117,40 @@ module _ (rules : Rules) (room limit : ℕ) (ks ks' : List Knows) (before : ℕ)
   called_at bytes place clients count call reply some is all all' leads = so_leads rules room limit ks ks'
       (λ s t. Called s (before + place - 1 + 1) call reply t) (AnswersLine line before (placed count reply)) leads
       (λ history end c s s' h piece held.
-          let now = between rules room limit history ks in
-          let then = between rules room limit history ks' in
-          let first = is.0.is_client.0 in
-          let last = is.1 in
-          let number : before + place - 1 + 1 ≡ before + place = omega (arith, first) in
-          let many = count_numbers ks in
-          let called : Called (without before now) (before + place) call reply (without before then) =
-          called_later before now then (before + place) call reply (omega (arith, less, many))
-          (subst (λ n. Called now n call reply then) number h) in
-          let left : count ≡ length (drop before (numbers_of ks')) =
-          (let cut = length-drop before (numbers_of ks') in let many' = count_numbers ks' in
-          omega (arith, all', cut, many')) in
-          subst (λ (r : Reply). Answers (without before now) piece r (without before then))
-          (sym (placed_as (without before now) (without before then) (before + place) count call reply called left))
-          (calls place (before + place) call reply (without before then)
-          (subst (λ (p : List ℕ). SpellsCommand p place call) (kept line bytes piece some held) is.0)
-          (caller rules room limit history ks before s (omega (arith, less)) place first
-          (omega (arith, last, all))) called))
+      let now = between rules room limit history ks in
+      let then = between rules room limit history ks' in
+      let first = is.0.is_client.0 in
+      let last = is.1 in
+      let number : before + place - 1 + 1 ≡ before + place = omega (arith, first) in
+      let many = count_numbers ks in
+      let called : Called (without before now) (before + place) call reply (without before then) =
+      called_later before now then (before + place) call reply (omega (arith, less, many))
+      (subst (λ n. Called now n call reply then) number h) in
+      let left : count ≡ length (drop before (numbers_of ks')) =
+      (let cut = length-drop before (numbers_of ks') in let many' = count_numbers ks' in
+      omega (arith, all', cut, many')) in
+      subst (λ (r : Reply). Answers (without before now) piece r (without before then))
+      (sym (placed_as (without before now) (without before then) (before + place) count call reply called left))
+      (calls place (before + place) call reply (without before then)
+      (subst (λ (p : List ℕ). SpellsCommand p place call) (kept line bytes piece some held) is.0)
+      (caller rules room limit history ks before s (omega (arith, less)) place first
+      (omega (arith, last, all))) called))
 
   -- nothing was read from the line: it spells nothing, or there was no memory for its word or bytes
   pub not_read : (bytes : List ℕ) (clients before' : ℕ) (errno told : Errno) → line ≡ Some bytes
       → ReadsBy (Spells clients bytes) (λ (v : ℕ × Call). holds_text v.1 ≡ true) (Err errno)
-      → clients + before ≡ length ks
+      → clients + before ≡ length ks → before' ≡ before
       → Leads rules room limit ks ks' (λ s t. (t ≡ s) × IsUnread s errno told)
-      → Leads rules room limit ks ks' (AnswersLine line before (Refused told))
-  not_read bytes clients before' errno told some reads all leads = so_leads rules room limit ks ks'
+      → Leads rules room limit ks ks' (λ s t.
+      (piece : List ℕ) → Holds line piece → Answers (without before s) piece (Refused told) (without before' t))
+  not_read bytes clients before' errno told some reads all same_before leads = subst (λ b. Leads rules room limit ks ks'
+      (λ s t. (piece : List ℕ) → Holds line piece → Answers (without before s) piece (Refused told) (without b t)))
+      (sym same_before) (so_leads rules room limit ks ks'
       (λ s t. (t ≡ s) × IsUnread s errno told) (AnswersLine line before (Refused told)) leads
       (λ history end c s s' h piece held.
-          let now = between rules room limit history ks in
-          subst (λ (t : Session). Answers (without before now) piece (Refused told) (without before t)) (sym h.0)
-          (stays history s h.1 piece (kept line bytes piece some held)))
+      let now = between rules room limit history ks in
+      subst (λ (t : Session). Answers (without before now) piece (Refused told) (without before t)) (sym h.0)
+      (stays history s h.1 piece (kept line bytes piece some held))))
     where
       count : clients ≡ length ks - before
       count = omega (arith, all)
@@ -168,6 +171,19 @@ module _ (rules : Rules) (room limit : ℕ) (ks ks' : List Knows) (before : ℕ)
             (subst (λ (n : ℕ). Spells n piece h.1) count (subst (λ (p : List ℕ). Spells clients p h.1) same h.2))
             h.3 h.0 kind
       ]
+
+-- a line that is answered so is told so
+pub tells_on : (rules : Rules) (limit : ℕ) (ks ks' : List Knows) (line : Option (List ℕ)) (before before' : ℕ)
+    (reply : Reply)
+    → ((room : ℕ) → Leads rules room limit ks ks' (λ s t.
+    (piece : List ℕ) → Holds line piece → Answers (without before s) piece reply (without before' t)))
+    → (piece text : List ℕ) → Holds line piece → text ≡ reply_line reply
+    → TellsOn rules limit before ks piece text before' ks'
+tells_on rules limit ks ks' line before before' reply leads piece text held is room =
+    so_leads rules room limit ks ks'
+    (λ s t. (piece : List ℕ) → Holds line piece → Answers (without before s) piece reply (without before' t))
+    (λ s t. Tells (without before s) piece text (without before' t)) (leads room)
+    (λ history end c s s' h. (reply, h piece held, is))
 
 -- ---- why a line isn't read
 

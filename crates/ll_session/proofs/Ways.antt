@@ -43,8 +43,8 @@ by_number rules room limit ks ks' before call reply less leads = so_leads rules 
     (λ s t. (client : ℕ) × (slice_get s.clients before ≡ Some client) × Called s client call reply t)
     (λ s t. Called s (before + 1) call reply t) leads
     (λ history end c s t h.
-        subst (λ n. Called (between rules room limit history ks) n call reply (between rules room limit history ks'))
-        (number_at rules room history ks before h.0 s less h.1) h.2)
+    subst (λ n. Called (between rules room limit history ks) n call reply (between rules room limit history ks'))
+    (number_at rules room history ks before h.0 s less h.1) h.2)
 
 -- ---- at the end
 
@@ -73,6 +73,14 @@ at_end setup rules limit ks entries First Second same most opens closes =
       h.1.2,
       (points rules setup.nodes limit entries end closes.1).2 h.0,
     )
+
+pub at_last : (setup : Setup) (rules : Rules) (limit : ℕ) (none ks : List Knows) (entries : List Entry)
+    (First : Session → Type 0) (Second : Session → Session → Type 0) → rules ≡ setup.rules → limit ≡ setup.history
+    → none ≡ [] → Leads rules setup.nodes limit none ks (λ s t. s ≡ fresh setup → First t)
+    → Closes rules setup.nodes limit ks entries Second → AtEnd First Second entries
+at_last setup rules limit none ks entries First Second same most nobody opens =
+    at_end setup rules limit ks entries First Second same most
+    (subst (λ (is : List Knows). Leads rules setup.nodes limit is ks (λ s t. s ≡ fresh setup → First t)) nobody opens)
 
 -- the tree is closed at once
 pub closes_here : (rules : Rules) (room limit : ℕ) (ks : List Knows) (entries : List Entry)

@@ -1,6 +1,6 @@
 //! The clients that come before the first line.
 
-ghost use Rattle.std.specs.Prelude.{◌≡◌, ℕ, ◌+◌, ◌<◌, ◌≤◌, length, IfErr, IfOk, IfSome, OnOk};
+ghost use Rattle.std.specs.Prelude.{◌≡◌, ℕ, ◌+◌, ◌<◌, ◌≤◌, false, length, true, IfErr, IfOk, IfSome, OnOk};
 ghost use Rattle.ll_plain.specs.Refusal.{is_refusal};
 ghost use Rattle.ll_seq.specs.declared.reply.Reply.{Reply};
 ghost use Rattle.ll_session.specs.Progress.{reply_at};
@@ -49,6 +49,18 @@ fn is_refused(reply: &Reply) -> bool
     matches!(reply, Reply::Refused(_) | Reply::Denied(_))
 }
 
+// The reply, where the call is refused.
+fn unless_refused(reply: Reply) -> Result<(), Reply>
+    ensures ok { OnOk result (is_refusal reply ≡ false) }
+    ensures err { IfErr result (λ told. (told ≡ reply) × (is_refusal reply ≡ true)) }
+{
+    if is_refused(&reply) {
+        return Err(reply);
+    }
+    drop(reply);
+    Ok(())
+}
+
 impl<N: Shape> Shared<N> {
     ghost use Rattle.ll_talk.specs.Between.{Leads};
     ghost use Rattle.ll_session.specs.Session.{AreOthers};
@@ -66,9 +78,9 @@ impl<N: Shape> Shared<N> {
         ensures count { length self.old.party ≤ length self.new.party }
     {
         for call in calls {
-            let reply = self.ask(rt, before, call);
-            if is_refused(&reply) {
-                return Err(reply);
+            match unless_refused(self.ask(rt, before, call)) {
+                Ok(()) => {}
+                Err(reply) => return Err(reply),
             }
         }
         Ok(())

@@ -1,6 +1,7 @@
 //! A session under way.
 
-ghost use Rattle.std.specs.Prelude.{◌≡◌, ◌<◌, ◌≤◌, ◌+◌, ◌-◌, ℕ, List, IfOk, length, string_bytes};
+ghost use Rattle.std.specs.Prelude.{◌≡◌, ◌<◌, ◌≤◌, ◌+◌, ◌^◌, ◌↔◌, ℕ, List, IsTrue, length};
+ghost use Rattle.ll_rights.specs.declared.errno.Errno.{Errno};
 ghost use Rattle.ll_session.specs.Progress.{placed};
 
 use crate::shared::Shared;
@@ -22,6 +23,13 @@ pub struct OpenSession<'a, N: Shape, R: Wait> {
     ghost some: { before < length shared.party },
 }
 
+// Whether memory is wanted.
+fn wants_memory(errno: Errno) -> bool
+    ensures { IsTrue result ↔ (errno ≡ Errno.NoMemory) }
+{
+    matches!(errno, Errno::NoMemory)
+}
+
 // A reply as it is written where the session has so many clients: the newest is told by its place.
 fn placed(clients: u64, reply: Reply) -> Reply
     ensures { result ≡ placed clients reply }
@@ -35,9 +43,6 @@ fn placed(clients: u64, reply: Reply) -> Reply
 impl<'a, N: Shape, R: Wait> OpenSession<'a, N, R> {
     ghost use Rattle.ll_lines.specs.Cutting.{Holds};
     ghost use Rattle.ll_talk.specs.Between.{Leads};
-    ghost use Rattle.ll_seq.specs.declared.call.Call.{Call};
-    ghost use Rattle.ll_seq.specs.declared.reply.Reply.{Reply};
-    ghost use Rattle.ll_talk.specs.Session.{Called};
     ghost use Rattle.ll_session.specs.Session.{Answers};
     ghost use Rattle.ll_session.specs.Progress.{IsUnread, without};
 
@@ -45,6 +50,7 @@ impl<'a, N: Shape, R: Wait> OpenSession<'a, N, R> {
     fn clients(&self) -> u64
         ensures count { result + self.now.before ≡ length self.now.shared.party }
         ensures some { 1 ≤ result }
+        ensures fits { length self.now.shared.party < 2 ^ 64 }
     {
         self.shared.len() - self.before
     }
@@ -55,9 +61,14 @@ impl<'a, N: Shape, R: Wait> OpenSession<'a, N, R> {
             (λ s t. (t ≡ s) × IsUnread s errno result) }
         ensures before { self.new.before ≡ self.old.before }
     {
-        match errno {
-            Errno::NoMemory if self.shared.is_full(self.rt) => Errno::HistoryFull,
-            _ => errno,
+        if wants_memory(errno) {
+            if self.shared.is_full(self.rt) {
+                Errno::HistoryFull
+            } else {
+                errno
+            }
+        } else {
+            errno
         }
     }
 

@@ -131,7 +131,10 @@ fn fails_once<R: Wait>(rt: &R, alloc: Global, writes: usize) -> bool {
 #[test]
 fn writes_fail(rt: HostRuntime) {
     for writes in 0..TEN_REPLIES.len() + 2 {
-        assert!(rt; fails_once(&rt, rt.alloc(), writes), "after {writes} writes");
+        assert!(rt;
+            fails_once(&rt, rt.alloc(), writes),
+            "after {writes} writes"
+        );
     }
 }
 
@@ -158,7 +161,10 @@ fn stops_once<R: Wait>(rt: &R, alloc: Global, writes: usize) -> bool {
 #[test]
 fn writes_take_nothing(rt: HostRuntime) {
     for writes in 0..TEN_REPLIES.len() {
-        assert!(rt; stops_once(&rt, rt.alloc(), writes), "after {writes} writes");
+        assert!(rt;
+            stops_once(&rt, rt.alloc(), writes),
+            "after {writes} writes"
+        );
     }
 }
 
