@@ -39,11 +39,29 @@ class Walkers:
             self.maker.comes(client)
             self.walks[client] = None
 
+    def one(self):
+        """A client, mostly one that isn't stuck."""
+        free = [client for client in self.walks if client not in self.stuck]
+        return self.rng.choice(free if free and self.rng.random() < 0.9 else list(self.walks))
+
+    def overtakes(self, client):
+        """The client moves a directory at once, if nobody is in its way; walks below it are stale then."""
+        tops = [path for path, kind in self.maker.kinds.items() if kind == "dir" and path.count("/") < 3]
+        old, new = self.rng.choice(tops[1:] or ["/a"]), self.rng.choice([self.maker.under("/"), self.maker.new()])
+        self.does(client, [f"{self.rng.choice(MOVES)} {old} {new}"])
+
+    def call(self, client):
+        """A call of which the walk is mostly long."""
+        if self.rng.random() < 0.5:
+            return self.maker.call(client)
+        deep = max(self.maker.kinds, key=lambda path: path.count("/"))
+        return f"{self.rng.choice(['make reg', 'open rc', 'list', 'stat', 'unlink', 'rmdir'])} {self.maker.under(deep)}"
+
     def goes(self, client):
         """The client goes on, or begins something."""
         if self.walks[client] and self.rng.random() < 0.97:
             return self.goes_on(client)
-        call = self.maker.call(client)
+        call = self.call(client)
         has_path = call.split(" ")[-1].startswith("/") or call.startswith(("allow", "truncate"))
         word = self.rng.choice(["begin"] * 6 + ["do"] * 3) if has_path else self.rng.choice(["do", "fd", "step"])
         self.take(client, word, call, self.tell(f"@{client} {word} {call}"))
@@ -54,7 +72,7 @@ class Walkers:
         steps = [way[0], "commit", "restart"] if way else ["commit", "restart", "descend", "fork"]
         step = self.rng.choice(steps) if is_lost else way[0]
         outcome = self.tell(f"@{client} {step}")
-        (self.stuck.add if outcome == "NotNow" else self.stuck.discard)(client)
+        self.stuck = {*self.stuck, client} if outcome == "NotNow" else set()
         if outcome == "restarted":
             self.walks[client] = call, way_of(call)
         elif outcome.startswith("reply "):
@@ -73,27 +91,39 @@ class Walkers:
         elif outcome == "begun":
             self.walks[client] = call, way_of(call)
         elif word == "do" and outcome == "NotNow" and self.walks[client] is None:
-            self.walks[client] = call, []
+            self.walks[client] = call, way_of(call)
 
-    def layer(self, client):
-        for call in self.maker.layer(client):
+    def does(self, client, calls):
+        for call in calls:
             self.take(client, "do", call, self.tell(f"@{client} do {call}"))
+
+    def furnishes(self):
+        """The first client makes directories in directories, so that walks are long."""
+        for top in ("/a", "/b"):
+            deep = self.rng.randrange(7)
+            names = [self.rng.choice("abc") for _ in range(deep)]
+            self.does(1, [f"make dir {'/'.join([top, *names[:length]])}" for length in range(deep)])
 
 
 def make(program, rng):
     size = Case([], **sizes(rng))
+    size.nodes = max(size.nodes, rng.choice([1, 20, 20, 20]))
     with program.talk("schedule", "-", *size.words()) as talk:
         walkers = Walkers(rng, talk)
         for _ in range(rng.randrange(1, 6)):
             walkers.comes()
-        for _ in range(rng.randrange(10, 200) if walkers.walks else 0):
-            at, client = rng.random(), rng.choice(list(walkers.walks))
+        if walkers.walks:
+            walkers.furnishes()
+        for _ in range(rng.randrange(10, 300) if walkers.walks else 0):
+            at, client = rng.random(), walkers.one()
             if at < 0.01:
                 walkers.comes()
-            elif at < 0.02 and walkers.walks[client] is None:
-                walkers.layer(client)
-            elif at < 0.03:
+            elif at < 0.04 and walkers.walks[client] is None:
+                walkers.does(client, walkers.maker.layer(client))
+            elif at < 0.05:
                 walkers.tell(walkers.maker.spoiled(rng.choice(walkers.lines)))
+            elif at < 0.2 and walkers.walks[client] is None:
+                walkers.overtakes(client)
             else:
                 walkers.goes(client)
     return Case([*walkers.lines, ""], nodes=size.nodes, history=size.history, abi=size.abi)
