@@ -184,9 +184,9 @@ class Maker:
         return [self.spoiled(named[0])] if at > 0.96 else named
 
 
-def make_script(program, rng, most, *words):
+def make_script(program, maker, most, *words):
     """The lines of a script, made while the program answers them."""
-    maker, lines = Maker(rng), []
+    rng, lines = maker.rng, []
     wanted = rng.randrange(most)
     with program.talk("run", "-", *words) as talk:
         while len(lines) < wanted:

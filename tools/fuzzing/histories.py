@@ -2,7 +2,7 @@
 
 import re
 
-from fuzzing.calls import make_script, sizes
+from fuzzing.calls import Maker, make_script, sizes
 from fuzzing.grammar import CALLS, ERRNOS, KINDS, REPLIES, RIGHTS, entry_of, header_of, is_number, whole_and_last
 from fuzzing.program import Case, holds, same
 
@@ -52,7 +52,7 @@ def forged(rng, lines):
 
 def make(program, rng):
     case, saved = Case([], **sizes(rng)), program.room / "saved"
-    case.lines = make_script(program, rng, 60, *case.words())
+    case.lines = make_script(program, Maker(rng), 60, *case.words())
     program.lines("run", "-", *case.words(), "--save", saved, text=case.text())
     lines = saved.read_bytes().decode("latin-1").split("\n")
     for _ in range(rng.choice([0, 1, 1, 1, 1, 1, 2, 3])):

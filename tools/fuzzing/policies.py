@@ -62,7 +62,7 @@ def make(program, rng):
         lines = spoiled(rng, lines)
     case = Case([], [*lines, ""], rng.choice([1, 4, *[20] * 9]), rng.choice([1, 2, 5, *[5000] * 12]))
     words, _, _ = prepared(program, case)
-    case.lines = make_script(program, rng, 30, *words)
+    case.lines = make_script(program, maker, 30, *words)
     return case
 
 

@@ -16,6 +16,8 @@ OUTCOMES = {"begin": "begun", "descend": "at [1-9][0-9]*", "fork": "forked", "re
 def way_of(call):
     """The steps of the call's walk after its beginning, where nobody is in its way."""
     ends = [[name for name in word.split("/") if name][:-1] for word in call.split(" ") if word.startswith("/")]
+    if not ends:
+        return []
     shared = next((i for i, (a, b) in enumerate(zip(ends[0], ends[-1])) if a != b), min(map(len, ends)))
     branches = ["fork", *["descend"] * (len(ends[0]) + len(ends[1]) - 2 * shared)] if len(ends) == 2 else []
     return [*["descend"] * (shared + 1), *branches, "commit"]
@@ -106,9 +108,10 @@ class Walkers:
 
 
 def make(program, rng):
-    size = Case([], **sizes(rng))
-    size.nodes = max(size.nodes, rng.choice([1, 20, 20, 20]))
-    with program.talk("schedule", "-", *size.words()) as talk:
+    case = Case([], **sizes(rng))
+    case.nodes = max(case.nodes, rng.choice([1, 20, 20, 20]))
+    case.history = max(case.history, rng.choice([1, 5000, 5000, 5000]))
+    with program.talk("schedule", "-", *case.words()) as talk:
         walkers = Walkers(rng, talk)
         for _ in range(rng.randrange(1, 6)):
             walkers.comes()
@@ -118,15 +121,16 @@ def make(program, rng):
             at, client = rng.random(), walkers.one()
             if at < 0.01:
                 walkers.comes()
-            elif at < 0.04 and walkers.walks[client] is None:
+            elif at < 0.06 and walkers.walks[client] is None:
                 walkers.does(client, walkers.maker.layer(client))
-            elif at < 0.05:
+            elif at < 0.07:
                 walkers.tell(walkers.maker.spoiled(rng.choice(walkers.lines)))
             elif at < 0.2 and walkers.walks[client] is None:
                 walkers.overtakes(client)
             else:
                 walkers.goes(client)
-    return Case([*walkers.lines, ""], nodes=size.nodes, history=size.history, abi=size.abi)
+    case.lines = [*walkers.lines, ""]
+    return case
 
 
 # ---- judging them

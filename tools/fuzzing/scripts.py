@@ -1,13 +1,14 @@
 """Scripts: by `run`, by `do` in a schedule, by an audit of what was saved, and as checks."""
 
-from fuzzing.calls import make_script, sizes
+from fuzzing.calls import Maker, make_script, sizes
 from fuzzing.grammar import BAD, FULL, NO_MEMORY, by_client, by_do, is_call, is_reply, told, whole_and_last
 from fuzzing.program import Case, holds, same
 
 
 def make(program, rng):
-    size = Case([], **sizes(rng))
-    return Case(make_script(program, rng, 120, *size.words()), nodes=size.nodes, history=size.history, abi=size.abi)
+    case = Case([], **sizes(rng))
+    case.lines = make_script(program, Maker(rng), 120, *case.words())
+    return case
 
 
 def judge_lines(lines, last, replies):
