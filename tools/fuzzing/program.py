@@ -31,18 +31,24 @@ class Talk:
 
     def __init__(self, words):
         pipes = {"stdin": subprocess.PIPE, "stdout": subprocess.PIPE, "stderr": subprocess.DEVNULL}
-        self.process = subprocess.Popen(words, **pipes)
-        self.watch = threading.Timer(LONGEST, self.process.kill)
+        self.process, self.is_late = subprocess.Popen(words, **pipes), False
+        self.watch = threading.Timer(LONGEST, self.stop)
         self.watch.start()
 
+    def stop(self):
+        self.is_late = True
+        self.process.kill()
+
     def ask(self, line):
-        """What is answered; nothing where the run has ended."""
+        """What is answered before the next line is given; nothing where the run has ended."""
         try:
             self.process.stdin.write(f"{line}\n".encode("latin-1"))
             self.process.stdin.flush()
         except BrokenPipeError:
             return ""
-        return self.process.stdout.readline().decode("latin-1").removesuffix("\n")
+        answer = self.process.stdout.readline().decode("latin-1")
+        holds(answer or not self.is_late, f"no answer comes to {line!r:.99}")
+        return answer.removesuffix("\n")
 
     def __enter__(self):
         return self
