@@ -1,7 +1,8 @@
 """Scripts: by `run`, by `do` in a schedule, by an audit of what was saved, and as checks."""
 
 from fuzzing.calls import Maker, make_script, sizes
-from fuzzing.grammar import BAD, FULL, NO_MEMORY, by_client, by_do, is_call, is_reply, told, whole_and_last
+from fuzzing.grammar import BAD, FULL, by_client, by_do, is_call, is_reply, told, whole_and_last
+from fuzzing.model import Model
 from fuzzing.program import Case, holds, same
 
 
@@ -11,23 +12,22 @@ def make(program, rng):
     return case
 
 
-def judge_lines(lines, last, replies):
-    """Each line is answered by a reply, and by BadLine where it spells nothing of a client that is there."""
+def judge_lines(case, lines, last, replies):
+    """Each line is answered as by the rules, and by BadLine where it spells nothing of a client that is there."""
     same(len(replies), len(lines) + (last != ""), "how many replies there are")
-    clients = 1
+    model = Model(case.nodes, case.history, case.abi)
     for number, (line, reply) in enumerate(zip([*lines, last], replies)):
         client, call = by_client(line)
-        spells = number < len(lines) and client <= clients and is_call(call)
-        holds(is_reply(reply) and reply != NO_MEMORY, f"{line!r:.99} is answered {reply!r:.99}")
-        same(reply == BAD, not spells, f"whether {line!r:.99} is a bad line")
-        clients += reply.startswith("client ")
+        spells = number < len(lines) and client <= len(model.clients) and is_call(call)
+        holds(is_reply(reply), f"{line!r:.99} is answered {reply!r:.99}")
+        same(reply, model.answer(client, call) if spells else BAD, f"line {number + 1}, {line!r:.99}")
 
 
 def judge(program, case):
     saved = program.room / "saved"
     replies = program.lines("run", "-", *case.words(), "--save", saved, text=case.text())
     lines, last = whole_and_last(case.text())
-    judge_lines(lines, last, replies)
+    judge_lines(case, lines, last, replies)
     entries = 1 + sum(reply not in (FULL, BAD) for reply in replies)
     schedule = "\n".join(["connect", *(by_do(line, 1) for line in lines), by_do(last, 1) if last else ""])
     outcomes = program.lines("schedule", "-", *case.words(), text=schedule)
