@@ -40,6 +40,8 @@ def other_line(rng, line, others):
 
 def forged(rng, lines):
     """The history with one thing changed, which may mean the same."""
+    if not lines:
+        return lines
     at, what = rng.randrange(len(lines)), rng.random()
     if what < 0.05:
         return [*lines[:at], lines[at][: rng.randrange(len(lines[at]) + 1)]]
