@@ -1,0 +1,49 @@
+"""Scripts: by `run`, by `do` in a schedule, by an audit of what was saved, and as checks."""
+
+from fuzzing.calls import Maker, make_script, sizes
+from fuzzing.grammar import BAD, FULL, by_client, by_do, is_call, is_reply, told, whole_and_last
+from fuzzing.model import Model
+from fuzzing.program import Case, holds, same
+
+
+def make(program, rng):
+    case = Case([], **sizes(rng))
+    case.lines = make_script(program, Maker(rng), 120, *case.words())
+    return case
+
+
+def judge_lines(case, lines, last, replies):
+    """Each line is answered as by the rules, and by BadLine where it spells nothing of a client that is there."""
+    same(len(replies), len(lines) + (last != ""), "how many replies there are")
+    model = Model(case.nodes, case.history, case.abi)
+    for number, (line, reply) in enumerate(zip([*lines, last], replies)):
+        client, call = by_client(line)
+        spells = number < len(lines) and client <= len(model.clients) and is_call(call)
+        holds(is_reply(reply), f"{line!r:.99} is answered {reply!r:.99}")
+        same(reply, model.answer(client, call) if spells else BAD, f"line {number + 1}, {line!r:.99}")
+
+
+def judge(program, case):
+    saved = program.room / "saved"
+    replies = program.lines("run", "-", *case.words(), "--save", saved, text=case.text())
+    lines, last = whole_and_last(case.text())
+    judge_lines(case, lines, last, replies)
+    entries = 1 + sum(reply not in (FULL, BAD) for reply in replies)
+    schedule = "\n".join(["connect", *(by_do(line, 1) for line in lines), by_do(last, 1) if last else ""])
+    outcomes = program.lines("schedule", "-", *case.words(), text=schedule)
+    same(outcomes, ["client 1", *map(told, replies), f"legal {entries}"], "the schedule of `do` lines")
+    same(program.lines("audit", saved), [f"legal {entries}"], "the audit")
+    if FULL not in replies:
+        judge_checks(program, case, [(line, reply) for line, reply in zip(lines, replies) if reply != BAD])
+
+
+def judge_checks(program, case, pairs):
+    """Each third reply is made a false one, and fails; of the others each fourth is told by its first word."""
+    text = ""
+    for number, (line, reply) in enumerate(pairs, 1):
+        short = f"{reply.split(' ')[0]} .." if number % 4 == 0 else reply
+        text += f"{line} = {'fd 99' if number % 3 == 0 else short}\n"
+    failed = len(pairs) // 3
+    words = ["check", "-", "--quiet", "--nodes", str(case.nodes), "--abi", str(case.abi)]
+    out = program.lines(*words, text=text, status=3 if failed else 0)
+    same(out[-1:], [f"{len(pairs) - failed} passed, {failed} failed"], "the checks")
