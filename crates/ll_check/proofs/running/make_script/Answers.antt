@@ -3,7 +3,7 @@ use Rattle.ll_check.proofs.Scripts.{answered, same_left, stopped}
 use Rattle.ll_check.proofs.running.make_script.Goals as goal
 
 pub returns-then-is_answered-clause-made : goal.returns-then-is_answered-clause-made
-returns-then-is_answered-clause-made c =
+returns-then-is_answered-clause-made g c =
     let h = c.in-Ok.ensures.transcript in
     let test = c.if-is_answered.ensures in
     answered c.args.setup c.args.script.now h.0 h.2.0 c.in-Ok.history.entries c.run_script.new.writer h.2.1
@@ -12,7 +12,7 @@ returns-then-is_answered-clause-made c =
     (subst (λ (x : List ℕ). (x ≡ []) ⊎ (c.args.script.now ≢ [])) c.as_slice.ensures.value test.1)
 
 pub returns-else-is_answered-clause-made : goal.returns-else-is_answered-clause-made
-returns-else-is_answered-clause-made c =
+returns-else-is_answered-clause-made g c =
     let h = c.in-Ok.ensures.transcript in
     let test = c.if-is_answered.ensures in
     stopped c.args.setup c.args.script.now h.0 h.2.0 c.in-Ok.history.entries c.run_script.new.writer h.2.1
