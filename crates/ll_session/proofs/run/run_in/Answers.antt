@@ -29,7 +29,8 @@ returns-in_err-run_session-in-Ok-clause-beginning g c =
     c.from_residual.ensures.1
     (begins_by c.args.setup fault old new (begins_lines c.args.setup old new c.in-Ok.before ended.0
     (at_last c.args.setup g.N.Shape.rules g.N.Shape.limit c.in-Some.shared.party c.open.new.self.party ended.0
-    (λ t. Opens c.args.setup (begun (without c.in-Ok.before t))) (StopsAt c.in-Ok.before old new) c.requires.rules c.requires.limit c.in-Some.ensures
+    (λ t. Opens c.args.setup (begun (without c.in-Ok.before t))) (StopsAt c.in-Ok.before old new) c.requires.rules
+    c.requires.limit c.in-Some.ensures
     (c.in-Ok.ensures.ok c.args.setup.nodes) ended.1)))
 
 pub returns-in_err-run_session-in-Ok-clause-may : goal.returns-in_err-run_session-in-Ok-clause-may
@@ -39,7 +40,8 @@ returns-in_err-run_session-in-Ok-clause-may g c =
     let fault = c.in_err-run_session-in-Ok.field-0.0 in
     let ended = c.in_err-run_session-in-Ok.ensures.err c.args.setup.nodes c.requires.slots in
     let e = at_last c.args.setup g.N.Shape.rules g.N.Shape.limit c.in-Some.shared.party c.open.new.self.party ended.0
-    (λ t. Opens c.args.setup (begun (without c.in-Ok.before t))) (StopsAt c.in-Ok.before old new) c.requires.rules c.requires.limit c.in-Some.ensures
+    (λ t. Opens c.args.setup (begun (without c.in-Ok.before t))) (StopsAt c.in-Ok.before old new) c.requires.rules
+    c.requires.limit c.in-Some.ensures
     (c.in-Ok.ensures.ok c.args.setup.nodes) ended.1 in
     if_err c.from_residual.result fault (MayEnd c.args.setup) c.from_residual.ensures.1
     (may_begun c.args.setup fault (without c.in-Ok.before e.0) e.2)
@@ -52,7 +54,8 @@ returns-in_ok-run_session-in-Ok-clause-transcript g c =
     let entries = c.in_ok-run_session-in-Ok.field-0.entries in
     runs c.args.setup old new c.in-Ok.before entries
     (at_last c.args.setup g.N.Shape.rules g.N.Shape.limit c.in-Some.shared.party c.open.new.self.party entries
-    (λ t. Opens c.args.setup (begun (without c.in-Ok.before t))) (RunsTo c.in-Ok.before old new) c.requires.rules c.requires.limit c.in-Some.ensures
+    (λ t. Opens c.args.setup (begun (without c.in-Ok.before t))) (RunsTo c.in-Ok.before old new) c.requires.rules
+    c.requires.limit c.in-Some.ensures
     (c.in-Ok.ensures.ok c.args.setup.nodes)
     (c.in_ok-run_session-in-Ok.ensures.ok c.args.setup.nodes c.requires.slots))
 
@@ -69,7 +72,8 @@ returns-in_err-tell_refusal-in-Err-Refused-clause-beginning g c =
     let fault = c.in_err-tell_refusal-in-Err-Refused.field-0.0 in
     let ended = c.in_err-tell_refusal-in-Err-Refused.ensures.over c.args.setup.nodes c.requires.slots in
     let e = at_last c.args.setup g.N.Shape.rules g.N.Shape.limit c.in-Some.shared.party c.open.new.self.party ended.0
-    (λ t. Opens c.args.setup (refused c.in-Err-Refused.reply t)) (λ s t. t ≡ s) c.requires.rules c.requires.limit c.in-Some.ensures
+    (λ t. Opens c.args.setup (refused c.in-Err-Refused.reply t)) (λ s t. t ≡ s) c.requires.rules c.requires.limit
+    c.in-Some.ensures
     (subst (λ (shut : Shut). Leads g.N.Shape.rules c.args.setup.nodes g.N.Shape.limit c.in-Some.shared.party
     c.open.new.self.party (λ s t. s ≡ fresh c.args.setup → Opens c.args.setup (opening_at shut t)))
     c.in-Err-Refused.field-0-is (c.in-Err-Refused.ensures.err c.args.setup.nodes))
@@ -86,7 +90,8 @@ returns-in_err-tell_refusal-in-Err-Refused-clause-may g c =
     let fault = c.in_err-tell_refusal-in-Err-Refused.field-0.0 in
     let ended = c.in_err-tell_refusal-in-Err-Refused.ensures.over c.args.setup.nodes c.requires.slots in
     let e = at_last c.args.setup g.N.Shape.rules g.N.Shape.limit c.in-Some.shared.party c.open.new.self.party ended.0
-    (λ t. Opens c.args.setup (refused c.in-Err-Refused.reply t)) (λ s t. t ≡ s) c.requires.rules c.requires.limit c.in-Some.ensures
+    (λ t. Opens c.args.setup (refused c.in-Err-Refused.reply t)) (λ s t. t ≡ s) c.requires.rules c.requires.limit
+    c.in-Some.ensures
     (subst (λ (shut : Shut). Leads g.N.Shape.rules c.args.setup.nodes g.N.Shape.limit c.in-Some.shared.party
     c.open.new.self.party (λ s t. s ≡ fresh c.args.setup → Opens c.args.setup (opening_at shut t)))
     c.in-Err-Refused.field-0-is (c.in-Err-Refused.ensures.err c.args.setup.nodes))
@@ -102,7 +107,8 @@ returns-in_ok-tell_refusal-in-Err-Refused-clause-transcript g c =
     refusal c.args.setup (g.E.Ends.devices c.args.ends.now) (g.E.Ends.devices c.tell_refusal.new.ends)
     c.in-Err-Refused.reply entries
     (at_last c.args.setup g.N.Shape.rules g.N.Shape.limit c.in-Some.shared.party c.open.new.self.party entries
-    (λ t. Opens c.args.setup (refused c.in-Err-Refused.reply t)) (λ s t. t ≡ s) c.requires.rules c.requires.limit c.in-Some.ensures
+    (λ t. Opens c.args.setup (refused c.in-Err-Refused.reply t)) (λ s t. t ≡ s) c.requires.rules c.requires.limit
+    c.in-Some.ensures
     (subst (λ (shut : Shut). Leads g.N.Shape.rules c.args.setup.nodes g.N.Shape.limit c.in-Some.shared.party
     c.open.new.self.party (λ s t. s ≡ fresh c.args.setup → Opens c.args.setup (opening_at shut t)))
     c.in-Err-Refused.field-0-is (c.in-Err-Refused.ensures.err c.args.setup.nodes))
@@ -116,7 +122,8 @@ returns-in-Err-Stopped-clause-beginning g c =
 
 pub returns-in-Err-Stopped-clause-may : goal.returns-in-Err-Stopped-clause-may
 returns-in-Err-Stopped-clause-may g c =
-    let e = at_last c.args.setup g.N.Shape.rules g.N.Shape.limit c.in-Some.shared.party c.open.new.self.party c.close.result.entries
+    let e = at_last c.args.setup g.N.Shape.rules g.N.Shape.limit c.in-Some.shared.party c.open.new.self.party
+    c.close.result.entries
     (λ t. Opens c.args.setup stopped) (λ s t. t ≡ s) c.requires.rules c.requires.limit c.in-Some.ensures
     (subst (λ (shut : Shut). Leads g.N.Shape.rules c.args.setup.nodes g.N.Shape.limit c.in-Some.shared.party
     c.open.new.self.party (λ s t. s ≡ fresh c.args.setup → Opens c.args.setup (opening_at shut t)))

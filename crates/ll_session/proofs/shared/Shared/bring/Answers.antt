@@ -16,5 +16,6 @@ returns-in-Ok-make-clause-ok g c room =
 pub returns-in-Err-make-clause-err : goal.returns-in-Err-make-clause-err
 returns-in-Err-make-clause-err g c room =
     comes_then g.N.Shape.rules room g.N.Shape.limit c.args.self.now.party c.join.new.self c.make.new.self.party
-    c.len-before.result (λ n s t. Stops n s c.args.calls.items c.in-Err-make.reply t) c.len-before.ensures (c.in-Ok.ensures.ok room)
+    c.len-before.result (λ n s t. Stops n s c.args.calls.items c.in-Err-make.reply t) c.len-before.ensures
+    (c.in-Ok.ensures.ok room)
     (c.in-Err-make.ensures.err room)

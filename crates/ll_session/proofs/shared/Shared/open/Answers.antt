@@ -8,7 +8,8 @@ use Rattle.ll_session.proofs.shared.Shared.open.Goals as goal
 pub returns-in-Err-AtConnect-clause-err : goal.returns-in-Err-AtConnect-clause-err
 returns-in-Err-AtConnect-clause-err g c room =
     no_loader c.args.setup g.N.Shape.rules room g.N.Shape.limit c.args.self.now.party c.load.new.self.party
-    c.in-Err-AtConnect.field-0 (c.in-Err-AtConnect.ensures.err room) c.in-Err-AtConnect.errno c.in-Err-AtConnect.field-0-is
+    c.in-Err-AtConnect.field-0 (c.in-Err-AtConnect.ensures.err room) c.in-Err-AtConnect.errno
+    c.in-Err-AtConnect.field-0-is
 
 pub returns-in-Err-AtCall-clause-err : goal.returns-in-Err-AtCall-clause-err
 returns-in-Err-AtCall-clause-err g c room =

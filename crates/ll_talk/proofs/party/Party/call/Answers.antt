@@ -15,7 +15,8 @@ invariant_of-self g c =
           c.args.call made
           (asks_them (λ it. it.rider) c.args.self.now c.meet.new.self items c.args.place before c.self.view_is
           c.meet.ensures c.index_mut.ensures.value limit c.args.call made after (no_connect c.args.call c.requires.call)
-          (others_bring_none limit c.args.call before.rider after.rider made (no_spawn c.args.call c.requires.call) gains)
+          (others_bring_none limit c.args.call before.rider after.rider made (no_spawn c.args.call c.requires.call)
+          gains)
           gains),
       c.self.invariant.1,
     )
@@ -31,7 +32,8 @@ returns g c =
       asks_them (λ it. it.rider) c.args.self.now c.meet.new.self c.self.inside.clients.items c.args.place before
           c.self.view_is c.meet.ensures c.index_mut.ensures.value limit c.args.call made after
           (no_connect c.args.call c.requires.call)
-          (others_bring_none limit c.args.call before.rider after.rider made (no_spawn c.args.call c.requires.call) gains)
+          (others_bring_none limit c.args.call before.rider after.rider made (no_spawn c.args.call c.requires.call)
+          gains)
           gains,
       c.reply_to.ensures,
     )

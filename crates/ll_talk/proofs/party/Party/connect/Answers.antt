@@ -11,7 +11,8 @@ invariant_of-self g c =
     let within = last_within (λ it. it.rider) p.clients.items p.clients.len p.last p.clients.ok.0
     (sym c.is_empty.ensures ∙ c.if-is_empty.false) c.self.invariant.0 in (
       subst (λ (ks : List Knows). IsLast ks p.last)
-          (sym (still_same (λ it. it.rider) p.clients.items p.last c.index_mut.result.now c.index_mut.ensures.value within
+          (sym (still_same (λ it. it.rider) p.clients.items p.last c.index_mut.result.now c.index_mut.ensures.value
+          within
           c.connect_after.new.me c.connect_after.ensures.mine))
           c.self.invariant.0,
       c.self.invariant.1,

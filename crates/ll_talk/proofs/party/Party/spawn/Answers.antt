@@ -30,7 +30,8 @@ returns-in-Ok g c =
     inl (
       child.number,
       spawns_them (λ it. it.rider) c.args.self.now c.meet.new.self c.self.inside.clients.items c.args.place
-          c.index_mut.result.now c.self.view_is c.meet.ensures c.index_mut.ensures.value child.number c.spawn-child.new.me
+          c.index_mut.result.now c.self.view_is c.meet.ensures c.index_mut.ensures.value child.number
+          c.spawn-child.new.me
           child c.add.new.self c.in-Ok.ensures.child.0 c.in-Ok.ensures.child.1 c.add.ensures,
       ap Spawned c.number-number.ensures,
     )
@@ -41,8 +42,10 @@ invariant_of-self-in-Err g c =
     let limit = g.N.Shape.limit in
     let made = childless c.in-Err.errno in
     let after = c.spawn-child.new.me in (
-      asks_last limit c.args.self.now (map (λ it. it.rider) (slice_set items c.args.place after)) c.args.place Spawn made
-          (asks_them (λ it. it.rider) c.args.self.now c.meet.new.self items c.args.place c.index_mut.result.now c.self.view_is
+      asks_last limit c.args.self.now (map (λ it. it.rider) (slice_set items c.args.place after)) c.args.place Spawn
+          made
+          (asks_them (λ it. it.rider) c.args.self.now c.meet.new.self items c.args.place c.index_mut.result.now
+          c.self.view_is
           c.meet.ensures c.index_mut.ensures.value limit Spawn made after refl (childless_brings_none c.in-Err.errno)
           c.in-Err.ensures.alone),
       c.self.invariant.1,
