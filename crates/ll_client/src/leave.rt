@@ -347,38 +347,7 @@ fn leave_by_4<N: Shape>(
 }
 
 impl<N: Shape> Desk<N> {
-    /// The client's walk is left, which stands nowhere: no slot is lent. Only calls that add something take memory.
-    pub fn leave_0(&mut self, tie: &Tie<N, Account>, me: &mut Rider<N>, leaving: Leaving) -> Left
-        ensures leaves { Leaves leaving self.old me.old.number result self.new }
-        ensures astray { result ≡ Left.Astray → IsAstray leaving self.old me.old.number [] }
-        ensures spares { Spares self.old self.new [] }
-        ensures calm { result ≡ Left.NoMemory → MayTakeMemory self.old.world me.old.number }
-        ensures rest { LeavesRest leaving self.old me.old.number [] self.new }
-        ensures mine { Goes N.limit me.old result me.new }
-    {
-        let Desk {
-            journal,
-            keeper,
-            ..
-        } = self;
-        let (number, seen) = (me.number, me.seen);
-        take_client(tie, keeper, journal, number, seen, &mut me.pass);
-        let left = leave_with(
-            tie,
-            keeper,
-            journal,
-            number,
-            leaving,
-            &[],
-            &mut [],
-            &mut me.wants,
-        );
-        me.seen = seen_after(&left, seen, journal.entries().len() as u64);
-        me.pass = give_client(tie, keeper, journal, number, me.seen);
-        left
-    }
-
-    /// The same with one slot.
+    /// The client's walk is left, with one slot. Only calls that add something take memory.
     pub fn leave_1(
         &mut self,
         tie: &Tie<N, Account>,

@@ -1,7 +1,6 @@
 //! Looks at the journal. They change nothing, and what they tell may be so no more once its lock is let go.
 
 ghost use Rattle.std.specs.Prelude.{◌≡◌, ◌<◌, ◌≤◌, ℕ, length, None, Some, IfSome, IfNone};
-ghost use Rattle.std.specs.List.{AllByRecursion};
 ghost use Rattle.ll_seq.specs.State.{root};
 ghost use Rattle.ll_seq.specs.declared.client.Descriptor as descriptor;
 ghost use Rattle.ll_worlds.specs.Walk.{Leg};
@@ -12,18 +11,16 @@ use crate::hand::{put_slot, take_slot};
 use crate::locked::Locked;
 use crate::rider::Rider;
 use crate::shape::Shape;
-use ll_journal::{Next, Slots, Station};
+use ll_journal::{Next, Station};
 use ll_tie::Tie;
 
 impl<N: Shape> Desk<N> {
-    ghost use Rattle.ll_inodes.specs.InodeTable.{AreDistinct};
-    ghost use Rattle.ll_journal.specs.Book.{has_mark, inode_in, slot_of};
+    ghost use Rattle.ll_journal.specs.Book.{inode_in, slot_of};
     ghost use Rattle.ll_journal.specs.Direct.{IsOpen};
     ghost use Rattle.ll_journal.specs.InWay.{IsFreeFrom, IsInWay};
     ghost use Rattle.ll_journal.specs.NextStep.{CanBeLent, ComesNext};
     ghost use Rattle.ll_journal.specs.Stations.{station_in};
     ghost use Rattle.ll_journal.specs.Steps.{leg_in_turn};
-    ghost use Rattle.ll_journal.specs.WalkEnds.{is_lent};
 
     /// Where the client's walk is.
     pub fn station(&self, me: &Rider<N>) -> Station
@@ -48,16 +45,6 @@ impl<N: Shape> Desk<N> {
         ensures none { IfNone result (leg_in_turn self.now.world me.now.number ≡ None) }
     {
         self.journal.turn_slot(me.number())
-    }
-
-    /// The slots of the directories where the client's walk stands, also where it is stale.
-    pub fn stands_in(&self, me: &Rider<N>) -> Slots
-        ensures marked { (inode : ℕ) → is_lent self.now result inode ≡ has_mark self.now.world inode me.now.number }
-        ensures distinct { AreDistinct result }
-        ensures within { AllByRecursion (λ slot. slot < length self.now.inodes) result }
-        ensures few { length result ≤ 3 }
-    {
-        self.journal.stands_in(me.number())
     }
 
     /// The slot of the file that the client has open under this number.

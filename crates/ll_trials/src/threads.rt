@@ -275,6 +275,10 @@ fn come_to_ends<N: Shape + Send + Sync, R: Threads + Wait + Sync>(
     let table = Table::<N, NoGate>::open(alloc, blank, RULES, NODES, 1_000_000, NoGate)?;
     let maker = furnishes(rt, alloc, &table);
     let others = thread::map_indices(rt, alloc, 4, &|i| answered(rt, alloc, &table, i))?;
+    // No walk is under way, so the journal's lock is free.
+    let section = table.section(rt);
+    section.by_law();
+    let _root = section.root_slot();
     Ok(closes(alloc, table, maker, others))
 }
 

@@ -11,18 +11,7 @@ use ll_client::{Account, Leaving, Left, Locked, Rider, Shape};
 use ll_tie::Tie;
 
 impl<'a, N: Shape> Section<'a, N> {
-    /// The client's walk is left, with no slot.
-    pub fn leave_0(self, tie: &Tie<N, Account>, me: &mut Rider<N>, leaving: Leaving) -> Left
-        ensures step { (w : Book) × Leaves leaving (mutex_guard_value self.entry.desk) me.old.number result w
-            × Shows (mutex_guard_value self.entry.desk) w [] [] }
-        ensures astray { result ≡ Left.Astray → IsAstray leaving (mutex_guard_value self.entry.desk) me.old.number [] }
-        ensures mine { Goes N.limit me.old result me.new }
-    {
-        let Section { mut desk } = self;
-        desk.leave_0(tie, me, leaving)
-    }
-
-    /// The same with one slot.
+    /// The client's walk is left, with one slot.
     pub fn leave_1(
         self,
         tie: &Tie<N, Account>,
