@@ -5,7 +5,7 @@ use Rattle.std.specs.Prelude.{IfErr, IfSome, OnErr, IsErrAnd}
 use Rattle.std.specs.Io.KnownBytes.{Appends}
 use Rattle.ll_client.specs.Closed.{IsClosed}
 use Rattle.ll_client.specs.Entries.{Knows}
-use Rattle.ll_ends.specs.Devices.{Devices, IsWhole}
+use Rattle.ll_ends.specs.Devices.{Devices}
 use Rattle.ll_wire.specs.Grammar.{reply_line}
 use Rattle.ll_wire.specs.Pieces.{pieces}
 use Rattle.ll_rights.specs.declared.errno.Errno.TheVariants as errno
@@ -16,7 +16,7 @@ use Rattle.ll_seq.specs.declared.rules.Rules.{Rules}
 use Rattle.ll_session.specs.declared.fault.RunFault.{RunFault}
 use Rattle.ll_session.specs.declared.fault.RunFault.TheVariants.{Opening, Session}
 use Rattle.ll_session.specs.declared.setup.Setup.{Setup}
-use Rattle.ll_lines.specs.Reached.{AnswersAll, Blames, StartsAll}
+use Rattle.ll_lines.specs.Reached.{AnswersAll, StartsAll}
 use Rattle.ll_lines.specs.Transcript.{Transcript, Writes}
 use Rattle.ll_lines.specs.declared.fault.SessionFault.{SessionFault}
 use Rattle.ll_lines.specs.declared.fault.SessionFault.TheVariants.{Read, Write, NoMemory, TooLong}
@@ -26,7 +26,7 @@ use Rattle.ll_talk.specs.Talk.{Grows}
 use Rattle.ll_talk.proofs.Growths.{stays_so, then_grows}
 use Rattle.ll_session.specs.Session.{Tells}
 use Rattle.ll_session.specs.Opening.{begun, fresh, refused, Opens}
-use Rattle.ll_session.specs.Run.{Begins, BeginsBy, BeginsLines, BeginsRefusal, EndsBy, MayEnd, Runs}
+use Rattle.ll_session.specs.Run.{Begins, BeginsBy, BeginsLines, BeginsRefusal, MayEnd, Runs}
 use Rattle.ll_session.specs.Progress.{ComesOn, IsOfRefusal, RunsTo, StopsAt, TellsOn, without}
 use Rattle.ll_wire.proofs.WrittenText.{appends-none}
 use Rattle.ll_session.proofs.Coming.{may_be_refused}

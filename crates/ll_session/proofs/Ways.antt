@@ -1,11 +1,10 @@
 -- How clients come on, and what that comes to when their tree is closed.
-use Rattle.std.specs.Prelude.{⊤, ◌≡◌, ℕ, ◌+◌, ◌<◌, ◌≤◌, List, [], length, Some, slice_get, refl}
+use Rattle.std.specs.Prelude.{⊤, ◌≡◌, ℕ, ◌+◌, ◌<◌, List, [], length, Some, slice_get, refl}
 use Rattle.std.proofs.Common.{sym, ap, subst, ◌∙◌, arith}
 use Rattle.ll_seq.specs.declared.call.Call.{Call}
 use Rattle.ll_seq.specs.declared.reply.Entry.{Entry}
 use Rattle.ll_seq.specs.declared.reply.Reply.{Reply}
 use Rattle.ll_seq.specs.declared.rules.Rules.{Rules}
-use Rattle.ll_seq.specs.Stages.{numbers_from}
 use Rattle.ll_client.specs.Closed.{IsClosed, numbers_of}
 use Rattle.ll_client.specs.Entries.{Knows}
 use Rattle.ll_talk.specs.Between.{IsSettled, Leads, between}

@@ -1,4 +1,4 @@
-use Rattle.std.proofs.Common.{All, ap, arith, ◌∙◌, ◌+◌, ◌++◌, ◌∷◌, ◌≡◌, [], length, refl, subst, suc, sym, take}
+use Rattle.std.proofs.Common.{All, ap, arith, ◌∙◌, ◌+◌, ◌≡◌, length, refl, subst, suc, sym, take}
 use Rattle.std.specs.Prelude.{slice_get}
 use Rattle.std.proofs.lemmas.List.{take_all}
 use Rattle.std.proofs.lemmas.List.Elements.{All-nil, All-push}

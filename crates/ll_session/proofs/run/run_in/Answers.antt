@@ -1,5 +1,4 @@
-use Rattle.std.proofs.Common.{inl, refl, subst, ◌≡◌, ℕ}
-use Rattle.ll_rights.specs.declared.limits.TheConstants.{TREE_CLIENTS}
+use Rattle.std.proofs.Common.{inl, refl, subst, ◌≡◌}
 use Rattle.ll_lines.specs.declared.fault.SessionFault.TheVariants.{NoMemory}
 use Rattle.ll_seq.specs.History.{IsLegal}
 use Rattle.ll_seq.specs.State.{start}

@@ -1,4 +1,4 @@
-use Rattle.std.proofs.Common.{List, arith, subst, sym, ◌+◌, ◌≡◌, ℕ}
+use Rattle.std.proofs.Common.{arith, subst, sym}
 use Rattle.ll_seq.specs.declared.reply.Reply.{Reply}
 use Rattle.ll_talk.specs.Between.{Leads}
 use Rattle.ll_session.proofs.Replies.{AnswersLine, called_at, not_read, too_long}

@@ -1,4 +1,4 @@
-use Rattle.std.proofs.Common.{◌∙◌, ◌+◌, sym, arith, length}
+use Rattle.std.proofs.Common.{◌∙◌, ◌+◌, arith, length}
 use Rattle.std.proofs.lemmas.Iterator.Adapters.{YieldsList-from_vec}
 use Rattle.std.proofs.lemmas.Iterator.Consumers.{YieldsList-turn, YieldsList-end}
 use Rattle.ll_session.proofs.Coming.{makes_all, makes_none, makes_one, next_call, stops_here}
