@@ -4,10 +4,10 @@
         source = tree.client.open("r", "/src/main.c")
         print(tree.client.read(source, 0, 4096))
 
-`Landtree.run` starts the built program and talks with it over pipes. A `Client` has a method for each call of the tree,
-which takes the words of the command in their order (docs/RULES.md). What a layer forbids raises `Denied`, what is
-refused for another cause `Refused`. What no line can say raises `ValueError`, and nothing is sent then. `snapshot` makes
-a policy's text of a real directory.
+`Landtree.run` starts the built program and talks with it over pipes. A `Client` has a method for each call of the
+tree, which takes the words of the command in their order (docs/RULES.md). What a layer forbids raises `Denied`, what is
+refused for another cause `Refused`. What no line can say raises `ValueError`, and nothing is sent then. `snapshot`
+makes a policy's text of a real directory.
 
 This file is all that is needed, with Python 3.8 or later on a Unix.
 """
@@ -21,6 +21,23 @@ import subprocess
 import tempfile
 import threading
 from typing import Iterator, List, NamedTuple, Tuple
+
+__all__ = [
+    "BadReply",
+    "Client",
+    "Denied",
+    "Ended",
+    "KINDS",
+    "Landtree",
+    "LandtreeError",
+    "OpeningRefused",
+    "ProgramFault",
+    "Refused",
+    "Rights",
+    "Snapshot",
+    "Stat",
+    "snapshot",
+]
 
 KINDS = ("reg", "dir", "sym", "fifo", "sock", "char", "block")
 CALL_BYTES = 4_096
@@ -70,7 +87,7 @@ class Stat(NamedTuple):
 
 
 class Ended(NamedTuple):
-    """How the program ended: its status, or less than 0 where a signal ended it, and its last line on standard error."""
+    """How the program ended: its status, below 0 where a signal ended it, and its last line on standard error."""
 
     status: int
     line: str
@@ -164,7 +181,7 @@ def number_word(number):
 
 
 def path_word(path):
-    """Returns the path as it is. Whether it is a path of a tree is for the tree to say, if a line can have it at all."""
+    """Returns the path as it is, if a line can have it. Whether it is a path of a tree is for the tree to say."""
     if not re.fullmatch(f"[!-~]{{1,{WORD_BYTES}}}", path):
         raise ValueError(f"a path is sent as 1 to 8,000 printed ASCII characters, none of them a space: {path!r}")
     return path
@@ -383,8 +400,8 @@ class Process:
         return self._ended
 
 
-# It spells no command, so a session answers it by a bad line whatever the tree is like, and has no entry for it. Neither
-# a connect nor a call of a profile is ever refused so.
+# It spells no command, so a session answers that it is a bad line, whatever the tree is like, and has no entry for it.
+# Neither a connect nor a call of a profile is ever refused so.
 PROBE = "opened?"
 PROBED = "refused 23 BadLine"
 
@@ -508,17 +525,17 @@ class Taking:
         self.left_out = []
         self.first_paths = {}
 
-    def add(self, node):
+    def need_room(self):
         if len(self.nodes) >= self.most:
             raise Unfit("the tree has no node left")
-        self.nodes.append(node)
 
     def take_directory_path(self, path):
         """Takes a node for each directory that a path names, none of them real."""
         so_far = "/"
         for name in path.split("/")[1:] if path != "/" else []:
             so_far = joined(so_far, name)
-            self.add(Node(so_far, "dir"))
+            self.need_room()
+            self.nodes.append(Node(so_far, "dir"))
 
     def take_names(self, place, names, path):
         """Takes what has these names in a real directory, whose node has this path."""
@@ -544,8 +561,9 @@ class Taking:
         key = (found.st_dev, found.st_ino) if kind != "dir" and found.st_nlink > 1 else None
         if key in self.first_paths:
             raise Unfit(f"it is a further link of {self.first_paths[key]}")
+        self.need_room()
         names = names_in(place) if kind == "dir" else []
-        self.add(Node(path, kind, bytes_of(place) if kind == "reg" else b""))
+        self.nodes.append(Node(path, kind, bytes_of(place) if kind == "reg" else b""))
         if key:
             self.first_paths[key] = path
         self.take_names(place, names, path)
