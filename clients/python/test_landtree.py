@@ -1,0 +1,804 @@
+#!/usr/bin/env python3
+"""Tests the client in Python with the built program. What is wanted comes from docs/RULES.md, from the examples and the
+worked examples, whose replies were worked out from the rules, and from the file system. The last line is
+'N passed, M failed'.
+
+    clients/python/test_landtree.py [-p PROGRAM] [NAME..]
+
+PROGRAM is the program to run, crates/landtree/out/landtree where it isn't told. With NAMEs only these tests are run, as
+Snapshots or Snapshots.test_each_node.
+"""
+
+import contextlib
+import os
+import re
+import signal
+import socket
+import stat
+import subprocess
+import sys
+import tempfile
+import threading
+import unittest
+from pathlib import Path
+from unittest import mock
+
+sys.dont_write_bytecode = True
+HERE = Path(__file__).resolve().parent
+TOP = HERE.parent.parent
+sys.path.insert(0, str(HERE))
+
+import landtree  # noqa: E402
+from landtree import BadReply, Client, Denied, Landtree, LandtreeError, OpeningRefused  # noqa: E402
+from landtree import ProgramFault, Refused, Rights, Stat, snapshot  # noqa: E402
+
+PROGRAM = str(TOP / "crates/landtree/out/landtree")
+BAD_LINE = "refused 23 BadLine"
+
+
+def run(**options):
+    return Landtree.run(PROGRAM, **options)
+
+
+class Case(unittest.TestCase):
+    def setUp(self):
+        folder = tempfile.TemporaryDirectory()
+        self.addCleanup(folder.cleanup)
+        self.room = Path(folder.name)
+
+    def file(self, name, text):
+        path = self.room / name
+        path.write_text(text)
+        return path
+
+    def stand_in(self, script):
+        """A program that answers the first line as one with a session does, and then does as the script says."""
+        path = self.file("stand-in", f"#!/bin/sh\nread first; echo '{BAD_LINE}'\n{script}\n")
+        path.chmod(0o755)
+        return path
+
+    def raises(self, kind, args, call, *words, **options):
+        """Wants the call to raise this very kind of error with these arguments."""
+        with self.assertRaises(kind) as caught:
+            call(*words, **options)
+        self.assertIs(type(caught.exception), kind)
+        self.assertEqual(caught.exception.args, args)
+        return caught.exception
+
+
+# ---- lines of scripts as calls of the client
+
+
+def rights_of(word):
+    """The set that a word of a line tells, if the word is how the set is spelled."""
+    rights = Rights.NONE
+    for name in word.split(",") if word != "none" else []:
+        if not re.fullmatch("[a-z]+(_[a-z]+)?", name) or name.upper() not in Rights.__members__:
+            raise ValueError(f"no rights: {word}")
+        rights |= Rights[name.upper()]
+    return as_spelled(rights, word, str(rights))
+
+
+def number_of(word):
+    return as_spelled(int(word), word, str(int(word)))
+
+
+def data_of(word):
+    data = bytes.fromhex("" if word == "-" else word)
+    return as_spelled(data, word, data.hex() or "-")
+
+
+def as_spelled(value, word, spelled):
+    if word != spelled:
+        raise ValueError(f"{word} is spelled {spelled}")
+    return value
+
+
+CALLS = {
+    "make": (str, str),
+    "open": (str, str),
+    "read": (number_of, number_of, number_of),
+    "write": (number_of, number_of, data_of),
+    "ftruncate": (number_of, number_of),
+    "close": (number_of,),
+    "truncate": (str, number_of),
+    "list": (str,),
+    "stat": (str,),
+    "exec": (str,),
+    "unlink": (str,),
+    "rmdir": (str,),
+    "rename": (str, str),
+    "rename_noreplace": (str, str),
+    "exchange": (str, str),
+    "link": (str, str),
+    "ruleset": (rights_of,),
+    "allow": (number_of, str, rights_of),
+    "confine": (number_of,),
+    "spawn": (),
+}
+
+# How the reply to a call tells what the call returns; `ok` where it isn't here.
+REPLIES = {
+    "open": lambda it: f"fd {it}",
+    "read": lambda it: f"data {it.hex() or '-'}",
+    "write": lambda it: f"wrote {it}",
+    "list": lambda it: " ".join(["names", *it]),
+    "stat": lambda it: f"stat {it.inode} {it.kind} {it.size} {it.links}",
+    "ruleset": lambda it: f"ruleset {it}",
+    "spawn": lambda it: f"client {it.number}",
+}
+
+
+class Script:
+    """A session whose calls are told by lines of a script."""
+
+    def __init__(self, tree):
+        self.clients = {1: tree.client}
+
+    def reply(self, line):
+        """Makes the call of a line, and tells what came of it as a reply does. It raises ValueError where no call has
+        this line."""
+        client, name, arguments = self.call_of(line)
+        try:
+            result = getattr(client, name)(*arguments)
+        except (Denied, Refused) as error:
+            return str(error)
+        if name == "spawn":
+            self.clients[result.number] = result
+        return REPLIES[name](result) if name in REPLIES else {None: "ok"}[result]
+
+    def call_of(self, line):
+        words = line.split(" ")
+        number = 1
+        if re.fullmatch("@([2-9]|[1-9][0-9]+)", words[0]):
+            number = int(words.pop(0)[1:])
+        name = words.pop(0) if words else ""
+        if number not in self.clients or name not in CALLS or len(words) != len(CALLS[name]):
+            raise ValueError(f"no call has this line: {line}")
+        return self.clients[number], name, [read(word) for read, word in zip(CALLS[name], words)]
+
+
+def lines_of(file):
+    """The whole lines of a file, which may have bytes of any kind."""
+    return file.read_bytes().decode("latin-1").split("\n")[:-1] if file.exists() else []
+
+
+def options_of(words, folder):
+    """The options that words of the program tell, if they are a name and a value each."""
+    values = [word.replace("{", f"{folder}/").replace("}", "") for word in words[1::2]]
+    options = dict(zip((word[2:] for word in words[0::2]), values))
+    numbers = {name: int(value) for name, value in options.items() if name in ("nodes", "abi", "history")}
+    return {**options, **numbers}
+
+
+def worked(status):
+    """Yields the name, the options and the folder of each worked example of a run that ends with 0, or doesn't."""
+    for folder in sorted((TOP / "worked").iterdir()):
+        words = (folder / "words").read_text().split() if folder.is_dir() else []
+        if words[:1] == ["run"] and len(words) % 2 == 0 and all(it.startswith("--") for it in words[2::2]):
+            if (folder / "status").exists() is (status != 0):
+                yield folder.name, words[2:], folder
+
+
+# Runs whose fault lies in words that `Landtree.run` never writes, or in a script that is no standard input.
+BEYOND_OPTIONS = [f"words-{it}" for it in ("history-no-number", "nodes-no-number", "nodes-told-twice")]
+BEYOND_OPTIONS.append("words-script-not-there")
+
+
+class Scripts(Case):
+    def replay(self, lines, replies, **options):
+        """Makes each line's call, and returns the lines that no call has; each of these is refused in a script."""
+        unsaid = []
+        with run(**options) as tree:
+            script = Script(tree)
+            for line, reply in zip(lines, replies):
+                try:
+                    told = script.reply(line)
+                except ValueError:
+                    unsaid.append(line)
+                    self.assertTrue(reply == BAD_LINE or "0x" in line and reply.startswith("refused "), (line, reply))
+                else:
+                    self.assertEqual(told, reply, line)
+        return unsaid
+
+    def test_build_step(self):
+        lines, replies = (lines_of(TOP / f"examples/build-step.{it}") for it in ("txt", "out"))
+        self.assertEqual(len(lines), len(replies))
+        self.assertEqual(self.replay(lines, replies), [])
+
+    def test_other_scripts(self):
+        for file in sorted((TOP / "examples").glob("*.txt")):
+            words = file.with_suffix(".words")
+            options = options_of(words.read_text().split() if words.exists() else [], TOP / "examples")
+            with self.subTest(file.name):
+                self.assertEqual(self.replay(lines_of(file), lines_of(file.with_suffix(".out")), **options), [])
+
+    def test_worked_scripts(self):
+        said = 0
+        for name, words, folder in worked(0):
+            lines, replies = lines_of(folder / "stdin"), lines_of(folder / "stdout")
+            if name == "policy-profile-call-refused":
+                continue
+            with self.subTest(name):
+                unsaid = self.replay(lines, replies, **options_of(words, folder))
+                said += len(lines) - len(unsaid)
+        self.assertGreater(said, 1_000)
+
+    def test_worked_faults(self):
+        seen = 0
+        for name, words, folder in worked(1):
+            if name in BEYOND_OPTIONS:
+                continue
+            with self.subTest(name):
+                fault = int((folder / "status").read_text()), (folder / "stderr").read_text().rstrip("\n")
+                self.raises(ProgramFault, fault, lambda: run(**options_of(words, folder)).__exit__(None, None, None))
+                seen += 1
+        self.assertGreater(seen, 15)
+
+
+class Calls(Case):
+    def test_each_result(self):
+        with run() as tree:
+            first = tree.client
+            self.assertIsNone(first.make("dir", "/d"))
+            self.assertIsNone(first.make("reg", "/d/f"))
+            self.assertEqual(first.open("rw", "/d/f"), 0)
+            self.assertEqual(first.write(0, 2, b"\x00\xff"), 2)
+            self.assertEqual(first.read(0, 0, 4096), b"\x00\x00\x00\xff")
+            self.assertEqual(first.read(0, 4, 4096), b"")
+            self.assertEqual(first.write(0, 0, b""), 0)
+            self.assertIsNone(first.ftruncate(0, 3))
+            self.assertEqual(first.stat("/d/f"), Stat(inode=3, kind="reg", size=3, links=1))
+            self.assertEqual(first.stat("/"), Stat(inode=1, kind="dir", size=0, links=1))
+            self.assertIsNone(first.close(0))
+            self.assertIsNone(first.truncate("/d/f", 0))
+            self.assertIsNone(first.exec("/d/f"))
+            self.assertIsNone(first.link("/d/f", "/d/g"))
+            self.assertEqual(first.list("/d"), ["f", "g"])
+            self.assertIsNone(first.exchange("/d/f", "/d/g"))
+            self.assertIsNone(first.rename("/d/f", "/d/h"))
+            self.assertIsNone(first.rename_noreplace("/d/g", "/i"))
+            self.assertIsNone(first.unlink("/d/h"))
+            self.assertEqual(first.list("/d"), [])
+            self.assertIsNone(first.rmdir("/d"))
+            self.assertEqual(first.ruleset(Rights.READ_DIR | Rights.WRITE_FILE), 0)
+            self.assertIsNone(first.allow(0, "/", Rights.READ_DIR))
+            self.assertIsNone(first.confine(0))
+            second = first.spawn()
+            self.assertIsInstance(second, Client)
+            self.assertEqual((second.number, repr(second)), (2, "<landtree.Client 2>"))
+            self.assertEqual(second.list("/"), ["i"])
+            self.assertEqual(second.spawn().number, 3)
+
+    def test_denied(self):
+        with run() as tree:
+            tree.client.make("dir", "/a")
+            tree.client.make("reg", "/f")
+            tree.client.confine(tree.client.ruleset(Rights.WRITE_FILE))
+            error = self.raises(Denied, ("EACCES", 1, Rights.WRITE_FILE, "at"), tree.client.open, "w", "/f")
+            fields = (error.errno, error.layer, error.right, error.place)
+            self.assertEqual(fields, ("EACCES", 1, Rights.WRITE_FILE, "at"))
+            self.assertEqual(str(error), "denied EACCES layer 1 write_file at")
+            self.raises(Denied, ("EXDEV", 1, Rights.REFER, "old"), tree.client.rename, "/f", "/a/f")
+
+    def test_refused(self):
+        with run() as tree:
+            error = self.raises(Refused, (3, "ENOENT"), tree.client.stat, "/none")
+            self.assertEqual((error.number, error.name, str(error)), (3, "ENOENT", "refused 3 ENOENT"))
+            self.raises(Refused, (11, "EBADF"), tree.client.close, 0)
+
+    def test_errors_have_one_base(self):
+        for error in (Denied, Refused, OpeningRefused, ProgramFault, BadReply):
+            self.assertTrue(issubclass(error, LandtreeError), error)
+
+    def test_long_reads_and_writes(self):
+        data = bytes(range(256)) * 17
+        with run(history=8) as tree:
+            first = tree.client
+            file = first.open("rwc", "/f")
+            self.raises(Refused, (8, "EINVAL"), first.read, file, 0, 4097)
+            self.assertRaises(ValueError, first.write, file, 0, data)
+            self.assertEqual(first.stat("/f").size, 0)
+            self.assertEqual(first.write_all(file, 0, data), 4352)
+            self.assertEqual(first.read_all(file), data)
+            # The connect, the opening, the refused read, the look, and two calls each.
+            self.raises(Refused, (21, "HistoryFull"), first.stat, "/f")
+
+    def test_whole_pieces(self):
+        with run() as tree:
+            file = tree.client.open("rwc", "/f")
+            self.assertEqual(tree.client.read_all(file), b"")
+            self.assertEqual(tree.client.write_all(file, 0, b""), 0)
+            self.assertEqual(tree.client.write_all(file, 1, b"x" * 8191), 8191)
+            self.assertEqual(tree.client.read_all(file), b"\x00" + b"x" * 8191)
+            self.raises(Refused, (16, "EFBIG"), tree.client.write_all, file, 65_535, b"yz")
+
+    def test_levels_and_sizes(self):
+        with run(abi=1, nodes=2) as tree:
+            self.raises(Refused, (8, "EINVAL"), tree.client.ruleset, Rights.REFER)
+            tree.client.make("sym", "/s")
+            self.raises(Refused, (13, "ENOSPC"), tree.client.make, "fifo", "/t")
+
+
+class Unsaid(Case):
+    """What no line can say is never sent."""
+
+    def setUp(self):
+        super().setUp()
+        self.transport = mock.Mock()
+        self.client = Client(self.transport, 1)
+        self.addCleanup(self.transport.send.assert_not_called)
+
+    def test_paths(self):
+        for path in ("", " ", "/a b", "/\u00e4", "/\n", "/f\n", "/\x7f", "/\x00", "/" + "a" * 8000):
+            for call in (self.client.stat, self.client.list, self.client.exec, self.client.unlink, self.client.rmdir):
+                self.assertRaises(ValueError, call, path)
+            for name in ("rename", "rename_noreplace", "exchange", "link"):
+                self.assertRaises(ValueError, getattr(self.client, name), path, "/f")
+                self.assertRaises(ValueError, getattr(self.client, name), "/f", path)
+            self.assertRaises(ValueError, self.client.make, "reg", path)
+            self.assertRaises(ValueError, self.client.open, "r", path)
+            self.assertRaises(ValueError, self.client.truncate, path, 0)
+            self.assertRaises(ValueError, self.client.allow, 0, path, Rights.ALL)
+        self.assertRaises(TypeError, self.client.stat, b"/f")
+
+    def test_kinds_and_modes(self):
+        for kind in ("", "REG", "file", "reg ", "/f"):
+            self.assertRaises(ValueError, self.client.make, kind, "/f")
+        for mode in ("", "t", "wr", "rx", "rct", "rwtxc", "rr", "w+", "r\n", "/f"):
+            self.assertRaises(ValueError, self.client.open, mode, "/f")
+
+    def test_numbers(self):
+        for number in (-1, 2**64):
+            for call in (self.client.close, self.client.confine):
+                self.assertRaises(ValueError, call, number)
+            for numbers in ((number, 0, 0), (0, number, 0), (0, 0, number)):
+                self.assertRaises(ValueError, self.client.read, *numbers)
+            self.assertRaises(ValueError, self.client.write, number, 0, b"")
+            self.assertRaises(ValueError, self.client.write, 0, number, b"")
+            self.assertRaises(ValueError, self.client.ftruncate, 0, number)
+            self.assertRaises(ValueError, self.client.truncate, "/f", number)
+            self.assertRaises(ValueError, self.client.allow, number, "/", Rights.ALL)
+        self.assertRaises(TypeError, self.client.close, "0")
+        self.assertRaises(TypeError, self.client.close, 1.0)
+
+    def test_bytes_and_rights(self):
+        self.assertRaises(ValueError, self.client.write, 0, 0, bytes(4097))
+        for data in (5, "text", None):
+            self.assertRaises(TypeError, self.client.write, 0, 0, data)
+            self.assertRaises(TypeError, self.client.write_all, 0, 0, data)
+        for rights in ("read_file", 4, None):
+            self.assertRaises(TypeError, self.client.ruleset, rights)
+            self.assertRaises(TypeError, self.client.allow, 0, "/", rights)
+
+
+class Lines(Case):
+    """What is sent, and what is taken for a reply."""
+
+    def test_rights(self):
+        names = "execute write_file read_file read_dir remove_dir remove_file make_char make_dir make_reg make_sock"
+        names = [*names.split(), "make_fifo", "make_block", "make_sym", "refer", "truncate"]
+        self.assertEqual([it.value for it in (Rights[name.upper()] for name in names)], [2**bit for bit in range(15)])
+        self.assertEqual(str(Rights.ALL), ",".join(names))
+        self.assertEqual(str(Rights.NONE), "none")
+        self.assertEqual(str(Rights.TRUNCATE | Rights.EXECUTE | Rights.READ_DIR), "execute,read_dir,truncate")
+        self.assertEqual(str(Rights.ALL & ~Rights.READ_FILE), ",".join(it for it in names if it != "read_file"))
+
+    def test_lines(self):
+        transport = mock.Mock()
+        transport.send.return_value = "ok"
+        second = Client(transport, 2)
+        second.rename("//", "x" * 8000)
+        second.allow(15, "/a", Rights.TRUNCATE | Rights.REFER)
+        Client(transport, 1).ftruncate(2**64 - 1, 0)
+        sent = [call.args[0] for call in transport.send.call_args_list]
+        wanted = [f"@2 rename // {'x' * 8000}", "@2 allow 15 /a refer,truncate", "ftruncate 18446744073709551615 0"]
+        self.assertEqual(sent, wanted)
+
+    def test_each_mode(self):
+        transport = mock.Mock()
+        transport.send.return_value = "fd 0"
+        modes = [way + empty + make for way in ("r", "w", "rw") for empty in ("", "t") for make in ("", "c", "cx")]
+        for mode in modes:
+            Client(transport, 1).open(mode, "/f")
+        sent = [call.args[0] for call in transport.send.call_args_list]
+        self.assertEqual(sent, [f"open {mode} /f" for mode in modes])
+
+    def test_no_replies(self):
+        replies = ["", "fd 0", "ok ", "OK", "refused 3", "refused ENOENT 3", "refused 03 ENOENT"]
+        replies += ["denied EPERM layer 1 write_file at", "denied EACCES layer 1 writefile at"]
+        replies += ["denied EACCES layer 1 write_file there", "denied EACCES layer 1 write_file"]
+        for reply in replies:
+            client = Client(mock.Mock(send=mock.Mock(return_value=reply)), 1)
+            self.raises(BadReply, (reply,), client.unlink, "/f")
+        calls = {"open": ("r", "/f"), "read": (0, 0, 1), "write": (0, 0, b"x"), "list": ("/",), "stat": ("/",)}
+        calls.update({"ruleset": (Rights.ALL,), "spawn": ()})
+        for name, words in calls.items():
+            client = Client(mock.Mock(send=mock.Mock(return_value="ok")), 1)
+            self.raises(BadReply, ("ok",), getattr(client, name), *words)
+        for reply in ("data", "data 0", "data 0A", "data 00 ", "data -0"):
+            client = Client(mock.Mock(send=mock.Mock(return_value=reply)), 1)
+            self.raises(BadReply, (reply,), client.read, 0, 0, 1)
+
+
+class Programs(Case):
+    def test_on_the_path(self):
+        os.symlink(PROGRAM, self.room / "landtree")
+        with mock.patch.dict(os.environ, {"PATH": str(self.room)}):
+            with Landtree.run() as tree:
+                self.assertEqual(tree.client.list("/"), [])
+
+    def test_no_program(self):
+        self.assertRaises(FileNotFoundError, Landtree.run, self.room / "landtree")
+
+    def test_close_tells_the_status(self):
+        tree = run()
+        self.assertEqual(tree.close(), 0)
+        self.assertEqual(tree.close(), 0)
+        self.raises(ProgramFault, (0, ""), tree.client.stat, "/")
+        tree = run(save=self.room / "no-such-folder/history")
+        self.assertEqual(tree.close(), 1)
+
+    def test_saves_its_calls_alone(self):
+        with run(save=self.room / "history", nodes=7) as tree:
+            tree.client.make("reg", "/f")
+            tree.client.spawn().exec("/f")
+        wanted = ["landtree-history 3 nodes 7 abi 3", "1 connect = ok", "1 make reg /f = ok", "1 spawn = client 2"]
+        self.assertEqual(lines_of(self.room / "history"), [*wanted, "2 exec /f = ok"])
+
+    def test_opening_refused(self):
+        folder = TOP / "worked/policy-profile-call-refused"
+        self.raises(OpeningRefused, (3, "ENOENT"), run, policy=folder / "policy.toml", profile="reader")
+        empty = self.file("policy.toml", "version = 1\n")
+        self.raises(OpeningRefused, (21, "HistoryFull"), run, policy=empty, history=1)
+
+    def test_full_history_is_no_refused_opening(self):
+        with run(history=1) as tree:
+            self.raises(Refused, (21, "HistoryFull"), tree.client.stat, "/")
+
+    def test_a_program_that_is_killed(self):
+        tree = run()
+        tree.client.make("reg", "/f")
+        child = tree._transport._child
+        child.kill()
+        self.raises(ProgramFault, (-signal.SIGKILL, ""), tree.client.stat, "/f")
+        self.raises(ProgramFault, (-signal.SIGKILL, ""), tree.client.spawn)
+        self.assertEqual(tree.close(), -signal.SIGKILL)
+
+    def test_a_program_that_ends(self):
+        ends = "read line; echo ok; read line; echo 'a line before' >&2; echo 'landtree: no memory' >&2; exit 4"
+        fault = (4, "landtree: no memory")
+        tree = Landtree.run(self.stand_in(ends))
+        tree.client.make("reg", "/f")
+        error = self.raises(ProgramFault, fault, tree.client.stat, "/f")
+        self.assertEqual((error.status, error.line), fault)
+        self.assertEqual(str(error), "the program has ended with status 4: landtree: no memory")
+        self.raises(ProgramFault, fault, tree.client.stat, "/f")
+        self.assertEqual(tree.close(), 4)
+
+    def test_a_reply_without_its_end(self):
+        tree = Landtree.run(self.stand_in("read line; printf o"))
+        self.raises(ProgramFault, (0, ""), tree.client.make, "reg", "/f")
+
+    def test_a_program_that_ends_unasked(self):
+        with self.assertRaises(ProgramFault) as caught:
+            with Landtree.run(self.stand_in("exit 4")):
+                pass
+        self.assertEqual(caught.exception.args, (4, ""))
+
+    def test_an_error_in_the_block_goes_first(self):
+        with self.assertRaises(KeyError):
+            with Landtree.run(self.stand_in("exit 4")):
+                raise KeyError
+
+    def test_no_landtree(self):
+        other = self.file("other", "#!/bin/sh\nread line; echo hello; read line\n")
+        other.chmod(0o755)
+        self.raises(BadReply, ("hello",), Landtree.run, other)
+
+    def test_threads(self):
+        def make_files(client):
+            for number in range(100):
+                path = f"/{client.number}-{number}"
+                file = client.open("rwcx", path)
+                client.write(file, 0, path.encode())
+                told[path] = client.read(file, 0, 4096)
+                client.close(file)
+
+        told = {}
+        with run() as tree:
+            threads = [threading.Thread(target=make_files, args=[tree.client.spawn()]) for _ in range(8)]
+            for it in threads:
+                it.start()
+            for it in threads:
+                it.join()
+        paths = [f"/{client}-{number}" for client in range(2, 10) for number in range(100)]
+        self.assertEqual(told, {path: path.encode() for path in paths})
+
+    def test_an_interrupted_call(self):
+        tree = Landtree.run(self.stand_in("read line; read line; echo ok"))
+        with interrupted_after(0.2):
+            self.assertRaises(KeyboardInterrupt, tree.client.make, "reg", "/f")
+        with self.assertRaises(LandtreeError) as caught:
+            tree.client.make("reg", "/g")
+        self.assertIs(type(caught.exception), LandtreeError)
+        self.assertEqual(tree.close(), 0)
+
+
+@contextlib.contextmanager
+def interrupted_after(seconds):
+    def interrupt(*_):
+        raise KeyboardInterrupt
+
+    before = signal.signal(signal.SIGALRM, interrupt)
+    signal.setitimer(signal.ITIMER_REAL, seconds)
+    try:
+        yield
+    finally:
+        signal.setitimer(signal.ITIMER_REAL, 0)
+        signal.signal(signal.SIGALRM, before)
+
+
+# ---- snapshots
+
+
+MODES = {"reg": stat.S_ISREG, "dir": stat.S_ISDIR, "sym": stat.S_ISLNK, "fifo": stat.S_ISFIFO, "sock": stat.S_ISSOCK}
+MODES.update({"char": stat.S_ISCHR, "block": stat.S_ISBLK})
+
+
+def kind_at(place):
+    return next(kind for kind, is_of in MODES.items() if is_of(os.lstat(place).st_mode))
+
+
+def places_in(folder):
+    """Yields all that lies in a real directory: each directory before what lies in it, names rising."""
+    for name in sorted(os.listdir(folder)):
+        place = folder / name
+        yield place
+        if kind_at(place) == "dir":
+            yield from places_in(place)
+
+
+class Snapshots(Case):
+    def setUp(self):
+        super().setUp()
+        self.real = self.room / "real"
+        self.real.mkdir()
+
+    def put(self, name, data=b""):
+        place = self.real / name
+        place.parent.mkdir(parents=True, exist_ok=True)
+        place.write_bytes(data)
+        return place
+
+    def opened(self, taken, **options):
+        """A session over a snapshot's policy."""
+        tree = run(policy=self.file("policy.toml", taken.text), **options)
+        self.addCleanup(tree.close)
+        return tree
+
+    def fill(self):
+        """Makes a real directory with a thing of each kind that can be made here."""
+        self.put("src/main.c", b"int x;")
+        self.put("src/empty")
+        self.put("src/odd\"na\\me'#=[]", b"\x00\xff\n")
+        self.put("whole", bytes(range(256)) * 256)
+        self.put("two-pieces", b"x" * 4097)
+        (self.real / "none").mkdir()
+        os.symlink("src/main.c", self.real / "to-file")
+        os.symlink("src", self.real / "to-folder")
+        os.symlink("nowhere", self.real / "dangling")
+        os.mkfifo(self.real / "fifo")
+        with socket.socket(socket.AF_UNIX) as it:
+            it.bind(str(self.real / "sock"))
+        with contextlib.suppress(PermissionError):
+            os.mknod(self.real / "char", 0o600 | stat.S_IFCHR, os.makedev(1, 3))
+            os.mknod(self.real / "block", 0o600 | stat.S_IFBLK, os.makedev(7, 0))
+
+    def wants_nodes(self, client, places, path_of, first):
+        """Wants the tree to have these real places, made in this order, the first with this inode."""
+        for inode, place in enumerate(places, first):
+            kind = kind_at(place)
+            size = os.lstat(place).st_size if kind == "reg" else 0
+            self.assertEqual(client.stat(path_of(place)), Stat(inode, kind, size, 1), place)
+            if kind == "reg":
+                file = client.open("r", path_of(place))
+                self.assertEqual(client.read_all(file), place.read_bytes(), place)
+                client.close(file)
+            if kind == "dir":
+                self.assertEqual(client.list(path_of(place)), sorted(os.listdir(place)), place)
+
+    def test_each_node(self):
+        self.fill()
+        taken = snapshot(self.real)
+        self.assertEqual(taken.left_out, [])
+        tree = self.opened(taken)
+        self.wants_nodes(tree.client, list(places_in(self.real)), lambda it: f"/{it.relative_to(self.real)}", 2)
+        self.assertEqual(tree.client.list("/"), sorted(os.listdir(self.real)))
+
+    def test_elsewhere(self):
+        self.fill()
+        taken = snapshot(os.fsencode(self.real), at="/srv/www")
+        tree = self.opened(taken)
+        self.assertEqual(tree.client.list("/"), ["srv"])
+        self.assertEqual(tree.client.list("/srv"), ["www"])
+        path_of = lambda it: f"/srv/www/{it.relative_to(self.real)}"
+        self.wants_nodes(tree.client, list(places_in(self.real)), path_of, 4)
+
+    def test_a_policy_with_a_profile(self):
+        self.put("f", b"x")
+        profile = '[[profile.look.layer]]\nhandled = "read_file"\n'
+        policy = self.file("policy.toml", f"{snapshot(self.real).text}\n{profile}")
+        with run(policy=policy, profile="look") as tree:
+            self.raises(Denied, ("EACCES", 1, Rights.READ_FILE, "at"), tree.client.open, "r", "/f")
+
+    def test_an_empty_directory(self):
+        taken = snapshot(self.real)
+        self.assertEqual((taken.left_out, taken.entries), ([], 1))
+        self.assertEqual(self.opened(taken).client.list("/"), [])
+
+    def test_levels(self):
+        for abi, refused in ((1, True), (2, False)):
+            client = self.opened(snapshot(self.real, abi=abi)).client
+            if refused:
+                self.raises(Refused, (8, "EINVAL"), client.ruleset, Rights.REFER)
+            else:
+                self.assertEqual(client.ruleset(Rights.REFER), 0)
+            self.raises(Refused, (8, "EINVAL"), client.ruleset, Rights.TRUNCATE)
+
+    def test_entries(self):
+        self.put("a")
+        self.put("b", b"x" * 4096)
+        self.put("c/d", b"x" * 4097)
+        taken = snapshot(self.real)
+        # The connect; a, b, c and d; open, write and close of b; open, two writes and close of d.
+        self.assertEqual(taken.entries, 1 + 4 + 3 + 4)
+        policy = self.file("policy.toml", taken.text)
+        fault = (2, "landtree: opening call refused")
+        self.raises(ProgramFault, fault, run, policy=policy, history=taken.entries - 1)
+        self.raises(OpeningRefused, (21, "HistoryFull"), run, policy=policy, history=taken.entries)
+        with run(policy=policy, history=taken.entries + 2) as tree:
+            tree.client.stat("/c/d")
+            self.raises(Refused, (21, "HistoryFull"), tree.client.stat, "/c/d")
+
+    def wants_left_out(self, taken, places, reason):
+        self.assertEqual([place for place, _ in taken.left_out], [os.fsdecode(os.fspath(it)) for it in places])
+        for _, told in taken.left_out:
+            self.assertIn(reason, told)
+
+    def test_names(self):
+        odd = [b"a b", b"\xc3\xa4", b"\xff", b"tab\t", b"new\nline", b"\x7f"]
+        for name in odd:
+            Path(os.fsdecode(os.path.join(os.fsencode(self.real), name))).mkdir()
+        self.put("a b/inside")
+        self.put("good")
+        taken = snapshot(self.real)
+        places = [os.path.join(os.fsencode(self.real), name) for name in sorted(odd)]
+        self.wants_left_out(taken, places, "its name isn't")
+        self.assertEqual(self.opened(taken).client.list("/"), ["good"])
+
+    def test_sizes(self):
+        over = self.put("over", bytes(65_537))
+        self.put("whole", bytes(65_536))
+        taken = snapshot(self.real)
+        self.wants_left_out(taken, [over], "65,536 bytes")
+        self.assertEqual(self.opened(taken).client.list("/"), ["whole"])
+
+    def test_further_links(self):
+        first = self.put("a b")
+        os.link(first, self.real / "c")
+        os.link(first, self.real / "d")
+        os.symlink("x", self.real / "s")
+        os.link(self.real / "s", self.real / "t", follow_symlinks=False)
+        taken = snapshot(self.real)
+        left_out = dict(taken.left_out)
+        self.assertEqual(sorted(left_out), [str(self.real / name) for name in ("a b", "d", "t")])
+        self.assertEqual(left_out[str(self.real / "d")], "it is a further link of /c")
+        self.assertEqual(left_out[str(self.real / "t")], "it is a further link of /s")
+        client = self.opened(taken).client
+        self.assertEqual(client.list("/"), ["c", "s"])
+        self.assertEqual(client.stat("/c").links, 1)
+
+    def test_deep_paths(self):
+        deep = self.real
+        for _ in range(64):
+            deep = deep / "d"
+            deep.mkdir()
+        (deep / "below").touch()
+        (deep.parent / "e").touch()
+        taken = snapshot(self.real)
+        self.wants_left_out(taken, [deep / "below"], "64 names")
+        self.assertEqual(self.opened(taken).client.list("/d" * 63), ["d", "e"])
+        self.wants_left_out(snapshot(deep.parent, at="/x" * 64), [deep, deep.parent / "e"], "64 names")
+
+    def test_long_paths(self):
+        # Sixteen names of 255 bytes are 4,096 bytes with their slashes: one too many.
+        at = f"/{'n' * 255}" * 15
+        places = [self.put("n" * 255), self.put("n" * 254)]
+        taken = snapshot(self.real, at=at)
+        self.wants_left_out(taken, places[:1], "4,095 bytes")
+        self.assertEqual(self.opened(taken).client.stat(f"{at}/{'n' * 254}"), Stat(17, "reg", 0, 1))
+
+    def test_crowds(self):
+        for number in range(1_026):
+            self.put(f"many/{number:04}")
+        taken = snapshot(self.real, nodes=2_000)
+        self.wants_left_out(taken, [self.real / "many/1024", self.real / "many/1025"], "1,024 names")
+        self.assertEqual(len(self.opened(taken, nodes=2_000).client.list("/many")), 1_024)
+
+    def test_room(self):
+        for name in ("a", "b", "c/d", "e"):
+            self.put(name)
+        taken = snapshot(self.real, nodes=4)
+        self.wants_left_out(taken, [self.real / "c/d", self.real / "e"], "no node left")
+        self.assertEqual(self.opened(taken, nodes=4).client.list("/"), ["a", "b", "c"])
+        self.assertRaises(ValueError, snapshot, self.real, at="/x/y", nodes=2)
+
+    def test_what_cannot_be_read(self):
+        self.put("f")
+        self.put("d/g")
+        self.put("h")
+        really, names = os.open, os.listdir
+
+        def opens(place, flags):
+            if Path(place).name == "f":
+                raise PermissionError(13, "Permission denied", place)
+            return really(place, flags)
+
+        def lists(place):
+            if Path(place).name == "d":
+                raise PermissionError(13, "Permission denied", place)
+            return names(place)
+
+        with mock.patch("os.open", opens), mock.patch("os.listdir", lists):
+            taken = snapshot(self.real)
+        self.assertEqual(taken.left_out, [(str(self.real / name), "Permission denied") for name in ("d", "f")])
+        self.assertEqual(self.opened(taken).client.list("/"), ["h"])
+
+    def test_what_is_of_no_kind(self):
+        place = self.put("f")
+        with mock.patch.object(landtree, "REAL_KINDS", {stat.S_IFDIR: "dir"}):
+            taken = snapshot(self.real)
+        self.wants_left_out(taken, [place], "no kind")
+
+    def test_wrong_words(self):
+        for options in ({"nodes": 0}, {"nodes": 4_097}, {"abi": 0}, {"abi": 4}, {"at": "srv"}, {"at": ""}):
+            self.assertRaises(ValueError, snapshot, self.real, **options)
+        for at in ("/a b", "/../x", "//", "/a/", "/" + "n" * 256, "/x" * 65):
+            self.assertRaises(ValueError, snapshot, self.real, at=at)
+        self.assertRaises(FileNotFoundError, snapshot, self.room / "nowhere")
+        self.assertRaises(NotADirectoryError, snapshot, self.put("f"))
+
+
+class Guide(Case):
+    def test_the_program_of_the_guide(self):
+        text = (TOP / "docs/GUIDE.md").read_text(encoding="utf-8")
+        (program,) = re.findall("^```python\n(.*?)^```$", text, re.MULTILINE | re.DOTALL)
+        os.symlink(PROGRAM, self.room / "landtree")
+        file = self.file("test_sandbox.py", program)
+        path = {"PYTHONPATH": str(HERE), "PATH": f"{self.room}:{os.environ['PATH']}", "PYTHONDONTWRITEBYTECODE": "1"}
+        how = {"cwd": TOP, "env": {**os.environ, **path}, "capture_output": True, "text": True, "timeout": 120}
+        ran = subprocess.run([sys.executable, file], **how)
+        self.assertEqual(ran.returncode, 0, ran.stderr)
+        tests = program.count("    def test_")
+        self.assertGreater(tests, 0)
+        self.assertIn(f"Ran {tests} tests in ", ran.stderr)
+        self.assertEqual(ran.stderr.splitlines()[-1], "OK")
+
+
+def main(words):
+    global PROGRAM
+    if words[:1] == ["-p"] and len(words) > 1:
+        PROGRAM = os.path.abspath(words[1])
+        words = words[2:]
+    loader = unittest.TestLoader()
+    here = sys.modules[__name__]
+    tests = loader.loadTestsFromNames(words, here) if words else loader.loadTestsFromModule(here)
+    result = unittest.TextTestRunner(stream=sys.stdout).run(tests)
+    missed = {test.id().split(" ")[0] for test, _ in result.failures + result.errors}
+    print(f"{result.testsRun - len(missed)} passed, {len(missed)} failed")
+    return 0 if result.wasSuccessful() and result.testsRun else 1
+
+
+if __name__ == "__main__":
+    sys.exit(main(sys.argv[1:]))
