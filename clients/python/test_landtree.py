@@ -184,6 +184,9 @@ def worked(status):
 BEYOND_OPTIONS = [f"words-{it}" for it in ("history-no-number", "nodes-no-number", "nodes-told-twice")]
 BEYOND_OPTIONS.append("words-script-not-there")
 
+# Runs whose profile asks for too much, so that a call of the opening is refused and no line is read.
+REFUSED_OPENINGS = ["policy-profile-call-refused", "policy-257-rules", "policy-seventeen-layers"]
+
 
 class Scripts(Case):
     def replay(self, lines, replies, **options):
@@ -217,12 +220,20 @@ class Scripts(Case):
         said = 0
         for name, words, folder in worked(0):
             lines, replies = lines_of(folder / "stdin"), lines_of(folder / "stdout")
-            if name == "policy-profile-call-refused":
+            if name in REFUSED_OPENINGS:
                 continue
             with self.subTest(name):
                 unsaid = self.replay(lines, replies, **options_of(words, folder))
                 said += len(lines) - len(unsaid)
         self.assertGreater(said, 1_000)
+
+    def test_refused_openings(self):
+        for name, words, folder in worked(0):
+            if name in REFUSED_OPENINGS:
+                with self.subTest(name):
+                    with self.assertRaises(landtree.OpeningRefused) as refused:
+                        run(**options_of(words, folder))
+                    self.assertIn(f"refused {refused.exception.number} ", lines_of(folder / "stdout")[0])
 
     def test_worked_faults(self):
         seen = 0
