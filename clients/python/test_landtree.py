@@ -10,6 +10,7 @@ Snapshots or Snapshots.test_each_node.
 """
 
 import contextlib
+import errno
 import os
 import re
 import signal
@@ -230,10 +231,9 @@ class Scripts(Case):
     def test_refused_openings(self):
         for name, words, folder in worked(0):
             if name in REFUSED_OPENINGS:
-                with self.subTest(name):
-                    with self.assertRaises(landtree.OpeningRefused) as refused:
-                        run(**options_of(words, folder))
-                    self.assertIn(f"refused {refused.exception.number} ", lines_of(folder / "stdout")[0])
+                with self.subTest(name), self.assertRaises(OpeningRefused) as caught:
+                    run(**options_of(words, folder))
+                self.assertEqual([str(caught.exception)], lines_of(folder / "stdout"), name)
 
     def test_worked_faults(self):
         seen = 0
@@ -765,6 +765,21 @@ class Snapshots(Case):
             taken = snapshot(self.real)
         self.assertEqual(taken.left_out, [(str(self.real / name), "Permission denied") for name in ("d", "f")])
         self.assertEqual(self.opened(taken).client.list("/"), ["h"])
+
+    def test_a_file_that_becomes_a_link(self):
+        outside = self.file("outside", "secret")
+        place = self.put("f")
+        really = os.open
+
+        def opens(file, flags):
+            place.unlink()
+            place.symlink_to(outside)
+            return really(file, flags)
+
+        with mock.patch("os.open", opens):
+            taken = snapshot(self.real)
+        self.assertEqual(taken.left_out, [(str(place), os.strerror(errno.ELOOP))])
+        self.assertEqual(self.opened(taken).client.list("/"), [])
 
     def test_what_is_of_no_kind(self):
         place = self.put("f")
