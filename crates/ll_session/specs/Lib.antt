@@ -1,3 +1,4 @@
+pub mod Beside
 pub mod Opening
 pub mod Progress
 pub mod Run

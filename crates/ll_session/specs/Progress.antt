@@ -1,5 +1,6 @@
 -- How far a run has come. (Support of the functions below `run_script`: no public contract cites this file.)
-use Rattle.std.specs.Prelude.{⊤, ◌≡◌, ◌⊎◌, ◌<◌, ◌≤◌, ℕ, List, [], drop, length, Option}
+use Rattle.std.specs.Prelude.{◌≡◌, ◌≢◌, ◌⊎◌, ◌<◌, ◌≤◌, ℕ, List, [], drop, Option, refl}
+use Rattle.std.proofs.Common.{◌∙◌}
 use Rattle.std.specs.Io.KnownBytes.{Appends}
 use Rattle.ll_rights.specs.declared.errno.Errno.{Errno}
 use Rattle.ll_rights.specs.declared.errno.Errno.TheVariants as errnos
@@ -16,7 +17,8 @@ use Rattle.ll_lines.specs.declared.fault.SessionFault.TheVariants as fault
 use Rattle.ll_wire.specs.Writing.{AppendsFront}
 use Rattle.ll_talk.specs.Between.{Leads}
 use Rattle.ll_talk.specs.Session.{Session}
-use Rattle.ll_talk.proofs.Growths.{stays_so, then_grows}
+use Rattle.ll_talk.specs.Talk.{Goes, Looks, nowhere, seen_by}
+use Rattle.ll_talk.proofs.Leadings.{goes_on}
 use Rattle.ll_session.specs.declared.opening.Refusal.{Refusal}
 use Rattle.ll_session.specs.declared.opening.Refusal.TheVariants.{AtCall, AtConnect}
 use Rattle.ll_session.specs.declared.opening.Shut.{Shut}
@@ -47,16 +49,23 @@ opening_at shut.Stopped t = stopped
 abbrev pub without : ℕ → Session → Session
 without before s = record s { clients = drop before s.clients }
 
--- of so many clients the newest is told by its place
-abbrev pub placed : ℕ → Reply → Reply
-placed clients (replies.Spawned number) = replies.Spawned clients
-placed clients reply = reply
+-- How a line is refused that wasn't read for this reason: a full history comes before want of memory
+abbrev pub IsUnread : (limit : ℕ) → List Knows → (errno told : Errno) → List Knows → Type 0
+IsUnread limit ks errno told ks' =
+    ((errno ≡ errnos.NoMemory) × Looks ks ks' × (limit ≤ seen_by ks') × (told ≡ errnos.HistoryFull))
+    ⊎ ((errno ≡ errnos.NoMemory) × Looks ks ks' × (seen_by ks' < limit) × (told ≡ errnos.NoMemory))
+    ⊎ ((errno ≢ errnos.NoMemory) × (ks' ≡ ks) × (told ≡ errno))
 
--- how a line is refused that wasn't read for this reason: a full history comes before want of memory
-abbrev pub IsUnread : Session → (errno told : Errno) → Type 0
-IsUnread s errno told =
-    ((errno ≡ errnos.NoMemory) × (s.limit ≤ length s.entries) × (told ≡ errnos.HistoryFull))
-    ⊎ ((told ≡ errno) × (errno ≡ errnos.NoMemory → length s.entries < s.limit))
+-- so many clients came before the session, as ever, and they have all come on
+abbrev pub StandsOn : (limit before : ℕ) → List Knows → ℕ → List Knows → Type 0
+StandsOn limit before ks before' ks' = Goes limit ks ks' × (before' ≡ before)
+
+pub stands : (limit before : ℕ) (ks : List Knows) → StandsOn limit before ks before ks
+stands limit before ks = (nowhere, refl)
+
+pub stands_on : (limit i j k : ℕ) (is js ks : List Knows) → StandsOn limit i is j js → StandsOn limit j js k ks
+    → StandsOn limit i is k ks
+stands_on limit i j k is js ks one two = (goes_on limit is js ks one.0 two.0, two.1 ∙ one.1)
 
 module _ (rules : Rules) (limit : ℕ) where
   -- Between what these clients know and what those do, the piece gets this line, whatever else becomes of the tree.
@@ -64,21 +73,6 @@ module _ (rules : Rules) (limit : ℕ) where
   abbrev pub TellsOn : ℕ → List Knows → (piece line : List ℕ) → ℕ → List Knows → Type 0
   TellsOn before ks piece line before' ks' = (room : ℕ)
       → Leads rules room limit ks ks' (λ s t. Tells (without before s) piece line (without before' t))
-
-  -- these clients have come on to those
-  abbrev pub ComesOn : (ks ks' : List Knows) → Type 0
-  ComesOn ks ks' = (room : ℕ) → Leads rules room limit ks ks' (λ s t. ⊤)
-
-  pub comes_nowhere : (ks : List Knows) → ComesOn ks ks
-  comes_nowhere ks room = (stays_so ks, λ history end c g s. (s, tt))
-
-  pub comes_further : (is js ks : List Knows) → ComesOn is js → ComesOn js ks → ComesOn is ks
-  comes_further is js ks one two room = (
-    then_grows is js ks (one room).0 (two room).0,
-    λ history end c g s.
-        let first = (one room).1 history end c (then_grows js ks end (two room).0 g) s in
-        (((two room).1 history end c g first.0).0, tt),
-  )
 
 -- The tree was closed with these entries, and to the clients that it had then these came on, so
 abbrev pub Closes : Rules → (room limit : ℕ) → List Knows → List Entry → (Session → Session → Type 0) → Type 0

@@ -1,10 +1,10 @@
 //! The clients that come before the first line.
 
-ghost use Rattle.std.specs.Prelude.{◌≡◌, ℕ, ◌+◌, ◌<◌, ◌≤◌, false, length, true, IfErr, IfOk, IfSome, OnOk};
-ghost use Rattle.ll_plain.specs.Refusal.{is_refusal};
+ghost use Rattle.std.specs.Prelude.{◌≡◌, ℕ, ◌<◌, length, IfErr, IfOk, IfSome, OnOk};
 ghost use Rattle.ll_seq.specs.declared.reply.Reply.{Reply};
 ghost use Rattle.ll_session.specs.Progress.{reply_at};
 
+use crate::calls::make_calls;
 use crate::setup::Setup;
 use crate::shared::Shared;
 use ll_client::Shape;
@@ -42,49 +42,11 @@ pub enum Shut {
     Stopped,
 }
 
-// Whether the call is refused, or denied.
-fn is_refused(reply: &Reply) -> bool
-    ensures { result ≡ is_refusal reply.now }
-{
-    matches!(reply, Reply::Refused(_) | Reply::Denied(_))
-}
-
-// The reply, where the call is refused.
-fn unless_refused(reply: Reply) -> Result<(), Reply>
-    ensures ok { OnOk result (is_refusal reply ≡ false) }
-    ensures err { IfErr result (λ told. (told ≡ reply) × (is_refusal reply ≡ true)) }
-{
-    if is_refused(&reply) {
-        return Err(reply);
-    }
-    drop(reply);
-    Ok(())
-}
-
 impl<N: Shape> Shared<N> {
     ghost use Rattle.ll_talk.specs.Between.{Leads};
     ghost use Rattle.ll_session.specs.Session.{AreOthers};
-    ghost use Rattle.ll_session.specs.Opening.{Comes, Loads, Makes, Opens, Stops, begun, fresh, made};
+    ghost use Rattle.ll_session.specs.Opening.{Comes, Loads, Opens, begun, fresh, made};
     ghost use Rattle.ll_session.specs.Progress.{coming_at, opening_at, without};
-
-    // Makes the calls of the client that came after so many others in turn, up to the first that is refused.
-    fn make<R: Wait>(&mut self, rt: &R, before: u64, calls: Vec<Call>) -> Result<(), Reply>
-        requires caller { before < length self.old.party }
-        requires calls { AreOthers calls.items }
-        ensures ok { OnOk result ((room : ℕ) → Leads N.rules room N.limit self.old.party self.new.party
-            (λ s t. Makes (before + 1) s calls.items t)) }
-        ensures err { IfErr result (λ reply. (room : ℕ) → Leads N.rules room N.limit self.old.party self.new.party
-            (λ s t. Stops (before + 1) s calls.items reply t)) }
-        ensures count { length self.old.party ≤ length self.new.party }
-    {
-        for call in calls {
-            match unless_refused(self.ask(rt, before, call)) {
-                Ok(()) => {}
-                Err(reply) => return Err(reply),
-            }
-        }
-        Ok(())
-    }
 
     // The next client comes, and makes these calls.
     fn bring<R: Wait>(&mut self, rt: &R, calls: Vec<Call>) -> Result<(), Refusal>
@@ -104,7 +66,7 @@ impl<N: Shape> Shared<N> {
                 return Err(Refusal::AtConnect(errno));
             }
         }
-        match self.make(rt, before, calls) {
+        match make_calls(rt, &self.tree, &mut self.party, before as usize, calls) {
             Ok(()) => Ok(()),
             Err(reply) => Err(Refusal::AtCall(reply)),
         }

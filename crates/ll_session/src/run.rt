@@ -1,6 +1,6 @@
 //! Runs of scripts.
 
-ghost use Rattle.std.specs.Prelude.{◌≡◌, ◌+◌, ◌≤◌, ◌^◌, [], length, All, IfOk, IfErr, ℕ, List, OnOk, OnErr, IfSome};
+ghost use Rattle.std.specs.Prelude.{◌≡◌, ◌+◌, ◌<◌, ◌≤◌, ◌^◌, [], length, All, IfOk, IfErr, ℕ, List, OnOk, OnErr, IfSome};
 ghost use Rattle.std.specs.Prelude.{Option, Some, Err};
 ghost use Rattle.std.specs.Io.KnownBytes.{Appends};
 ghost use Rattle.ll_rights.specs.declared.limits.TheConstants.{TREE_CLIENTS};
@@ -21,12 +21,12 @@ ghost use Rattle.ll_session.specs.Progress.{Closes, IsOfRefusal, RunsTo, StopsAt
 use crate::fault::RunFault;
 use crate::opening::Shut;
 use crate::output::write_reply;
-use crate::session::OpenSession;
+use crate::session::session;
 use crate::setup::Setup;
 use crate::shared::Shared;
 use ll_client::{Account, Shape};
 use ll_ends::{Ends, Pair};
-use ll_lines::{SessionFault, answer_lines};
+use ll_lines::SessionFault;
 use ll_seq::{History, Reply};
 use ll_tie::Blank;
 use std::alloc::Global;
@@ -36,27 +36,31 @@ use std::sync::Wait;
 
 // Answers each line of the input, and closes the tree. Its history is left.
 fn run_session<N: Shape, R: Wait, E: Ends>(
-    mut session: OpenSession<'_, N, R>,
+    rt: &R,
+    alloc: Global,
+    shared: Shared<N>,
+    before: u64,
     ends: &mut E,
 ) -> Result<History, SessionFault>
+    requires some { before < length shared.party }
     requires whole { IsWhole (E.devices ends.old) }
     requires answered { (E.devices ends.old).owed ≡ 0 }
     requires reads { (E.devices ends.old).reads ≤ 2 ^ 62 }
     ensures ok { IfOk result (λ history. (room : ℕ) → N.slots ≡ room + TREE_CLIENTS
-        → Closes N.rules room N.limit session.entry.shared.party history.entries
-        (RunsTo session.entry.before (E.devices ends.old) (E.devices ends.new))) }
+        → Closes N.rules room N.limit shared.party history.entries
+        (RunsTo before (E.devices ends.old) (E.devices ends.new))) }
     ensures err { OnErr result ((room : ℕ) → N.slots ≡ room + TREE_CLIENTS → (entries : List Entry)
-        × Closes N.rules room N.limit session.entry.shared.party entries
-        (StopsAt session.entry.before (E.devices ends.old) (E.devices ends.new))) }
+        × Closes N.rules room N.limit shared.party entries
+        (StopsAt before (E.devices ends.old) (E.devices ends.new))) }
     ensures entries { IfOk result (λ history. All IsEntry history.entries) }
     ensures fault { IfErr result (λ fault. Blames fault (E.devices ends.old) (E.devices ends.new)) }
     ensures long { result ≡ Err SessionFault.TooLong
         → (input : List ℕ) → (E.devices ends.old).remaining ≡ Some input → most_reads ≤ length input }
     ensures same { E.names ends.new ≡ E.names ends.old }
 {
-    let ended = answer_lines(session.alloc, ends, &mut session);
-    let OpenSession { rt, shared, .. } = session;
-    let history = shared.close(rt);
+    let Shared { tree, party } = shared;
+    let (party, ended) = session(rt, alloc, &tree, party, before, ends);
+    let history = Shared { tree, party }.close(rt);
     ended?;
     Ok(history)
 }
@@ -122,15 +126,7 @@ fn run_in<N: Shape, R: Wait, E: Ends>(
         return Err(RunFault::Session(SessionFault::NoMemory));
     };
     match shared.open(rt, setup) {
-        Ok(before) => {
-            let session = OpenSession {
-                rt,
-                alloc,
-                shared,
-                before,
-            };
-            Ok(run_session(session, ends)?)
-        }
+        Ok(before) => Ok(run_session(rt, alloc, shared, before, ends)?),
         Err(Shut::Refused(reply)) => Ok(tell_refusal(rt, alloc, shared, &reply, ends)?),
         Err(Shut::Stopped) => {
             drop(shared.close(rt));

@@ -1,26 +1,36 @@
-//! A session under way.
+//! A session answers lines.
 
-ghost use Rattle.std.specs.Prelude.{◌≡◌, ◌<◌, ◌≤◌, ◌+◌, ◌^◌, ◌↔◌, ℕ, List, IsTrue, length};
+ghost use Rattle.std.specs.Prelude.{◌≡◌, ◌<◌, ◌≤◌, ◌+◌, ◌-◌, ◌^◌, ◌↔◌, ℕ, List, IsTrue, Some, Err, IfErr, OnErr, OnOk, length};
+ghost use Rattle.ll_ends.specs.Devices.{IsWhole};
+ghost use Rattle.ll_lines.specs.Reached.{AnswersAll, Blames, StartsAll};
+ghost use Rattle.ll_lines.specs.Transcript.{most_reads};
+ghost use Rattle.ll_lines.specs.declared.fault.SessionFault.{SessionFault};
 ghost use Rattle.ll_rights.specs.declared.errno.Errno.{Errno};
-ghost use Rattle.ll_session.specs.Progress.{placed};
+ghost use Rattle.ll_talk.specs.Talk.{Goes};
+ghost use Rattle.ll_session.specs.Beside.{TellsBeside, placed};
 
-use crate::shared::Shared;
+use crate::output::reply_line;
+use ll_calls::Tree;
 use ll_client::Shape;
-use ll_lines::Line;
+use ll_ends::Ends;
+use ll_lines::{Answers, Line, SessionFault, answer_lines};
 use ll_rights::Errno;
 use ll_seq::Reply;
+use ll_talk::Party;
+use ll_walk::Gate;
 use ll_wire::read_command;
-use std::alloc::Global;
+use std::alloc::{AllocError, Global};
 use std::sync::Wait;
 
-/// The tree and all its clients: so many came before the session, and then its own.
+/// A session under way: its tree, and a party of which so many clients came before the session, and then its own.
 #[derive(Drop)]
-pub struct OpenSession<'a, N: Shape, R: Wait> {
-    pub rt: &'a R,
-    pub alloc: Global,
-    pub shared: Shared<N>,
-    pub before: u64,
-    ghost some: { before < length shared.party },
+struct OpenSession<'a, N: Shape, R: Wait, G: Gate<N>> {
+    rt: &'a R,
+    alloc: Global,
+    tree: &'a Tree<N, G>,
+    party: Party<N>,
+    before: u64,
+    ghost some: { before < length party },
 }
 
 // Whether memory is wanted.
@@ -40,29 +50,27 @@ fn placed(clients: u64, reply: Reply) -> Reply
     }
 }
 
-impl<'a, N: Shape, R: Wait> OpenSession<'a, N, R> {
+impl<'a, N: Shape, R: Wait, G: Gate<N>> OpenSession<'a, N, R, G> {
     ghost use Rattle.ll_lines.specs.Cutting.{Holds};
-    ghost use Rattle.ll_talk.specs.Between.{Leads};
-    ghost use Rattle.ll_session.specs.Session.{Answers};
-    ghost use Rattle.ll_session.specs.Progress.{IsUnread, without};
+    ghost use Rattle.ll_session.specs.Beside.{AnswersBeside};
+    ghost use Rattle.ll_session.specs.Progress.{IsUnread};
 
     // How many clients the session has.
     fn clients(&self) -> u64
-        ensures count { result + self.now.before ≡ length self.now.shared.party }
+        ensures count { result + self.now.before ≡ length self.now.party }
         ensures some { 1 ≤ result }
-        ensures fits { length self.now.shared.party < 2 ^ 64 }
+        ensures fits { length self.now.party < 2 ^ 64 }
     {
-        self.shared.len() - self.before
+        self.party.len() - self.before
     }
 
     // How a line is refused that wasn't read for this reason. A full history comes before want of memory.
     fn unread(&mut self, errno: Errno) -> Errno
-        ensures leads { (room : ℕ) → Leads N.rules room N.limit self.old.shared.party self.new.shared.party
-            (λ s t. (t ≡ s) × IsUnread s errno result) }
+        ensures told { IsUnread N.limit self.old.party errno result self.new.party }
         ensures before { self.new.before ≡ self.old.before }
     {
         if wants_memory(errno) {
-            if self.shared.is_full(self.rt) {
+            if self.party.is_full(self.rt, self.tree) {
                 Errno::HistoryFull
             } else {
                 errno
@@ -73,20 +81,83 @@ impl<'a, N: Shape, R: Wait> OpenSession<'a, N, R> {
     }
 
     /// Makes the call that the line spells. How the line is answered, whether it spells one or not.
-    pub fn reply(&mut self, line: &Line) -> Reply
-        ensures { (room : ℕ) → Leads N.rules room N.limit self.old.shared.party self.new.shared.party
-            (λ s t. (piece : List ℕ) → Holds line.now piece
-            → Answers (without self.old.before s) piece result (without self.new.before t)) }
+    fn reply(&mut self, line: &Line) -> Reply
+        ensures answers { (piece : List ℕ) → Holds line.now piece
+            → AnswersBeside N.limit self.old.before self.old.party piece result self.new.party }
+        ensures goes { Goes N.limit self.old.party self.new.party }
+        ensures before { self.new.before ≡ self.old.before }
     {
         let Some(bytes) = line.bytes() else {
             return Reply::Refused(Errno::BadLine);
         };
         match read_command(self.alloc, bytes, self.clients()) {
             Ok((place, call)) => {
-                let reply = self.shared.ask(self.rt, self.before + place - 1, call);
+                let caller = self.before + place - 1;
+                let reply = self.party.ask(self.rt, self.tree, caller as usize, call);
                 placed(self.clients(), reply)
             }
             Err(errno) => Reply::Refused(self.unread(errno)),
         }
     }
+}
+
+impl<'a, N: Shape, R: Wait, G: Gate<N>> Answers for OpenSession<'a, N, R, G> {
+    ghost use Rattle.ll_session.specs.Progress.{StandsOn, stands, stands_on};
+
+    ghost tells = { λ a piece line b. TellsBeside N.limit a.before a.party piece line b.party × (b.before ≡ a.before) };
+
+    ghost goes = { λ a b. StandsOn N.limit a.before a.party b.before b.party };
+
+    // The tree has their numbers.
+    ghost used = { λ session. 0 };
+
+    fn answer(&mut self, line: &Line) -> Result<String, AllocError> {
+        let reply = self.reply(line);
+        reply_line(self.alloc, &reply)
+    }
+
+    ghost goes_nowhere = { λ a. stands N.limit a.before a.party };
+
+    ghost goes_on = { λ a b c. stands_on N.limit a.before b.before c.before a.party b.party c.party };
+}
+
+/// Answers each line that is read, beside whatever others call on the tree. The first so many clients of the party came
+/// before the session, and no line names them; those that the session spawns come last. Before each read, the replies
+/// to all lines that were read are written. With a fault, calls that the tree has answered stand.
+pub fn session<N: Shape, R: Wait, G: Gate<N>, E: Ends>(
+    rt: &R,
+    alloc: Global,
+    tree: &Tree<N, G>,
+    party: Party<N>,
+    before: u64,
+    ends: &mut E,
+) -> (Party<N>, Result<(), SessionFault>)
+    requires some { before < length party }
+    requires whole { IsWhole (E.devices ends.old) }
+    requires answered { (E.devices ends.old).owed ≡ 0 }
+    requires reads { (E.devices ends.old).reads ≤ 2 ^ 62 }
+    // Without a fault all was read, and the transcript of it written.
+    ensures ok { OnOk result.1 (AnswersAll (TellsBeside N.limit before) party result.0
+        (E.devices ends.old) (E.devices ends.new)) }
+    // With one, a beginning of the transcript of some first pieces, whose calls were made.
+    ensures err { OnErr result.1 (StartsAll (TellsBeside N.limit before) party result.0
+        (E.devices ends.old) (E.devices ends.new)) }
+    // Whatever the devices tell: its clients have made calls, and looked how long the history is.
+    ensures goes { Goes N.limit party result.0 }
+    ensures fault { IfErr result.1 (λ fault. Blames fault (E.devices ends.old) (E.devices ends.new)) }
+    // Each read gives a byte at least.
+    ensures long { result.1 ≡ Err SessionFault.TooLong
+        → (input : List ℕ) → (E.devices ends.old).remaining ≡ Some input → most_reads ≤ length input }
+    ensures same { E.names ends.new ≡ E.names ends.old }
+{
+    let mut session = OpenSession {
+        rt,
+        alloc,
+        tree,
+        party,
+        before,
+    };
+    let ended = answer_lines(alloc, ends, &mut session);
+    let OpenSession { party, .. } = session;
+    (party, ended)
 }

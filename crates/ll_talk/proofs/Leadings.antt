@@ -1,5 +1,5 @@
 -- What an act of a party comes to, after a look whether the history is full.
-use Rattle.std.specs.Prelude.{◌≡◌, ◌⊎◌, ◌↔◌, ℕ, ◌<◌, ◌≤◌, Bool, IsTrue, false, List, length}
+use Rattle.std.specs.Prelude.{⊤, ◌≡◌, ◌↔◌, ℕ, ◌<◌, ◌≤◌, Bool, IsTrue, false, List, length}
 use Rattle.std.specs.Prelude.{Some, option_map, slice_get, refl}
 use Rattle.std.proofs.Common.{sym, ap, subst, ◌∙◌, inl, inr, arith}
 use Rattle.std.proofs.lemmas.Bool.{false≢true}
@@ -19,10 +19,10 @@ use Rattle.ll_client.specs.Coming.{childless}
 use Rattle.ll_client.specs.Entries.{Knows}
 use Rattle.ll_talk.specs.Between.{IsSettled, Leads, between}
 use Rattle.ll_talk.specs.Session.{Called, Connects, Session, following, joined}
-use Rattle.ll_talk.specs.Talk.{Asks, Joins, Spawns, reply_of, seen_by}
+use Rattle.ll_talk.specs.Talk.{Asks, AsksFor, Goes, Joins, Spawns, asks, looks, nowhere, reply_of, seen_by}
 use Rattle.ll_talk.proofs.Edges.{may_fail}
-use Rattle.ll_talk.proofs.Leading.{so_leads, then_leads}
-use Rattle.ll_talk.proofs.Turns.{asks, joins, spawns}
+use Rattle.ll_talk.proofs.Leading.{nothing_leads, so_leads, then_leads}
+use Rattle.ll_talk.proofs.Turns as turns
 
 -- there is a session to which its connect leads, with this refusal
 abbrev pub IsRefused : Errno → Session → Type 0
@@ -89,7 +89,7 @@ module _ (rules : Rules) (room limit : ℕ) where
       → Leads rules room limit is ks Brings
   joined_so is js ks number one j =
       so_leads rules room limit is ks (λ s u. (t : Session) × Stays s t × Comes number t u) Brings
-      (then_leads rules room limit is js ks Stays (Comes number) one (joins rules room limit js ks number j))
+      (then_leads rules room limit is js ks Stays (Comes number) one (turns.joins rules room limit js ks number j))
       (λ history end c s s' h. subst (λ t. Brings t (between rules room limit history ks)) h.1
       (h.2.0, h.2.1, h.2.2))
 
@@ -104,7 +104,7 @@ module _ (rules : Rules) (room limit : ℕ) where
       → Leads rules room limit ks ks' (Replies place call (reply_of it))
   asked_so ks ks' place call it a =
       so_leads rules room limit ks ks' (λ s t. Called s a.me.number call (reply_of it) t)
-      (Replies place call (reply_of it)) (asks rules room limit ks ks' place call it a)
+      (Replies place call (reply_of it)) (turns.asks rules room limit ks ks' place call it a)
       (λ history end c s s' called. (a.me.number, number_at ks place a.me a.at, called))
 
   -- what a call comes to that brings nobody
@@ -120,18 +120,45 @@ module _ (rules : Rules) (room limit : ℕ) where
   spawned_so ks ks' place child a =
       so_leads rules room limit ks ks'
       (λ s t. Called s a.me.number Spawn (Spawned child) t × (child ≡ following s))
-      (Replies place Spawn (Spawned child)) (spawns rules room limit ks ks' place child a)
+      (Replies place Spawn (Spawned child)) (turns.spawns rules room limit ks ks' place child a)
       (λ history end c s s' h. (a.me.number, number_at ks place a.me a.at, h.0))
 
-  -- what a spawn comes to
-  pub spawn_so : (ks ks' : List Knows) (place : ℕ) (reply : Reply)
-      → ((child : ℕ) × Spawns ks place child ks' × (reply ≡ Spawned child))
-      ⊎ ((it : Made) × Asks limit ks place Spawn it ks' × (reply ≡ reply_of it))
-      → Leads rules room limit ks ks' (Replies place Spawn reply)
-  spawn_so ks ks' place reply (inl child) =
-      subst (λ r. Leads rules room limit ks ks' (Replies place Spawn r)) (sym child.2)
-      (spawned_so ks ks' place child.0 child.1)
-  spawn_so ks ks' place reply (inr it) = call_so ks ks' place Spawn reply it
+  -- what a call comes to, whoever it brings
+  pub ask_so : (ks ks' : List Knows) (place : ℕ) (call : Call) (reply : Reply)
+      → AsksFor limit ks place call reply ks' → Leads rules room limit ks ks' (Replies place call reply)
+  ask_so ks ks' place call reply (inl child) =
+      subst (λ r. Leads rules room limit ks ks' (Replies place call r)) (sym child.3)
+      (subst (λ (c : Call). Leads rules room limit ks ks' (Replies place c (Spawned child.0))) (sym child.1)
+      (spawned_so ks ks' place child.0 child.2))
+  ask_so ks ks' place call reply (inr it) = call_so ks ks' place call reply it
+
+  -- ---- calls and looks, whatever they come to
+
+  any_leads : (ks ks' : List Knows) (Holds : Session → Session → Type 0) → Leads rules room limit ks ks' Holds
+      → Leads rules room limit ks ks' (λ s t. ⊤)
+  any_leads ks ks' Holds leads = so_leads rules room limit ks ks' Holds (λ s t. ⊤) leads (λ history end c s t h. tt)
+
+  any_then : (is js ks : List Knows) → Leads rules room limit is js (λ s t. ⊤)
+      → Leads rules room limit js ks (λ s t. ⊤) → Leads rules room limit is ks (λ s t. ⊤)
+  any_then is js ks one two =
+      any_leads is ks (λ s u. (t : Session) × ⊤ × ⊤)
+      (then_leads rules room limit is js ks (λ s t. ⊤) (λ s t. ⊤) one two)
+
+  pub goes_so : (ks ks' : List Knows) → Goes limit ks ks' → Leads rules room limit ks ks' (λ s t. ⊤)
+  goes_so ks ks' nowhere = any_leads ks ks Stays (nothing_leads rules room limit ks)
+  goes_so ks ks' (asks mid end place call reply before act) =
+      any_then ks mid end (goes_so ks mid before)
+      (any_leads mid end (Replies place call reply) (ask_so mid end place call reply act))
+  goes_so ks ks' (looks mid end before act) =
+      any_then ks mid end (goes_so ks mid before)
+      (any_leads mid end Stays (turns.looks rules room limit mid end act))
+
+-- one after the other
+pub goes_on : (limit : ℕ) (is js ks : List Knows) → Goes limit is js → Goes limit js ks → Goes limit is ks
+goes_on limit is js ks one nowhere = one
+goes_on limit is js ks one (asks mid end place call reply before act) =
+    asks mid end place call reply (goes_on limit is js mid one before) act
+goes_on limit is js ks one (looks mid end before act) = looks mid end (goes_on limit is js mid one before) act
 
 -- a spawn without a child is answered by the errno
 pub refusal_of : (errno : Errno) → reply_of (childless errno) ≡ Refused errno

@@ -13,7 +13,8 @@ use Rattle.ll_journal.specs.declared.direct.Made.{Made}
 use Rattle.ll_client.specs.Gains.{Gains, Told}
 use Rattle.ll_calls.specs.Typed.{brings_client}
 use Rattle.ll_client.specs.Entries.{Knows, knows, numbered}
-use Rattle.ll_talk.specs.Talk.{Asks, IsLast, IsMet, Joins, LooksAt, Spawns, is_birth, met, seen_by}
+use Rattle.ll_seq.specs.declared.reply.Reply.{Reply}
+use Rattle.ll_talk.specs.Talk.{Asks, AsksFor, IsLast, IsMet, Joins, LooksAt, Spawns, is_birth, met, seen_by}
 use Rattle.ll_talk.proofs.Acts.{asks_so, looks_last, push_last, spawns_so, told_last, told_seen}
 use Rattle.ll_talk.proofs.Meeting.{last_knows, set_same}
 
@@ -139,3 +140,11 @@ pub spawns_count : (ks ks' : List Knows) (place child : ℕ) → Spawns ks place
 spawns_count ks ks' place child a =
     push_count (slice_set ks place a.now) ks' (knows child [] [] a.now.seen None) a.after
     ∙ ap (λ n. n + 1) (length-set ks place a.now)
+
+-- one more at most
+pub asks_for_count : (limit : ℕ) (ks ks' : List Knows) (place : ℕ) (call : Call) (reply : Reply)
+    → AsksFor limit ks place call reply ks' → (length ks ≤ length ks') × (length ks' ≤ length ks + 1)
+asks_for_count limit ks ks' place call reply (inl child) =
+    let one = spawns_count ks ks' place child.0 child.2 in (omega (arith, one), omega (arith, one))
+asks_for_count limit ks ks' place call reply (inr it) =
+    let same = asks_count limit ks ks' place call it.0 it.1 in (omega (arith, same), omega (arith, same))

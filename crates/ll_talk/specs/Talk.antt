@@ -67,6 +67,12 @@ pub record Spawns (ks : List Knows) (place child : ℕ) (ks' : List Knows) : Typ
   pub told : Told Spawn (Spawned child) (met ks me) now
   pub after : ks' ≡ slice_set ks place now ++ knows child [] [] now.seen None ∷ []
 
+-- The call of the client at this place gets this reply: it brings a child, or nobody
+abbrev pub AsksFor : (limit : ℕ) → List Knows → (place : ℕ) → Call → Reply → List Knows → Type 0
+AsksFor limit ks place call reply ks' =
+    ((child : ℕ) × (call ≡ Spawn) × Spawns ks place child ks' × (reply ≡ Spawned child))
+    ⊎ ((it : Made) × Asks limit ks place call it ks' × (reply ≡ reply_of it))
+
 -- a client connects, whose entry stands after all that one of them knows of
 pub record Joins (ks : List Knows) (number : ℕ) (ks' : List Knows) : Type 0 where
   pub seen : ℕ
@@ -84,6 +90,13 @@ pub record LooksAt (ks : List Knows) (place : ℕ) (ks' : List Knows) : Type 0 w
 -- one of them does, if somebody is there
 abbrev pub Looks : (ks ks' : List Knows) → Type 0
 Looks ks ks' = ((ks ≡ []) × (ks' ≡ [])) ⊎ ((place : ℕ) × LooksAt ks place ks')
+
+-- They have called, and looked at how long the history is, so often
+pub data Goes (limit : ℕ) (ks : List Knows) : List Knows → Type 0 where
+  nowhere : Goes limit ks ks
+  asks : (mid ks' : List Knows) (place : ℕ) (call : Call) (reply : Reply) → Goes limit ks mid
+      → AsksFor limit mid place call reply ks' → Goes limit ks ks'
+  looks : (mid ks' : List Knows) → Goes limit ks mid → Looks mid ks' → Goes limit ks ks'
 
 -- ---- What stays, while clients come on
 

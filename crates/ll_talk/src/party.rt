@@ -1,7 +1,7 @@
 //! All clients of a shared tree, in one hand.
 
-ghost use Rattle.std.specs.Prelude.{◌≡◌, ◌⊎◌, ℕ, ◌+◌, ◌∷◌, ◌++◌, ◌<◌, ◌≤◌, ◌↔◌, [], IsTrue, None, Some, IfErr, IfOk};
-ghost use Rattle.std.specs.Prelude.{OnErr, OnOk, false, length, slice_get};
+ghost use Rattle.std.specs.Prelude.{◌≡◌, ℕ, ◌+◌, ◌∷◌, ◌++◌, ◌<◌, ◌≤◌, ◌↔◌, [], IsTrue, None, IfErr, IfOk};
+ghost use Rattle.std.specs.Prelude.{OnErr, OnOk, false, length, map};
 ghost use Rattle.ll_rights.specs.declared.limits.TheConstants.{TREE_CLIENTS};
 ghost use Rattle.ll_seq.specs.History.{is_connect};
 ghost use Rattle.ll_seq.specs.declared.call.Call.TheVariants as calls;
@@ -12,8 +12,8 @@ ghost use Rattle.ll_client.specs.Coming.{HasNoPlace};
 ghost use Rattle.ll_client.specs.Entries.{knows, numbered};
 ghost use Rattle.ll_calls.specs.Typed.{brings_client};
 ghost use Rattle.ll_talk.specs.Between.{Leads};
-ghost use Rattle.ll_talk.specs.Session.{Session, Called, Connects, joined};
-ghost use Rattle.ll_talk.specs.Talk.{Asks, IsMet, Looks, Spawns, reply_of, seen_by};
+ghost use Rattle.ll_talk.specs.Session.{Session, Connects, joined};
+ghost use Rattle.ll_talk.specs.Talk.{Asks, AsksFor, IsMet, Looks, reply_of, seen_by};
 
 use crate::clients::{close_all, meet_all, reply_to};
 use ll_calls::Tree;
@@ -95,7 +95,7 @@ impl<N: Shape> Party<N> {
 
     /// Whether the history is full, as one of the clients knows from now on.
     pub fn is_full<R: Wait, G: Gate<N>>(&mut self, rt: &R, tree: &Tree<N, G>) -> bool
-        ensures leads { (room : ℕ) → Leads N.rules room N.limit self.old self.new (λ s t. t ≡ s) }
+        ensures looks { Looks self.old self.new }
         ensures full { IsTrue result ↔ (N.limit ≤ seen_by self.new) }
         ensures count { length self.new ≡ length self.old }
     {
@@ -122,9 +122,9 @@ impl<N: Shape> Party<N> {
         tree.connect_after(rt, &mut self.clients[self.last])
     }
 
-    /// A client that knows of all that one of them knows of becomes the last one. There is room for as many as a tree
-    /// may have; no more come.
-    fn add<R: Wait>(&mut self, rt: &R, client: Client<N>)
+    /// A client that knows of all that one of them knows of comes last. There is room for as many as a tree may have;
+    /// no more come.
+    pub fn add<R: Wait>(&mut self, rt: &R, client: Client<N>)
         requires { seen_by self.old ≤ client.rider.seen }
         ensures { self.new ≡ self.old ++ client.rider ∷ [] }
     {
@@ -194,8 +194,7 @@ impl<N: Shape> Party<N> {
     /// The client at this place spawns a child, which comes last.
     fn spawn<R: Wait, G: Gate<N>>(&mut self, rt: &R, tree: &Tree<N, G>, place: usize) -> Reply
         requires place { place < length self.old }
-        ensures { ((child : ℕ) × Spawns self.old place child self.new × (result ≡ replies.Spawned child))
-            ⊎ ((it : Made) × Asks N.limit self.old place calls.Spawn it self.new × (result ≡ reply_of it)) }
+        ensures { AsksFor N.limit self.old place calls.Spawn result self.new }
     {
         self.meet(rt, tree, place);
         let child = tree.spawn(rt, &mut self.clients[place]);
@@ -220,8 +219,7 @@ impl<N: Shape> Party<N> {
     ) -> Reply
         requires place { place < length self.old }
         requires call { is_connect call ≡ false }
-        ensures leads { (room : ℕ) → Leads N.rules room N.limit self.old self.new
-            (λ s t. (client : ℕ) × (slice_get s.clients place ≡ Some client) × Called s client call result t) }
+        ensures asks { AsksFor N.limit self.old place call result self.new }
         ensures count { length self.old ≤ length self.new }
         ensures most { length self.new ≤ length self.old + 1 }
     {
@@ -229,6 +227,14 @@ impl<N: Shape> Party<N> {
             Call::Spawn => self.spawn(rt, tree, place),
             call => self.call(rt, tree, place, call),
         }
+    }
+
+    /// The clients, in the order in which they came.
+    pub fn into_clients(self) -> Vec<Client<N>>
+        ensures { map (λ c. c.rider) result.items ≡ self }
+    {
+        let Party { clients, .. } = self;
+        clients
     }
 
     /// The history of the tree, which has no clients but these.

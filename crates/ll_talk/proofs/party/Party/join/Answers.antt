@@ -6,6 +6,7 @@ use Rattle.ll_talk.specs.Talk.{seen_by}
 use Rattle.ll_talk.proofs.Leading.{nothing_leads}
 use Rattle.ll_talk.proofs.Leadings.{Refuses, Stays, full_so, joined_so, many_so, not_full, starved_so, stays_on}
 use Rattle.ll_talk.proofs.Lists.{joins_them}
+use Rattle.ll_talk.proofs.Turns.{looks}
 use Rattle.ll_talk.proofs.party.Party.join.Goals as goal
 
 pub loop-init : goal.loop-init
@@ -15,7 +16,8 @@ pub returns-then-is_full-clause-err : goal.returns-then-is_full-clause-err
 returns-then-is_full-clause-err g c = λ room.
     full_so g.N.Shape.rules room g.N.Shape.limit c.args.self.now c.is_full.new.self
     (stays_on g.N.Shape.rules room g.N.Shape.limit c.args.self.now c.loop.self c.is_full.new.self
-    (c.loop.invariant.0 room) (c.is_full.ensures.leads room))
+    (c.loop.invariant.0 room)
+    (looks g.N.Shape.rules room g.N.Shape.limit c.loop.self c.is_full.new.self c.is_full.ensures.looks))
     (c.is_full.ensures.full.0 c.if-is_full.true)
 
 pub returns-then-len-clause-err : goal.returns-then-len-clause-err
@@ -24,7 +26,8 @@ returns-then-len-clause-err g c = λ room.
     let size = c.len.ensures in
     many_so g.N.Shape.rules room g.N.Shape.limit c.args.self.now c.is_full.new.self
     (stays_on g.N.Shape.rules room g.N.Shape.limit c.args.self.now c.loop.self c.is_full.new.self
-    (c.loop.invariant.0 room) (c.is_full.ensures.leads room))
+    (c.loop.invariant.0 room)
+    (looks g.N.Shape.rules room g.N.Shape.limit c.loop.self c.is_full.new.self c.is_full.ensures.looks))
     (not_full c.is_full.result g.N.Shape.limit (seen_by c.is_full.new.self) c.is_full.ensures.full c.if-is_full.false)
     (omega (arith, many, size))
 
@@ -33,7 +36,8 @@ returns-in-Ok-clause-ok g c = λ room.
     joined_so g.N.Shape.rules room g.N.Shape.limit c.args.self.now c.is_full.new.self c.add.new.self
     c.in-Ok.client.rider.number
     (stays_on g.N.Shape.rules room g.N.Shape.limit c.args.self.now c.loop.self c.is_full.new.self
-    (c.loop.invariant.0 room) (c.is_full.ensures.leads room))
+    (c.loop.invariant.0 room)
+    (looks g.N.Shape.rules room g.N.Shape.limit c.loop.self c.is_full.new.self c.is_full.ensures.looks))
     (joins_them c.is_full.new.self c.connect.new.self c.add.new.self c.in-Ok.client.rider c.in-Ok.ensures.same
     c.add.ensures c.in-Ok.ensures.client c.in-Ok.ensures.after)
 
@@ -46,7 +50,8 @@ returns-in-Err-NoMemory-clause-err g c = λ room.
     (sym c.connect.ensures.same)
     (starved_so g.N.Shape.rules room g.N.Shape.limit c.args.self.now c.is_full.new.self
     (stays_on g.N.Shape.rules room g.N.Shape.limit c.args.self.now c.loop.self c.is_full.new.self
-    (c.loop.invariant.0 room) (c.is_full.ensures.leads room))
+    (c.loop.invariant.0 room)
+    (looks g.N.Shape.rules room g.N.Shape.limit c.loop.self c.is_full.new.self c.is_full.ensures.looks))
     (not_full c.is_full.result g.N.Shape.limit (seen_by c.is_full.new.self) c.is_full.ensures.full c.if-is_full.false)
     (omega (arith, few, size)))
 
@@ -56,6 +61,7 @@ loop-preserved g c = (
       subst (λ (ks : List Knows). Leads g.N.Shape.rules room g.N.Shape.limit c.args.self.now ks Stays)
       (sym c.connect.ensures.same)
       (stays_on g.N.Shape.rules room g.N.Shape.limit c.args.self.now c.loop.self c.is_full.new.self
-      (c.loop.invariant.0 room) (c.is_full.ensures.leads room)),
+      (c.loop.invariant.0 room)
+    (looks g.N.Shape.rules room g.N.Shape.limit c.loop.self c.is_full.new.self c.is_full.ensures.looks)),
   ap length c.connect.ensures.same ∙ c.is_full.ensures.count ∙ c.loop.invariant.1,
 )

@@ -29,6 +29,7 @@ returns-in-Ok g c =
     let child = c.in-Ok.child.rider in
     inl (
       child.number,
+      refl,
       spawns_them (λ it. it.rider) c.args.self.now c.meet.new.self c.self.inside.clients.items c.args.place
           c.index_mut.result.now c.self.view_is c.meet.ensures c.index_mut.ensures.value child.number
           c.spawn-child.new.me

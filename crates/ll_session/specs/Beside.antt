@@ -1,0 +1,54 @@
+-- A session whose clients call while others call on the same tree: what becomes of its clients, told by what each of
+-- them knows. own
+use Rattle.std.specs.Prelude.{◌≡◌, ◌⊎◌, ℕ, ◌+◌, ◌-◌, ◌<◌, ◌≤◌, true, false, List, [], ◌∷◌, length}
+use Rattle.ll_rights.specs.declared.errno.Errno.TheVariants.{HistoryFull, NoMemory, BadLine}
+use Rattle.ll_seq.specs.declared.call.Call.{Call}
+use Rattle.ll_seq.specs.declared.reply.Reply.{Reply}
+use Rattle.ll_seq.specs.declared.reply.Reply.TheVariants.{Refused, Spawned}
+use Rattle.ll_plain.specs.Refusal.{is_refusal}
+use Rattle.ll_client.specs.Entries.{Knows}
+use Rattle.ll_talk.specs.Talk.{AsksFor, Looks, seen_by}
+use Rattle.ll_wire.specs.Grammar.{SpellsCommand, reply_line}
+use Rattle.ll_wire.specs.Reads.{holds_text}
+
+-- of so many clients the newest is told by its place
+abbrev pub placed : ℕ → Reply → Reply
+placed clients (Spawned number) = Spawned clients
+placed clients reply = reply
+
+-- Of these clients the first so many came before the session, and lines name the others by their places. A piece that
+-- spells a call of one of them gets the reply to that call; or, where the call holds a word or bytes and there is no
+-- memory to read them, want of memory, but HistoryFull where the history is full; every other piece gets
+-- `refused 23 BadLine`
+pub data AnswersBeside (limit before : ℕ) (ks : List Knows) (piece : List ℕ) : Reply → List Knows → Type 0 where
+  calls : (n : ℕ) (call : Call) (reply : Reply) (ks' : List Knows) → SpellsCommand piece n call
+      → before + n ≤ length ks → AsksFor limit ks (before + n - 1) call reply ks'
+      → AnswersBeside limit before ks piece (placed (length ks' - before) reply) ks'
+  full : (n : ℕ) (call : Call) (ks' : List Knows) → SpellsCommand piece n call → before + n ≤ length ks
+      → holds_text call ≡ true → Looks ks ks' → limit ≤ seen_by ks'
+      → AnswersBeside limit before ks piece (Refused HistoryFull) ks'
+  unread : (n : ℕ) (call : Call) (ks' : List Knows) → SpellsCommand piece n call → before + n ≤ length ks
+      → holds_text call ≡ true → Looks ks ks' → seen_by ks' < limit
+      → AnswersBeside limit before ks piece (Refused NoMemory) ks'
+  bad : ((n : ℕ) (call : Call) → SpellsCommand piece n call → length ks < before + n)
+      → AnswersBeside limit before ks piece (Refused BadLine) ks
+
+-- the piece gets this line
+abbrev pub TellsBeside : (limit before : ℕ) → List Knows → (piece line : List ℕ) → List Knows → Type 0
+TellsBeside limit before ks piece line ks' =
+    (reply : Reply) × AnswersBeside limit before ks piece reply ks' × (line ≡ reply_line reply)
+
+-- The client at this place makes these calls in turn, and none is refused
+abbrev pub MakesBeside : (limit : ℕ) → List Knows → (place : ℕ) → List Call → List Knows → Type 0
+MakesBeside limit ks place [] ks' = ks' ≡ ks
+MakesBeside limit ks place (call ∷ calls) ks' =
+    (reply : Reply) × (mid : List Knows) × AsksFor limit ks place call reply mid × (is_refusal reply ≡ false)
+    × MakesBeside limit mid place calls ks'
+
+-- the first of them that is refused gets this reply
+abbrev pub StopsBeside : (limit : ℕ) → List Knows → (place : ℕ) → List Call → Reply → List Knows → Type 0
+StopsBeside limit ks place [] reply ks' = ⊥
+StopsBeside limit ks place (call ∷ calls) reply ks' =
+    (told : Reply) × (mid : List Knows) × AsksFor limit ks place call told mid
+    × (((is_refusal told ≡ true) × (reply ≡ told) × (ks' ≡ mid))
+    ⊎ ((is_refusal told ≡ false) × StopsBeside limit mid place calls reply ks'))

@@ -1,0 +1,55 @@
+//! Calls that a client makes before its lines.
+
+ghost use Rattle.std.specs.Prelude.{◌≡◌, ◌<◌, ◌≤◌, true, false, length, IfErr, OnOk};
+ghost use Rattle.ll_plain.specs.Refusal.{is_refusal};
+ghost use Rattle.ll_session.specs.Beside.{MakesBeside, StopsBeside};
+ghost use Rattle.ll_session.specs.Session.{AreOthers};
+
+use ll_calls::Tree;
+use ll_client::Shape;
+use ll_seq::{Call, Reply};
+use ll_talk::Party;
+use ll_walk::Gate;
+use std::sync::Wait;
+
+// Whether the call is refused, or denied.
+fn is_refused(reply: &Reply) -> bool
+    ensures { result ≡ is_refusal reply.now }
+{
+    matches!(reply, Reply::Refused(_) | Reply::Denied(_))
+}
+
+// The reply, where the call is refused.
+fn unless_refused(reply: Reply) -> Result<(), Reply>
+    ensures ok { OnOk result (is_refusal reply ≡ false) }
+    ensures err { IfErr result (λ told. (told ≡ reply) × (is_refusal reply ≡ true)) }
+{
+    if is_refused(&reply) {
+        return Err(reply);
+    }
+    drop(reply);
+    Ok(())
+}
+
+/// Makes the calls of the client at this place in turn, up to the first that is refused, whose reply is the error.
+pub fn make_calls<N: Shape, R: Wait, G: Gate<N>>(
+    rt: &R,
+    tree: &Tree<N, G>,
+    party: &mut Party<N>,
+    place: usize,
+    calls: Vec<Call>,
+) -> Result<(), Reply>
+    requires caller { place < length party.old }
+    requires calls { AreOthers calls.items }
+    ensures ok { OnOk result (MakesBeside N.limit party.old place calls.items party.new) }
+    ensures err { IfErr result (λ reply. StopsBeside N.limit party.old place calls.items reply party.new) }
+    ensures count { length party.old ≤ length party.new }
+{
+    for call in calls {
+        match unless_refused(party.ask(rt, tree, place, call)) {
+            Ok(()) => {}
+            Err(reply) => return Err(reply),
+        }
+    }
+    Ok(())
+}
