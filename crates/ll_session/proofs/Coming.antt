@@ -15,15 +15,20 @@ use Rattle.ll_plain.specs.Refusal.{is_refusal}
 use Rattle.ll_client.specs.Entries.{Knows}
 use Rattle.ll_talk.specs.Between.{Leads, between}
 use Rattle.ll_talk.specs.Session.{Session, Called, Connects, following, joined, starved}
-use Rattle.ll_talk.proofs.Growths.{stays_so, then_grows}
+use Rattle.ll_talk.specs.Talk.{AsksFor}
+use Rattle.ll_talk.proofs.Growths.{then_grows}
 use Rattle.ll_talk.proofs.Leading.{nothing_leads, so_leads, then_leads}
+use Rattle.ll_talk.proofs.Leadings.{ask_so}
+use Rattle.ll_talk.proofs.Lists.{asks_for_count}
 use Rattle.ll_talk.proofs.Seen.{count_numbers}
+use Rattle.ll_session.specs.Beside.{MakesBeside, StopsBeside}
 use Rattle.ll_session.specs.declared.opening.Refusal.{Refusal}
 use Rattle.ll_session.specs.declared.opening.Refusal.TheVariants.{AtCall, AtConnect}
 use Rattle.ll_session.specs.declared.setup.Setup.{Setup}
 use Rattle.ll_session.specs.Opening.{Coming, Comes, Loads, Makes, Opens, Stops, made, unconnected, unmade, begun}
 use Rattle.ll_session.specs.Opening.{fresh, refused, stopped}
 use Rattle.ll_session.specs.Progress.{coming_at, reply_at, without}
+use Rattle.ll_session.proofs.Ways.{by_number}
 
 -- memory may run out before anyone has connected
 start_refused : (setup : Setup) → Connects (fresh setup) (Refused NoMemory) (fresh setup)
@@ -53,62 +58,89 @@ next_call items yielded call turn =
 
 -- ---- calls in turn
 
--- what follows of the calls of a client whose first so many led from s to mid
-abbrev pub MakesSome : ℕ → List Call → ℕ → (s mid : Session) → Type 0
-MakesSome n items count s mid =
-    ((t : Session) → Makes n mid (drop count items) t → Makes n s items t)
-    × ((reply : Reply) (t : Session) → Stops n mid (drop count items) reply t → Stops n s items reply t)
+-- what follows of the calls of a client whose first so many led from ks to mid
+abbrev pub MakesSome : (limit place : ℕ) → List Call → ℕ → (ks mid : List Knows) → Type 0
+MakesSome limit place items count ks mid =
+    ((ks' : List Knows) → MakesBeside limit mid place (drop count items) ks' → MakesBeside limit ks place items ks')
+    × ((reply : Reply) (ks' : List Knows) → StopsBeside limit mid place (drop count items) reply ks'
+    → StopsBeside limit ks place items reply ks')
 
-module _ (rules : Rules) (room limit n : ℕ) (items : List Call) where
-  pub makes_none : (ks : List Knows) → Leads rules room limit ks ks (MakesSome n items 0)
-  makes_none ks = (stays_so ks, λ history end c g s. (s, (λ t h. h, λ reply t h. h)))
+module _ (limit place : ℕ) (items : List Call) where
+  pub makes_none : (ks : List Knows) → MakesSome limit place items 0 ks ks
+  makes_none ks = (λ ks' h. h, λ reply ks' h. h)
 
-  both : (is js ks : List Knows) (yielded : List Call) (call : Call) (reply : Reply)
-      → Leads rules room limit is js (MakesSome n items (length yielded))
-      → Leads rules room limit js ks (λ s t. Called s n call reply t)
-      → Leads rules room limit is ks
-      (λ s u. (t : Session) × MakesSome n items (length yielded) s t × Called t n call reply u)
-  both is js ks yielded call reply =
-      then_leads rules room limit is js ks (MakesSome n items (length yielded)) (λ s t. Called s n call reply t)
+  module _ (ks mid ks' : List Knows) (yielded : List Call) (call : Call) (reply : Reply)
+      (some : MakesSome limit place items (length yielded) ks mid) (act : AsksFor limit mid place call reply ks')
+      (split : drop (length yielded) items ≡ call ∷ drop (length (yielded ++ call ∷ [])) items) where
+    pub makes_one : is_refusal reply ≡ false → MakesSome limit place items (length (yielded ++ call ∷ [])) ks ks'
+    makes_one quiet = (
+      λ end rest. some.0 end (subst (λ (l : List Call). MakesBeside limit mid place l end) (sym split)
+          (reply, ks', act, quiet, rest)),
+      λ told end rest. some.1 told end (subst (λ (l : List Call). StopsBeside limit mid place l told end) (sym split)
+          (reply, ks', act, inr (quiet, rest))),
+    )
 
-  pub makes_one : (is js ks : List Knows) (yielded : List Call) (call : Call) (reply : Reply)
-      → Leads rules room limit is js (MakesSome n items (length yielded))
-      → Leads rules room limit js ks (λ s t. Called s n call reply t)
-      → drop (length yielded) items ≡ call ∷ drop (length (yielded ++ call ∷ [])) items → is_refusal reply ≡ false
-      → Leads rules room limit is ks (MakesSome n items (length (yielded ++ call ∷ [])))
-  makes_one is js ks yielded call reply some one split quiet = so_leads rules room limit is ks
-      (λ s u. (t : Session) × MakesSome n items (length yielded) s t × Called t n call reply u)
-      (MakesSome n items (length (yielded ++ call ∷ []))) (both is js ks yielded call reply some one)
-      (λ history end c s s' h.
-      let mid = between rules room limit history ks in (
-        λ t rest. h.1.0 t (subst (λ (l : List Call). Makes n h.0 l t) (sym split)
-            (reply, mid, h.2, quiet, rest)),
-        λ told t rest. h.1.1 told t (subst (λ (l : List Call). Stops n h.0 l told t) (sym split)
-            (reply, mid, h.2, inr (quiet, rest))),
-      ))
+    pub stops_here : (told : Reply) → (told ≡ reply) × (is_refusal reply ≡ true)
+        → StopsBeside limit ks place items told ks'
+    stops_here told loud = some.1 told ks' (subst (λ (l : List Call). StopsBeside limit mid place l told ks')
+        (sym split) (reply, ks', act, inl (loud.1, loud.0, refl)))
 
-  pub stops_here : (is js ks : List Knows) (yielded : List Call) (call : Call) (reply told : Reply)
-      → Leads rules room limit is js (MakesSome n items (length yielded))
-      → Leads rules room limit js ks (λ s t. Called s n call reply t)
-      → drop (length yielded) items ≡ call ∷ drop (length (yielded ++ call ∷ [])) items
-      → (told ≡ reply) × (is_refusal reply ≡ true)
-      → Leads rules room limit is ks (λ s t. Stops n s items told t)
-  stops_here is js ks yielded call reply told some one split loud = so_leads rules room limit is ks
-      (λ s u. (t : Session) × MakesSome n items (length yielded) s t × Called t n call reply u)
-      (λ s t. Stops n s items told t) (both is js ks yielded call reply some one)
-      (λ history end c s s' h.
-      let mid = between rules room limit history ks in
-      h.1.1 told mid (subst (λ (l : List Call). Stops n h.0 l told mid) (sym split)
-      (reply, mid, h.2, inl (loud.1, loud.0, refl))))
+  pub makes_all : (ks ks' : List Knows) (count : ℕ) → length items ≤ count → MakesSome limit place items count ks ks'
+      → MakesBeside limit ks place items ks'
+  makes_all ks ks' count over some =
+      some.0 ks' (subst (λ (l : List Call). MakesBeside limit ks' place l ks') (sym (drop_all count items over)) refl)
 
-  pub makes_all : (ks ks' : List Knows) (count : ℕ) → length items ≤ count
-      → Leads rules room limit ks ks' (MakesSome n items count)
-      → Leads rules room limit ks ks' (λ s t. Makes n s items t)
-  makes_all ks ks' count over some = so_leads rules room limit ks ks' (MakesSome n items count)
-      (λ s t. Makes n s items t) some
-      (λ history end c s s' h.
-      let mid = between rules room limit history ks' in
-      h.0 mid (subst (λ (l : List Call). Makes n mid l mid) (sym (drop_all count items over)) refl))
+-- ---- what such calls come to where the clients are all that the tree has
+
+module _ (rules : Rules) (room limit place : ℕ) where
+  one_call : (ks mid : List Knows) (call : Call) (reply : Reply) → place < length ks
+      → AsksFor limit ks place call reply mid
+      → Leads rules room limit ks mid (λ s t. Called s (place + 1) call reply t)
+  one_call ks mid call reply less act =
+      by_number rules room limit ks mid place call reply less (ask_so rules room limit ks mid place call reply act)
+
+  still_less : (ks mid : List Knows) (call : Call) (reply : Reply) → place < length ks
+      → AsksFor limit ks place call reply mid → place < length mid
+  still_less ks mid call reply less act =
+      let more = (asks_for_count limit ks mid place call reply act).0 in omega (arith, less, more)
+
+  pub makes_so : (ks ks' : List Knows) (calls : List Call) → place < length ks → MakesBeside limit ks place calls ks'
+      → Leads rules room limit ks ks' (λ s t. Makes (place + 1) s calls t)
+  makes_so ks ks' [] less h =
+      subst (λ (l : List Knows). Leads rules room limit ks l (λ s t. t ≡ s)) (sym h) (nothing_leads rules room limit ks)
+  makes_so ks ks' (call ∷ calls) less h =
+      let reply = h.0 in
+      let mid = h.1 in
+      so_leads rules room limit ks ks'
+      (λ s u. (t : Session) × Called s (place + 1) call reply t × Makes (place + 1) t calls u)
+      (λ s t. Makes (place + 1) s (call ∷ calls) t)
+      (then_leads rules room limit ks mid ks' (λ s t. Called s (place + 1) call reply t)
+      (λ s t. Makes (place + 1) s calls t) (one_call ks mid call reply less h.2)
+      (makes_so mid ks' calls (still_less ks mid call reply less h.2) h.4))
+      (λ history end c s s' it. (reply, it.0, it.1, h.3, it.2))
+
+  pub stops_so : (ks ks' : List Knows) (calls : List Call) (reply : Reply) → place < length ks
+      → StopsBeside limit ks place calls reply ks'
+      → Leads rules room limit ks ks' (λ s t. Stops (place + 1) s calls reply t)
+  stops_so ks ks' [] reply less h = absurd h
+  stops_so ks ks' (call ∷ calls) reply less h =
+      let told = h.0 in
+      let mid = h.1 in
+      let one = one_call ks mid call told less h.2 in elim h.3 [
+        | inl now ↦ subst (λ (l : List Knows). Leads rules room limit ks l
+            (λ s t. Stops (place + 1) s (call ∷ calls) reply t)) (sym now.2)
+            (so_leads rules room limit ks mid (λ s t. Called s (place + 1) call told t)
+            (λ s t. Stops (place + 1) s (call ∷ calls) reply t) one
+            (λ history end c s s' called.
+            (told, between rules room limit history mid, called, inl (now.0, now.1, refl))))
+        | inr later ↦ so_leads rules room limit ks ks'
+            (λ s u. (t : Session) × Called s (place + 1) call told t × Stops (place + 1) t calls reply u)
+            (λ s t. Stops (place + 1) s (call ∷ calls) reply t)
+            (then_leads rules room limit ks mid ks' (λ s t. Called s (place + 1) call told t)
+            (λ s t. Stops (place + 1) s calls reply t) one
+            (stops_so mid ks' calls reply (still_less ks mid call told less h.2) later.1))
+            (λ history end c s s' it. (told, it.0, it.1, inr (later.0, it.2)))
+      ]
 
 -- ---- a client that comes
 

@@ -1,9 +1,8 @@
 -- Whole runs.
 use Rattle.std.proofs.Common.{◌≡◌, ℕ, List, [], ◌∷◌, ◌++◌, Option, None, Some, ap, refl, sym, subst, ◌∙◌, inl, inr}
-use Rattle.std.proofs.Common.{Result, Ok, Err}
+use Rattle.std.proofs.Common.{Result, Ok, Err, ◌<◌, arith, length}
 use Rattle.std.specs.Prelude.{IfErr, IfSome, OnErr, IsErrAnd}
 use Rattle.std.specs.Io.KnownBytes.{Appends}
-use Rattle.ll_client.specs.Closed.{IsClosed}
 use Rattle.ll_client.specs.Entries.{Knows}
 use Rattle.ll_ends.specs.Devices.{Devices}
 use Rattle.ll_wire.specs.Grammar.{reply_line}
@@ -20,16 +19,19 @@ use Rattle.ll_lines.specs.Reached.{AnswersAll, StartsAll}
 use Rattle.ll_lines.specs.Transcript.{Transcript, Writes}
 use Rattle.ll_lines.specs.declared.fault.SessionFault.{SessionFault}
 use Rattle.ll_lines.specs.declared.fault.SessionFault.TheVariants.{Read, Write, NoMemory, TooLong}
-use Rattle.ll_talk.specs.Between.{IsSettled, Leads, between}
+use Rattle.ll_talk.specs.Between.{Leads, between}
 use Rattle.ll_talk.specs.Session as at
-use Rattle.ll_talk.specs.Talk.{Grows}
-use Rattle.ll_talk.proofs.Growths.{stays_so, then_grows}
-use Rattle.ll_session.specs.Session.{Tells}
+use Rattle.ll_talk.specs.Talk.{Goes}
+use Rattle.ll_talk.proofs.Leading.{nothing_leads, so_leads, then_leads}
+use Rattle.ll_talk.proofs.Leadings.{goes_so}
+use Rattle.ll_session.specs.Beside.{TellsBeside}
+use Rattle.ll_session.specs.Session.{Answers, Tells}
 use Rattle.ll_session.specs.Opening.{begun, fresh, refused, Opens}
 use Rattle.ll_session.specs.Run.{Begins, BeginsBy, BeginsLines, BeginsRefusal, MayEnd, Runs}
-use Rattle.ll_session.specs.Progress.{ComesOn, IsOfRefusal, RunsTo, StopsAt, TellsOn, without}
+use Rattle.ll_session.specs.Progress.{IsOfRefusal, RunsTo, StopsAt, without}
 use Rattle.ll_wire.proofs.WrittenText.{appends-none}
 use Rattle.ll_session.proofs.Coming.{may_be_refused}
+use Rattle.ll_session.proofs.Replies.{answers_count, answers_so}
 use Rattle.ll_session.proofs.Ways.{AtEnd}
 
 some_is : (o : Option (List ℕ)) (P : List ℕ → Type 0) → ((x : List ℕ) → o ≡ Some x → P x) → IfSome o P
@@ -44,59 +46,103 @@ if_err (Err fault) of P is p = subst P (sym is) p
 
 -- ---- lines, one after the other
 
-module _ {S : Type 0} (clients : S → List Knows) (before : S → ℕ) (rules : Rules) (limit : ℕ) where
-  abbrev pub On : S → List ℕ → List ℕ → S → Type 0
-  On a piece line b = TellsOn rules limit (before a) (clients a) piece line (before b) (clients b)
+module _ (rules : Rules) (room limit before : ℕ) where
+  one_line : (ks ks' : List Knows) (piece line : List ℕ) → before < length ks
+      → TellsBeside limit before ks piece line ks'
+      → Leads rules room limit ks ks' (λ s t. Tells (without before s) piece line (without before t))
+  one_line ks ks' piece line less h = so_leads rules room limit ks ks'
+      (λ s t. Answers (without before s) piece h.0 (without before t))
+      (λ s t. Tells (without before s) piece line (without before t))
+      (answers_so rules room limit before piece ks ks' h.0 less h.1)
+      (λ history end c s s' answers. (h.0, answers, h.2))
 
-  lines_grow : (a b : S) (done : List (List ℕ)) (text : List ℕ) → Transcript On a done text b
-      → Grows (clients a) (clients b)
-  lines_grow a b [] text h = subst (λ (x : S). Grows (clients a) (clients x)) (sym h.1) (stays_so (clients a))
-  lines_grow a b (piece ∷ done) text h =
-      then_grows (clients a) (clients h.1) (clients b) (h.3 0).0 (lines_grow h.1 b done h.2 h.4)
+  lines_so : (ks ks' : List Knows) (done : List (List ℕ)) (text : List ℕ) → before < length ks
+      → Transcript (TellsBeside limit before) ks done text ks'
+      → Leads rules room limit ks ks' (λ s t. Transcript Tells (without before s) done text (without before t))
+  lines_so ks ks' [] text less h =
+      subst (λ (l : List Knows). Leads rules room limit ks l
+      (λ s t. Transcript Tells (without before s) [] text (without before t))) (sym h.1)
+      (so_leads rules room limit ks ks (λ s t. t ≡ s)
+      (λ s t. Transcript Tells (without before s) [] text (without before t)) (nothing_leads rules room limit ks)
+      (λ history end c s s' same. (h.0, ap (without before) same)))
+  lines_so ks ks' (piece ∷ done) text less h =
+      let line = h.0 in
+      let mid = h.1 in
+      let rest = h.2 in
+      let more = answers_count limit before ks mid piece h.3.0 h.3.1 in
+      so_leads rules room limit ks ks'
+      (λ s u. (t : at.Session) × Tells (without before s) piece line (without before t)
+      × Transcript Tells (without before t) done rest (without before u))
+      (λ s t. Transcript Tells (without before s) (piece ∷ done) text (without before t))
+      (then_leads rules room limit ks mid ks' (λ s t. Tells (without before s) piece line (without before t))
+      (λ s t. Transcript Tells (without before s) done rest (without before t)) (one_line ks mid piece line less h.3)
+      (lines_so mid ks' done rest (omega (arith, less, more)) h.4))
+      (λ history end c s s' it. (line, without before it.0, rest, it.1, it.2, h.5))
 
-  module _ (room : ℕ) (history : List Entry) (end : List Knows) (c : IsClosed rules room limit history end) where
+  module _ (ks ks' : List Knows) (old new : Devices) (goes : Goes limit ks ks') (less : before < length ks) where
     -- the session at this point
-    abbrev point : S → at.Session
-    point a = without (before a) (between rules room limit history (clients a))
+    abbrev point : List Entry → List Knows → at.Session
+    point history is = without before (between rules room limit history is)
 
-    of_lines : (a b : S) (done : List (List ℕ)) (text : List ℕ) → Transcript On a done text b
-        → Grows (clients b) end → IsSettled rules room history (clients a)
-        → Transcript Tells (point a) done text (point b)
-    of_lines a b [] text h g s = (h.0, ap point h.1)
-    of_lines a b (piece ∷ done) text h g s =
-        let on = then_grows (clients h.1) (clients b) end (lines_grow h.1 b done h.2 h.4) g in
-        let one = (h.3 room).1 history end c on s in
-        (h.0, point h.1, h.2, one.1, of_lines h.1 b done h.2 h.4 g one.0, h.5)
+    pub runs_to : AnswersAll (TellsBeside limit before) ks ks' old new
+        → Leads rules room limit ks ks' (RunsTo before old new)
+    runs_to all =
+        let on = goes_so rules room limit ks ks' goes in (
+          on.0,
+          λ history end c g s. (
+            (on.1 history end c g s).0,
+            (
+              point history ks',
+              λ input is. let h = all input is in
+                  (h.0, (h.1.0, ((lines_so ks ks' (pieces input) h.1.0 less h.1.1).1 history end c g s).1, h.1.2)),
+              refl,
+            ),
+          ),
+        )
 
-  module _ (a b : S) (old new : Devices) (comes : ComesOn rules limit (clients a) (clients b)) (room : ℕ) where
-    pub runs_to : AnswersAll On a b old new
-        → Leads rules room limit (clients a) (clients b) (RunsTo (before a) old new)
-    runs_to all = (
-      (comes room).0,
-      λ history end c g s. (
-        ((comes room).1 history end c g s).0,
-        (
-          point room history end c b,
-          λ input is. let h = all input is in
-              (h.0, (h.1.0, of_lines room history end c a b (pieces input) h.1.0 h.1.1 g s, h.1.2)),
-          refl,
-        ),
-      ),
-    )
+    pub stops_at : StartsAll (TellsBeside limit before) ks ks' old new
+        → Leads rules room limit ks ks' (StopsAt before old new)
+    stops_at start =
+        let on = goes_so rules room limit ks ks' goes in (
+          on.0,
+          λ history end c g s. (
+            (on.1 history end c g s).0,
+            (
+              point history ks',
+              λ input is. let h = start input is in
+                  (h.0, h.1, h.2, h.3, ((lines_so ks ks' h.0 h.2 less h.4).1 history end c g s).1, h.5),
+            ),
+          ),
+        )
 
-    pub stops_at : StartsAll On a b old new
-        → Leads rules room limit (clients a) (clients b) (StopsAt (before a) old new)
-    stops_at start = (
-      (comes room).0,
-      λ history end c g s. (
-        ((comes room).1 history end c g s).0,
-        (
-          point room history end c b,
-          λ input is. let h = start input is in
-              (h.0, h.1, h.2, h.3, of_lines room history end c a b h.0 h.2 h.4 g s, h.5),
-        ),
-      ),
-    )
+-- what a session that answers lines tells of itself, told of its clients
+module _ {S : Type 0} (clients : S → List Knows) (before : S → ℕ) (limit : ℕ) where
+  abbrev pub On : S → List ℕ → List ℕ → S → Type 0
+  On a piece line b = TellsBeside limit (before a) (clients a) piece line (clients b) × (before b ≡ before a)
+
+  of_session : (a b : S) (n : ℕ) (done : List (List ℕ)) (text : List ℕ) → before a ≡ n
+      → Transcript On a done text b → Transcript (TellsBeside limit n) (clients a) done text (clients b)
+  of_session a b n [] text is h = (h.0, ap clients h.1)
+  of_session a b n (piece ∷ done) text is h = (
+    h.0,
+    clients h.1,
+    h.2,
+    subst (λ (m : ℕ). TellsBeside limit m (clients a) piece h.0 (clients h.1)) is h.3.0,
+    of_session h.1 b n done h.2 (h.3.1 ∙ is) h.4,
+    h.5,
+  )
+
+  module _ (a b : S) (old new : Devices) where
+    pub answers_all : AnswersAll On a b old new
+        → AnswersAll (TellsBeside limit (before a)) (clients a) (clients b) old new
+    answers_all all = λ input is.
+        let h = all input is in (h.0, (h.1.0, of_session a b (before a) (pieces input) h.1.0 refl h.1.1, h.1.2))
+
+    pub starts_all : StartsAll On a b old new
+        → StartsAll (TellsBeside limit (before a)) (clients a) (clients b) old new
+    starts_all start = λ input is.
+        let h = start input is in
+        (h.0, h.1, h.2, h.3, of_session a b (before a) h.0 h.2 refl h.4, h.5)
 
 -- this of what is read and written, where what the devices read is known
 abbrev pub IfKnown : (old new : Devices) → (List ℕ → List ℕ → Type 0) → Type 0

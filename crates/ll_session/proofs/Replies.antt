@@ -3,7 +3,7 @@ use Rattle.std.proofs.Common.{◌≡◌, ℕ, ◌+◌, ◌-◌, ◌<◌, ◌≤�
 use Rattle.std.proofs.Common.{Err}
 use Rattle.std.proofs.Common.{refl, sym, ap, subst, ◌∙◌, arith, inl, inr}
 use Rattle.std.specs.Prelude.{slice_get, take}
-use Rattle.std.proofs.lemmas.List.{length-append, length-drop, length-take-le}
+use Rattle.std.proofs.lemmas.List.{length-append, length-drop, length-set, length-take-le}
 use Rattle.std.proofs.lemmas.Bool.{cases_lt}
 use Rattle.ll_rights.specs.declared.errno.Errno.{Errno}
 use Rattle.ll_rights.specs.declared.errno.Errno.TheVariants.{HistoryFull, NoMemory, BadLine}
@@ -18,22 +18,23 @@ use Rattle.ll_client.specs.Closed.{numbers_of}
 use Rattle.ll_client.specs.Entries.{Knows}
 use Rattle.ll_lines.specs.Cutting.{Holds}
 use Rattle.ll_lines.proofs.Cuts.{kept, long}
-use Rattle.ll_wire.specs.Grammar.{SpellsCommand, reply_line}
+use Rattle.ll_wire.specs.Grammar.{SpellsCommand}
 use Rattle.ll_wire.specs.Reads.{ReadsBy, holds_text}
 use Rattle.ll_talk.specs.Between.{IsSettled, Leads, between}
 use Rattle.ll_talk.specs.Session.{Session, Called, answered, brought, full, starved}
-use Rattle.ll_talk.specs.Talk.{seen_by}
-use Rattle.ll_talk.proofs.Growths.{stays_so}
+use Rattle.ll_talk.specs.Talk.{AsksFor, Goes, Looks, looks, nowhere, seen_by}
 use Rattle.ll_talk.proofs.Later.{called_later}
 use Rattle.ll_talk.proofs.Leading.{nothing_leads, so_leads}
+use Rattle.ll_talk.proofs.Leadings.{ask_so}
+use Rattle.ll_talk.proofs.Lists.{asks_for_count}
 use Rattle.ll_talk.proofs.Seen.{count_numbers}
-use Rattle.ll_session.specs.Session.{Answers, Tells, as_written, bad, calls, unread}
-use Rattle.ll_session.specs.Progress.{IsUnread, TellsOn, placed, without}
+use Rattle.ll_talk.proofs.Turns as turns
+use Rattle.ll_session.specs.Session.{Answers, as_written, bad, calls, unread}
+use Rattle.ll_session.specs.Beside as beside
+use Rattle.ll_session.specs.Beside.{AnswersBeside, placed}
+use Rattle.ll_session.specs.Progress.{IsUnread, without}
+use Rattle.ll_session.proofs.Ways.{by_number}
 use Rattle.ll_session.proofs.SessionPlaces.{after_first, in_place, no_place}
-
--- the bytes spell a call of one of the first so many clients
-abbrev pub Spells : ℕ → List ℕ → ℕ × Call → Type 0
-Spells clients bytes v = SpellsCommand bytes v.0 v.1 × (v.0 ≤ clients)
 
 -- a reply is written with the newest client's place
 placed_as : (s t : Session) (n count : ℕ) (call : Call) (reply : Reply) → Called s n call reply t
@@ -75,153 +76,172 @@ module _ (rules : Rules) (room limit : ℕ) (history : List Entry) (ks : List Kn
       ap (λ ns. slice_get ns (place - 1)) its_clients ∙ no_place before (length ks - before) place more
 
   -- the piece spells no call of one of them
-  pub spells_none : (piece : List ℕ) → ((v : ℕ × Call) → Spells (length ks - before) piece v → ⊥) →
+  spells_none : (piece : List ℕ) → ((n : ℕ) (call : Call) → SpellsCommand piece n call → length ks < before + n) →
       let now = without before (between rules room limit history ks) in Answers now piece (Refused BadLine) now
-  spells_none piece none = bad (λ n call is. elim (cases_lt (length ks - before) n) [
-    | inl more ↦ no_caller n more
-    | inr less ↦ absurd (none (n, call) (is, less))
-  ])
+  spells_none piece none =
+      bad (λ n call is. let more = none n call is in no_caller n (omega (arith, more, less)))
 
   -- it spells a call of one of them, which isn't read
-  pub not_called : (piece : List ℕ) (v : ℕ × Call) (errno told : Errno) → Spells (length ks - before) piece v
-      → holds_text v.1 ≡ true → errno ≡ NoMemory → IsUnread (between rules room limit history ks) errno told →
-      let now = without before (between rules room limit history ks) in Answers now piece (Refused told) now
-  not_called piece v errno told is holds wants (inl over) =
-      let now = without before (between rules room limit history ks) in
-      subst (λ (e : Errno). Answers now piece (Refused e) now) (sym over.2)
-      (calls v.0 (before + v.0) v.1 (Refused HistoryFull) now is.0 (caller v.0 is.0.is_client.0 is.1) (full over.1))
-  not_called piece v errno told is holds wants (inr rest) =
-      let now = without before (between rules room limit history ks) in
-      subst (λ (e : Errno). Answers now piece (Refused e) now) (sym (rest.0 ∙ wants))
-      (unread v.0 (before + v.0) v.1 is.0 (caller v.0 is.0.is_client.0 is.1) (rest.1 wants) holds)
+  module _ (piece : List ℕ) (n : ℕ) (call : Call) (is : SpellsCommand piece n call) (low : before + n ≤ length ks)
+      (holds : holds_text call ≡ true) where
+    caller_here : slice_get (drop before (numbers_of ks)) (n - 1) ≡ Some (before + n)
+    caller_here = caller n is.is_client.0 (omega (arith, low))
 
--- ---- lines
+    over : limit ≤ length (take (seen_by ks) history) →
+        let now = without before (between rules room limit history ks) in Answers now piece (Refused HistoryFull) now
+    over filled =
+        let now = without before (between rules room limit history ks) in
+        calls n (before + n) call (Refused HistoryFull) now is caller_here (full filled)
 
--- whichever piece the line holds, it is answered so
-abbrev pub AnswersLine : Option (List ℕ) → ℕ → Reply → (s t : Session) → Type 0
-AnswersLine line before reply s t =
-    (piece : List ℕ) → Holds line piece → Answers (without before s) piece reply (without before t)
-
-module _ (rules : Rules) (room limit : ℕ) (ks ks' : List Knows) (before : ℕ) (line : Option (List ℕ))
-    (less : before < length ks) where
-  pub too_long : line ≡ None → Leads rules room limit ks ks (AnswersLine line before (Refused BadLine))
-  too_long none = so_leads rules room limit ks ks (λ s t. t ≡ s) (AnswersLine line before (Refused BadLine))
-      (nothing_leads rules room limit ks)
-      (λ history end c s t h piece held.
-      spells_none rules room limit history ks before s (omega (arith, less)) piece
-      (λ v is. let more = long line piece none held in let short = is.0.short in omega (arith, more, short)))
-
-  pub called_at : (bytes : List ℕ) (place clients count : ℕ) (call : Call) (reply : Reply) → line ≡ Some bytes
-      → Spells clients bytes (place, call) → clients + before ≡ length ks → count + before ≡ length ks'
-      → Leads rules room limit ks ks' (λ s t. Called s (before + place - 1 + 1) call reply t)
-      → Leads rules room limit ks ks' (AnswersLine line before (placed count reply))
-  called_at bytes place clients count call reply some is all all' leads = so_leads rules room limit ks ks'
-      (λ s t. Called s (before + place - 1 + 1) call reply t) (AnswersLine line before (placed count reply)) leads
-      (λ history end c s s' h piece held.
-      let now = between rules room limit history ks in
-      let then = between rules room limit history ks' in
-      let first = is.0.is_client.0 in
-      let last = is.1 in
-      let number : before + place - 1 + 1 ≡ before + place = omega (arith, first) in
-      let many = count_numbers ks in
-      let called : Called (without before now) (before + place) call reply (without before then) =
-      called_later before now then (before + place) call reply (omega (arith, less, many))
-      (subst (λ n. Called now n call reply then) number h) in
-      let left : count ≡ length (drop before (numbers_of ks')) =
-      (let cut = length-drop before (numbers_of ks') in let many' = count_numbers ks' in
-      omega (arith, all', cut, many')) in
-      subst (λ (r : Reply). Answers (without before now) piece r (without before then))
-      (sym (placed_as (without before now) (without before then) (before + place) count call reply called left))
-      (calls place (before + place) call reply (without before then)
-      (subst (λ (p : List ℕ). SpellsCommand p place call) (kept line bytes piece some held) is.0)
-      (caller rules room limit history ks before s (omega (arith, less)) place first
-      (omega (arith, last, all))) called))
-
-  -- nothing was read from the line: it spells nothing, or there was no memory for its word or bytes
-  pub not_read : (bytes : List ℕ) (clients before' : ℕ) (errno told : Errno) → line ≡ Some bytes
-      → ReadsBy (Spells clients bytes) (λ (v : ℕ × Call). holds_text v.1 ≡ true) (Err errno)
-      → clients + before ≡ length ks → before' ≡ before
-      → Leads rules room limit ks ks' (λ s t. (t ≡ s) × IsUnread s errno told)
-      → Leads rules room limit ks ks' (λ s t.
-      (piece : List ℕ) → Holds line piece → Answers (without before s) piece (Refused told) (without before' t))
-  not_read bytes clients before' errno told some reads all same_before leads = subst (λ b. Leads rules room limit ks ks'
-      (λ s t. (piece : List ℕ) → Holds line piece → Answers (without before s) piece (Refused told) (without b t)))
-      (sym same_before) (so_leads rules room limit ks ks'
-      (λ s t. (t ≡ s) × IsUnread s errno told) (AnswersLine line before (Refused told)) leads
-      (λ history end c s s' h piece held.
-      let now = between rules room limit history ks in
-      subst (λ (t : Session). Answers (without before now) piece (Refused told) (without before t)) (sym h.0)
-      (stays history s h.1 piece (kept line bytes piece some held))))
-    where
-      count : clients ≡ length ks - before
-      count = omega (arith, all)
-
-      stays : (history : List Entry) → IsSettled rules room history ks
-          → IsUnread (between rules room limit history ks) errno told → (piece : List ℕ) → bytes ≡ piece →
-          let now = without before (between rules room limit history ks) in Answers now piece (Refused told) now
-      stays history s kind piece same = elim reads [
-        | inl h ↦ elim kind [
-          | inl over ↦ absurd (let both = sym h.0 ∙ over.0 in cc)
-          | inr is ↦ subst (λ (e : Errno). let now = without before (between rules room limit history ks) in
-              Answers now piece (Refused e) now) (sym (is.0 ∙ h.0))
-              (spells_none rules room limit history ks before s (omega (arith, less)) piece
-              (λ v spells. h.1 v (subst (λ (n : ℕ). Spells n bytes v) (sym count)
-              (subst (λ (p : List ℕ). Spells (length ks - before) p v) (sym same) spells))))
-        ]
-        | inr h ↦ not_called rules room limit history ks before s (omega (arith, less)) piece h.1 errno told
-            (subst (λ (n : ℕ). Spells n piece h.1) count (subst (λ (p : List ℕ). Spells clients p h.1) same h.2))
-            h.3 h.0 kind
-      ]
-
--- a line that is answered so is told so
-pub tells_on : (rules : Rules) (limit : ℕ) (ks ks' : List Knows) (line : Option (List ℕ)) (before before' : ℕ)
-    (reply : Reply)
-    → ((room : ℕ) → Leads rules room limit ks ks' (λ s t.
-    (piece : List ℕ) → Holds line piece → Answers (without before s) piece reply (without before' t)))
-    → (piece text : List ℕ) → Holds line piece → text ≡ reply_line reply
-    → TellsOn rules limit before ks piece text before' ks'
-tells_on rules limit ks ks' line before before' reply leads piece text held is room =
-    so_leads rules room limit ks ks'
-    (λ s t. (piece : List ℕ) → Holds line piece → Answers (without before s) piece reply (without before' t))
-    (λ s t. Tells (without before s) piece text (without before' t)) (leads room)
-    (λ history end c s s' h. (reply, h piece held, is))
-
--- ---- why a line isn't read
+    not_over : length (take (seen_by ks) history) < limit →
+        let now = without before (between rules room limit history ks) in Answers now piece (Refused NoMemory) now
+    not_over free = unread n (before + n) call is caller_here free holds
 
 entries_seen : (rules : Rules) (room limit : ℕ) (history : List Entry) (ks : List Knows)
     → IsSettled rules room history ks → length (take (seen_by ks) history) ≡ seen_by ks
 entries_seen rules room limit history ks s = length-take-le (seen_by ks) history s.low
 
-module _ (rules : Rules) (room limit : ℕ) (ks ks' : List Knows)
-    (looks : Leads rules room limit ks ks' (λ s t. t ≡ s)) where
-  -- one of the clients knows that the history is full, or that it isn't
-  pub over : (errno : Errno) → errno ≡ NoMemory → limit ≤ seen_by ks'
-      → Leads rules room limit ks ks' (λ s t. (t ≡ s) × IsUnread s errno HistoryFull)
-  over errno wants all = so_leads rules room limit ks ks' (λ s t. t ≡ s)
-      (λ s t. (t ≡ s) × IsUnread s errno HistoryFull) looks
-      (λ history end c s s' h. (
-        h,
-        subst (λ (z : Session). IsUnread z errno HistoryFull) h
-            (inl (wants, (let seen = entries_seen rules room limit history ks' s' in omega (arith, seen, all)), refl)),
-      ))
+-- ---- lines of a session that has all clients of its tree
 
-  pub not_over : (errno : Errno) → (limit ≤ seen_by ks' → ⊥)
-      → Leads rules room limit ks ks' (λ s t. (t ≡ s) × IsUnread s errno errno)
-  not_over errno less = so_leads rules room limit ks ks' (λ s t. t ≡ s)
-      (λ s t. (t ≡ s) × IsUnread s errno errno) looks
-      (λ history end c s s' h. (
-        h,
-        subst (λ (z : Session). IsUnread z errno errno) h
-            (inr (
-              refl,
-              λ _. elim (cases_lt (seen_by ks') limit) [
-                | inl lt ↦ (let seen = entries_seen rules room limit history ks' s' in omega (arith, seen, lt))
-                | inr ge ↦ absurd (less ge)
-              ],
-            )),
-      ))
+looks_count : (ks ks' : List Knows) → Looks ks ks' → length ks' ≡ length ks
+looks_count ks ks' (inl none) = ap length (none.1 ∙ sym none.0)
+looks_count ks ks' (inr l) = ap length l.1.after ∙ length-set ks l.0 (record l.1.me { seen = l.1.seen })
 
-pub another : (rules : Rules) (room limit : ℕ) (ks : List Knows) (errno : Errno) → (errno ≡ NoMemory → ⊥)
-    → Leads rules room limit ks ks (λ s t. (t ≡ s) × IsUnread s errno errno)
-another rules room limit ks errno other =
-    (stays_so ks, λ history end c g s. (s, (refl, inr (refl, λ wants. absurd (other wants)))))
+-- no client is lost
+pub answers_count : (limit before : ℕ) (ks ks' : List Knows) (piece : List ℕ) (reply : Reply)
+    → AnswersBeside limit before ks piece reply ks' → length ks ≤ length ks'
+answers_count limit before ks ks' piece reply (beside.calls n call told end is low act) =
+    (asks_for_count limit ks end (before + n - 1) call told act).0
+answers_count limit before ks ks' piece reply (beside.full n call end is low holds act most) =
+    let same = looks_count ks end act in omega (arith, same)
+answers_count limit before ks ks' piece reply (beside.unread n call end is low holds act free) =
+    let same = looks_count ks end act in omega (arith, same)
+answers_count limit before ks ks' piece reply (beside.bad none) = omega arith
+
+module _ (rules : Rules) (room limit : ℕ) (before : ℕ) (piece : List ℕ) where
+  abbrev AnswersPiece : Reply → Session → Session → Type 0
+  AnswersPiece reply s t = Answers (without before s) piece reply (without before t)
+
+  called_at : (ks ks' : List Knows) (n : ℕ) (call : Call) (reply : Reply) → before < length ks
+      → SpellsCommand piece n call → before + n ≤ length ks
+      → length ks ≤ length ks'
+      → Leads rules room limit ks ks' (λ s t. Called s (before + n - 1 + 1) call reply t)
+      → Leads rules room limit ks ks' (AnswersPiece (placed (length ks' - before) reply))
+  called_at ks ks' n call reply less is low grows leads = so_leads rules room limit ks ks'
+      (λ s t. Called s (before + n - 1 + 1) call reply t) (AnswersPiece (placed (length ks' - before) reply)) leads
+      (λ history end c s s' h.
+      let now = between rules room limit history ks in
+      let then = between rules room limit history ks' in
+      let first = is.is_client.0 in
+      let number : before + n - 1 + 1 ≡ before + n = omega (arith, first) in
+      let many = count_numbers ks in
+      let called : Called (without before now) (before + n) call reply (without before then) =
+      called_later before now then (before + n) call reply (omega (arith, less, many))
+      (subst (λ m. Called now m call reply then) number h) in
+      let left : length ks' - before ≡ length (drop before (numbers_of ks')) =
+      (let cut = length-drop before (numbers_of ks') in let many' = count_numbers ks' in
+      omega (arith, cut, many')) in
+      subst (λ (r : Reply). Answers (without before now) piece r (without before then))
+      (sym (placed_as (without before now) (without before then) (before + n) (length ks' - before) call reply called
+      left))
+      (calls n (before + n) call reply (without before then) is
+      (caller rules room limit history ks before s (omega (arith, less)) n first (omega (arith, low))) called))
+
+  looked : (ks ks' : List Knows) (told : Errno) → Looks ks ks'
+      → ((history : List Entry) → IsSettled rules room history ks → IsSettled rules room history ks'
+      → between rules room limit history ks' ≡ between rules room limit history ks →
+      let now = without before (between rules room limit history ks) in Answers now piece (Refused told) now)
+      → Leads rules room limit ks ks' (AnswersPiece (Refused told))
+  looked ks ks' told act so = so_leads rules room limit ks ks' (λ s t. t ≡ s) (AnswersPiece (Refused told))
+      (turns.looks rules room limit ks ks' act)
+      (λ history end c s s' h.
+      let now = without before (between rules room limit history ks) in
+      subst (λ (t : Session). Answers now piece (Refused told) (without before t)) (sym h) (so history s s' h))
+
+  -- what a line is answered beside others is what the plain tree answers
+  pub answers_so : (ks ks' : List Knows) (reply : Reply) → before < length ks
+      → AnswersBeside limit before ks piece reply ks' → Leads rules room limit ks ks' (AnswersPiece reply)
+  answers_so ks ks' reply less (beside.calls n call told end is low act) =
+      let place : before + n - 1 < length ks = (let first = is.is_client.0 in omega (arith, first, low)) in
+      called_at ks end n call told less is low (asks_for_count limit ks end (before + n - 1) call told act).0
+      (by_number rules room limit ks end (before + n - 1) call told place
+      (ask_so rules room limit ks end (before + n - 1) call told act))
+  answers_so ks ks' reply less (beside.full n call end is low holds act most) =
+      looked ks end HistoryFull act (λ history s s' h.
+      let seen = entries_seen rules room limit history end s' in
+      let same = ap (λ (t : Session). length t.entries) h in
+      over rules room limit history ks before s (omega (arith, less)) piece n call is low holds
+      (omega (arith, seen, same, most)))
+  answers_so ks ks' reply less (beside.unread n call end is low holds act free) =
+      looked ks end NoMemory act (λ history s s' h.
+      let seen = entries_seen rules room limit history end s' in
+      let same = ap (λ (t : Session). length t.entries) h in
+      not_over rules room limit history ks before s (omega (arith, less)) piece n call is low holds
+      (omega (arith, seen, same, free)))
+  answers_so ks ks' reply less (beside.bad none) = so_leads rules room limit ks ks (λ s t. t ≡ s)
+      (AnswersPiece (Refused BadLine)) (nothing_leads rules room limit ks)
+      (λ history end c s s' h.
+      spells_none rules room limit history ks before s (omega (arith, less)) piece none)
+
+-- ---- lines, as they are read
+
+module _ (limit before : ℕ) (ks : List Knows) (line : Option (List ℕ)) (piece : List ℕ) (held : Holds line piece)
+  where
+    pub too_long : line ≡ None → AnswersBeside limit before ks piece (Refused BadLine) ks
+    too_long none = beside.bad (λ n call is.
+        let more = long line piece none held in let short = is.short in omega (arith, more, short))
+
+    module _ (bytes : List ℕ) (clients : ℕ) (some : line ≡ Some bytes) (all : clients + before ≡ length ks) where
+      pub called_there : (place count : ℕ) (call : Call) (reply : Reply) (ks' : List Knows)
+          → SpellsCommand bytes place call × (place ≤ clients) → AsksFor limit ks (before + place - 1) call reply ks'
+          → count + before ≡ length ks' → AnswersBeside limit before ks piece (placed count reply) ks'
+      called_there place count call reply ks' is act all' =
+          let last = is.1 in
+          let left : length ks' - before ≡ count = omega (arith, all') in
+          subst (λ (m : ℕ). AnswersBeside limit before ks piece (placed m reply) ks') left
+          (beside.calls place call reply ks'
+          (subst (λ (p : List ℕ). SpellsCommand p place call) (kept line bytes piece some held) is.0)
+          (omega (arith, last, all)) act)
+
+      -- nothing was read from the line: it spells nothing, or there was no memory for its word or bytes
+      pub not_read : (errno told : Errno) (ks' : List Knows)
+          → ReadsBy (λ (v : ℕ × Call). SpellsCommand bytes v.0 v.1 × (v.0 ≤ clients))
+          (λ (v : ℕ × Call). holds_text v.1 ≡ true) (Err errno) → IsUnread limit ks errno told ks'
+          → AnswersBeside limit before ks piece (Refused told) ks'
+      not_read errno told ks' reads kind =
+          let same = kept line bytes piece some held in elim reads [
+            | inl h ↦ elim kind [
+              | inl over ↦ absurd (let both = sym h.0 ∙ over.0 in cc)
+              | inr rest ↦ elim rest [
+                | inl free ↦ absurd (let both = sym h.0 ∙ free.0 in cc)
+                | inr none ↦ subst (λ (e : Errno). AnswersBeside limit before ks piece (Refused e) ks')
+                    (sym (none.2 ∙ h.0))
+                    (subst (λ (l : List Knows). AnswersBeside limit before ks piece (Refused BadLine) l) (sym none.1)
+                    (beside.bad (λ n call is. elim (cases_lt clients n) [
+                      | inl more ↦ omega (arith, more, all)
+                      | inr few ↦ absurd (h.1 (n, call)
+                          (subst (λ (p : List ℕ). SpellsCommand p n call) (sym same) is, few))
+                    ])))
+              ]
+            ]
+            | inr h ↦
+                let is = subst (λ (p : List ℕ). SpellsCommand p h.1.0 h.1.1) same h.2.0 in
+                let few = h.2.1 in
+                let low : before + h.1.0 ≤ length ks = omega (arith, few, all) in elim kind [
+                  | inl over ↦ subst (λ (e : Errno). AnswersBeside limit before ks piece (Refused e) ks')
+                      (sym over.3) (beside.full h.1.0 h.1.1 ks' is low h.3 over.1 over.2)
+                  | inr rest ↦ elim rest [
+                    | inl free ↦ subst (λ (e : Errno). AnswersBeside limit before ks piece (Refused e) ks')
+                        (sym free.3) (beside.unread h.1.0 h.1.1 ks' is low h.3 free.1 free.2)
+                    | inr none ↦ absurd (none.0 h.0)
+                  ]
+                ]
+          ]
+
+-- whatever a line that wasn't read is refused by, nothing was done but a look
+pub unread_goes : (limit : ℕ) (ks ks' : List Knows) (errno told : Errno) → IsUnread limit ks errno told ks'
+    → Goes limit ks ks'
+unread_goes limit ks ks' errno told (inl over) = looks ks ks' nowhere over.1
+unread_goes limit ks ks' errno told (inr (inl free)) = looks ks ks' nowhere free.1
+unread_goes limit ks ks' errno told (inr (inr none)) =
+    subst (λ (l : List Knows). Goes limit ks l) (sym none.1) nowhere

@@ -1,5 +1,5 @@
 -- How clients come on, and what that comes to when their tree is closed.
-use Rattle.std.specs.Prelude.{⊤, ◌≡◌, ℕ, ◌+◌, ◌<◌, List, [], length, Some, slice_get, refl}
+use Rattle.std.specs.Prelude.{◌≡◌, ℕ, ◌+◌, ◌<◌, List, [], length, Some, slice_get, refl}
 use Rattle.std.proofs.Common.{sym, ap, subst, ◌∙◌, arith}
 use Rattle.ll_seq.specs.declared.call.Call.{Call}
 use Rattle.ll_seq.specs.declared.reply.Entry.{Entry}
@@ -16,12 +16,6 @@ use Rattle.ll_session.specs.declared.setup.Setup.{Setup}
 use Rattle.ll_session.specs.Opening.{fresh}
 use Rattle.ll_session.specs.Progress.{Closes}
 use Rattle.ll_session.proofs.SessionPlaces.{at}
-
--- whatever else holds between them
-pub only_comes : (rules : Rules) (room limit : ℕ) (ks ks' : List Knows) (Holds : Session → Session → Type 0)
-    → Leads rules room limit ks ks' Holds → Leads rules room limit ks ks' (λ s t. ⊤)
-only_comes rules room limit ks ks' Holds leads =
-    so_leads rules room limit ks ks' Holds (λ s t. ⊤) leads (λ history end c s t h. tt)
 
 -- who came after so many others has the next number
 pub number_at : (rules : Rules) (room : ℕ) (history : List Entry) (ks : List Knows) (before client : ℕ)

@@ -67,13 +67,6 @@ pub stands_on : (limit i j k : ℕ) (is js ks : List Knows) → StandsOn limit i
     → StandsOn limit i is k ks
 stands_on limit i j k is js ks one two = (goes_on limit is js ks one.0 two.0, two.1 ∙ one.1)
 
-module _ (rules : Rules) (limit : ℕ) where
-  -- Between what these clients know and what those do, the piece gets this line, whatever else becomes of the tree.
-  -- So many of them came before the session
-  abbrev pub TellsOn : ℕ → List Knows → (piece line : List ℕ) → ℕ → List Knows → Type 0
-  TellsOn before ks piece line before' ks' = (room : ℕ)
-      → Leads rules room limit ks ks' (λ s t. Tells (without before s) piece line (without before' t))
-
 -- The tree was closed with these entries, and to the clients that it had then these came on, so
 abbrev pub Closes : Rules → (room limit : ℕ) → List Knows → List Entry → (Session → Session → Type 0) → Type 0
 Closes rules room limit ks entries Holds =

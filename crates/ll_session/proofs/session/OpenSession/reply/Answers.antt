@@ -1,29 +1,42 @@
 use Rattle.std.proofs.Common.{arith, subst, sym}
 use Rattle.ll_seq.specs.declared.reply.Reply.{Reply}
-use Rattle.ll_talk.specs.Between.{Leads}
-use Rattle.ll_session.proofs.Replies.{AnswersLine, called_at, not_read, too_long}
+use Rattle.ll_session.specs.Beside.{AnswersBeside}
+use Rattle.ll_talk.specs.Talk.{asks, nowhere}
+use Rattle.ll_session.proofs.Replies.{called_there, not_read, too_long, unread_goes}
 use Rattle.ll_session.proofs.session.OpenSession.reply.Goals as goal
 
-pub returns-in_default : goal.returns-in_default
-returns-in_default g c room =
-    too_long g.N.Shape.rules room g.N.Shape.limit c.args.self.now.shared.party c.args.self.now.shared.party
-    c.args.self.now.before c.args.line.now c.args.self.now.some (sym c.in_default.ensures)
+pub returns-in_default-clause-answers : goal.returns-in_default-clause-answers
+returns-in_default-clause-answers g c piece held =
+    too_long g.N.Shape.limit c.args.self.now.before c.args.self.now.party c.args.line.now piece held
+    (sym c.in_default.ensures)
+
+pub returns-in_default-clause-goes : goal.returns-in_default-clause-goes
+returns-in_default-clause-goes g c = nowhere
 
 pub overflow_add-self : goal.overflow_add-self
 overflow_add-self g c = omega (arith, c.clients.ensures.count, c.clients.ensures.fits, c.in-Ok.ensures.1)
 
-pub returns-in-Ok : goal.returns-in-Ok
-returns-in-Ok g c room =
-    subst (λ (r : Reply). Leads g.N.Shape.rules room g.N.Shape.limit c.args.self.now.shared.party
-    c.ask-reply.new.self.party (AnswersLine c.args.line.now c.args.self.now.before r)) (sym c.placed.ensures)
-    (called_at g.N.Shape.rules room g.N.Shape.limit c.args.self.now.shared.party c.ask-reply.new.self.party
-    c.args.self.now.before c.args.line.now c.args.self.now.some c.in-Some.bytes.now c.in-Ok.place c.clients.result
-    c.clients-in-Ok.result c.in-Ok.call c.ask-reply.result (sym c.in-Some.ensures) c.in-Ok.ensures
-    c.clients.ensures.count c.clients-in-Ok.ensures.count (c.ask-reply.ensures.called room))
+pub returns-in-Ok-clause-answers : goal.returns-in-Ok-clause-answers
+returns-in-Ok-clause-answers g c piece held =
+    subst (λ (r : Reply). AnswersBeside g.N.Shape.limit c.args.self.now.before c.args.self.now.party piece r
+    c.ask-reply.new.self) (sym c.placed.ensures)
+    (called_there g.N.Shape.limit c.args.self.now.before c.args.self.now.party c.args.line.now piece held
+    c.in-Some.bytes.now c.clients.result (sym c.in-Some.ensures) c.clients.ensures.count c.in-Ok.place
+    c.clients-in-Ok.result c.in-Ok.call c.ask-reply.result c.ask-reply.new.self c.in-Ok.ensures
+    c.ask-reply.ensures.asks c.clients-in-Ok.ensures.count)
 
-pub returns-in-Err : goal.returns-in-Err
-returns-in-Err g c room =
-    not_read g.N.Shape.rules room g.N.Shape.limit c.args.self.now.shared.party c.unread.new.self.shared.party
-    c.args.self.now.before c.args.line.now c.args.self.now.some c.in-Some.bytes.now c.clients.result
-    c.unread.new.self.before c.in-Err.errno c.unread.result (sym c.in-Some.ensures) c.in-Err.ensures
-    c.clients.ensures.count c.unread.ensures.before (c.unread.ensures.leads room)
+pub returns-in-Ok-clause-goes : goal.returns-in-Ok-clause-goes
+returns-in-Ok-clause-goes g c =
+    asks c.args.self.now.party c.ask-reply.new.self _ c.in-Ok.call c.ask-reply.result nowhere
+    c.ask-reply.ensures.asks
+
+pub returns-in-Err-clause-answers : goal.returns-in-Err-clause-answers
+returns-in-Err-clause-answers g c piece held =
+    not_read g.N.Shape.limit c.args.self.now.before c.args.self.now.party c.args.line.now piece held
+    c.in-Some.bytes.now c.clients.result (sym c.in-Some.ensures) c.clients.ensures.count c.in-Err.errno
+    c.unread.result c.unread.new.self.party c.in-Err.ensures c.unread.ensures.told
+
+pub returns-in-Err-clause-goes : goal.returns-in-Err-clause-goes
+returns-in-Err-clause-goes g c =
+    unread_goes g.N.Shape.limit c.args.self.now.party c.unread.new.self.party c.in-Err.errno c.unread.result
+    c.unread.ensures.told
