@@ -7,7 +7,7 @@ use Rattle.ll_steps.specs.Makes.{Makes}
 use Rattle.ll_steps.specs.declared.report.Report.{Report}
 use Rattle.ll_steps.proofs.LentContents.{lent_in}
 use Rattle.ll_steps.proofs.WalkMakes.{near_end, ending_makes, ending_keeps, traded}
-use Rattle.ll_steps.proofs.walk.commit_with.Goals as goal
+use Rattle.ll_steps.proofs.walk.commit_lent.Goals as goal
 
 pub commit-ending-requires-clause-lent : goal.commit-ending-requires-clause-lent
 commit-ending-requires-clause-lent c =
