@@ -1,9 +1,12 @@
 -- What policy judges of a call, and what a call does that nothing refuses.
-use Rattle.std.specs.Prelude.{◌≡◌, ℕ, true, [], slice_get, refl}
-use Rattle.std.proofs.Common.{ap, sym, subst, ◌∙◌}
+use Rattle.std.specs.Prelude.{◌≡◌, ℕ, true, List, [], ◌∷◌, length, None, slice_get, refl}
+use Rattle.std.proofs.Common.{ap, sym, subst, ◌∙◌, arith}
 use Rattle.ll_decide.specs.declared.demands.Demands.{Demands}
+use Rattle.ll_decide.proofs.Carried.{length-masks}
 use Rattle.ll_decide.specs.Judge.{grants_along}
+use Rattle.ll_decide.specs.Masks.{AreMasks}
 use Rattle.ll_decide.specs.Verdict.{verdict}
+use Rattle.ll_rules.specs.Layer.{Layer}
 use Rattle.ll_seq.specs.Asked.{call_denials, grants}
 use Rattle.ll_seq.specs.CallParts.{asked, moved, done, kind_refusals, limit_refusals}
 use Rattle.ll_seq.specs.Call.{first_path, second_path}
@@ -59,6 +62,18 @@ judged_so s c call d ours demanded =
     policy_is s c call ours
     ∙ (λ i. verdict (grants s) c.domain (demanded.all_asked i) (demanded.all_moved i))
     ∙ verdict_same s (first_path call) (second_path call) c.domain demanded.asks demanded.moves
+
+unlayered : (domain : List Layer) → 0 ≡ length domain → domain ≡ []
+unlayered [] none = refl
+unlayered (layer ∷ domain) none = absurd (omega arith)
+
+-- no layer denies anything where there is none
+pub none_unlayered : (s : State) (c : ClientRecord) (call : Call) (masks inodes : List ℕ) → has_path call ≡ true
+    → length masks ≡ 0 → AreMasks masks c.domain inodes → slice_get (call_denials s c call) 0 ≡ None
+none_unlayered s c call masks inodes ours none are =
+    policy_is s c call ours
+    ∙ ap (λ domain. verdict (grants s) domain (asked s call) (moved s call))
+    (unlayered c.domain (sym none ∙ length-masks masks c.domain inodes are))
 
 -- a call that nothing refuses does what is told of it
 pub comes_so : (s : State) (n : ℕ) (c : ClientRecord) (call : Call) (found : Found) (effect : Effect)

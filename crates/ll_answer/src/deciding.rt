@@ -1,6 +1,6 @@
 //! A call, from what is found to what it does.
 
-ghost use Rattle.std.specs.Prelude.{◌≡◌, ℕ, true, [], length, IfOk, MatchResult};
+ghost use Rattle.std.specs.Prelude.{◌≡◌, ℕ, true, [], length, slice_get, IfOk, MatchResult};
 ghost use Rattle.ll_decide.specs.Judge.{AreGranted};
 ghost use Rattle.ll_seq.specs.State.{State};
 ghost use Rattle.ll_seq.specs.Step.{client_of};
@@ -8,7 +8,9 @@ ghost use Rattle.ll_answer.specs.Decided.{IsRefused, IsDone};
 ghost use Rattle.ll_answer.specs.Demanded.{chains};
 ghost use Rattle.ll_answer.specs.Found.{AreFacts};
 ghost use Rattle.ll_answer.specs.Near.{IsNear};
-ghost use Rattle.ll_answer.specs.Passed.{has_path};
+ghost use Rattle.ll_answer.specs.Passed.{Passed, has_path};
+ghost use Rattle.ll_seq.specs.Asked.{call_denials};
+ghost use Rattle.ll_seq.specs.declared.client.ClientRecord as record_of;
 ghost use Rattle.ll_seq.specs.Stages.{early_refusals};
 
 use crate::before::{refused_early, refused_found};
@@ -17,8 +19,23 @@ use crate::demanding::demands_of;
 use crate::effects::effect_of;
 use crate::found::Found;
 use crate::later::refused_after;
-use ll_decide::{Granted, least_denial};
+use ll_decide::{Denial, Granted, least_denial};
 use ll_seq::{Call, ClientRecord, Reply};
+
+/// What the layers deny of the call, which names a path and which nothing refuses before policy.
+fn denial_of(call: &Call, found: &Found, granted: &Granted<'_>) -> Option<Denial>
+    requires other { length granted.now.other.now ≡ length granted.now.itself.now }
+    requires parent { length granted.now.parent.now ≡ length granted.now.itself.now }
+    requires entered { length granted.now.entered.now ≡ length granted.now.itself.now }
+    ensures { (s : State) (c : record_of.ClientRecord) → Passed s c call.now found.now → has_path call.now ≡ true
+        → AreGranted c.domain (chains s call.now) granted.now → slice_get (call_denials s c call.now) 0 ≡ result }
+{
+    if granted.itself.len() == 0 {
+        return None;
+    }
+    let demands = demands_of(call, found);
+    least_denial(&demands, granted)
+}
 
 /// What the caller's call does, which names a path, or the reply where it does nothing.
 pub fn decide<'a>(
@@ -60,8 +77,7 @@ pub fn decide_passed<'a>(
     if let Some(errno) = refused_found(call, found) {
         return Err(Reply::Refused(errno));
     }
-    let demands = demands_of(call, found);
-    if let Some(denial) = least_denial(&demands, granted) {
+    if let Some(denial) = denial_of(call, found, granted) {
         return Err(Reply::Denied(denial));
     }
     if let Some(errno) = refused_after(caller, call, found) {

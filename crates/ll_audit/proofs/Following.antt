@@ -1,13 +1,12 @@
 -- Entries one after the other.
 use Rattle.std.proofs.Common.{◌≡◌, ℕ, ◌+◌, ◌-◌, ◌<◌, ◌≤◌, List, [], ◌∷◌, ◌++◌, length, take, get_or, refl, sym, ap}
-use Rattle.std.proofs.Common.{subst, ◌∙◌, arith, true}
+use Rattle.std.proofs.Common.{subst, ◌∙◌, arith}
 use Rattle.std.proofs.lemmas.List.{take_all, take_more}
 use Rattle.std.proofs.lemmas.Option.{slice_get_read}
-use Rattle.ll_seq.specs.Memory.{takes_memory}
+use Rattle.ll_seq.specs.Memory.{MayStarve}
 use Rattle.ll_seq.specs.declared.reply.Entry.{Entry}
 use Rattle.ll_seq.specs.History.{IsLegal, MayStand, state_after, after}
 use Rattle.ll_seq.specs.State.{State}
-use Rattle.ll_seq.specs.Step.{client_of, refusals}
 use Rattle.ll_seq.proofs.Histories.{after_push, legal_append, legal_late}
 use Rattle.ll_audit.specs.Audit.{IsFirstIllegal, Starves}
 
@@ -50,12 +49,11 @@ module _ (s : State) (entries : List Entry) (i : ℕ) (e : Entry) (t : State) (w
         (legal_late s (take i entries) (e ∷ []) (subst (IsLegal s) one_more legal)).0);
   }
 
-  pub starves : takes_memory e.call ≡ true → refusals t (client_of t e.client) e.call ≡ [] → Starves s entries
-  starves takes passes = record {
+  pub starves : MayStarve t e.client e.call → Starves s entries
+  starves may = record {
     done = i;
     entry = e;
     next = slice_get_read entries (length entries) i e refl within at;
     legal = so_far.legal;
-    takes = takes;
-    passes = subst (λ (z : State). refusals z (client_of z e.client) e.call ≡ []) so_far.state passes;
+    may = subst (λ (z : State). MayStarve z e.client e.call) so_far.state may;
   }

@@ -1,10 +1,9 @@
 -- What an audit tells. own
-use Rattle.std.specs.Prelude.{◌≡◌, ℕ, ◌≤◌, ◌-◌, true, List, [], length, take, Some, slice_get}
-use Rattle.ll_seq.specs.Memory.{takes_memory}
+use Rattle.std.specs.Prelude.{◌≡◌, ℕ, ◌≤◌, ◌-◌, List, length, take, Some, slice_get}
+use Rattle.ll_seq.specs.Memory.{MayStarve}
 use Rattle.ll_seq.specs.declared.reply.Entry.{Entry}
 use Rattle.ll_seq.specs.History.{IsLegal, state_after}
 use Rattle.ll_seq.specs.State.{State}
-use Rattle.ll_seq.specs.Step.{client_of, refusals}
 
 -- the entries before the one of this number, counted from 1, are legal, and with it they aren't
 pub record IsFirstIllegal (s : State) (entries : List Entry) (number : ℕ) : Type 0 where
@@ -13,11 +12,10 @@ pub record IsFirstIllegal (s : State) (entries : List Entry) (number : ℕ) : Ty
   pub legal : IsLegal s (take (number - 1) entries)
   pub illegal : IsLegal s (take number entries) → ⊥
 
--- an entry after so many legal ones has a call that takes memory, and that nothing refuses there
+-- the call of an entry after so many legal ones may find no memory there
 pub record Starves (s : State) (entries : List Entry) : Type 0 where
   pub done : ℕ
   pub entry : Entry
   pub next : slice_get entries done ≡ Some entry
   pub legal : IsLegal s (take done entries)
-  pub takes : takes_memory entry.call ≡ true
-  pub passes : let t = state_after s (take done entries) in refusals t (client_of t entry.client) entry.call ≡ []
+  pub may : MayStarve (state_after s (take done entries)) entry.client entry.call

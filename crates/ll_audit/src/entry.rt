@@ -1,10 +1,9 @@
 //! One entry after those before it.
 
-ghost use Rattle.std.specs.Prelude.{◌≡◌, ◌<◌, ◌≤◌, ◌+◌, ◌-◌, ◌^◌, ◌↔◌, ℕ, [], true, IsTrue, IfOk, OnErr};
+ghost use Rattle.std.specs.Prelude.{◌≡◌, ◌<◌, ◌≤◌, ◌+◌, ◌-◌, ◌^◌, ◌↔◌, ℕ, true, IsTrue, IfOk, OnErr};
 ghost use Rattle.ll_rights.specs.Map.{has};
-ghost use Rattle.ll_seq.specs.Memory.{takes_memory};
+ghost use Rattle.ll_seq.specs.Memory.{MayStarve};
 ghost use Rattle.ll_seq.specs.History.{is_connect, MayStand, after};
-ghost use Rattle.ll_seq.specs.Step.{client_of, refusals};
 
 use ll_plain::Plain;
 use ll_rights::Errno;
@@ -46,8 +45,7 @@ pub(crate) fn may_stand(tree: &mut Plain, entry: &Entry) -> Result<bool, AllocEr
     ensures stands { IfOk result (λ stands. IsTrue stands ↔ MayStand tree.old entry.now) }
     ensures after { IfOk result (λ stands. IsTrue stands → tree.new ≡ after tree.old entry.now) }
     ensures numbers { tree.new.next ≤ tree.old.next + 1 }
-    ensures takes { OnErr result (takes_memory entry.now.call ≡ true) }
-    ensures starved { OnErr result (refusals tree.old (client_of tree.old entry.now.client) entry.now.call ≡ []) }
+    ensures starved { OnErr result (MayStarve tree.old entry.now.client entry.now.call) }
 {
     let connects = is_connect(&entry.call);
     if tree.has_client(entry.client) == connects {

@@ -14,8 +14,8 @@ use Rattle.ll_seq.specs.declared.call.Call.{Call}
 use Rattle.ll_seq.specs.declared.reply.Entry.{Entry}
 use Rattle.ll_seq.specs.declared.rules.Rules.{Rules}
 use Rattle.ll_seq.specs.History.{state_after}
+use Rattle.ll_seq.specs.Memory.{MayStarve}
 use Rattle.ll_seq.specs.State.{start}
-use Rattle.ll_seq.specs.Step.{client_of, refusals}
 use Rattle.ll_held.specs.declared.held.Held.{Held}
 use Rattle.ll_inodes.specs.InodeTable.{NotIn}
 use Rattle.ll_worlds.specs.World.{World, shown}
@@ -222,17 +222,15 @@ not_in m (k ∷ ks) j x out at =
 
 -- a history that goes on keeps its points, so what was refused by nothing then still is
 module _ (w v : World) (c d : ℕ) (g : Moved w v c) (limit : v.limit ≡ w.limit) where
-  abbrev NoneRefuses : Starved → Rules × (ℕ × (ℕ × List Entry)) → Type 0
-  NoneRefuses x p = (x.at < p.1.1.0)
-      × (refusals (state_after (start p.0 p.1.0) p.1.1.1) (client_of (state_after (start p.0 p.1.0) p.1.1.1) d) x.call
-      ≡ [])
+  abbrev StarvesThen : Starved → Rules × (ℕ × (ℕ × List Entry)) → Type 0
+  StarvesThen x p = (x.at < p.1.1.0) × MayStarve (state_after (start p.0 p.1.0) p.1.1.1) d x.call
 
   one_stays : (x : Starved) → IsStarved w.rules w.room w.limit w.history d x
       → IsStarved v.rules v.room v.limit v.history d x
   one_stays x h =
       let taken : take x.at v.history ≡ take x.at w.history =
       ap (take x.at) g.came.1 ∙ take-append-le x.at w.history g.came.0 h.0 in
-      let p = subst (NoneRefuses x)
+      let p = subst (StarvesThen x)
       (λ i. (sym g.rules i, (sym g.room i, (sym limit i, sym taken i)))) (h.1, h.2) in
       ((let low = h.0 in let long = g.long in omega (arith, low, long)), p.0, p.1)
 

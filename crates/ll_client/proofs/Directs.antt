@@ -3,28 +3,27 @@ use Rattle.std.specs.Prelude.{◌≡◌, ◌≢◌, ℕ, ◌≤◌, List, [], �
 use Rattle.std.specs.Prelude.{OnErr}
 use Rattle.std.specs.Prelude.{Bool, true, false, refl, unwrap_or, if◌then◌else◌, ◌&&◌, ◌||◌, not, is_none}
 use Rattle.std.proofs.Common.{sym, subst, ap, ◌∙◌, arith, inl, inr}
-use Rattle.ll_seq.specs.Memory.{takes_memory}
+use Rattle.ll_seq.specs.Memory.{MayStarve, takes_memory}
 use Rattle.ll_answer.specs.Passed.{has_path}
 use Rattle.ll_rights.specs.Map.{insert}
 use Rattle.ll_seq.specs.Step.{client_of}
 use Rattle.ll_seq.specs.declared.call.Call.{Call}
-use Rattle.ll_seq.specs.declared.call.Call.TheVariants as calls
-use Rattle.ll_seq.specs.declared.client.ClientRecord.{ClientRecord}
 use Rattle.ll_seq.specs.declared.reply.Reply.{Reply}
 use Rattle.ll_laws.proofs.Chains.{same_Some}
 use Rattle.ll_worlds.specs.declared.step.Step.{Step}
-use Rattle.ll_worlds.specs.declared.step.Step.TheVariants.{Begin, FdCommit, Join}
+use Rattle.ll_worlds.specs.declared.step.Step.TheVariants.{Begin, Join}
 use Rattle.ll_worlds.specs.Walk.{Above}
 use Rattle.ll_worlds.proofs.Tests.{both}
 use Rattle.ll_journal.proofs.Begun.{names_one}
 use Rattle.ll_worlds.specs.World as world
 use Rattle.ll_seq.specs.Call.{targets}
 use Rattle.ll_seq.specs.Stages.{early_refusals}
-use Rattle.ll_worlds.specs.World.{World, advance, answered, has_any, is_idle, is_on_descriptor, is_walked, shown}
+use Rattle.ll_worlds.specs.World.{World, advance, has_any, is_idle, is_walked, shown}
 use Rattle.ll_worlds.specs.World.{takes_gate}
 use Rattle.ll_worlds.specs.Sound.{IsSound}
 use Rattle.ll_journal.specs.Book.{Book}
-use Rattle.ll_journal.specs.Direct.{Answers, TakesMemory}
+use Rattle.ll_journal.specs.Direct.{Answers}
+use Rattle.ll_journal.specs.Starving.{Starves}
 use Rattle.ll_journal.specs.declared.direct.Made.{Made}
 use Rattle.ll_journal.specs.declared.direct.Made.TheVariants as made
 use Rattle.ll_client.specs.declared.account.Numbered.{Numbered}
@@ -34,61 +33,10 @@ use Rattle.ll_client.specs.Gains.{Gains}
 use Rattle.ll_client.specs.Hands.{seen_made, starved_if, starves_made}
 use Rattle.ll_client.specs.Replies.{Fits, success}
 use Rattle.ll_client.proofs.Accounts.{IsClient}
-use Rattle.ll_worlds.proofs.StepGrowth.{Grown, Went, asked, client_in, doing_after, entry_of, went}
+use Rattle.ll_worlds.proofs.StepGrowth.{Grown, Went, asked, by_client, called_is, client_in, doing_after, entry_of}
+use Rattle.ll_worlds.proofs.StepGrowth.{went}
 use Rattle.ll_client.proofs.Desks.{Steps, stepped, stood}
 use Rattle.ll_client.proofs.Leavings.{full_grown, full_is, low_full, room_grown, told_one}
-
--- the client's own calls that take memory are among those that do
-pub alone_takes : (call : Call) → TakesMemory call → takes_memory call ≡ true
-alone_takes call (inl h) = ap takes_memory h.1
-alone_takes call (inr (inl h)) = ap takes_memory h.1
-alone_takes call (inr (inr h)) = ap takes_memory h
-
--- of the calls on descriptors all but close take memory
-on_file_takes : (c : ClientRecord) (call : Call) → is_on_descriptor c call ≡ true → ((fd : ℕ) → call ≢ calls.Close fd)
-    → takes_memory call ≡ true
-on_file_takes c (calls.Make kind target) e other = refl
-on_file_takes c (calls.Open mode target) e other = refl
-on_file_takes c (calls.Read fd offset count) e other = refl
-on_file_takes c (calls.Write fd offset bytes) e other = refl
-on_file_takes c (calls.Ftruncate fd size) e other = refl
-on_file_takes c (calls.Close fd) e other = absurd (other fd refl)
-on_file_takes c (calls.Truncate target size) e other = refl
-on_file_takes c (calls.ReadDir target) e other = refl
-on_file_takes c (calls.Stat target) e other = absurd (cc e)
-on_file_takes c (calls.Exec target) e other = absurd (cc e)
-on_file_takes c (calls.Unlink target) e other = absurd (cc e)
-on_file_takes c (calls.Rmdir target) e other = absurd (cc e)
-on_file_takes c (calls.Rename from into) e other = refl
-on_file_takes c (calls.RenameNoreplace from into) e other = refl
-on_file_takes c (calls.Exchange from into) e other = absurd (cc e)
-on_file_takes c (calls.Link from into) e other = refl
-on_file_takes c (calls.Ruleset rights) e other = refl
-on_file_takes c (calls.Allow number target rights) e other = refl
-on_file_takes c (calls.Confine number) e other = refl
-on_file_takes c calls.Spawn e other = refl
-on_file_takes c calls.Connect e other = refl
-
--- what was answered could be made
-was_allowed : (w v : World) (reply : Reply) (x : world.Outcome × World) (idle allowed : Bool)
-    → unwrap_or (if idle && allowed then Some x else None) (world.NotNow, w) ≡ (world.Replied reply, v) → allowed ≡ true
-was_allowed w v reply x true true e = refl
-was_allowed w v reply x true false e = absurd (cc (ap (λ (p : world.Outcome × World). p.0) e))
-was_allowed w v reply x false true e = refl
-was_allowed w v reply x false false e = absurd (cc (ap (λ (p : world.Outcome × World). p.0) e))
-
--- where memory ran out for a call on a descriptor
-pub file_takes : (E : Type 0) (b b' : Book) (c : ℕ) (call : Call) (r : Result Made E)
-    → (r ≡ Ok made.NoMemory → (fd : ℕ) → call ≢ calls.Close fd) → IfOk r (λ a. Answers b (FdCommit c call) a b')
-    → r ≡ Ok made.NoMemory → takes_memory call ≡ true
-file_takes E b b' c call r calm does e =
-    let starved : Answers b (FdCommit c call) made.NoMemory b' =
-    subst (λ (x : Result Made E). IfOk x (λ a. Answers b (FdCommit c call) a b')) e does in
-    let told = answered b.world c call in
-    let caller = client_of (shown b.world) c in
-    on_file_takes caller call
-    (was_allowed b.world starved.1.after starved.1.reply (world.Replied told.0, told.1) (is_idle b.world c)
-    (is_on_descriptor caller call) starved.1.replied) (calm e)
 
 -- only a walk of a path begins
 pub begun_path : (w v : World) (c : ℕ) (call : Call) → advance w (Begin c call) ≡ (world.Begun, v)
@@ -122,6 +70,15 @@ pub record IsDirect (w : World) (c : ℕ) (call : Call) (s : Step) : Type 0 wher
   pub asks : asked w s ≡ Some call
   pub idle : doing_after w s ≡ None
   pub other : s ≢ Join
+
+-- where memory ran out for it
+pub direct_may : (w : World) (c : ℕ) (call : Call) (s : Step) → IsDirect w c call s → Starves w s
+    → MayStarve (shown w) c call
+direct_may w c call s t starves =
+    let same : ◌≡◌ {A = ℕ × Call} (starves.client, starves.call) (c, call) =
+    same_Some (starves.client, starves.call) (c, call)
+    (sym starves.is ∙ called_is w s ∙ (λ i. by_client (t.mine i) (t.asks i))) in
+    subst (λ (p : ℕ × Call). MayStarve (shown w) p.0 p.1) same starves.may
 
 pub made_steps : (b b' : Book) (c : ℕ) (call : Call) (s : Step) (a : Made) → IsDirect b.world c call s → IsSound b.world
     → length b.world.history ≤ b.world.limit
@@ -157,25 +114,25 @@ module _ (E : Type 0) (b b' : Book) (c seen limit : ℕ) (part : List Numbered) 
             ((ap (λ (x : Book). doing_of x.world c) e ∙ sym k.doing_is) i),
       )
 
-  pub made_gains : (a : Made) → (a ≡ made.NoMemory → takes_memory call ≡ true) → Answers b s a b'
+  pub made_gains : (a : Made) → Answers b s a b'
       → Gains limit call (knows c part starved seen doing) a
       (knows c (part_of b'.world c)
       (starved_if (starves_made {E = E} (Ok a)) starved (length b.world.history) (Some call))
       (seen_made {E = E} (Ok a) seen (length b'.world.history)) (doing_of b'.world c))
-  made_gains (made.Replied reply) calm d =
+  made_gains (made.Replied reply) d =
       let g = room_grown b.world b'.world s reply t.other d.0 (subst (Went b.world s) d.1 (went b.world s)) in
       let same : g.0 ≡ call = same_Some g.0 call (sym g.1 ∙ t.asks) in
       told_one b b' c seen part starved doing call reply k (subst (λ (x : Call). Fits (success x) reply) same g.2)
       (subst (λ (x : ℕ × (Option Call × Call)). Grown b.world b'.world x.0 x.1.0 (entry_of x.0 x.1.1 reply ∷ []))
       (λ i. (t.mine i, (t.idle i, same i))) g.3)
-  made_gains made.HistoryFull calm d =
+  made_gains made.HistoryFull d =
       let g = full_grown b.world b'.world s t.other (subst (Went b.world s) d.0 (went b.world s)) in
       let full = full_is b.world b'.world (client_in b.world s) limit (doing_after b.world s) g.0 fits is g.1 in (
         low_full b c seen limit part doing k fits is,
         same_but b b' c (length b'.world.history) part starved seen doing k d.1
             ∙ ap (λ n. knows c part starved n doing) full,
       )
-  made_gains made.NoMemory calm d = made_without (calm refl) d.0
+  made_gains made.NoMemory d = made_without (direct_may b.world c call s t d.1).takes d.0
 
 module _ {E : Type 0} where
   pub direct_steps : (b b' : Book) (c : ℕ) (call : Call) (s : Step) (r : Result Made E) → IsDirect b.world c call s
@@ -187,13 +144,13 @@ module _ {E : Type 0} where
   pub direct_gains : (b b' : Book) (c seen limit : ℕ) (part : List Numbered) (starved : List Starved)
       (doing : Option Call) (call : Call) (s : Step) (r : Result Made E) → IsDirect b.world c call s
       → length b.world.history ≤ b.world.limit → b.world.limit ≡ limit → IsClient b c part seen doing
-      → (r ≡ Ok made.NoMemory → takes_memory call ≡ true) → IfOk r (λ a. Answers b s a b')
+      → IfOk r (λ a. Answers b s a b')
       → IfOk r (λ a. Gains limit call (knows c part starved seen doing) a
       (knows c (part_of b'.world c) (starved_if (starves_made r) starved (length b.world.history) (Some call))
       (seen_made r seen (length b'.world.history)) (doing_of b'.world c)))
-  direct_gains b b' c seen limit part starved doing call s (Ok a) t fits is k calm does =
-      made_gains E b b' c seen limit part starved doing call s t fits is k a (λ e. calm (ap Ok e)) does
-  direct_gains b b' c seen limit part starved doing call s (Err e) t fits is k calm does = tt
+  direct_gains b b' c seen limit part starved doing call s (Ok a) t fits is k does =
+      made_gains E b b' c seen limit part starved doing call s t fits is k a does
+  direct_gains b b' c seen limit part starved doing call s (Err e) t fits is k does = tt
 
   pub direct_still : (b b' : Book) (c seen : ℕ) (part : List Numbered) (starved : List Starved) (doing : Option Call)
       (call : Call) (r : Result Made E) → IsClient b c part seen doing → OnErr r (b' ≡ b)

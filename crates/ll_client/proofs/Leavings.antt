@@ -9,10 +9,10 @@ use Rattle.std.proofs.lemmas.Bool.{leb-true}
 use Rattle.ll_rights.specs.declared.errno.Errno.TheVariants.{HistoryFull}
 use Rattle.ll_rights.specs.Map.{get}
 use Rattle.ll_rights.proofs.Maps.{get-remove_other}
-use Rattle.ll_answer.specs.Lean.{spares_memory}
 use Rattle.ll_seq.specs.declared.call.Call.{Call}
 use Rattle.ll_seq.specs.declared.reply.Reply.{Reply}
 use Rattle.ll_seq.specs.declared.reply.Reply.TheVariants.{Refused}
+use Rattle.ll_seq.specs.Memory.{takes_memory}
 use Rattle.ll_worlds.specs.declared.step.Step.{Step}
 use Rattle.ll_worlds.specs.declared.step.Step.TheVariants as steps
 use Rattle.ll_worlds.specs.Walk.{Walk}
@@ -20,14 +20,16 @@ use Rattle.ll_worlds.specs.World as world
 use Rattle.ll_worlds.specs.World.{World, advance, is_full, restart, shown, without_walk, next_number}
 use Rattle.ll_worlds.specs.Sound.{IsSound}
 use Rattle.ll_worlds.proofs.Shapes.{restarted}
+use Rattle.ll_worlds.proofs.SoundSteps.{sound_ended}
 use Rattle.ll_journal.specs.Book.{Book}
 use Rattle.ll_journal.specs.Steps.{Does}
-use Rattle.ll_journal.specs.WalkEnds.{Ends, MayTakeMemory}
+use Rattle.ll_journal.specs.Starving.{Starves}
+use Rattle.ll_journal.specs.WalkEnds.{Ends}
 use Rattle.ll_journal.specs.declared.progress.Ending.{Ending}
 use Rattle.ll_journal.specs.declared.progress.Ending.TheVariants as ending
 use Rattle.ll_journal.specs.declared.progress.Progress as told
 use Rattle.ll_journal.specs.declared.progress.Progress.TheVariants as tells
-use Rattle.ll_journal.proofs.Ended.{gives_up}
+use Rattle.ll_journal.proofs.Starved.{starved_walk}
 use Rattle.ll_client.specs.declared.account.Numbered.{Numbered}
 use Rattle.ll_client.specs.declared.account.Starved.{Starved}
 use Rattle.ll_client.specs.declared.left.Leaving.{Leaving}
@@ -122,7 +124,7 @@ given_up b b' c walk h fits is e = record {
   });
   rules = ap (λ (v : World). v.rules) e;
   room = ap (λ (v : World). v.room) e;
-  sound = subst IsSound (sym e) (gives_up b.world c walk h is);
+  sound = subst IsSound (sym e) (sound_ended b.world c walk h is);
   within = subst (λ (v : World). length v.history ≤ v.limit) (sym e) fits;
   numbered = subst (λ (v : World). InOrder b.world → InOrder v) (sym e) (λ order. order);
 }
@@ -137,7 +139,8 @@ left_steps Commit b b' c (left.Answered reply) h fits d =
 left_steps Commit b b' c left.Again h fits d = absurd d
 left_steps Commit b b' c left.HistoryFull h fits d =
     stepped b b' (steps.Commit c) (world.Replied (Refused HistoryFull)) (λ n f. absurd (cc f)) h fits d
-left_steps Commit b b' c left.NoMemory h fits d = given_up b b' c d.0.walk h fits d.0.is d.1
+left_steps Commit b b' c left.NoMemory h fits d =
+    let ends = starved_walk b.world c d.0 in given_up b b' c ends.0 h fits ends.1 d.1
 left_steps Restart b b' c left.NotNow h fits d =
     stepped b b' (steps.Restart c) world.NotNow (λ n f. absurd (cc f)) h fits d
 left_steps Restart b b' c left.Astray h fits d = stood b b' c h fits d
@@ -200,11 +203,12 @@ room_grown w v s reply other room (inr (inr g)) =
 -- the walk's call is what its client does
 abbrev Thrifty : Book → ℕ → Option Call → Type 0
 Thrifty b c doing =
-    (call : Call) × (doing_of b.world c ≡ Some call) × (doing ≡ Some call) × (spares_memory call ≡ false)
+    (call : Call) × (doing_of b.world c ≡ Some call) × (doing ≡ Some call) × (takes_memory call ≡ true)
 
 thrifty : (b : Book) (c seen : ℕ) (part : List Numbered) (doing : Option Call) → IsClient b c part seen doing
-    → MayTakeMemory b.world c → Thrifty b c doing
-thrifty b c seen part doing k m = (m.0.call, ap call_in m.1, k.doing_is ∙ ap call_in m.1, m.2)
+    → Starves b.world (steps.Commit c) → Thrifty b c doing
+thrifty b c seen part doing k starves = let ends = starved_walk b.world c starves in
+    (ends.0.call, ap call_in ends.1, k.doing_is ∙ ap call_in ends.1, ends.2.takes)
 
 module _ (b b' : Book) (c seen limit : ℕ) (part : List Numbered) (starved : List Starved) (doing : Option Call)
     (fits : length b.world.history ≤ b.world.limit) (is : b.world.limit ≡ limit)
@@ -231,21 +235,20 @@ module _ (b b' : Book) (c seen limit : ℕ) (part : List Numbered) (starved : Li
             ((ap (λ (w : World). doing_of w c) gone ∙ none_doing b.world c) i),
       )
 
-  pub left_goes : (how : Leaving) (l : Left) → IsSound b.world → (l ≡ left.NoMemory → MayTakeMemory b.world c)
-      → Leaves how b c l b'
+  pub left_goes : (how : Leaving) (l : Left) → IsSound b.world → Leaves how b c l b'
       → Goes limit (knows c part starved seen doing) l
       (knows c (part_of b'.world c)
       (starved_if (starves_left l) starved (length b.world.history) (doing_of b.world c))
       (seen_of l seen (length b'.world.history)) (doing_of b'.world c))
-  left_goes Commit left.NotNow h calm d =
+  left_goes Commit left.NotNow h d =
       still (subst (Went b.world (steps.Commit c)) d (went b.world (steps.Commit c)))
-  left_goes Commit left.Astray h calm d = still (ap (λ (x : Book). x.world) d)
-  left_goes Commit (left.Answered reply) h calm d =
+  left_goes Commit left.Astray h d = still (ap (λ (x : Book). x.world) d)
+  left_goes Commit (left.Answered reply) h d =
       let g = room_grown b.world b'.world (steps.Commit c) reply (λ e. cc e) d.0
       (subst (Went b.world (steps.Commit c)) d.1 (went b.world (steps.Commit c))) in
       (g.0, k.doing_is ∙ g.1, told_one b b' c seen part starved doing g.0 reply k g.2 g.3)
-  left_goes Commit left.Again h calm d = absurd d
-  left_goes Commit left.HistoryFull h calm d =
+  left_goes Commit left.Again h d = absurd d
+  left_goes Commit left.HistoryFull h d =
       let g = full_grown b.world b'.world (steps.Commit c) (λ e. cc e)
       (subst (Went b.world (steps.Commit c)) d (went b.world (steps.Commit c))) in
       let full = full_is b.world b'.world c limit None g.0 fits is g.1 in (
@@ -253,16 +256,16 @@ module _ (b b' : Book) (c seen limit : ℕ) (part : List Numbered) (starved : Li
         λ i. knows c ((ap (part_from 0 c) (g.1.came ∙ append-nil b.world.history) ∙ sym k.part_is) i) starved (full i)
             (g.1.mine i),
       )
-  left_goes Commit left.NoMemory h calm d = without d.1 (thrifty b c seen part doing k (calm refl))
-  left_goes Restart left.NotNow h calm d =
+  left_goes Commit left.NoMemory h d = without d.1 (thrifty b c seen part doing k d.0)
+  left_goes Restart left.NotNow h d =
       still (subst (Went b.world (steps.Restart c)) d (went b.world (steps.Restart c)))
-  left_goes Restart left.Astray h calm d = still (ap (λ (x : Book). x.world) d)
-  left_goes Restart (left.Answered reply) h calm d = absurd d
-  left_goes Restart left.Again h calm d =
+  left_goes Restart left.Astray h d = still (ap (λ (x : Book). x.world) d)
+  left_goes Restart (left.Answered reply) h d = absurd d
+  left_goes Restart left.Again h d =
       knows_same b b' c seen part starved doing (does_goes b b' (steps.Restart c) tells.Restarted h fits refl d)
       k.part_is k.doing_is
-  left_goes Restart left.HistoryFull h calm d = absurd d
-  left_goes Restart left.NoMemory h calm d = absurd d
+  left_goes Restart left.HistoryFull h d = absurd d
+  left_goes Restart left.NoMemory h d = absurd d
 
 -- what it knows of is there
 pub seen_low : (l : Left) (seen before after : ℕ) → seen ≤ before → before ≤ after → seen_of l seen after ≤ after

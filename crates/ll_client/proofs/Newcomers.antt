@@ -505,7 +505,7 @@ module _ (slots limit : ℕ) (rules : Rules) (b b' : Book) (c : ℕ) (m n : Map 
       (starved_if (starves_made r) starved (length b.world.history) (Some calls.Spawn))
       (seen_made r seen (length b'.world.history)) (doing_of b'.world c)))
       (direct_gains b b' c seen limit part starved doing calls.Spawn (ClientStep c calls.Spawn) r direct s.desk.within
-      s.desk.limit_is k (λ e. refl) s.does)
+      s.desk.limit_is k s.does)
 
   -- why there is no child
   pub spawn_errors : IfErr told HasNoPlace

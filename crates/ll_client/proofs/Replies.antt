@@ -16,6 +16,7 @@ use Rattle.ll_seq.specs.Step.{step, first_or, refusals, client_of}
 use Rattle.ll_seq.proofs.Settled.{Settles, step-settles}
 use Rattle.ll_laws.proofs.Gain.{done_of}
 use Rattle.ll_journal.specs.Starving.{is_refusal}
+use Rattle.ll_journal.proofs.Granted.{AreRefusals, stages}
 use Rattle.ll_client.specs.Replies.{Fits, success}
 
 -- what is done is what succeeds
@@ -43,28 +44,6 @@ done_fits s number c (Confine rs) fresh = refl
 done_fits s number c Spawn fresh = refl
 done_fits s number c Connect fresh = refl
 
-abbrev AreRefusals : List Reply → Type 0
-AreRefusals rs = AllByRecursion (λ r. is_refusal r ≡ true) rs
-
-together : (rs qs : List Reply) → AreRefusals rs → AreRefusals qs → AreRefusals (rs ++ qs)
-together [] qs h k = k
-together (r ∷ rs) qs h k = (h.0, together rs qs h.1 k)
-
-refused : (errs : List Errno) → AreRefusals (map replies.Refused errs)
-refused [] = tt
-refused (e ∷ errs) = (refl, refused errs)
-
-denied : (ds : List Denial) → AreRefusals (map replies.Denied ds)
-denied [] = tt
-denied (d ∷ ds) = (refl, denied ds)
-
-stages : (t n r w e : List Errno) (d : List Denial) (k l : List Errno)
-    → AreRefusals (map replies.Refused t ++ map replies.Refused n ++ map replies.Refused r ++ map replies.Refused w
-    ++ map replies.Refused e ++ map replies.Denied d ++ map replies.Refused k ++ map replies.Refused l)
-stages t n r w e d k l =
-    together _ _ (together _ _ (together _ _ (together _ _ (together _ _ (together _ _ (together _ _ (refused t)
-    (refused n)) (refused r)) (refused w)) (refused e)) (denied d)) (refused k)) (refused l)
-
 -- a refusal that the step gives, or what it does
 settled : (succeeds : Reply → Bool) (r : Reply) → is_refusal r ≡ true → Settles r → Fits succeeds r
 settled succeeds (replies.Refused errno) is h = h
@@ -82,18 +61,6 @@ first_fits : (succeeds : Reply → Bool) (s : State) (rs : List Reply) (o : Repl
     → Settles (first_or s rs o).0 → Fits succeeds o.0 → Fits succeeds (first_or s rs o).0
 first_fits succeeds s [] o are h done = done
 first_fits succeeds s (r ∷ rs) o are h done = settled succeeds r are.0 h
-
--- no refusal comes first, so there is none
-granted : (s : State) (rs : List Reply) (o : Reply × State) → AreRefusals rs → is_refusal (first_or s rs o).0 ≡ false
-    → rs ≡ []
-granted s [] o are e = refl
-granted s (r ∷ rs) o are e = absurd (cc (sym are.0 ∙ e))
-
-pub none_refuses : (s : State) (number : ℕ) (call : Call) (fresh : ℕ)
-    → is_refusal (step s number call fresh).0 ≡ false → refusals s (client_of s number) call ≡ []
-none_refuses s number call fresh e =
-    granted s (refusals s (client_of s number) call) (done_of s number (client_of s number) call fresh)
-    (stages _ _ _ _ _ _ _ _) e
 
 pub step_fits : (s : State) (number : ℕ) (call : Call) (fresh : ℕ) → Fits (success call) (step s number call fresh).0
 step_fits s number call fresh =

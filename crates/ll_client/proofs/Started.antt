@@ -10,7 +10,6 @@ use Rattle.ll_journal.specs.Book.{Book}
 use Rattle.ll_journal.specs.Starts.{Starts}
 use Rattle.ll_journal.specs.declared.start.Start.{Start}
 use Rattle.ll_journal.specs.declared.start.Start.TheVariants as start
-use Rattle.ll_journal.specs.declared.direct.Made.TheVariants as made
 use Rattle.ll_client.specs.declared.account.Numbered.{Numbered}
 use Rattle.ll_client.specs.declared.account.Starved.{Starved}
 use Rattle.ll_client.specs.Coming.{SetsOut}
@@ -18,8 +17,7 @@ use Rattle.ll_client.specs.Entries.{doing_of, knows, part_of}
 use Rattle.ll_client.specs.Hands.{seen_started, starved_if, starves_started}
 use Rattle.ll_client.proofs.Accounts.{IsClient}
 use Rattle.ll_client.proofs.Desks.{Steps, begin_mine, stepped, stood}
-use Rattle.ll_client.proofs.Directs.{IsDirect, alone_takes, begun_path, made_gains, made_steps, same_but}
-use Rattle.ll_journal.specs.Direct.{TakesMemory}
+use Rattle.ll_client.proofs.Directs.{IsDirect, begun_path, made_gains, made_steps, same_but}
 
 alone : (w : World) (c : ℕ) (call : Call) → IsDirect w c call (ClientStep c call)
 alone w c call = record { mine = refl; asks = refl; idle = refl; other = λ e. cc e }
@@ -35,16 +33,16 @@ started_steps b b' c call (start.Back back) h fits d = stood b b' c h fits d.1
 pub started_goes : (b b' : Book) (c seen limit : ℕ) (part : List Numbered) (starved : List Starved)
     (doing : Option Call) (call : Call) (r : Start) → length b.world.history ≤ b.world.limit → b.world.limit ≡ limit
     → IsClient b c part seen doing
-    → (r ≡ start.Made made.NoMemory → TakesMemory call) → Starts b c call r b'
+    → Starts b c call r b'
     → SetsOut limit call (knows c part starved seen doing) r
     (knows c (part_of b'.world c) (starved_if (starves_started r) starved (length b.world.history) (Some call))
     (seen_started r seen (length b'.world.history)) (doing_of b'.world c))
-started_goes b b' c seen limit part starved doing call (start.Made a) fits is k calm d =
+started_goes b b' c seen limit part starved doing call (start.Made a) fits is k d =
     made_gains Call b b' c seen limit part starved doing call (ClientStep c call) (alone b.world c call) fits is k a
-    (λ e. alone_takes call (calm (ap start.Made e))) d
-started_goes b b' c seen limit part starved doing call start.Begun fits is k calm d =
+    d
+started_goes b b' c seen limit part starved doing call start.Begun fits is k d =
     (begun_path b.world b'.world c call d.1, begin_mine b b' c seen part starved doing call (Ok tt) k.part_is d.1)
-started_goes b b' c seen limit part starved doing call (start.Back back) fits is k calm d =
+started_goes b b' c seen limit part starved doing call (start.Back back) fits is k d =
     same_but b b' c seen part starved seen doing k d.1
 
 -- what it knows of is there

@@ -6,23 +6,20 @@ use Rattle.std.proofs.Common.{sym, subst, ap, ◌∙◌, inl, inr, arith}
 use Rattle.std.proofs.lemmas.Bool.{leb-false}
 use Rattle.std.proofs.lemmas.List.{take_all}
 use Rattle.ll_rights.specs.Map.{Map, get, insert, remove}
-use Rattle.ll_laws.proofs.Chains.{same_Some}
 use Rattle.ll_seq.specs.declared.call.Call.{Call}
 use Rattle.ll_seq.specs.declared.reply.Entry.{Entry}
-use Rattle.ll_seq.specs.declared.reply.Reply.{Reply}
 use Rattle.ll_seq.specs.History.{state_after}
+use Rattle.ll_seq.specs.Memory.{MayStarve}
 use Rattle.ll_seq.specs.State.{start}
-use Rattle.ll_seq.specs.Step.{client_of, refusals}
 use Rattle.ll_worlds.specs.declared.step.Step.{Step}
 use Rattle.ll_worlds.specs.declared.step.Step.TheVariants as steps
 use Rattle.ll_worlds.specs.Walk.{Walk}
-use Rattle.ll_worlds.specs.World as world
-use Rattle.ll_worlds.specs.World.{World, is_full, next_number, reply_to, shown}
-use Rattle.ll_worlds.proofs.StepGrowth.{Went, asked, client_in, went}
+use Rattle.ll_worlds.specs.World.{World, is_full, shown}
 use Rattle.ll_journal.specs.Book.{Book}
 use Rattle.ll_journal.specs.Direct.{Answers}
 use Rattle.ll_journal.specs.Starts.{Starts}
-use Rattle.ll_journal.specs.Starving.{StarvesAtEnd, is_refusal}
+use Rattle.ll_journal.specs.Starving.{Starves}
+use Rattle.ll_journal.proofs.Starved.{starved_walk}
 use Rattle.ll_journal.specs.declared.direct.Made.{Made}
 use Rattle.ll_journal.specs.declared.direct.Made.TheVariants as made
 use Rattle.ll_journal.specs.declared.start.Start.{Start}
@@ -38,27 +35,16 @@ use Rattle.ll_client.specs.Entries.{AreAccounts, AreStarved, IsStarved, doing_of
 use Rattle.ll_client.specs.Gains.{Leaves}
 use Rattle.ll_client.specs.Hands.{OnlyWants, starved_if, starves_left, starves_made, starves_started, with_starved}
 use Rattle.ll_client.proofs.Accounts.{Took, gave, gave_other, one_more, only_wants, took, wants_account}
-use Rattle.ll_client.proofs.Directs.{IsDirect}
-use Rattle.ll_client.proofs.Replies.{none_refuses}
+use Rattle.ll_client.proofs.Directs.{IsDirect, direct_may}
 
-starves_now : (w : World) (c : ℕ) (call : Call) → is_full w ≡ false → is_refusal (reply_to w c call) ≡ false
+starves_now : (w : World) (c : ℕ) (call : Call) → is_full w ≡ false → MayStarve (shown w) c call
     → IsStarved w.rules w.room w.limit w.history c (starved_at (length w.history) call)
-starves_now w c call room granted = (
+starves_now w c call room may = (
   omega arith,
   leb-false w.limit (length w.history) room,
-  subst (λ (es : List Entry). refusals (state_after (start w.rules w.room) es)
-      (client_of (state_after (start w.rules w.room) es) c) call ≡ [])
-      (sym (take_all (length w.history) w.history (omega arith)))
-      (none_refuses (shown w) c call (next_number w) granted),
+  subst (λ (es : List Entry). MayStarve (state_after (start w.rules w.room) es) c call)
+      (sym (take_all (length w.history) w.history (omega arith))) may,
 )
-
--- the call has a reply where there is room
-room_reply : (w v : World) (s : Step) (reply : Reply) → s ≢ steps.Join → is_full w ≡ false
-    → Went w s (world.Replied reply, v)
-    → (call : Call) × (asked w s ≡ Some call) × (reply ≡ reply_to w (client_in w s) call)
-room_reply w v s reply other room (inl g) = absurd (cc (sym g.0 ∙ room))
-room_reply w v s reply other room (inr (inl g)) = absurd (other g.0)
-room_reply w v s reply other room (inr (inr g)) = (g.1, g.2, g.3)
 
 -- the calls for which memory ran out, and this one
 abbrev pub GoOn : World → ℕ → List Starved → Option Call → Type 0
@@ -68,13 +54,8 @@ GoOn w c starved call =
 direct_starves : (b b' : Book) (c : ℕ) (call : Call) (s : Step) (starved : List Starved) → IsDirect b.world c call s
     → Answers b s made.NoMemory b' → GoOn b.world c starved (Some call)
 direct_starves b b' c call s starved t d are =
-    let st = d.1 in
-    let g = room_reply b.world st.after s st.reply t.other st.room
-    (subst (Went b.world s) st.replied (went b.world s)) in
-    let same : g.0 ≡ call = same_Some g.0 call (sym g.1 ∙ t.asks) in
-    let told : reply_to b.world c call ≡ st.reply = sym (g.2 ∙ (λ i. reply_to b.world (t.mine i) (same i))) in
     one_more (IsStarved b.world.rules b.world.room b.world.limit b.world.history c) starved _ are
-    (starves_now b.world c call st.room (ap is_refusal told ∙ st.granted))
+    (starves_now b.world c call d.1.room (direct_may b.world c call s t d.1))
 
 made_starves : (b b' : Book) (c : ℕ) (call : Call) (s : Step) (starved : List Starved) (a : Made)
     → IsDirect b.world c call s → Answers b s a b' → (E : Type 0) → starves_made {E = E} (Ok a) ≡ true
@@ -97,14 +78,15 @@ start_starves b b' c call starved (start_of.Made a) d ran =
 start_starves b b' c call starved start_of.Begun d ran = absurd (cc ran)
 start_starves b b' c call starved (start_of.Back back) d ran = absurd (cc ran)
 
-end_starves : (b : Book) (c : ℕ) (starved : List Starved) → StarvesAtEnd b.world c
+end_starves : (b : Book) (c : ℕ) (starved : List Starved) → Starves b.world (steps.Commit c)
     → GoOn b.world c starved (doing_of b.world c)
 end_starves b c starved s are =
-    let doing : doing_of b.world c ≡ Some s.walk.call = ap (option_map (λ (walk : Walk). walk.call)) s.is in
+    let ends = starved_walk b.world c s in
+    let doing : doing_of b.world c ≡ Some ends.0.call = ap (option_map (λ (walk : Walk). walk.call)) ends.1 in
     subst (λ (call : Option Call). AreStarved b.world c (with_starved starved (length b.world.history) call))
     (sym doing)
     (one_more (IsStarved b.world.rules b.world.room b.world.limit b.world.history c) starved _ are
-    (starves_now b.world c s.walk.call s.room s.granted))
+    (starves_now b.world c ends.0.call s.room ends.2))
 
 pub left_starves : (how : Leaving) (b b' : Book) (c : ℕ) (starved : List Starved) (l : Left) → Leaves how b c l b'
     → starves_left l ≡ true → GoOn b.world c starved (doing_of b.world c)

@@ -12,8 +12,8 @@ use Rattle.ll_seq.specs.contracts.call.Call as call
 use Rattle.ll_seq.specs.declared.reply.Entry.{Entry}
 use Rattle.ll_seq.specs.declared.reply.Reply.{Reply}
 use Rattle.ll_seq.specs.History.{state_after}
+use Rattle.ll_seq.specs.Memory.{MayStarve}
 use Rattle.ll_seq.specs.State.{start}
-use Rattle.ll_seq.specs.Step.{client_of, refusals}
 use Rattle.ll_held.specs.declared.held.Held.{Held}
 use Rattle.ll_held.specs.contracts.held.Held as held
 use Rattle.ll_worlds.specs.Walk.{Walk}
@@ -49,11 +49,11 @@ abbrev pub starved_at : ℕ → Call → Starved
 starved_at at call = record { at = at; call = call }
 
 -- Memory ran out for this call of the client, when the history had so many entries: there was room for one more, and
--- nothing refused the call
+-- it is a call to which that may happen
 abbrev pub IsStarved : Rules → (room limit : ℕ) → List Entry → ℕ → Starved → Type 0
 IsStarved rules room limit history client x =
     let s = state_after (start rules room) (take x.at history) in
-    (x.at ≤ length history) × (x.at < limit) × (refusals s (client_of s client) x.call ≡ [])
+    (x.at ≤ length history) × (x.at < limit) × MayStarve s client x.call
 
 abbrev pub AreStarved : World → ℕ → List Starved → Type 0
 AreStarved w client starved = AllByRecursion (IsStarved w.rules w.room w.limit w.history client) starved

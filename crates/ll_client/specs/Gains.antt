@@ -1,9 +1,8 @@
 -- What becomes of a client by a step, and what a walk's end is. own
-use Rattle.std.specs.Prelude.{◌≡◌, ℕ, ◌<◌, ◌≤◌, List, [], ◌∷◌, ◌++◌, Some, None, true, false}
+use Rattle.std.specs.Prelude.{◌≡◌, ℕ, ◌<◌, ◌≤◌, List, [], ◌∷◌, ◌++◌, Some, None, true}
 use Rattle.ll_seq.specs.declared.call.Call.{Call}
 use Rattle.ll_seq.specs.declared.reply.Reply.{Reply}
 use Rattle.ll_seq.specs.Memory.{takes_memory}
-use Rattle.ll_answer.specs.Lean.{spares_memory}
 use Rattle.ll_worlds.specs.World as world
 use Rattle.ll_worlds.specs.World.{advance}
 use Rattle.ll_worlds.specs.declared.step.Step.TheVariants as steps
@@ -43,7 +42,7 @@ Goes limit k (left.Answered reply) k' = (call : Call) × (k.doing ≡ Some call)
 Goes limit k left.Again k' = k' ≡ k
 Goes limit k left.HistoryFull k' = (k.seen ≤ limit) × (k' ≡ record k { seen = limit; doing = None })
 Goes limit k left.NoMemory k' =
-    (call : Call) × (k.doing ≡ Some call) × (spares_memory call ≡ false) × (k.seen ≤ k'.seen)
+    (call : Call) × (k.doing ≡ Some call) × (takes_memory call ≡ true) × (k.seen ≤ k'.seen)
     × (k' ≡ record k { starved = k.starved ++ starved_at k'.seen call ∷ []; seen = k'.seen; doing = None })
 
 -- the step, and the world after: a commit ends as the journal says, and a restart is above the root again

@@ -7,8 +7,7 @@ use Rattle.ll_rights.specs.Map.{get}
 use Rattle.ll_rights.specs.Access.{holds}
 use Rattle.ll_rules.specs.Layer.{Layer, grants_on}
 use Rattle.ll_rules.proofs.Grants.{grants_on-none, grants_on-push}
-use Rattle.ll_decide.specs.declared.masks.Mask.{Mask}
-use Rattle.ll_decide.specs.Masks.{IsMask, AreMasks, numbers_of}
+use Rattle.ll_decide.specs.Masks.{IsMask, AreMasks}
 use Rattle.ll_decide.proofs.Bits.{holds-and, holds-or, holds-not, holds_all, holds_refer}
 
 and-true : (b : Bool) → (b && true) ≡ b
@@ -48,12 +47,12 @@ next_mask layer inode mask rule is inodes before = record {
 }
 
 -- each mask with the rule of its layer
-pub next_masks : (olds news : List Mask) (layers : List Layer) (inode : ℕ) → length news ≡ length olds
+pub next_masks : (olds news : List ℕ) (layers : List Layer) (inode : ℕ) → length news ≡ length olds
     → length olds ≡ length layers
-    → ((k : ℕ) (d : Mask) (e : Layer) → k < length olds
-    → IsNext (get_or layers k e) inode (get_or olds k d).rights.0 (get_or news k d).rights.0)
-    → (inodes : List ℕ) → AreMasks (numbers_of olds) layers inodes
-    → AreMasks (numbers_of news) layers (inodes ++ inode ∷ [])
+    → ((k : ℕ) (d : ℕ) (e : Layer) → k < length olds
+    → IsNext (get_or layers k e) inode (get_or olds k d) (get_or news k d))
+    → (inodes : List ℕ) → AreMasks olds layers inodes
+    → AreMasks news layers (inodes ++ inode ∷ [])
 next_masks [] [] [] inode same long steps inodes before = tt
 next_masks (old ∷ olds) (new ∷ news) (layer ∷ layers) inode same long steps inodes before = (
   steps 0 old layer (omega arith) inodes before.0,

@@ -97,6 +97,33 @@ module _ (cause : Cause) where
       → ((right : ℕ) (place : Place) → test right place ≡ false) → slice_get (of_layer cause layer test rights) 0 ≡ None
   none_in_layer layer test rights empty = ap (λ (l : List _). slice_get l 0) (nothing layer test rights empty)
 
+  -- no layer denies anything
+  pub none_denied : {A : Type 0} (layers : List A) (rights : List ℕ) (test : A → ℕ → Place → Bool)
+      → ((layer : A) (right : ℕ) (place : Place) → test layer right place ≡ false)
+      → slice_get (denials cause layers rights places test) 0 ≡ None
+  none_denied {A} layers rights test empty = ap (λ (l : List _). slice_get l 0) (from layers 1)
+    where
+      from : (xs : List A) (k : ℕ)
+          → flat_map (λ (l : ℕ × A). of_layer cause l.0 (test l.1) rights) (enumerate_from k xs) ≡ []
+      from [] k = refl
+      from (x ∷ xs) k =
+          ap (λ ds. ds ++ flat_map (λ (l : ℕ × A). of_layer cause l.0 (test l.1) rights) (enumerate_from (k + 1) xs))
+          (nothing k (test x) rights (empty x)) ∙ from xs (k + 1)
+
+  -- of this right
+  pub none_denied_of : {A : Type 0} (layers : List A) (right : ℕ) (test : A → ℕ → Place → Bool)
+      → ((layer : A) (place : Place) → test layer right place ≡ false)
+      → slice_get (denials cause layers (right ∷ []) places test) 0 ≡ None
+  none_denied_of {A} layers right test empty = ap (λ (l : List _). slice_get l 0) (from layers 1)
+    where
+      from : (xs : List A) (k : ℕ)
+          → flat_map (λ (l : ℕ × A). of_layer cause l.0 (test l.1) (right ∷ [])) (enumerate_from k xs) ≡ []
+      from [] k = refl
+      from (x ∷ xs) k =
+          ap (λ ds. (ds ++ [])
+          ++ flat_map (λ (l : ℕ × A). of_layer cause l.0 (test l.1) (right ∷ [])) (enumerate_from (k + 1) xs))
+          (right-same k (test x) (λ right place. false) right (empty x)) ∙ from xs (k + 1)
+
   tests-same : {A : Type 0} (layers : List A) (rights : List ℕ) (f g : A → ℕ → Place → Bool)
       → AllByRecursion (λ right. right < 15) rights
       → ((layer : A) (right : ℕ) (place : Place) → right < 15 → f layer right place ≡ g layer right place)

@@ -1,8 +1,9 @@
 //! The least denial of a call, by sets of rights.
 
-ghost use Rattle.std.specs.Prelude.{◌≡◌, ◌<◌, ℕ, ◌&&◌, not, true, false, List, length, slice_get, slice_index};
+ghost use Rattle.std.specs.Prelude.{◌≡◌, ◌<◌, ℕ, ◌&&◌, not, true, false, List, [], ◌∷◌, length, slice_get, slice_index};
 ghost use Rattle.std.specs.List.{AllByRecursion, range_with_len};
 ghost use Rattle.ll_rights.specs.Access.{holds};
+ghost use Rattle.ll_rights.specs.Right.{refer};
 ghost use Rattle.ll_rules.specs.Layer.{Layer};
 ghost use Rattle.ll_decide.specs.Demands.{AreAsks, AreMoves, lacking, gaining};
 ghost use Rattle.ll_decide.specs.Judge.{AreGranted, grants_along, grants_by};
@@ -10,6 +11,7 @@ ghost use Rattle.ll_decide.specs.Search.{is_in, fails, of_right, of_layer, of_al
 ghost use Rattle.ll_decide.specs.Verdict.{Ask, Move, verdict};
 ghost use Rattle.ll_decide.specs.declared.demands.On as asked_on;
 ghost use Rattle.ll_decide.specs.declared.denial.Place as told_at;
+ghost use Rattle.ll_decide.specs.declared.judge.Granted as granted_of;
 
 use crate::demands::Demands;
 use crate::denial::{Cause, Denial, Place};
@@ -147,6 +149,35 @@ fn had(rights: Access, masks: &Masks, layer: usize) -> Access
     Access(rights.0 & granted.0)
 }
 
+/// Whether no layer can deny anything for this reason: nothing is asked, or nothing moves.
+fn demands_nothing(demands: &Demands, reason: Reason) -> bool
+    ensures { result ≡ true → (g : granted_of.Granted) (layer right : ℕ) (place : told_at.Place)
+        → fails g demands.now reason layer right place ≡ false }
+{
+    match reason {
+        Reason::Lacks => {
+            demands.itself.0 == 0
+                && demands.other.0 == 0
+                && demands.parent.0 == 0
+                && demands.left.0 == 0
+                && demands.entered.0 == 0
+        }
+        Reason::Gains => demands.there.0 == 0 && demands.back.0 == 0,
+    }
+}
+
+/// Whether refer is asked of anything.
+fn asks_refer(demands: &Demands) -> bool
+    ensures { result ≡ false → (g : granted_of.Granted) (layer : ℕ) (place : told_at.Place)
+        → fails g demands.now Reason.Lacks layer refer place ≡ false }
+{
+    demands.itself.holds(Right::REFER)
+        || demands.other.holds(Right::REFER)
+        || demands.parent.holds(Right::REFER)
+        || demands.left.holds(Right::REFER)
+        || demands.entered.holds(Right::REFER)
+}
+
 impl Granted<'_> {
     fn lacks(&self, demands: &Demands, layer: usize) -> Denied
         requires itself { layer < length self.now.itself.now }
@@ -213,6 +244,9 @@ impl Granted<'_> {
         requires known { AllByRecursion (λ right. right < 15) rights.now }
         ensures { result ≡ slice_get (of_all self.now demands.now reason cause rights.now) 0 }
     {
+        if demands_nothing(demands, reason) {
+            return None;
+        }
         for layer in 0..self.itself.len() {
             let denied = self.denied(demands, reason, layer);
             if let Some(denial) = denied.first(cause, layer as u64 + 1, rights) {
@@ -222,16 +256,32 @@ impl Granted<'_> {
         None
     }
 
+    /// The oldest layer's missing refer.
+    fn first_refer(&self, demands: &Demands) -> Option<Denial>
+        requires other { length self.now.other.now ≡ length self.now.itself.now }
+        requires parent { length self.now.parent.now ≡ length self.now.itself.now }
+        requires entered { length self.now.entered.now ≡ length self.now.itself.now }
+        ensures { result ≡ slice_get (of_all self.now demands.now Reason.Lacks Cause.EXDEV (refer ∷ [])) 0 }
+    {
+        if !asks_refer(demands) {
+            return None;
+        }
+        self.first(demands, Reason::Lacks, Cause::EXDEV, &[Right::REFER])
+    }
+
     fn least(&self, demands: &Demands) -> Option<Denial>
         requires other { length self.now.other.now ≡ length self.now.itself.now }
         requires parent { length self.now.parent.now ≡ length self.now.itself.now }
         requires entered { length self.now.entered.now ≡ length self.now.itself.now }
         ensures { result ≡ by_masks self.now demands.now }
     {
+        if self.itself.len() == 0 {
+            return None;
+        }
         if let Some(denial) = self.first(demands, Reason::Lacks, Cause::EACCES, &BUT_REFER) {
             return Some(denial);
         }
-        if let Some(denial) = self.first(demands, Reason::Lacks, Cause::EXDEV, &[Right::REFER]) {
+        if let Some(denial) = self.first_refer(demands) {
             return Some(denial);
         }
         self.first(demands, Reason::Gains, Cause::EXDEV, &Right::ALL)

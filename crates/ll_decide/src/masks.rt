@@ -1,7 +1,7 @@
 //! Masks: one set of rights for each layer, carried down a path.
 
-ghost use Rattle.std.specs.Prelude.{◌≡◌, ℕ, ◌<◌, List, [], ◌∷◌, ◌++◌, length, slice_get, Some};
-ghost use Rattle.ll_decide.specs.Masks.{IsMask, AreMasks, numbers_of};
+ghost use Rattle.std.specs.Prelude.{◌≡◌, ℕ, ◌<◌, ◌^◌, List, [], ◌∷◌, ◌++◌, length, slice_get, Some};
+ghost use Rattle.ll_decide.specs.Masks.{IsMask, AreMasks};
 
 use ll_rights::Access;
 use ll_rights::limits::DOMAIN_LAYERS;
@@ -14,21 +14,20 @@ use std::marker::Model;
 /// inodes. Contracts see the sets as numbers. It takes no memory.
 #[derive(Drop)]
 pub struct Masks {
-    masks: SmallVec<Mask, DOMAIN_LAYERS>,
+    // A known right has a number below 16.
+    sets: SmallVec<u16, DOMAIN_LAYERS>,
 }
 
 impl Model for Masks {
     ghost use Rattle.std.specs.Prelude.{◌≡◌, ℕ, ◌≤◌, List, length};
+    ghost use Rattle.ll_rights.specs.declared.limits.TheConstants.{DOMAIN_LAYERS};
 
     ghost Value = { List ℕ };
 
-    ghost use Rattle.ll_decide.specs.Masks.{numbers_of};
-    ghost use Rattle.ll_rights.specs.declared.limits.TheConstants.{DOMAIN_LAYERS};
-
-    ghost view = { λ all. numbers_of all.masks.items };
+    ghost view = { λ masks. masks.sets.items };
 
     // All stand in the inline places.
-    ghost invariant = { λ all. (length all.masks.items ≤ DOMAIN_LAYERS) × (all.masks.capacity ≡ DOMAIN_LAYERS) };
+    ghost invariant = { λ masks. (length masks.sets.items ≤ DOMAIN_LAYERS) × (masks.sets.capacity ≡ DOMAIN_LAYERS) };
 }
 
 const ROOT: u64 = 1;
@@ -47,16 +46,17 @@ impl Masks {
         ensures { result ≡ [] }
     {
         Masks {
-            masks: SmallVec::new(alloc),
+            sets: SmallVec::new(alloc),
         }
     }
 
-    /// What the next newer layer grants.
-    pub fn push(&mut self, rights: Access)
-        requires { length self.old < DOMAIN_LAYERS }
+    // what the next newer layer grants
+    fn push(&mut self, rights: Access)
+        requires few { length self.old < DOMAIN_LAYERS }
+        requires known { rights.0 < 2 ^ 15 }
         ensures { self.new ≡ self.old ++ rights.0 ∷ [] }
     {
-        self.masks.push_reserved(Mask { rights });
+        self.sets.push_reserved(rights.0 as u16);
     }
 
     /// The masks over the chain of the root alone, which is inode 1.
@@ -89,25 +89,25 @@ impl Masks {
             → AreMasks self.new domain.now (inodes ++ inode ∷ []) }
         ensures len { length self.new ≡ length self.old }
     {
-        add_rules(self.masks.as_mut_slice(), domain.layers(), inode);
+        add_rules(self.sets.as_mut_slice(), domain.layers(), inode);
     }
 
     /// The same masks again.
     pub fn copy(&self) -> Masks
         ensures { result ≡ self.now }
     {
-        let alloc = *self.masks.allocator();
-        let Ok(masks) = SmallVec::from_slice(alloc, self.masks.as_slice()) else {
+        let alloc = *self.sets.allocator();
+        let Ok(sets) = SmallVec::from_slice(alloc, self.sets.as_slice()) else {
             unreachable!()
         };
-        Masks { masks }
+        Masks { sets }
     }
 
     /// How many layers there are.
     pub fn len(&self) -> usize
         ensures { result ≡ length self.now }
     {
-        self.masks.len()
+        self.sets.len()
     }
 
     /// What a layer grants; the oldest is 0.
@@ -115,46 +115,26 @@ impl Masks {
         requires { number < length self.now }
         ensures { slice_get self.now number ≡ Some result.0 }
     {
-        self.masks.as_slice()[number].rights
+        Access(self.sets.as_slice()[number] as u64)
     }
 }
 
-/// What one layer grants.
-#[derive(Clone, Copy)]
-struct Mask {
-    rights: Access,
-}
-
-impl Default for Mask {
-    // stands in the places that no layer takes
-    fn default() -> Mask
-        ensures { result.rights.0 ≡ 0 }
-    {
-        Mask { rights: Access(0) }
-    }
-}
-
-impl Mask {
-    // over the chain with one inode more
-    fn with_rule(self, layer: &Layer, inode: u64) -> Mask
-        ensures { (inodes : List ℕ) → IsMask self.rights.0 layer.now inodes
-            → IsMask result.rights.0 layer.now (inodes ++ inode ∷ []) }
-    {
-        let granted = Access(layer.rule(inode).0 & Access::ALL.0);
-        Mask {
-            rights: self.rights.with(granted),
-        }
-    }
+// the mask over the chain with one inode more
+fn with_rule(mask: u16, layer: &Layer, inode: u64) -> u16
+    ensures { (inodes : List ℕ) → IsMask mask layer.now inodes → IsMask result layer.now (inodes ++ inode ∷ []) }
+{
+    let granted = layer.rule(inode).0 & Access::ALL.0;
+    mask | granted as u16
 }
 
 // each mask over the chain with one inode more
-fn add_rules(masks: &mut [Mask], layers: &[Layer], inode: u64)
+fn add_rules(masks: &mut [u16], layers: &[Layer], inode: u64)
     requires { length masks.old ≡ length layers.now }
-    ensures masks { (inodes : List ℕ) → AreMasks (numbers_of masks.old) layers.now inodes
-        → AreMasks (numbers_of masks.new) layers.now (inodes ++ inode ∷ []) }
+    ensures masks { (inodes : List ℕ) → AreMasks masks.old layers.now inodes
+        → AreMasks masks.new layers.now (inodes ++ inode ∷ []) }
     ensures len { length masks.new ≡ length masks.old }
 {
     for (i, mask) in masks.iter_mut().enumerate() {
-        *mask = mask.with_rule(&layers[i], inode);
+        *mask = with_rule(*mask, &layers[i], inode);
     }
 }

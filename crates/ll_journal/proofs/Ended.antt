@@ -1,26 +1,24 @@
 -- What a commit does to the walk that ends.
-use Rattle.std.specs.Prelude.{◌≡◌, ◌≢◌, ℕ, zero, suc, Bool, true, false, ◌||◌, ◌==◌, List, [], Option, Some, None}
+use Rattle.std.specs.Prelude.{◌≡◌, ◌≢◌, ℕ, zero, suc, Bool, true, false, ◌==◌, List, Option, Some, None}
 use Rattle.std.specs.Prelude.{option_map, option_and_then, slice_get, slice_set, refl}
 use Rattle.std.specs.Ordering.{nat_cmp}
 use Rattle.std.specs.Cmp.{nat_cmp_total}
 use Rattle.std.specs.FinMap.{nat_cmp-IsAntisymmetric}
-use Rattle.std.proofs.Common.{sym, subst, ap, ◌∙◌}
+use Rattle.std.proofs.Common.{sym, ap, ◌∙◌}
 use Rattle.std.proofs.lemmas.Bool.{eqb-true, eq-eqb}
 use Rattle.ll_rights.specs.declared.errno.Errno.TheVariants.{HistoryFull}
-use Rattle.ll_rights.specs.Map.{Map, get, remove}
+use Rattle.ll_rights.specs.Map.{get, remove}
 use Rattle.ll_rights.specs.MapCodes.{same_list_map}
 use Rattle.ll_rights.proofs.Maps.{get-remove_other, same_map}
 use Rattle.ll_seq.specs.declared.call.Call.{Call}
 use Rattle.ll_seq.specs.declared.reply.Reply.{Reply}
 use Rattle.ll_seq.specs.declared.reply.Reply.TheVariants.{Refused}
 use Rattle.ll_worlds.specs.Walk.{Walk, at_ends}
-use Rattle.ll_worlds.specs.World.{World, Replied, advance, is_full, may_commit, moved_by, overtaken, reply_to, shown}
+use Rattle.ll_worlds.specs.World.{World, Replied, advance, is_full, may_commit, moved_by, reply_to, shown}
 use Rattle.ll_worlds.specs.World.{without_walk}
 use Rattle.ll_worlds.specs.declared.step.Step.TheVariants.{Commit}
-use Rattle.ll_worlds.specs.Sound.{IsSound}
 use Rattle.ll_worlds.proofs.Shapes.{with_entry, with_stale}
-use Rattle.ll_worlds.proofs.SoundSteps.{sound_ended}
-use Rattle.ll_worlds.proofs.WalkMaps.{get-map_values}
+use Rattle.ll_worlds.proofs.SoundSteps.{with_stale_none}
 use Rattle.ll_worlds.proofs.StepGrowth.{gone}
 use Rattle.ll_journal.specs.declared.stage.Stage.{Stage}
 use Rattle.ll_journal.specs.declared.seat.Seat.TheInside.{Inside}
@@ -78,25 +76,6 @@ walks_ended seats number place old seat numbered at none =
         away ∙ walk_at seats q)
 
 -- ---- what a commit comes to
-
--- where nothing is moved, nobody is overtaken
-pub with_stale_none : (w : World) → with_stale [] w ≡ w
-with_stale_none w = ap (λ (m : Map nat_cmp Walk). record w { walks = m })
-    (same_list_map _ _ (same_map nat_cmp_total nat_cmp-IsAntisymmetric _ _ (λ q. get-map_values (overtaken []) w.walks q
-    ∙ by (get w.walks q))))
-  where
-    as_it_was : (b : Bool) → (b || false) ≡ b
-    as_it_was true = refl
-    as_it_was false = refl
-
-    by : (o : Option Walk) → option_map (overtaken []) o ≡ o
-    by None = refl
-    by (Some walk) = ap (λ b. Some (record walk { stale = b })) (as_it_was walk.stale)
-
--- a walk that ends unanswered
-pub gives_up : (w : World) (number : ℕ) (walk : Walk) → IsSound w → get w.walks number ≡ Some walk
-    → IsSound (without_walk w number)
-gives_up w number walk h is = subst IsSound (with_stale_none (without_walk w number)) (sound_ended w number walk h is)
 
 module _ (w : World) (number : ℕ) (walk : Walk) (is : get w.walks number ≡ Some walk)
     (may : may_commit w number walk ≡ true) where

@@ -15,11 +15,12 @@ use Rattle.ll_seq.specs.State.{new_client}
 use Rattle.ll_journal.proofs.Stepping.{there}
 use Rattle.ll_journal.proofs.ClientTables.{many_spares}
 use Rattle.ll_worlds.specs.Sound.{IsSound}
+use Rattle.ll_worlds.proofs.SoundSteps.{sound_ended, with_stale_none}
 use Rattle.ll_journal.specs.declared.journal.Journal.TheInside.{Inside}
 use Rattle.ll_journal.specs.Book.{Seat, Book, Spares, inode_in, slot_of, held_of, mark_of, has_mark}
 use Rattle.ll_journal.specs.WalkEnds.{is_lent}
 use Rattle.ll_journal.specs.Kept.{IsKept, world_of, book_of}
-use Rattle.ll_journal.proofs.Ended.{gives_up, walks_ended, with_stale_none}
+use Rattle.ll_journal.proofs.Ended.{walks_ended}
 use Rattle.ll_journal.proofs.Entering.{walk_here}
 use Rattle.ll_journal.proofs.LentAfter.{one_slot}
 use Rattle.ll_journal.proofs.LentSlots.{slot_kept}
@@ -44,7 +45,7 @@ module _ (w : World) (number : ℕ) (walk : Walk) (sound : IsSound w) (is : get 
   idle = without_walk w number
 
   pub idle_sound : IsSound idle
-  idle_sound = gives_up w number walk sound is
+  idle_sound = sound_ended w number walk sound is
 
   leaves : Leaves w idle number
   leaves = leaves_removed w idle number [] (ap (λ (v : World). v.walks) (sym (with_stale_none idle)))

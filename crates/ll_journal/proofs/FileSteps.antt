@@ -15,6 +15,7 @@ use Rattle.ll_seq.specs.declared.client.ClientRecord.{ClientRecord}
 use Rattle.ll_seq.specs.declared.client.Descriptor.{Descriptor}
 use Rattle.ll_seq.specs.declared.reply.Reply.{Reply}
 use Rattle.ll_seq.specs.declared.reply.Reply.TheVariants as replies
+use Rattle.ll_seq.specs.Memory.{takes_memory}
 use Rattle.ll_seq.specs.State.{State, kind_of}
 use Rattle.ll_seq.specs.Step.{step, refusals, client_of}
 use Rattle.ll_seq.specs.Effects.{let_go, lives, with_bytes, with_client}
@@ -45,7 +46,7 @@ use Rattle.ll_journal.proofs.HeldAfter.{held_answered}
 use Rattle.ll_journal.proofs.LentSlots.{slot_holds, slot_vacant, spares_others, one_slot}
 use Rattle.ll_journal.proofs.OpenFiles.{file_kind}
 use Rattle.ll_journal.proofs.Shown.{shown_reply}
-use Rattle.ll_journal.proofs.Starved.{step_granted}
+use Rattle.ll_journal.proofs.Starved.{file_takes, starves_by}
 use Rattle.ll_journal.proofs.Starting.{sound_after, spares_kept}
 use Rattle.ll_journal.proofs.Stepping.{there, walks_same, seated_put, set_again, world_unchanged, book_unchanged}
 use Rattle.ll_journal.proofs.Stepping.{kept_unchanged, entered}
@@ -387,25 +388,25 @@ module _ (j k : Inside) (h : IsKept j) (number : ℕ) (call : Call) (place : ℕ
 
   -- ---- memory ran out
 
-  starves : IsFreeOn d (on_file what) → Starves (world_of j) (FdCommit number call)
-  starves free = record {
-    reply = reply_to (world_of j) number call;
-    after = with_entry (world_of j) number call (reply_to (world_of j) number call);
-    replied = file_replies j h number call place old at numbered fd what is_call d idle holds
-        (reply_to (world_of j) number call) room_left refl;
-    room = room_left;
-    granted =
-        step_granted before number call (next_number (world_of j))
-        (ap (refusals before (client_of before number)) is_call ∙ free before number fd held_by_caller);
-  }
+  starves : IsFreeOn d (on_file what) → what ≢ files.Close → Starves (world_of j) (FdCommit number call)
+  starves free other =
+      starves_by (world_of j) (with_entry (world_of j) number call (reply_to (world_of j) number call))
+      (FdCommit number call) number call refl
+      (file_replies j h number call place old at numbered fd what is_call d idle holds
+      (reply_to (world_of j) number call) room_left refl) room_left
+      (record {
+        takes = ap takes_memory is_call ∙ file_takes what fd other;
+        passes = ap (refusals before (client_of before number)) is_call ∙ free before number fd held_by_caller;
+      })
 
   unmade : k.seats.items ≡ j.seats.items → k.table ≡ j.table → k.history ≡ j.history → file' ≡ file
-      → answer ≡ answers.NoMemory → IsFreeOn d (on_file what) → FileStepped (book_of j) number call slot answer file' k
-  unmade seats table history stays is free =
+      → answer ≡ answers.NoMemory → IsFreeOn d (on_file what) → what ≢ files.Close
+      → FileStepped (book_of j) number call slot answer file' k
+  unmade seats table history stays is free other =
       let same_book = book_unchanged j k rules room gate history seats table in
       record {
         kept = kept_unchanged j k rules room gate history seats table h;
-        does = starved_so (book_of j) (book_of k) number call answer is same_book (starves free);
+        does = starved_so (book_of j) (book_of k) number call answer is same_book (starves free other);
         lent = stays ∙ lent ∙ ap (λ b. slot_of b slot) (sym same_book);
         spares = same_spares (book_of j) (book_of k) (slot ∷ []) same_book;
         rest = inl (same_book ∙ ap (λ v. record (book_of j) { world = v })
@@ -424,25 +425,25 @@ module _ (j k : Inside) (h : IsKept j) (number : ℕ) (call : Call) (place : ℕ
   pub served : (what : FileCall) → call ≡ on_file what fd → (told : Result Reply AllocError)
       → IfOk told (λ reply. Serves fd d what old j.table file reply new k.table file')
       → OnErr told ((new ≡ old) × (k.table ≡ j.table) × (file' ≡ file))
-      → OnErr told (IsFreeOn d (on_file what))
+      → OnErr told (IsFreeOn d (on_file what)) → OnErr told (what ≢ files.Close)
       → IfOk told (λ reply. (answer ≡ answers.Replied reply) × (k.history ≡ entered j number call reply))
       → OnErr told ((answer ≡ answers.NoMemory) × (k.history ≡ j.history))
       → FileStepped (book_of j) number call slot answer file' k
-  served files.Close is_call (Ok reply) serves err free ok bad =
+  served files.Close is_call (Ok reply) serves err free other ok bad =
       closes j k h number call place old at numbered fd files.Close is_call d idle holds slot file lent same room_left
       rules room gate answer file'
       is_call new seats serves.1 (subst (λ i. LetsGo i j.table k.table file file') (sym same) serves.2) reply serves.0
       ok.1 ok.0
-  served (files.OnBytes asked) is_call (Ok reply) serves err free ok bad =
+  served (files.OnBytes asked) is_call (Ok reply) serves err free other ok bad =
       on_its_bytes j k h number call place old at numbered fd (files.OnBytes asked) is_call d idle holds slot file lent
       same room_left rules room gate answer file'
       asked is_call (seats ∙ ap (slice_set j.seats.items place) serves.0 ∙ set_again j.seats.items place old at)
       serves.1 reply serves.2 serves.3 ok.1 ok.0
-  served what is_call (Err e) serves err free ok bad =
+  served what is_call (Err e) serves err free other ok bad =
       unmade j k h number call place old at numbered fd what is_call d idle holds slot file lent same room_left rules
       room gate answer file'
       (seats ∙ ap (slice_set j.seats.items place) err.0 ∙ set_again j.seats.items place old at) err.1 bad.1 err.2 bad.0
-      free
+      free other
 
 pub over_file_stepped : (b b' : Book) (number : ℕ) (call : Call) (slot : ℕ) (answer : Made) (file : Held) (k : Inside)
     → b ≡ b' → FileStepped b number call slot answer file k → FileStepped b' number call slot answer file k

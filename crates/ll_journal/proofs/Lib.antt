@@ -49,6 +49,7 @@ pub mod Committed
 pub mod AtAnswers
 pub mod StopMeans
 pub mod Refusing
+pub mod Granted
 pub mod Starved
 pub mod MadeNodes
 pub mod NextSteps

@@ -1,10 +1,13 @@
 -- What nothing refuses is answered by no refusal, and want of memory is none.
-use Rattle.std.specs.Prelude.{◌≡◌, ◌≢◌, ℕ, Bool, true, false, List, [], ◌∷◌, ◌++◌, Result, Ok, Err, OnErr, is_ok, refl}
+use Rattle.std.specs.Prelude.{◌≡◌, ◌≢◌, ℕ, Bool, true, false, not, List, [], ◌∷◌, ◌++◌, Option, Some, None, option_map}
+use Rattle.std.specs.Prelude.{Result, Ok, Err, OnErr, is_ok, refl}
 use Rattle.std.specs.List.{AllByRecursion}
-use Rattle.std.proofs.Common.{ap, ◌∙◌, inl, inr}
+use Rattle.std.proofs.Common.{ap, sym, subst, ◌∙◌, inl, inr}
 use Rattle.ll_rights.specs.declared.errno.Errno.{Errno}
 use Rattle.ll_rights.specs.declared.errno.Errno.TheVariants.{NoMemory}
 use Rattle.ll_rights.specs.Errno.{refuse}
+use Rattle.ll_rights.specs.Map.{get}
+use Rattle.ll_answer.specs.Lean.{spares_memory}
 use Rattle.ll_seq.specs.declared.call.Call.{Call}
 use Rattle.ll_seq.specs.declared.call.Call.TheVariants.{Make, Open, Read, Write, Ftruncate, Close, Truncate, ReadDir}
 use Rattle.ll_seq.specs.declared.call.Call.TheVariants.{Stat, Exec, Unlink, Rmdir, Rename, RenameNoreplace, Exchange}
@@ -12,10 +15,23 @@ use Rattle.ll_seq.specs.declared.call.Call.TheVariants.{Link, Ruleset, Allow, Co
 use Rattle.ll_seq.specs.declared.client.ClientRecord.{ClientRecord}
 use Rattle.ll_seq.specs.declared.reply.Reply.{Reply}
 use Rattle.ll_seq.specs.Fails.{Fails}
+use Rattle.ll_seq.specs.Memory.{MayStarve, takes_memory}
 use Rattle.ll_seq.specs.State.{State}
 use Rattle.ll_seq.specs.Step.{step, refusals, client_of}
+use Rattle.ll_laws.proofs.Chains.{same_Some}
 use Rattle.ll_laws.proofs.Gain.{done_of}
-use Rattle.ll_journal.specs.Starving.{is_refusal}
+use Rattle.ll_worlds.specs.declared.step.Step.{Step}
+use Rattle.ll_worlds.specs.declared.step.Step.TheVariants.{Commit}
+use Rattle.ll_worlds.specs.Walk.{Walk}
+use Rattle.ll_worlds.specs.World.{World, Outcome, Replied, advance, called, is_full, is_walked, next_number, reply_to}
+use Rattle.ll_worlds.specs.World.{shown}
+use Rattle.ll_journal.specs.declared.files.BytesCall.{BytesCall}
+use Rattle.ll_journal.specs.declared.files.BytesCall.TheVariants as onto
+use Rattle.ll_journal.specs.declared.files.FileCall.{FileCall}
+use Rattle.ll_journal.specs.declared.files.FileCall.TheVariants as files
+use Rattle.ll_journal.specs.Direct.{TakesMemory}
+use Rattle.ll_journal.specs.Files.{on_file}
+use Rattle.ll_journal.specs.Starving.{Starves, is_refusal, succeeds}
 use Rattle.ll_journal.proofs.Shown.{step_done}
 
 -- what is done is no refusal
@@ -48,6 +64,74 @@ pub step_granted : (s : State) (number : ℕ) (call : Call) (fresh : ℕ) → re
 step_granted s number call fresh free =
     ap (λ (o : Reply × State). is_refusal o.0) (step_done s number call fresh free)
     ∙ done_granted s number (client_of s number) call fresh
+
+-- ---- which steps may find no memory
+
+-- one that has the reply of its call
+pub starves_by : (w v : World) (s : Step) (number : ℕ) (call : Call) → called w s ≡ Some (number, call)
+    → advance w s ≡ (Replied (reply_to w number call), v) → is_full w ≡ false → MayStarve (shown w) number call
+    → Starves w s
+starves_by w v s number call is replied room may = record {
+  client = number;
+  call = call;
+  is = is;
+  may = may;
+  room = room;
+  would = ap (λ (p : Outcome × World). succeeds p.0) replied
+      ∙ ap not (step_granted (shown w) number call (next_number w) may.passes);
+}
+
+-- the walk whose commit it is
+pub starved_walk : (w : World) (number : ℕ) → Starves w (Commit number)
+    → (walk : Walk) × (get w.walks number ≡ Some walk) × MayStarve (shown w) number walk.call
+starved_walk w number starves = by (get w.walks number) refl starves.is
+  where
+    by : (o : Option Walk) → get w.walks number ≡ o
+        → option_map {U = ℕ × Call} (λ (walk : Walk). (number, walk.call)) o ≡ Some (starves.client, starves.call)
+        → (walk : Walk) × (get w.walks number ≡ Some walk) × MayStarve (shown w) number walk.call
+    by None is e = absurd (cc e)
+    by (Some walk) is e = (
+      walk,
+      is,
+      subst (λ (p : ℕ × Call). MayStarve (shown w) p.0 p.1)
+          (sym (same_Some (number, walk.call) (starves.client, starves.call) e)) starves.may,
+    )
+
+-- the calls for the client alone, those on its files, and those that walk
+pub alone_takes : (call : Call) → TakesMemory call → takes_memory call ≡ true
+alone_takes call (inl h) = ap takes_memory h.1
+alone_takes call (inr (inl h)) = ap takes_memory h.1
+alone_takes call (inr (inr h)) = ap takes_memory h
+
+pub file_takes : (what : FileCall) (fd : ℕ) → what ≢ files.Close → takes_memory (on_file what fd) ≡ true
+file_takes files.Close fd other = absurd (other refl)
+file_takes (files.OnBytes (onto.Read offset count)) fd other = refl
+file_takes (files.OnBytes (onto.Write offset bytes)) fd other = refl
+file_takes (files.OnBytes (onto.Resize size)) fd other = refl
+
+pub walked_takes : (c : ClientRecord) (call : Call) → is_walked c call ≡ true → spares_memory call ≡ false
+    → takes_memory call ≡ true
+walked_takes c (Make kind t) walked spares = refl
+walked_takes c (Open mode t) walked spares = refl
+walked_takes c (Read fd offset count) walked spares = refl
+walked_takes c (Write fd offset bytes) walked spares = refl
+walked_takes c (Ftruncate fd size) walked spares = refl
+walked_takes c (Close fd) walked spares = absurd (cc walked)
+walked_takes c (Truncate t size) walked spares = refl
+walked_takes c (ReadDir t) walked spares = refl
+walked_takes c (Stat t) walked spares = absurd (cc spares)
+walked_takes c (Exec t) walked spares = absurd (cc spares)
+walked_takes c (Unlink t) walked spares = absurd (cc spares)
+walked_takes c (Rmdir t) walked spares = absurd (cc spares)
+walked_takes c (Rename o n) walked spares = refl
+walked_takes c (RenameNoreplace o n) walked spares = refl
+walked_takes c (Exchange o n) walked spares = absurd (cc spares)
+walked_takes c (Link o n) walked spares = refl
+walked_takes c (Ruleset rights) walked spares = refl
+walked_takes c (Allow rs t rights) walked spares = refl
+walked_takes c (Confine rs) walked spares = refl
+walked_takes c Spawn walked spares = refl
+walked_takes c Connect walked spares = refl
 
 -- ---- refusals and want of memory
 

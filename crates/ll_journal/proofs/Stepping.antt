@@ -54,7 +54,7 @@ use Rattle.ll_journal.proofs.NewClients.{clients_len}
 use Rattle.ll_journal.proofs.OwnAnswers.{early_not_free, spawn_free, spawn_refused, spawned}
 use Rattle.ll_journal.proofs.Ruled.{rules_stay}
 use Rattle.ll_changes.proofs.SlotAccounts.{content_of}
-use Rattle.ll_journal.proofs.Starved.{step_granted}
+use Rattle.ll_journal.proofs.Starved.{alone_takes, starves_by}
 use Rattle.ll_journal.proofs.Starting.{sound_after, spares_kept}
 use Rattle.ll_journal.proofs.ClientTables.{table_client}
 
@@ -314,19 +314,18 @@ module _ (j k : Inside) (h : IsKept j) (number : ℕ) (call : Call) (place : ℕ
       }
 
   -- memory ran out
-  starves : is_alone old.client call ≡ true → refusals before old.client call ≡ []
+  starves : is_alone old.client call ≡ true → refusals before old.client call ≡ [] → TakesMemory call
       → Starves (world_of j) (ClientStep number call)
-  starves alone free = record {
-    reply = reply_to (world_of j) number call;
-    after = with_entry (world_of j) number call (reply_to (world_of j) number call);
-    replied = step_replies j h number call place old at numbered idle alone (reply_to (world_of j) number call)
-        room_left refl;
-    room = room_left;
-    granted =
-        step_granted before number call (next_number (world_of j))
-        (ap (λ (o : Option ClientRecord). refusals before (unwrap_or o new_client) call)
-        (there j h number call place old at numbered) ∙ free);
-  }
+  starves alone free takes =
+      starves_by (world_of j) (with_entry (world_of j) number call (reply_to (world_of j) number call))
+      (ClientStep number call) number call refl
+      (step_replies j h number call place old at numbered idle alone (reply_to (world_of j) number call) room_left refl)
+      room_left
+      (record {
+        takes = alone_takes call takes;
+        passes = ap (λ (o : Option ClientRecord). refusals before (unwrap_or o new_client) call)
+            (there j h number call place old at numbered) ∙ free;
+      })
 
   starved : k.seats.items ≡ j.seats.items → k.table ≡ j.table → k.history ≡ j.history → answer ≡ answers.NoMemory
       → is_alone old.client call ≡ true → refusals before old.client call ≡ [] → TakesMemory call
@@ -335,7 +334,7 @@ module _ (j k : Inside) (h : IsKept j) (number : ℕ) (call : Call) (place : ℕ
       let same = book_unchanged j k rules room gate history seats table in
       record {
         kept = kept_unchanged j k rules room gate history seats table h;
-        does = starved_so (book_of j) (book_of k) number call answer is same (starves alone free);
+        does = starved_so (book_of j) (book_of k) number call answer is same (starves alone free takes);
         spares = same_spares (book_of j) (book_of k) same;
         calm = λ e. takes;
         rest = inl (same ∙ ap (λ v. record (book_of j) { world = v })

@@ -1,10 +1,10 @@
--- Where memory may run out: the history has room, and the call is neither refused nor denied. own
-use Rattle.std.specs.Prelude.{◌≡◌, ℕ, Bool, true, false, Some}
-use Rattle.ll_rights.specs.Map.{get}
+-- Where memory may run out: the step would be answered, and by no refusal. own
+use Rattle.std.specs.Prelude.{◌≡◌, ℕ, Bool, true, false, not, Some}
+use Rattle.ll_seq.specs.declared.call.Call.{Call}
 use Rattle.ll_seq.specs.declared.reply.Reply.{Reply}
 use Rattle.ll_seq.specs.declared.reply.Reply.TheVariants.{Refused, Denied}
-use Rattle.ll_worlds.specs.Walk.{Walk}
-use Rattle.ll_worlds.specs.World.{World, Replied, advance, is_full, may_commit, reply_to}
+use Rattle.ll_seq.specs.Memory.{MayStarve}
+use Rattle.ll_worlds.specs.World.{World, Outcome, Replied, Joined, advance, called, is_full, shown}
 use Rattle.ll_worlds.specs.declared.step.Step.{Step}
 
 -- the call is refused, or denied
@@ -13,18 +13,17 @@ is_refusal (Refused errno) = true
 is_refusal (Denied denial) = true
 is_refusal _ = false
 
--- the client's walk may be answered, and by no refusal
-pub record StarvesAtEnd (w : World) (number : ℕ) : Type 0 where
-  pub walk : Walk
-  pub is : get w.walks number ≡ Some walk
-  pub may : may_commit w number walk ≡ true
-  pub room : is_full w ≡ false
-  pub granted : is_refusal (reply_to w number walk.call) ≡ false
+-- answered, and by no refusal
+abbrev pub succeeds : Outcome → Bool
+succeeds (Replied reply) = not (is_refusal reply)
+succeeds (Joined number) = true
+succeeds other = false
 
--- the step would be answered, and by no refusal
+-- The call of the step may find no memory in the tree that all see; the history has room, and the step would succeed
 pub record Starves (w : World) (step' : Step) : Type 0 where
-  pub reply : Reply
-  pub after : World
-  pub replied : advance w step' ≡ (Replied reply, after)
+  pub client : ℕ
+  pub call : Call
+  pub is : called w step' ≡ Some (client, call)
+  pub may : MayStarve (shown w) client call
   pub room : is_full w ≡ false
-  pub granted : is_refusal reply ≡ false
+  pub would : succeeds (advance w step').0 ≡ true

@@ -4,11 +4,11 @@ use Rattle.std.specs.Prelude.{◌++◌, slice_set}
 use Rattle.ll_rights.specs.Map.{get, has}
 use Rattle.ll_rights.specs.declared.errno.Errno.TheVariants.{HistoryFull}
 use Rattle.ll_path.specs.declared.target.Target.{Target}
-use Rattle.ll_answer.specs.Lean.{spares_memory}
 use Rattle.ll_seq.specs.declared.call.Call.{Call}
 use Rattle.ll_seq.specs.declared.call.Call.TheVariants as call
 use Rattle.ll_seq.specs.declared.reply.Reply.TheVariants.{Refused}
 use Rattle.ll_seq.specs.Call.{path_of}
+use Rattle.ll_seq.specs.Memory.{takes_memory}
 use Rattle.ll_seq.specs.State.{State}
 use Rattle.ll_seq.specs.Tree.{named}
 use Rattle.ll_worlds.specs.Walk.{Walk, at_ends, is_in, marks}
@@ -19,7 +19,7 @@ use Rattle.ll_journal.specs.declared.progress.Ending.{Ending}
 use Rattle.ll_journal.specs.declared.progress.Ending.TheVariants as ending
 use Rattle.ll_journal.specs.Book.{Book, inode_in}
 use Rattle.ll_journal.specs.Direct.{FreesSlot}
-use Rattle.ll_journal.specs.Starving.{StarvesAtEnd}
+use Rattle.ll_journal.specs.Starving.{Starves}
 
 -- The outcome is the step's, and so is the world after. Astray is none of its outcomes: then nothing changes. Where
 -- memory runs out, for a call that nothing refuses, the walk has ended all the same
@@ -29,7 +29,7 @@ Ends b number ending.Astray b' = b' ≡ b
 Ends b number (ending.Replied reply) b' =
     (is_full b.world ≡ false) × (advance b.world (Commit number) ≡ (world.Replied reply, b'.world))
 Ends b number ending.HistoryFull b' = advance b.world (Commit number) ≡ (world.Replied (Refused HistoryFull), b'.world)
-Ends b number ending.NoMemory b' = StarvesAtEnd b.world number × (b'.world ≡ without_walk b.world number)
+Ends b number ending.NoMemory b' = Starves b.world (Commit number) × (b'.world ≡ without_walk b.world number)
 
 -- the nodes under last names that the call may change or tell of
 abbrev pub nodes_at_end : State → Call → List ℕ
@@ -110,9 +110,9 @@ abbrev pub IsAstrayAtEnd : Book → ℕ → List ℕ → Type 0
 IsAstrayAtEnd b number slots =
     (walk : Walk) × (get b.world.walks number ≡ Some walk) × (walk.stale ≡ false) × ¬ AreEnough b number walk slots
 
--- the client's walk is that of a call that may take memory
+-- the client's walk is that of a call that takes memory
 abbrev pub MayTakeMemory : World → ℕ → Type 0
-MayTakeMemory w number = (walk : Walk) × (get w.walks number ≡ Some walk) × (spares_memory walk.call ≡ false)
+MayTakeMemory w number = (walk : Walk) × (get w.walks number ≡ Some walk) × (takes_memory walk.call ≡ true)
 
 -- the client's walk is that of a call that would make a node
 abbrev pub MayMake : World → ℕ → Type 0

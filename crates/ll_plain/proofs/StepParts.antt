@@ -1,6 +1,6 @@
 -- What a call comes to, by its three parts: what refuses it before policy is asked, what policy denies, and what
 -- refuses it afterwards.
-use Rattle.std.specs.Prelude.{◌≡◌, ℕ, List, [], ◌++◌, Some, None, slice_get, refl}
+use Rattle.std.specs.Prelude.{◌≡◌, ℕ, true, List, [], ◌++◌, Some, None, slice_get, refl}
 use Rattle.std.proofs.Common.{ap, sym, ◌∙◌, inl, inr}
 use Rattle.ll_rights.specs.declared.errno.Errno.{Errno}
 use Rattle.ll_rights.specs.declared.errno.Errno.TheVariants.{NoMemory}
@@ -8,6 +8,7 @@ use Rattle.ll_seq.specs.declared.call.Call.{Call}
 use Rattle.ll_seq.specs.declared.reply.Reply.{Reply}
 use Rattle.ll_seq.specs.declared.reply.Reply.TheVariants.{Refused}
 use Rattle.ll_seq.specs.Fails.{Fails}
+use Rattle.ll_seq.specs.Memory.{takes_memory}
 use Rattle.ll_seq.specs.State.{State}
 use Rattle.ll_seq.proofs.StepParts as parts
 use Rattle.ll_seq.proofs.StepParts.{early, policy, late, does_so}
@@ -42,12 +43,17 @@ module _ (s : State) (n : ℕ) (call : Call) where
           → Comes s n call reply after
       does reply after same fresh = does_by fresh reply after (same fresh)
 
-      pub starves : (after : State) → after ≡ s → Comes s n call (Refused NoMemory) after
-      starves after same fresh = inr (refl, same, parts.none_refused s n call free allowed fits)
+      pub starves : (after : State) → after ≡ s → takes_memory call ≡ true → Comes s n call (Refused NoMemory) after
+      starves after same takes fresh =
+          inr (refl, same, record { takes = takes; passes = parts.none_refused s n call free allowed fits })
 
     -- what is left to refuse it, or want of memory
-    pub fails : (e : Errno) (after : State) → Fails (late s n call) e → after ≡ s → Comes s n call (Refused e) after
-    fails e after (inl first) same fresh =
+    pub fails : (e : Errno) (after : State) → Fails (late s n call) e → after ≡ s → takes_memory call ≡ true
+        → Comes s n call (Refused e) after
+    fails e after (inl first) same takes fresh =
         inl (ap (λ (z : State). (Refused e, z)) same ∙ parts.refused_late s n call free allowed e first fresh)
-    fails e after (inr starved) same fresh =
-        inr (ap Refused starved.0, same, parts.none_refused s n call free allowed starved.1)
+    fails e after (inr starved) same takes fresh = inr (
+      ap Refused starved.0,
+      same,
+      record { takes = takes; passes = parts.none_refused s n call free allowed starved.1 },
+    )

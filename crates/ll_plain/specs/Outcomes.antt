@@ -1,16 +1,16 @@
 -- What a call comes to, for the helpers of the plain tree alone: no public contract cites this file.
-use Rattle.std.specs.Prelude.{◌≡◌, ℕ, ◌⊎◌, []}
+use Rattle.std.specs.Prelude.{◌≡◌, ℕ, ◌⊎◌}
 use Rattle.ll_rights.specs.declared.errno.Errno.TheVariants.{NoMemory}
 use Rattle.ll_seq.specs.declared.call.Call.{Call}
 use Rattle.ll_seq.specs.declared.reply.Reply.{Reply}
 use Rattle.ll_seq.specs.declared.reply.Reply.TheVariants.{Refused}
+use Rattle.ll_seq.specs.Memory.{MayStarve}
 use Rattle.ll_seq.specs.State.{State}
-use Rattle.ll_seq.specs.Step.{step, refusals, client_of}
+use Rattle.ll_seq.specs.Step.{step}
 
--- nothing refuses the call, but there is no memory for it, and nothing has changed
+-- there is no memory for the call, which may happen to it, and nothing has changed
 abbrev pub Starves : State → ℕ → Call → Reply → State → Type 0
-Starves s number call reply after =
-    (reply ≡ Refused NoMemory) × (after ≡ s) × (refusals s (client_of s number) call ≡ [])
+Starves s number call reply after = (reply ≡ Refused NoMemory) × (after ≡ s) × MayStarve s number call
 
 -- the call comes to its step, where a spawned client gets this number
 abbrev pub StepsBy : ℕ → State → ℕ → Call → Reply → State → Type 0

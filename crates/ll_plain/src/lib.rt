@@ -12,13 +12,13 @@ mod tables;
 mod walk;
 mod writes;
 
-ghost use Rattle.std.specs.Prelude.{◌≡◌, ◌≢◌, ◌<◌, ◌≤◌, ◌+◌, ◌-◌, ◌^◌, ℕ, [], true, false, not, IfOk};
+ghost use Rattle.std.specs.Prelude.{◌≡◌, ◌≢◌, ◌<◌, ◌≤◌, ◌+◌, ◌-◌, ◌^◌, ℕ, true, false, not, IfOk};
 ghost use Rattle.ll_rights.specs.Map.{has};
 ghost use Rattle.ll_seq.specs.History.{is_connect};
 ghost use Rattle.ll_seq.specs.State.{State, start};
-ghost use Rattle.ll_seq.specs.Step.{step, refusals, client_of, IsAnswer};
+ghost use Rattle.ll_seq.specs.Step.{step, IsAnswer};
 ghost use Rattle.ll_seq.specs.declared.reply.Reply.{Reply};
-ghost use Rattle.ll_seq.specs.Memory.{takes_memory};
+ghost use Rattle.ll_seq.specs.Memory.{MayStarve};
 ghost use Rattle.ll_plain.specs.Outcomes.{ComesBy};
 ghost use Rattle.ll_plain.specs.Refusal.{is_refusal};
 
@@ -107,12 +107,8 @@ impl Plain {
             → ◌≡◌ {A = Reply × State} (result, self.new) (step self.old client call.now fresh) }
         ensures no_memory { result ≡ Reply.Refused Errno.NoMemory → self.new ≡ self.old }
 
-        // Want of memory comes only where nothing else refuses the call.
-        ensures starved { result ≡ Reply.Refused Errno.NoMemory
-            → refusals self.old (client_of self.old client) call.now ≡ [] }
-
-        // A call that takes no memory never answers for want of it.
-        ensures memory { takes_memory call.now ≡ false → result ≢ Reply.Refused Errno.NoMemory }
+        // Want of memory comes only to a call that takes some, and that nothing else refuses.
+        ensures starved { result ≡ Reply.Refused Errno.NoMemory → MayStarve self.old client call.now }
 
         // What follows from these for every call.
         ensures answers { IsAnswer result }
@@ -133,8 +129,7 @@ impl Plain {
         requires caller { has self.old.clients client ≡ not (is_connect call.now) }
         requires fresh { call.now ≡ Call.Spawn → has self.old.clients fresh ≡ false }
         requires next { self.old.next < 2 ^ 64 - 1 }
-        ensures comes { ComesBy fresh self.old client call.now result self.new }
-        ensures memory { takes_memory call.now ≡ false → result ≢ Reply.Refused Errno.NoMemory }
+        ensures { ComesBy fresh self.old client call.now result self.new }
     {
         match call {
             Call::Make(_, _) => self.perform(client, call),

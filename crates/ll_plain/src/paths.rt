@@ -1,10 +1,7 @@
 //! Calls that name paths.
 
-ghost use Rattle.std.specs.Prelude.{◌≡◌, ◌≢◌, ◌<◌, ◌-◌, ◌^◌, true, false};
+ghost use Rattle.std.specs.Prelude.{◌≡◌, ◌<◌, ◌-◌, ◌^◌, true};
 ghost use Rattle.ll_rights.specs.Map.{has};
-ghost use Rattle.ll_rights.specs.declared.errno.Errno.{Errno};
-ghost use Rattle.ll_seq.specs.declared.reply.Reply.{Reply};
-ghost use Rattle.ll_seq.specs.Memory.{takes_memory};
 ghost use Rattle.ll_plain.specs.Outcomes.{Comes};
 ghost use Rattle.ll_answer.specs.Passed.{has_path};
 
@@ -19,8 +16,7 @@ impl Plain {
         requires caller { has self.old.clients client ≡ true }
         requires path { has_path call.now ≡ true }
         requires next { self.old.next < 2 ^ 64 - 1 }
-        ensures comes { Comes self.old client call.now result self.new }
-        ensures memory { takes_memory call.now ≡ false → result ≢ Reply.Refused Errno.NoMemory }
+        ensures { Comes self.old client call.now result self.new }
     {
         let effect = match self.effect(client, call) {
             Err(reply) => return reply,

@@ -1,18 +1,20 @@
 -- What std's table of rules says of the map that it means.
-use Rattle.std.specs.Prelude.{◌≡◌, ℕ, true, false, cond, List, [], ◌∷◌, length, Some, refl}
+use Rattle.std.specs.Prelude.{◌≡◌, ◌≢◌, ℕ, true, false, cond, max, List, [], ◌∷◌, length, Some, refl}
 use Rattle.std.specs.declared.cmp.Ordering.TheVariants.{Less, Equal, Greater}
 use Rattle.std.specs.Ordering.{nat_cmp, is_eq, match_ordering}
 use Rattle.std.specs.Option.{option_map}
 use Rattle.std.specs.BTreeMap.{BTreeMap, insert_entry, is_at, get_by}
 use Rattle.std.specs.Map.{lookup}
 use Rattle.std.specs.FinMap.Entries.{by_order, put, find, is_sorted}
-use Rattle.std.proofs.Common.{sym, ap, ◌∙◌}
+use Rattle.std.proofs.Common.{sym, ap, ◌∙◌, arith}
+use Rattle.std.specs.FinMap.{nat_cmp-IsAntisymmetric}
 use Rattle.std.proofs.lemmas.Cmp.{nat_cmp_total}
 use Rattle.std.proofs.lemmas.List.{length-map}
 use Rattle.ll_rights.specs.declared.access.Access.{Access}
-use Rattle.ll_rights.specs.Map.{get, insert, entries, from_sorted}
-use Rattle.ll_rights.proofs.Maps.{get-from_sorted, entries-from_sorted, put_sorted, insert-from_sorted}
-use Rattle.ll_rules.specs.RuleTable.{rows_of, rules_of, IsTable}
+use Rattle.ll_rights.specs.Map.{Map, get, insert, entries, from_sorted}
+use Rattle.ll_rights.proofs.Maps.{get-empty, get-from_sorted, entries-from_sorted, from_sorted-empty}
+use Rattle.ll_rights.proofs.Maps.{put_sorted, insert-from_sorted, get-insert_other}
+use Rattle.ll_rules.specs.RuleTable.{rows_of, rules_of, IsTable, HasNoneAbove}
 
 find-rows : (es : List (ℕ × Access)) (inode : ℕ)
     → find nat_cmp inode (rows_of es) ≡ option_map (λ (rights : Access). rights.0) (lookup (is_at (nat_cmp inode)) es)
@@ -44,6 +46,11 @@ pub get-rules_of : (table : BTreeMap ℕ Access) (inode : ℕ) → IsTable table
 get-rules_of table inode sorted =
     get-from_sorted nat_cmp (rows_of table.entries) inode sorted ∙ find-rows table.entries inode
 
+pub none_above-new : (table : BTreeMap ℕ Access) (highest : ℕ) → table.entries ≡ [] → HasNoneAbove highest table
+none_above-new table highest is inode above =
+    ap (λ es. get (from_sorted {R = nat_cmp} (rows_of es)) inode) is
+    ∙ ap (λ (rules : Map nat_cmp ℕ). get rules inode) (from_sorted-empty ℕ nat_cmp) ∙ get-empty ℕ nat_cmp inode
+
 pub length-rules_of : (table : BTreeMap ℕ Access) → IsTable table
     → length (entries (rules_of table)) ≡ length table.entries
 length-rules_of table sorted =
@@ -57,6 +64,13 @@ module _ (old new : BTreeMap ℕ Access) (inode : ℕ) (rights : Access)
   rules_of-insert =
       ap from_sorted (ap rows_of inserted ∙ rows-insert old.entries inode rights)
       ∙ sym (insert-from_sorted nat_cmp_total (rows_of old.entries) inode rights.0 sorted)
+
+  pub none_above-insert : (highest : ℕ) → HasNoneAbove highest old → HasNoneAbove (max highest inode) new
+  none_above-insert highest none other above =
+      let apart : other ≢ inode = omega arith in
+      ap (λ rules. get rules other) rules_of-insert
+      ∙ get-insert_other nat_cmp_total nat_cmp-IsAntisymmetric (rules_of old) inode rights.0 other apart
+      ∙ none other (omega arith)
 
   pub IsTable-insert : IsTable new
   IsTable-insert =

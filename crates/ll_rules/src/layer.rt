@@ -15,6 +15,8 @@ pub struct Layer {
     handled: Access,
     // the rights by inode
     rules: BTreeMap<u64, Access>,
+    // no inode above this one has a rule
+    highest: u64,
 }
 
 impl Model for Layer {
@@ -25,11 +27,11 @@ impl Model for Layer {
 
     ghost coded = { coded_layer };
 
-    ghost use Rattle.ll_rules.specs.RuleTable.{rules_of, IsTable};
+    ghost use Rattle.ll_rules.specs.RuleTable.{rules_of, IsTable, HasNoneAbove};
 
     ghost view = { λ layer. record { handled = layer.handled.0; rules = rules_of layer.rules } };
 
-    ghost invariant = { λ layer. IsTable layer.rules };
+    ghost invariant = { λ layer. IsTable layer.rules × HasNoneAbove layer.highest layer.rules };
 }
 
 impl Clone for Layer {
@@ -42,6 +44,7 @@ impl Clone for Layer {
         Ok(Layer {
             handled: self.handled,
             rules,
+            highest: self.highest,
         })
     }
 }
@@ -54,6 +57,7 @@ impl Layer {
         Layer {
             handled,
             rules: BTreeMap::new(alloc),
+            highest: 0,
         }
     }
 
@@ -67,6 +71,9 @@ impl Layer {
     pub fn rule(&self, inode: u64) -> Access
         ensures { result.0 ≡ unwrap_or (get self.now.rules inode) 0 }
     {
+        if inode > self.highest {
+            return Access(0);
+        }
         self.rules.get(&inode).copied().unwrap_or(Access(0))
     }
 
@@ -91,6 +98,7 @@ impl Layer {
     {
         let joined = Access(self.rule(inode).0 | rights.0);
         self.rules.insert(inode, joined)?;
+        self.highest = self.highest.max(inode);
         Ok(())
     }
 }

@@ -1,11 +1,13 @@
--- Which calls and replies may need memory. own
-use Rattle.std.specs.Prelude.{Bool, true, false}
+-- Which calls and replies may need memory, and when a call may find none. own
+use Rattle.std.specs.Prelude.{◌≡◌, ℕ, Bool, true, false, []}
 use Rattle.ll_seq.specs.declared.call.Call.{Call}
 use Rattle.ll_seq.specs.declared.call.Call.TheVariants.{Make, Open, Read, Write, Ftruncate, Close, Truncate, ReadDir}
 use Rattle.ll_seq.specs.declared.call.Call.TheVariants.{Stat, Exec, Unlink, Rmdir, Rename, RenameNoreplace, Exchange}
 use Rattle.ll_seq.specs.declared.call.Call.TheVariants.{Link, Ruleset, Allow, Confine, Spawn, Connect}
 use Rattle.ll_seq.specs.declared.reply.Reply.{Reply}
 use Rattle.ll_seq.specs.declared.reply.Reply.TheVariants.{Bytes, Listed}
+use Rattle.ll_seq.specs.State.{State}
+use Rattle.ll_seq.specs.Step.{client_of, refusals}
 
 abbrev pub takes_memory : Call → Bool
 takes_memory (Make kind target) = true
@@ -29,6 +31,11 @@ takes_memory (Allow number target rights) = true
 takes_memory (Confine number) = true
 takes_memory Spawn = true
 takes_memory Connect = true
+
+-- The client's call may find no memory: it takes some, and nothing refuses it
+pub record MayStarve (s : State) (client : ℕ) (call : Call) : Type 0 where
+  pub takes : takes_memory call ≡ true
+  pub passes : refusals s (client_of s client) call ≡ []
 
 -- it holds bytes or names, so a copy takes memory
 abbrev pub holds_memory : Reply → Bool

@@ -1,6 +1,6 @@
 -- What each outcome tells of the history, and what holds of every world.
 use Rattle.std.specs.Prelude.{◌≡◌, ◌≢◌, ℕ, ◌+◌, ◌<◌, ◌≤◌, false, List, [], ◌∷◌, ◌++◌, length, take, Option, Some, None}
-use Rattle.std.specs.Prelude.{option_map, slice_get, Result, Ok, Err, IfOk, OnErr, refl}
+use Rattle.std.specs.Prelude.{slice_get, Result, Ok, Err, IfOk, OnErr, refl}
 use Rattle.std.proofs.Common.{sym, ap, subst, ◌∙◌, inl, inr, append_assoc, get_or}
 use Rattle.std.proofs.lemmas.List.{append-nil, length-append, take_more, take_all}
 use Rattle.ll_laws.proofs.Gain.{no_gain}
@@ -18,15 +18,13 @@ use Rattle.ll_worlds.specs.declared.step.Step.{Step}
 use Rattle.ll_worlds.specs.declared.step.Step.TheVariants.{Join, Begin, Descend, Fork, Commit, Restart, FdCommit}
 use Rattle.ll_worlds.specs.declared.step.Step.TheVariants.{ClientStep}
 use Rattle.ll_worlds.specs.Sound.{IsSound}
-use Rattle.ll_rights.specs.Map.{get}
-use Rattle.ll_worlds.specs.Walk.{Walk}
 use Rattle.ll_worlds.specs.World as world
 use Rattle.ll_worlds.specs.World.{World, advance, is_full, shown, next_number}
 use Rattle.ll_steps.specs.declared.report.Report.{Report}
 use Rattle.ll_steps.specs.declared.report.Report.TheVariants as report
-use Rattle.ll_steps.specs.Makes.{Makes, Adds, IsUntold, called, starved}
+use Rattle.ll_steps.specs.Makes.{Makes, Adds, IsUntold, starved}
 use Rattle.ll_steps.specs.Headline.{Grows, IsLawful, IsHeadline, Runs}
-use Rattle.ll_worlds.proofs.StepGrowth.{Grown, Went, asked, client_in, entry_of, never_full, went}
+use Rattle.ll_worlds.proofs.StepGrowth.{Grown, Went, by_client, called_is, client_in, entry_of, never_full, went}
 
 last_of_more : (es : List Entry) (e : Entry) → slice_get (es ++ e ∷ []) (length es) ≡ Some e
 last_of_more [] e = refl
@@ -44,25 +42,6 @@ same_world w w' e = subst (λ (v : World). Grows w v []) (sym e) (still w)
 
 grown : (w v : World) (c : ℕ) (doing : Option Call) (added : List Entry) → Grown w v c doing added → Grows w v added
 grown w v c doing added g = record { came = g.came; rules = g.rules; room = g.room; limit = g.limit }
-
--- the call that the step answers, and whose it is
-abbrev by_client : ℕ → Option Call → Option (ℕ × Call)
-by_client number = option_map {U = ℕ × Call} (λ call. (number, call))
-
-called_is : (w : World) (step' : Step) → called w step' ≡ by_client (client_in w step') (asked w step')
-called_is w Join = refl
-called_is w (Begin number call) = refl
-called_is w (Descend number) = refl
-called_is w (Fork number) = refl
-called_is w (Commit number) = by (get w.walks number)
-  where
-    by : (o : Option Walk) → option_map {U = ℕ × Call} (λ (walk : Walk). (number, walk.call)) o
-        ≡ by_client number (option_map (λ (walk : Walk). walk.call) o)
-    by None = refl
-    by (Some walk) = refl
-called_is w (Restart number) = refl
-called_is w (FdCommit number call) = refl
-called_is w (ClientStep number call) = refl
 
 -- ---- one step
 
@@ -140,7 +119,7 @@ adds w w' step' (report.Refused errno) (inl m) = ([], refl, by (subst (Went w st
     by (inr (inr g)) (inl full) = absurd (cc (sym full ∙ g.0))
     by (inr (inr g)) (inr joins) = absurd (g.5 joins)
 adds w w' step' (report.Refused errno) (inr m) =
-    ([], refl, subst (λ (v : World). Grows w v []) (sym m.1.left) (starved_grows w step'))
+    ([], refl, subst (λ (v : World). Grows w v []) (sym m.2) (starved_grows w step'))
 
 -- ---- all steps
 

@@ -7,7 +7,6 @@ use Rattle.ll_laws.proofs.Chains.{same_Some}
 use Rattle.ll_rights.specs.declared.errno.Errno.{Errno}
 use Rattle.ll_rights.specs.declared.errno.Errno.TheVariants.{HistoryFull, NoMemory}
 use Rattle.ll_rights.specs.Map.{get, has}
-use Rattle.ll_answer.specs.Lean.{spares_memory}
 use Rattle.ll_held.specs.declared.held.Held.{Held}
 use Rattle.ll_seq.specs.declared.call.Call.{Call}
 use Rattle.ll_seq.specs.declared.call.Call.TheVariants as call
@@ -23,9 +22,11 @@ use Rattle.ll_worlds.specs.Sound.{IsSound}
 use Rattle.ll_worlds.specs.World as world
 use Rattle.ll_worlds.specs.World.{World, advance, shown, is_full, is_idle, is_on_descriptor, descriptor_of, next_number}
 use Rattle.ll_worlds.proofs.Shapes.{replied}
+use Rattle.ll_worlds.proofs.StepGrowth.{Went, went}
 use Rattle.ll_worlds.proofs.Tests.{both}
 use Rattle.ll_journal.specs.Book.{Book, Spares, inode_in, slot_of}
-use Rattle.ll_journal.specs.Direct.{Answers, ComesBack, IsOpen, TakesMemory}
+use Rattle.ll_journal.specs.Direct.{Answers, ComesBack, IsOpen}
+use Rattle.ll_journal.specs.Starving.{Starves, is_refusal, succeeds}
 use Rattle.ll_journal.specs.declared.direct.Made.{Made}
 use Rattle.ll_journal.specs.declared.direct.Made.TheVariants as answer
 use Rattle.ll_journal.specs.Starts.{Starts}
@@ -34,9 +35,10 @@ use Rattle.ll_journal.specs.declared.start.Start.TheVariants as start
 use Rattle.ll_journal.specs.declared.open_file.Unmade.{Unmade}
 use Rattle.ll_journal.specs.declared.open_file.Unmade.TheVariants as unmade
 use Rattle.ll_journal.specs.SlotTree.{accounts_of}
+use Rattle.ll_journal.proofs.Granted.{none_refuses}
 use Rattle.ll_steps.specs.Calling.{Calls, Waits, alone, waits}
 use Rattle.ll_steps.specs.Contents.{answered_as, IsKept}
-use Rattle.ll_steps.specs.Makes.{Makes, called, starved, succeeds}
+use Rattle.ll_steps.specs.Makes.{Makes, starved}
 use Rattle.ll_steps.specs.declared.report.Report.TheVariants as report
 use Rattle.ll_steps.proofs.Adding.{replied_makes, full_told}
 use Rattle.ll_steps.proofs.ContentsKept.{kept_on, kept_alone, kept_same, same_accounts}
@@ -51,57 +53,40 @@ join_keeps b b' slots (Ok number) h joined same spares =
     kept_alone b b' slots Join (world.Joined number) h joined spares
 join_keeps b b' slots (Err errno) h joined same spares = kept_same b b' slots h same
 
+-- nothing refuses the connect of a client that would come
+join_starves : (w after : World) → advance w Join ≡ (world.Joined (next_number w), after) → Starves w Join
+join_starves w after e =
+    let came = subst (Went w Join) e (went w Join) in
+    record {
+      client = next_number w;
+      call = call.Connect;
+      is = refl;
+      may = record {
+        takes = refl;
+        passes = none_refuses (shown w) (next_number w) call.Connect (next_number w) (ap is_refusal (sym came.2));
+      };
+      room = came.0;
+      would = ap (λ (p : world.Outcome × World). succeeds p.0) e;
+    }
+
 pub join_refused : (w : World) (errno : Errno)
     → (errno ≢ NoMemory → advance w Join ≡ (world.Replied (Refused errno), w))
     → (errno ≡ NoMemory → (after : World) × (advance w Join ≡ (world.Joined (next_number w), after)))
     → Makes w Join (report.Refused errno) w
 join_refused w errno refused starves = elim (wants_memory errno) [
-  | inl memory ↦ inr (
-    memory,
-    record {
-      client = next_number w;
-      call = call.Connect;
-      is = refl;
-      takes = refl;
-      not_close = λ number e. cc e;
-      would = ap (λ (p : world.Outcome × World). succeeds p.0) (starves memory).1;
-      left = refl;
-    },
-  )
+  | inl memory ↦ inr (memory, join_starves w (starves memory).0 (starves memory).1, refl)
   | inr other ↦ inl (inr refl, refused other)
 ]
 
 -- ---- calls that are answered at once
 
--- what the call takes memory for
-abbrev pub MayTake : Call → Type 0
-MayTake c = (spares_memory c ≡ false) × ((number : ℕ) → c ≢ call.Close number)
-
-pub takes_so : (c : Call) → TakesMemory c → MayTake c
-takes_so c (inl (rights, e)) = (ap spares_memory e, λ number f. cc (sym e ∙ f))
-takes_so c (inr (inl (layer, e))) = (ap spares_memory e, λ number f. cc (sym e ∙ f))
-takes_so c (inr (inr e)) = (ap spares_memory e, λ number f. cc (sym e ∙ f))
-
-pub answer_makes : (b b' : Book) (step' : Step) (client : ℕ) (c : Call) (a : Made) → step' ≢ Join
-    → called b.world step' ≡ Some (client, c) → starved b.world step' ≡ b.world
-    → (a ≡ answer.NoMemory → MayTake c) → Answers b step' a b'
+pub answer_makes : (b b' : Book) (step' : Step) (a : Made) → step' ≢ Join → starved b.world step' ≡ b.world
+    → Answers b step' a b'
     → Makes b.world step' (answered_as (length b.world.history) a) b'.world
-answer_makes b b' step' client c (answer.Replied reply) other is same takes d =
-    replied_makes b.world b'.world step' reply d.0 other d.1
-answer_makes b b' step' client c answer.HistoryFull other is same takes d =
-    inl (full_told b.world b'.world step' d.0, d.0)
-answer_makes b b' step' client c answer.NoMemory other is same takes d = inr (
-  refl,
-  record {
-    client = client;
-    call = c;
-    is = is;
-    takes = (takes refl).0;
-    not_close = (takes refl).1;
-    would = ap (λ (p : world.Outcome × World). succeeds p.0) d.1.replied ∙ ap not d.1.granted;
-    left = ap (λ (b : Book). b.world) d.0 ∙ sym same;
-  },
-)
+answer_makes b b' step' (answer.Replied reply) other same d = replied_makes b.world b'.world step' reply d.0 other d.1
+answer_makes b b' step' answer.HistoryFull other same d = inl (full_told b.world b'.world step' d.0, d.0)
+answer_makes b b' step' answer.NoMemory other same d =
+    inr (refl, d.1, ap (λ (b : Book). b.world) d.0 ∙ sym same)
 
 pub answer_keeps : (b b' : Book) (slots new : List Held) (step' : Step) (a : Made) → IsKept b slots
     → Answers b step' a b' → new ≡ accounts_of b' → IsKept b' new
@@ -137,13 +122,12 @@ start_keeps b b' slots client c start.Begun h d spares = kept_alone b b' slots (
 start_keeps b b' slots client c (start.Back back) h d spares = kept_same b b' slots h d.1
 
 -- it is made at once
-pub made_calls : (b b' : Book) (client : ℕ) (c : Call) (a : Made) → (a ≡ answer.NoMemory → TakesMemory c)
-    → Answers b (ClientStep client c) a b' → Waits b.world (FdCommit client c)
+pub made_calls : (b b' : Book) (client : ℕ) (c : Call) (a : Made) → Answers b (ClientStep client c) a b'
+    → Waits b.world (FdCommit client c)
     → Calls b.world client c (answered_as (length b.world.history) a) b'.world
-made_calls b b' client c a takes d waits' =
+made_calls b b' client c a d waits' =
     let number : ℕ = length b.world.history in
-    alone b'.world (answered_as number a) waits'
-    (answer_makes b b' (ClientStep client c) client c a (λ e. cc e) refl refl (λ e. takes_so c (takes e)) d)
+    alone b'.world (answered_as number a) waits' (answer_makes b b' (ClientStep client c) a (λ e. cc e) refl d)
     (answered_made number a)
 
 -- or may not set out
@@ -153,33 +137,6 @@ back_calls b b' client c back d waits' =
     subst (λ (v : Book). Calls b.world client c report.NotNow v.world) (sym d.1) (waits waits' d.2 d.3)
 
 -- ---- a call on a descriptor
-
--- calls on descriptors take memory, but for a close
-on_descriptor_takes : (c : Call) (fd : ℕ) → descriptor_of c ≡ Some fd → spares_memory c ≡ false
-on_descriptor_takes (call.Make kind target) fd e = absurd (cc e)
-on_descriptor_takes (call.Open mode target) fd e = absurd (cc e)
-on_descriptor_takes (call.Read n offset count) fd e = refl
-on_descriptor_takes (call.Write n offset bytes) fd e = refl
-on_descriptor_takes (call.Ftruncate n size) fd e = refl
-on_descriptor_takes (call.Close n) fd e = refl
-on_descriptor_takes (call.Truncate target size) fd e = absurd (cc e)
-on_descriptor_takes (call.ReadDir target) fd e = absurd (cc e)
-on_descriptor_takes (call.Stat target) fd e = absurd (cc e)
-on_descriptor_takes (call.Exec target) fd e = absurd (cc e)
-on_descriptor_takes (call.Unlink target) fd e = absurd (cc e)
-on_descriptor_takes (call.Rmdir target) fd e = absurd (cc e)
-on_descriptor_takes (call.Rename from into) fd e = absurd (cc e)
-on_descriptor_takes (call.RenameNoreplace from into) fd e = absurd (cc e)
-on_descriptor_takes (call.Exchange from into) fd e = absurd (cc e)
-on_descriptor_takes (call.Link from into) fd e = absurd (cc e)
-on_descriptor_takes (call.Ruleset rights) fd e = absurd (cc e)
-on_descriptor_takes (call.Allow number target rights) fd e = absurd (cc e)
-on_descriptor_takes (call.Confine number) fd e = absurd (cc e)
-on_descriptor_takes call.Spawn fd e = absurd (cc e)
-on_descriptor_takes call.Connect fd e = absurd (cc e)
-
-pub file_takes : (c : Call) (fd : ℕ) → descriptor_of c ≡ Some fd → ((number : ℕ) → c ≢ call.Close number) → MayTake c
-file_takes c fd e kept = (on_descriptor_takes c fd e, kept)
 
 module _ (w : World) (client : ℕ) (c : Call) where
   abbrev here : Bool → Bool → world.Outcome × World

@@ -1,38 +1,35 @@
 -- What comes of a walk's steps, with the slots that the journal tells.
 use Rattle.std.specs.Prelude.{◌≡◌, ◌≢◌, ℕ, ◌≤◌, Bool, true, false, cond, not, ◌&&◌, ◌||◌, ◌==◌, List, [], ◌∷◌, length}
-use Rattle.std.specs.Prelude.{map, Option, Some, None, unwrap_or, option_map, option_and_then, refl}
+use Rattle.std.specs.Prelude.{map, Option, Some, None, unwrap_or, option_and_then, refl}
 use Rattle.std.specs.List.{list_any}
 use Rattle.std.specs.Option.{option_map_or}
 use Rattle.std.proofs.Common.{sym, ap, subst, ◌∙◌, inl, inr}
 use Rattle.std.proofs.lemmas.Bool.{eq-eqb}
 use Rattle.ll_laws.proofs.Chains.{same_Some}
 use Rattle.ll_rights.specs.declared.errno.Errno.TheVariants.{HistoryFull}
-use Rattle.ll_answer.specs.Lean.{spares_memory}
 use Rattle.ll_held.specs.declared.held.Held.{Held}
 use Rattle.ll_inodes.specs.InodeTable.{NotIn}
 use Rattle.ll_rights.specs.Map.{get}
 use Rattle.ll_path.specs.Path.{is_root}
 use Rattle.ll_seq.specs.declared.call.Call.{Call}
-use Rattle.ll_seq.specs.declared.call.Call.TheVariants.{Close}
-use Rattle.ll_seq.specs.declared.client.ClientRecord.{ClientRecord}
 use Rattle.ll_seq.specs.declared.reply.Reply.TheVariants.{Refused}
 use Rattle.ll_seq.specs.State.{root}
-use Rattle.ll_seq.specs.Step.{client_of}
 use Rattle.ll_seq.proofs.Parted.{or_left, or_right}
 use Rattle.ll_worlds.specs.declared.step.Step.{Step}
 use Rattle.ll_worlds.specs.declared.step.Step.TheVariants.{Descend, Commit}
 use Rattle.ll_worlds.specs.Walk.{Walk, Leg, Position, Above, Down, Split, further, turn, legs, marks, is_above, at_ends}
 use Rattle.ll_worlds.specs.Walk.{has_two_paths}
 use Rattle.ll_worlds.specs.World.{World, Outcome, NotNow, Stands, Replied, advance, shown, is_marked_by_other}
-use Rattle.ll_worlds.specs.World.{is_walked, last_nodes, domain_of, is_marked, stand, enter, descend}
+use Rattle.ll_worlds.specs.World.{last_nodes, domain_of, is_marked, stand, enter, descend}
 use Rattle.ll_worlds.proofs.Tests.{not_true}
+use Rattle.ll_worlds.proofs.SoundSteps.{sound_ended}
 use Rattle.ll_worlds.proofs.WalkMaps.{found}
 use Rattle.ll_worlds.specs.Sound.{IsSound}
 use Rattle.ll_worlds.proofs.Shapes.{leg_is_blocked, stood}
 use Rattle.ll_journal.specs.Book.{Book, Spares, inode_in, slot_of, has_mark}
 use Rattle.ll_journal.specs.Steps.{Does, GoesDown, IsNext, IsInTurn, IsAstrayAt, IsAstrayAtTop}
 use Rattle.ll_journal.specs.Steps.{is_at_top, leg_in_turn}
-use Rattle.ll_journal.specs.WalkEnds.{AreEnough, Ends, IsAstrayAtEnd, MayTakeMemory, is_lent}
+use Rattle.ll_journal.specs.WalkEnds.{AreEnough, Ends, IsAstrayAtEnd, is_lent}
 use Rattle.ll_journal.specs.declared.progress.Ending.{Ending}
 use Rattle.ll_journal.specs.declared.progress.Ending.TheVariants as ending
 use Rattle.ll_journal.specs.declared.progress.Progress as told
@@ -40,11 +37,11 @@ use Rattle.ll_journal.specs.declared.progress.Progress.TheVariants as tells
 use Rattle.ll_journal.specs.Stations.{station_at, station_of, station_in}
 use Rattle.ll_journal.specs.declared.station.Station.TheVariants as station
 use Rattle.ll_journal.specs.SlotTree.{accounts_of}
-use Rattle.ll_journal.proofs.Advancing.{descend_none, descend_stale, commit_none, commit_not_now, commit_replies}
-use Rattle.ll_journal.proofs.Ended.{gives_up}
+use Rattle.ll_journal.proofs.Advancing.{descend_none, descend_stale, commit_none, commit_not_now}
+use Rattle.ll_journal.proofs.Starved.{starved_walk}
 use Rattle.ll_journal.proofs.NextSteps.{no_turn}
 use Rattle.ll_steps.specs.Contents.{held_at, ended_as, IsKept}
-use Rattle.ll_steps.specs.Makes.{Makes, succeeds}
+use Rattle.ll_steps.specs.Makes.{Makes}
 use Rattle.ll_steps.proofs.Adding.{replied_makes, full_told}
 use Rattle.ll_steps.proofs.ContentsKept.{kept_on, does_advance}
 use Rattle.ll_steps.proofs.LentContents.{put_back}
@@ -215,34 +212,14 @@ pub near_end : (b : Book) (number : ℕ) (slots : List ℕ)
     → IsAstrayAtEnd b number slots → ⊥
 near_end b number slots enough astray = astray.3 (enough astray.0 astray.1 astray.2)
 
-not_closing : (c : ClientRecord) (call : Call) → is_walked c call ≡ true → (fd : ℕ) → call ≢ Close fd
-not_closing c call walked fd e = cc (sym walked ∙ ap (is_walked c) e)
-
-pub ending_makes : (b b' : Book) (number : ℕ) (e : Ending) → IsSound b.world → e ≢ ending.Astray
-    → (e ≡ ending.NoMemory → MayTakeMemory b.world number) → Ends b number e b'
+pub ending_makes : (b b' : Book) (number : ℕ) (e : Ending) → e ≢ ending.Astray → Ends b number e b'
     → Makes b.world (Commit number) (ended_as (length b.world.history) e) b'.world
-ending_makes b b' number ending.NotNow h near takes d = d
-ending_makes b b' number ending.Astray h near takes d = absurd (near refl)
-ending_makes b b' number (ending.Replied reply) h near takes d =
+ending_makes b b' number ending.NotNow near d = d
+ending_makes b b' number ending.Astray near d = absurd (near refl)
+ending_makes b b' number (ending.Replied reply) near d =
     replied_makes b.world b'.world (Commit number) reply d.0 (λ f. cc f) d.1
-ending_makes b b' number ending.HistoryFull h near takes d = inl (full_told b.world b'.world (Commit number) d, d)
-ending_makes b b' number ending.NoMemory h near takes d =
-    let s = d.0 in
-    let t = takes refl in
-    let one : t.0 ≡ s.walk = same_Some t.0 s.walk (sym t.1 ∙ s.is) in
-    inr (
-      refl,
-      record {
-        client = number;
-        call = s.walk.call;
-        is = ap (option_map (λ (walk : Walk). (number, walk.call))) s.is;
-        takes = ap (λ (v : Walk). spares_memory v.call) (sym one) ∙ t.2;
-        not_close = not_closing (client_of (shown b.world) number) s.walk.call (h.valid number s.walk s.is).0.walked;
-        would = ap (λ (p : Outcome × World). succeeds p.0) (commit_replies b.world number s.walk s.is s.may s.room)
-            ∙ ap not s.granted;
-        left = d.1;
-      },
-    )
+ending_makes b b' number ending.HistoryFull near d = inl (full_told b.world b'.world (Commit number) d, d)
+ending_makes b b' number ending.NoMemory near d = inr (refl, d.0, d.1)
 
 pub ending_keeps : (b b' : Book) (slots new : List Held) (number : ℕ) (e : Ending) → IsKept b slots → e ≢ ending.Astray
     → Ends b number e b' → new ≡ accounts_of b' → IsKept b' new
@@ -254,7 +231,8 @@ ending_keeps b b' slots new number ending.HistoryFull h near d e =
     kept_on b b' slots new (Commit number) (Replied (Refused HistoryFull)) h d e
 ending_keeps b b' slots new number ending.NoMemory h near d e = record {
   accounts = e;
-  sound = subst IsSound (sym d.1) (gives_up b.world number d.0.walk h.sound d.0.is);
+  sound = (let ends = starved_walk b.world number d.0 in
+      subst IsSound (sym d.1) (sound_ended b.world number ends.0 h.sound ends.1));
   within = subst (λ (w : World). length w.history ≤ w.limit) (sym d.1) h.within;
 }
 

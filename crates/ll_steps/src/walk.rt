@@ -129,7 +129,31 @@ pub(crate) fn descend_between(
     }
 }
 
-/// The client's walk is answered, with these slots.
+/// The client's walk is answered, with these slots, for whose contents something is lent.
+fn commit_lent(
+    journal: &mut Journal,
+    slots: &mut [Held],
+    client: u64,
+    numbers: &[u64],
+    lent: &mut [Held],
+) -> Report
+    requires kept { IsKept journal.old slots.old }
+    requires same { length lent.old ≡ length numbers.now }
+    requires there { AllByRecursion (λ number. number < length slots.old) numbers.now }
+    requires distinct { AreDistinct numbers.now }
+    requires enough { (walk : walks.Walk) → get journal.old.world.walks client ≡ Some walk → walk.stale ≡ false
+        → AreEnough journal.old client walk numbers.now }
+    ensures makes { Makes journal.old.world (steps.Commit client) result journal.new.world }
+    ensures kept { IsKept journal.new slots.new }
+{
+    let number = journal.entries().len() as u64;
+    trade(slots, numbers, lent);
+    let ending = journal.commit(client, numbers, lent);
+    trade(slots, numbers, lent);
+    ended(number, ending)
+}
+
+/// The same. Most calls need two slots at most.
 pub(crate) fn commit_with(
     journal: &mut Journal,
     slots: &mut [Held],
@@ -146,13 +170,13 @@ pub(crate) fn commit_with(
     ensures makes { Makes journal.old.world (steps.Commit client) result journal.new.world }
     ensures kept { IsKept journal.new slots.new }
 {
-    let number = journal.entries().len() as u64;
-    let mut held = [vacant(alloc), vacant(alloc), vacant(alloc), vacant(alloc)];
-    let lent = &mut held[..numbers.len()];
-    trade(slots, numbers, lent);
-    let ending = journal.commit(client, numbers, lent);
-    trade(slots, numbers, lent);
-    ended(number, ending)
+    if numbers.len() <= 2 {
+        let mut held = [vacant(alloc), vacant(alloc)];
+        commit_lent(journal, slots, client, numbers, &mut held[..numbers.len()])
+    } else {
+        let mut held = [vacant(alloc), vacant(alloc), vacant(alloc), vacant(alloc)];
+        commit_lent(journal, slots, client, numbers, &mut held[..numbers.len()])
+    }
 }
 
 /// The client's walk leaves what is common to both paths.

@@ -5,7 +5,7 @@ ghost use Rattle.std.specs.Prelude.{◌≡◌, ◌+◌, true};
 ghost use Rattle.ll_rights.specs.declared.limits.TheConstants.{TREE_CLIENTS};
 
 use crate::calls::target;
-use crate::watched::{Outcome, outcome_of};
+use crate::watched::{TrialEnd, end_of_trial};
 use ll_audit::audit;
 use ll_calls::{Refused, Tree};
 use ll_client::{Account, Client, Shape};
@@ -391,14 +391,14 @@ fn who_has_met_the_maker_finds_what_it_made(rt: HostRuntime) {
 fn four_clients_in_four_threads(rt: HostRuntime) {
     let alloc = rt.alloc();
     let trial = move || succeeds(&rt, alloc, ENTRIES, Trial::FourClients);
-    assert_eq!(rt; outcome_of(&rt, alloc, trial), Outcome::Right);
+    assert_eq!(rt; end_of_trial(&rt, alloc, trial), TrialEnd::Right);
 }
 
 #[test]
 fn confined_reader_and_exchanges(rt: HostRuntime) {
     let alloc = rt.alloc();
     let trial = move || succeeds(&rt, alloc, ENTRIES, Trial::Race);
-    assert_eq!(rt; outcome_of(&rt, alloc, trial), Outcome::Right);
+    assert_eq!(rt; end_of_trial(&rt, alloc, trial), TrialEnd::Right);
 }
 
 #[test]

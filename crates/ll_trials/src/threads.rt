@@ -6,7 +6,7 @@ ghost use Rattle.std.specs.Thread.{IsSync};
 ghost use Rattle.ll_rights.specs.declared.limits.TheConstants.{TREE_CLIENTS};
 
 use crate::calls::target;
-use crate::watched::{Outcome, outcome_of};
+use crate::watched::{TrialEnd, end_of_trial};
 use ll_audit::audit;
 use ll_client::{Account, Client, Locked, Shape};
 use ll_journal::Made;
@@ -172,8 +172,8 @@ fn holds_one<R: Threads + Wait + Sync>(rt: &R, alloc: Global) -> bool {
 #[test]
 fn walk_held_in_one_directory(rt: HostRuntime) {
     let alloc = rt.alloc();
-    let outcome = outcome_of(&rt, alloc, move || holds_one(&rt, alloc));
-    assert_eq!(rt; outcome, Outcome::Right);
+    let ended = end_of_trial(&rt, alloc, move || holds_one(&rt, alloc));
+    assert_eq!(rt; ended, TrialEnd::Right);
 }
 
 /// The call of one of four threads in a round: two move a directory there and back, one links a file and takes the link
@@ -292,6 +292,6 @@ fn four_move<R: Threads + Wait + Sync>(rt: &R, alloc: Global) -> bool {
 #[test]
 fn four_threads_that_move(rt: HostRuntime) {
     let alloc = rt.alloc();
-    let outcome = outcome_of(&rt, alloc, move || four_move(&rt, alloc));
-    assert_eq!(rt; outcome, Outcome::Right);
+    let ended = end_of_trial(&rt, alloc, move || four_move(&rt, alloc));
+    assert_eq!(rt; ended, TrialEnd::Right);
 }

@@ -15,7 +15,7 @@ const LOOKS: u64 = 400;
 
 /// What came of a trial.
 #[derive(Clone, Copy, Debug, PartialEq, Eq)]
-pub enum Outcome {
+pub enum TrialEnd {
     Right,
     Wrong,
     /// It hadn't ended after 40 seconds.
@@ -25,18 +25,18 @@ pub enum Outcome {
 }
 
 /// Makes the trial in a thread of its own, which isn't waited for any longer where it hangs.
-pub fn outcome_of<R: Clock + Threads, F: FnOnce() -> bool + Send + 'static>(
+pub fn end_of_trial<R: Clock + Threads, F: FnOnce() -> bool + Send + 'static>(
     rt: &R,
     alloc: Global,
     trial: F,
-) -> Outcome
+) -> TrialEnd
     requires { F.pre trial }
 {
     let Ok(ended) = Arc::new(alloc, AtomicU64::new(0)) else {
-        return Outcome::Untried;
+        return TrialEnd::Untried;
     };
     let Ok(theirs) = Arc::try_clone(&ended) else {
-        return Outcome::Untried;
+        return TrialEnd::Untried;
     };
     let spawned = thread::spawn(
         rt,
@@ -49,17 +49,17 @@ pub fn outcome_of<R: Clock + Threads, F: FnOnce() -> bool + Send + 'static>(
         },
     );
     let Ok(thread) = spawned else {
-        return Outcome::Untried;
+        return TrialEnd::Untried;
     };
     for _ in 0..LOOKS {
         if ended.load(Ordering::SeqCst) != 0 {
             return if thread.join(rt) {
-                Outcome::Right
+                TrialEnd::Right
             } else {
-                Outcome::Wrong
+                TrialEnd::Wrong
             };
         }
         let _ = thread::sleep(rt, Duration::from_millis(LOOK));
     }
-    Outcome::Hangs
+    TrialEnd::Hangs
 }

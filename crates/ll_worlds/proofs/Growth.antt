@@ -20,26 +20,19 @@ use Rattle.ll_laws.proofs.Withholding.{bytes_are_withheld}
 use Rattle.ll_worlds.specs.Walk.{Walk}
 use Rattle.ll_worlds.specs.World.{World, advance, new_world, world_after, is_full, next_number, reply_to}
 use Rattle.ll_worlds.specs.declared.step.Step.{Step}
+use Rattle.ll_worlds.specs.Sound.{StepsLeadOn}
 use Rattle.ll_worlds.specs.Walks.{HistoryIsLegal}
-use Rattle.ll_worlds.specs.Growing.{Came, HistoryGrows, OfBoth}
+use Rattle.ll_worlds.specs.Growing.{Came, HistoryGrows, IsLater, OfBoth}
 use Rattle.ll_worlds.proofs.Turns.{Keeps, steps_kept}
 use Rattle.ll_worlds.proofs.Worlds.{still_hold, all_hold}
 
--- what steps keep of a world, and what they add
-record Grows (w v : World) : Type 0 where
-  rules : v.rules ≡ w.rules
-  room : v.room ≡ w.room
-  limit : v.limit ≡ w.limit
-  added : (es : List Entry) × Came w v es
-  fits : length v.history ≤ v.limit
-
 -- walks and the gate are no part of it
-module _ (w v : World) (g : Grows w v) (walks : Map nat_cmp Walk) (gate : Option ℕ) where
-  no_entry : Grows w (record v { walks = walks; gate = gate })
+module _ (w v : World) (g : IsLater w v) (walks : Map nat_cmp Walk) (gate : Option ℕ) where
+  no_entry : IsLater w (record v { walks = walks; gate = gate })
   no_entry = record { rules = g.rules; room = g.room; limit = g.limit; added = g.added; fits = g.fits }
 
   one_entry : (number : ℕ) (call : Call) (reply : Reply) → is_full v ≡ false
-      → Grows w (record v {
+      → IsLater w (record v {
         history = v.history ++ record { client = number; call = call; reply = reply } ∷ [];
         walks = walks;
         gate = gate;
@@ -63,7 +56,7 @@ module _ (w v : World) (g : Grows w v) (walks : Map nat_cmp Walk) (gate : Option
       room_left true e f = absurd (cc f)
       room_left false e f = leb-false v.limit (length v.history) e
 
-grows_on : (w : World) → Keeps (Grows w)
+grows_on : (w : World) → Keeps (IsLater w)
 grows_on w = record {
   begins = λ v number call g idle walked h. no_entry w v g _ _;
   enters = λ v number walk g is fresh high free h. no_entry w v g _ _;
@@ -78,7 +71,7 @@ grows_on w = record {
   joins = λ v g not_full answer. one_entry w v g v.walks v.gate (next_number v) Connect Done not_full;
 }
 
-grows_itself : (w : World) → length w.history ≤ w.limit → Grows w w
+grows_itself : (w : World) → length w.history ≤ w.limit → IsLater w w
 grows_itself w fits = record {
   rules = refl;
   room = refl;
@@ -87,8 +80,11 @@ grows_itself w fits = record {
   fits = fits;
 }
 
-grows : (w : World) (steps : List Step) → length w.history ≤ w.limit → Grows w (world_after w steps)
-grows w steps fits = steps_kept (Grows w) (grows_on w) w steps (grows_itself w fits)
+grows : (w : World) (steps : List Step) → length w.history ≤ w.limit → IsLater w (world_after w steps)
+grows w steps fits = steps_kept (IsLater w) (grows_on w) w steps (grows_itself w fits)
+
+pub steps_lead_on : StepsLeadOn
+steps_lead_on w step' fits = grows w (step' ∷ []) fits
 
 pub still_within : (w : World) (step' : Step) → length w.history ≤ w.limit
     → length (advance w step').1.history ≤ (advance w step').1.limit
@@ -96,7 +92,7 @@ still_within w step' fits = (grows w (step' ∷ []) fits).fits
 
 -- from the beginning
 from_start : (rules : Rules) (room limit : ℕ) (steps : List Step)
-    → Grows (new_world rules room limit) (world_after (new_world rules room limit) steps)
+    → IsLater (new_world rules room limit) (world_after (new_world rules room limit) steps)
 from_start rules room limit steps = grows (new_world rules room limit) steps (omega arith)
 
 pub history_grows : HistoryGrows

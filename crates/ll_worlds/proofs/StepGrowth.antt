@@ -27,7 +27,7 @@ use Rattle.ll_worlds.specs.World.{World, Outcome, NotNow, Begun, Stands, Forked,
 use Rattle.ll_worlds.specs.World.{domain_of, is_idle, is_walked, is_on_descriptor, is_alone, is_marked, is_full}
 use Rattle.ll_worlds.specs.World.{may_commit, takes_gate, next_number, reply_to, with_walk, without_walk, map_values}
 use Rattle.ll_worlds.specs.World.{overtaken, moved_by, joined, begin, enter, stand, descend, fork, commit, restart}
-use Rattle.ll_worlds.specs.World.{direct, advance}
+use Rattle.ll_worlds.specs.World.{direct, advance, called}
 use Rattle.ll_worlds.proofs.Shapes.{begun, committed, entered, join, may_hold, replied, restarted, stood, walking}
 use Rattle.ll_worlds.proofs.Shapes.{with_entry, with_stale}
 use Rattle.ll_worlds.proofs.Tests.{both, not_true}
@@ -78,6 +78,25 @@ asked w (Commit c) = doing_of w c
 asked w (FdCommit c call) = Some call
 asked w (ClientStep c call) = Some call
 asked w s = None
+
+-- and whose it is
+abbrev pub by_client : ℕ → Option Call → Option (ℕ × Call)
+by_client number = option_map {U = ℕ × Call} (λ call. (number, call))
+
+pub called_is : (w : World) (s : Step) → called w s ≡ by_client (client_in w s) (asked w s)
+called_is w Join = refl
+called_is w (Begin number call) = refl
+called_is w (Descend number) = refl
+called_is w (Fork number) = refl
+called_is w (Commit number) = by (get w.walks number)
+  where
+    by : (o : Option Walk) → option_map {U = ℕ × Call} (λ (walk : Walk). (number, walk.call)) o
+        ≡ by_client number (option_map (λ (walk : Walk). walk.call) o)
+    by None = refl
+    by (Some walk) = refl
+called_is w (Restart number) = refl
+called_is w (FdCommit number call) = refl
+called_is w (ClientStep number call) = refl
 
 abbrev Grows : World → Step → World → List Entry → Type 0
 Grows w s v added = Grown w v (client_in w s) (doing_after w s) added

@@ -9,6 +9,14 @@ use Rattle.ll_worlds.specs.declared.step.Step.{Step}
 abbrev pub Came : World → World → List Entry → Type 0
 Came w v added = v.history ≡ w.history ++ added
 
+-- the second world's tree is the first one's, to whose history entries came, at most as many as it may have
+pub record IsLater (w v : World) : Type 0 where
+  pub rules : v.rules ≡ w.rules
+  pub room : v.room ≡ w.room
+  pub limit : v.limit ≡ w.limit
+  pub added : (es : List Entry) × Came w v es
+  pub fits : length v.history ≤ v.limit
+
 -- steps only add entries to a history, and never more than its limit
 abbrev pub HistoryGrows : Type 0
 HistoryGrows =

@@ -293,6 +293,14 @@ enabled w (Restart number) = option_and_then (restart w number) (get w.walks num
 enabled w (FdCommit number call) = direct w number (is_on_descriptor (client_of (shown w) number) call) call
 enabled w (ClientStep number call) = direct w number (is_alone (client_of (shown w) number) call) call
 
+-- the client and the call that an entry of this step is of
+abbrev pub called : World → Step → Option (ℕ × Call)
+called w Join = Some (next_number w, call.Connect)
+called w (Commit number) = option_map (λ (walk : Walk). (number, walk.call)) (get w.walks number)
+called w (FdCommit number call) = Some (number, call)
+called w (ClientStep number call) = Some (number, call)
+called w step' = None
+
 -- A step that isn't enabled changes nothing
 abbrev pub advance : World → Step → Outcome × World
 advance w step' = unwrap_or (enabled w step') (NotNow, w)

@@ -7,6 +7,7 @@ ghost use Rattle.ll_worlds.specs.Commits.{BlockedAreRefused, EndsAreReached};
 ghost use Rattle.ll_laws.specs.NoGain.{GainsNothing};
 ghost use Rattle.ll_laws.specs.Withheld.{Withholds};
 ghost use Rattle.ll_worlds.specs.Growing.{HistoryGrows, OfBoth};
+ghost use Rattle.ll_worlds.specs.Sound.{EndsKeepSound, NewAreSound, SoundAreLegal, StepsKeepSound, StepsLeadOn};
 ghost use Rattle.ll_worlds.specs.Walks.{AfterSteps, AreApart, AreFew, AreValid, GateIsHeld, HistoryIsLegal};
 
 pub use step::Step;
@@ -59,4 +60,21 @@ pub fn reach_never_grows()
 /// What `ll_laws::bytes_stay_withheld` says of histories, between any two worlds.
 pub fn bytes_stay_withheld()
     ensures { OfBoth Withholds }
+{}
+
+/// A new world is sound, and each step keeps a world so. So does the end of a walk without an answer.
+pub fn steps_keep_worlds_sound()
+    ensures new { NewAreSound }
+    ensures steps { StepsKeepSound }
+    ensures ends { EndsKeepSound }
+{}
+
+/// What a sound world gives: a legal history, the tree after it, and walks that are right in that tree.
+pub fn sound_worlds_are_legal()
+    ensures { SoundAreLegal }
+{}
+
+/// A step only adds to a history, within its limit, and the tree's rules and room stay.
+pub fn steps_lead_on()
+    ensures { StepsLeadOn }
 {}

@@ -22,7 +22,7 @@ pub returns-in-Err-clause-starved : goal.returns-in-Err-clause-starved
 returns-in-Err-clause-starved c = λ is.
     starves c.args.tree.now c.args.entries.now c.loop-i.i c.index-entries-i.result c.loop-i.tree c.loop-i-test.true
     c.index-entries-i.is c.loop-i.invariant
-    c.in-Err.ensures.takes c.in-Err.ensures.starved
+    c.in-Err.ensures.starved
 
 pub returns-in-Err-clause-illegal : goal.returns-in-Err-clause-illegal
 returns-in-Err-clause-illegal c = λ number is. absurd cc

@@ -29,7 +29,7 @@ returns-in-Err c =
     (no_denials c.args.self.now (client_of c.args.self.now c.args.client).domain) c.in-Err.errno _
     (c.in-Err.ensures.refused (client_of c.args.self.now c.args.client)
     (got_client _ c.args.self.now c.args.client c.self.view_is c.requires))
-    (kept _ c.args.self.now c.confine.new.self c.self.view_is c.in-Err.ensures.err)
+    (kept _ c.args.self.now c.confine.new.self c.self.view_is c.in-Err.ensures.err) refl
 
 pub returns : goal.returns
 returns c =

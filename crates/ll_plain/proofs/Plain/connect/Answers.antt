@@ -18,7 +18,7 @@ use Rattle.ll_plain.proofs.Plain.connect.Goals as goal
 pub returns-in-Err : goal.returns-in-Err
 returns-in-Err c = starves c.args.self.now c.args.client (Connect) refl
     (no_denials c.args.self.now (client_of c.args.self.now c.args.client).domain) (not_refused _ EMFILE (search rules))
-    _ (kept _ c.args.self.now c.insert.new.self c.self.view_is c.in-Err.ensures.err)
+    _ (kept _ c.args.self.now c.insert.new.self c.self.view_is c.in-Err.ensures.err) refl
 
 pub returns : goal.returns
 returns c =

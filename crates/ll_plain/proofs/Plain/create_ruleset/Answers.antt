@@ -26,7 +26,7 @@ returns-in-Err c =
     ++ refuse (nat_le CLIENT_RULESETS (length C.rulesets)) EMFILE) c.in-Err.errno)
     (ap (λ (z : State). z.rules.abi) c.self.view_is)
     (c.in-Err.ensures.refused C (got_client _ c.args.self.now c.args.client c.self.view_is c.requires)))
-    (kept _ c.args.self.now c.create_ruleset.new.self c.self.view_is c.in-Err.ensures.err)
+    (kept _ c.args.self.now c.create_ruleset.new.self c.self.view_is c.in-Err.ensures.err) refl
 
 pub returns : goal.returns
 returns c =

@@ -15,7 +15,7 @@ pub returns-in-Err-bytes : goal.returns-in-Err-bytes
 returns-in-Err-bytes c = starves c.args.self.now c.args.client (Read c.args.number c.args.offset c.args.count)
     (both_free _ [] (both_free _ _ (not_refused (nat_lt DATA_BYTES c.args.count) EINVAL (search rules))
     c.in-Ok.ensures.free) refl) (no_denials c.args.self.now (client_of c.args.self.now c.args.client).domain) refl _
-    refl
+    refl refl
 
 pub returns-in-Ok-bytes : goal.returns-in-Ok-bytes
 returns-in-Ok-bytes c =

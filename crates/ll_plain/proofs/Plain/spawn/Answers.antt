@@ -30,12 +30,12 @@ returns-then-len-ge-TREE_CLIENTS c =
 pub returns-in_default : goal.returns-in_default
 returns-in_default c = starves c.args.self.now c.args.client Spawn refl
     (no_denials c.args.self.now (client_of c.args.self.now c.args.client).domain) (not_refused _ EMFILE (search rules))
-    _ refl c.args.fresh
+    _ refl refl c.args.fresh
 
 pub returns-in-Err : goal.returns-in-Err
 returns-in-Err c = starves c.args.self.now c.args.client Spawn refl
     (no_denials c.args.self.now (client_of c.args.self.now c.args.client).domain) (not_refused _ EMFILE (search rules))
-    _ (kept _ c.args.self.now c.insert.new.self c.self.view_is c.in-Err.ensures.err) c.args.fresh
+    _ (kept _ c.args.self.now c.insert.new.self c.self.view_is c.in-Err.ensures.err) refl c.args.fresh
 
 pub returns : goal.returns
 returns c =
@@ -50,7 +50,7 @@ pub returns-then-not-have_room : goal.returns-then-not-have_room
 returns-then-not-have_room c =
     starves c.args.self.now c.args.client Spawn refl
     (no_denials c.args.self.now (client_of c.args.self.now c.args.client).domain) (not_refused _ EMFILE (search rules))
-    _ refl c.args.fresh
+    _ refl refl c.args.fresh
 
 pub unreachable-requires : goal.unreachable-requires
 unreachable-requires c =

@@ -36,7 +36,7 @@ returns-in-Err-put c =
     (no_denials c.args.self.now (client_of c.args.self.now c.args.client).domain)
     (too_long_if (length c.args.bytes.now) _ false (sym c.is_empty.ensures ∙ c.if-is_empty.false)
     (ap (λ n. is_too_long (c.args.offset + n)) (sym c.len-len.ensures.len) ∙ sym c.ends_too_late.ensures
-    ∙ c.if-ends_too_late.false)) _ c.in-Err-put.ensures.err
+    ∙ c.if-ends_too_late.false)) _ c.in-Err-put.ensures.err refl
 
 pub returns : goal.returns
 returns c =

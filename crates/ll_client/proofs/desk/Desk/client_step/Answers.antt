@@ -7,7 +7,7 @@ use Rattle.ll_client.specs.Gains.{Gains}
 use Rattle.ll_client.specs.Hands.{seen_made}
 use Rattle.ll_client.proofs.Accounts.{IsClient, accounts_kept}
 use Rattle.ll_client.proofs.Desks.{desk_kept}
-use Rattle.ll_client.proofs.Directs.{alone_takes, direct_gains, direct_low, direct_steps, direct_still}
+use Rattle.ll_client.proofs.Directs.{direct_gains, direct_low, direct_steps, direct_still}
 use Rattle.ll_client.proofs.desk.Desk.client_step.Goals as goal
 
 pub give_client-requires-clause-all : goal.give_client-requires-clause-all
@@ -80,8 +80,7 @@ returns-clause-mine g c =
     g.N.Shape.limit
     _ (starved_in c.me.inside.wants) _ c.args.call (ClientStep c.me.inside.number c.args.call) c.step_alone-made.result
     (record { mine = refl; asks = refl; idle = refl; other = λ e. cc e }) c.self.invariant.within
-    c.self.invariant.limit_is k
-    (λ e. alone_takes c.args.call (c.step_alone-made.ensures.calm e)) c.step_alone-made.ensures.does)
+    c.self.invariant.limit_is k c.step_alone-made.ensures.does)
 
 pub returns-clause-still : goal.returns-clause-still
 returns-clause-still g c =

@@ -8,8 +8,7 @@ use Rattle.ll_client.specs.Gains.{Gains}
 use Rattle.ll_client.specs.Hands.{seen_made}
 use Rattle.ll_client.proofs.Accounts.{IsClient, accounts_kept}
 use Rattle.ll_client.proofs.Desks.{desk_kept}
-use Rattle.ll_journal.specs.declared.open_file.Unmade.{Unmade}
-use Rattle.ll_client.proofs.Directs.{direct_gains, direct_low, direct_steps, direct_still, file_takes}
+use Rattle.ll_client.proofs.Directs.{direct_gains, direct_low, direct_steps, direct_still}
 use Rattle.ll_client.proofs.desk.Desk.fd_commit.Goals as goal
 
 pub put_slot-requires-clause-all : goal.put_slot-requires-clause-all
@@ -97,10 +96,7 @@ returns-clause-mine g c =
     g.N.Shape.limit _
     (starved_in c.me.inside.wants) _ c.args.call (FdCommit c.me.inside.number c.args.call) c.step_on_file-made.result
     (record { mine = refl; asks = refl; idle = refl; other = λ e. cc e }) c.self.invariant.within
-    c.self.invariant.limit_is k
-    (file_takes Unmade c.self.inside.journal c.step_on_file-made.new.journal c.me.inside.number c.args.call
-    c.step_on_file-made.result c.step_on_file-made.ensures.calm c.step_on_file-made.ensures.does)
-    c.step_on_file-made.ensures.does)
+    c.self.invariant.limit_is k c.step_on_file-made.ensures.does)
 
 pub returns-clause-still : goal.returns-clause-still
 returns-clause-still g c =

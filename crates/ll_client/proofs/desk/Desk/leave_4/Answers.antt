@@ -146,5 +146,5 @@ returns-clause-mine g c =
     ))
     (left_goes c.self.inside.journal c.leave_by_4-left.new.journal c.me.inside.number c.me.inside.seen
     g.N.Shape.limit _ (starved_in c.me.inside.wants) _ c.self.invariant.within c.self.invariant.limit_is k
-    c.args.leaving c.leave_by_4-left.result c.self.invariant.sound c.leave_by_4-left.ensures.calm
+    c.args.leaving c.leave_by_4-left.result c.self.invariant.sound
     c.leave_by_4-left.ensures.leaves)

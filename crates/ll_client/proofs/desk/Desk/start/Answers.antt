@@ -77,4 +77,4 @@ returns-clause-mine g c =
     g.N.Shape.limit
     _ (starved_in c.me.inside.wants) _ c.args.call c.start_call-start.result c.self.invariant.within
     c.self.invariant.limit_is k
-    c.start_call-start.ensures.calm c.start_call-start.ensures.starts)
+    c.start_call-start.ensures.starts)

@@ -1,10 +1,16 @@
 use Rattle.std.proofs.Common.{◌+◌, ◌∙◌, sym, ap, length, arith}
 use Rattle.std.specs.Prelude.{List, slice_get}
 use Rattle.ll_decide.specs.declared.denial.Denial.{Denial}
-use Rattle.ll_decide.specs.Search.{is_in, fails, of_layer}
+use Rattle.ll_decide.specs.Search.{is_in, fails, layers_of, of_layer}
 use Rattle.ll_decide.proofs.Finding.{numbered_here, numbered_later}
-use Rattle.ll_decide.proofs.Sets.{layer-same}
+use Rattle.ll_decide.proofs.Sets.{layer-same, none_denied}
 use Rattle.ll_decide.proofs.judge.Granted.first.Goals as goal
+
+pub returns-then-demands_nothing : goal.returns-then-demands_nothing
+returns-then-demands_nothing c =
+    sym (none_denied c.args.cause (layers_of c.args.self.now) c.args.rights.now
+    (fails c.args.self.now c.args.demands.now c.args.reason)
+    (c.demands_nothing.ensures c.if-demands_nothing.true c.args.self.now))
 
 pub returns-in-Some : goal.returns-in-Some
 returns-in-Some c =

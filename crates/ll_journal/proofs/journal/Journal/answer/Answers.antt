@@ -1,4 +1,4 @@
-use Rattle.std.specs.Prelude.{◌≡◌, false, slice_set, refl, [], map}
+use Rattle.std.specs.Prelude.{◌≡◌, ℕ, false, true, slice_set, refl, [], map, option_map}
 use Rattle.std.specs.Vec.{with_item}
 use Rattle.std.proofs.Common.{◌<◌, length, rules, ap, sym, subst, ◌∙◌, inl}
 use Rattle.std.proofs.lemmas.Bool.{leb-false}
@@ -8,10 +8,12 @@ use Rattle.ll_seq.specs.declared.call.Call.{Call}
 use Rattle.ll_seq.specs.declared.reply.Reply.{Reply}
 use Rattle.ll_seq.specs.declared.reply.Reply.TheVariants.{Refused}
 use Rattle.ll_rights.specs.declared.errno.Errno.TheVariants.{HistoryFull}
+use Rattle.ll_seq.specs.Memory.{takes_memory}
 use Rattle.ll_seq.specs.State.{State}
 use Rattle.ll_seq.specs.Step.{refusals, client_of}
+use Rattle.ll_worlds.specs.Sound.{IsSound}
 use Rattle.ll_worlds.specs.Walk.{Walk}
-use Rattle.ll_worlds.specs.World.{World, Replied, advance, is_full, moved_by, next_number, shown}
+use Rattle.ll_worlds.specs.World.{World, Replied, advance, is_full, moved_by, shown}
 use Rattle.ll_worlds.specs.declared.step.Step.TheVariants.{Commit}
 use Rattle.ll_worlds.proofs.Tests.{or_false}
 use Rattle.ll_journal.specs.declared.journal.Journal.TheInside.{Inside}
@@ -20,13 +22,14 @@ use Rattle.ll_journal.specs.WalkEnds.{LeavesFree}
 use Rattle.ll_journal.specs.Decidings.{moved_list}
 use Rattle.ll_journal.specs.Kept.{book_of, spares_of, world_of}
 use Rattle.ll_journal.specs.Performed.{IsPerformed, at_seat}
+use Rattle.ll_journal.proofs.Advancing.{commit_replies}
 use Rattle.ll_journal.proofs.AtAnswers.{EndedSo, at_end, ended_so, seat_idle}
 use Rattle.ll_journal.proofs.Committed.{IsCommitted, committed_kept, committed_lent, committed_rest, committed_spares}
 use Rattle.ll_journal.proofs.Committed.{committed_step, scene_at, spares_both}
 use Rattle.ll_journal.proofs.DecidedCalls.{no_zero}
 use Rattle.ll_journal.proofs.Ended.{commit_gives_up}
 use Rattle.ll_journal.proofs.EndedWalks.{place_within}
-use Rattle.ll_journal.proofs.Starved.{step_granted}
+use Rattle.ll_journal.proofs.Starved.{starves_by, walked_takes}
 use Rattle.ll_journal.proofs.Stepping.{book_unchanged, entered, set_again}
 use Rattle.ll_journal.proofs.journal.Journal.answer.Goals as goal
 
@@ -102,18 +105,30 @@ free_then c =
     (at_end c.self.invariant c.self-2.invariant c.requires.numbered c.requires.distinct e
     (ap is_full e.world ∙ sym c.is_full-is_full.ensures ∙ c.if-is_full.false)))
 
+-- the history has room
+room_at_end : (c : goal.After-drop-in_default) → is_full c.args.self.now.world ≡ false
+room_at_end c =
+    ap (λ (b : Book). is_full b.world) (sym c.self.view_is) ∙ sym c.is_full-is_full.ensures ∙ c.if-is_full.false
+
+-- and the call takes memory
+takes_then : (c : goal.After-drop-in_default) → takes_memory c.requires.reached.walk.call ≡ true
+takes_then c =
+    let r = c.requires.reached in
+    let sound : IsSound c.args.self.now.world =
+    subst (λ (b : Book). IsSound b.world) c.self.view_is c.self.invariant.sound in
+    walked_takes (client_of (shown c.args.self.now.world) c.args.client) r.walk.call
+    (sound.valid c.args.client r.walk r.ends.is).0.walked
+    (or_false (spares_memory r.walk.call)
+    (λ h. cc (c.in_default.ensures.calm
+    (ap spares_memory (c.end_walk-walk.ensures.ended r.walk r.ends.is).call ∙ h))))
+
 pub returns-in_default-clause-does : goal.returns-in_default-clause-does
 returns-in_default-clause-does c =
     let r = c.requires.reached in (
-      record {
-        walk = r.walk;
-        is = r.ends.is;
-        may = r.ends.may;
-        room = ap (λ (b : Book). is_full b.world) (sym c.self.view_is) ∙ sym c.is_full-is_full.ensures
-            ∙ c.if-is_full.false;
-        granted = step_granted (shown c.args.self.now.world) c.args.client r.walk.call
-            (next_number c.args.self.now.world) (free_then c);
-      },
+      starves_by c.args.self.now.world _ (Commit c.args.client) c.args.client r.walk.call
+          (ap (option_map {U = ℕ × Call} (λ (walk : Walk). (c.args.client, walk.call))) r.ends.is)
+          (commit_replies c.args.self.now.world c.args.client r.walk r.ends.is r.ends.may (room_at_end c))
+          (room_at_end c) (record { takes = takes_then c; passes = free_then c }),
       ap (λ (b : Book). b.world) (starved_is c) ∙ c.end_walk-walk.ensures.world,
     )
 
@@ -276,14 +291,7 @@ pub returns-then-is_full-clause-rest : goal.returns-then-is_full-clause-rest
 returns-then-is_full-clause-rest c = inl c.end_walk-walk.ensures.rest
 
 pub returns-in_default-clause-calm : goal.returns-in_default-clause-calm
-returns-in_default-clause-calm c e =
-    let r = c.requires.reached in (
-      r.walk,
-      r.ends.is,
-      or_false (spares_memory r.walk.call)
-          (λ h. cc (c.in_default.ensures.calm
-          (ap spares_memory (c.end_walk-walk.ensures.ended r.walk r.ends.is).call ∙ h))),
-    )
+returns-in_default-clause-calm c e = let r = c.requires.reached in (r.walk, r.ends.is, takes_then c)
 
 pub returns-clause-calm : goal.returns-clause-calm
 returns-clause-calm c e = absurd (cc e)

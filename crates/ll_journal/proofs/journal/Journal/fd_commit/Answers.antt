@@ -109,8 +109,8 @@ stepped c =
     c.if-held-file.false (sym c.is_full.ensures ∙ c.if-is_full.false)
     refl refl refl c.enter.result c.serve-told.new.file c.serve-told.new.seat refl c.in-Some-file_call.asked
     c.in-Some-file_call.ensures
-    c.serve-told.result c.serve-told.ensures.ok c.serve-told.ensures.err c.serve-told.ensures.starved c.enter.ensures.ok
-    c.enter.ensures.err)
+    c.serve-told.result c.serve-told.ensures.ok c.serve-told.ensures.err c.serve-told.ensures.starved
+    c.serve-told.ensures.calm c.enter.ensures.ok c.enter.ensures.err)
 
 pub invariant_of-self : goal.invariant_of-self
 invariant_of-self c = (stepped c).kept

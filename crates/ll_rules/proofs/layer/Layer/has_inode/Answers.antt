@@ -14,5 +14,5 @@ pub returns : goal.returns
 returns c =
     c.contains_key.ensures
     ∙ is_some-map _ _
-    ∙ ap is_some (sym (get-rules_of c.self.inside.rules c.args.inode c.self.invariant))
+    ∙ ap is_some (sym (get-rules_of c.self.inside.rules c.args.inode c.self.invariant.0))
     ∙ ap (λ (layer : Layer). has layer.rules c.args.inode) c.self.view_is

@@ -19,5 +19,5 @@ returns c =
     ap (λ (rights : Access). rights.0) (c.unwrap_or.ensures
     ∙ ap (λ found. unwrap_or found (record { 0 = 0 })) (c.copied.ensures ∙ c.get.ensures.value))
     ∙ set-unwrap_or (get_by (nat_cmp c.args.inode) c.self.inside.rules)
-    ∙ ap (λ o. unwrap_or o 0) (sym (get-rules_of c.self.inside.rules c.args.inode c.self.invariant))
+    ∙ ap (λ o. unwrap_or o 0) (sym (get-rules_of c.self.inside.rules c.args.inode c.self.invariant.0))
     ∙ ap (λ (layer : Layer). unwrap_or (get layer.rules c.args.inode) 0) c.self.view_is

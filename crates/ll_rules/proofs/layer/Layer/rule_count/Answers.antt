@@ -7,5 +7,5 @@ use Rattle.ll_rules.proofs.layer.Layer.rule_count.Goals as goal
 pub returns : goal.returns
 returns c =
     c.len.ensures.len
-    ∙ sym (length-rules_of c.self.inside.rules c.self.invariant)
+    ∙ sym (length-rules_of c.self.inside.rules c.self.invariant.0)
     ∙ ap (λ (layer : Layer). len layer.rules) c.self.view_is

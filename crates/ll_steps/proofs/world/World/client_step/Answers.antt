@@ -6,7 +6,7 @@ use Rattle.ll_worlds.specs.declared.step.Step.TheVariants.{ClientStep}
 use Rattle.ll_steps.specs.Contents.{answered_as}
 use Rattle.ll_steps.specs.Makes.{Makes}
 use Rattle.ll_steps.specs.declared.report.Report.{Report}
-use Rattle.ll_steps.proofs.DirectMakes.{alone_keeps, answer_makes, takes_so}
+use Rattle.ll_steps.proofs.DirectMakes.{alone_keeps, answer_makes}
 use Rattle.ll_steps.proofs.world.World.client_step.Goals as goal
 use Rattle.ll_steps.proofs.world.World.client_step.Goals.{in-Ok, in-Err}
 
@@ -29,9 +29,7 @@ returns-clause-makes c = subst
           (sym (w.answered.ensures
           ∙ ap (λ (es : List Entry). answered_as (length es) w.in-Ok.answer) c.entries.ensures))
           (answer_makes c.self.inside.journal c.client_step.new.self (ClientStep c.args.client c.args.call)
-          c.args.client
-          c.args.call w.in-Ok.answer (λ e. cc e) refl refl
-          (λ e. takes_so c.args.call (w.in-Ok.ensures.calm (ap Ok e))) w.in-Ok.ensures.does))
+          w.in-Ok.answer (λ e. cc e) refl w.in-Ok.ensures.does))
       | in-Err w ↦ subst (λ (r : Result Report Call). IfOk r
           (λ (o : Report). Makes c.self.inside.journal.world (ClientStep c.args.client c.args.call) o
           c.client_step.new.self.world)) (sym w.result-is) tt

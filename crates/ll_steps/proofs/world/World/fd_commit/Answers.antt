@@ -6,7 +6,7 @@ use Rattle.ll_worlds.specs.declared.step.Step.TheVariants.{FdCommit}
 use Rattle.ll_steps.specs.Contents.{answered_as}
 use Rattle.ll_steps.specs.Makes.{Makes}
 use Rattle.ll_steps.specs.declared.report.Report.{Report}
-use Rattle.ll_steps.proofs.DirectMakes.{not_open, file_keeps, answer_makes, file_takes}
+use Rattle.ll_steps.proofs.DirectMakes.{not_open, file_keeps, answer_makes}
 use Rattle.ll_steps.proofs.LentContents.{bound_of, at_index}
 use Rattle.ll_steps.proofs.world.World.fd_commit.Goals as goal
 use Rattle.ll_steps.proofs.world.World.fd_commit.Goals.{in-Ok, in-Err-NotNow}
@@ -50,10 +50,8 @@ returns-clause-makes c = subst
           c.fd_commit.new.self.world)
           (sym (w.answered.ensures
           ∙ ap (λ (es : List Entry). answered_as (length es) w.in-Ok.answer) c.entries.ensures))
-          (answer_makes c.self.inside.journal c.fd_commit.new.self (FdCommit c.args.client c.args.call) c.args.client
-          c.args.call w.in-Ok.answer (λ e. cc e) refl refl
-          (λ e. file_takes c.args.call c.in-Some.fd (sym c.in-Some.ensures) (w.in-Ok.ensures.calm (ap Ok e)))
-          w.in-Ok.ensures.does))
+          (answer_makes c.self.inside.journal c.fd_commit.new.self (FdCommit c.args.client c.args.call) w.in-Ok.answer
+          (λ e. cc e) refl w.in-Ok.ensures.does))
       | in-Err-NotNow w ↦ subst (λ (r : Result Report Call). IfOk r
           (λ (o : Report). Makes c.self.inside.journal.world (FdCommit c.args.client c.args.call) o
           c.fd_commit.new.self.world)) (sym w.result-is) tt

@@ -30,7 +30,7 @@ returns-in-Made-clause-stops c =
     subst (λ (v : World). at v c.answered.result) c.self.view_is
     (subst (at c.self.inside.journal.world) (sym told)
     (made_calls c.self.inside.journal c.start.new.self c.args.client c.args.call c.in-Made.answer
-    (λ e. c.in-Made.ensures.calm (ap start.Made e)) c.in-Made.ensures.starts))
+    c.in-Made.ensures.starts))
 
 -- it may not set out
 pub returns-clause-stops : goal.returns-clause-stops

@@ -7,7 +7,7 @@ use Rattle.ll_steps.specs.Makes.{Makes}
 use Rattle.ll_steps.specs.declared.report.Report.{Report}
 use Rattle.ll_steps.proofs.LentContents.{lent_in}
 use Rattle.ll_steps.proofs.WalkMakes.{near_end, ending_makes, ending_keeps, traded}
-use Rattle.ll_steps.proofs.walk.commit_with.Goals as goal
+use Rattle.ll_steps.proofs.walk.commit_lent.Goals as goal
 
 pub commit-ending-requires-clause-lent : goal.commit-ending-requires-clause-lent
 commit-ending-requires-clause-lent c =
@@ -22,10 +22,10 @@ pub returns-clause-makes : goal.returns-clause-makes
 returns-clause-makes c =
     subst (λ (o : Report). Makes c.args.journal.now.world (Commit c.args.client) o c.commit-ending.new.self.world)
     (sym (c.ended.ensures ∙ ap (λ (es : List Entry). ended_as (length es) c.commit-ending.result) c.entries.ensures))
-    (ending_makes c.args.journal.now c.commit-ending.new.self c.args.client c.commit-ending.result c.requires.kept.sound
+    (ending_makes c.args.journal.now c.commit-ending.new.self c.args.client c.commit-ending.result
     (λ e. near_end c.args.journal.now c.args.client c.args.numbers.now c.requires.enough
     (c.commit-ending.ensures.astray e))
-    c.commit-ending.ensures.calm c.commit-ending.ensures.does)
+    c.commit-ending.ensures.does)
 
 pub returns-clause-kept : goal.returns-clause-kept
 returns-clause-kept c =
