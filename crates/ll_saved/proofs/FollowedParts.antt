@@ -6,10 +6,10 @@ use Rattle.std.proofs.lemmas.List.{get_or-append-add, get_or_append_left, length
 use Rattle.std.proofs.lemmas.Option.{get_or_from_slice_get, slice_get_read, slice_get_within}
 use Rattle.ll_seq.specs.declared.reply.Entry.{Entry}
 use Rattle.ll_seq.specs.History.{IsLegal, state_after, after, fresh_of}
+use Rattle.ll_seq.specs.Memory.{MayStarve}
 use Rattle.ll_seq.specs.State.{State}
 use Rattle.ll_seq.proofs.Consequences.{step-next}
 use Rattle.ll_seq.proofs.Histories.{after_append, legal_join, legal_late}
-use Rattle.ll_seq.specs.Step.{client_of, refusals}
 use Rattle.ll_audit.specs.Audit.{IsFirstIllegal, Starves}
 
 -- each entry uses one inode number at most
@@ -112,6 +112,5 @@ module _ (s : State) (entries rest : List Entry) (t : State) (so_far : HasFollow
           legal = subst (IsLegal s) (sym before)
               (legal_join s so_far.done (take b.done part) so_far.legal
               (subst (λ (z : State). IsLegal z (take b.done part)) so_far.state b.legal));
-          takes = b.takes;
-          passes = subst (λ (z : State). refusals z (client_of z b.entry.client) b.entry.call ≡ []) same b.passes;
+          may = subst (λ (z : State). MayStarve z b.entry.client b.entry.call) same b.may;
         }

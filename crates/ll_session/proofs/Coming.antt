@@ -33,7 +33,7 @@ use Rattle.ll_session.proofs.Ways.{by_number}
 -- memory may run out before anyone has connected
 start_refused : (setup : Setup) → Connects (fresh setup) (Refused NoMemory) (fresh setup)
 unfolding empty checked entries get insert
-start_refused setup = (refl, starved setup.some_entries refl refl)
+start_refused setup = (refl, starved setup.some_entries (record { takes = refl; passes = refl }))
 
 refused_by : (setup : Setup) (loader : Option (Vec Call Global))
     → Loads (fresh setup) loader (unconnected (Refused NoMemory) (fresh setup))

@@ -168,14 +168,14 @@ module _ (empty : State) where
             (brought_there tree reply (λ number e. (told number e).1));
       }
   by_call s t client call reply other there (full filled) sound = sound
-  by_call s t client call reply other there (starved room takes none) sound = sound
+  by_call s t client call reply other there (starved room may) sound = sound
 
   stays : (s t : Session) (n k : ℕ) (call : Call) (reply : Reply) → Called s n call reply t
       → has s.tree.clients k ≡ true → has t.tree.clients k ≡ true
   stays s t n k call reply (answered answer tree fresh vacant free is) there =
       ap (λ (p : Reply × State). has p.1.clients k) is ∙ step-clients_stay s.tree n call fresh k there
   stays s t n k call reply (full filled) there = there
-  stays s t n k call reply (starved room takes none) there = there
+  stays s t n k call reply (starved room may) there = there
 
   -- a client that has come, where it had not
   abbrev Came : Session → ℕ → Session → Type 0
@@ -185,7 +185,7 @@ module _ (empty : State) where
       → has s.tree.clients n ≡ false → Called s n call reply t
       → IsSound empty s → Came s n t
   by_connect s t n call reply connects done vacant (full filled) sound = absurd cc
-  by_connect s t n call reply connects done vacant (starved room takes none) sound = absurd cc
+  by_connect s t n call reply connects done vacant (starved room may) sound = absurd cc
   by_connect s t n call given connects done vacant (answered reply tree fresh room free is) sound =
       let outcome : ◌≡◌ {A = Reply × State} (step s.tree n call (fresh_of reply)) (reply, tree) =
       ap (λ (p : Reply × State). step s.tree n call (fresh_of p.0)) is ∙ by_reply s.tree n call fresh ∙ sym is in

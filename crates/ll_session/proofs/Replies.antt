@@ -40,7 +40,7 @@ use Rattle.ll_session.proofs.SessionPlaces.{after_first, in_place, no_place}
 placed_as : (s t : Session) (n count : ℕ) (call : Call) (reply : Reply) → Called s n call reply t
     → count ≡ length t.clients → placed count reply ≡ as_written s.clients reply
 placed_as s t n count call reply (full over) many = refl
-placed_as s t n count call reply (starved room takes none) many = refl
+placed_as s t n count call reply (starved room may) many = refl
 placed_as s t n count call given (answered reply tree fresh room free is) many = go reply many
   where
     go : (r : Reply) → count ≡ length (s.clients ++ brought r) → placed count r ≡ as_written s.clients r

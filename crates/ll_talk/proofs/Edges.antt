@@ -112,7 +112,10 @@ may_fail rules room limit history ks end c s =
           ],
       λ room_left few. (
         out,
-        starved (omega (arith, room_left, all)) refl (nothing_refuses now.tree n out
-            (few_then TREE_CLIENTS (len now.tree.clients) (let count = s.count in omega (arith, few, count)))),
+        starved (omega (arith, room_left, all)) (record {
+          takes = refl;
+          passes = nothing_refuses now.tree n out
+              (few_then TREE_CLIENTS (len now.tree.clients) (let count = s.count in omega (arith, few, count)));
+        }),
       ),
     )

@@ -21,4 +21,4 @@ called_later n s t client call given less (answered reply tree fresh room free i
     (sym (drop_first n s.clients (brought reply) less)))
     (answered reply tree fresh room free is)
 called_later n s t client call given less (full filled) = full filled
-called_later n s t client call given less (starved room takes none) = starved room takes none
+called_later n s t client call given less (starved room may) = starved room may

@@ -14,8 +14,7 @@ use Rattle.ll_seq.specs.declared.reply.Reply.TheVariants.{Done, Refused, Spawned
 use Rattle.ll_seq.specs.declared.rules.Rules.{Rules}
 use Rattle.ll_seq.specs.History.{after, is_connect}
 use Rattle.ll_seq.specs.State.{State}
-use Rattle.ll_seq.specs.Memory.{takes_memory}
-use Rattle.ll_seq.specs.Step.{refusals, client_of}
+use Rattle.ll_seq.specs.Memory.{MayStarve}
 use Rattle.ll_talk.specs.Between.{IsSettled, Leads, between, tree_at}
 use Rattle.ll_client.specs.Closed.{IsClosed}
 use Rattle.ll_client.specs.Entries.{IsStarved, Knows, knows, numbered}
@@ -181,10 +180,10 @@ module _ (rules : Rules) (room limit : ℕ) (ks : List Knows) (place : ℕ) (me 
             ),
       )
 
-  lean : (call : Call) → takes_memory call ≡ true → seen_by ks ≤ now.seen
+  lean : (call : Call) → seen_by ks ≤ now.seen
       → now ≡ record me { starved = me.starved ++ starved_at now.seen call ∷ []; seen = now.seen }
       → Leads rules room limit ks then (λ s t. Called s me.number call (Refused NoMemory) t)
-  lean call takes later is =
+  lean call later is =
       let on = lean_on (seen_by ks) now.seen me now call is in (
         grows_set ks place me now at on later,
         λ history end c g s.
@@ -199,10 +198,8 @@ module _ (rules : Rules) (room limit : ℕ) (ks : List Knows) (place : ℕ) (me 
             let fits : now.seen < limit = lacked.1 in (
               q.0,
               subst (Called (between rules room limit history ks) me.number call (Refused NoMemory)) (sym q.2)
-                  (starved (omega (arith, fits, all, same)) takes
-                  (subst (λ n. refusals (tree_at rules room history n)
-                  (client_of (tree_at rules room history n) me.number)
-                  call ≡ []) same lacked.2)),
+                  (starved (omega (arith, fits, all, same))
+                  (subst (λ n. MayStarve (tree_at rules room history n) me.number call) same lacked.2)),
             ),
       )
 
@@ -221,7 +218,7 @@ asks rules room limit ks ks' place call made.HistoryFull a =
     omega (arith, last, less)))
 asks rules room limit ks ks' place call made.NoMemory a =
     subst (λ l. Leads rules room limit ks l (λ s t. Called s a.me.number call (Refused NoMemory) t)) (sym a.after)
-    (lean rules room limit ks place a.me a.now a.at call a.gains.0 a.gains.1 a.gains.2)
+    (lean rules room limit ks place a.me a.now a.at call a.gains.1 a.gains.2)
 
 looks_at : (rules : Rules) (room limit : ℕ) (ks ks' : List Knows) (place : ℕ) → LooksAt ks place ks'
     → Leads rules room limit ks ks' (λ s t. t ≡ s)

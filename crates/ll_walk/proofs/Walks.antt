@@ -1,7 +1,6 @@
 -- A client along its walk.
 use Rattle.std.proofs.Common.{◌≡◌, ℕ, Option, Some, None, ap, sym, ◌∙◌, subst, refl}
-use Rattle.std.specs.Prelude.{Bool, true, false, not, ◌&&◌, [], ◌∷◌, ◌++◌}
-use Rattle.ll_answer.specs.Lean.{spares_memory}
+use Rattle.std.specs.Prelude.{true, [], ◌∷◌, ◌++◌}
 use Rattle.ll_answer.specs.Passed.{has_path}
 use Rattle.ll_seq.specs.Memory.{takes_memory}
 use Rattle.ll_seq.specs.declared.call.Call.{Call}
@@ -17,15 +16,6 @@ use Rattle.ll_walk.specs.Sections.{Came}
 some_is : {A : Type 0} (x y : A) → Some x ≡ Some y → x ≡ y
 some_is x y e = cc
 
--- a call of a path that doesn't spare memory takes some
-takes : (call : Call) → has_path call ≡ true → spares_memory call ≡ false → takes_memory call ≡ true
-takes call path spares = by (has_path call) (takes_memory call) path spares
-  where
-    by : (p t : Bool) → p ≡ true → (p && not t) ≡ false → t ≡ true
-    by true true e f = refl
-    by true false e f = absurd (cc f)
-    by false t e f = absurd (cc e)
-
 -- what a walk that was to be left has come to
 pub came : (limit : ℕ) (k : Knows) (it : Left) (k' : Knows) → Goes limit k it k' → Came limit k (made_of it) k'
 came limit k left.NotNow k' g = g
@@ -37,7 +27,7 @@ came limit k left.HistoryFull k' g = λ call is path. g
 came limit k left.NoMemory k' g =
     λ call is path.
     let same : call ≡ g.0 = some_is call g.0 (sym is ∙ g.1) in (
-      takes call path (ap spares_memory same ∙ g.2),
+      ap takes_memory same ∙ g.2,
       g.3,
       subst (λ (x : Call). k' ≡ record k {
         starved = k.starved ++ starved_at k'.seen x ∷ [];

@@ -67,26 +67,6 @@ fn view_from<N: Shape>(
     }
 }
 
-/// After a descent: from where the walk now stands.
-fn view_after<N: Shape>(
-    desk: &mut Desk<N>,
-    tie: &Tie<N, Account>,
-    me: &Rider<N>,
-    progress: &Progress,
-    from: &mut Locked<N>,
-    to: &mut Locked<N>,
-) -> View
-    ensures desk { desk.new ≡ desk.old }
-    ensures from { from.new ≡ from.old }
-    ensures to { to.new ≡ to.old }
-    ensures there { AreThere N.slots result.next }
-{
-    match progress {
-        Progress::Stands(_) => view_at(desk, tie, me, to),
-        _ => view_at(desk, tie, me, from),
-    }
-}
-
 /// After a descent past the fork: from where the walk now stands, or from the directory of the fork.
 fn view_below<N: Shape>(
     desk: &mut Desk<N>,
@@ -163,7 +143,7 @@ impl<'a, N: Shape> Section<'a, N> {
     {
         let Section { mut desk } = self;
         let progress = desk.descend(tie, me, from, to);
-        let view = view_after(&mut desk, tie, me, &progress, from, to);
+        let view = view_from(&mut desk, tie, me, to, from);
         (progress, view)
     }
 

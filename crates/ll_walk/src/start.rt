@@ -33,9 +33,8 @@ impl<N: Shape, G: Gate<N>> Table<N, G> {
         ensures mine { me.new ≡ me.old }
     {
         let client = me.number();
-        // The root lies in the first slot from the start.
-        let mut slot = 0;
         for _ in rt.forever() {
+            let slot = self.section(rt).root_slot();
             let mut root = self.locked(rt, slot);
             let (progress, view) = self.section(rt).enter(&self.tie, me, &mut root);
             if let Progress::Stands(inode) = progress {
@@ -44,7 +43,6 @@ impl<N: Shape, G: Gate<N>> Table<N, G> {
             }
             drop(root);
             thread::yield_now();
-            slot = self.section(rt).root_slot();
         }
         unreachable!()
     }

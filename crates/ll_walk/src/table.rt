@@ -24,7 +24,6 @@ pub struct Table<N: Shape, G: Gate<N>> {
     pub(crate) moving: Mutex<()>,
     pub(crate) gate: G,
     ghost all_slots: { vec_len slots ≡ N.slots },
-    ghost some_slots: { 1 ≤ N.slots },
 }
 
 /// Each slot with a lock.
