@@ -1,7 +1,7 @@
 -- Whole runs.
 use Rattle.std.proofs.Common.{◌≡◌, ℕ, List, [], ◌∷◌, ◌++◌, Option, None, Some, ap, refl, sym, subst, ◌∙◌, inl, inr}
 use Rattle.std.proofs.Common.{Result, Ok, Err, ◌<◌, arith, length}
-use Rattle.std.specs.Prelude.{IfErr, IfSome, OnErr, IsErrAnd}
+use Rattle.std.specs.Prelude.{IfErr, IfSome, OnErr, OnOk, IsErrAnd}
 use Rattle.std.specs.Io.KnownBytes.{Appends}
 use Rattle.ll_client.specs.Entries.{Knows}
 use Rattle.ll_ends.specs.Devices.{Devices}
@@ -43,6 +43,12 @@ pub if_err : {T : Type 0} (r : Result T RunFault) (of : SessionFault) (P : RunFa
     → IsErrAnd r (λ fault. fault ≡ Session of) → P (Session of) → IfErr r P
 if_err (Ok value) of P is p = tt
 if_err (Err fault) of P is p = subst P (sym is) p
+
+pub at_ok : {T E P : Type 0} (r : Result T E) (value : T) → r ≡ Ok value → OnOk r P → P
+at_ok {P = P} r value is h = subst (λ x. OnOk x P) is h
+
+pub at_err : {T E P : Type 0} (r : Result T E) (fault : E) → r ≡ Err fault → OnErr r P → P
+at_err {P = P} r fault is h = subst (λ x. OnErr x P) is h
 
 -- ---- lines, one after the other
 

@@ -41,14 +41,14 @@ TellsBeside limit before ks piece line ks' =
 -- The client at this place makes these calls in turn, and none is refused
 abbrev pub MakesBeside : (limit : ℕ) → List Knows → (place : ℕ) → List Call → List Knows → Type 0
 MakesBeside limit ks place [] ks' = ks' ≡ ks
-MakesBeside limit ks place (call ∷ calls) ks' =
+MakesBeside limit ks place (call ∷ list) ks' =
     (reply : Reply) × (mid : List Knows) × AsksFor limit ks place call reply mid × (is_refusal reply ≡ false)
-    × MakesBeside limit mid place calls ks'
+    × MakesBeside limit mid place list ks'
 
 -- the first of them that is refused gets this reply
 abbrev pub StopsBeside : (limit : ℕ) → List Knows → (place : ℕ) → List Call → Reply → List Knows → Type 0
 StopsBeside limit ks place [] reply ks' = ⊥
-StopsBeside limit ks place (call ∷ calls) reply ks' =
+StopsBeside limit ks place (call ∷ list) reply ks' =
     (told : Reply) × (mid : List Knows) × AsksFor limit ks place call told mid
     × (((is_refusal told ≡ true) × (reply ≡ told) × (ks' ≡ mid))
-    ⊎ ((is_refusal told ≡ false) × StopsBeside limit mid place calls reply ks'))
+    ⊎ ((is_refusal told ≡ false) × StopsBeside limit mid place list reply ks'))

@@ -21,7 +21,7 @@ ghost use Rattle.ll_session.specs.Progress.{Closes, IsOfRefusal, RunsTo, StopsAt
 use crate::fault::RunFault;
 use crate::opening::Shut;
 use crate::output::write_reply;
-use crate::session::session;
+use crate::answering::session;
 use crate::setup::Setup;
 use crate::shared::Shared;
 use ll_client::{Account, Shape};
@@ -61,8 +61,13 @@ fn run_session<N: Shape, R: Wait, E: Ends>(
     let Shared { tree, party } = shared;
     let (party, ended) = session(rt, alloc, &tree, party, before, ends);
     let history = Shared { tree, party }.close(rt);
-    ended?;
-    Ok(history)
+    match ended {
+        Ok(()) => Ok(history),
+        Err(fault) => {
+            drop(history);
+            Err(fault)
+        }
+    }
 }
 
 // Writes the line of the refusal that no session begins with, and closes the tree. Its history is left.

@@ -3,8 +3,8 @@ use Rattle.ll_session.specs.Opening.{Makes, Stops}
 use Rattle.ll_session.proofs.Coming.{comes_not, comes_then, makes_so, stops_so}
 use Rattle.ll_session.proofs.shared.Shared.bring.Goals as goal
 
-pub make_calls-in-Ok-requires-clause-caller : goal.make_calls-in-Ok-requires-clause-caller
-make_calls-in-Ok-requires-clause-caller g c = omega (arith, c.len-before.ensures, c.in-Ok.ensures.came)
+pub make_calls-requires-clause-caller : goal.make_calls-requires-clause-caller
+make_calls-requires-clause-caller g c = omega (arith, c.len-before.ensures, c.in-Ok.ensures.came)
 
 pub returns-in-Err-clause-err : goal.returns-in-Err-clause-err
 returns-in-Err-clause-err g c room =

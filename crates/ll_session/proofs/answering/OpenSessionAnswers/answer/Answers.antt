@@ -2,7 +2,7 @@ use Rattle.std.proofs.Common.{refl}
 use Rattle.std.proofs.lemmas.Result.{IfOk-weaker}
 use Rattle.ll_lines.proofs.Advance.{on_err}
 use Rattle.ll_wire.specs.Grammar.{reply_line}
-use Rattle.ll_session.proofs.session.OpenSessionAnswers.answer.Goals as goal
+use Rattle.ll_session.proofs.answering.OpenSessionAnswers.answer.Goals as goal
 
 pub returns-clause-ok : goal.returns-clause-ok
 returns-clause-ok g c = IfOk-weaker c.reply_line.result _ _ (λ text is piece held.

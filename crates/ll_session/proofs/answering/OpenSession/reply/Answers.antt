@@ -3,7 +3,7 @@ use Rattle.ll_seq.specs.declared.reply.Reply.{Reply}
 use Rattle.ll_session.specs.Beside.{AnswersBeside}
 use Rattle.ll_talk.specs.Talk.{asks, nowhere}
 use Rattle.ll_session.proofs.Replies.{called_there, not_read, too_long, unread_goes}
-use Rattle.ll_session.proofs.session.OpenSession.reply.Goals as goal
+use Rattle.ll_session.proofs.answering.OpenSession.reply.Goals as goal
 
 pub returns-in_default-clause-answers : goal.returns-in_default-clause-answers
 returns-in_default-clause-answers g c piece held =
@@ -13,8 +13,8 @@ returns-in_default-clause-answers g c piece held =
 pub returns-in_default-clause-goes : goal.returns-in_default-clause-goes
 returns-in_default-clause-goes g c = nowhere
 
-pub overflow_add-self : goal.overflow_add-self
-overflow_add-self g c = omega (arith, c.clients.ensures.count, c.clients.ensures.fits, c.in-Ok.ensures.1)
+pub overflow_add-caller : goal.overflow_add-caller
+overflow_add-caller g c = omega (arith, c.clients.ensures.count, c.clients.ensures.fits, c.in-Ok.ensures.1)
 
 pub returns-in-Ok-clause-answers : goal.returns-in-Ok-clause-answers
 returns-in-Ok-clause-answers g c piece held =
