@@ -27,6 +27,8 @@ class Seen:
     kinds: list = field(default_factory=list)
     # Whether the call left a file though it was refused.
     leaves: bool = False
+    # What the tree replies to its caller's listing of the same path.
+    listing: str = ""
 
     def __post_init__(self):
         self.word, *self.args = self.call.split(" ")
@@ -90,7 +92,7 @@ def descriptor_before_path(it):
 def directory_is_opened(it):
     """Linux opens a directory for reading, and asks read_dir; the tree's clients list it by its path."""
     is_so = it.word == "open" and it.args[0] == "r" and it.kinds == ["dir"]
-    return is_so and it.kernel in (DONE, "EACCES") and it.tree in ("EISDIR", "EACCES")
+    return is_so and it.kernel == errno_of(it.listing) and it.tree in ("EISDIR", "EACCES")
 
 
 def fifo_is_opened(it):

@@ -96,7 +96,10 @@ class Comparing:
         if reply.endswith(" BadLine") or self.has_parted:
             return Row(test, reply, "", SKIPPED)
         answer = self.world.answer(test.client, test.call) if is_asked(test.call) else NOT_ASKED
-        return self.judged(test, Seen(test.call, reply, self.inodes.told(reply, answer), kinds))
+        seen = Seen(test.call, reply, self.inodes.told(reply, answer), kinds)
+        if seen.word == "open" and kinds == ["dir"]:
+            seen.listing = self.talk.ask(test._replace(call=f"list {paths[0]}").command())
+        return self.judged(test, seen)
 
     def judged(self, test, seen):
         is_made = seen.word == "open" and seen.kinds == [None] and self.world.kind(seen.args[1]) is not None
@@ -133,23 +136,17 @@ class Comparing:
         return Row(test, "", "", AGREES)
 
 
-def lay_out(world, nodes):
-    """Makes the policy's nodes, as somebody whom nothing confines."""
-    for call in opening_calls({"node": nodes}):
-        answer = world.answer(0, call)
-        if answer.startswith("E"):
-            raise Refused(f"{call:.99}: {answer}")
-
-
 def compare(program, folder, case):
     """A row for each command, and one for the nodes at the end."""
+    opening, profile = list(opening_calls({"node": case.nodes})), list(profile_calls(case.layers))
+    entries = 100 + 3 * len(opening) + len(profile) + 6 * len(case.tests)
+    words = [*case.words, "--history", str(min(entries, 1000000))]
     spawns = sum(test.call == "spawn" for test in case.tests)
-    with World(folder, min(1 + spawns, 64)) as world, Talk(program, case.words) as talk:
-        lay_out(world, case.nodes)
-        for call in profile_calls(case.layers):
-            answer = world.answer(1, call)
+    with World(folder, min(1 + spawns, 64)) as world, Talk(program, words) as talk:
+        for client, call in [*((0, call) for call in opening), *((1, call) for call in profile)]:
+            answer = world.answer(client, call)
             if answer.startswith("E"):
-                raise Refused(f"{call}: {answer}")
+                raise Refused(f"{call:.99}: {answer}")
         it = Comparing(talk, world)
         rows = [it.row(test) for test in case.tests]
         return [*rows, it.last(case.tests[-1].number + 1 if case.tests else 1)]

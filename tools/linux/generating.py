@@ -2,13 +2,17 @@
 
 import random
 
-from fuzzing.calls import Maker
-from fuzzing.grammar import MOVES, is_refused
+from fuzzing.calls import FILES, Maker
+from fuzzing.grammar import CALLS, ON_DESCRIPTOR, RIGHTS, is_refused
 from fuzzing.model import Model
+from fuzzing.policies import ON_FILES
 from linux.comparing import Case, Test
 
 NODES, ENTRIES, CLIENTS, LAYERS, MOST = 1024, 100000, 3, 3, 80
-OFTEN = ["open"] * 6 + [*MOVES, "link"] * 3 + ["truncate", "ftruncate", "make", "exec", "list"] * 2
+# How often each call is made. Who makes none of these makes a layer, or spawns.
+OFTEN = {"open": 7, "make": 4, "rename": 4, "link": 4, "exchange": 3, "rename_noreplace": 2, "truncate": 2, "list": 2}
+OFTEN |= {"ftruncate": 2, "exec": 2, "unlink": 2, "write": 2}
+WORDS = [word for word in CALLS if word != "spawn" for _ in range(OFTEN.get(word, 1))]
 
 
 class Checks(Maker):
@@ -37,16 +41,37 @@ class Checks(Maker):
             kind = self.rng.choice(["dir"] * 5 + ["reg"] * 4 + ["sym", "fifo", "sock", "char", "block"])
             self.add(1, f"make {kind} {self.new()}")
 
+    def some(self, rights, share):
+        """Some of the rights, one at least."""
+        chosen = [it for it in rights if self.rng.random() < share]
+        return chosen or [self.rng.choice(rights)]
+
     def confine(self, client):
-        """A layer that grants much, in the words of the level."""
-        known = ["refer"] * (self.abi < 2) + ["truncate"] * (self.abi < 3)
-        for call in self.layer(client):
-            word, *args = call.split(" ")
-            if word in ("ruleset", "allow"):
-                rights = ",".join(it for it in args[-1].split(",") if it not in known)
-                args[-1] = rights or "read_file"
-            self.add(client, " ".join([word, *args]))
+        """A layer: it handles much, and its rules grant much, in the words of the level."""
+        number, known = self.rulesets[client], RIGHTS[: 12 + self.abi]
+        handled = self.some(known, self.rng.choice([0.4, 0.8, 1]))
+        if "refer" in known and "refer" not in handled and self.rng.random() < 0.6:
+            handled = [it for it in known if it in handled or it == "refer"]
+        self.add(client, f"ruleset {','.join(handled)}")
+        places = ["/"] * (self.rng.random() < 0.7) + [self.there(["dir"]) for _ in range(self.rng.randrange(4))]
+        places += [self.there(FILES)] * (self.rng.random() < 0.3)
+        for place in places:
+            rights = handled if self.kinds[place] == "dir" else [it for it in handled if it in ON_FILES]
+            if rights:
+                self.add(client, f"allow {number} {place} {','.join(self.some(rights, self.rng.choice([0.4, 0.8])))}")
+        self.add(client, f"confine {number}")
         self.layers[client] += 1
+
+    def path(self, word, is_last):
+        return super().path(word, is_last and (word != "exchange" or self.rng.random() < 0.2))
+
+    def call(self, client):
+        word = self.rng.choice(WORDS)
+        if self.rng.random() < 0.9:
+            word = "open" if word in ON_DESCRIPTOR and not self.opened[client] else word
+            word = "stat" if word in ("allow", "confine") and not self.rulesets[client] else word
+        args = [self.argument(form, word, place, client) for place, form in enumerate(CALLS[word], 1)]
+        return " ".join([word, *args])
 
     def step(self):
         client, at = self.rng.choice(list(self.opened)), self.rng.random()
@@ -55,19 +80,7 @@ class Checks(Maker):
         elif at < 0.09 and len(self.opened) < CLIENTS:
             self.add(client, "spawn")
         else:
-            call = self.call(client)
-            if self.rng.random() < 0.5:
-                call = self.often(client)
-            if call != "spawn" or len(self.opened) < CLIENTS:
-                self.add(client, call)
-
-    def often(self, client):
-        """A call of those that Landlock is asked about."""
-        for _ in range(40):
-            call = self.call(client)
-            if call.split(" ")[0] in OFTEN:
-                return call
-        return f"stat {self.there()}"
+            self.add(client, self.call(client))
 
 
 def make(seed):
