@@ -47,20 +47,33 @@ class Checks(Maker):
         return chosen or [self.rng.choice(rights)]
 
     def confine(self, client):
-        """A layer: it handles much, and its rules grant much, in the words of the level."""
+        """A layer in the words of the level: it handles much, or what stands in the way of no move but by a gain."""
         number, known = self.rulesets[client], RIGHTS[: 12 + self.abi]
-        handled = self.some(known, self.rng.choice([0.4, 0.8, 1]))
-        if "refer" in known and "refer" not in handled and self.rng.random() < 0.6:
-            handled = [it for it in known if it in handled or it == "refer"]
+        if self.rng.random() < 0.4:
+            known = [it for it in known if not it.startswith(("make_", "remove_"))]
+        handled = self.ordered([*self.some(known, self.rng.choice([0.4, 0.8, 1])), *self.refer(0.8)], known)
         self.add(client, f"ruleset {','.join(handled)}")
-        places = ["/"] * (self.rng.random() < 0.7) + [self.there(["dir"]) for _ in range(self.rng.randrange(4))]
+        self.allow(client, number, "/", self.ordered([*self.some(handled, 0.6), *self.refer(0.9)], handled))
+        places = [self.there(["dir"]) for _ in range(self.rng.randrange(4))]
         places += [self.there(FILES)] * (self.rng.random() < 0.3)
         for place in places:
-            rights = handled if self.kinds[place] == "dir" else [it for it in handled if it in ON_FILES]
-            if rights:
-                self.add(client, f"allow {number} {place} {','.join(self.some(rights, self.rng.choice([0.4, 0.8])))}")
+            meant = handled if self.kinds[place] == "dir" else self.ordered(ON_FILES, handled)
+            if meant:
+                self.allow(client, number, place, self.ordered(self.some(meant, self.rng.choice([0.4, 0.8])), meant))
         self.add(client, f"confine {number}")
         self.layers[client] += 1
+
+    def refer(self, share):
+        return ["refer"] if self.rng.random() < share else []
+
+    @staticmethod
+    def ordered(rights, known):
+        return [it for it in known if it in rights]
+
+    def allow(self, client, number, place, rights):
+        """A rule; there is seldom none on the root."""
+        if place != "/" or self.rng.random() < 0.8:
+            self.add(client, f"allow {number} {place} {','.join(rights)}")
 
     def path(self, word, is_last):
         return super().path(word, is_last and (word != "exchange" or self.rng.random() < 0.2))
