@@ -13,7 +13,7 @@ BY_KIND = {"open": {"dir": "EISDIR", "sym": "ELOOP"}, "truncate": {"dir": "EISDI
 BY_KIND["truncate"] |= dict.fromkeys(SPECIAL, "EINVAL")
 BY_KIND["list"] = dict.fromkeys(("reg", "sym", *SPECIAL), "ENOTDIR")
 BY_KIND["exec"] = {"sym": "ELOOP"}
-LIMITS = ("ENOSPC", "EMFILE", "EMLINK", "EFBIG", "E2BIG", "EINVAL")
+LIMITS = ("ENOSPC", "EMFILE", "EMLINK", "EFBIG", "E2BIG")
 
 
 @dataclass
@@ -155,7 +155,7 @@ def limit_of_the_tree(it):
     """The tree is smaller than a file system: its limits are its own."""
     if it.word == "read" and int(it.args[2]) > 4096:
         return it.tree == "EINVAL"
-    return it.tree in LIMITS[:-1] and it.kernel == DONE
+    return it.tree in LIMITS and it.kernel == DONE
 
 
 def offsets_have_a_sign(it):
