@@ -34,6 +34,8 @@ mod calls;
 #[cfg(test)]
 mod desk;
 #[cfg(test)]
+mod full_tree;
+#[cfg(test)]
 mod fuse;
 #[cfg(test)]
 mod journal;

@@ -1,0 +1,243 @@
+//! A tree in which as many nodes live as may, while the walks of all clients but one stand in it.
+
+ghost use Rattle.std.specs.Prelude.{◌≡◌, ◌+◌, true};
+ghost use Rattle.ll_rights.specs.declared.limits.TheConstants.{TREE_CLIENTS};
+
+use crate::calls::target;
+use crate::watched::{TrialEnd, end_of_trial};
+use ll_audit::audit;
+use ll_calls::{Refused, Tree};
+use ll_client::{Account, Client, Locked, Shape};
+use ll_path::Target;
+use ll_rights::{Abi, Errno, Kind};
+use ll_seq::{History, Rules};
+use ll_tie::Blank;
+use ll_walk::Gate;
+use std::alloc::{AllocError, Global};
+use std::marker::Brand;
+use std::sync::atomic::{AtomicU64, Ordering};
+use std::sync::{Arc, Wait};
+use std::test::*;
+use std::thread::{self, Threads, join};
+
+const RULES: Rules = Rules {
+    abi: Abi::NEWEST,
+    copies: true,
+};
+
+/// The root, a directory for each walk, and the file `/f`.
+const NODES: usize = 65;
+
+const WALKS: usize = 63;
+
+/// The maker's connect, its 63 directories and its file, 63 connects, a refused make, an unlink, a make, and 63 walks.
+const ENTRIES: usize = 194;
+
+/// How often a thread looks, at most, whether the others have come so far.
+const TURNS: u64 = 10_000_000;
+
+const ROOT: u64 = 1;
+
+/// How many walks stand in their directories, and whether they may go on.
+#[derive(Drop)]
+struct Flags {
+    held: AtomicU64,
+    goes_on: AtomicU64,
+}
+
+/// Holds all walks of other clients than the first in their directories.
+#[derive(Drop)]
+struct Standing {
+    flags: Arc<Flags, Global>,
+}
+
+/// Waits until the number is as great, and tells whether it is.
+fn waits_for(number: &AtomicU64, wanted: u64) -> bool {
+    for _ in 0..TURNS {
+        if number.load(Ordering::SeqCst) >= wanted {
+            return true;
+        }
+        thread::yield_now();
+    }
+    false
+}
+
+impl<N: Shape> Gate<N> for Standing {
+    fn held(&self, client: u64, inode: u64, slot: &Locked<N>) {
+        let _ = slot;
+        if client != 1 && inode != ROOT {
+            let _ = self.flags.held.fetch_add(1, Ordering::SeqCst);
+            let _ = waits_for(&self.flags.goes_on, 1);
+        }
+    }
+}
+
+/// The path of the walk's directory, or of a name in it that isn't there.
+fn path_of(alloc: Global, walk: usize, tail: &str) -> Option<Target> {
+    let mut text = String::from_str(alloc, "/").ok()?;
+    let name = [
+        b'a'.wrapping_add((walk / 10) as u8),
+        b'0'.wrapping_add((walk % 10) as u8),
+    ];
+    for byte in name {
+        text.push(byte as char).ok()?;
+    }
+    text.push_str(tail).ok()?;
+    target(alloc, text.as_str())
+}
+
+/// What comes of a make of the kind.
+fn makes<N: Shape>(
+    rt: &impl Wait,
+    tree: &Tree<N, Standing>,
+    me: &mut Client<N>,
+    kind: Kind,
+    path: Option<Target>,
+) -> Result<(), Refused> {
+    match path {
+        Some(path) => tree.make(rt, me, kind, path),
+        None => Err(Refused::Errno(Errno::NoMemory)),
+    }
+}
+
+fn furnishes<N: Shape>(
+    rt: &impl Wait,
+    alloc: Global,
+    tree: &Tree<N, Standing>,
+    me: &mut Client<N>,
+) -> bool {
+    for walk in 0..WALKS {
+        if makes(rt, tree, me, Kind::Dir, path_of(alloc, walk, "")).is_err() {
+            return false;
+        }
+    }
+    makes(rt, tree, me, Kind::Reg, target(alloc, "/f")).is_ok()
+}
+
+/// Whether, with all walks standing, the maker finds no room for a node, and has some once a file is gone.
+fn finds_no_room<N: Shape>(
+    rt: &impl Wait,
+    alloc: Global,
+    tree: &Tree<N, Standing>,
+    me: &mut Client<N>,
+    flags: &Flags,
+) -> bool {
+    let are_held = waits_for(&flags.held, WALKS as u64);
+    let first = makes(rt, tree, me, Kind::Reg, target(alloc, "/new"));
+    let is_gone = match target(alloc, "/f") {
+        Some(path) => tree.unlink(rt, me, path).is_ok(),
+        None => false,
+    };
+    let second = makes(rt, tree, me, Kind::Reg, target(alloc, "/new"));
+    flags.goes_on.store(1, Ordering::SeqCst);
+    are_held && first == Err(Refused::Errno(Errno::ENOSPC)) && is_gone && second.is_ok()
+}
+
+/// The client whose walk stood in its directory, where it then found nothing under the name.
+fn walks<N: Shape>(
+    rt: &impl Wait,
+    alloc: Global,
+    tree: &Tree<N, Standing>,
+    walk: usize,
+) -> Option<Client<N>> {
+    let mut me = tree.connect(rt).ok()?;
+    let path = path_of(alloc, walk, "/none")?;
+    match tree.stat(rt, &mut me, path) {
+        Err(Refused::Errno(Errno::ENOENT)) => Some(me),
+        _ => None,
+    }
+}
+
+/// Whether the tree closes with all clients, and its history is legal and has all calls.
+fn closes<N: Shape>(
+    alloc: Global,
+    tree: Tree<N, Standing>,
+    maker: Client<N>,
+    others: Vec<Option<Client<N>>>,
+) -> bool {
+    let mut clients = Vec::new(alloc);
+    if clients.push(maker).is_err() {
+        return false;
+    }
+    for other in others {
+        if let Some(other) = other
+            && clients.push(other).is_err()
+        {
+            return false;
+        }
+    }
+    match tree.close(clients) {
+        Ok(history) => is_whole(alloc, &history),
+        Err(back) => {
+            drop(back);
+            false
+        }
+    }
+}
+
+fn is_whole(alloc: Global, history: &History) -> bool {
+    history.entries().len() == ENTRIES && audit(alloc, RULES, NODES, history).is_ok()
+}
+
+fn is_full<N: Shape + Send + Sync, R: Threads + Wait + Sync>(
+    rt: &R,
+    alloc: Global,
+    tree: Tree<N, Standing>,
+    flags: &Flags,
+) -> bool {
+    let Ok(mut maker) = tree.connect(rt) else {
+        return false;
+    };
+    if !furnishes(rt, alloc, &tree, &mut maker) {
+        return false;
+    }
+    let (is_right, others) = join(
+        rt,
+        || finds_no_room(rt, alloc, &tree, &mut maker, flags),
+        || thread::map_indices(rt, alloc, WALKS, &|walk| walks(rt, alloc, &tree, walk)),
+    );
+    match others {
+        Ok(others) => is_right && closes(alloc, tree, maker, others),
+        Err(_) => false,
+    }
+}
+
+fn opens<N: Shape + Send + Sync, R: Threads + Wait + Sync>(
+    rt: &R,
+    alloc: Global,
+    blank: Blank<Account>,
+) -> Result<bool, AllocError>
+    requires named { blank ≡ N.table }
+    requires slots { N.slots ≡ 65 + TREE_CLIENTS }
+    requires limit { N.limit ≡ 1000 }
+    requires rules { N.rules ≡ record { abi = 3; copies = true } }
+{
+    let flags = Arc::new(
+        alloc,
+        Flags {
+            held: AtomicU64::new(0),
+            goes_on: AtomicU64::new(0),
+        },
+    )?;
+    let gate = Standing {
+        flags: Arc::try_clone(&flags)?,
+    };
+    match Tree::<N, Standing>::open(alloc, blank, RULES, NODES, 1000, gate) {
+        Ok(tree) => Ok(is_full(rt, alloc, tree, &flags)),
+        Err(_) => Ok(false),
+    }
+}
+
+fn stays_full<R: Threads + Wait + Sync>(rt: &R, alloc: Global) -> bool {
+    match Blank::new(alloc) {
+        Ok(blank) => matches!(opens::<Brand, _>(rt, alloc, blank), Ok(true)),
+        Err(_) => false,
+    }
+}
+
+#[test]
+fn full_tree_with_63_walks_in_it(rt: HostRuntime) {
+    let alloc = rt.alloc();
+    let ended = end_of_trial(&rt, alloc, move || stays_full(&rt, alloc));
+    assert_eq!(rt; ended, TrialEnd::Right);
+}
