@@ -95,3 +95,9 @@ pub both_ok : {A E : Type 0} (r : Result A E) (P Q R : A → Type 0) → IfOk r 
     → IfOk r R
 both_ok (Ok a) P Q R p q f = f a p q
 both_ok (Err e) P Q R p q f = tt
+
+-- what isn't lacked
+pub not_lacked : (r g : Bool) → (r && not (r && not g)) ≡ (r && g)
+not_lacked true true = refl
+not_lacked true false = refl
+not_lacked false g = refl

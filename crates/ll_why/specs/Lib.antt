@@ -1,3 +1,4 @@
 pub mod Chains
 pub mod Grants
+pub mod Reasons
 pub mod Rights
