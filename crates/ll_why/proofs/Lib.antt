@@ -1,2 +1,6 @@
 pub mod Sets
 pub mod Judging
+pub mod Denials
+pub mod Ruling
+pub mod Choosing
+pub mod Leasts

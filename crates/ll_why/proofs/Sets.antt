@@ -101,3 +101,10 @@ pub not_lacked : (r g : Bool) → (r && not (r && not g)) ≡ (r && g)
 not_lacked true true = refl
 not_lacked true false = refl
 not_lacked false g = refl
+
+pub holds_with : (x a b right : ℕ) → x ≡ bit_or a b → holds x right ≡ (holds a right || holds b right)
+holds_with x a b right e = ap (λ n. holds n right) e ∙ holds-or a b right
+
+pub or_so : (b : Bool) → (b || true) ≡ true
+or_so true = refl
+or_so false = refl

@@ -3,13 +3,16 @@
 
 mod asks;
 mod chain;
+mod change;
 mod grants;
+mod places;
 mod reason;
 mod rights;
 mod why;
 
 pub use asks::Asks;
 pub use chain::PathChains;
+pub use change::{Change, LayerChange, change_for};
 pub use grants::{Grants, Ruled};
 pub use reason::{LayerReason, Reason};
 pub use rights::{PathRights, rights_on};
