@@ -61,7 +61,8 @@ judged_so s c call d ours demanded =
     ∙ verdict_same s (first_path call) (second_path call) c.domain demanded.asks demanded.moves
 
 -- what a descriptor has kept decides this call
-pub kept_is : (s : State) (c : ClientRecord) (call : Call) (fd : ℕ) (denial : Option Denial) → kept_number call ≡ Some fd
+pub kept_is : (s : State) (c : ClientRecord) (call : Call) (fd : ℕ) (denial : Option Denial)
+    → kept_number call ≡ Some fd
     → ((size : ℕ) → denial ≡ slice_get (call_denials s c (Ftruncate fd size)) 0)
     → denial ≡ slice_get (call_denials s c call) 0
 kept_is s c (Make k t) fd denial e is = absurd cc

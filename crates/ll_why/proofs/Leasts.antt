@@ -207,7 +207,8 @@ module _ (asks : Asks) (layer : Layer) (right : ℕ) where
   none_chosen Entered = refl
 
   -- a right that is added is one that the layer restricts
-  pub chosen_restricts : (on : On) → is_chosen numbers (passes asks layer right) on ≡ true → restricts layer right ≡ true
+  pub chosen_restricts : (on : On) → is_chosen numbers (passes asks layer right) on ≡ true
+      → restricts layer right ≡ true
   chosen_restricts on chosen = of (restricts layer right) refl
     where
       of : (b : Bool) → restricts layer right ≡ b → b ≡ true

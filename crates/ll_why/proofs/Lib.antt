@@ -4,3 +4,4 @@ pub mod Denials
 pub mod Ruling
 pub mod Choosing
 pub mod Leasts
+pub mod Clearing

@@ -1,6 +1,6 @@
 -- The least change of a client's layers that would let a call through. own
-use Rattle.std.specs.Prelude.{◌≡◌, ℕ, ◌+◌, ◌-◌, ◌*◌, ◌<◌, ◌≤◌, Bool, true, ◌&&◌, ◌||◌, List, [], ◌∷◌, length, slice_index, ◌==◌}
-use Rattle.std.specs.Prelude.{bit_or, if◌then◌else◌}
+use Rattle.std.specs.Prelude.{◌≡◌, ℕ, ◌+◌, ◌-◌, ◌<◌, ◌≤◌, Bool, true, ◌&&◌, ◌||◌, List, [], ◌∷◌, length, ◌==◌}
+use Rattle.std.specs.Prelude.{bit_or, if◌then◌else◌, slice_index}
 use Rattle.std.specs.List.{AllZip}
 use Rattle.ll_rights.specs.Access.{holds}
 use Rattle.ll_rights.specs.Right.{refer}
@@ -87,10 +87,11 @@ IsWithin one other = (on : On) (right : ℕ) → right < 15 → holds (rule_on o
 
 -- The changes let the call through. Of all that do, each right is added by these in the narrowest way; and no others
 -- that leave out some of these rights do
-pub record AreLeast (s : State) (c : ClientRecord) (call : Call) (asks : Asks) (changes : List LayerChange) : Type 0 where
-  pub are : AreChanges asks c.domain changes
-  pub allowed : IsAllowed s c call changes
-  pub narrowest : (others : List LayerChange) → AreChanges asks c.domain others → IsAllowed s c call others
-      → AllZip (λ one other. (right : ℕ) → right < 15 → width one right ≤ width other right) changes others
-  pub needed : (others : List LayerChange) → AreChanges asks c.domain others → IsAllowed s c call others
-      → AllZip IsWithin others changes → AllZip IsWithin changes others
+pub record AreLeast (s : State) (c : ClientRecord) (call : Call) (asks : Asks) (changes : List LayerChange) : Type 0
+  where
+    pub are : AreChanges asks c.domain changes
+    pub allowed : IsAllowed s c call changes
+    pub narrowest : (others : List LayerChange) → AreChanges asks c.domain others → IsAllowed s c call others
+        → AllZip (λ one other. (right : ℕ) → right < 15 → width one right ≤ width other right) changes others
+    pub needed : (others : List LayerChange) → AreChanges asks c.domain others → IsAllowed s c call others
+        → AllZip IsWithin others changes → AllZip IsWithin changes others

@@ -1,6 +1,6 @@
 -- Why a client's layers deny a call, or allow it. own
 use Rattle.std.specs.Prelude.{◌≡◌, ◌≢◌, ℕ, ◌<◌, List, [], Option, Some, None, MatchOption, slice_get}
-use Rattle.std.specs.List.{AllZip}
+use Rattle.std.specs.List.{AllByRecursion, AllZip}
 use Rattle.ll_rights.specs.Access.{holds}
 use Rattle.ll_rules.specs.Layer.{Layer}
 use Rattle.ll_decide.specs.Demands.{gaining, set_on}
@@ -55,11 +55,16 @@ pub record IsLayerReason (asks : Asks) (layer : Layer) (told : LayerReason) : Ty
   pub back : (right : ℕ) → right < 15
       → holds told.back.0 right ≡ gaining (grants_along (chain_of asks) layer) asks.demands right Old
 
--- and the denial, which is the first of the definitions
+-- the layer lacks nothing that is asked, and nothing would be gained
+abbrev pub IsClear : LayerReason → Type 0
+IsClear told = ((on : On) → (grants_in told on).missing.0 ≡ 0) × (told.there.0 ≡ 0) × (told.back.0 ≡ 0)
+
+-- And the denial, which is the first of the definitions. There is none where each layer is clear
 pub record IsReason (s : State) (c : ClientRecord) (call : Call) (told : Reason) : Type 0 where
   pub asked : AreAsked s call told.asks
   pub denial : told.denial ≡ slice_get (call_denials s c call) 0
   pub layers : AllZip (λ one layer. IsLayerReason told.asks layer one) told.layers.items c.domain
+  pub clear : AllByRecursion IsClear told.layers.items → told.denial ≡ None
 
 -- the descriptor whose opening kept what decides the call
 abbrev pub kept_number : Call → Option ℕ

@@ -8,6 +8,7 @@ mod grants;
 mod places;
 mod reason;
 mod rights;
+mod text;
 mod why;
 
 pub use asks::Asks;
@@ -16,4 +17,5 @@ pub use change::{Change, LayerChange, change_for};
 pub use grants::{Grants, Ruled};
 pub use reason::{LayerReason, Reason};
 pub use rights::{PathRights, rights_on};
+pub use text::Told;
 pub use why::{Why, why_of};

@@ -7,4 +7,5 @@ use Rattle.ll_why.proofs.grants.lacked.Given as goal
 -- so far
 abbrev pub invariant-loop-inode : goal.invariant-loop-inode
 invariant-loop-inode l = (right : ℕ) → right < 15
-    → holds l.missing.0 right ≡ (holds l.fn.rights.0 right && not (grants_on l.layer (take l.inode-index l.inodes) right))
+    → holds l.missing.0 right
+    ≡ (holds l.fn.rights.0 right && not (grants_on l.layer (take l.inode-index l.inodes) right))
