@@ -1,10 +1,11 @@
 //! What is found for a call, and what it comes to.
 
-ghost use Rattle.std.specs.Prelude.{◌≡◌, ℕ, true, MatchOption, MatchResult};
-ghost use Rattle.ll_rights.specs.Map.{has};
+ghost use Rattle.std.specs.Prelude.{◌≡◌, ℕ, true, nat_le, MatchOption, MatchResult};
+ghost use Rattle.ll_rights.specs.Map.{has, len};
 ghost use Rattle.ll_seq.specs.Call.{first_path, path_of, second_path};
 ghost use Rattle.ll_seq.specs.Step.{client_of};
 ghost use Rattle.ll_answer.specs.Decided.{IsDone, IsRefused};
+ghost use Rattle.ll_answer.specs.Found.{AreFacts};
 ghost use Rattle.ll_answer.specs.Passed.{has_path};
 ghost use Rattle.ll_plain.specs.Walking.{IsPathWalk};
 
@@ -43,6 +44,30 @@ impl Plain {
         }
     }
 
+    /// What is found for a call.
+    pub fn found(&self, domain: &Domain, call: &Call) -> Found
+        ensures { AreFacts self.now call.now result }
+    {
+        let (first, second) = self.walks(domain, call);
+        match &second {
+            None => self.facts_of(&first, &first),
+            Some(second) => self.facts_of(&first, second),
+        }
+    }
+
+    /// What these walks, which are those of a call, have found for it.
+    fn facts_of(&self, first: &PathWalk, second: &PathWalk) -> Found
+        ensures first { result.first ≡ first.now.spot }
+        ensures second { result.second ≡ second.now.spot }
+        ensures full { result.is_full ≡ nat_le self.now.room (len self.now.nodes) }
+    {
+        Found {
+            first: first.spot,
+            second: second.spot,
+            is_full: self.is_full(),
+        }
+    }
+
     /// What the caller's call comes to, of which these walks are.
     fn decided<'a>(
         &self,
@@ -57,11 +82,7 @@ impl Plain {
         ensures { (client : ℕ) → client_of self.now client ≡ caller.now
             → MatchResult result (IsDone self.now client call.now) (IsRefused self.now client call.now) }
     {
-        let found = Found {
-            first: first.spot,
-            second: second.spot,
-            is_full: self.is_full(),
-        };
+        let found = self.facts_of(first, second);
         let granted = Granted {
             itself: &first.itself,
             other: &second.itself,

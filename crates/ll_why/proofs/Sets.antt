@@ -95,3 +95,16 @@ pub both_ok : {A E : Type 0} (r : Result A E) (P Q R : A → Type 0) → IfOk r 
     → IfOk r R
 both_ok (Ok a) P Q R p q f = f a p q
 both_ok (Err e) P Q R p q f = tt
+
+-- what isn't lacked
+pub not_lacked : (r g : Bool) → (r && not (r && not g)) ≡ (r && g)
+not_lacked true true = refl
+not_lacked true false = refl
+not_lacked false g = refl
+
+pub holds_with : (x a b right : ℕ) → x ≡ bit_or a b → holds x right ≡ (holds a right || holds b right)
+holds_with x a b right e = ap (λ n. holds n right) e ∙ holds-or a b right
+
+pub or_so : (b : Bool) → (b || true) ≡ true
+or_so true = refl
+or_so false = refl

@@ -1,11 +1,17 @@
--- The inodes of a path, for the code's helpers: no public contract cites this file.
+-- The inodes of paths, from the root on. Cited by contracts between crates alone. own
 use Rattle.std.specs.Prelude.{◌≡◌}
-use Rattle.ll_path.specs.Path.{Path}
+use Rattle.ll_path.specs.Path.{Path, parent}
 use Rattle.ll_seq.specs.State.{State}
 use Rattle.ll_seq.specs.Tree.{ancestors, named}
 use Rattle.ll_why.specs.declared.chain.Chain.{Chain}
+use Rattle.ll_why.specs.declared.chain.PathChains.{PathChains}
 
 -- those of the names so far, and what they name
 pub record IsChain (s : State) (names : Path) (chain : Chain) : Type 0 where
   pub inodes : chain.inodes.items ≡ ancestors s names
   pub end : chain.end ≡ named s names
+
+-- those of the path, and of its directory's
+pub record AreChains (s : State) (path : Path) (chains : PathChains) : Type 0 where
+  pub itself : chains.itself.items ≡ ancestors s path
+  pub parent : chains.parent.items ≡ ancestors s (parent path)

@@ -4,11 +4,13 @@ ghost use Rattle.std.specs.Prelude.{◌≡◌, [], ◌∷◌, ◌++◌, IfOk, On
 ghost use Rattle.std.specs.Option.{option_map_or};
 ghost use Rattle.ll_path.specs.Path.{Path};
 ghost use Rattle.ll_seq.specs.State.{State};
-ghost use Rattle.ll_why.specs.Chains.{IsChain};
+ghost use Rattle.ll_seq.specs.Call.{first_path, path_of, second_path};
+ghost use Rattle.ll_why.specs.Chains.{AreChains, IsChain};
 
-use ll_path::Path;
+use ll_answer::{Targets, targets_of};
+use ll_path::{Names, Path, Target};
 use ll_plain::Plain;
-use ll_seq::ROOT;
+use ll_seq::{Call, ROOT};
 use std::alloc::{AllocError, Global};
 
 /// The inodes of a path, from the root on, as far as its names lead.
@@ -63,14 +65,79 @@ impl Chain {
         }
     }
 
-    /// The inodes of the path in the tree.
-    pub fn of_path(alloc: Global, tree: &Plain, path: &Path) -> Result<Chain, AllocError>
-        ensures { IfOk result (IsChain tree.now path.now) }
+    /// The inodes of the path of these names in the tree.
+    pub fn of_names(alloc: Global, tree: &Plain, names: Names<'_>) -> Result<Chain, AllocError>
+        ensures { IfOk result (IsChain tree.now names.entry) }
     {
         let mut chain = Chain::start(alloc)?;
-        for name in path.names() {
+        for name in names {
             chain = chain.down(tree, name)?;
         }
         Ok(chain)
+    }
+}
+
+/// The inodes of a path and of its directory's path, from the root on.
+#[derive(Drop)]
+pub struct PathChains {
+    pub itself: Vec<u64>,
+    pub parent: Vec<u64>,
+}
+
+impl PathChains {
+    // Of the root.
+    fn of_root(alloc: Global) -> Result<PathChains, AllocError>
+        ensures { IfOk result (λ chains. (s : State) → AreChains s [] chains) }
+    {
+        let itself = Chain::start(alloc)?;
+        let parent = Chain::start(alloc)?;
+        Ok(PathChains {
+            itself: itself.inodes,
+            parent: parent.inodes,
+        })
+    }
+
+    // Of a path in the tree.
+    fn of_path(alloc: Global, tree: &Plain, path: &Path) -> Result<PathChains, AllocError>
+        ensures { IfOk result (AreChains tree.now path.now) }
+    {
+        let itself = Chain::of_names(alloc, tree, path.names())?;
+        let parent = Chain::of_names(alloc, tree, path.parent())?;
+        Ok(PathChains {
+            itself: itself.inodes,
+            parent: parent.inodes,
+        })
+    }
+
+    // Of what a word spells. A word that is no path stands for the root here.
+    fn of_target(alloc: Global, tree: &Plain, target: &Target) -> Result<PathChains, AllocError>
+        ensures { IfOk result (AreChains tree.now (path_of target.now)) }
+    {
+        match target {
+            Target::Good(path) => PathChains::of_path(alloc, tree, path),
+            Target::Bad(_) => PathChains::of_root(alloc),
+        }
+    }
+
+    /// Of a call's first path in the tree.
+    pub fn of_first(alloc: Global, tree: &Plain, call: &Call) -> Result<PathChains, AllocError>
+        ensures { IfOk result (AreChains tree.now (first_path call.now)) }
+    {
+        match targets_of(call) {
+            Targets::No => PathChains::of_root(alloc),
+            Targets::One(target) => PathChains::of_target(alloc, tree, target),
+            Targets::Two(old, _) => PathChains::of_target(alloc, tree, old),
+        }
+    }
+
+    /// Of a call's second path in the tree, which is the first where it has only one.
+    pub fn of_second(alloc: Global, tree: &Plain, call: &Call) -> Result<PathChains, AllocError>
+        ensures { IfOk result (AreChains tree.now (second_path call.now)) }
+    {
+        match targets_of(call) {
+            Targets::No => PathChains::of_root(alloc),
+            Targets::One(target) => PathChains::of_target(alloc, tree, target),
+            Targets::Two(_, new) => PathChains::of_target(alloc, tree, new),
+        }
     }
 }

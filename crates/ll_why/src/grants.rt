@@ -2,7 +2,7 @@
 
 ghost use Rattle.std.specs.Prelude.{◌≡◌, ◌<◌, ◌≤◌, ℕ, not, ◌&&◌, List, [], ◌∷◌, ◌++◌, IfOk, OnOk};
 ghost use Rattle.ll_rights.specs.Access.{holds};
-ghost use Rattle.ll_rules.specs.Layer.{has_rule, restricts};
+ghost use Rattle.ll_rules.specs.Layer.{grants_on, has_rule, restricts};
 ghost use Rattle.ll_why.specs.Grants.{AreGrants};
 
 use ll_rights::Access;
@@ -51,6 +51,18 @@ fn rule_grants(layer: &Layer, rights: Access, inode: u64) -> Access
         → holds result.0 right ≡ (holds rights.0 right && has_rule layer.now right inode) }
 {
     Access(rights.0 & layer.rule(inode).0)
+}
+
+/// Those of the rights that the layer doesn't grant on a path of these inodes.
+pub(crate) fn lacked(layer: &Layer, inodes: &[u64], rights: Access) -> Access
+    ensures { (right : ℕ) → right < 15
+        → holds result.0 right ≡ (holds rights.0 right && not (grants_on layer.now inodes.now right)) }
+{
+    let mut missing = restricted(layer, rights);
+    for inode in inodes {
+        missing = without(missing, rule_grants(layer, missing, *inode));
+    }
+    missing
 }
 
 // The rule comes behind the others.

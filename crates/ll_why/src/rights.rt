@@ -109,7 +109,7 @@ pub fn rights_on(
 ) -> Result<PathRights, AllocError>
     ensures { IfOk result (AreRights tree.now domain.now path.now) }
 {
-    let chain = Chain::of_path(alloc, tree, path)?;
+    let chain = Chain::of_names(alloc, tree, path.names())?;
     let kind = kind_at(tree, chain.end);
     PathRights::by_layers(alloc, kind, domain.layers(), &chain.inodes)
 }

@@ -5,7 +5,7 @@ use Rattle.ll_rights.specs.declared.kind.Kind.TheVariants.{Reg, Dir, Sym, Fifo, 
 use Rattle.ll_rules.specs.Layer.{Layer}
 use Rattle.ll_path.specs.Path.{Path}
 use Rattle.ll_seq.specs.State.{State, kind_of}
-use Rattle.ll_seq.specs.Tree.{ancestors}
+use Rattle.ll_seq.specs.Tree.{ancestors, named}
 use Rattle.ll_why.specs.declared.rights.PathRights.{PathRights}
 use Rattle.ll_why.specs.Rights.{AreByLayers, AreRights, kind_named, meant}
 use Rattle.ll_why.proofs.Sets.{both_ok}
@@ -41,12 +41,12 @@ returns c =
     let path = c.args.path.now in
     let chain = c.in_ok-chain.ensures in
     let kind_is : c.kind_at-kind.result ≡ kind_named s path =
-    c.kind_at-kind.ensures ∙ ap (option_and_then (kind_of s)) chain.end in
+    c.kind_at-kind.ensures ∙ ap (option_and_then (kind_of s)) (chain.end ∙ ap (named s) c.names.ensures) in
     both_ok c.by_layers.result (λ (told : PathRights). told.kind ≡ c.kind_at-kind.result)
     (λ (told : PathRights). AreByLayers c.layers.result.now c.deref.result.now (meant c.kind_at-kind.result) told)
     (λ (told : PathRights). AreRights s c.args.domain.now path told)
     c.by_layers.ensures.kind c.by_layers.ensures.layers (λ told same by.
     are_rights s c.args.domain.now path c.kind_at-kind.result c.deref.result.now told kind_is
-    (c.deref.ensures.value ∙ chain.inodes) same
+    (c.deref.ensures.value ∙ chain.inodes ∙ ap (ancestors s) c.names.ensures) same
     (subst (λ (l : List Layer). AreByLayers l c.deref.result.now (meant c.kind_at-kind.result) told) c.layers.ensures
     by))

@@ -1,12 +1,12 @@
 use Rattle.std.proofs.Common.{◌≡◌, ◌++◌}
 use Rattle.ll_path.specs.Path.{Path}
 use Rattle.ll_why.specs.Chains.{IsChain}
-use Rattle.ll_why.proofs.chain.Chain.of_path.Given as goal
+use Rattle.ll_why.proofs.chain.Chain.of_names.Given as goal
 
 -- the names so far are those in front of what is left
 abbrev pub invariant-loop-name : goal.invariant-loop-name
 invariant-loop-name l = record {
   can : (goal.iterator-loop-name).can_next l.name-iterator;
   finite : (goal.iterator-loop-name).is_finite l.name-iterator;
-  front : (front : Path) × (l.path ≡ front ++ l.name-iterator) × IsChain l.tree front l.chain;
+  front : (front : Path) × (l.fn.names ≡ front ++ l.name-iterator) × IsChain l.tree front l.chain;
 }

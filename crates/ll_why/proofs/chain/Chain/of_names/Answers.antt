@@ -1,6 +1,6 @@
 use Rattle.std.specs.Prelude.{◌++◌, ◌∷◌, []}
 use Rattle.std.proofs.Common.{ap, append_assoc, sym, ◌∙◌}
-use Rattle.ll_why.proofs.chain.Chain.of_path.Goals as goal
+use Rattle.ll_why.proofs.chain.Chain.of_names.Goals as goal
 
 pub loop-name-init : goal.loop-name-init
 loop-name-init c = record {
@@ -8,7 +8,7 @@ loop-name-init c = record {
   finite = tt;
   front = (
     [],
-    sym (c.into_iter-name-iterator.ensures.into_iter_gives ∙ c.names-name-items.ensures),
+    sym (c.into_iter-name-iterator.ensures.into_iter_gives),
     c.in_ok-chain.ensures c.args.tree.now,
   );
 }

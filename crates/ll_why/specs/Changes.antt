@@ -1,0 +1,97 @@
+-- The least change of a client's layers that would let a call through. own
+use Rattle.std.specs.Prelude.{◌≡◌, ℕ, ◌+◌, ◌-◌, ◌<◌, ◌≤◌, Bool, true, ◌&&◌, ◌||◌, List, [], ◌∷◌, length, ◌==◌}
+use Rattle.std.specs.Prelude.{bit_or, if◌then◌else◌, slice_index}
+use Rattle.std.specs.List.{AllZip}
+use Rattle.ll_rights.specs.Access.{holds}
+use Rattle.ll_rights.specs.Right.{refer}
+use Rattle.ll_rules.specs.Layer.{Layer}
+use Rattle.ll_rules.specs.Rules.{with_rule}
+use Rattle.ll_decide.specs.declared.demands.On.{On}
+use Rattle.ll_decide.specs.declared.demands.On.TheVariants.{Itself, Other, Parent, Left, Entered}
+use Rattle.ll_seq.specs.Asked.{call_denials}
+use Rattle.ll_seq.specs.declared.call.Call.{Call}
+use Rattle.ll_seq.specs.declared.client.ClientRecord.{ClientRecord}
+use Rattle.ll_seq.specs.State.{State}
+use Rattle.ll_why.specs.Reasons.{chain_of}
+use Rattle.ll_why.specs.declared.asks.Asks.{Asks}
+use Rattle.ll_why.specs.declared.change.LayerChange.{LayerChange}
+use Rattle.ll_why.specs.declared.grants.Ruled.{Ruled}
+
+-- what is added to the rule on the node of this, or on the directory
+abbrev pub rule_on : LayerChange → On → Ruled
+rule_on change Itself = change.itself
+rule_on change Other = change.other
+rule_on change Parent = change.parent
+rule_on change Left = change.parent
+rule_on change Entered = change.entered
+
+abbrev pub is_added : LayerChange → ℕ → Bool
+is_added change right =
+    holds change.itself.rights.0 right || holds change.other.rights.0 right || holds change.entered.rights.0 right
+    || holds change.parent.rights.0 right
+
+abbrev pub is_nothing : LayerChange → Bool
+is_nothing change =
+    ((change.itself.rights.0 == 0) && (change.other.rights.0 == 0)) && (change.entered.rights.0 == 0)
+    && (change.parent.rights.0 == 0)
+
+-- the ruleset with these rights for the inode, if there are any
+abbrev pub with_more : Layer → Ruled → Layer
+with_more layer rule = if rule.rights.0 == 0 then layer else with_rule layer rule.inode rule.rights.0
+
+-- the layer as it would be
+abbrev pub changed : Layer → LayerChange → Layer
+changed layer change = record
+    (with_more (with_more (with_more (with_more layer change.itself) change.other) change.entered) change.parent)
+    { handled = bit_or layer.handled change.handled.0 }
+
+-- the domain as it would be
+abbrev pub all_changed : List Layer → List LayerChange → List Layer
+all_changed [] changes = []
+all_changed (layer ∷ layers) [] = layer ∷ layers
+all_changed (layer ∷ layers) (change ∷ changes) = changed layer change ∷ all_changed layers changes
+
+-- the last inode of a path
+abbrev pub end_of : List ℕ → ℕ
+end_of inodes = slice_index inodes (length inodes - 1)
+
+-- Rights are added where the call's paths and their directories end; and all that are added are handled then, of which
+-- none is handled anew but refer
+pub record IsChange (asks : Asks) (layer : Layer) (change : LayerChange) : Type 0 where
+  pub ends : (on : On) → (rule_on change on).inode ≡ end_of (chain_of asks on)
+  pub handled : (right : ℕ) → right < 15 → holds change.handled.0 right ≡ true → right ≡ refer
+  pub legal : (on : On) (right : ℕ) → right < 15 → holds (rule_on change on).rights.0 right ≡ true
+      → holds (bit_or layer.handled change.handled.0) right ≡ true
+
+abbrev pub AreChanges : Asks → List Layer → List LayerChange → Type 0
+AreChanges asks domain changes = AllZip (λ change layer. IsChange asks layer change) changes domain
+
+-- policy allows the call where the client's layers are changed so
+abbrev pub IsAllowed : State → ClientRecord → Call → List LayerChange → Type 0
+IsAllowed s c call changes = call_denials s (record c { domain = all_changed c.domain changes }) call ≡ []
+
+abbrev pub worth : Bool → ℕ → ℕ
+worth test n = if test then n else 0
+
+-- Where a right is added, as a number. The wider a place is, the more it is worth: the first path's node, the second
+-- path's, the second path's directory, the first path's; each is worth more than all before it
+abbrev pub width : LayerChange → ℕ → ℕ
+width change right =
+    worth (holds change.itself.rights.0 right) 1 + worth (holds change.other.rights.0 right) 2
+    + worth (holds change.entered.rights.0 right) 4 + worth (holds change.parent.rights.0 right) 8
+
+-- each right of the one is added by the other too
+abbrev pub IsWithin : LayerChange → LayerChange → Type 0
+IsWithin one other = (on : On) (right : ℕ) → right < 15 → holds (rule_on one on).rights.0 right ≡ true
+    → holds (rule_on other on).rights.0 right ≡ true
+
+-- The changes let the call through. Of all that do, each right is added by these in the narrowest way; and no others
+-- that leave out some of these rights do
+pub record AreLeast (s : State) (c : ClientRecord) (call : Call) (asks : Asks) (changes : List LayerChange) : Type 0
+  where
+    pub are : AreChanges asks c.domain changes
+    pub allowed : IsAllowed s c call changes
+    pub narrowest : (others : List LayerChange) → AreChanges asks c.domain others → IsAllowed s c call others
+        → AllZip (λ one other. (right : ℕ) → right < 15 → width one right ≤ width other right) changes others
+    pub needed : (others : List LayerChange) → AreChanges asks c.domain others → IsAllowed s c call others
+        → AllZip IsWithin others changes → AllZip IsWithin changes others

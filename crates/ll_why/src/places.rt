@@ -1,0 +1,233 @@
+//! Where rights have to be added so that a layer lets a call through: the search for the narrowest places.
+
+ghost use Rattle.std.specs.Prelude.{◌≡◌, ◌<◌, ◌==◌, ℕ, Bool, ◌&&◌, ◌||◌};
+ghost use Rattle.std.specs.List.{list_any};
+ghost use Rattle.ll_rights.specs.Access.{holds};
+ghost use Rattle.ll_rules.specs.Layer.{grants_on};
+ghost use Rattle.ll_decide.specs.declared.demands.On as asked_on;
+ghost use Rattle.ll_why.specs.Changes.{end_of};
+ghost use Rattle.ll_why.specs.Places.{AreWays, chosen_by, denies, is_among, is_chosen, is_reached, leads, numbers};
+ghost use Rattle.ll_why.specs.Places.{passes, set_in};
+ghost use Rattle.ll_why.specs.Reasons.{chain_of};
+ghost use Rattle.ll_why.specs.declared.asks.Asks as asks_of;
+
+use crate::asks::Asks;
+use crate::grants::{lacked, without};
+use ll_decide::Demands;
+use ll_rights::Access;
+use ll_rules::Layer;
+
+/// A set of rights for each place where rights may be added.
+#[derive(Clone, Copy)]
+pub(crate) struct Sets {
+    pub itself: Access,
+    pub other: Access,
+    pub entered: Access,
+    pub parent: Access,
+}
+
+/// Some of the places where rights may be added: the node of a call's first path, that of its second, the directory of
+/// the second, and that of the first.
+#[derive(Clone, Copy)]
+pub(crate) struct Places {
+    pub itself: bool,
+    pub other: bool,
+    pub entered: bool,
+    pub parent: bool,
+}
+
+/// For each path of a call, and for each directory's, which places are on it.
+#[derive(Clone, Copy)]
+struct Ways {
+    itself: Places,
+    other: Places,
+    entered: Places,
+    parent: Places,
+}
+
+/// The last inode of a path.
+pub(crate) fn end_of(inodes: &[u64]) -> u64
+    ensures { result ≡ end_of inodes.now }
+{
+    if inodes.is_empty() {
+        0
+    } else {
+        inodes[inodes.len() - 1]
+    }
+}
+
+// Whether the inode is among these.
+fn is_on(inode: u64, inodes: &[u64]) -> bool
+    ensures { result ≡ list_any (λ i. i == inode) inodes.now }
+{
+    inodes.iter().any(|i| *i == inode)
+}
+
+fn has_bit(number: u64, bit: u8) -> bool
+    requires { bit < 64 }
+    ensures { result ≡ holds number bit }
+{
+    number >> bit & 1 == 1
+}
+
+/// Those of the rights that are among the others too.
+pub(crate) fn both(rights: Access, others: Access) -> Access
+    ensures { (right : ℕ) → holds result.0 right ≡ (holds rights.0 right && holds others.0 right) }
+{
+    Access(rights.0 & others.0)
+}
+
+// All rights where the test says so.
+fn all_if(rights: Access, test: bool) -> Access
+    ensures { (right : ℕ) → right < 15 → holds result.0 right ≡ (holds rights.0 right || test) }
+{
+    if test { Access::ALL } else { rights }
+}
+
+// These rights too where the test says so.
+fn more_if(rights: Access, test: bool, more: Access) -> Access
+    ensures { (right : ℕ) → holds result.0 right ≡ (holds rights.0 right || (test && holds more.0 right)) }
+{
+    if test { rights.with(more) } else { rights }
+}
+
+impl Places {
+    // Those that the number stands for.
+    fn of_number(number: u64) -> Places
+        ensures { (on : asked_on.On) → is_among result on ≡ chosen_by number on }
+    {
+        Places {
+            itself: has_bit(number, 0),
+            other: has_bit(number, 1),
+            entered: has_bit(number, 2),
+            parent: has_bit(number, 3),
+        }
+    }
+
+    // Those of a call that are on a path of these inodes.
+    fn on_path(asks: &Asks, inodes: &[u64]) -> Places
+        ensures { (on : asked_on.On) (from : asked_on.On) → inodes.now ≡ chain_of asks.now on
+            → is_among result from ≡ leads asks.now from on }
+    {
+        Places {
+            itself: is_on(end_of(&asks.first.itself), inodes),
+            other: is_on(end_of(&asks.second.itself), inodes),
+            entered: is_on(end_of(&asks.second.parent), inodes),
+            parent: is_on(end_of(&asks.first.parent), inodes),
+        }
+    }
+
+    // Whether some place is among both.
+    fn meet(self, others: Places) -> bool
+        ensures { result ≡ (self.itself && others.itself || self.other && others.other
+            || self.entered && others.entered || self.parent && others.parent) }
+    {
+        self.itself && others.itself
+            || self.other && others.other
+            || self.entered && others.entered
+            || self.parent && others.parent
+    }
+}
+
+impl Sets {
+    const NONE: Sets = Sets {
+        itself: Access(0),
+        other: Access(0),
+        entered: Access(0),
+        parent: Access(0),
+    };
+
+    // These rights too at these places.
+    fn with(self, places: Places, rights: Access) -> Sets
+        ensures { (on : asked_on.On) (right : ℕ) → holds (set_in result on) right
+            ≡ (holds (set_in self on) right || (is_among places on && holds rights.0 right)) }
+    {
+        Sets {
+            itself: more_if(self.itself, places.itself, rights),
+            other: more_if(self.other, places.other, rights),
+            entered: more_if(self.entered, places.entered, rights),
+            parent: more_if(self.parent, places.parent, rights),
+        }
+    }
+
+    // What the layer grants on each path of a call, and on each directory's.
+    fn granted(layer: &Layer, asks: &Asks) -> Sets
+        ensures { (on : asked_on.On) (right : ℕ) → right < 15
+            → holds (set_in result on) right ≡ grants_on layer.now (chain_of asks.now on) right }
+    {
+        Sets {
+            itself: granted_on(layer, &asks.first.itself),
+            other: granted_on(layer, &asks.second.itself),
+            entered: granted_on(layer, &asks.second.parent),
+            parent: granted_on(layer, &asks.first.parent),
+        }
+    }
+
+    // The rights that a layer which grants so much denies somewhere.
+    fn denied(self, demands: &Demands) -> Access
+        ensures { (right : ℕ) → right < 15
+            → holds result.0 right ≡ denies (λ on r. holds (set_in self on) r) demands.now right }
+    {
+        let at = without(demands.itself, self.itself).with(without(demands.parent, self.parent));
+        let old = without(demands.left, self.parent);
+        let new = without(demands.other, self.other).with(without(demands.entered, self.entered));
+        let back = without(both(demands.back, self.parent), self.other);
+        let there = without(both(demands.there, self.entered), self.itself);
+        at.with(old).with(new).with(back).with(there)
+    }
+}
+
+// What the layer grants on a path of these inodes.
+fn granted_on(layer: &Layer, inodes: &[u64]) -> Access
+    ensures { (right : ℕ) → right < 15 → holds result.0 right ≡ grants_on layer.now inodes.now right }
+{
+    without(Access::ALL, lacked(layer, inodes, Access::ALL))
+}
+
+impl Ways {
+    // Of a call.
+    fn of_call(asks: &Asks) -> Ways
+        ensures { AreWays asks.now result }
+    {
+        Ways {
+            itself: Places::on_path(asks, &asks.first.itself),
+            other: Places::on_path(asks, &asks.second.itself),
+            entered: Places::on_path(asks, &asks.second.parent),
+            parent: Places::on_path(asks, &asks.first.parent),
+        }
+    }
+
+    // What is granted where all rights are added at these places.
+    fn added(self, granted: Sets, places: Places) -> Sets
+        ensures { (asks : asks_of.Asks) (chosen : asked_on.On → Bool) → AreWays asks self
+            → ((on : asked_on.On) → is_among places on ≡ chosen on)
+            → (on : asked_on.On) (right : ℕ) → right < 15 → holds (set_in result on) right
+            ≡ (holds (set_in granted on) right || is_reached asks chosen on) }
+    {
+        Sets {
+            itself: all_if(granted.itself, places.meet(self.itself)),
+            other: all_if(granted.other, places.meet(self.other)),
+            entered: all_if(granted.entered, places.meet(self.entered)),
+            parent: all_if(granted.parent, places.meet(self.parent)),
+        }
+    }
+}
+
+/// The rights that have to be added to the layer so that it lets the call through, each at the narrowest places.
+pub(crate) fn least_sets(layer: &Layer, asks: &Asks) -> Sets
+    ensures { (on : asked_on.On) (right : ℕ) → right < 15 → holds (set_in result on) right
+        ≡ is_chosen numbers (passes asks.now layer.now right) on }
+{
+    let granted = Sets::granted(layer, asks);
+    let ways = Ways::of_call(asks);
+    let mut added = Sets::NONE;
+    let mut rest = Access::ALL;
+    for number in 0..16 {
+        let places = Places::of_number(number);
+        let denied = ways.added(granted, places).denied(&asks.demands);
+        let passing = without(rest, denied);
+        added = added.with(places, passing);
+        rest = without(rest, passing);
+    }
+    added
+}
