@@ -1,6 +1,7 @@
 //! A session answers lines.
 
-ghost use Rattle.std.specs.Prelude.{◌≡◌, ◌<◌, ◌≤◌, ◌+◌, ◌-◌, ◌^◌, ◌↔◌, ℕ, List, IsTrue, Some, Err, IfErr, OnErr, OnOk, length};
+ghost use Rattle.std.specs.Prelude.{◌≡◌, ◌<◌, ◌≤◌, ◌+◌, ◌-◌, ◌^◌, ◌↔◌, ℕ, List, IsTrue, Some, Err, IfErr, OnErr, OnOk};
+ghost use Rattle.std.specs.Prelude.{length};
 ghost use Rattle.ll_ends.specs.Devices.{IsWhole};
 ghost use Rattle.ll_lines.specs.Reached.{AnswersAll, Blames, StartsAll};
 ghost use Rattle.ll_lines.specs.Transcript.{most_reads};

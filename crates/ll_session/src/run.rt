@@ -1,6 +1,7 @@
 //! Runs of scripts.
 
-ghost use Rattle.std.specs.Prelude.{◌≡◌, ◌+◌, ◌<◌, ◌≤◌, ◌^◌, [], length, All, IfOk, IfErr, ℕ, List, OnOk, OnErr, IfSome};
+ghost use Rattle.std.specs.Prelude.{◌≡◌, ◌+◌, ◌<◌, ◌≤◌, ◌^◌, [], length, All, IfOk, IfErr, ℕ, List, OnOk, OnErr};
+ghost use Rattle.std.specs.Prelude.{IfSome};
 ghost use Rattle.std.specs.Prelude.{Option, Some, Err};
 ghost use Rattle.std.specs.Io.KnownBytes.{Appends};
 ghost use Rattle.ll_rights.specs.declared.limits.TheConstants.{TREE_CLIENTS};
@@ -18,10 +19,10 @@ ghost use Rattle.ll_ends.specs.Devices.{IsWhole};
 ghost use Rattle.ll_lines.specs.Reached.{Blames};
 ghost use Rattle.ll_session.specs.Progress.{Closes, IsOfRefusal, RunsTo, StopsAt};
 
+use crate::answering::session;
 use crate::fault::RunFault;
 use crate::opening::Shut;
 use crate::output::write_reply;
-use crate::answering::session;
 use crate::setup::Setup;
 use crate::shared::Shared;
 use ll_client::{Account, Shape};

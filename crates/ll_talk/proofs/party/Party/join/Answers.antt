@@ -62,6 +62,6 @@ loop-preserved g c = (
       (sym c.connect.ensures.same)
       (stays_on g.N.Shape.rules room g.N.Shape.limit c.args.self.now c.loop.self c.is_full.new.self
       (c.loop.invariant.0 room)
-    (looks g.N.Shape.rules room g.N.Shape.limit c.loop.self c.is_full.new.self c.is_full.ensures.looks)),
+      (looks g.N.Shape.rules room g.N.Shape.limit c.loop.self c.is_full.new.self c.is_full.ensures.looks)),
   ap length c.connect.ensures.same ∙ c.is_full.ensures.count ∙ c.loop.invariant.1,
 )
