@@ -50,8 +50,8 @@ impl Masks {
         }
     }
 
-    // what the next newer layer grants
-    fn push(&mut self, rights: Access)
+    /// What the next newer layer grants: known rights alone.
+    pub fn push(&mut self, rights: Access)
         requires few { length self.old < DOMAIN_LAYERS }
         requires known { rights.0 < 2 ^ 15 }
         ensures { self.new ≡ self.old ++ rights.0 ∷ [] }
