@@ -27,3 +27,6 @@ loop-layer-preserved c =
       len = ap length c.push.ensures ∙ length-append masks (new ∷ []) ∙ ap (λ n. n + 1) c.loop-layer.invariant.len;
       most = c.loop-layer.invariant.most;
     }
+
+pub push-requires-clause-known : goal.push-requires-clause-known
+push-requires-clause-known c = c.mask_on.ensures.known
