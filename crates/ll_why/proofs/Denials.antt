@@ -14,7 +14,7 @@ use Rattle.ll_decide.specs.declared.denial.Place.{Place}
 use Rattle.ll_decide.specs.declared.denial.Place.TheVariants.{At, Old, New}
 use Rattle.ll_decide.specs.Demands.{AreAsks, AreMoves, gaining, lacking}
 use Rattle.ll_decide.specs.Judge.{grants_along}
-use Rattle.ll_decide.specs.Search.{of_layer, of_place, of_right}
+use Rattle.ll_decide.specs.Search.{of_layer, of_right}
 use Rattle.ll_decide.specs.Verdict.{Ask, Move, denials, gains, lacks, places, rights_without_refer, verdict, when}
 use Rattle.ll_decide.proofs.Sets.{below_all, below_others, below_refer}
 use Rattle.ll_seq.proofs.StepParts.{none_first}

@@ -1,6 +1,6 @@
 -- The least change lets a call through, and nothing narrower does.
-use Rattle.std.specs.Prelude.{◌≡◌, ℕ, suc, ◌+◌, ◌-◌, ◌<◌, ◌≤◌, Bool, true, false, not, ◌&&◌, ◌||◌, ◌==◌, List, [], ◌∷◌}
-use Rattle.std.specs.Prelude.{Option, Some, None, bit_or, cond, find, length, nat_lt, slice_get, slice_index, refl}
+use Rattle.std.specs.Prelude.{◌≡◌, ℕ, ◌+◌, ◌-◌, ◌<◌, ◌≤◌, Bool, true, false, not, ◌&&◌, ◌||◌, ◌==◌, List, [], ◌∷◌}
+use Rattle.std.specs.Prelude.{Option, Some, None, cond, find, length, nat_lt, slice_get, slice_index, refl}
 use Rattle.std.specs.List.{AllZip, list_any, range_with_len}
 use Rattle.std.specs.Option.{option_map_or}
 use Rattle.std.proofs.Common.{ap, arith, eq-eqb, eqb-true, ltb-false, ltb-true, subst, sym, ◌∙◌}
@@ -10,13 +10,12 @@ use Rattle.ll_rights.specs.Access.{holds}
 use Rattle.ll_rights.specs.Right.{refer}
 use Rattle.ll_rules.specs.Layer.{Layer, grants_on, has_rule, restricts}
 use Rattle.ll_decide.proofs.Bits.{holds-or}
-use Rattle.ll_decide.specs.Demands.{gaining, lacking, set_of, set_on}
+use Rattle.ll_decide.specs.Demands.{gaining, lacking}
 use Rattle.ll_decide.specs.Judge.{grants_along}
 use Rattle.ll_decide.specs.Verdict.{verdict}
 use Rattle.ll_decide.specs.declared.demands.Demands.{Demands}
 use Rattle.ll_decide.specs.declared.demands.On.{On}
 use Rattle.ll_decide.specs.declared.demands.On.TheVariants.{Itself, Other, Parent, Left, Entered}
-use Rattle.ll_decide.specs.declared.demands.Way.TheVariants.{There, Back}
 use Rattle.ll_decide.specs.declared.denial.Place.{Place}
 use Rattle.ll_decide.specs.declared.denial.Place.TheVariants.{At, Old, New}
 use Rattle.ll_seq.specs.Asked.{call_denials}
@@ -27,7 +26,7 @@ use Rattle.ll_seq.specs.declared.client.ClientRecord.{ClientRecord}
 use Rattle.ll_seq.proofs.StepParts.{none_first}
 use Rattle.ll_why.specs.Changes.{AreChanges, AreLeast, IsAllowed, IsChange, IsWithin, all_changed, changed, end_of}
 use Rattle.ll_why.specs.Changes.{is_added, rule_on, width, worth}
-use Rattle.ll_why.specs.Places.{IsLeastOf, bit_on, chosen_by, denies, granted_with, is_chosen, is_reached, leads}
+use Rattle.ll_why.specs.Places.{IsLeastOf, chosen_by, denies, granted_with, is_chosen, is_reached, leads}
 use Rattle.ll_why.specs.Places.{numbers, passes}
 use Rattle.ll_why.specs.Reasons.{AreAsked, chain_of, kept_number}
 use Rattle.ll_why.specs.declared.asks.Asks.{Asks}

@@ -1,5 +1,5 @@
 -- What a layer grants to which rules are added.
-use Rattle.std.specs.Prelude.{◌≡◌, ℕ, ◌<◌, Bool, true, false, not, ◌&&◌, ◌||◌, ◌==◌, List, [], ◌∷◌, Some, unwrap_or}
+use Rattle.std.specs.Prelude.{◌≡◌, ℕ, ◌<◌, Bool, true, false, not, ◌&&◌, ◌||◌, ◌==◌, List, [], ◌∷◌, unwrap_or}
 use Rattle.std.specs.Prelude.{bit_or, if◌then◌else◌, refl}
 use Rattle.std.specs.Cmp.{nat_cmp_total}
 use Rattle.std.specs.FinMap.{nat_cmp-IsAntisymmetric}
@@ -15,9 +15,9 @@ use Rattle.ll_decide.proofs.Bits.{holds-or}
 use Rattle.ll_decide.proofs.OneByOne.{holds_none}
 use Rattle.ll_decide.specs.Judge.{grants_along}
 use Rattle.ll_decide.specs.declared.demands.On.{On}
-use Rattle.ll_decide.specs.declared.demands.On.TheVariants.{Itself, Other, Parent, Left, Entered}
-use Rattle.ll_why.specs.Changes.{IsChange, changed, end_of, rule_on, with_more}
-use Rattle.ll_why.specs.Places.{granted_with, is_reached, leads}
+use Rattle.ll_decide.specs.declared.demands.On.TheVariants.{Itself, Other, Parent, Entered}
+use Rattle.ll_why.specs.Changes.{IsChange, changed, rule_on, with_more}
+use Rattle.ll_why.specs.Places.{granted_with}
 use Rattle.ll_why.specs.Reasons.{chain_of}
 use Rattle.ll_why.specs.declared.asks.Asks.{Asks}
 use Rattle.ll_why.specs.declared.change.LayerChange.{LayerChange}

@@ -1,5 +1,5 @@
 -- The search for the least change of one layer, for the code's helpers: no public contract cites this file.
-use Rattle.std.specs.Prelude.{◌≡◌, ℕ, ◌<◌, Bool, false, not, ◌&&◌, ◌||◌, List, Option, ◌==◌, find}
+use Rattle.std.specs.Prelude.{◌≡◌, ℕ, ◌<◌, Bool, false, not, ◌&&◌, ◌||◌, List, ◌==◌, find}
 use Rattle.std.specs.List.{list_any, range_with_len}
 use Rattle.std.specs.Option.{option_map_or}
 use Rattle.ll_rights.specs.Access.{holds}

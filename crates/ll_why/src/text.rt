@@ -245,17 +245,15 @@ fn write_rule<W: Write>(f: &mut Formatter<W>, upper: Upper<'_>, rule: Ruled) -> 
     write!(f, "; on {}:{}", upper, Names(rule.rights))
 }
 
-// What is added to one layer, if anything is.
+// What is added to one layer, behind these words.
 fn write_change<W: Write>(
     f: &mut Formatter<W>,
+    words: &str,
     number: usize,
     seats: &Seats<'_>,
     change: &LayerChange,
 ) -> Result<(), Error> {
-    if change.is_empty() {
-        return Ok(());
-    }
-    write!(f, "  would pass with layer {}", number)?;
+    write!(f, "  {} layer {}", words, number)?;
     if change.handled.0 != 0 {
         write!(f, " handling{}", Names(change.handled))?;
     }
@@ -266,7 +264,7 @@ fn write_change<W: Write>(
     f.write_str("\n")
 }
 
-// What is added to each layer, if anything is.
+// What is added to each layer to which anything is.
 fn write_changes<W: Write>(
     f: &mut Formatter<W>,
     seats: &Seats<'_>,
@@ -275,8 +273,13 @@ fn write_changes<W: Write>(
     let Some(change) = change else {
         return Ok(());
     };
+    let mut words = "would pass with";
     for index in 0..change.layers.len() {
-        write_change(f, index + 1, seats, &change.layers[index])?;
+        let one = &change.layers[index];
+        if !one.is_empty() {
+            write_change(f, words, index + 1, seats, one)?;
+            words = "and with";
+        }
     }
     Ok(())
 }
