@@ -10,4 +10,6 @@ mod table;
 mod values;
 
 pub use fault::PolicyFault;
+pub use path_text::PathText;
 pub use policy::Policy;
+pub use profile::{Layer, Rule};

@@ -1,6 +1,7 @@
 //! Paths in a policy.
 
 ghost use Rattle.std.specs.Prelude.{◌≡◌, not, IfOk};
+ghost use Rattle.ll_path.specs.Word.{IsWord};
 ghost use Rattle.ll_policy.specs.Answers.{Reads};
 ghost use Rattle.ll_policy.specs.Calls.{path_to};
 ghost use Rattle.ll_policy.specs.Faults.{fault_if};
@@ -14,7 +15,7 @@ use std::marker::Model;
 
 /// A path that several calls may need. Contracts see its text.
 #[derive(Drop)]
-pub(crate) struct PathText {
+pub struct PathText {
     path: Path,
 }
 
@@ -45,6 +46,14 @@ impl PathText {
             Ok(path) => Ok(PathText { path }),
             Err(_) => Err(PolicyFault::BadPath),
         }
+    }
+
+    /// Its one text, which is a word.
+    pub fn as_str(&self) -> &str
+        ensures text { result.now ≡ self.now }
+        ensures word { IsWord result.now }
+    {
+        self.path.as_str()
     }
 
     /// The path for one call.

@@ -10,13 +10,13 @@ ghost use Rattle.ll_seq.specs.History.{is_connect};
 ghost use Rattle.ll_policy.specs.Answers.{Checks, Reads};
 ghost use Rattle.ll_policy.specs.Faults.{document_faults, level_faults, other_keys, policy_faults, top_faults};
 ghost use Rattle.ll_policy.specs.Faults.{top_keys};
-ghost use Rattle.ll_policy.specs.KeptCalls.{IsTop};
+ghost use Rattle.ll_policy.specs.KeptCalls.{IsTop, calls_of_layers};
 ghost use Rattle.ll_policy.specs.Plan.{IsPlan, IsPlanOf, level_by};
 ghost use Rattle.ll_policy.specs.declared.fault.PolicyFault.TheVariants.{NoMemory};
 
 use crate::fault::PolicyFault;
 use crate::node::{Node, opening_calls, read_nodes};
-use crate::profile::{Profile, read_profiles};
+use crate::profile::{Layer, Profile, read_profiles};
 use crate::table::{named_tables, only, tables};
 use crate::values::{is_two, level, version};
 use ll_rights::Abi;
@@ -156,5 +156,19 @@ impl Policy {
             }
         }
         Ok(None)
+    }
+
+    /// The layers of this profile, oldest first, whose calls are the profile's. None where the policy has no such
+    /// profile.
+    pub fn layers(&self, name: &str) -> Option<&[Layer]>
+        ensures { option_map (λ layers. calls_of_layers 0 layers.now) result
+            ≡ lookup (bytes_eq name.now) self.now.profiles }
+    {
+        for profile in &self.profiles {
+            if profile.is_named(name) {
+                return Some(profile.layers());
+            }
+        }
+        None
     }
 }

@@ -21,9 +21,9 @@ use toml::{Table, Value};
 
 /// Rights on the node of a path, and beneath it.
 #[derive(Drop)]
-pub(crate) struct Rule {
-    path: PathText,
-    rights: Access,
+pub struct Rule {
+    pub path: PathText,
+    pub rights: Access,
 }
 
 impl Rule {
@@ -53,11 +53,11 @@ fn read_rules(alloc: Global, values: &[Value]) -> Result<Vec<Rule>, PolicyFault>
     Ok(rules)
 }
 
-/// A ruleset that is enforced.
+/// A ruleset that is enforced: the rights that it handles, and its rules in order.
 #[derive(Drop)]
-pub(crate) struct Layer {
-    handled: Access,
-    rules: Vec<Rule>,
+pub struct Layer {
+    pub handled: Access,
+    pub rules: Vec<Rule>,
 }
 
 impl Layer {
@@ -131,6 +131,13 @@ impl Profile {
         ensures { result ≡ bytes_eq name.now (string_bytes self.now.name) }
     {
         name == self.name.as_str()
+    }
+
+    /// The layers, oldest first.
+    pub(crate) fn layers(&self) -> &[Layer]
+        ensures { result.now ≡ self.now.layers.items }
+    {
+        self.layers.as_slice()
     }
 
     /// The calls that give a client its layers.

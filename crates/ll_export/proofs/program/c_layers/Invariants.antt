@@ -1,0 +1,9 @@
+use Rattle.std.proofs.Common.{◌≡◌, ◌++◌, drop, string_bytes}
+use Rattle.std.specs.List.{flat_map}
+use Rattle.ll_export.specs.Program.{c_layer}
+use Rattle.ll_export.proofs.program.c_layers.Given as goal
+
+-- what is still to come
+abbrev pub invariant-loop-layer : goal.invariant-loop-layer
+invariant-loop-layer l =
+    flat_map c_layer l.layers ≡ string_bytes l.text ++ flat_map c_layer (drop l.layer-index l.layers)

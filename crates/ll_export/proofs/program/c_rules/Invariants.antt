@@ -1,0 +1,9 @@
+use Rattle.std.proofs.Common.{◌≡◌, ◌++◌, drop, string_bytes}
+use Rattle.std.specs.List.{flat_map}
+use Rattle.ll_export.specs.Program.{c_rule}
+use Rattle.ll_export.proofs.program.c_rules.Given as goal
+
+-- what is still to come
+abbrev pub invariant-loop-rule : goal.invariant-loop-rule
+invariant-loop-rule l =
+    flat_map c_rule l.rules ≡ string_bytes l.text ++ flat_map c_rule (drop l.rule-index l.rules)

@@ -1,0 +1,32 @@
+//! Texts of several parts.
+
+ghost use Rattle.std.specs.Prelude.{◌≡◌, map, IfOk, string_bytes};
+ghost use Rattle.std.specs.List.{concat, join_by};
+
+use std::alloc::{AllocError, Global};
+
+/// The parts in a row.
+pub(crate) fn concat(alloc: Global, parts: &[&str]) -> Result<String, AllocError>
+    ensures { IfOk result (λ text. string_bytes text ≡ concat (map (λ p. p.now) parts.now)) }
+{
+    let mut text = String::new(alloc);
+    for part in parts {
+        text.push_str(part)?;
+    }
+    Ok(text)
+}
+
+/// The parts with the separator between any two.
+pub(crate) fn joined(alloc: Global, separator: &str, parts: &[String]) -> Result<String, AllocError>
+    ensures { IfOk result (λ text. string_bytes text ≡ join_by string_bytes separator.now parts.now) }
+{
+    let Some((first, others)) = parts.split_first() else {
+        return Ok(String::new(alloc));
+    };
+    let mut text = String::from_str(alloc, first.as_str())?;
+    for part in others {
+        text.push_str(separator)?;
+        text.push_str(part.as_str())?;
+    }
+    Ok(text)
+}
