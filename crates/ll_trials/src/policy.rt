@@ -1,5 +1,6 @@
 //! Documents of policies: the faults that they are told, and the calls that they stand for.
 
+use ll_export::json_text;
 use ll_policy::{Policy, PolicyFault};
 use ll_rights::{Access, Kind};
 use ll_seq::Call;
@@ -229,4 +230,28 @@ fn is_read(alloc: Global) -> Result<bool, PolicyFault> {
 #[test]
 fn reader(rt: HostRuntime) {
     assert!(rt; is_read(rt.alloc()) == Ok(true));
+}
+
+/// A profile of two layers, of which the first has a rule.
+const LAYERS: &str = "version = 1\n[[profile.p.layer]]\nhandled = \"write_file,refer\"\n\
+    [[profile.p.layer.rule]]\npath = \"/\"\nrights = \"refer\"\n\
+    [[profile.p.layer]]\nhandled = \"truncate\"\n";
+
+const JSON: &str = "{\n  \"layers\": [\n\
+    \x20   {\"handled\": [\"write_file\", \"refer\"], \"rules\": [\n\
+    \x20     {\"path\": \"/\", \"rights\": [\"refer\"]}\n\
+    \x20   ]},\n\
+    \x20   {\"handled\": [\"truncate\"], \"rules\": [\n\n\
+    \x20   ]}\n\
+    \x20 ]\n}\n";
+
+fn json(alloc: Global) -> Option<String> {
+    let policy = Policy::from_text(alloc, LAYERS).ok()?;
+    json_text(alloc, policy.layers("p")?).ok()
+}
+
+#[test]
+fn layers_as_json(rt: HostRuntime) {
+    let text = json(rt.alloc());
+    assert!(rt; matches!(&text, Some(text) if text.as_str() == JSON));
 }
