@@ -233,7 +233,7 @@ fn reader(rt: HostRuntime) {
 }
 
 /// A profile of two layers, of which the first has a rule.
-const LAYERS: &str = "version = 1\n[[profile.p.layer]]\nhandled = \"write_file,refer\"\n\
+const TWO_LAYERS: &str = "version = 1\n[[profile.p.layer]]\nhandled = \"write_file,refer\"\n\
     [[profile.p.layer.rule]]\npath = \"/\"\nrights = \"refer\"\n\
     [[profile.p.layer]]\nhandled = \"truncate\"\n";
 
@@ -246,7 +246,7 @@ const JSON: &str = "{\n  \"layers\": [\n\
     \x20 ]\n}\n";
 
 fn json(alloc: Global) -> Option<String> {
-    let policy = Policy::from_text(alloc, LAYERS).ok()?;
+    let policy = Policy::from_text(alloc, TWO_LAYERS).ok()?;
     json_text(alloc, policy.layers("p")?).ok()
 }
 
