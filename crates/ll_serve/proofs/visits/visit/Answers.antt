@@ -1,0 +1,66 @@
+use Rattle.std.proofs.Common.{◌∙◌, List, map, subst, sym}
+use Rattle.std.specs.Prelude.{IfErr}
+use Rattle.ll_client.specs.Entries.{Knows}
+use Rattle.ll_seq.specs.declared.reply.Reply.TheVariants.{Refused}
+use Rattle.ll_serve.specs.Visit.{StartsBy}
+use Rattle.ll_serve.proofs.Endings.{cut_short, no_place, ready, started, stopped, turned_away}
+use Rattle.ll_serve.proofs.visits.visit.Goals as goal
+
+pub returns-in-Err-clause-ok : goal.returns-in-Err-clause-ok
+returns-in-Err-clause-ok g c =
+    let limit = g.N.Shape.limit in
+    let profile = c.args.profile.items in
+    let left = map (λ it. it.rider) c.into_clients.result.items in
+    turned_away limit profile (g.E.Ends.devices c.args.ends.now) (g.E.Ends.devices c.write_reply-told.new.ends)
+    c.write_reply-told.result (Refused c.in-Err.errno) left
+    (no_place limit profile c.in-Err.errno left c.in-Err.ensures.err (c.into_clients.ensures ∙ c.in-Err.ensures.none))
+    c.write_reply-told.ensures.remaining c.write_reply-told.ensures.ok
+
+pub returns-in-Err-clause-err : goal.returns-in-Err-clause-err
+returns-in-Err-clause-err g c =
+    let limit = g.N.Shape.limit in
+    let profile = c.args.profile.items in
+    let left = map (λ it. it.rider) c.into_clients.result.items in
+    cut_short limit profile (g.E.Ends.devices c.args.ends.now) (g.E.Ends.devices c.write_reply-told.new.ends)
+    c.write_reply-told.result (Refused c.in-Err.errno) left
+    (no_place limit profile c.in-Err.errno left c.in-Err.ensures.err (c.into_clients.ensures ∙ c.in-Err.ensures.none))
+    c.write_reply-told.ensures.remaining c.write_reply-told.ensures.err
+
+pub returns-in-Ok-make_calls-clause-err : goal.returns-in-Ok-make_calls-clause-err
+returns-in-Ok-make_calls-clause-err g c =
+    let limit = g.N.Shape.limit in
+    let profile = c.args.profile.items in
+    let old = g.E.Ends.devices c.args.ends.now in
+    let new = g.E.Ends.devices c.session-party.new.ends in
+    let come = c.in_default-come.ensures.ok in
+    subst (λ (ks : List Knows). IfErr c.session-party.result.1 (λ fault. StartsBy limit profile fault old new ks))
+    (sym c.into_clients-in-Ok-make_calls.ensures)
+    (started limit profile old new c.session-party.result.1 c.make_calls.new.party c.session-party.result.0
+    (ready limit profile come.0 c.come.new.party c.make_calls.new.party come.1 come.2 c.in-Ok-make_calls.ensures.ok)
+    c.session-party.ensures.err)
+
+pub returns-in-Err-make_calls-clause-ok : goal.returns-in-Err-make_calls-clause-ok
+returns-in-Err-make_calls-clause-ok g c =
+    let limit = g.N.Shape.limit in
+    let profile = c.args.profile.items in
+    let come = c.in_default-come.ensures.ok in
+    let left = map (λ it. it.rider) c.into_clients-in-Err-make_calls.result.items in
+    turned_away limit profile (g.E.Ends.devices c.args.ends.now)
+    (g.E.Ends.devices c.write_reply-told-in-Err-make_calls.new.ends)
+    c.write_reply-told-in-Err-make_calls.result c.in-Err-make_calls.reply left
+    (stopped limit profile come.0 c.come.new.party c.in-Err-make_calls.reply c.make_calls.new.party left come.1 come.2
+    c.into_clients-in-Err-make_calls.ensures c.in-Err-make_calls.ensures.err)
+    c.write_reply-told-in-Err-make_calls.ensures.remaining c.write_reply-told-in-Err-make_calls.ensures.ok
+
+pub returns-in-Err-make_calls-clause-err : goal.returns-in-Err-make_calls-clause-err
+returns-in-Err-make_calls-clause-err g c =
+    let limit = g.N.Shape.limit in
+    let profile = c.args.profile.items in
+    let come = c.in_default-come.ensures.ok in
+    let left = map (λ it. it.rider) c.into_clients-in-Err-make_calls.result.items in
+    cut_short limit profile (g.E.Ends.devices c.args.ends.now)
+    (g.E.Ends.devices c.write_reply-told-in-Err-make_calls.new.ends)
+    c.write_reply-told-in-Err-make_calls.result c.in-Err-make_calls.reply left
+    (stopped limit profile come.0 c.come.new.party c.in-Err-make_calls.reply c.make_calls.new.party left come.1 come.2
+    c.into_clients-in-Err-make_calls.ensures c.in-Err-make_calls.ensures.err)
+    c.write_reply-told-in-Err-make_calls.ensures.remaining c.write_reply-told-in-Err-make_calls.ensures.err

@@ -1,0 +1,19 @@
+//! What all streams are served by.
+
+ghost use Rattle.std.specs.Prelude.{◌≡◌};
+ghost use Rattle.ll_session.specs.Session.{AreOthers};
+
+use ll_calls::Tree;
+use ll_client::Shape;
+use ll_seq::Call;
+use ll_walk::Gate;
+
+/// A tree, how many entries its history may have, and the calls that each stream's client makes before its lines.
+#[derive(Drop)]
+pub struct Host<'a, N: Shape, G: Gate<N>> {
+    pub tree: &'a Tree<N, G>,
+    pub limit: u64,
+    pub profile: &'a [Call],
+    ghost limit_is: { limit ≡ N.limit },
+    ghost others: { AreOthers profile.now },
+}

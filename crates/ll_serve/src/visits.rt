@@ -1,0 +1,148 @@
+//! One stream's session.
+
+ghost use Rattle.std.specs.Prelude.{◌≡◌, ◌≤◌, ◌^◌, ℕ, List, [], ◌∷◌, Some, Err, IfErr, OnErr, OnOk, length, map};
+ghost use Rattle.ll_ends.specs.Devices.{IsWhole};
+ghost use Rattle.ll_lines.specs.Reached.{Blames};
+ghost use Rattle.ll_lines.specs.Transcript.{most_reads};
+ghost use Rattle.ll_lines.specs.declared.fault.SessionFault.{SessionFault};
+ghost use Rattle.ll_session.specs.Session.{AreOthers};
+ghost use Rattle.ll_client.specs.Coming.{HasNoPlace};
+ghost use Rattle.ll_client.specs.Entries.{Knows};
+ghost use Rattle.ll_serve.specs.Visit.{HasCome, IsServed, StartsBy, Visits};
+
+use crate::copies::copy_calls;
+use crate::host::Host;
+use crate::stream::{Served, Stream};
+use ll_calls::Tree;
+use ll_client::{Client, Shape};
+use ll_ends::{Ends, Pair};
+use ll_lines::SessionFault;
+use ll_rights::Errno;
+use ll_seq::{Call, Reply};
+use ll_session::{make_calls, session, write_reply};
+use ll_talk::Party;
+use ll_walk::Gate;
+use std::alloc::Global;
+use std::io::{Read, Write};
+use std::snapshot::Snapshot;
+use std::sync::Wait;
+
+// A client comes. Why it doesn't, where it is refused.
+fn come<N: Shape, H: Wait, G: Gate<N>>(
+    rt: &H,
+    tree: &Tree<N, G>,
+    party: &mut Party<N>,
+) -> Result<(), Errno>
+    requires { party.old ≡ [] }
+    ensures ok { OnOk result ((me : Knows) × HasCome me × (party.new ≡ me ∷ [])) }
+    ensures err { IfErr result HasNoPlace }
+    ensures none { OnErr result (party.new ≡ []) }
+{
+    match tree.connect(rt) {
+        Ok(client) => {
+            party.add(rt, client);
+            Ok(())
+        }
+        Err(errno) => Err(errno),
+    }
+}
+
+/// Serves one stream: a client comes, makes the calls of its profile, and answers each line that is read, beside
+/// whatever others call on the tree. Where its connect is refused, or one of those calls, the reply's line is all that
+/// is written, and nothing is read. The clients are left that have come: it, and those that it has spawned.
+pub fn visit<N: Shape, H: Wait, G: Gate<N>, E: Ends>(
+    rt: &H,
+    alloc: Global,
+    tree: &Tree<N, G>,
+    limit: u64,
+    profile: Vec<Call>,
+    ends: &mut E,
+) -> (Vec<Client<N>>, Result<(), SessionFault>)
+    requires limit { limit ≡ N.limit }
+    requires calls { AreOthers profile.items }
+    requires whole { IsWhole (E.devices ends.old) }
+    requires answered { (E.devices ends.old).owed ≡ 0 }
+    requires reads { (E.devices ends.old).reads ≤ 2 ^ 62 }
+    // Without a fault all was read, and the transcript of it written; or the refusal was.
+    ensures ok { OnOk result.1 (Visits N.limit profile.items (E.devices ends.old) (E.devices ends.new)
+        (map (λ c. c.rider) result.0.items)) }
+    // With one, a beginning of that, and the calls were made that were told.
+    ensures err { IfErr result.1 (λ fault. StartsBy N.limit profile.items fault (E.devices ends.old)
+        (E.devices ends.new) (map (λ c. c.rider) result.0.items)) }
+    ensures fault { IfErr result.1 (λ fault. Blames fault (E.devices ends.old) (E.devices ends.new)) }
+    // Each read gives a byte at least.
+    ensures long { result.1 ≡ Err SessionFault.TooLong
+        → (input : List ℕ) → (E.devices ends.old).remaining ≡ Some input → most_reads ≤ length input }
+    ensures same { E.names ends.new ≡ E.names ends.old }
+{
+    let Ok(mut party) = Party::<N>::new(alloc, limit) else {
+        drop(profile);
+        return (Vec::new(alloc), Err(SessionFault::NoMemory));
+    };
+    if let Err(errno) = come(rt, tree, &mut party) {
+        drop(profile);
+        let told = write_reply(alloc, &Reply::Refused(errno), ends);
+        return (party.into_clients(), told);
+    }
+    match make_calls(rt, tree, &mut party, 0, profile) {
+        Ok(()) => {
+            let (party, ended) = session(rt, alloc, tree, party, 0, ends);
+            (party.into_clients(), ended)
+        }
+        Err(reply) => {
+            let told = write_reply(alloc, &reply, ends);
+            (party.into_clients(), told)
+        }
+    }
+}
+
+// Serves one stream by these rules. Its clients, and how it ended.
+fn serve_ends<N: Shape, G: Gate<N>, H: Wait, R: Read, W: Write>(
+    rt: &H,
+    alloc: Global,
+    host: &Host<N, G>,
+    stream: &mut Stream<R, W>,
+) -> (Vec<Client<N>>, Result<(), SessionFault>)
+    ensures { IsServed N.limit host.now.profile.now result.1
+        (R.remaining stream.old.reader) (W.contents stream.old.writer)
+        (R.remaining stream.new.reader) (W.contents stream.new.writer)
+        (map (λ c. c.rider) result.0.items) }
+{
+    let Ok(profile) = copy_calls(alloc, host.profile) else {
+        return (Vec::new(alloc), Err(SessionFault::NoMemory));
+    };
+    let mut ends = Pair {
+        reader: &mut stream.reader,
+        writer: &mut stream.writer,
+        reads: 0,
+        owed: 0,
+        is_answering: true,
+        is_input_broken: false,
+        is_output_broken: false,
+    };
+    visit(rt, alloc, host.tree, host.limit, profile, &mut ends)
+}
+
+/// Serves one stream: see `visit`. What is left of it.
+pub fn serve_stream<N: Shape, G: Gate<N>, H: Wait, R: Read, W: Write>(
+    rt: &H,
+    alloc: Global,
+    host: &Host<N, G>,
+    stream: &mut Stream<R, W>,
+) -> Served<N, R, W>
+    ensures served { IsServed N.limit host.now.profile.now result.ended
+        (R.remaining result.came.value.reader) (W.contents result.came.value.writer)
+        (R.remaining result.went.value.reader) (W.contents result.went.value.writer)
+        (map (λ c. c.rider) result.clients.items) }
+    ensures came { result.came.value ≡ stream.old }
+    ensures went { result.went.value ≡ stream.new }
+{
+    let came = Snapshot::of(&*stream);
+    let (clients, ended) = serve_ends(rt, alloc, host, stream);
+    Served {
+        clients,
+        ended,
+        came,
+        went: Snapshot::of(&*stream),
+    }
+}
