@@ -1,4 +1,5 @@
--- How far a run has come. (Support of the functions below `run_script`: no public contract cites this file.)
+-- How far a run has come. (Support of the functions below `run_script`: of public contracts only that of `write_reply`
+-- cites this file.)
 use Rattle.std.specs.Prelude.{◌≡◌, ◌≢◌, ◌⊎◌, ◌<◌, ◌≤◌, ℕ, List, [], drop, Option, refl}
 use Rattle.std.proofs.Common.{◌∙◌}
 use Rattle.std.specs.Io.KnownBytes.{Appends}
