@@ -19,7 +19,8 @@ came whole text next part rest all e =
 
 -- the same of a list of texts
 pub added : {A B C : Type 0} (f : A → C) (g : B → C) (whole : List C) (ys next : List B) (y : B) (x : A) (rest : List A)
-    → whole ≡ map g ys ++ map f (x ∷ rest) → next ≡ ys ++ y ∷ [] → g y ≡ f x → whole ≡ map g next ++ map f rest
+    → whole ≡ map g ys ++ map f (x ∷ rest) → next ≡ ys ++ y ∷ [] → g y ≡ f x
+    → whole ≡ map g next ++ map f rest
 added f g whole ys next y x rest all e same =
     came whole (map g ys) (map g next) (f x ∷ []) (map f rest) all
     (ap (map g) e ∙ map-append g ys (y ∷ []) ∙ ap (λ z. map g ys ++ z ∷ []) same)

@@ -31,7 +31,8 @@ spared (Confine n) path none = absurd cc
 spared Spawn path none = absurd cc
 spared Connect path none = absurd cc
 
-pub takes_unless : (call : Call) → has_path call ≡ true → (spares_memory call ≡ true → ⊥) → takes_memory call ≡ true
+pub takes_unless : (call : Call) → has_path call ≡ true → (spares_memory call ≡ true → ⊥)
+    → takes_memory call ≡ true
 takes_unless call path spares = by (takes_memory call) refl
   where
     by : (b : Bool) → takes_memory call ≡ b → takes_memory call ≡ true

@@ -11,7 +11,8 @@ pub found_passes : (P : ℕ → Bool) (xs : List ℕ) (m : ℕ) → find P xs �
 found_passes P [] m e = absurd cc
 found_passes P (x ∷ xs) m e = of (P x) refl e (found_passes P xs m)
   where
-    of : (b : Bool) → P x ≡ b → cond b (Some x) (find P xs) ≡ Some m → (find P xs ≡ Some m → P m ≡ true) → P m ≡ true
+    of : (b : Bool) → P x ≡ b → cond b (Some x) (find P xs) ≡ Some m → (find P xs ≡ Some m → P m ≡ true)
+        → P m ≡ true
     of true p e' rest = let same : x ≡ m = cc in ap P (sym same) ∙ p
     of false p e' rest = rest e'
 

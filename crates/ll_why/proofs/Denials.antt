@@ -21,7 +21,8 @@ use Rattle.ll_seq.proofs.StepParts.{none_first}
 use Rattle.ll_answer.proofs.Walked.{one_free, other_free}
 use Rattle.ll_why.specs.Places.{denies}
 
-each : {A : Type 0} (P Q : A → Type 0) (xs : List A) → ((x : A) → P x → Q x) → AllByRecursion P xs → AllByRecursion Q xs
+each : {A : Type 0} (P Q : A → Type 0) (xs : List A) → ((x : A) → P x → Q x) → AllByRecursion P xs
+    → AllByRecursion Q xs
 each P Q [] follows all = tt
 each P Q (x ∷ xs) follows all = (follows x all.0, each P Q xs follows all.1)
 
@@ -36,7 +37,8 @@ in_filter p P (x ∷ xs) all other = of (p x) refl all (λ later. in_filter p P 
     of true e all' rest = (all'.0, rest all'.1)
     of false e all' rest = (other x e, rest all')
 
-at_range : (P : ℕ → Type 0) (a n : ℕ) → AllByRecursion P (range_with_len a n) → (x : ℕ) → a ≤ x → x < a + n → P x
+at_range : (P : ℕ → Type 0) (a n : ℕ) → AllByRecursion P (range_with_len a n) → (x : ℕ) → a ≤ x
+    → x < a + n → P x
 at_range P a zero all x low high = absurd (omega arith)
 at_range P a (suc n) all x low high =
     at (a == x) refl (λ above. at_range P (a + 1) n all.1 x above (omega arith))
