@@ -75,9 +75,10 @@ impl<N: Shape> Gate<N> for Standing {
 /// The path of the walk's directory, or of a name in it that isn't there.
 fn path_of(alloc: Global, walk: usize, tail: &str) -> Option<Target> {
     let mut text = String::from_str(alloc, "/").ok()?;
+    let number = (walk % 100) as u8;
     let name = [
-        b'a'.wrapping_add((walk / 10) as u8),
-        b'0'.wrapping_add((walk % 10) as u8),
+        b'a'.wrapping_add(number / 10),
+        b'0'.wrapping_add(number % 10),
     ];
     for byte in name {
         text.push(byte as char).ok()?;

@@ -166,10 +166,11 @@ fn told(alloc: Global, tree: &Plain, caller: &ClientRecord, call: &Call) -> Opti
         return None;
     };
     let change = change_for(alloc, &caller.domain, &reason.asks).ok()?;
+    let change = Some(&change);
     let told = Told {
         call,
         why: &why,
-        change: Some(&change),
+        change,
     };
     format!(in alloc; "{told}").ok()
 }
