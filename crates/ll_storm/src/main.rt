@@ -2,16 +2,19 @@
 //!
 //!     ll_storm [THREADS [CALLS [SEED]]]
 //!     ll_storm pace THREADS DEPTH LAYERS CALLS (own|one)
+//!     ll_storm race [ROUNDS]
 //!
 //! Each of up to 32 threads makes so many calls, 900,000 in all at most. With words the program also prints how many
 //! calls of each kind were done. Where no call is answered for 40 seconds it ends with status 70. `pace` times calls of
-//! a fixed mix, and prints how many threads make in a second.
+//! a fixed mix, and prints how many threads make in a second. `race` moves directories while a confined client opens
+//! files, and prints how its openings ended.
 #![tactic(auto)]
 
 mod calls;
 mod orders;
 mod pace;
 mod paths;
+mod race;
 mod random;
 mod storm;
 mod tally;
@@ -19,6 +22,7 @@ mod watch;
 
 use orders::{Asked, Orders, Pace, asked_by};
 use pace::pace_of;
+use race::{Raced, Trial, race_of};
 use std::alloc::Global;
 use std::env;
 use std::process::ExitCode;
@@ -99,10 +103,36 @@ fn time<R: Runtime + Threads + Wait + Sync>(rt: &R, alloc: Global, pace: Pace) -
     Some(0)
 }
 
+/// Prints what came of a trial: the rounds, and how often the path was let through, gave the private file, was denied
+/// and was missing. The status.
+fn tell_race(rt: &impl Print, name: &str, raced: Raced) -> Option<u8> {
+    let Raced {
+        rounds,
+        counts,
+        is_legal,
+    } = raced;
+    println!(rt;
+        "{name}: {rounds} rounds, {} through, {} private, {} denied, {} missing",
+        counts.through, counts.private, counts.denied, counts.missing
+    )
+    .ok()?;
+    if is_legal { Some(0) } else { Some(1) }
+}
+
+/// Makes each trial in a tree of its own. The status is 1 where a history isn't legal.
+fn race_all<R: Threads + Wait + Print + Sync>(rt: &R, alloc: Global, rounds: u64) -> Option<u8> {
+    let both = tell_race(rt, "both", race_of(rt, alloc, Trial::Both, rounds)?)?;
+    let granted = tell_race(rt, "granted", race_of(rt, alloc, Trial::Granted, rounds)?)?;
+    let withheld = tell_race(rt, "withheld", race_of(rt, alloc, Trial::Withheld, rounds)?)?;
+    let aside = tell_race(rt, "aside", race_of(rt, alloc, Trial::Aside, rounds)?)?;
+    Some(both.max(granted).max(withheld).max(aside))
+}
+
 fn main(rt: HostRuntime) -> ExitCode {
     let status = match asked_of(&rt) {
         Some(Asked::Storm(orders)) => run(&rt, rt.alloc(), orders),
         Some(Asked::Pace(pace)) => time(&rt, rt.alloc(), pace),
+        Some(Asked::Race(rounds)) => race_all(&rt, rt.alloc(), rounds),
         None => {
             let _ = eprintln!(rt;
                 "ll_storm: wanted: [THREADS [CALLS [SEED]]], at most 900000 calls in all"

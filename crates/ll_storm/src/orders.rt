@@ -25,6 +25,8 @@ pub struct Pace {
 pub enum Asked {
     Storm(Orders),
     Pace(Pace),
+    /// A race, in which directories are moved so many times.
+    Race(u64),
 }
 
 /// Each thread has two clients, and a tree 64.
@@ -80,10 +82,20 @@ fn pace_by(words: &[String]) -> Option<Asked> {
     }
 }
 
+fn race_by(words: &[String]) -> Option<Asked> {
+    let rounds = number_in(words, 1, 100_000)?;
+    if words.len() <= 2 && rounds <= MOST_CALLS {
+        Some(Asked::Race(rounds))
+    } else {
+        None
+    }
+}
+
 /// What the words ask for: a small storm where there are none.
 pub fn asked_by(words: &[String]) -> Option<Asked> {
     match words.get(0) {
         Some(word) if word.as_str() == "pace" => pace_by(words),
+        Some(word) if word.as_str() == "race" => race_by(words),
         _ => storm_by(words),
     }
 }
