@@ -2,7 +2,8 @@
 _landtree() {
     local word=${COMP_WORDS[COMP_CWORD]} before=${COMP_WORDS[COMP_CWORD - 1]} options
     if [ "$COMP_CWORD" -eq 1 ]; then
-        mapfile -t COMPREPLY < <(compgen -W "run audit schedule rights check help --help --version" -- "$word")
+        options="run audit schedule rights why check serve export help --explain --help --version"
+        mapfile -t COMPREPLY < <(compgen -W "$options" -- "$word")
         return
     fi
     case $before in
@@ -14,15 +15,28 @@ _landtree() {
         mapfile -t COMPREPLY < <(compgen -W "1 2 3" -- "$word")
         return
         ;;
-    --nodes | --history | --profile) return ;;
+    --as)
+        mapfile -t COMPREPLY < <(compgen -W "c json" -- "$word")
+        return
+        ;;
+    --root | --also)
+        mapfile -t COMPREPLY < <(compgen -d -- "$word")
+        return
+        ;;
+    --nodes | --history | --profile | --port | --workers | --connections | --idle) return ;;
     esac
     case ${COMP_WORDS[1]} in
-    run) options="--nodes --abi --history --policy --profile --save --help" ;;
-    audit) options="--help" ;;
-    schedule) options="--nodes --abi --history --picture --help" ;;
-    rights) options="--policy --profile --nodes --layers --help" ;;
-    check) options="--nodes --abi --policy --profile --quiet --verbose --help" ;;
-    help) options="run audit schedule rights check" ;;
+    run) options="--nodes --abi --history --policy --profile --save --strict --explain --help" ;;
+    audit) options="--explain --help" ;;
+    schedule) options="--nodes --abi --history --picture --explain --help" ;;
+    rights) options="--policy --profile --nodes --layers --explain --help" ;;
+    why) options="--policy --profile --nodes --explain --help" ;;
+    check) options="--nodes --abi --policy --profile --quiet --verbose --explain --help" ;;
+    serve)
+        options="--port --workers --connections --idle --log --nodes --abi --history --policy --profile --save --explain --help"
+        ;;
+    export) options="--policy --profile --as --root --also --exact --explain --help" ;;
+    help) options="run audit schedule rights why check serve export" ;;
     *) return ;;
     esac
     case $word in

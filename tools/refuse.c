@@ -1,68 +1,145 @@
-/* Refuses the program that it is loaded into (LD_PRELOAD) one call, that of the number REFUSE, counted from 1: of all
-   calls of malloc and realloc, or where REFUSE_WHAT is `read` or `write`, of all reads or of all writes. A read then
-   gives, and a write takes, 40 bytes at most. At the end it writes how many there were to REFUSE_TOLD. */
+/* Refuses the program that it is loaded into (LD_PRELOAD) one call, that of the number REFUSE, counted from 1 over all
+   threads, of those that REFUSE_WHAT names:
+
+   memory            malloc and realloc; so also where REFUSE_WHAT isn't told
+   read, write       reads and writes, of whatever file
+   recv, send        receptions from a socket and sendings to one, also by read and write
+   accept            connections that come: the one that is refused is closed
+   socket, option, bind, listen, thread
+                     what makes a socket, sets an option of one, binds one, listens at one, or starts a thread
+
+   A read or a reception then gives, and a write or a sending takes, 40 bytes at most. The file REFUSE_TOLD has the
+   number of these calls so far, as an unsigned long; it stays right however the program ends. */
 #define _GNU_SOURCE
 #include <dlfcn.h>
 #include <errno.h>
-#include <stdio.h>
+#include <fcntl.h>
+#include <pthread.h>
+#include <stdatomic.h>
 #include <stdlib.h>
 #include <string.h>
+#include <sys/mman.h>
+#include <sys/socket.h>
+#include <sys/stat.h>
 #include <unistd.h>
 
 #define PIECE 40
 
-static unsigned long asked;
+static atomic_ulong alone;
+static atomic_ulong *asked = &alone;
+static unsigned long which;
+/* Nothing is counted before the program itself begins. */
+static const char *meant = "";
 
-static int is_meant(const char *what) {
-    const char *word = getenv("REFUSE_WHAT");
-    return strcmp(word ? word : "memory", what) == 0;
-}
-
-static int is_refused(void) {
-    static unsigned long which;
-    if (asked == 0) {
-        const char *word = getenv("REFUSE");
-        which = word ? strtoul(word, NULL, 10) : 0;
+__attribute__((constructor)) static void begin(void) {
+    const char *number = getenv("REFUSE"), *path = getenv("REFUSE_TOLD"), *what = getenv("REFUSE_WHAT");
+    int file = path ? open(path, O_RDWR | O_CREAT | O_TRUNC, 0600) : -1;
+    if (file >= 0 && ftruncate(file, sizeof *asked) == 0) {
+        void *shared = mmap(NULL, sizeof *asked, PROT_READ | PROT_WRITE, MAP_SHARED, file, 0);
+        if (shared != MAP_FAILED) asked = shared;
     }
-    asked++;
-    return asked == which;
+    if (file >= 0) close(file);
+    which = number ? strtoul(number, NULL, 10) : 0;
+    meant = what ? what : "memory";
 }
+
+static int is_meant(const char *what) { return strcmp(meant, what) == 0; }
+
+static int is_refused(void) { return atomic_fetch_add(asked, 1) + 1 == which; }
+
+/* Whether this call is the one; then errno is set so. */
+static int fails(const char *what, int error) {
+    if (!is_meant(what) || !is_refused()) return 0;
+    errno = error;
+    return 1;
+}
+
+static int is_socket(int file) {
+    struct stat it;
+    return fstat(file, &it) == 0 && S_ISSOCK(it.st_mode);
+}
+
+/* Whether a transfer of the file is counted: one of this kind, or where the file is a socket, one of that. */
+static int is_transfer(int file, const char *of_any, const char *of_socket) {
+    return is_meant(of_any) || (is_meant(of_socket) && is_socket(file));
+}
+
+static size_t piece(size_t count) { return count < PIECE ? count : PIECE; }
+
+#define NEXT(name) \
+    static __typeof__(name) *next; \
+    if (!next) next = (__typeof__(name) *)dlsym(RTLD_NEXT, #name)
 
 void *malloc(size_t size) {
-    static void *(*next)(size_t);
-    if (!next) next = (void *(*)(size_t))dlsym(RTLD_NEXT, "malloc");
-    return is_meant("memory") && is_refused() ? NULL : next(size);
+    NEXT(malloc);
+    return fails("memory", ENOMEM) ? NULL : next(size);
 }
 
 void *realloc(void *old, size_t size) {
-    static void *(*next)(void *, size_t);
-    if (!next) next = (void *(*)(void *, size_t))dlsym(RTLD_NEXT, "realloc");
-    return is_meant("memory") && is_refused() ? NULL : next(old, size);
+    NEXT(realloc);
+    return fails("memory", ENOMEM) ? NULL : next(old, size);
 }
 
 ssize_t read(int file, void *bytes, size_t count) {
-    static ssize_t (*next)(int, void *, size_t);
-    if (!next) next = (ssize_t (*)(int, void *, size_t))dlsym(RTLD_NEXT, "read");
-    if (!is_meant("read")) return next(file, bytes, count);
-    if (!is_refused()) return next(file, bytes, count < PIECE ? count : PIECE);
-    errno = EIO;
+    NEXT(read);
+    if (!is_transfer(file, "read", "recv")) return next(file, bytes, count);
+    if (!is_refused()) return next(file, bytes, piece(count));
+    errno = is_meant("read") ? EIO : ECONNRESET;
     return -1;
 }
 
 ssize_t write(int file, const void *bytes, size_t count) {
-    static ssize_t (*next)(int, const void *, size_t);
-    if (!next) next = (ssize_t (*)(int, const void *, size_t))dlsym(RTLD_NEXT, "write");
-    if (!is_meant("write")) return next(file, bytes, count);
-    if (!is_refused()) return next(file, bytes, count < PIECE ? count : PIECE);
-    errno = EIO;
+    NEXT(write);
+    if (!is_transfer(file, "write", "send")) return next(file, bytes, count);
+    if (!is_refused()) return next(file, bytes, piece(count));
+    errno = is_meant("write") ? EIO : EPIPE;
     return -1;
 }
 
-__attribute__((destructor)) static void tell(void) {
-    const char *path = getenv("REFUSE_TOLD");
-    unsigned long told = asked;
-    FILE *file = path ? fopen(path, "w") : NULL;
-    if (!file) return;
-    fprintf(file, "%lu\n", told);
-    fclose(file);
+ssize_t recv(int file, void *bytes, size_t count, int flags) {
+    NEXT(recv);
+    if (!is_meant("recv")) return next(file, bytes, count, flags);
+    return fails("recv", ECONNRESET) ? -1 : next(file, bytes, piece(count), flags);
+}
+
+ssize_t send(int file, const void *bytes, size_t count, int flags) {
+    NEXT(send);
+    if (!is_meant("send")) return next(file, bytes, count, flags);
+    return fails("send", EPIPE) ? -1 : next(file, bytes, piece(count), flags);
+}
+
+int accept4(int file, struct sockaddr *from, socklen_t *length, int flags) {
+    NEXT(accept4);
+    int came = next(file, from, length, flags);
+    if (came < 0 || !fails("accept", ECONNABORTED)) return came;
+    close(came);
+    errno = ECONNABORTED;
+    return -1;
+}
+
+int accept(int file, struct sockaddr *from, socklen_t *length) { return accept4(file, from, length, 0); }
+
+int socket(int domain, int type, int protocol) {
+    NEXT(socket);
+    return fails("socket", EMFILE) ? -1 : next(domain, type, protocol);
+}
+
+int setsockopt(int file, int level, int name, const void *value, socklen_t length) {
+    NEXT(setsockopt);
+    return fails("option", EINVAL) ? -1 : next(file, level, name, value, length);
+}
+
+int bind(int file, const struct sockaddr *to, socklen_t length) {
+    NEXT(bind);
+    return fails("bind", EADDRINUSE) ? -1 : next(file, to, length);
+}
+
+int listen(int file, int most) {
+    NEXT(listen);
+    return fails("listen", EADDRINUSE) ? -1 : next(file, most);
+}
+
+int pthread_create(pthread_t *thread, const pthread_attr_t *how, void *(*run)(void *), void *with) {
+    NEXT(pthread_create);
+    return fails("thread", EAGAIN) ? EAGAIN : next(thread, how, run, with);
 }

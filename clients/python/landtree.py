@@ -4,10 +4,11 @@
         source = tree.client.open("r", "/src/main.c")
         print(tree.client.read(source, 0, 4096))
 
-`Landtree.run` starts the built program and talks with it over pipes. A `Client` has a method for each call of the
-tree, which takes the words of the command in their order (docs/RULES.md). What a layer forbids raises `Denied`, what is
-refused for another cause `Refused`. What no line can say raises `ValueError`, and nothing is sent then. `snapshot`
-makes a policy's text of a real directory.
+`Landtree.run` starts the built program and talks with it over pipes; `Landtree.connect(port)` comes as one client of
+many to a program that is serving. A `Client` has a method for each call of the tree, which takes the words of the
+command in their order (docs/RULES.md). What a layer forbids raises `Denied`, what is refused for another cause
+`Refused`. What no line can say raises `ValueError`, and nothing is sent then. `snapshot` makes a policy's text of a
+real directory.
 
 This file is all that is needed, with Python 3.8 or later on a Unix.
 """
@@ -16,11 +17,12 @@ import enum
 import operator
 import os
 import re
+import socket
 import stat
 import subprocess
 import tempfile
 import threading
-from typing import Iterator, List, NamedTuple, Tuple
+from typing import Iterator, List, NamedTuple, Optional, Tuple
 
 __all__ = [
     "BadReply",
@@ -87,10 +89,17 @@ class Stat(NamedTuple):
 
 
 class Ended(NamedTuple):
-    """How the program ended: its status, below 0 where a signal ended it, and its last line on standard error."""
+    """How the program ended: its status, below 0 where a signal ended it, and its last line on standard error.
 
-    status: int
+    Of a connection the status is None, and the line tells what broke it, or is empty where it was closed from here.
+    """
+
+    status: Optional[int]
     line: str
+
+    @property
+    def is_well(self) -> bool:
+        return self.status == 0 or self == (None, "")
 
 
 class LandtreeError(Exception):
@@ -124,14 +133,15 @@ class OpeningRefused(Refused):
 
 
 class ProgramFault(LandtreeError):
-    """The program has ended, so it answers no call: its status and its last line on standard error, as in `Ended`."""
+    """The program, or the connection to it, has ended, so no call is answered: a status and a line, as in `Ended`."""
 
-    def __init__(self, status: int, line: str):
+    def __init__(self, status: Optional[int], line: str):
         super().__init__(status, line)
         self.status, self.line = status, line
 
     def __str__(self):
-        return f"the program has ended with status {self.status}" + (f": {self.line}" if self.line else "")
+        what = "connection has ended" if self.status is None else f"program has ended with status {self.status}"
+        return f"the {what}" + (f": {self.line}" if self.line else "")
 
 
 class BadReply(LandtreeError):
@@ -338,20 +348,17 @@ class Client:
         return Client(self._transport, int(self._ask(CLIENT, "spawn")[1]))
 
 
-# ---- the program
+# ---- ways to the program
 
 
-class Process:
-    """The program as a child, which is sent lines over one pipe and replies over another. Threads may share it."""
+class Transport:
+    """A way to the program, by which a line goes and its reply comes. Threads may share it.
 
-    def __init__(self, words):
-        self._errors = tempfile.TemporaryFile()
-        pipes = {"stdin": subprocess.PIPE, "stdout": subprocess.PIPE, "stderr": self._errors}
-        try:
-            self._child = subprocess.Popen(words, **pipes)
-        except BaseException:
-            self._errors.close()
-            raise
+    What is of one kind of way alone: `_write` takes the bytes of a line, `_read` gives those of a reply, without a line
+    feed where the way has ended, and `_end` ends the way, where it hasn't ended, and gives how it `Ended`.
+    """
+
+    def __init__(self):
         self._lock = threading.Lock()
         self._is_owed = False
         self._ended = None
@@ -364,23 +371,43 @@ class Process:
             if self._is_owed:
                 raise LandtreeError("a call was interrupted before its reply was read, so no further one can be made")
             self._is_owed = True
-            reply = self._exchange(line.encode("ascii") + b"\n")
+            self._write(line.encode("ascii") + b"\n")
+            reply = self._read()
             self._is_owed = False
             if not reply.endswith(b"\n"):
-                raise ProgramFault(*self._end())
+                self._ended = self._end()
+                raise ProgramFault(*self._ended)
             return reply[:-1].decode("ascii", "replace")
 
     def close(self):
-        """Has the program end, waits until it has, and returns how; it may have ended before."""
+        """Ends the session, waits until it has ended, and returns how; it may have ended before."""
         with self._lock:
-            return self._ended or self._end()
+            if not self._ended:
+                self._ended = self._end()
+            return self._ended
 
-    def _exchange(self, line):
+
+class Process(Transport):
+    """The program as a child, which is sent lines over one pipe and replies over another."""
+
+    def __init__(self, words):
+        super().__init__()
+        self._errors = tempfile.TemporaryFile()
+        pipes = {"stdin": subprocess.PIPE, "stdout": subprocess.PIPE, "stderr": self._errors}
+        try:
+            self._child = subprocess.Popen(words, **pipes)
+        except BaseException:
+            self._errors.close()
+            raise
+
+    def _write(self, line):
         try:
             self._child.stdin.write(line)
             self._child.stdin.flush()
         except BrokenPipeError:
             pass  # The program has ended, and what it wrote before can still be read.
+
+    def _read(self):
         return self._child.stdout.readline()
 
     def _end(self):
@@ -396,8 +423,46 @@ class Process:
         self._errors.seek(0)
         lines = self._errors.read().decode("utf-8", "replace").splitlines()
         self._errors.close()
-        self._ended = Ended(status, lines[-1] if lines else "")
-        return self._ended
+        return Ended(status, lines[-1] if lines else "")
+
+
+class Connection(Transport):
+    """A connection to a program that is serving on this machine."""
+
+    def __init__(self, port):
+        super().__init__()
+        self._socket = socket.create_connection(("127.0.0.1", port), timeout=None)
+        self._socket.setsockopt(socket.IPPROTO_TCP, socket.TCP_NODELAY, 1)
+        self._replies = self._socket.makefile("rb")
+        self._broke = ""
+
+    def _write(self, line):
+        try:
+            self._socket.sendall(line)
+        except OSError as error:
+            self._broke = error.strerror  # What was written before can still be read.
+
+    def _read(self):
+        try:
+            reply = self._replies.readline()
+        except OSError as error:
+            reply, self._broke = b"", error.strerror
+        if not reply.endswith(b"\n"):
+            self._broke = self._broke or "the program has closed it"
+        return reply
+
+    def _end(self):
+        """Waits until the program has closed the connection too, but not for a call that was interrupted."""
+        try:
+            if not self._broke and not self._is_owed:
+                self._socket.shutdown(socket.SHUT_WR)
+                self._replies.read()
+        except OSError as error:
+            self._broke = error.strerror
+        self._is_owed = False
+        self._replies.close()
+        self._socket.close()
+        return Ended(None, self._broke)
 
 
 # It spells no command, so a session answers that it is a bad line, whatever the tree is like, and has no entry for it.
@@ -417,6 +482,7 @@ class Landtree:
     """A session with a tree; `client` is its first client.
 
     A transport has two methods: `send(line)` gives the line of the reply, and `close()` gives how the session `Ended`.
+    Two sessions over connections to one program are clients of one tree.
     """
 
     def __init__(self, transport):
@@ -435,25 +501,45 @@ class Landtree:
         words = [program, "run", "-"]
         words += [f"--{name}={operator.index(it)}" for name, it in numbers.items() if it is not None]
         words += [f"--{name}={os.fsdecode(it)}" for name, it in texts.items() if it is not None]
-        process = Process(words)
-        try:
-            look_whether_opened(process)
-        except BaseException:
-            process.close()
-            raise
-        return cls(process)
+        return cls._opened(Process(words))
 
-    def close(self) -> int:
-        """Ends the session, waits for the program and returns its status; it may have ended before."""
+    @classmethod
+    def connect(cls, port: int):
+        """Connects to the program that is serving on this port of this machine (`landtree serve --port PORT`).
+
+        Where all of its workers serve others, this waits until one of them is free. It raises `OpeningRefused` as `run`
+        does, `ProgramFault` where the program closes the connection, and `OSError` where nobody listens. The program
+        may close a connection that says nothing for long (`--idle`); the next call raises `ProgramFault` then.
+        """
+        port = operator.index(port)
+        if not 1 <= port <= 65_535:
+            raise ValueError(f"a port is from 1 to 65,535: {port}")
+        return cls._opened(Connection(port))
+
+    @classmethod
+    def _opened(cls, transport):
+        try:
+            look_whether_opened(transport)
+        except BaseException:
+            transport.close()
+            raise
+        return cls(transport)
+
+    def close(self) -> Optional[int]:
+        """Ends the session, waits for the program and returns its status; it may have ended before.
+
+        Of a connection there is no status: this waits until the program has closed it, and returns None.
+        """
         return self._transport.close().status
 
     def __enter__(self):
         return self
 
     def __exit__(self, kind, error, trace):
-        """Ends the session. Where nothing else was raised, a status other than 0 is a `ProgramFault`."""
+        """Ends the session. Where nothing else was raised, a bad end is a `ProgramFault`: a status other than 0, or a
+        connection that broke."""
         ended = self._transport.close()
-        if ended.status != 0 and error is None:
+        if not ended.is_well and error is None:
             raise ProgramFault(*ended)
 
 

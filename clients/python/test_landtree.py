@@ -16,10 +16,12 @@ import re
 import signal
 import socket
 import stat
+import struct
 import subprocess
 import sys
 import tempfile
 import threading
+import time
 import unittest
 from pathlib import Path
 from unittest import mock
@@ -35,10 +37,39 @@ from landtree import ProgramFault, Refused, Rights, Stat, snapshot  # noqa: E402
 
 PROGRAM = str(TOP / "crates/landtree/out/landtree")
 BAD_LINE = "refused 23 BadLine"
+# Seconds after which a program that should have ended is taken for one that hangs.
+LONGEST = 60
 
 
 def run(**options):
     return Landtree.run(PROGRAM, **options)
+
+
+def free_port():
+    with socket.create_server(("127.0.0.1", 0)) as it:
+        return it.getsockname()[1]
+
+
+class Server:
+    """The program, serving on this port, as these further words of `serve` ask for it."""
+
+    def __init__(self, port, words):
+        self.port = port
+        words = [PROGRAM, "serve", "--port", str(port), *words]
+        pipes = {"stdin": subprocess.DEVNULL, "stdout": subprocess.PIPE, "stderr": subprocess.PIPE}
+        self.child = subprocess.Popen(words, **pipes, text=True)
+        self.told = self.child.stdout.readline()
+        self.errors = None
+
+    def ended(self):
+        """Waits until it has ended, and returns its status and all that it wrote; one that hangs is killed."""
+        if self.errors is None:
+            watch = threading.Timer(LONGEST, self.child.kill)
+            watch.start()
+            out, self.errors = self.child.communicate()
+            watch.cancel()
+            self.told += out
+        return self.child.returncode, self.told, self.errors
 
 
 class Case(unittest.TestCase):
@@ -46,6 +77,19 @@ class Case(unittest.TestCase):
         folder = tempfile.TemporaryDirectory()
         self.addCleanup(folder.cleanup)
         self.room = Path(folder.name)
+
+    def session(self, **options):
+        """A session with a program of its own."""
+        return run(**options)
+
+    def serve(self, **options):
+        """A program that serves; when the test is over it has ended well."""
+        server = Server(free_port(), [f"--{name}={value}" for name, value in options.items()])
+        self.addCleanup(self.wants_well, server)
+        return server
+
+    def wants_well(self, server):
+        self.assertEqual(server.ended(), (0, f"listening {server.port}\n", ""))
 
     def file(self, name, text):
         path = self.room / name
@@ -65,6 +109,18 @@ class Case(unittest.TestCase):
         self.assertIs(type(caught.exception), kind)
         self.assertEqual(caught.exception.args, args)
         return caught.exception
+
+
+class ByPort:
+    """A test whose sessions are connections, each to a program of its own; one has ended before the next begins."""
+
+    server = None
+
+    def session(self, **options):
+        if self.server:
+            self.wants_well(self.server)
+        self.server = self.serve(**options)
+        return Landtree.connect(self.server.port)
 
 
 # ---- lines of scripts as calls of the client
@@ -176,6 +232,8 @@ def worked(status):
     """Yields the name, the options and the folder of each worked example of a run that ends with 0, or doesn't."""
     for folder in sorted((TOP / "worked").iterdir()):
         words = (folder / "words").read_text().split() if folder.is_dir() else []
+        if {"--strict", "--explain"} & {*words}:
+            continue
         if words[:1] == ["run"] and len(words) % 2 == 0 and all(it.startswith("--") for it in words[2::2]):
             if (folder / "status").exists() is (status != 0):
                 yield folder.name, words[2:], folder
@@ -183,7 +241,7 @@ def worked(status):
 
 # Runs whose fault lies in words that `Landtree.run` never writes, or in a script that is no standard input.
 BEYOND_OPTIONS = [f"words-{it}" for it in ("history-no-number", "nodes-no-number", "nodes-told-twice")]
-BEYOND_OPTIONS.append("words-script-not-there")
+BEYOND_OPTIONS += ["words-script-not-there", "save-over-the-script"]
 
 # Runs whose profile asks for too much, so that a call of the opening is refused and no line is read.
 REFUSED_OPENINGS = ["policy-profile-call-refused", "policy-257-rules", "policy-seventeen-layers"]
@@ -193,7 +251,7 @@ class Scripts(Case):
     def replay(self, lines, replies, **options):
         """Makes each line's call, and returns the lines that no call has; each of these is refused in a script."""
         unsaid = []
-        with run(**options) as tree:
+        with self.session(**options) as tree:
             script = Script(tree)
             for line, reply in zip(lines, replies):
                 try:
@@ -232,24 +290,17 @@ class Scripts(Case):
         for name, words, folder in worked(0):
             if name in REFUSED_OPENINGS:
                 with self.subTest(name), self.assertRaises(OpeningRefused) as caught:
-                    run(**options_of(words, folder))
+                    self.session(**options_of(words, folder))
                 self.assertEqual([str(caught.exception)], lines_of(folder / "stdout"), name)
 
-    def test_worked_faults(self):
-        seen = 0
-        for name, words, folder in worked(1):
-            if name in BEYOND_OPTIONS:
-                continue
-            with self.subTest(name):
-                fault = int((folder / "status").read_text()), (folder / "stderr").read_text().rstrip("\n")
-                self.raises(ProgramFault, fault, lambda: run(**options_of(words, folder)).__exit__(None, None, None))
-                seen += 1
-        self.assertGreater(seen, 15)
+
+class ScriptsByPort(ByPort, Scripts):
+    pass
 
 
 class Calls(Case):
     def test_each_result(self):
-        with run() as tree:
+        with self.session() as tree:
             first = tree.client
             self.assertIsNone(first.make("dir", "/d"))
             self.assertIsNone(first.make("reg", "/d/f"))
@@ -282,7 +333,7 @@ class Calls(Case):
             self.assertEqual(second.spawn().number, 3)
 
     def test_denied(self):
-        with run() as tree:
+        with self.session() as tree:
             tree.client.make("dir", "/a")
             tree.client.make("reg", "/f")
             tree.client.confine(tree.client.ruleset(Rights.WRITE_FILE))
@@ -293,7 +344,7 @@ class Calls(Case):
             self.raises(Denied, ("EXDEV", 1, Rights.REFER, "old"), tree.client.rename, "/f", "/a/f")
 
     def test_refused(self):
-        with run() as tree:
+        with self.session() as tree:
             error = self.raises(Refused, (3, "ENOENT"), tree.client.stat, "/none")
             self.assertEqual((error.number, error.name, str(error)), (3, "ENOENT", "refused 3 ENOENT"))
             self.raises(Refused, (11, "EBADF"), tree.client.close, 0)
@@ -304,7 +355,7 @@ class Calls(Case):
 
     def test_long_reads_and_writes(self):
         data = bytes(range(256)) * 17
-        with run(history=8) as tree:
+        with self.session(history=8) as tree:
             first = tree.client
             file = first.open("rwc", "/f")
             self.raises(Refused, (8, "EINVAL"), first.read, file, 0, 4097)
@@ -316,7 +367,7 @@ class Calls(Case):
             self.raises(Refused, (21, "HistoryFull"), first.stat, "/f")
 
     def test_whole_pieces(self):
-        with run() as tree:
+        with self.session() as tree:
             file = tree.client.open("rwc", "/f")
             self.assertEqual(tree.client.read_all(file), b"")
             self.assertEqual(tree.client.write_all(file, 0, b""), 0)
@@ -325,10 +376,43 @@ class Calls(Case):
             self.raises(Refused, (16, "EFBIG"), tree.client.write_all, file, 65_535, b"yz")
 
     def test_levels_and_sizes(self):
-        with run(abi=1, nodes=2) as tree:
+        with self.session(abi=1, nodes=2) as tree:
             self.raises(Refused, (8, "EINVAL"), tree.client.ruleset, Rights.REFER)
             tree.client.make("sym", "/s")
             self.raises(Refused, (13, "ENOSPC"), tree.client.make, "fifo", "/t")
+
+    def test_opening_refused(self):
+        folder = TOP / "worked/policy-profile-call-refused"
+        self.raises(OpeningRefused, (3, "ENOENT"), self.session, policy=folder / "policy.toml", profile="reader")
+        empty = self.file("policy.toml", "version = 1\n")
+        self.raises(OpeningRefused, (21, "HistoryFull"), self.session, policy=empty, history=1)
+
+    def test_full_history_is_no_refused_opening(self):
+        with self.session(history=1) as tree:
+            self.raises(Refused, (21, "HistoryFull"), tree.client.stat, "/")
+
+    def test_threads(self):
+        def make_files(client):
+            for number in range(100):
+                path = f"/{client.number}-{number}"
+                file = client.open("rwcx", path)
+                client.write(file, 0, path.encode())
+                told[path] = client.read(file, 0, 4096)
+                client.close(file)
+
+        told = {}
+        with self.session() as tree:
+            threads = [threading.Thread(target=make_files, args=[tree.client.spawn()]) for _ in range(8)]
+            for it in threads:
+                it.start()
+            for it in threads:
+                it.join()
+        paths = [f"/{client}-{number}" for client in range(2, 10) for number in range(100)]
+        self.assertEqual(told, {path: path.encode() for path in paths})
+
+
+class CallsByPort(ByPort, Calls):
+    pass
 
 
 class Unsaid(Case):
@@ -442,6 +526,17 @@ class Programs(Case):
     def test_no_program(self):
         self.assertRaises(FileNotFoundError, Landtree.run, self.room / "landtree")
 
+    def test_worked_faults(self):
+        seen = 0
+        for name, words, folder in worked(1):
+            if name in BEYOND_OPTIONS:
+                continue
+            with self.subTest(name):
+                fault = int((folder / "status").read_text()), (folder / "stderr").read_text().rstrip("\n")
+                self.raises(ProgramFault, fault, lambda: run(**options_of(words, folder)).__exit__(None, None, None))
+                seen += 1
+        self.assertGreater(seen, 15)
+
     def test_close_tells_the_status(self):
         tree = run()
         self.assertEqual(tree.close(), 0)
@@ -456,16 +551,6 @@ class Programs(Case):
             tree.client.spawn().exec("/f")
         wanted = ["landtree-history 3 nodes 7 abi 3", "1 connect = ok", "1 make reg /f = ok", "1 spawn = client 2"]
         self.assertEqual(lines_of(self.room / "history"), [*wanted, "2 exec /f = ok"])
-
-    def test_opening_refused(self):
-        folder = TOP / "worked/policy-profile-call-refused"
-        self.raises(OpeningRefused, (3, "ENOENT"), run, policy=folder / "policy.toml", profile="reader")
-        empty = self.file("policy.toml", "version = 1\n")
-        self.raises(OpeningRefused, (21, "HistoryFull"), run, policy=empty, history=1)
-
-    def test_full_history_is_no_refused_opening(self):
-        with run(history=1) as tree:
-            self.raises(Refused, (21, "HistoryFull"), tree.client.stat, "/")
 
     def test_a_program_that_is_killed(self):
         tree = run()
@@ -507,25 +592,6 @@ class Programs(Case):
         other.chmod(0o755)
         self.raises(BadReply, ("hello",), Landtree.run, other)
 
-    def test_threads(self):
-        def make_files(client):
-            for number in range(100):
-                path = f"/{client.number}-{number}"
-                file = client.open("rwcx", path)
-                client.write(file, 0, path.encode())
-                told[path] = client.read(file, 0, 4096)
-                client.close(file)
-
-        told = {}
-        with run() as tree:
-            threads = [threading.Thread(target=make_files, args=[tree.client.spawn()]) for _ in range(8)]
-            for it in threads:
-                it.start()
-            for it in threads:
-                it.join()
-        paths = [f"/{client}-{number}" for client in range(2, 10) for number in range(100)]
-        self.assertEqual(told, {path: path.encode() for path in paths})
-
     def test_an_interrupted_call(self):
         tree = Landtree.run(self.stand_in("read line; read line; echo ok"))
         with interrupted_after(0.2):
@@ -534,6 +600,206 @@ class Programs(Case):
             tree.client.make("reg", "/g")
         self.assertIs(type(caught.exception), LandtreeError)
         self.assertEqual(tree.close(), 0)
+
+
+class Connections(Case):
+    def stand_in_at(self, act):
+        """The port of one that answers the first line as a program that serves does, and does then as `act` says with
+        the connection and its lines."""
+
+        def serve_one():
+            connection, _ = listener.accept()
+            with connection, connection.makefile("rwb") as lines:
+                lines.readline()
+                answer(lines, BAD_LINE)
+                act(connection, lines)
+
+        listener = socket.create_server(("127.0.0.1", 0))
+        thread = threading.Thread(target=serve_one)
+        thread.start()
+        self.addCleanup(listener.close)
+        self.addCleanup(thread.join)
+        return listener.getsockname()[1]
+
+    def wants_fault(self, call, *words):
+        """Wants the connection to have ended, and returns the error."""
+        with self.assertRaises(ProgramFault) as caught:
+            call(*words)
+        self.assertIsNone(caught.exception.status)
+        self.assertTrue(caught.exception.line)
+        return caught.exception
+
+    def test_two_at_once(self):
+        history = self.room / "history"
+        server = self.serve(connections=2, save=history)
+        with Landtree.connect(server.port) as one, Landtree.connect(server.port) as other:
+            self.assertIsNone(one.client.make("dir", "/a"))
+            self.assertEqual(other.client.stat("/a"), Stat(2, "dir", 0, 1))
+        self.wants_well(server)
+        ran = subprocess.run([PROGRAM, "audit", history], capture_output=True, text=True, timeout=LONGEST)
+        self.assertEqual((ran.returncode, ran.stdout, ran.stderr), (0, "legal 4\n", ""))
+
+    def test_clients_of_two(self):
+        server = self.serve(connections=2)
+        with Landtree.connect(server.port) as one, Landtree.connect(server.port) as other:
+            clients = one.client.spawn(), other.client.spawn()
+            self.assertEqual([it.number for it in clients], [2, 2])
+            clients[0].confine(clients[0].ruleset(Rights.MAKE_DIR))
+            self.raises(Denied, ("EACCES", 1, Rights.MAKE_DIR, "at"), clients[0].make, "dir", "/a")
+            clients[1].make("dir", "/a")
+            self.assertEqual(clients[0].list("/"), ["a"])
+            self.raises(Refused, (11, "EBADF"), clients[1].confine, 0)
+
+    def test_a_profile(self):
+        build = {"policy": TOP / "examples/build-service.toml", "profile": "build"}
+        server = self.serve(connections=2, **build)
+        for _ in range(2):
+            with Landtree.connect(server.port) as tree:
+                denial = ("EACCES", 1, Rights.WRITE_FILE, "at")
+                self.raises(Denied, denial, tree.client.open, "w", "/src/main.c")
+
+    def test_a_refused_profile(self):
+        folder = TOP / "worked/policy-profile-call-refused"
+        server = self.serve(connections=3, policy=folder / "policy.toml", profile="reader")
+        for _ in range(3):
+            self.raises(OpeningRefused, (3, "ENOENT"), Landtree.connect, server.port)
+
+    def test_a_tree_with_all_its_clients(self):
+        server = self.serve(connections=2)
+        with Landtree.connect(server.port) as tree:
+            for number in range(2, 65):
+                self.assertEqual(tree.client.spawn().number, number)
+            self.raises(OpeningRefused, (12, "EMFILE"), Landtree.connect, server.port)
+            self.assertEqual(tree.client.list("/"), [])
+
+    def test_waits_for_a_worker(self):
+        server = self.serve(connections=2, workers=1)
+        first = Landtree.connect(server.port)
+        came = []
+        thread = threading.Thread(target=lambda: came.append(Landtree.connect(server.port)))
+        thread.start()
+        thread.join(0.5)
+        self.assertEqual(came, [])
+        first.client.make("dir", "/a")
+        self.assertIsNone(first.close())
+        thread.join()
+        with came[0] as second:
+            self.assertEqual(second.client.list("/"), ["a"])
+
+    def test_closed_by_idle(self):
+        server = self.serve(connections=2, idle=2)
+        with Landtree.connect(server.port) as talking:
+            silent = Landtree.connect(server.port)
+            silent.client.make("dir", "/a")
+            for _ in range(6):
+                time.sleep(0.5)
+                self.assertEqual(talking.client.list("/"), ["a"])
+            self.wants_fault(silent.client.make, "dir", "/b")
+            self.wants_fault(silent.client.stat, "/a")
+            self.assertIsNone(silent.close())
+            self.assertEqual(talking.client.list("/"), ["a"])
+
+    def test_closed_without_a_call(self):
+        server = self.serve(idle=1)
+        with Landtree.connect(server.port):
+            self.wants_well(server)
+
+    def test_a_program_that_is_killed(self):
+        server = Server(free_port(), [])
+        tree = Landtree.connect(server.port)
+        tree.client.make("reg", "/f")
+        server.child.kill()
+        self.assertEqual(server.ended()[0], -signal.SIGKILL)
+        self.wants_fault(tree.client.stat, "/f")
+        self.assertIsNone(tree.close())
+
+    def test_close_tells_no_status(self):
+        server = self.serve()
+        tree = Landtree.connect(server.port)
+        self.assertIsNone(tree.close())
+        self.assertIsNone(tree.close())
+        error = self.raises(ProgramFault, (None, ""), tree.client.stat, "/")
+        self.assertEqual(str(error), "the connection has ended")
+
+    def test_nobody_listens(self):
+        self.assertRaises(ConnectionRefusedError, Landtree.connect, free_port())
+
+    def test_ports(self):
+        for port in (0, -1, 65_536):
+            self.assertRaises(ValueError, Landtree.connect, port)
+        for port in ("7000", 7000.0, None):
+            self.assertRaises(TypeError, Landtree.connect, port)
+
+    def test_one_that_closes(self):
+        tree = Landtree.connect(self.stand_in_at(lambda _, lines: lines.readline()))
+        fault = (None, "the program has closed it")
+        error = self.raises(ProgramFault, fault, tree.client.stat, "/")
+        self.assertEqual((error.status, error.line), fault)
+        self.assertEqual(str(error), "the connection has ended: the program has closed it")
+        self.raises(ProgramFault, fault, tree.client.stat, "/")
+        self.assertIsNone(tree.close())
+
+    def test_one_that_resets(self):
+        def reset(connection, lines):
+            lines.readline()
+            reset_at_close(connection)
+
+        tree = Landtree.connect(self.stand_in_at(reset))
+        self.raises(ProgramFault, (None, os.strerror(errno.ECONNRESET)), tree.client.stat, "/")
+
+    def test_a_reply_without_its_end(self):
+        def answer_half(_, lines):
+            lines.readline()
+            lines.write(b"o")
+
+        tree = Landtree.connect(self.stand_in_at(answer_half))
+        self.wants_fault(tree.client.make, "reg", "/f")
+
+    def test_one_that_closes_unasked(self):
+        with Landtree.connect(self.stand_in_at(lambda *_: None)):
+            pass
+
+    def test_one_that_resets_unasked(self):
+        with self.assertRaises(ProgramFault) as caught:
+            with Landtree.connect(self.stand_in_at(lambda connection, _: reset_at_close(connection))):
+                time.sleep(0.2)
+        self.assertIsNone(caught.exception.status)
+
+    def test_an_error_in_the_block_goes_first(self):
+        with self.assertRaises(KeyError):
+            with Landtree.connect(self.stand_in_at(lambda connection, _: reset_at_close(connection))):
+                time.sleep(0.2)
+                raise KeyError
+
+    def test_no_landtree(self):
+        with mock.patch(f"{__name__}.BAD_LINE", "hello"):
+            self.raises(BadReply, ("hello",), Landtree.connect, self.stand_in_at(lambda _, lines: lines.readline()))
+
+    def test_an_interrupted_call(self):
+        def answer_late(_, lines):
+            lines.readline()
+            lines.readline()
+
+        tree = Landtree.connect(self.stand_in_at(answer_late))
+        with interrupted_after(0.2):
+            self.assertRaises(KeyboardInterrupt, tree.client.make, "reg", "/f")
+        with self.assertRaises(LandtreeError) as caught:
+            tree.client.make("reg", "/g")
+        self.assertIs(type(caught.exception), LandtreeError)
+        self.assertIsNone(tree.close())
+
+    def test_an_interrupted_opening(self):
+        with socket.create_server(("127.0.0.1", 0)) as silent, interrupted_after(0.2):
+            self.assertRaises(KeyboardInterrupt, Landtree.connect, silent.getsockname()[1])
+
+
+def answer(lines, reply):
+    lines.write(f"{reply}\n".encode())
+    lines.flush()
+
+
+def reset_at_close(connection):
+    connection.setsockopt(socket.SOL_SOCKET, socket.SO_LINGER, struct.pack("ii", 1, 0))
 
 
 @contextlib.contextmanager
@@ -797,19 +1063,53 @@ class Snapshots(Case):
 
 
 class Guide(Case):
-    def test_the_program_of_the_guide(self):
+    """What stands in docs/GUIDE.md, tried as a reader would."""
+
+    def blocks(self, section):
+        """The blocks of a section, each without its fences."""
         text = (TOP / "docs/GUIDE.md").read_text(encoding="utf-8")
-        (program,) = re.findall("^```python\n(.*?)^```$", text, re.MULTILINE | re.DOTALL)
+        text = text.split(f"\n## {section}\n", 1)[1].split("\n## ", 1)[0]
+        return re.findall("^```[a-z]*\n(.*?)^```$", text, re.MULTILINE | re.DOTALL)
+
+    def run_python(self, name, program):
         os.symlink(PROGRAM, self.room / "landtree")
-        file = self.file("test_sandbox.py", program)
         path = {"PYTHONPATH": str(HERE), "PATH": f"{self.room}:{os.environ['PATH']}", "PYTHONDONTWRITEBYTECODE": "1"}
         how = {"cwd": TOP, "env": {**os.environ, **path}, "capture_output": True, "text": True, "timeout": 120}
-        ran = subprocess.run([sys.executable, file], **how)
+        ran = subprocess.run([sys.executable, self.file(name, program)], **how)
         self.assertEqual(ran.returncode, 0, ran.stderr)
+        return ran
+
+    def test_testing_from_python(self):
+        program = self.blocks("Testing from Python")[0]
+        ran = self.run_python("test_sandbox.py", program)
         tests = program.count("    def test_")
         self.assertGreater(tests, 0)
         self.assertIn(f"Ran {tests} tests in ", ran.stderr)
         self.assertEqual(ran.stderr.splitlines()[-1], "OK")
+
+    def test_serving_many_clients(self):
+        begin, typed, program, printed, log, audit = self.blocks("Serving many clients")
+        command, listening = begin.splitlines()
+        first = ["./landtree", "serve", "--port", "7000"]
+        words = command.replace(" examples/", f" {TOP}/examples/").split(" ")
+        self.assertEqual((words[:4], words[-2:], listening), (first, ["--save", "history"], "listening 7000"))
+        history = self.room / "history"
+        server = Server(free_port(), [*words[4:-1], history])
+        self.type_in(server.port, typed)
+        ran = self.run_python("program.py", program.replace("7000", str(server.port)))
+        self.assertEqual(ran.stdout, printed)
+        self.assertEqual(server.ended(), (0, f"listening {server.port}\n", log))
+        ran = subprocess.run([PROGRAM, "audit", history], capture_output=True, text=True, timeout=LONGEST)
+        self.assertEqual(f"./landtree audit history\n{ran.stdout}", audit)
+
+    def type_in(self, port, typed):
+        """Types what stands in a session of nc, and wants what is answered there."""
+        command, *lines = typed.splitlines()
+        self.assertEqual((command, len(lines) % 2), ("nc -N 127.0.0.1 7000", 0))
+        with socket.create_connection(("127.0.0.1", port)) as nc, nc.makefile("rwb") as peer:
+            for line, reply in zip(lines[0::2], lines[1::2]):
+                answer(peer, line)
+                self.assertEqual(peer.readline().decode(), f"{reply}\n", line)
 
 
 def main(words):

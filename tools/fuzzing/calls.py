@@ -30,7 +30,9 @@ class Maker:
         word, *args = call.split(" ")
         if reply.startswith("fd "):
             self.opened[client] = max(self.opened[client], int(reply[3:]) + 1)
-            self.kinds.setdefault(args[1], "reg")
+            # A spoiled line may have begun a walk that is taken for another call's.
+            if word == "open":
+                self.kinds.setdefault(args[1], "reg")
         elif reply.startswith("client "):
             self.comes(int(reply[7:]), self.opened[client])
         elif reply.startswith("ruleset "):

@@ -38,6 +38,8 @@ def layer_lines(rng, maker, name):
 
 def spoiled(rng, lines):
     """The policy with one thing changed, which may still be well."""
+    if not lines:
+        return lines
     at = rng.randrange(len(lines))
     line, column = lines[at], rng.randrange(len(lines[at]) + 1)
     key, _, value = line.partition(" = ")

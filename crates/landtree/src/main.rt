@@ -1,37 +1,34 @@
 //! Landtree, the program: runs scripts of command lines over a tree in memory, audits histories, makes schedules, tells
-//! rights, and checks what a tree answers.
+//! rights, tells why calls are denied, and checks what a tree answers.
 #![tactic(auto)]
 
-mod input;
-mod output;
+mod commands;
 
-ghost use Rattle.std.specs.Prelude.{◌≡◌, ◌⊎◌, ℕ, true, false, List, [], map, Some, None, Err};
-ghost use Rattle.std.specs.Prelude.{IfErr, IfNone, IfOk, IfSome, OnOk};
-ghost use Rattle.std.specs.Process.{exit_status};
+ghost use Rattle.std.specs.Prelude.{◌≡◌, ◌⊎◌, true, false, [], map, Some, None, Err};
+ghost use Rattle.std.specs.Prelude.{IfErr, IfNone, IfSome, OnOk};
 ghost use Rattle.clap.specs.Words.{Text, fault_of, kind_of};
-ghost use Rattle.ll_runs.specs.declared.failure.Failure.{Failure};
-ghost use Rattle.ll_wire.specs.Pieces.{pieces};
-ghost use Rattle.ll_saved.specs.Saved.{Judges};
-ghost use Rattle.ll_runs.specs.Failure.{failure_by, status_at, EndsAudit, EndsCheck, EndsRights};
-ghost use Rattle.ll_runs.specs.Failure.{EndsRun, EndsSchedule, IsOfDevices};
-ghost use Rattle.landtree.specs.Sources.{named, text_in};
-ghost use Rattle.ll_options.specs.Options.{RunOrder, ScheduleOrder, fits, landtree, order_in, ordered_by, ordered_in};
-ghost use Rattle.ll_options.specs.Options.{CheckOrder, fits_check, to_audit, to_check, to_run, to_schedule};
-ghost use Rattle.ll_options.specs.Options.{EndsWell};
-ghost use Rattle.ll_runs.specs.Policy.{MayFail};
-ghost use Rattle.ll_explain.specs.Rights as rights;
-ghost use Rattle.ll_options.specs.Options.{RightsOrder, rights_in, to_rights};
+ghost use Rattle.ll_files.specs.Sources.{named};
+ghost use Rattle.ll_options.specs.Options.{CheckOrder, EndsWell, ExportOrder, RightsOrder, RunOrder, ScheduleOrder};
+ghost use Rattle.ll_options.specs.Options.{ServeOrder, fits, fits_check, fits_export, fits_schedule, fits_serve};
+ghost use Rattle.ll_options.specs.Options.{landtree, ordered_by, ordered_in, to_audit, to_check, to_export, to_rights};
+ghost use Rattle.ll_options.specs.Options.{WhyOrder, fits_why, to_run, to_schedule, to_serve, to_why};
+ghost use Rattle.ll_asking.specs.Why.{EndsWhy};
+ghost use Rattle.ll_runs.specs.Failure.{EndsAudit, EndsCheck, EndsExport, EndsRights, EndsRun, EndsSchedule};
+ghost use Rattle.ll_runs.specs.Failure.{EndsServe, failure_by};
 
-use input::{Late, Sources, named};
-use ll_explain::tell_rights;
-use ll_options::{CheckOptions, Options, RightsOptions, RunOptions, ScheduleOptions};
-use ll_replay::{draw_schedule, perform_schedule, setup_by};
-use ll_runs::{Checked, Conclusion, Failure, Shown, audit, check, read_text, run};
-use ll_saved::Verdict;
-use output::NewFile;
-use std::io::{IsTerminal, Read};
+use commands::{
+    audit_file, check_options, export_options, rights_options, run_options, schedule_options,
+    serve_options, why_options,
+};
+use ll_files::Sources;
+use ll_hints::{Hints, are_wanted, without_wish};
+use ll_options::Options;
+use ll_runs::{Conclusion, Failure, concluded};
+use ll_serving::{Binds, Loopback};
+use std::io::IsTerminal;
 use std::process::ExitCode;
 use std::sync::Wait;
+use std::thread::Threads;
 use std::{env, io};
 
 fn words_of(rt: &HostRuntime) -> Result<Vec<String>, Failure> {
@@ -43,12 +40,15 @@ fn words_of(rt: &HostRuntime) -> Result<Vec<String>, Failure> {
 }
 
 // Where the words ask for no run: clap's help and version are texts to print.
-fn told(rt: &HostRuntime, error: &clap::Error) -> Result<Conclusion, Failure>
+fn told(rt: &HostRuntime, error: &clap::Error, hints: &mut Hints) -> Result<Conclusion, Failure>
     ensures failure { IfSome (failure_by (kind_of error.now)) (λ failure. result ≡ Err failure) }
     ensures text { IfNone (failure_by (kind_of error.now)) (IfErr result (λ failure. failure ≡ Failure.Output)) }
 {
     match Failure::of_words(error) {
-        Some(failure) => Err(failure),
+        Some(failure) => {
+            hints.add(error);
+            Err(failure)
+        }
         None => match error.print(rt) {
             Ok(()) => Ok(Conclusion::Done),
             Err(_) => Err(Failure::Output),
@@ -56,170 +56,59 @@ fn told(rt: &HostRuntime, error: &clap::Error) -> Result<Conclusion, Failure>
     }
 }
 
-// Sets up the run that is wanted, runs the script, and saves the history, if a file is named.
-fn run_options<S: Sources + Wait>(
-    rt: &HostRuntime,
-    sources: &S,
-    options: &RunOptions,
-) -> Result<(), Failure>
-    ensures { IfErr result (λ failure. (text : List ℕ)
-        × IfSome (text_in (S.texts sources.now) (order_in options.now).policy) (λ told. text ≡ told)
-        × MayFail (order_in options.now) text failure) }
-{
-    run(
-        sources,
-        rt.alloc(),
-        options,
-        &mut Late::new(sources, Some(options.policy.unwrap_or(""))),
-        &mut Late::new(sources, named(options.script)),
-        &mut rt.stdout(),
-        &mut NewFile::new(rt, options.save.unwrap_or("")),
-    )
-}
-
-// Judges the history in the file of this name.
-fn audit_file<S: Sources>(rt: &HostRuntime, sources: &S, file: &str) -> Result<Verdict, Failure>
-    ensures verdict { IfOk result (λ verdict. IfSome (S.texts sources.now (named file.now))
-        (λ bytes. Judges (pieces bytes) verdict)) }
-    ensures failure { IfErr result IsOfDevices }
-{
-    let mut input = Late::new(sources, named(file));
-    let mut shown = Shown::new(rt.stderr(), rt.stderr().is_terminal());
-    audit(rt.alloc(), &mut input, &mut rt.stdout(), &mut shown)
-}
-
-// Does what a schedule asks for, which is read whole first, and draws it into the file of this name.
-fn schedule_and_draw<R: Read>(
-    rt: &HostRuntime,
-    options: &ScheduleOptions,
-    schedule: &mut R,
-    path: &str,
-) -> Result<(), Failure>
-    ensures { IfErr result IsOfDevices }
-{
-    let text = read_text(rt.alloc(), schedule)?;
-    let mut lines = text.as_slice();
-    perform_schedule(rt.alloc(), setup_by(options), &mut lines, &mut rt.stdout())?;
-    let mut file = NewFile::new(rt, path);
-    draw_schedule(rt.alloc(), setup_by(options), text.as_slice(), &mut file)
-}
-
-// Does what a schedule asks for, and draws it if a file is named.
-fn schedule_file<S: Sources>(
-    rt: &HostRuntime,
-    sources: &S,
-    options: &ScheduleOptions,
-) -> Result<(), Failure>
-    ensures { IfErr result IsOfDevices }
-{
-    let mut schedule = Late::new(sources, named(options.file));
-    match options.picture {
-        Some(path) => schedule_and_draw(rt, options, &mut schedule, path),
-        None => perform_schedule(
-            rt.alloc(),
-            setup_by(options),
-            &mut schedule,
-            &mut rt.stdout(),
-        ),
-    }
-}
-
-// Tells the rights of a policy's profile.
-fn rights_options<S: Sources>(
-    rt: &HostRuntime,
-    sources: &S,
-    options: &RightsOptions,
-) -> Result<(), Failure>
-    ensures { IfErr result (λ failure. (text : List ℕ) × rights.MayFail (rights_in options.now) text failure) }
-{
-    let mut file = Late::new(sources, Some(options.policy));
-    tell_rights(rt.alloc(), options, &mut file, &mut rt.stdout())
-}
-
-// The whole texts of these files.
-fn texts_of<S: Sources>(
-    rt: &HostRuntime,
-    sources: &S,
-    files: &[&str],
-) -> Result<Vec<Vec<u8>>, Failure> {
-    let mut texts = Vec::new(rt.alloc());
-    for file in files {
-        let text = read_text(rt.alloc(), &mut Late::new(sources, named(file)))?;
-        if let Err(refused) = texts.push(text) {
-            drop(refused);
-            return Err(Failure::NoMemory);
-        }
-    }
-    Ok(texts)
-}
-
-// Checks the files that are wanted.
-fn check_files<S: Sources + Wait>(
-    rt: &HostRuntime,
-    sources: &S,
-    options: &CheckOptions,
-) -> Result<Checked, Failure> {
-    let policy = match options.policy {
-        Some(path) => read_text(rt.alloc(), &mut Late::new(sources, Some(path)))?,
-        None => Vec::new(rt.alloc()),
-    };
-    let texts = texts_of(rt, sources, options.files.as_slice())?;
-    check(
-        sources,
-        rt.alloc(),
-        options,
-        policy.as_slice(),
-        texts.as_slice(),
-        &mut rt.stdout(),
-        &mut rt.stderr(),
-    )
-}
-
 // Does what is wanted.
-fn carry_out<S: Sources + Wait>(
+fn carry_out<S: Sources + Threads + Wait + Sync, B: Binds>(
     rt: &HostRuntime,
     sources: &S,
+    ports: &B,
     options: &Options,
+    hints: &mut Hints,
 ) -> Result<Conclusion, Failure>
     ensures unfit { (order : RunOrder) → ordered_in options.now ≡ to_run order → fits order ≡ false
         → result ≡ Err Failure.CommandLine }
     ensures run { (order : RunOrder) → ordered_in options.now ≡ to_run order → fits order ≡ true
-        → order.profile ≡ None → EndsRun result }
+        → order.profile ≡ None → EndsRun order result }
     ensures audit { (file : Text) → ordered_in options.now ≡ to_audit file
         → EndsAudit (S.texts sources.now (named file)) result }
-    ensures schedule { (order : ScheduleOrder) → ordered_in options.now ≡ to_schedule order → EndsSchedule result }
+    ensures unfit_schedule { (order : ScheduleOrder) → ordered_in options.now ≡ to_schedule order
+        → fits_schedule order ≡ false → result ≡ Err Failure.CommandLine }
+    ensures schedule { (order : ScheduleOrder) → ordered_in options.now ≡ to_schedule order
+        → fits_schedule order ≡ true → EndsSchedule result }
     ensures rights { (order : RightsOrder) → ordered_in options.now ≡ to_rights order → EndsRights result }
     ensures unfit_check { (order : CheckOrder) → ordered_in options.now ≡ to_check order → fits_check order ≡ false
         → result ≡ Err Failure.CommandLine }
     ensures check { (order : CheckOrder) → ordered_in options.now ≡ to_check order → fits_check order ≡ true
         → EndsCheck result }
+    ensures unfit_serve { (order : ServeOrder) → ordered_in options.now ≡ to_serve order → fits_serve order ≡ false
+        → result ≡ Err Failure.CommandLine }
+    ensures serve { (order : ServeOrder) → ordered_in options.now ≡ to_serve order → fits_serve order ≡ true
+        → EndsServe order.profile result }
+    ensures unfit_export { (order : ExportOrder) → ordered_in options.now ≡ to_export order
+        → fits_export order ≡ false → result ≡ Err Failure.CommandLine }
+    ensures export { (order : ExportOrder) → ordered_in options.now ≡ to_export order → fits_export order ≡ true
+        → EndsExport result }
+    ensures unfit_why { (order : WhyOrder) → ordered_in options.now ≡ to_why order → fits_why order ≡ false
+        → result ≡ Err Failure.CommandLine }
+    ensures why { (order : WhyOrder) → ordered_in options.now ≡ to_why order → EndsWhy result }
 {
     match options {
-        Options::Run(run) if run.fit() => {
-            run_options(rt, sources, run)?;
-            Ok(Conclusion::Done)
-        }
-        Options::Run(_) => Err(Failure::CommandLine),
-        Options::Schedule(schedule) => {
-            schedule_file(rt, sources, schedule)?;
-            Ok(Conclusion::Done)
-        }
-        Options::Rights(rights) => {
-            rights_options(rt, sources, rights)?;
-            Ok(Conclusion::Done)
-        }
-        Options::Audit(file) => Ok(Conclusion::Judged(audit_file(rt, sources, file)?)),
-        Options::Check(check) if check.fit() => {
-            Ok(Conclusion::Checked(check_files(rt, sources, check)?))
-        }
-        Options::Check(_) => Err(Failure::CommandLine),
+        Options::Run(options) => run_options(rt, sources, options, hints),
+        Options::Schedule(options) => schedule_options(rt, sources, options, hints),
+        Options::Rights(options) => rights_options(rt, sources, options, hints),
+        Options::Audit(file) => audit_file(rt, sources, file, hints),
+        Options::Check(options) => check_options(rt, sources, options, hints),
+        Options::Serve(options) => serve_options(rt, sources, ports, options, hints),
+        Options::Export(options) => export_options(rt, sources, options, hints),
+        Options::Why(options) => why_options(rt, sources, options, hints),
     }
 }
 
-fn run_words<S: Sources + Wait>(
+fn run_words<S: Sources + Threads + Wait + Sync, B: Binds>(
     rt: &HostRuntime,
     sources: &S,
+    ports: &B,
     words: &[&str],
+    hints: &mut Hints,
 ) -> Result<Conclusion, Failure>
     ensures ok { OnOk result (EndsWell (fault_of landtree (map (λ w. w.now) words.now))) }
     ensures mistake { (EndsWell (fault_of landtree (map (λ w. w.now) words.now)) → ⊥)
@@ -230,12 +119,16 @@ fn run_words<S: Sources + Wait>(
         → (result ≡ Err Failure.CommandLine) ⊎ (result ≡ Err Failure.NoMemory) }
     ensures run { (order : RunOrder) → fault_of landtree (map (λ w. w.now) words.now) ≡ []
         → ordered_by (map (λ w. w.now) words.now) ≡ Some (to_run order) → fits order ≡ true
-        → order.profile ≡ None → EndsRun result }
+        → order.profile ≡ None → EndsRun order result }
     ensures audit { (file : Text) → fault_of landtree (map (λ w. w.now) words.now) ≡ []
         → ordered_by (map (λ w. w.now) words.now) ≡ Some (to_audit file)
         → EndsAudit (S.texts sources.now (named file)) result }
+    ensures unfit_schedule { (order : ScheduleOrder) → fault_of landtree (map (λ w. w.now) words.now) ≡ []
+        → ordered_by (map (λ w. w.now) words.now) ≡ Some (to_schedule order) → fits_schedule order ≡ false
+        → (result ≡ Err Failure.CommandLine) ⊎ (result ≡ Err Failure.NoMemory) }
     ensures schedule { (order : ScheduleOrder) → fault_of landtree (map (λ w. w.now) words.now) ≡ []
-        → ordered_by (map (λ w. w.now) words.now) ≡ Some (to_schedule order) → EndsSchedule result }
+        → ordered_by (map (λ w. w.now) words.now) ≡ Some (to_schedule order) → fits_schedule order ≡ true
+        → EndsSchedule result }
     ensures rights { (order : RightsOrder) → fault_of landtree (map (λ w. w.now) words.now) ≡ []
         → ordered_by (map (λ w. w.now) words.now) ≡ Some (to_rights order) → EndsRights result }
     ensures unfit_check { (order : CheckOrder) → fault_of landtree (map (λ w. w.now) words.now) ≡ []
@@ -244,14 +137,36 @@ fn run_words<S: Sources + Wait>(
     ensures check { (order : CheckOrder) → fault_of landtree (map (λ w. w.now) words.now) ≡ []
         → ordered_by (map (λ w. w.now) words.now) ≡ Some (to_check order) → fits_check order ≡ true
         → EndsCheck result }
+    ensures unfit_serve { (order : ServeOrder) → fault_of landtree (map (λ w. w.now) words.now) ≡ []
+        → ordered_by (map (λ w. w.now) words.now) ≡ Some (to_serve order) → fits_serve order ≡ false
+        → (result ≡ Err Failure.CommandLine) ⊎ (result ≡ Err Failure.NoMemory) }
+    ensures serve { (order : ServeOrder) → fault_of landtree (map (λ w. w.now) words.now) ≡ []
+        → ordered_by (map (λ w. w.now) words.now) ≡ Some (to_serve order) → fits_serve order ≡ true
+        → EndsServe order.profile result }
+    ensures unfit_export { (order : ExportOrder) → fault_of landtree (map (λ w. w.now) words.now) ≡ []
+        → ordered_by (map (λ w. w.now) words.now) ≡ Some (to_export order) → fits_export order ≡ false
+        → (result ≡ Err Failure.CommandLine) ⊎ (result ≡ Err Failure.NoMemory) }
+    ensures export { (order : ExportOrder) → fault_of landtree (map (λ w. w.now) words.now) ≡ []
+        → ordered_by (map (λ w. w.now) words.now) ≡ Some (to_export order) → fits_export order ≡ true
+        → EndsExport result }
+    ensures unfit_why { (order : WhyOrder) → fault_of landtree (map (λ w. w.now) words.now) ≡ []
+        → ordered_by (map (λ w. w.now) words.now) ≡ Some (to_why order) → fits_why order ≡ false
+        → (result ≡ Err Failure.CommandLine) ⊎ (result ≡ Err Failure.NoMemory) }
+    ensures why { (order : WhyOrder) → fault_of landtree (map (λ w. w.now) words.now) ≡ []
+        → ordered_by (map (λ w. w.now) words.now) ≡ Some (to_why order) → EndsWhy result }
 {
     match Options::read(rt.alloc(), words) {
-        Ok(options) => carry_out(rt, sources, &options),
-        Err(error) => told(rt, &error),
+        Ok(options) => carry_out(rt, sources, ports, &options, hints),
+        Err(error) => told(rt, &error, hints),
     }
 }
 
-fn run_program<S: Sources + Wait>(rt: &HostRuntime, sources: &S) -> Result<Conclusion, Failure> {
+fn run_program<S: Sources + Threads + Wait + Sync, B: Binds>(
+    rt: &HostRuntime,
+    sources: &S,
+    ports: &B,
+    hints: &mut Hints,
+) -> Result<Conclusion, Failure> {
     let words = words_of(rt)?;
     let Ok(words) = words
         .iter()
@@ -260,22 +175,17 @@ fn run_program<S: Sources + Wait>(rt: &HostRuntime, sources: &S) -> Result<Concl
     else {
         return Err(Failure::NoMemory);
     };
-    run_words(rt, sources, words.as_slice())
-}
-
-// Says why the program fails, where it does. The status that it ends with.
-fn concluded(rt: &HostRuntime, ended: Result<Conclusion, Failure>) -> ExitCode
-    ensures { exit_status result ≡ status_at ended }
-{
-    match ended {
-        Ok(conclusion) => ExitCode::from(conclusion.status()),
-        Err(failure) => {
-            let _ = eprintln!(rt; "{failure}");
-            ExitCode::from(failure.status())
-        }
-    }
+    hints.want(are_wanted(words.as_slice(), rt.stderr().is_terminal()));
+    let Ok(words) = without_wish(rt.alloc(), words.as_slice()) else {
+        return Err(Failure::NoMemory);
+    };
+    run_words(rt, sources, ports, words.as_slice(), hints)
 }
 
 fn main(rt: HostRuntime) -> ExitCode {
-    concluded(&rt, run_program(&rt, &rt))
+    let mut hints = Hints::new(rt.alloc());
+    let ended = run_program(&rt, &rt, &Loopback { net: &rt }, &mut hints);
+    let status = concluded(&rt, ended);
+    hints.tell(&mut rt.stderr());
+    status
 }

@@ -1,9 +1,9 @@
 -- Where a test's command ends.
-use Rattle.std.proofs.Common.{◌≡◌, ◌≢◌, ◌∙◌, ◌⊎◌, inl, inr, ℕ, ◌+◌, ◌<◌, ◌≤◌, List, [], ◌∷◌, ◌++◌, length, take, drop}
+use Rattle.std.proofs.Common.{◌≡◌, ◌∙◌, inl, inr, ℕ, ◌+◌, ◌<◌, List, ◌++◌, length, take, drop}
 use Rattle.std.proofs.Common.{refl, sym, ap, subst, codes, arith}
 use Rattle.std.proofs.lemmas.List.{length-append}
 use Rattle.std.proofs.Math.Seq.{take-append_seam, drop-append_seam}
-use Rattle.ll_check.specs.Checks.{IsCommand, SpellsAt, SpellsBody, SpellsTest, SpellsWant, Want, success, silent, test}
+use Rattle.ll_check.specs.Checks.{IsCommand, SpellsAt, SpellsBody, SpellsWant, Want, success, silent, test}
 use Rattle.ll_check.specs.Checks.{AreFirstWords, IsSilent, IsWholeReply, Meaning, beginning, meaning_of, whole}
 use Rattle.ll_check.specs.declared.line.CheckLine.{CheckLine}
 use Rattle.std.specs.Prelude.{IfOk, IfSome, IfNone, option_map}

@@ -1,5 +1,5 @@
 -- Files of checks: what their lines say, and when a test passes. own
-use Rattle.std.specs.Prelude.{◌≡◌, ℕ, ◌+◌, ◌==◌, ◌||◌, ◌⊎◌, Bool, true, false, not, List, [], ◌∷◌, ◌++◌}
+use Rattle.std.specs.Prelude.{◌≡◌, ℕ, ◌+◌, ◌==◌, ◌||◌, ◌⊎◌, Bool, false, not, List, [], ◌∷◌, ◌++◌}
 use Rattle.std.specs.Prelude.{length, slice_get, take, drop, Option, Some, None, codes, if◌then◌else◌}
 use Rattle.std.specs.List.{All, AllZip, count_by, flat_map}
 use Rattle.ll_seq.specs.declared.call.Call.{Call}

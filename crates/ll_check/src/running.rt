@@ -59,6 +59,16 @@ fn is_answered(script: &[u8], rest: &[u8], replies: &[u8]) -> bool
     replies.is_empty() || !script.is_empty()
 }
 
+// A fault of a run whose replies come into a list, to which a write fails only for want of memory.
+fn of_list(fault: RunFault) -> RunFault
+    ensures { (setup : Setup) → MayEnd setup fault → MayEnd setup result }
+{
+    match fault {
+        RunFault::Session(SessionFault::Write) => RunFault::Session(SessionFault::NoMemory),
+        fault => fault,
+    }
+}
+
 // Makes the calls of a script.
 fn make_script<R: Wait>(
     rt: &R,
@@ -80,7 +90,7 @@ fn make_script<R: Wait>(
                 Ok((Made::Refused(replies), history))
             }
         }
-        Err(fault) => Err(fault),
+        Err(fault) => Err(of_list(fault)),
     }
 }
 

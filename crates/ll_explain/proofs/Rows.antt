@@ -8,7 +8,8 @@ use Rattle.ll_seq.specs.State.{State}
 use Rattle.ll_options.specs.Options.{RightsOrder}
 use Rattle.ll_runs.specs.Policy.{IsSetup, Lacks}
 use Rattle.ll_runs.specs.declared.failure.Failure.{Failure}
-use Rattle.ll_runs.specs.declared.failure.Failure.TheVariants.{CommandLine, Policy, Opening, File, Output, NoMemory}
+use Rattle.ll_runs.specs.declared.failure.Failure.TheVariants.{CommandLine, Policy, Opening, File, Output, Socket}
+use Rattle.ll_runs.specs.declared.failure.Failure.TheVariants.{NoMemory}
 use Rattle.ll_session.specs.declared.setup.Setup.{Setup}
 use Rattle.ll_explain.specs.Opening.{FailsSo, IsStopped}
 use Rattle.ll_explain.specs.Rights.{AreRows, HasBadWord, IsOfWords, MayFail, paths_told, run_of}
@@ -20,6 +21,7 @@ fails_so P Q (Policy fault) g p = absurd p
 fails_so P Q Opening g p = g p
 fails_so P Q File g p = absurd p
 fails_so P Q Output g p = absurd p
+fails_so P Q Socket g p = absurd p
 fails_so P Q NoMemory g p = tt
 
 module _ (s : State) (domain : List Layer) (layers : Bool) where
@@ -56,6 +58,7 @@ module _ (order : RightsOrder) (text : List ℕ) where
   by_words Opening is bad = absurd is
   by_words File is bad = tt
   by_words Output is bad = tt
+  by_words Socket is bad = absurd is
   by_words NoMemory is bad = tt
 
   pub by_setup : (f : Failure) → Lacks (run_of order) text f → MayFail order text f
@@ -64,6 +67,7 @@ module _ (order : RightsOrder) (text : List ℕ) where
   by_setup Opening lacks = absurd lacks
   by_setup File lacks = tt
   by_setup Output lacks = tt
+  by_setup Socket lacks = absurd lacks
   by_setup NoMemory lacks = tt
 
   pub by_opening : (setup : Setup) (f : Failure) → IsSetup (run_of order) text setup → FailsSo (IsStopped setup) f
@@ -73,6 +77,7 @@ module _ (order : RightsOrder) (text : List ℕ) where
   by_opening setup Opening is fails = (setup, is, fails)
   by_opening setup File is fails = tt
   by_opening setup Output is fails = tt
+  by_opening setup Socket is fails = absurd fails
   by_opening setup NoMemory is fails = tt
 
 pub empty_is : {A : Type 0} (xs : List A) → length xs ≡ 0 → xs ≡ []

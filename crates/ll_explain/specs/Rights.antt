@@ -1,6 +1,6 @@
 -- The rights of a policy's profile, told as a table. own
 use Rattle.std.specs.Prelude.{◌≡◌, ◌≢◌, ◌⊎◌, ⊤, ℕ, Bool, List, [], ◌∷◌, ◌++◌, map, codes, Option, Some, None}
-use Rattle.std.specs.Prelude.{option_to_list}
+use Rattle.std.specs.Prelude.{false, option_to_list}
 use Rattle.std.specs.List.{flat_map}
 use Rattle.std.specs.Option.{option_map_or}
 use Rattle.clap.specs.Words.{Text}
@@ -18,7 +18,8 @@ use Rattle.ll_seq.specs.Step.{client_of}
 use Rattle.ll_options.specs.Options.{RightsOrder, RunOrder}
 use Rattle.ll_runs.specs.Policy.{IsSetup, Lacks}
 use Rattle.ll_runs.specs.declared.failure.Failure.{Failure}
-use Rattle.ll_runs.specs.declared.failure.Failure.TheVariants.{CommandLine, Policy, Opening, File, Output, NoMemory}
+use Rattle.ll_runs.specs.declared.failure.Failure.TheVariants.{CommandLine, Policy, Opening, File, Output, Socket}
+use Rattle.ll_runs.specs.declared.failure.Failure.TheVariants.{NoMemory}
 use Rattle.ll_session.specs.declared.setup.Setup.{Setup}
 use Rattle.ll_why.specs.Rights.{AreRights}
 use Rattle.ll_why.specs.declared.rights.PathRights.{PathRights}
@@ -78,6 +79,7 @@ run_of order = record {
   policy = Some order.policy;
   profile = Some order.profile;
   save = None;
+  strict = false;
 }
 
 -- The table of the profile's rights, where the policy's file has this text: those of its client when it has confined
@@ -103,6 +105,7 @@ MayFail order text (Policy fault) = Lacks (run_of order) text (Policy fault)
 MayFail order text Opening = (setup : Setup) × IsSetup (run_of order) text setup × IsStopped setup
 MayFail order text File = ⊤
 MayFail order text Output = ⊤
+MayFail order text Socket = ⊥
 MayFail order text NoMemory = ⊤
 
 -- the paths of the words can't be told

@@ -225,6 +225,7 @@ fn run_of<'a>(options: &RightsOptions<'a>) -> RunOptions<'a>
         policy: Some(options.policy),
         profile: Some(options.profile),
         save: None,
+        strict: false,
     }
 }
 

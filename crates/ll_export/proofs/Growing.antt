@@ -1,6 +1,8 @@
 -- Texts and lists of texts that grow by a part at a time.
 use Rattle.std.proofs.Common.{◌≡◌, ℕ, zero, suc, ◌+◌, ◌<◌, List, [], ◌∷◌, ◌++◌, map, length, drop, get_or, refl, sym}
-use Rattle.std.proofs.Common.{ap, ◌∙◌, add-one, append_assoc, arith}
+use Rattle.std.proofs.Common.{ap, ◌∙◌, add-one, append_assoc, arith, Option, None, Some}
+use Rattle.std.specs.Prelude.{option_map, unwrap_or}
+use Rattle.std.specs.Borrow.{Bor}
 use Rattle.std.specs.List.{AllByRecursion, concat, flat_map, join_by}
 use Rattle.std.proofs.lemmas.List.{map-append}
 use Rattle.std.proofs.Math.Seq.{drop-cons}
@@ -55,3 +57,9 @@ each_at P (x ∷ xs) (suc i) d lt all = each_at P xs i d (omega arith) all.1
 pub empty_is : {A : Type 0} (xs : List A) → length xs ≡ 0 → xs ≡ []
 empty_is [] e = refl
 empty_is (x ∷ xs) e = absurd (omega arith)
+
+-- the text that is there, or another one
+pub told_or : (o : Option (Bor (List ℕ))) (other : Bor (List ℕ))
+    → (unwrap_or o other).now ≡ unwrap_or (option_map (λ t. t.now) o) other.now
+told_or None other = refl
+told_or (Some told) other = refl

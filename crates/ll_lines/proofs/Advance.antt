@@ -11,7 +11,7 @@ use Rattle.ll_wire.proofs.WrittenText.{appends-none}
 use Rattle.ll_lines.specs.Cutting.{Cuts, Holds, IsLeft, IsTold, Reading, TellsFront, TellsFrontOf, TellsMore, TellsOn}
 use Rattle.ll_lines.specs.Cutting.{unread}
 use Rattle.ll_lines.specs.Transcript.{Transcript}
-use Rattle.ll_lines.specs.Reached.{AnswersAll, AnswersSome, StartsAll}
+use Rattle.ll_lines.specs.Reached.{AnswersAll, AnswersFirst, AnswersSome, StartsAll}
 use Rattle.ll_lines.proofs.LeftToRead.{at_last, at_start}
 
 pub on_err : {T E P : Type 0} → (r : Result T E) → P → OnErr r P
@@ -49,6 +49,12 @@ module _ {S : Type 0} (Tells : S → List ℕ → List ℕ → S → Type 0) whe
     pub reading_stops : (e : Devices) → TellsFront r d e → StartsAll Tells s t first e
     reading_stops e front input is =
         let a = some input is in (a.1, pieces a.0, a.2, a.4, a.5, front first.contents a.2 a.6)
+
+    -- no more lines are answered, and all that waits is written
+    pub all_told : (e : Devices) → ((text : List ℕ) → IsTold first.contents r d text → Appends first.contents e.contents
+        text) → AnswersFirst Tells s t first e
+    all_told e written input is =
+        let a = some input is in (a.1, pieces a.0, a.2, a.4, a.5, written a.2 a.6)
 
     -- this line is the next one, if there is one
     module _ (r' : Reading) (e : Devices) (line : Option (List ℕ)) (is_there : Bool)

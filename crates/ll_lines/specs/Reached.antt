@@ -32,6 +32,13 @@ module _ {S : Type 0} (Tells : S → List ℕ → List ℕ → S → Type 0) whe
       → (new.remaining ≡ Some []) × ((text : List ℕ) × Transcript Tells s (pieces input) text t
       × Appends old.contents new.contents text)
 
+  -- the whole transcript of some first pieces is written, and it is these that were answered
+  abbrev pub AnswersFirst : (s t : S) → (old new : Devices) → Type 0
+  AnswersFirst s t old new =
+      (input : List ℕ) → old.remaining ≡ Some input
+      → (done more : List (List ℕ)) × (text : List ℕ) × (pieces input ≡ done ++ more) × Transcript Tells s done text t
+      × Appends old.contents new.contents text
+
   -- A beginning of the transcript of some first pieces is written, and it is these that were answered
   abbrev pub StartsAll : (s t : S) → (old new : Devices) → Type 0
   StartsAll s t old new =

@@ -1,10 +1,10 @@
 //! Lines, each answered.
 
-ghost use Rattle.std.specs.Prelude.{◌≡◌, ◌<◌, ◌≤◌, ◌+◌, ◌^◌, ℕ, List, Some, Err, IfErr, IfOk, OnErr, OnOk, length};
-ghost use Rattle.std.specs.Prelude.{string_bytes};
+ghost use Rattle.std.specs.Prelude.{◌≡◌, ◌<◌, ◌≤◌, ◌+◌, ◌^◌, ℕ, Bool, true, false, List, Some, Err, IfErr, IfOk};
+ghost use Rattle.std.specs.Prelude.{OnErr, OnOk, length, string_bytes};
 ghost use Rattle.ll_ends.specs.Devices.{IsWhole, line_feeds};
 ghost use Rattle.ll_lines.specs.Cutting.{Holds};
-ghost use Rattle.ll_lines.specs.Reached.{AnswersAll, Blames, StartsAll};
+ghost use Rattle.ll_lines.specs.Reached.{AnswersAll, AnswersFirst, Blames, StartsAll};
 ghost use Rattle.ll_lines.specs.Transcript.{most_reads};
 ghost use Rattle.ll_lines.specs.declared.fault.SessionFault.{SessionFault};
 
@@ -14,7 +14,7 @@ use crate::line::Line;
 use ll_ends::Ends;
 use std::alloc::{AllocError, Global};
 
-/// What answers lines, one after the other.
+/// What answers lines, one after the other, until it is over.
 pub trait Answers {
     /// It answers the piece by this line, and goes on so.
     ghost tells: { Self → List ℕ → List ℕ → Self → Type 0 };
@@ -25,10 +25,14 @@ pub trait Answers {
     /// How many numbers it has used.
     ghost used: { Self → ℕ };
 
+    /// It answers no further line.
+    ghost over: { Self → Bool };
+
     /// The line that answers this one, with its line feed. Where memory is wanted for it, the line was answered all the
     /// same.
     fn answer(&mut self, line: &Line) -> Result<String, AllocError>
-        requires { used self.old < 2 ^ 63 }
+        requires room { used self.old < 2 ^ 63 }
+        requires going { over self.old ≡ false }
         ensures ok { IfOk result (λ text. (piece : List ℕ) → Holds line.now piece
             → tells self.old piece (string_bytes text) self.new) }
         ensures feed { IfOk result (λ text. 1 ≤ line_feeds (string_bytes text)) }
@@ -37,12 +41,18 @@ pub trait Answers {
         ensures goes { goes self.old self.new }
         ensures used { used self.new ≤ used self.old + 2 };
 
+    /// Whether it is over with the line that it has answered last.
+    fn is_over(&self) -> bool
+        ensures { result ≡ over self.now };
+
     ghost goes_nowhere: { (a : Self) → goes a a };
 
     ghost goes_on: { (a b c : Self) → goes a b → goes b c → goes a c };
 }
 
-/// Reads all lines and answers each. Before each read, the answers to all lines that were read are written.
+/// Reads all lines and answers each, up to the one that it is over with. Before each read, the answers to all lines
+/// that were read are written, and so are all of them at the end; no line is answered after the one that it is over
+/// with, even if it was read with it.
 pub fn answer_lines<E: Ends, A: Answers>(
     alloc: Global,
     ends: &mut E,
@@ -52,8 +62,12 @@ pub fn answer_lines<E: Ends, A: Answers>(
     requires answered { (E.devices ends.old).owed ≡ 0 }
     requires reads { (E.devices ends.old).reads ≤ 2 ^ 62 }
     requires room { A.used answers.old ≤ 2 ^ 62 }
-    ensures ok { OnOk result
-        (AnswersAll A.tells answers.old answers.new (E.devices ends.old) (E.devices ends.new)) }
+    requires going { A.over answers.old ≡ false }
+    ensures ok { OnOk result (A.over answers.new ≡ false
+        → AnswersAll A.tells answers.old answers.new (E.devices ends.old) (E.devices ends.new)) }
+    // Where it is over, the pieces up to the one that it is over with are answered, and all their lines are written.
+    ensures over { OnOk result (A.over answers.new ≡ true
+        → AnswersFirst A.tells answers.old answers.new (E.devices ends.old) (E.devices ends.new)) }
     ensures whole { OnOk result (IsWhole (E.devices ends.new)) }
     // With a fault, what was written is a beginning of the transcript of the first pieces, and these are answered.
     ensures err { OnErr result
@@ -72,6 +86,9 @@ pub fn answer_lines<E: Ends, A: Answers>(
         match answers.answer(&line) {
             Ok(text) => exchange.reply(ends, text.as_str())?,
             Err(_) => return Err(exchange.starve(ends)),
+        }
+        if answers.is_over() {
+            return exchange.end(ends);
         }
     }
     exchange.end(ends)

@@ -1,37 +1,68 @@
 -- The rows of a subcommand, as clap builds them from its arguments.
-use Rattle.std.proofs.Common.{◌≡◌, ◌≢◌, ap, subst, Bool, true, false, cond, codes, refl, sym, List, []}
-use Rattle.std.proofs.Common.{◌∷◌, ◌++◌, length, Some, true≢false}
-use Rattle.std.specs.List.{AllByRecursion, find}
+use Rattle.std.proofs.Common.{◌≡◌, ap, subst, ℕ, Bool, true, false, cond, codes, refl, sym, ◌∙◌, List, []}
+use Rattle.std.proofs.Common.{◌∷◌, ◌++◌, ◌||◌, length, Option, None, Some, true≢false}
+use Rattle.std.specs.List.{AllByRecursion, find, list_any}
 use Rattle.std.specs.Str.{bytes_eq}
-use Rattle.clap.specs.Walk.{Row, Rule, Text, at_row, more_values}
+use Rattle.clap.specs.Lexer.{usize_max}
+use Rattle.clap.specs.Walk.{Row, Rule, Text, at_row, more_values, reading_by}
 use Rattle.clap.specs.Walk.{with_values, without}
-use Rattle.clap.specs.Simple.{Shape, filled, help_rule, with_index}
+use Rattle.clap.specs.Simple.{Shape, filled, help_rule, new_rule, with_index}
 use Rattle.clap.specs.Kinds.{range_kinds, value_kinds, values_kinds}
 use Rattle.clap.specs.ValueTests.{accepts}
 use Rattle.clap.specs.Faults.{repeat_fault, set_fault}
 use Rattle.clap.specs.declared.error.kind.ErrorKind.{ErrorKind}
 use Rattle.clap.specs.declared.builder.value_parser.ValueParser.{ValueParser}
+use Rattle.clap.specs.declared.builder.value_parser.ValueParser.TheVariants.{Unsigned}
 use Rattle.clap.specs.Values.{refused_kind}
 use Rattle.clap.specs.declared.parser.matches.ValueSource.{ValueSource}
 use Rattle.clap.specs.declared.parser.matches.ValueSource.TheVariants.{CommandLine}
 use Rattle.clap.specs.declared.builder.value_parser.Reading.{Reading}
 use Rattle.clap.specs.declared.builder.value_parser.Reading.TheVariants.{AsWritten}
-use Rattle.ll_options.specs.Options.{check, files}
-use Rattle.ll_options.specs.Options.{abi, audit, file, history, history_numbers, node_numbers, nodes}
-use Rattle.ll_options.specs.Options.{flag, needed, paths, rights, run}
-use Rattle.ll_options.specs.Options.{schedule, script}
-use Rattle.ll_options.specs.Options.{valued}
+use Rattle.ll_options.specs.Options.{abi, also, audit, check, connection_numbers, connections, export, file, files}
+use Rattle.ll_options.specs.Options.{flag, history, history_numbers, idle, needed, node_numbers, nodes, paths, port}
+use Rattle.ll_options.specs.Options.{ports, rights, run, schedule, script, serve, valued, why, worker_numbers, workers}
+use Rattle.ll_options.specs.Options.{words}
 use Rattle.ll_options.proofs.ArgumentsUsed.{Keeps, no_faults}
 
 -- ---- what the rows of a subcommand hold
 
 -- of the option with this name, a value that its parser accepts
-abbrev pub IsRead : Text → ValueParser → Text → Text → Reading → Type 0
-IsRead name parser id v how = bytes_eq id name ≡ true → (accepts false parser v ≡ true) × (how ≡ AsWritten)
+abbrev pub IsRead : Text × ValueParser → Text → Text → Reading → Type 0
+IsRead option id v how = bytes_eq id option.0 ≡ true → (accepts false option.1 v ≡ true) × (how ≡ AsWritten)
 
--- of the nodes and of the history, values that their parsers accept
+-- the options whose numbers are there wherever clap finds no fault
+abbrev pub numbered : List (Text × ValueParser)
+numbered = (codes "nodes", node_numbers) ∷ (codes "history", history_numbers) ∷ (codes "port", ports)
+    ∷ (codes "workers", worker_numbers) ∷ (codes "connections", connection_numbers) ∷ []
+
+-- of each of them, a value that its parser accepts
 abbrev pub AreRead : Text → Text → Reading → Type 0
-AreRead id v how = IsRead (codes "nodes") node_numbers id v how × IsRead (codes "history") history_numbers id v how
+AreRead id v how = AllByRecursion (λ (option : Text × ValueParser). IsRead option id v how) numbered
+
+-- none of them has this name
+abbrev pub IsOther : Text → Type 0
+IsOther id = list_any (λ (option : Text × ValueParser). bytes_eq id option.0) numbered ≡ false
+
+pub no_option : (e : false ≡ true) → {A : Type 0} → A
+no_option e = absurd (true≢false (sym e))
+
+pub others : (id v : Text) (how : Reading) → IsOther id → AreRead id v how
+others id v how = of numbered
+  where
+    of : (options : List (Text × ValueParser))
+        → list_any (λ (option : Text × ValueParser). bytes_eq id option.0) options ≡ false
+        → AllByRecursion (λ (option : Text × ValueParser). IsRead option id v how) options
+    of [] is = tt
+    of (option ∷ options) is = go (bytes_eq id option.0) refl is (of options)
+      where
+        go : (b : Bool) → bytes_eq id option.0 ≡ b
+            → (b || list_any (λ (option : Text × ValueParser). bytes_eq id option.0) options) ≡ false
+            → (list_any (λ (option : Text × ValueParser). bytes_eq id option.0) options ≡ false
+            → AllByRecursion (λ (option : Text × ValueParser). IsRead option id v how) options)
+            → IsRead option id v how
+            × AllByRecursion (λ (option : Text × ValueParser). IsRead option id v how) options
+        go true e is' later = absurd (true≢false is')
+        go false e is' later = (λ same. no_option (sym e ∙ same), later is')
 
 -- a first value, and that is read
 abbrev pub GoodRow : Row → Type 0
@@ -66,182 +97,100 @@ good_values id how s v vs rows given g = good_at id (more_values s (v ∷ vs)) _
 
 -- ---- the arguments, as clap builds them
 
-abbrev pub script_built : Rule
-script_built = with_index 1 (filled script)
+-- an option of this name with one value, and a number's
+abbrev pub option_built : Text → Option ValueParser → List Text → Bool → Rule
+option_built name parser defaults is_needed =
+    filled (record (valued name) { parser = parser; defaults = defaults; required = is_needed })
 
-abbrev pub nodes_built : Rule
-nodes_built = filled nodes
-
-abbrev pub abi_built : Rule
-abi_built = filled abi
-
-abbrev pub history_built : Rule
-history_built = filled history
-
-abbrev pub policy_built : Rule
-policy_built = filled (valued (codes "policy"))
-
-abbrev pub profile_built : Rule
-profile_built = filled (valued (codes "profile"))
-
-abbrev pub save_built : Rule
-save_built = filled (valued (codes "save"))
-
-abbrev pub picture_built : Rule
-picture_built = filled (valued (codes "picture"))
-
-abbrev pub paths_built : Rule
-paths_built = with_index 1 (filled paths)
-
-abbrev pub policy_needed : Rule
-policy_needed = filled (needed (codes "policy"))
-
-abbrev pub profile_needed : Rule
-profile_needed = filled (needed (codes "profile"))
-
-abbrev pub layers_built : Rule
-layers_built = filled (flag (codes "layers"))
+-- what has no name, in the first place
+abbrev pub placed : Rule → Rule
+placed a = with_index 1 (filled a)
 
 abbrev pub help_built : Rule
 help_built = filled help_rule
 
-abbrev pub file_built : Rule
-file_built = with_index 1 (filled file)
-
-abbrev pub files_built : Rule
-files_built = with_index 1 (filled files)
-
-abbrev pub quiet_built : Rule
-quiet_built = filled (flag (codes "quiet"))
-
-abbrev pub verbose_built : Rule
-verbose_built = filled (flag (codes "verbose"))
+-- the subcommand with these arguments
+abbrev pub with_built : Shape → List Rule → Shape
+with_built s rules = record s { rules = rules; disable_help_subcommand = true; is_built = true }
 
 abbrev pub run_built : Shape
-run_built = record run.top {
-  rules = script_built ∷ nodes_built ∷ abi_built ∷ policy_built ∷ profile_built ∷ history_built ∷ save_built
-      ∷ help_built ∷ [];
-  disable_help_subcommand = true;
-  is_built = true;
-}
+run_built = with_built run.top
+    (placed script ∷ filled nodes ∷ filled abi ∷ filled (valued (codes "policy")) ∷ filled (valued (codes "profile"))
+    ∷ filled history ∷ filled (valued (codes "save")) ∷ filled (flag (codes "strict")) ∷ help_built ∷ [])
 
 abbrev pub audit_built : Shape
-audit_built = record audit.top { rules = file_built ∷ help_built ∷ []; disable_help_subcommand = true; is_built = true }
+audit_built = with_built audit.top (placed file ∷ help_built ∷ [])
 
 abbrev pub schedule_built : Shape
-schedule_built = record schedule.top {
-  rules = file_built ∷ nodes_built ∷ abi_built ∷ history_built ∷ picture_built ∷ help_built ∷ [];
-  disable_help_subcommand = true;
-  is_built = true;
-}
+schedule_built = with_built schedule.top
+    (placed file ∷ filled nodes ∷ filled abi ∷ filled history ∷ filled (valued (codes "picture")) ∷ help_built ∷ [])
 
 abbrev pub rights_built : Shape
-rights_built = record rights.top {
-  rules = paths_built ∷ policy_needed ∷ profile_needed ∷ nodes_built ∷ layers_built ∷ help_built ∷ [];
-  disable_help_subcommand = true;
-  is_built = true;
-}
+rights_built = with_built rights.top
+    (placed paths ∷ filled (needed (codes "policy")) ∷ filled (needed (codes "profile")) ∷ filled nodes
+    ∷ filled (flag (codes "layers")) ∷ help_built ∷ [])
 
 abbrev pub check_built : Shape
-check_built = record check.top {
-  rules = files_built ∷ nodes_built ∷ abi_built ∷ policy_built ∷ profile_built ∷ quiet_built ∷ verbose_built
-      ∷ help_built ∷ [];
-  disable_help_subcommand = true;
-  is_built = true;
-}
+check_built = with_built check.top
+    (placed files ∷ filled nodes ∷ filled abi ∷ filled (valued (codes "policy")) ∷ filled (valued (codes "profile"))
+    ∷ filled (flag (codes "quiet")) ∷ filled (flag (codes "verbose")) ∷ help_built ∷ [])
 
-pub no_option : (e : false ≡ true) → {A : Type 0} → A
-no_option e = absurd (true≢false (sym e))
+abbrev pub serve_built : Shape
+serve_built = with_built serve.top
+    (filled port ∷ filled workers ∷ filled connections ∷ filled idle ∷ filled (flag (codes "log")) ∷ filled nodes
+    ∷ filled abi ∷ filled (valued (codes "policy")) ∷ filled (valued (codes "profile")) ∷ filled history
+    ∷ filled (valued (codes "save")) ∷ help_built ∷ [])
 
-pub script_keeps : Keeps Good script_built
-script_keeps again [] rows e g = absurd cc
-script_keeps again (v ∷ vs) rows e g =
-    good_values (codes "SCRIPT") _ CommandLine v vs _ (λ same. no_option same, λ same. no_option same)
-    (good_without (codes "SCRIPT") rows g)
+abbrev pub export_built : Shape
+export_built = with_built export.top
+    (filled (needed (codes "policy")) ∷ filled (needed (codes "profile")) ∷ filled (needed (codes "as"))
+    ∷ filled (valued (codes "root")) ∷ filled also ∷ filled (flag (codes "exact")) ∷ help_built ∷ [])
 
-pub abi_keeps : Keeps Good abi_built
-abi_keeps again [] rows e g = absurd cc
-abi_keeps again (v ∷ vs) rows e g =
-    good_values (codes "abi") _ CommandLine v vs _ (λ same. no_option same, λ same. no_option same)
-    (good_without (codes "abi") rows g)
+abbrev pub why_built : Shape
+why_built = with_built why.top
+    (placed words ∷ filled (valued (codes "policy")) ∷ filled (valued (codes "profile")) ∷ filled nodes ∷ help_built
+    ∷ [])
 
-pub policy_keeps : Keeps Good policy_built
-policy_keeps again [] rows e g = absurd cc
-policy_keeps again (v ∷ vs) rows e g =
-    good_values (codes "policy") _ CommandLine v vs _ (λ same. no_option same, λ same. no_option same)
-    (good_without (codes "policy") rows g)
+-- ---- what each of them keeps
 
-pub profile_keeps : Keeps Good profile_built
-profile_keeps again [] rows e g = absurd cc
-profile_keeps again (v ∷ vs) rows e g =
-    good_values (codes "profile") _ CommandLine v vs _ (λ same. no_option same, λ same. no_option same)
-    (good_without (codes "profile") rows g)
+single_keeps : (name : Text) → IsOther name → Keeps Good (placed (record (new_rule name) { required = true }))
+single_keeps name other again [] rows e g = absurd cc
+single_keeps name other again (v ∷ vs) rows e g =
+    good_values name AsWritten CommandLine v vs _ (others name v AsWritten other) (good_without name rows g)
 
-pub save_keeps : Keeps Good save_built
-save_keeps again [] rows e g = absurd cc
-save_keeps again (v ∷ vs) rows e g =
-    good_values (codes "save") _ CommandLine v vs _ (λ same. no_option same, λ same. no_option same)
-    (good_without (codes "save") rows g)
+several_keep : (name : Text) (is_needed : Bool) → IsOther name → Keeps Good (placed (record (new_rule name) {
+  required = is_needed;
+  range = Some (record { start_inclusive = 1; end_inclusive = usize_max });
+}))
+several_keep name is_needed other again [] rows e g = absurd cc
+several_keep name is_needed other again (v ∷ vs) rows e g =
+    good_values name AsWritten CommandLine v vs _ (others name v AsWritten other) g
 
-pub picture_keeps : Keeps Good picture_built
-picture_keeps again [] rows e g = absurd cc
-picture_keeps again (v ∷ vs) rows e g =
-    good_values (codes "picture") _ CommandLine v vs _ (λ same. no_option same, λ same. no_option same)
-    (good_without (codes "picture") rows g)
+option_keeps : (name : Text) (parser : Option ValueParser) (defaults : List Text) (is_needed : Bool) → IsOther name
+    → Keeps Good (option_built name parser defaults is_needed)
+option_keeps name parser defaults is_needed other again [] rows e g = absurd cc
+option_keeps name parser defaults is_needed other again (v ∷ vs) rows e g =
+    let how = reading_by (option_built name parser defaults is_needed) in
+    good_values name how CommandLine v vs _ (others name v how other) (good_without name rows g)
 
-pub file_keeps : Keeps Good file_built
-file_keeps again [] rows e g = absurd cc
-file_keeps again (v ∷ vs) rows e g =
-    good_values (codes "FILE") _ CommandLine v vs _ (λ same. no_option same, λ same. no_option same)
-    (good_without (codes "FILE") rows g)
+valued_keeps : (name : Text) → IsOther name → Keeps Good (filled (valued name))
+valued_keeps name = option_keeps name None [] false
 
-pub paths_keep : Keeps Good paths_built
-paths_keep again [] rows e g = absurd cc
-paths_keep again (v ∷ vs) rows e g =
-    good_values (codes "PATH") _ CommandLine v vs _ (λ same. no_option same, λ same. no_option same) g
+needed_keeps : (name : Text) → IsOther name → Keeps Good (filled (needed name))
+needed_keeps name = option_keeps name None [] true
 
-pub policy_needed_keeps : Keeps Good policy_needed
-policy_needed_keeps again [] rows e g = absurd cc
-policy_needed_keeps again (v ∷ vs) rows e g =
-    good_values (codes "policy") _ CommandLine v vs _ (λ same. no_option same, λ same. no_option same)
-    (good_without (codes "policy") rows g)
+flag_keeps : (name : Text) → IsOther name → Keeps Good (filled (flag name))
+flag_keeps name other again [] rows e g = good_values name AsWritten CommandLine (codes "true") [] _
+    (others name (codes "true") AsWritten other) (good_without name rows g)
+flag_keeps name other again (v ∷ vs) rows e g =
+    good_values name AsWritten CommandLine v vs _ (others name v AsWritten other) (good_without name rows g)
 
-pub profile_needed_keeps : Keeps Good profile_needed
-profile_needed_keeps again [] rows e g = absurd cc
-profile_needed_keeps again (v ∷ vs) rows e g =
-    good_values (codes "profile") _ CommandLine v vs _ (λ same. no_option same, λ same. no_option same)
-    (good_without (codes "profile") rows g)
+also_keeps : Keeps Good (filled also)
+also_keeps again [] rows e g = absurd cc
+also_keeps again (v ∷ vs) rows e g =
+    good_values (codes "also") AsWritten CommandLine v vs _ (others (codes "also") v AsWritten refl) g
 
-pub layers_keep : Keeps Good layers_built
-layers_keep again [] rows e g =
-    good_values (codes "layers") _ CommandLine (codes "true") [] _ (λ same. no_option same, λ same. no_option same)
-    (good_without (codes "layers") rows g)
-layers_keep again (v ∷ vs) rows e g =
-    good_values (codes "layers") _ CommandLine v vs _ (λ same. no_option same, λ same. no_option same)
-    (good_without (codes "layers") rows g)
-
-pub files_keep : Keeps Good files_built
-files_keep again [] rows e g = absurd cc
-files_keep again (v ∷ vs) rows e g =
-    good_values (codes "FILE") _ CommandLine v vs _ (λ same. no_option same, λ same. no_option same) g
-
-pub quiet_keeps : Keeps Good quiet_built
-quiet_keeps again [] rows e g =
-    good_values (codes "quiet") _ CommandLine (codes "true") [] _ (λ same. no_option same, λ same. no_option same)
-    (good_without (codes "quiet") rows g)
-quiet_keeps again (v ∷ vs) rows e g =
-    good_values (codes "quiet") _ CommandLine v vs _ (λ same. no_option same, λ same. no_option same)
-    (good_without (codes "quiet") rows g)
-
-pub verbose_keeps : Keeps Good verbose_built
-verbose_keeps again [] rows e g =
-    good_values (codes "verbose") _ CommandLine (codes "true") [] _ (λ same. no_option same, λ same. no_option same)
-    (good_without (codes "verbose") rows g)
-verbose_keeps again (v ∷ vs) rows e g =
-    good_values (codes "verbose") _ CommandLine v vs _ (λ same. no_option same, λ same. no_option same)
-    (good_without (codes "verbose") rows g)
-
-pub accepted : (ignore_case : Bool) (p : ValueParser) (t : Text) → value_kinds ignore_case p t ≡ []
+accepted : (ignore_case : Bool) (p : ValueParser) (t : Text) → value_kinds ignore_case p t ≡ []
     → accepts ignore_case p t ≡ true
 accepted ignore_case p t e = go (accepts ignore_case p t) (refused_kind p) e
   where
@@ -250,37 +199,96 @@ accepted ignore_case p t e = go (accepts ignore_case p t) (refused_kind p) e
     go false k e' = absurd cc
 
 -- the values of an option that find no fault begin with one that its parser accepts
-pub first_accepted : (parser : ValueParser) (v : Text) (vs : List Text) → values_kinds false parser (v ∷ vs) ≡ []
+first_accepted : (parser : ValueParser) (v : Text) (vs : List Text) → values_kinds false parser (v ∷ vs) ≡ []
     → accepts false parser v ≡ true
 first_accepted parser v vs values =
     accepted false parser v (no_faults (value_kinds false parser v) (values_kinds false parser vs) values).0
 
-pub nodes_keep : Keeps Good nodes_built
-nodes_keep again [] rows e g = absurd cc
-nodes_keep again (v ∷ vs) rows e g =
-    let action : set_fault again nodes_built (v ∷ vs) rows ≡ [] =
-    (no_faults (range_kinds 1 1 (length (v ∷ vs))) _ e).1 in
-    let values : values_kinds false node_numbers (v ∷ vs) ≡ [] =
-    (no_faults (repeat_fault again (codes "nodes") rows) _ action).1 in
-    good_values (codes "nodes") _ CommandLine v vs _
-    (λ same. (first_accepted node_numbers v vs values, refl), λ same. no_option same)
-    (good_without (codes "nodes") rows g)
+-- of a number's option, the value is one that its parser accepts
+number_keeps : (name : Text) (low high : ℕ) (defaults : List Text) (is_needed : Bool)
+    → ((v : Text) → accepts false (Unsigned low high) v ≡ true → AreRead name v AsWritten)
+    → Keeps Good (option_built name (Some (Unsigned low high)) defaults is_needed)
+number_keeps name low high defaults is_needed reads again [] rows e g = absurd cc
+number_keeps name low high defaults is_needed reads again (v ∷ vs) rows e g =
+    let built = option_built name (Some (Unsigned low high)) defaults is_needed in
+    let action : set_fault again built (v ∷ vs) rows ≡ [] = (no_faults (range_kinds 1 1 (length (v ∷ vs))) _ e).1 in
+    let values : values_kinds false (Unsigned low high) (v ∷ vs) ≡ [] =
+    (no_faults (repeat_fault again name rows) _ action).1 in
+    good_values name AsWritten CommandLine v vs _ (reads v (first_accepted (Unsigned low high) v vs values))
+    (good_without name rows g)
 
-pub history_keeps : Keeps Good history_built
-history_keeps again [] rows e g = absurd cc
-history_keeps again (v ∷ vs) rows e g =
-    let action : set_fault again history_built (v ∷ vs) rows ≡ [] =
-    (no_faults (range_kinds 1 1 (length (v ∷ vs))) _ e).1 in
-    let values : values_kinds false history_numbers (v ∷ vs) ≡ [] =
-    (no_faults (repeat_fault again (codes "history") rows) _ action).1 in
-    good_values (codes "history") _ CommandLine v vs _
-    (λ same. no_option same, λ same. (first_accepted history_numbers v vs values, refl))
-    (good_without (codes "history") rows g)
+-- what is read of a value of each of these options
+pub nodes_read : (v : Text) → accepts false node_numbers v ≡ true → AreRead (codes "nodes") v AsWritten
+nodes_read v is = (
+  λ same. (is, refl),
+  (
+    λ same. no_option same,
+    (λ same. no_option same, (λ same. no_option same, (λ same. no_option same, tt))),
+  ),
+)
 
-pub help_keeps : Keeps Good help_built
+pub history_read : (v : Text) → accepts false history_numbers v ≡ true → AreRead (codes "history") v AsWritten
+history_read v is = (
+  λ same. no_option same,
+  (
+    λ same. (is, refl),
+    (λ same. no_option same, (λ same. no_option same, (λ same. no_option same, tt))),
+  ),
+)
+
+port_read : (v : Text) → accepts false ports v ≡ true → AreRead (codes "port") v AsWritten
+port_read v is = (
+  λ same. no_option same,
+  (
+    λ same. no_option same,
+    (λ same. (is, refl), (λ same. no_option same, (λ same. no_option same, tt))),
+  ),
+)
+
+pub workers_read : (v : Text) → accepts false worker_numbers v ≡ true → AreRead (codes "workers") v AsWritten
+workers_read v is = (
+  λ same. no_option same,
+  (
+    λ same. no_option same,
+    (λ same. no_option same, (λ same. (is, refl), (λ same. no_option same, tt))),
+  ),
+)
+
+pub connections_read : (v : Text) → accepts false connection_numbers v ≡ true
+    → AreRead (codes "connections") v AsWritten
+connections_read v is = (
+  λ same. no_option same,
+  (
+    λ same. no_option same,
+    (λ same. no_option same, (λ same. no_option same, (λ same. (is, refl), tt))),
+  ),
+)
+
+nodes_keep : Keeps Good (filled nodes)
+nodes_keep = number_keeps (codes "nodes") 1 4096 (codes "1024" ∷ []) false nodes_read
+
+history_keeps : Keeps Good (filled history)
+history_keeps = number_keeps (codes "history") 1 1000000 (codes "10000" ∷ []) false history_read
+
+port_keeps : Keeps Good (filled port)
+port_keeps = number_keeps (codes "port") 1 65535 [] true port_read
+
+workers_keep : Keeps Good (filled workers)
+workers_keep = number_keeps (codes "workers") 1 32 (codes "4" ∷ []) false workers_read
+
+connections_keep : Keeps Good (filled connections)
+connections_keep = number_keeps (codes "connections") 1 62 (codes "1" ∷ []) false connections_read
+
+abi_keeps : Keeps Good (filled abi)
+abi_keeps = option_keeps (codes "abi") abi.parser [] false refl
+
+idle_keeps : Keeps Good (filled idle)
+idle_keeps = option_keeps (codes "idle") idle.parser [] false refl
+
+help_keeps : Keeps Good help_built
 help_keeps again values rows e g = g
 
-pub found_there : (P : Rule → Type 0) (p : Rule → Bool) (rules : List Rule) (a : Rule) → AllByRecursion P rules
+found_there : (P : Rule → Type 0) (p : Rule → Bool) (rules : List Rule) (a : Rule) → AllByRecursion P rules
     → find p rules ≡ Some a → P a
 found_there P p [] a all e = absurd cc
 found_there P p (x ∷ xs) a all e = go (p x) e (λ e'. found_there P p xs a all.1 e')
@@ -289,39 +297,124 @@ found_there P p (x ∷ xs) a all e = go (p x) e (λ e'. found_there P p xs a all
     go true e' later = let same : x ≡ a = cc in subst P same all.0
     go false e' later = later e'
 
-pub run_keeps : (p : Rule → Bool) (a : Rule) → find p run_built.rules ≡ Some a → Keeps Good a
+-- each argument of the subcommand keeps what is known of the rows
+abbrev pub AllKeep : Shape → Type 0
+AllKeep s = (p : Rule → Bool) (a : Rule) → find p s.rules ≡ Some a → Keeps Good a
+
+pub run_keeps : AllKeep run_built
 run_keeps p a e = found_there (Keeps Good) p run_built.rules a (
-  script_keeps,
+  single_keeps (codes "SCRIPT") refl,
   (
     nodes_keep,
     (
       abi_keeps,
-      (policy_keeps, (profile_keeps, (history_keeps, (save_keeps, (help_keeps, tt))))),
+      (
+        valued_keeps (codes "policy") refl,
+        (
+          valued_keeps (codes "profile") refl,
+          (
+            history_keeps,
+            (valued_keeps (codes "save") refl, (flag_keeps (codes "strict") refl, (help_keeps, tt))),
+          ),
+        ),
+      ),
     ),
   ),
 ) e
 
-pub audit_keeps : (p : Rule → Bool) (a : Rule) → find p audit_built.rules ≡ Some a → Keeps Good a
-audit_keeps p a e = found_there (Keeps Good) p audit_built.rules a (file_keeps, (help_keeps, tt)) e
+pub audit_keeps : AllKeep audit_built
+audit_keeps p a e =
+    found_there (Keeps Good) p audit_built.rules a (single_keeps (codes "FILE") refl, (help_keeps, tt)) e
 
-pub schedule_keeps : (p : Rule → Bool) (a : Rule) → find p schedule_built.rules ≡ Some a → Keeps Good a
-schedule_keeps p a e = found_there (Keeps Good) p schedule_built.rules a
-    (file_keeps, (nodes_keep, (abi_keeps, (history_keeps, (picture_keeps, (help_keeps, tt)))))) e
-
-pub rights_keep : (p : Rule → Bool) (a : Rule) → find p rights_built.rules ≡ Some a → Keeps Good a
-rights_keep p a e = found_there (Keeps Good) p rights_built.rules a (
-  paths_keep,
-  (policy_needed_keeps, (profile_needed_keeps, (nodes_keep, (layers_keep, (help_keeps, tt))))),
+pub schedule_keeps : AllKeep schedule_built
+schedule_keeps p a e = found_there (Keeps Good) p schedule_built.rules a (
+  single_keeps (codes "FILE") refl,
+  (
+    nodes_keep,
+    (abi_keeps, (history_keeps, (valued_keeps (codes "picture") refl, (help_keeps, tt)))),
+  ),
 ) e
 
-pub check_keeps : (p : Rule → Bool) (a : Rule) → find p check_built.rules ≡ Some a → Keeps Good a
+pub rights_keep : AllKeep rights_built
+rights_keep p a e = found_there (Keeps Good) p rights_built.rules a (
+  several_keep (codes "PATH") false refl,
+  (
+    needed_keeps (codes "policy") refl,
+    (
+      needed_keeps (codes "profile") refl,
+      (nodes_keep, (flag_keeps (codes "layers") refl, (help_keeps, tt))),
+    ),
+  ),
+) e
+
+pub check_keeps : AllKeep check_built
 check_keeps p a e = found_there (Keeps Good) p check_built.rules a (
-  files_keep,
+  several_keep (codes "FILE") true refl,
   (
     nodes_keep,
     (
       abi_keeps,
-      (policy_keeps, (profile_keeps, (quiet_keeps, (verbose_keeps, (help_keeps, tt))))),
+      (
+        valued_keeps (codes "policy") refl,
+        (
+          valued_keeps (codes "profile") refl,
+          (flag_keeps (codes "quiet") refl, (flag_keeps (codes "verbose") refl, (help_keeps, tt))),
+        ),
+      ),
     ),
+  ),
+) e
+
+pub serve_keeps : AllKeep serve_built
+serve_keeps p a e = found_there (Keeps Good) p serve_built.rules a (
+  port_keeps,
+  (
+    workers_keep,
+    (
+      connections_keep,
+      (
+        idle_keeps,
+        (
+          flag_keeps (codes "log") refl,
+          (
+            nodes_keep,
+            (
+              abi_keeps,
+              (
+                valued_keeps (codes "policy") refl,
+                (
+                  valued_keeps (codes "profile") refl,
+                  (history_keeps, (valued_keeps (codes "save") refl, (help_keeps, tt))),
+                ),
+              ),
+            ),
+          ),
+        ),
+      ),
+    ),
+  ),
+) e
+
+pub export_keeps : AllKeep export_built
+export_keeps p a e = found_there (Keeps Good) p export_built.rules a (
+  needed_keeps (codes "policy") refl,
+  (
+    needed_keeps (codes "profile") refl,
+    (
+      needed_keeps (codes "as") refl,
+      (
+        valued_keeps (codes "root") refl,
+        (also_keeps, (flag_keeps (codes "exact") refl, (help_keeps, tt))),
+      ),
+    ),
+  ),
+) e
+
+pub why_keeps : AllKeep why_built
+why_keeps p a e = found_there (Keeps Good) p why_built.rules a (
+  several_keep (codes "WORD") true refl,
+  (
+    valued_keeps (codes "policy") refl,
+    (valued_keeps (codes "profile") refl, (nodes_keep, (help_keeps, tt))),
   ),
 ) e

@@ -3,4 +3,5 @@ pub mod ArgumentsUsed
 pub mod Matched
 pub mod Numbers
 pub mod BuiltRows
+pub mod Defaults
 pub mod Ordered

@@ -1,21 +1,29 @@
--- The number that a word gives, and what the matches of `run` ask for.
+-- The number that a word gives, the texts that the matches tell, and the orders whose parts are there.
 use Rattle.std.proofs.Common.{◌≡◌, ◌∙◌, ◌<◌, ◌≤◌, ◌^◌, ◌&&◌, ℕ, Bool, true, false, Option, Some, None, refl, sym, ap}
-use Rattle.std.proofs.Common.{List, cond, codes, option_map, is_some, nat_le}
+use Rattle.std.proofs.Common.{List, cond, option_map, is_some, nat_le}
 use Rattle.std.specs.Option.{SomeIff}
-use Rattle.std.specs.Prelude.{option_and_then, unwrap_or, []}
+use Rattle.std.specs.Prelude.{option_and_then}
 use Rattle.std.specs.Str.Parse.{IsNumeral, digits_value, without_leading_plus}
 use Rattle.std.proofs.lemmas.Bool.{le-leb, leb-true}
-use Rattle.clap.specs.Words.{Text, all_of, first_of, first_value, one_of, one_text, rows_of}
+use Rattle.clap.specs.Words.{Text, all_of, first_of, first_value, rows_of}
 use Rattle.clap.specs.ValueTests.{accepts}
 use Rattle.clap.specs.declared.builder.value_parser.ValueParser.{ValueParser}
 use Rattle.clap.specs.declared.builder.value_parser.ValueParser.TheVariants.{Unsigned}
 use Rattle.clap.specs.declared.parser.matches.Found.{Found}
 use Rattle.clap.proofs.ValueTestLemmas.{Accepts-accepts, accepts-Accepts}
 use Rattle.clap.specs.Matches.{matched_of, raw_values}
-use Rattle.clap.proofs.WalkLemmas.{both, first_value-rows, one_text-rows, raw_values-rows}
-use Rattle.ll_options.specs.Options.{CheckOrder, RightsOrder, RunOrder, ScheduleOrder, check_order, is_set}
-use Rattle.ll_options.specs.Options.{history_numbers, levels, node_numbers, number_in}
-use Rattle.ll_options.specs.Options.{rights_order, run_order, schedule_order}
+use Rattle.clap.proofs.WalkLemmas.{both, first_value-rows, raw_values-rows}
+use Rattle.ll_options.specs.Options.{CheckOrder, ExportOrder, RightsOrder, RunOrder, ScheduleOrder, ServeOrder}
+use Rattle.ll_options.specs.Options.{WhyOrder}
+use Rattle.ll_options.specs.Options.{number_in}
+use Rattle.ll_options.specs.declared.export.Form.{Form}
+
+-- the first text of an argument, and all of them, by its row
+pub text_told : (f : Found) (name : Text) → first_value f name ≡ first_of name (rows_of f)
+text_told f name = first_value-rows f name
+
+pub texts_told : (f : Found) (name : Text) → option_map raw_values (matched_of f name) ≡ all_of name (rows_of f)
+texts_told f name = raw_values-rows f name
 
 abbrev number : Text → ℕ
 number t = digits_value 10 (without_leading_plus t)
@@ -82,9 +90,9 @@ level_allowed (Some level) n h = ap Some h.1 ∙ within 1 3 n h.0.0 h.0.1
 level_allowed None n h = beyond 1 3 n h
 
 -- the run that is wanted, where each part is there
-abbrev pub together : Option Text → Option ℕ → Option ℕ → Option ℕ → Option Text → Option Text → Option Text
+abbrev pub together : Option Text → (n most level : Option ℕ) → (policy profile save : Option Text) → Bool
     → Option RunOrder
-together path n most level policy profile save =
+together path n most level policy profile save strict =
     option_and_then (λ p. option_and_then
     (λ k. option_map (λ m. record {
       script = p;
@@ -94,6 +102,7 @@ together path n most level policy profile save =
       policy = policy;
       profile = profile;
       save = save;
+      strict = strict;
     }) most) n) path
 
 -- the same of a schedule
@@ -123,98 +132,47 @@ together_checked paths n level policy profile quiet verbose =
       verbose = verbose;
     }) n) paths
 
-module _ (f : Found) where
-  abbrev pub level_by : Option ℕ
-  level_by = option_and_then (number_in levels) (one_of (codes "abi") (rows_of f))
+-- the same of a serving
+abbrev pub together_served : (at threads all n most idle level : Option ℕ) → Bool
+    → (policy profile save : Option Text) → Option ServeOrder
+together_served at threads all n most idle level log policy profile save =
+    option_and_then (λ p. option_and_then (λ w. option_and_then (λ c. option_and_then (λ k.
+    option_map (λ m. record {
+      port = p;
+      workers = w;
+      connections = c;
+      idle = idle;
+      log = log;
+      nodes = k;
+      level = level;
+      history = m;
+      policy = policy;
+      profile = profile;
+      save = save;
+    }) most) n) all) threads) at
 
-  abbrev text_by : Text → Option Text
-  text_by name = first_of name (rows_of f)
+-- the same of an export
+abbrev pub together_exported : Option Text → Option Text → Option Form → Option Text → List Text → Bool
+    → Option ExportOrder
+together_exported file name form root told exact =
+    option_and_then (λ p. option_map (λ q. record {
+      policy = p;
+      profile = q;
+      form = form;
+      root = root;
+      also = told;
+      exact = exact;
+    }) name) file
 
-  -- with the parts that may be missing as the matches tell them
-  abbrev pub order_by : Option Text → Option ℕ → Option ℕ → Option RunOrder
-  order_by path n most = together path n most level_by (text_by (codes "policy")) (text_by (codes "profile"))
-      (text_by (codes "save"))
+-- the same of a why
+abbrev pub together_why : Option (List Text) → Option ℕ → Option Text → Option Text → Option WhyOrder
+together_why told n policy profile =
+    option_and_then (λ p. option_map (λ k. record { words = p; policy = policy; profile = profile; nodes = k }) n) told
 
-  pub as_matched : (path : Option Text) (n most : Option ℕ) → path ≡ first_value f (codes "SCRIPT")
-      → n ≡ option_and_then (number_in node_numbers) (one_text f (codes "nodes"))
-      → most ≡ option_and_then (number_in history_numbers) (one_text f (codes "history"))
-      → order_by path n most ≡ run_order (rows_of f)
-  as_matched path n most e g h =
-      let script = first_of (codes "SCRIPT") (rows_of f) in
-      let count = option_and_then (number_in node_numbers) (one_of (codes "nodes") (rows_of f)) in
-      ap (λ (p : Option Text). order_by p n most) (e ∙ first_value-rows f (codes "SCRIPT"))
-      ∙ ap (λ (k : Option ℕ). order_by script k most) (g
-      ∙ ap (option_and_then (number_in node_numbers)) (one_text-rows f (codes "nodes")))
-      ∙ ap (λ (m : Option ℕ). order_by script count m) (h
-      ∙ ap (option_and_then (number_in history_numbers)) (one_text-rows f (codes "history")))
-
-  pub as_scheduled : (path : Option Text) (n most level : Option ℕ) (picture : Option Text)
-      → path ≡ first_value f (codes "FILE") → n ≡ option_and_then (number_in node_numbers) (one_text f (codes "nodes"))
-      → most ≡ option_and_then (number_in history_numbers) (one_text f (codes "history")) → level ≡ level_by
-      → picture ≡ first_value f (codes "picture")
-      → together_scheduled path n most level picture ≡ schedule_order (rows_of f)
-  as_scheduled path n most level picture e g h i j =
-      let file = first_of (codes "FILE") (rows_of f) in
-      let count = option_and_then (number_in node_numbers) (one_of (codes "nodes") (rows_of f)) in
-      let drawn = text_by (codes "picture") in
-      ap (λ (l : Option ℕ). together_scheduled path n most l picture) i
-      ∙ ap (λ (q : Option Text). together_scheduled path n most level_by q) (j ∙ first_value-rows f (codes "picture"))
-      ∙ ap (λ (p : Option Text). together_scheduled p n most level_by drawn) (e ∙ first_value-rows f (codes "FILE"))
-      ∙ ap (λ (k : Option ℕ). together_scheduled file k most level_by drawn) (g
-      ∙ ap (option_and_then (number_in node_numbers)) (one_text-rows f (codes "nodes")))
-      ∙ ap (λ (m : Option ℕ). together_scheduled file count m level_by drawn) (h
-      ∙ ap (option_and_then (number_in history_numbers)) (one_text-rows f (codes "history")))
-
-  pub as_checked : (paths : Option (List Text)) (n level : Option ℕ) (policy profile : Option Text)
-      (quiet verbose : Bool) → paths ≡ option_map raw_values (matched_of f (codes "FILE"))
-      → n ≡ option_and_then (number_in node_numbers) (one_text f (codes "nodes")) → level ≡ level_by
-      → policy ≡ first_value f (codes "policy") → profile ≡ first_value f (codes "profile")
-      → quiet ≡ is_set (codes "quiet") (rows_of f) → verbose ≡ is_set (codes "verbose") (rows_of f)
-      → together_checked paths n level policy profile quiet verbose ≡ check_order (rows_of f)
-  as_checked paths n level policy profile quiet verbose e g h i j k l =
-      rw (
-        e ∙ raw_values-rows f (codes "FILE"),
-        g ∙ ap (option_and_then (number_in node_numbers)) (one_text-rows f (codes "nodes")),
-        h,
-        i ∙ first_value-rows f (codes "policy"),
-        j ∙ first_value-rows f (codes "profile"),
-        k,
-        l,
-      ) refl
-
-  pub with_parts : (path : Option Text) (n most level : Option ℕ) (policy profile save : Option Text) → level ≡ level_by
-      → policy ≡ first_value f (codes "policy")
-      → profile ≡ first_value f (codes "profile") → save ≡ first_value f (codes "save")
-      → together path n most level policy profile save ≡ order_by path n most
-  with_parts path n most level policy profile save e g h i =
-      let named = text_by (codes "policy") in
-      let layered = text_by (codes "profile") in
-      ap (λ (l : Option ℕ). together path n most l policy profile save) e
-      ∙ ap (λ (q : Option Text). together path n most level_by q profile save) (g ∙ first_value-rows f (codes "policy"))
-      ∙ ap (λ (q : Option Text). together path n most level_by named q save) (h ∙ first_value-rows f (codes "profile"))
-      ∙ ap (λ (q : Option Text). together path n most level_by named layered q) (i ∙ first_value-rows f (codes "save"))
-
-  pub as_rights : (file name : Option Text) (n : Option ℕ) (told : List Text) (layers : Bool)
-      → file ≡ first_value f (codes "policy") → name ≡ first_value f (codes "profile")
-      → n ≡ option_and_then (number_in node_numbers) (one_text f (codes "nodes"))
-      → told ≡ unwrap_or (all_of (codes "PATH") (rows_of f)) [] → layers ≡ is_set (codes "layers") (rows_of f)
-      → together_rights file name n told layers ≡ rights_order (rows_of f)
-  as_rights file name n told layers e g h i j =
-      let policy = text_by (codes "policy") in
-      let profile = text_by (codes "profile") in
-      let all = unwrap_or (all_of (codes "PATH") (rows_of f)) [] in
-      let shown = is_set (codes "layers") (rows_of f) in
-      ap (λ (l : Bool). together_rights file name n told l) j
-      ∙ ap (λ (ts : List Text). together_rights file name n ts shown) i
-      ∙ ap (λ (p : Option Text). together_rights p name n all shown) (e ∙ first_value-rows f (codes "policy"))
-      ∙ ap (λ (q : Option Text). together_rights policy q n all shown) (g ∙ first_value-rows f (codes "profile"))
-      ∙ ap (λ (k : Option ℕ). together_rights policy profile k all shown) (h
-      ∙ ap (option_and_then (number_in node_numbers)) (one_text-rows f (codes "nodes")))
-
-pub whole : (p : Option Text) (n m l : Option ℕ) (q r s : Option Text) (path : Text) (nodes most : ℕ) → p ≡ Some path
-    → n ≡ Some nodes → m ≡ Some most
-    → is_some (together p n m l q r s) ≡ true
-whole p n m l q r s path nodes most e f g = rw (e, f, g) refl
+pub whole : (p : Option Text) (n m l : Option ℕ) (q r s : Option Text) (t : Bool) (path : Text) (nodes most : ℕ)
+    → p ≡ Some path → n ≡ Some nodes → m ≡ Some most
+    → is_some (together p n m l q r s t) ≡ true
+whole p n m l q r s t path nodes most e f g = rw (e, f, g) refl
 
 pub whole_schedule : (p : Option Text) (n m l : Option ℕ) (q : Option Text) (path : Text) (nodes most : ℕ)
     → p ≡ Some path → n ≡ Some nodes → m ≡ Some most
@@ -230,3 +188,18 @@ pub whole_check : (p : Option (List Text)) (n l : Option ℕ) (q r : Option Text
     (nodes : ℕ) → p ≡ Some paths → n ≡ Some nodes
     → is_some (together_checked p n l q r s t) ≡ true
 whole_check p n l q r s t paths nodes e f = rw (e, f) refl
+
+pub whole_serve : (p w c n m i l : Option ℕ) (log : Bool) (q r s : Option Text) (at threads all nodes most : ℕ)
+    → p ≡ Some at → w ≡ Some threads → c ≡ Some all → n ≡ Some nodes → m ≡ Some most
+    → is_some (together_served p w c n m i l log q r s) ≡ true
+whole_serve p w c n m i l log q r s at threads all nodes most e f g h j = rw (e, f, g, h, j) refl
+
+pub whole_export : (p q : Option Text) (form : Option Form) (root : Option Text) (told : List Text) (exact : Bool)
+    (file name : Text) → p ≡ Some file → q ≡ Some name
+    → is_some (together_exported p q form root told exact) ≡ true
+whole_export p q form root told exact file name e f = rw (e, f) refl
+
+pub whole_why : (p : Option (List Text)) (n : Option ℕ) (q r : Option Text) (told : List Text) (nodes : ℕ)
+    → p ≡ Some told → n ≡ Some nodes
+    → is_some (together_why p n q r) ≡ true
+whole_why p n q r told nodes e f = rw (e, f) refl

@@ -5,7 +5,7 @@ use Rattle.std.specs.List.{fold}
 use Rattle.std.specs.Option.{option_map_or}
 use Rattle.std.specs.Str.Parse.{digits_value, without_leading_plus}
 use Rattle.clap.specs.declared.error.kind.ErrorKind.TheVariants.{DisplayHelp, DisplayVersion}
-use Rattle.clap.specs.declared.builder.action.ArgAction.TheVariants.{SetTrue}
+use Rattle.clap.specs.declared.builder.action.ArgAction.TheVariants.{Append, SetTrue}
 use Rattle.clap.specs.Words.{App, IsAmong, Kinds, Row, Rule, Text, all_of, first_of, new_app, new_rule, one_of}
 use Rattle.clap.specs.Words.{subcommand_of}
 use Rattle.clap.specs.Words.{with_rule, with_subcommand}
@@ -18,8 +18,16 @@ use Rattle.ll_options.specs.declared.options.RunOptions.{RunOptions}
 use Rattle.ll_options.specs.declared.options.ScheduleOptions.{ScheduleOptions}
 use Rattle.ll_options.specs.declared.rights.RightsOptions.{RightsOptions}
 use Rattle.ll_options.specs.declared.options.CheckOptions.{CheckOptions}
+use Rattle.ll_options.specs.declared.serve.ServeOptions.{ServeOptions}
+use Rattle.ll_options.specs.declared.export.Form.{Form}
+use Rattle.ll_options.specs.declared.export.Form.TheVariants.{C, Json}
+use Rattle.ll_options.specs.declared.export.ExportOptions.{ExportOptions}
+use Rattle.ll_options.specs.declared.why.Question.{Question}
+use Rattle.ll_options.specs.declared.why.Question.TheVariants.{Command, Entry}
+use Rattle.ll_options.specs.declared.why.WhyOptions.{WhyOptions}
 use Rattle.ll_options.specs.declared.options.Options.{Options}
-use Rattle.ll_options.specs.declared.options.Options.TheVariants.{Run, Schedule, Rights, Audit, Check}
+use Rattle.ll_options.specs.declared.options.Options.TheVariants.{Run, Schedule, Rights, Audit, Check, Serve, Export}
+use Rattle.ll_options.specs.declared.options.Options.TheVariants.{Why}
 
 abbrev pub script : Rule
 script = record (new_rule (codes "SCRIPT")) { required = true }
@@ -52,9 +60,14 @@ history = record (valued (codes "history")) { parser = Some history_numbers; def
 abbrev pub abi : Rule
 abi = record (valued (codes "abi")) { parser = Some levels }
 
+-- an option of this name, without a value
+abbrev pub flag : Text → Rule
+flag name = record (new_rule name) { long = Some name; action = Some SetTrue }
+
 abbrev pub run : App
 run = fold with_rule (new_app (codes "run"))
-    (script ∷ nodes ∷ abi ∷ valued (codes "policy") ∷ valued (codes "profile") ∷ history ∷ valued (codes "save") ∷ [])
+    (script ∷ nodes ∷ abi ∷ valued (codes "policy") ∷ valued (codes "profile") ∷ history ∷ valued (codes "save")
+    ∷ flag (codes "strict") ∷ [])
 
 abbrev pub file : Rule
 file = record (new_rule (codes "FILE")) { required = true }
@@ -75,10 +88,6 @@ paths = record (new_rule (codes "PATH")) {
 abbrev pub needed : Text → Rule
 needed name = record (valued name) { required = true }
 
--- an option of this name, without a value
-abbrev pub flag : Text → Rule
-flag name = record (new_rule name) { long = Some name; action = Some SetTrue }
-
 abbrev pub rights : App
 rights = fold with_rule (new_app (codes "rights"))
     (paths ∷ needed (codes "policy") ∷ needed (codes "profile") ∷ nodes ∷ flag (codes "layers") ∷ [])
@@ -92,11 +101,68 @@ check = fold with_rule (new_app (codes "check"))
     (files ∷ nodes ∷ abi ∷ valued (codes "policy") ∷ valued (codes "profile") ∷ flag (codes "quiet")
     ∷ flag (codes "verbose") ∷ [])
 
+-- from 1 to 65,535
+abbrev pub ports : ValueParser
+ports = Unsigned 1 65535
+
+-- the port that is listened at, which must be there
+abbrev pub port : Rule
+port = record (needed (codes "port")) { parser = Some ports }
+
+-- from 1 to 32
+abbrev pub worker_numbers : ValueParser
+worker_numbers = Unsigned 1 32
+
+-- how many connections are served at a time: 4 where the words don't say
+abbrev pub workers : Rule
+workers = record (valued (codes "workers")) { parser = Some worker_numbers; defaults = codes "4" ∷ [] }
+
+-- from 1 to 62
+abbrev pub connection_numbers : ValueParser
+connection_numbers = Unsigned 1 62
+
+-- how many connections are served in all: 1 where the words don't say
+abbrev pub connections : Rule
+connections = record (valued (codes "connections")) { parser = Some connection_numbers; defaults = codes "1" ∷ [] }
+
+-- from 1 to 3,600
+abbrev pub idle_seconds : ValueParser
+idle_seconds = Unsigned 1 3600
+
+-- after how many seconds without a byte a connection is given up
+abbrev pub idle : Rule
+idle = record (valued (codes "idle")) { parser = Some idle_seconds }
+
+abbrev pub serve : App
+serve = fold with_rule (new_app (codes "serve"))
+    (port ∷ workers ∷ connections ∷ idle ∷ flag (codes "log") ∷ nodes ∷ abi ∷ valued (codes "policy")
+    ∷ valued (codes "profile") ∷ history ∷ valued (codes "save") ∷ [])
+
+-- a further directory, with each use one more
+abbrev pub also : Rule
+also = record (valued (codes "also")) { action = Some Append }
+
+abbrev pub export : App
+export = fold with_rule (new_app (codes "export"))
+    (needed (codes "policy") ∷ needed (codes "profile") ∷ needed (codes "as") ∷ valued (codes "root") ∷ also
+    ∷ flag (codes "exact") ∷ [])
+
+-- a history and a number, or a command
+abbrev pub words : Rule
+words = record (new_rule (codes "WORD")) {
+  required = true;
+  range = Some (record { start_inclusive = 1; end_inclusive = usize_max });
+}
+
+abbrev pub why : App
+why = fold with_rule (new_app (codes "why")) (words ∷ valued (codes "policy") ∷ valued (codes "profile") ∷ nodes ∷ [])
+
 abbrev pub landtree : App
 landtree =
     let top = on_top (λ s. record s { has_version = true; subcommand_required = true }) (new_app (codes "landtree")) in
     let scheduled = with_subcommand (with_subcommand (with_subcommand top run.top) audit.top) schedule.top in
-    with_subcommand (with_subcommand scheduled rights.top) check.top
+    let checked = with_subcommand (with_subcommand scheduled rights.top) check.top in
+    with_subcommand (with_subcommand (with_subcommand checked serve.top) export.top) why.top
 
 pub record RunOrder : Type 0 where
   pub script : Text
@@ -106,6 +172,7 @@ pub record RunOrder : Type 0 where
   pub policy : Option Text
   pub profile : Option Text
   pub save : Option Text
+  pub strict : Bool
 
 pub record ScheduleOrder : Type 0 where
   pub file : Text
@@ -130,12 +197,42 @@ pub record CheckOrder : Type 0 where
   pub quiet : Bool
   pub verbose : Bool
 
+pub record ServeOrder : Type 0 where
+  pub port : ℕ
+  pub workers : ℕ
+  pub connections : ℕ
+  pub idle : Option ℕ
+  pub log : Bool
+  pub nodes : ℕ
+  pub level : Option ℕ
+  pub history : ℕ
+  pub policy : Option Text
+  pub profile : Option Text
+  pub save : Option Text
+
+pub record ExportOrder : Type 0 where
+  pub policy : Text
+  pub profile : Text
+  pub form : Option Form
+  pub root : Option Text
+  pub also : List Text
+  pub exact : Bool
+
+pub record WhyOrder : Type 0 where
+  pub words : List Text
+  pub policy : Option Text
+  pub profile : Option Text
+  pub nodes : ℕ
+
 pub data Order : Type 0 where
   to_run : RunOrder → Order
   to_audit : Text → Order
   to_schedule : ScheduleOrder → Order
   to_rights : RightsOrder → Order
   to_check : CheckOrder → Order
+  to_serve : ServeOrder → Order
+  to_export : ExportOrder → Order
+  to_why : WhyOrder → Order
 
 abbrev pub order_in : RunOptions → RunOrder
 order_in o =
@@ -148,6 +245,7 @@ order_in o =
       policy = text o.policy;
       profile = text o.profile;
       save = text o.save;
+      strict = o.strict;
     }
 
 abbrev pub scheduled_in : ScheduleOptions → ScheduleOrder
@@ -183,12 +281,48 @@ checked_in o =
       verbose = o.verbose;
     }
 
+abbrev pub served_in : ServeOptions → ServeOrder
+served_in o =
+    let text = option_map (λ t. t.now) in
+    record {
+      port = o.port;
+      workers = o.workers;
+      connections = o.connections;
+      idle = o.idle;
+      log = o.log;
+      nodes = o.nodes;
+      level = o.level;
+      history = o.history;
+      policy = text o.policy;
+      profile = text o.profile;
+      save = text o.save;
+    }
+
+abbrev pub exported_in : ExportOptions → ExportOrder
+exported_in o =
+    record {
+      policy = o.policy.now;
+      profile = o.profile.now;
+      form = o.form;
+      root = option_map (λ t. t.now) o.root;
+      also = map (λ t. t.now) o.also.items;
+      exact = o.exact;
+    }
+
+abbrev pub why_in : WhyOptions → WhyOrder
+why_in o =
+    let text = option_map (λ t. t.now) in
+    record { words = map (λ t. t.now) o.words.items; policy = text o.policy; profile = text o.profile; nodes = o.nodes }
+
 abbrev pub ordered_in : Options → Order
 ordered_in (Run o) = to_run (order_in o)
 ordered_in (Schedule o) = to_schedule (scheduled_in o)
 ordered_in (Rights o) = to_rights (rights_in o)
 ordered_in (Audit file) = to_audit file.now
 ordered_in (Check o) = to_check (checked_in o)
+ordered_in (Serve o) = to_serve (served_in o)
+ordered_in (Export o) = to_export (exported_in o)
+ordered_in (Why o) = to_why (why_in o)
 
 -- the number that the text writes, if the parser accepts it
 abbrev pub number_in : ValueParser → Text → Option ℕ
@@ -196,6 +330,10 @@ number_in parser text = if accepts false parser text then Some (digits_value 10 
 
 abbrev pub number_of : Text → ValueParser → List Row → Option ℕ
 number_of name parser rows = option_and_then (number_in parser) (one_of name rows)
+
+-- whether the option without a value is there
+abbrev pub is_set : Text → List Row → Bool
+is_set name rows = option_map_or (λ text. bytes_eq text (codes "true")) (first_of name rows) false
 
 -- what the matches of a subcommand want
 abbrev pub run_order : List Row → Option RunOrder
@@ -208,6 +346,7 @@ run_order rows =
       policy = first_of (codes "policy") rows;
       profile = first_of (codes "profile") rows;
       save = first_of (codes "save") rows;
+      strict = is_set (codes "strict") rows;
     })
     (number_of (codes "history") history_numbers rows))
     (number_of (codes "nodes") node_numbers rows))
@@ -225,10 +364,6 @@ schedule_order rows =
     (number_of (codes "history") history_numbers rows))
     (number_of (codes "nodes") node_numbers rows))
     (first_of (codes "FILE") rows)
-
--- whether the option without a value is there
-abbrev pub is_set : Text → List Row → Bool
-is_set name rows = option_map_or (λ text. bytes_eq text (codes "true")) (first_of name rows) false
 
 abbrev pub rights_order : List Row → Option RightsOrder
 rights_order rows =
@@ -257,12 +392,66 @@ check_order rows =
     (number_of (codes "nodes") node_numbers rows))
     (all_of (codes "FILE") rows)
 
+abbrev pub serve_order : List Row → Option ServeOrder
+serve_order rows =
+    option_and_then (λ at. option_and_then (λ threads. option_and_then (λ all. option_and_then (λ n.
+    option_map (λ most. record {
+      port = at;
+      workers = threads;
+      connections = all;
+      idle = number_of (codes "idle") idle_seconds rows;
+      log = is_set (codes "log") rows;
+      nodes = n;
+      level = number_of (codes "abi") levels rows;
+      history = most;
+      policy = first_of (codes "policy") rows;
+      profile = first_of (codes "profile") rows;
+      save = first_of (codes "save") rows;
+    })
+    (number_of (codes "history") history_numbers rows))
+    (number_of (codes "nodes") node_numbers rows))
+    (number_of (codes "connections") connection_numbers rows))
+    (number_of (codes "workers") worker_numbers rows))
+    (number_of (codes "port") ports rows)
+
+-- the form that the word names
+abbrev pub form_of : Text → Option Form
+form_of word =
+    if bytes_eq word (codes "c") then Some C else if bytes_eq word (codes "json") then Some Json else None
+
+abbrev pub export_order : List Row → Option ExportOrder
+export_order rows =
+    option_and_then (λ file. option_map (λ name. record {
+      policy = file;
+      profile = name;
+      form = option_and_then form_of (first_of (codes "as") rows);
+      root = first_of (codes "root") rows;
+      also = unwrap_or (all_of (codes "also") rows) [];
+      exact = is_set (codes "exact") rows;
+    })
+    (first_of (codes "profile") rows))
+    (first_of (codes "policy") rows)
+
+abbrev pub why_order : List Row → Option WhyOrder
+why_order rows =
+    option_and_then (λ told. option_map (λ n. record {
+      words = told;
+      policy = first_of (codes "policy") rows;
+      profile = first_of (codes "profile") rows;
+      nodes = n;
+    })
+    (number_of (codes "nodes") node_numbers rows))
+    (all_of (codes "WORD") rows)
+
 abbrev pub ordered : Text → List Row → Option Order
 ordered name rows =
     if bytes_eq name (codes "run") then option_map to_run (run_order rows)
     else if bytes_eq name (codes "schedule") then option_map to_schedule (schedule_order rows)
     else if bytes_eq name (codes "rights") then option_map to_rights (rights_order rows)
     else if bytes_eq name (codes "check") then option_map to_check (check_order rows)
+    else if bytes_eq name (codes "serve") then option_map to_serve (serve_order rows)
+    else if bytes_eq name (codes "export") then option_map to_export (export_order rows)
+    else if bytes_eq name (codes "why") then option_map to_why (why_order rows)
     else option_map to_audit (first_of (codes "FILE") rows)
 
 -- of the subcommand that is named, and of its matches
@@ -273,13 +462,56 @@ abbrev pub ordered_by : List Text → Option Order
 ordered_by words = ordered_of (subcommand_of landtree words)
 
 -- A level is told where there is no policy, and a profile where there is one
-abbrev pub fits : RunOrder → Bool
-fits o = if is_some o.policy then not (is_some o.level) else not (is_some o.profile)
+abbrev pub go_together : Option ℕ → Option Text → Option Text → Bool
+go_together level policy profile = if is_some policy then not (is_some level) else not (is_some profile)
 
--- the same of a check; and it isn't both quiet and verbose
+-- the file that an input's word names: none where it is `-`, standard input
+abbrev pub file_of : Text → Option Text
+file_of word = if bytes_eq word (codes "-") then None else Some word
+
+-- the file to be written, if there is one, is the file that this input is read from
+abbrev pub names_input : Option Text → Option Text → Bool
+names_input (Some output) (Some input) = bytes_eq output input
+names_input (Some output) None = false
+names_input None input = false
+
+abbrev pub fits : RunOrder → Bool
+fits o = go_together o.level o.policy o.profile
+    && (not (names_input o.save (file_of o.script)) && not (names_input o.save o.policy))
+
+abbrev pub fits_schedule : ScheduleOrder → Bool
+fits_schedule o = not (names_input o.picture (file_of o.file))
+
+-- a check isn't both quiet and verbose
 abbrev pub fits_check : CheckOrder → Bool
-fits_check o =
-    (if is_some o.policy then not (is_some o.level) else not (is_some o.profile)) && not (o.quiet && o.verbose)
+fits_check o = go_together o.level o.policy o.profile && not (o.quiet && o.verbose)
+
+abbrev pub fits_serve : ServeOrder → Bool
+fits_serve o = go_together o.level o.policy o.profile && not (names_input o.save o.policy)
+
+-- the word after `--as` names a form
+abbrev pub fits_export : ExportOrder → Bool
+fits_export o = is_some o.form
+
+-- what `why` is asked: why a command, by a policy and its profile, or an entry of a history, by its number
+pub data Asked : Type 0 where
+  of_command : (policy profile command : Text) → Asked
+  of_entry : (history : Text) → ℕ → Asked
+
+abbrev pub question_of : Question → Asked
+question_of (Command policy profile command) = of_command policy.now profile.now command.now
+question_of (Entry history number) = of_entry history.now number
+
+abbrev pub asked_in : List Text → Option Text → Option Text → Option Asked
+asked_in (command ∷ []) (Some policy) (Some profile) = Some (of_command policy profile command)
+asked_in (history ∷ (number ∷ [])) None None = option_map (of_entry history) (number_in history_numbers number)
+asked_in told policy profile = None
+
+abbrev pub asked_by : WhyOrder → Option Asked
+asked_by o = asked_in o.words o.policy o.profile
+
+abbrev pub fits_why : WhyOrder → Bool
+fits_why o = is_some (asked_by o)
 
 -- Words with these faults end well: there is none, or help or the version is asked for
 abbrev pub EndsWell : Kinds → Type 0

@@ -3,9 +3,11 @@
 ghost use Rattle.std.specs.Prelude.{◌≡◌, codes, IfOk, false};
 ghost use Rattle.clap.specs.Words.{app_of, rule_of};
 ghost use Rattle.clap.specs.declared.builder.command.Command.TheViews.{out-Command as fields_of};
-ghost use Rattle.ll_options.specs.Options.{abi, audit, check, file, files, flag, history, landtree, nodes, paths};
-ghost use Rattle.ll_options.specs.Options.{rights, run, schedule, script, valued};
+ghost use Rattle.ll_options.specs.Options.{abi, also, audit, check, connections, export, file, files, flag, history};
+ghost use Rattle.ll_options.specs.Options.{idle, landtree, needed, nodes, paths, port, rights, run, schedule, script};
+ghost use Rattle.ll_options.specs.Options.{serve, valued, why, words, workers};
 
+use crate::serve::{CONNECTIONS, IDLE_SECONDS, PORTS, WORKERS};
 use clap::{Arg, ArgAction, Command, value_parser};
 use ll_rights::limits::{HISTORY_ENTRIES, TREE_NODES};
 use std::alloc::{AllocError, Global};
@@ -111,7 +113,12 @@ fn run_command<'a>(alloc: Global) -> Result<Command<'a>, AllocError>
         .arg(profile_option(alloc))?;
     let run = by_policy
         .arg(history_option(alloc))?
-        .arg(save_option(alloc))?;
+        .arg(save_option(alloc))?
+        .arg(flag(
+            alloc,
+            "strict",
+            "End with status 3 at a line that says nothing, or whose layer or client is refused",
+        ))?;
     Ok(run)
 }
 
@@ -233,6 +240,154 @@ fn check_command<'a>(alloc: Global) -> Result<Command<'a>, AllocError>
     Ok(check)
 }
 
+fn port_option<'a>(alloc: Global) -> Arg<'a>
+    ensures rule { rule_of result ≡ port }
+    ensures local { result.global ≡ false }
+{
+    Arg::new(alloc, "port")
+        .long("port")
+        .value_name("P")
+        .value_parser(value_parser!(u64).range(1..=PORTS as i64))
+        .required(true)
+        .help("The port that is listened at, on this machine alone")
+}
+
+fn workers_option<'a>(alloc: Global) -> Arg<'a>
+    ensures rule { rule_of result ≡ workers }
+    ensures local { result.global ≡ false }
+{
+    Arg::new(alloc, "workers")
+        .long("workers")
+        .value_name("W")
+        .value_parser(value_parser!(usize).range(1..=WORKERS as i64))
+        .default_value("4")
+        .help("How many connections are served at a time")
+}
+
+fn connections_option<'a>(alloc: Global) -> Arg<'a>
+    ensures rule { rule_of result ≡ connections }
+    ensures local { result.global ≡ false }
+{
+    Arg::new(alloc, "connections")
+        .long("connections")
+        .value_name("K")
+        .value_parser(value_parser!(usize).range(1..=CONNECTIONS as i64))
+        .default_value("1")
+        .help("How many connections are served in all, before the program ends")
+}
+
+fn idle_option<'a>(alloc: Global) -> Arg<'a>
+    ensures rule { rule_of result ≡ idle }
+    ensures local { result.global ≡ false }
+{
+    Arg::new(alloc, "idle")
+        .long("idle")
+        .value_name("S")
+        .value_parser(value_parser!(u64).range(1..=IDLE_SECONDS as i64))
+        .help("After how many seconds without a byte a connection is given up")
+}
+
+fn serve_command<'a>(alloc: Global) -> Result<Command<'a>, AllocError>
+    ensures app { IfOk result (λ command. app_of command ≡ serve) }
+    ensures local { IfOk result (λ command. (fields_of command).has_globals ≡ false) }
+{
+    let by_port = Command::new(alloc, "serve")
+        .about("Serves clients over TCP: a command a line in, a reply a line out, on one tree")
+        .arg(port_option(alloc))?
+        .arg(workers_option(alloc))?
+        .arg(connections_option(alloc))?
+        .arg(idle_option(alloc))?
+        .arg(flag(alloc, "log", "Each connection and its end, a line"))?;
+    let by_level = by_port.arg(nodes_option(alloc))?.arg(abi_option(
+        alloc,
+        "The level of Landlock's ABI, whose rights a ruleset may handle (3; not beside a policy)",
+    ))?;
+    let by_policy = by_level
+        .arg(policy_option(alloc))?
+        .arg(profile_option(alloc))?;
+    let serve = by_policy
+        .arg(history_option(alloc))?
+        .arg(save_option(alloc))?;
+    Ok(serve)
+}
+
+fn form_option<'a>(alloc: Global) -> Arg<'a>
+    ensures rule { rule_of result ≡ needed (codes "as") }
+    ensures local { result.global ≡ false }
+{
+    Arg::new(alloc, "as")
+        .long("as")
+        .value_name("FORM")
+        .required(true)
+        .help("What is written: c, a C program that confines itself so, or json")
+}
+
+fn root_option<'a>(alloc: Global) -> Arg<'a>
+    ensures rule { rule_of result ≡ valued (codes "root") }
+    ensures local { result.global ≡ false }
+{
+    Arg::new(alloc, "root")
+        .long("root")
+        .value_name("DIR")
+        .help("The directory that stands for the policy's root")
+}
+
+fn also_option<'a>(alloc: Global) -> Arg<'a>
+    ensures rule { rule_of result ≡ also }
+    ensures local { result.global ≡ false }
+{
+    Arg::new(alloc, "also")
+        .long("also")
+        .value_name("DIR")
+        .action(ArgAction::Append)
+        .help(
+            "A directory in which each layer lets files be read and executed too; may be told again",
+        )
+}
+
+fn export_command<'a>(alloc: Global) -> Result<Command<'a>, AllocError>
+    ensures app { IfOk result (λ command. app_of command ≡ export) }
+    ensures local { IfOk result (λ command. (fields_of command).has_globals ≡ false) }
+{
+    let by_policy = Command::new(alloc, "export")
+        .about("Writes a policy's profile as a C program or as JSON")
+        .arg(policy_option(alloc).required(true))?
+        .arg(profile_option(alloc).required(true))?
+        .arg(form_option(alloc))?;
+    let export = by_policy
+        .arg(root_option(alloc))?
+        .arg(also_option(alloc))?
+        .arg(flag(
+            alloc,
+            "exact",
+            "Refuse where the kernel knows too few rights, in place of cutting them",
+        ))?;
+    Ok(export)
+}
+
+fn words_argument<'a>(alloc: Global) -> Arg<'a>
+    ensures rule { rule_of result ≡ words }
+    ensures local { result.global ≡ false }
+{
+    Arg::new(alloc, "WORD").required(true).num_args(1..).help(
+        "A history's file, or `-` for standard input, and an entry's number; or a command",
+    )
+}
+
+fn why_command<'a>(alloc: Global) -> Result<Command<'a>, AllocError>
+    ensures app { IfOk result (λ command. app_of command ≡ why) }
+    ensures local { IfOk result (λ command. (fields_of command).has_globals ≡ false) }
+{
+    let of_words = Command::new(alloc, "why")
+        .about("Tells why a call was denied, or wasn't, and what would let it pass")
+        .arg(words_argument(alloc))?;
+    let why = of_words
+        .arg(policy_option(alloc))?
+        .arg(profile_option(alloc))?
+        .arg(nodes_option(alloc))?;
+    Ok(why)
+}
+
 /// The program's words.
 pub fn landtree_command<'a>(alloc: Global) -> Result<Command<'a>, AllocError>
     ensures { IfOk result (λ command. app_of command ≡ landtree) }
@@ -242,6 +397,9 @@ pub fn landtree_command<'a>(alloc: Global) -> Result<Command<'a>, AllocError>
     let schedule = schedule_command(alloc)?;
     let rights = rights_command(alloc)?;
     let check = check_command(alloc)?;
+    let serve = serve_command(alloc)?;
+    let export = export_command(alloc)?;
+    let why = why_command(alloc)?;
     let with_run = Command::new(alloc, "landtree")
         .about("A file tree in memory whose clients confine themselves with Landlock rulesets")
         .version("0.1.0")
@@ -250,5 +408,8 @@ pub fn landtree_command<'a>(alloc: Global) -> Result<Command<'a>, AllocError>
     let with_audit = with_run.subcommand(audit)?;
     let with_schedule = with_audit.subcommand(schedule)?;
     let with_rights = with_schedule.subcommand(rights)?;
-    with_rights.subcommand(check)
+    let with_check = with_rights.subcommand(check)?;
+    let with_serve = with_check.subcommand(serve)?;
+    let with_export = with_serve.subcommand(export)?;
+    with_export.subcommand(why)
 }

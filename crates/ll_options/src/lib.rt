@@ -2,8 +2,16 @@
 #![tactic(auto)]
 
 mod command;
+mod export;
+mod inputs;
 mod options;
 mod rights;
+mod serve;
+mod values;
+mod why;
 
+pub use export::{ExportOptions, Form};
 pub use options::{CheckOptions, Options, RunOptions, ScheduleOptions};
 pub use rights::RightsOptions;
+pub use serve::ServeOptions;
+pub use why::{Question, WhyOptions};

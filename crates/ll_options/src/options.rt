@@ -4,7 +4,12 @@ ghost use Rattle.std.specs.Prelude.{◌≡◌, ◌≤◌, codes, map, option_map
 ghost use Rattle.ll_rights.specs.declared.limits.TheConstants.{HISTORY_ENTRIES, TREE_NODES};
 
 use crate::command::landtree_command;
+use crate::export::ExportOptions;
+use crate::inputs::{file_of, names_input};
 use crate::rights::RightsOptions;
+use crate::serve::ServeOptions;
+use crate::values::number_of;
+use crate::why::WhyOptions;
 use clap::{ArgMatches, Error};
 use ll_rights::Abi;
 use ll_rights::limits::{HISTORY_ENTRIES, TREE_NODES};
@@ -12,7 +17,8 @@ use std::alloc::{AllocError, Global};
 
 /// The run that is wanted: of the script in this file, or in standard input where it is `-`, over a tree in which so
 /// many nodes may live, at this level or by the policy in this file, whose profile the first client has. Its history
-/// has at most so many entries, and is saved in a file, if one is named.
+/// has at most so many entries, and is saved in a file, if one is named. A strict run ends at the first line that says
+/// nothing, or that is refused where layers are asked for.
 #[derive(Drop)]
 pub struct RunOptions<'a> {
     pub script: &'a str,
@@ -22,6 +28,7 @@ pub struct RunOptions<'a> {
     pub policy: Option<&'a str>,
     pub profile: Option<&'a str>,
     pub save: Option<&'a str>,
+    pub strict: bool,
     ghost some: { 1 ≤ nodes },
     ghost most: { nodes ≤ TREE_NODES },
     ghost some_entries: { 1 ≤ history },
@@ -33,7 +40,7 @@ impl<'a> RunOptions<'a> {
     ghost use Rattle.ll_options.specs.Options.{fits, levels, number_of, order_in, run_order};
 
     // The level that the matches tell.
-    fn level_of(run: &ArgMatches) -> Option<Abi>
+    pub(crate) fn level_of(run: &ArgMatches) -> Option<Abi>
         ensures { result ≡ number_of (codes "abi") levels (rows_of (found_of run.now)) }
     {
         match run.get_one::<u64>("abi") {
@@ -43,41 +50,42 @@ impl<'a> RunOptions<'a> {
     }
 
     // What the matches of `run` ask for.
+    #[tactic(auto, using(crate::proofs::Numbers::text_told))]
     fn of_matches(run: &ArgMatches<'a>) -> Option<RunOptions<'a>>
         ensures { option_map order_in result ≡ run_order (rows_of (found_of run.now)) }
     {
         let script = run.get_str("SCRIPT")?;
-        let nodes = run.get_one::<usize>("nodes")?;
-        if nodes < 1 || TREE_NODES < nodes {
-            return None;
-        }
-        let history = run.get_one::<usize>("history")?;
-        if history < 1 || HISTORY_ENTRIES < history {
-            return None;
-        }
+        let nodes = number_of(run, "nodes", 1, TREE_NODES as u64)?;
+        let history = number_of(run, "history", 1, HISTORY_ENTRIES as u64)?;
         let level = RunOptions::level_of(run);
         let policy = run.get_str("policy");
         let profile = run.get_str("profile");
         let save = run.get_str("save");
+        let strict = CheckOptions::is_set(run, "strict");
         Some(RunOptions {
             script,
-            nodes,
+            nodes: nodes as usize,
             level,
-            history,
+            history: history as usize,
             policy,
             profile,
             save,
+            strict,
         })
     }
 
-    /// Whether the options go together: a level without a policy, a profile with one.
+    /// Whether the options go together: a level without a policy, a profile with one, and the history is saved over
+    /// neither the script nor the policy.
     pub fn fit(&self) -> bool
         ensures { result ≡ fits (order_in self.now) }
     {
-        match self.policy {
+        let is_set_up = match self.policy {
             Some(_) => self.level.is_none(),
             None => self.profile.is_none(),
-        }
+        };
+        is_set_up
+            && !names_input(self.save, file_of(self.script))
+            && !names_input(self.save, self.policy)
     }
 }
 
@@ -99,30 +107,32 @@ pub struct ScheduleOptions<'a> {
 
 impl<'a> ScheduleOptions<'a> {
     ghost use Rattle.clap.specs.Words.{found_of, rows_of};
-    ghost use Rattle.ll_options.specs.Options.{schedule_order, scheduled_in};
+    ghost use Rattle.ll_options.specs.Options.{fits_schedule, schedule_order, scheduled_in};
 
     // What the matches of `schedule` ask for.
+    #[tactic(auto, using(crate::proofs::Numbers::text_told))]
     fn of_matches(schedule: &ArgMatches<'a>) -> Option<ScheduleOptions<'a>>
         ensures { option_map scheduled_in result ≡ schedule_order (rows_of (found_of schedule.now)) }
     {
         let file = schedule.get_str("FILE")?;
-        let nodes = schedule.get_one::<usize>("nodes")?;
-        if nodes < 1 || TREE_NODES < nodes {
-            return None;
-        }
-        let history = schedule.get_one::<usize>("history")?;
-        if history < 1 || HISTORY_ENTRIES < history {
-            return None;
-        }
+        let nodes = number_of(schedule, "nodes", 1, TREE_NODES as u64)?;
+        let history = number_of(schedule, "history", 1, HISTORY_ENTRIES as u64)?;
         let level = RunOptions::level_of(schedule);
         let picture = schedule.get_str("picture");
         Some(ScheduleOptions {
             file,
-            nodes,
+            nodes: nodes as usize,
             level,
-            history,
+            history: history as usize,
             picture,
         })
+    }
+
+    /// Whether the options go together: the picture isn't drawn over the schedule.
+    pub fn fit(&self) -> bool
+        ensures { result ≡ fits_schedule (scheduled_in self.now) }
+    {
+        !names_input(self.picture, file_of(self.file))
     }
 }
 
@@ -146,7 +156,8 @@ impl<'a> CheckOptions<'a> {
     ghost use Rattle.ll_options.specs.Options.{check_order, checked_in, fits_check, is_set};
 
     // Whether the matches tell this flag.
-    fn is_set(check: &ArgMatches, name: &str) -> bool
+    #[tactic(auto, using(crate::proofs::Numbers::text_told))]
+    pub(crate) fn is_set(check: &ArgMatches, name: &str) -> bool
         ensures { result ≡ is_set name.now (rows_of (found_of check.now)) }
     {
         match check.get_str(name) {
@@ -156,6 +167,7 @@ impl<'a> CheckOptions<'a> {
     }
 
     // What the matches of `check` ask for.
+    #[tactic(auto, using(crate::proofs::Numbers::text_told, crate::proofs::Numbers::texts_told))]
     fn of_matches(
         alloc: Global,
         check: &ArgMatches<'a>,
@@ -165,12 +177,9 @@ impl<'a> CheckOptions<'a> {
         let Some(files) = check.get_strs("FILE") else {
             return Ok(None);
         };
-        let Some(nodes) = check.get_one::<usize>("nodes") else {
+        let Some(nodes) = number_of(check, "nodes", 1, TREE_NODES as u64) else {
             return Ok(None);
         };
-        if nodes < 1 || TREE_NODES < nodes {
-            return Ok(None);
-        }
         let files = Vec::from_slice(alloc, files)?;
         let level = RunOptions::level_of(check);
         let policy = check.get_str("policy");
@@ -179,7 +188,7 @@ impl<'a> CheckOptions<'a> {
         let verbose = CheckOptions::is_set(check, "verbose");
         Ok(Some(CheckOptions {
             files,
-            nodes,
+            nodes: nodes as usize,
             level,
             policy,
             profile,
@@ -210,6 +219,9 @@ pub enum Options<'a> {
     /// To judge the history in this file, or in standard input where it is `-`.
     Audit(&'a str),
     Check(CheckOptions<'a>),
+    Serve(ServeOptions<'a>),
+    Export(ExportOptions<'a>),
+    Why(WhyOptions<'a>),
 }
 
 impl<'a> Options<'a> {
@@ -245,6 +257,24 @@ impl<'a> Options<'a> {
         if name == "check" {
             return match CheckOptions::of_matches(alloc, matches)? {
                 Some(check) => Ok(Some(Options::Check(check))),
+                None => Ok(None),
+            };
+        }
+        if name == "serve" {
+            return match ServeOptions::of_matches(matches) {
+                Some(serve) => Ok(Some(Options::Serve(serve))),
+                None => Ok(None),
+            };
+        }
+        if name == "export" {
+            return match ExportOptions::of_matches(alloc, matches)? {
+                Some(export) => Ok(Some(Options::Export(export))),
+                None => Ok(None),
+            };
+        }
+        if name == "why" {
+            return match WhyOptions::of_matches(alloc, matches)? {
+                Some(why) => Ok(Some(Options::Why(why))),
                 None => Ok(None),
             };
         }

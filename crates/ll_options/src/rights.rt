@@ -3,6 +3,7 @@
 ghost use Rattle.std.specs.Prelude.{◌≡◌, ◌≤◌, codes, map, option_map, unwrap_or, [], IfOk};
 ghost use Rattle.ll_rights.specs.declared.limits.TheConstants.{TREE_NODES};
 
+use crate::values::number_of;
 use clap::ArgMatches;
 use ll_rights::limits::TREE_NODES;
 use std::alloc::{AllocError, Global};
@@ -25,27 +26,21 @@ impl<'a> RightsOptions<'a> {
     ghost use Rattle.clap.specs.Words.{all_of, found_of, rows_of};
     ghost use Rattle.ll_options.specs.Options.{is_set, rights_in, rights_order};
 
-    // These words.
-    fn copied(alloc: Global, told: &[&'a str]) -> Result<Vec<&'a str>, AllocError>
-        ensures { IfOk result (λ words. words.items ≡ told.now) }
-    {
-        let mut words = Vec::new(alloc);
-        words.extend_from_slice(told)?;
-        Ok(words)
-    }
-
     // The paths that the matches tell.
+    #[tactic(auto, using(crate::proofs::Numbers::texts_told))]
     fn paths_of(alloc: Global, rights: &ArgMatches<'a>) -> Result<Vec<&'a str>, AllocError>
         ensures { IfOk result (λ paths. map (λ t. t.now) paths.items
             ≡ unwrap_or (all_of (codes "PATH") (rows_of (found_of rights.now))) []) }
     {
-        match rights.get_strs("PATH") {
-            Some(told) => RightsOptions::copied(alloc, told),
-            None => Ok(Vec::new(alloc)),
+        let mut paths = Vec::new(alloc);
+        if let Some(told) = rights.get_strs("PATH") {
+            paths.extend_from_slice(told)?;
         }
+        Ok(paths)
     }
 
     // Whether the layers are asked for.
+    #[tactic(auto, using(crate::proofs::Numbers::text_told))]
     fn shows_layers(rights: &ArgMatches) -> bool
         ensures { result ≡ is_set (codes "layers") (rows_of (found_of rights.now)) }
     {
@@ -56,6 +51,7 @@ impl<'a> RightsOptions<'a> {
     }
 
     /// What the matches of `rights` ask for. Errors: memory ran out.
+    #[tactic(auto, using(crate::proofs::Numbers::text_told))]
     pub(crate) fn of_matches(
         alloc: Global,
         rights: &ArgMatches<'a>,
@@ -69,17 +65,14 @@ impl<'a> RightsOptions<'a> {
         let Some(profile) = rights.get_str("profile") else {
             return Ok(None);
         };
-        let Some(nodes) = rights.get_one::<usize>("nodes") else {
+        let Some(nodes) = number_of(rights, "nodes", 1, TREE_NODES as u64) else {
             return Ok(None);
         };
-        if nodes < 1 || TREE_NODES < nodes {
-            return Ok(None);
-        }
         let layers = RightsOptions::shows_layers(rights);
         Ok(Some(RightsOptions {
             policy,
             profile,
-            nodes,
+            nodes: nodes as usize,
             paths,
             layers,
         }))

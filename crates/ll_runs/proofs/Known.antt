@@ -1,7 +1,7 @@
 -- What a reader has told, and what follows from it.
 use Rattle.std.proofs.Common.{◌≡◌, ◌∙◌, ℕ, List, [], Option, None, Some, refl, sym, subst, option_map, is_some, false}
 use Rattle.std.proofs.Common.{inl, inr, ◌⊎◌, Result, Ok, Err, true}
-use Rattle.std.specs.Prelude.{IfSome, OnOk, slice_get}
+use Rattle.std.specs.Prelude.{IfOk, IfSome, OnOk, slice_get}
 use Rattle.std.specs.Io.KnownBytes.{Appends}
 use Rattle.std.specs.Str.{IsUtf8}
 use Rattle.std.specs.Borrow.{Bor}
@@ -15,7 +15,8 @@ use Rattle.ll_policy.specs.declared.fault.PolicyFault.{PolicyFault}
 use Rattle.ll_policy.specs.declared.fault.PolicyFault.TheVariants as faults
 use Rattle.ll_runs.specs.Failure.{failure_in}
 use Rattle.ll_options.specs.Options.{RunOrder, order_in}
-use Rattle.ll_runs.specs.Policy.{ByLevel, IsDone, IsSaved, IsSetBy, IsSetup, Lacks, header_of}
+use Rattle.ll_policy.specs.Plan.{Plan, IsPlanOf}
+use Rattle.ll_runs.specs.Policy.{ByLevel, ByPlan, IsDone, IsSaved, IsSetBy, IsSetup, Lacks, header_of}
 use Rattle.ll_session.specs.Run.{Runs}
 use Rattle.ll_lines.specs.Transcript.{Writes}
 use Rattle.ll_seq.specs.History.{IsLegal}
@@ -49,6 +50,21 @@ set_by_level options text setup none by = go options.policy none
         → IsSetBy (option_map (λ (t : Bor (List ℕ)). t.now) file) (order_in options) text setup
     go None e = by
     go (Some file) e = absurd cc
+
+-- a policy is asked for
+pub set_by_plan : (options : RunOptions) (text : List ℕ) (told : Option (List ℕ)) (plan : Plan)
+    (r : Result Setup Failure) → IfSome told (λ known. text ≡ known) → is_some options.policy ≡ true
+    → IsPlanOf (parse_document text) plan → IfOk r (λ setup. setup.nodes ≡ options.nodes)
+    → IfOk r (λ setup. setup.history ≡ options.history) → IfOk r (ByPlan (order_in options) plan)
+    → IfOk r (λ setup. (x : List ℕ) × IfSome told (λ known. x ≡ known) × IsSetup (order_in options) x setup)
+set_by_plan options text told plan (Err failure) known some is nodes history by = tt
+set_by_plan options text told plan (Ok setup) known some is nodes history by =
+    (text, known, (nodes, history, go options.policy some))
+  where
+    go : (file : Option (Bor (List ℕ))) → is_some file ≡ true
+        → IsSetBy (option_map (λ (t : Bor (List ℕ)). t.now) file) (order_in options) text setup
+    go None e = absurd cc
+    go (Some file) e = (plan, is, by)
 
 -- no file is named to save in
 pub not_saved : (options : RunOptions) (setup : Setup) (entries : List Entry) (contents : Option (List ℕ))

@@ -1,5 +1,6 @@
 -- How the program ends where it fails. own
-use Rattle.std.specs.Prelude.{⊤, ℕ, List, Option, Some, None, Result, Ok, Err, codes, IfSome}
+use Rattle.std.specs.Prelude.{◌≡◌, ◌≢◌, ◌++◌, ⊤, ℕ, true, List, Option, Some, None, Result, Ok, Err, codes, decimal}
+use Rattle.std.specs.Prelude.{IfSome}
 use Rattle.clap.specs.declared.error.kind.ErrorKind.{ErrorKind}
 use Rattle.clap.specs.declared.error.kind.ErrorKind.TheVariants.{DisplayHelp, DisplayVersion}
 use Rattle.clap.specs.declared.error.kind.ErrorKind.TheVariants as kind
@@ -7,6 +8,8 @@ use Rattle.ll_policy.specs.declared.fault.PolicyFault.{PolicyFault}
 use Rattle.ll_policy.specs.declared.fault.PolicyFault.TheVariants as wrong
 use Rattle.ll_session.specs.declared.fault.RunFault.{RunFault}
 use Rattle.ll_session.specs.declared.fault.RunFault.TheVariants as run
+use Rattle.ll_session.specs.declared.stop.Stop.{Stop}
+use Rattle.ll_session.specs.declared.stop.Stop.TheVariants.{AtLine, AtOpening}
 use Rattle.ll_lines.specs.declared.fault.SessionFault.{SessionFault}
 use Rattle.ll_lines.specs.declared.fault.SessionFault.TheVariants as session
 use Rattle.ll_saved.specs.declared.auditing.FileAuditFault.{FileAuditFault}
@@ -15,11 +18,14 @@ use Rattle.ll_saved.specs.declared.saving.SaveFault.{SaveFault}
 use Rattle.ll_saved.specs.declared.saving.SaveFault.TheVariants as saving
 use Rattle.ll_saved.specs.declared.verdict.Verdict.TheVariants.{Legal, Illegal, BadLine}
 use Rattle.ll_saved.specs.Saved.{Judges}
+use Rattle.ll_wire.specs.Grammar.{reply_line}
 use Rattle.ll_wire.specs.Pieces.{pieces}
+use Rattle.ll_options.specs.Options.{RunOrder}
 use Rattle.ll_runs.specs.declared.failure.Failure.{Failure}
-use Rattle.ll_runs.specs.declared.failure.Failure.TheVariants.{CommandLine, Policy, Opening, File, Output, NoMemory}
+use Rattle.ll_runs.specs.declared.failure.Failure.TheVariants.{CommandLine, Policy, Opening, File, Output, Socket}
+use Rattle.ll_runs.specs.declared.failure.Failure.TheVariants.{NoMemory}
 use Rattle.ll_runs.specs.declared.conclusion.Conclusion.{Conclusion}
-use Rattle.ll_runs.specs.declared.conclusion.Conclusion.TheVariants.{Checked, Done, Judged}
+use Rattle.ll_runs.specs.declared.conclusion.Conclusion.TheVariants.{Checked, Done, Judged, Stopped}
 use Rattle.ll_runs.specs.declared.checks.Checked.TheVariants as checked
 
 abbrev pub failure_in_session : SessionFault → Failure
@@ -42,6 +48,7 @@ status_of (Policy fault) = 2
 status_of Opening = 2
 status_of File = 1
 status_of Output = 1
+status_of Socket = 1
 status_of NoMemory = 4
 
 -- help and the version are no failure
@@ -60,9 +67,10 @@ failure_at audit.Read = File
 failure_at audit.Write = Output
 failure_at audit.NoMemory = NoMemory
 
--- 3 only for a history that isn't found legal, and for checks of which one fails
+-- 3 only for a history that isn't found legal, for checks of which one fails, and for a strict run that ends early
 abbrev pub status_by : Conclusion → ℕ
 status_by Done = 0
+status_by (Stopped stopped) = 3
 status_by (Judged (Legal entries)) = 0
 status_by (Judged (Illegal entry)) = 3
 status_by (Judged (BadLine line)) = 3
@@ -81,15 +89,27 @@ line_of (Policy fault) = None
 line_of Opening = Some (codes "landtree: opening call refused")
 line_of File = Some (codes "landtree: file")
 line_of Output = Some (codes "landtree: output")
+line_of Socket = Some (codes "landtree: socket")
 line_of NoMemory = Some (codes "landtree: no memory")
 
--- a run is done, or ends by any failure but a wrong command line
-abbrev pub EndsRun : Result Conclusion Failure → Type 0
-EndsRun (Ok Done) = ⊤
-EndsRun (Ok (Judged verdict)) = ⊥
-EndsRun (Ok (Checked end)) = ⊥
-EndsRun (Err CommandLine) = ⊥
-EndsRun (Err failure) = ⊤
+-- where a strict run of the script with this name has ended, and the line of the reply
+abbrev pub stop_line : List ℕ → Stop → List ℕ
+stop_line script (AtLine line reply) = script ++ (codes ":" ++ decimal line ++ codes ": ") ++ reply_line reply
+stop_line script (AtOpening reply) = script ++ codes ": before line 1: " ++ reply_line reply
+
+-- a run is done, and a strict one may end early
+abbrev pub IsRunEnd : RunOrder → Conclusion → Type 0
+IsRunEnd order Done = ⊤
+IsRunEnd order (Stopped stopped) = order.strict ≡ true
+IsRunEnd order (Judged verdict) = ⊥
+IsRunEnd order (Checked end) = ⊥
+
+-- a run ends so, or by any failure but a wrong command line and a listener's
+abbrev pub EndsRun : RunOrder → Result Conclusion Failure → Type 0
+EndsRun order (Ok end) = IsRunEnd order end
+EndsRun order (Err CommandLine) = ⊥
+EndsRun order (Err Socket) = ⊥
+EndsRun order (Err failure) = ⊤
 
 -- saving a history, drawing a picture: its file or memory
 abbrev pub IsOfSaving : Failure → Type 0
@@ -107,26 +127,64 @@ IsOfDevices failure = ⊥
 -- an audit ends with the answer for the bytes of its file, where these are known
 abbrev pub EndsAudit : Option (List ℕ) → Result Conclusion Failure → Type 0
 EndsAudit text (Ok Done) = ⊥
+EndsAudit text (Ok (Stopped stopped)) = ⊥
 EndsAudit text (Ok (Judged verdict)) = IfSome text (λ bytes. Judges (pieces bytes) verdict)
 EndsAudit text (Ok (Checked end)) = ⊥
 EndsAudit text (Err failure) = IsOfDevices failure
 
 abbrev pub EndsSchedule : Result Conclusion Failure → Type 0
 EndsSchedule (Ok Done) = ⊤
+EndsSchedule (Ok (Stopped stopped)) = ⊥
 EndsSchedule (Ok (Judged verdict)) = ⊥
 EndsSchedule (Ok (Checked end)) = ⊥
 EndsSchedule (Err failure) = IsOfDevices failure
 
--- rights are told, or why not
+-- rights are told, or why not: by any failure but a listener's
 abbrev pub EndsRights : Result Conclusion Failure → Type 0
 EndsRights (Ok Done) = ⊤
+EndsRights (Ok (Stopped stopped)) = ⊥
 EndsRights (Ok (Judged verdict)) = ⊥
 EndsRights (Ok (Checked end)) = ⊥
-EndsRights (Err failure) = ⊤
+EndsRights (Err CommandLine) = ⊤
+EndsRights (Err (Policy fault)) = ⊤
+EndsRights (Err Opening) = ⊤
+EndsRights (Err File) = ⊤
+EndsRights (Err Output) = ⊤
+EndsRights (Err Socket) = ⊥
+EndsRights (Err NoMemory) = ⊤
 
 -- a check ends so, or by any failure
 abbrev pub EndsCheck : Result Conclusion Failure → Type 0
 EndsCheck (Ok Done) = ⊥
+EndsCheck (Ok (Stopped stopped)) = ⊥
 EndsCheck (Ok (Judged verdict)) = ⊥
 EndsCheck (Ok (Checked end)) = ⊤
 EndsCheck (Err failure) = ⊤
+
+-- Serving is done, or ends by a failure: by a wrong command line only for a profile that is asked for and not there
+abbrev pub EndsServe : Option (List ℕ) → Result Conclusion Failure → Type 0
+EndsServe profile (Ok Done) = ⊤
+EndsServe profile (Ok (Stopped stopped)) = ⊥
+EndsServe profile (Ok (Judged verdict)) = ⊥
+EndsServe profile (Ok (Checked end)) = ⊥
+EndsServe profile (Err CommandLine) = profile ≢ None
+EndsServe profile (Err (Policy fault)) = ⊤
+EndsServe profile (Err Opening) = ⊤
+EndsServe profile (Err File) = ⊤
+EndsServe profile (Err Output) = ⊤
+EndsServe profile (Err Socket) = ⊤
+EndsServe profile (Err NoMemory) = ⊤
+
+-- a profile is exported, or why not: by any failure but a refused call and a listener's, since nothing is run
+abbrev pub EndsExport : Result Conclusion Failure → Type 0
+EndsExport (Ok Done) = ⊤
+EndsExport (Ok (Stopped stopped)) = ⊥
+EndsExport (Ok (Judged verdict)) = ⊥
+EndsExport (Ok (Checked end)) = ⊥
+EndsExport (Err CommandLine) = ⊤
+EndsExport (Err (Policy fault)) = ⊤
+EndsExport (Err Opening) = ⊥
+EndsExport (Err File) = ⊤
+EndsExport (Err Output) = ⊤
+EndsExport (Err Socket) = ⊥
+EndsExport (Err NoMemory) = ⊤

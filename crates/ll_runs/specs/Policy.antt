@@ -1,6 +1,6 @@
 -- What the words and the policy's file set up. own
 use Rattle.std.specs.Prelude.{bytes_eq, ◌≡◌, ◌⊎◌, ⊤, ℕ, true, List, [], Option, Some, None, option_map, slice_get}
-use Rattle.std.specs.Prelude.{unwrap_or, is_some, IfSome}
+use Rattle.std.specs.Prelude.{false, unwrap_or, is_some, IfSome, string_bytes}
 use Rattle.std.specs.Io.KnownBytes.{Appends}
 use Rattle.std.specs.Map.{lookup}
 use Rattle.std.specs.Str.{IsUtf8}
@@ -13,13 +13,18 @@ use Rattle.ll_policy.specs.declared.fault.PolicyFault.TheVariants.{NotToml}
 use Rattle.ll_policy.specs.Faults.{document_faults}
 use Rattle.ll_policy.specs.Plan.{Plan, IsPlanOf}
 use Rattle.ll_runs.specs.declared.failure.Failure.{Failure}
-use Rattle.ll_runs.specs.declared.failure.Failure.TheVariants.{CommandLine, Policy, Opening, File, Output, NoMemory}
+use Rattle.ll_runs.specs.declared.failure.Failure.TheVariants.{CommandLine, Policy, Opening, File, Output, Socket}
+use Rattle.ll_runs.specs.declared.failure.Failure.TheVariants.{NoMemory}
 use Rattle.ll_session.specs.declared.fault.RunFault.{RunFault}
 use Rattle.ll_session.specs.declared.setup.Setup.{Setup}
-use Rattle.ll_runs.specs.Failure.{failure_of, IsOfSaving}
+use Rattle.ll_session.specs.declared.stop.Stop.{Stop}
+use Rattle.ll_runs.specs.declared.conclusion.Conclusion.{Conclusion}
+use Rattle.ll_runs.specs.declared.conclusion.Conclusion.TheVariants.{Checked, Done, Judged, Stopped}
+use Rattle.ll_runs.specs.Failure.{failure_of, IsOfSaving, stop_line}
 use Rattle.ll_wire.specs.declared.header.Header.{Header}
 use Rattle.ll_wire.specs.declared.header.Version.TheVariants.{Three}
 use Rattle.ll_session.specs.Run.{MayEnd, Runs}
+use Rattle.ll_session.specs.Strict.{RunsStrictly}
 use Rattle.ll_lines.specs.Transcript.{Writes}
 use Rattle.ll_saved.specs.Saved.{saved_text}
 use Rattle.ll_options.specs.Options.{RunOrder}
@@ -63,6 +68,7 @@ Lacks order text File = ⊤
 Lacks order text NoMemory = ⊤
 Lacks order text Opening = ⊥
 Lacks order text Output = ⊥
+Lacks order text Socket = ⊥
 
 -- the header of the history of a run that is set up so
 abbrev pub header_of : Setup → Header
@@ -82,6 +88,28 @@ IsDone order text script script' out out' file file' =
     × IfSome script (λ input. (left : List ℕ) × (script' ≡ Some left)
     × Writes out out' (λ written. Runs setup input left written entries))
     × IsSaved order.save setup entries file file'
+
+-- what the program concludes from what ended a strict run of the script with this name, if anything did
+abbrev pub IsConcluded : List ℕ → Option Stop → Conclusion → Type 0
+IsConcluded script None end = end ≡ Done
+IsConcluded script (Some stop) (Stopped stopped) = string_bytes stopped.line ≡ stop_line script stop
+IsConcluded script (Some stop) Done = ⊥
+IsConcluded script (Some stop) (Judged verdict) = ⊥
+IsConcluded script (Some stop) (Checked end) = ⊥
+
+-- the same of a strict run, which is concluded by what ended it
+abbrev pub IsStrictlyDone : RunOrder → List ℕ → Conclusion → (script out out' file file' : Option (List ℕ)) → Type 0
+IsStrictlyDone order text end script out out' file file' =
+    (setup : Setup) × (entries : List Entry) × (stop : Option Stop) × IsSetup order text setup
+    × IsLegal (start setup.rules setup.nodes) entries
+    × IfSome script (λ input. Writes out out' (λ written. RunsStrictly setup input written stop entries))
+    × IsSaved order.save setup entries file file' × IsConcluded order.script stop end
+
+-- a run that isn't strict is done, and a strict one is concluded so
+abbrev pub IsRun : RunOrder → List ℕ → Conclusion → (script script' out out' file file' : Option (List ℕ)) → Type 0
+IsRun order text end script script' out out' file file' =
+    ((order.strict ≡ false) × (end ≡ Done) × IsDone order text script script' out out' file file')
+    ⊎ ((order.strict ≡ true) × IsStrictlyDone order text end script out out' file file')
 
 -- Why nothing is run to its end and saved: a policy is named, and there is no setup by it, or a fault ends the run of
 -- the setup there is, or a history that is to be saved can't be

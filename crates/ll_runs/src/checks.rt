@@ -86,6 +86,7 @@ fn setup_for(
         policy: options.policy,
         profile: options.profile,
         save: None,
+        strict: false,
     };
     let mut text = policy;
     let mut setup = setup_of(alloc, &run, &mut text)?;

@@ -4,12 +4,15 @@ ghost use Rattle.std.specs.Prelude.{◌≡◌};
 ghost use Rattle.ll_runs.specs.Failure.{status_by};
 
 use crate::checks::Checked;
+use crate::stopped::Stopped;
 use ll_saved::Verdict;
 
-#[derive(Clone, Copy, Debug)]
+#[derive(Debug, Drop)]
 pub enum Conclusion {
     /// A script is run to its end, or a text of clap's is printed.
     Done,
+    /// A strict run has ended before its script, as this tells.
+    Stopped(Stopped),
     /// A history is judged.
     Judged(Verdict),
     /// Files are checked, or one of them says nothing somewhere.
@@ -18,11 +21,12 @@ pub enum Conclusion {
 
 impl Conclusion {
     /// The program's exit status.
-    pub fn status(self) -> u8
-        ensures { result ≡ status_by self }
+    pub fn status(&self) -> u8
+        ensures { result ≡ status_by self.now }
     {
         match self {
             Conclusion::Done | Conclusion::Judged(Verdict::Legal(_)) => 0,
+            Conclusion::Stopped(_) => 3,
             Conclusion::Judged(Verdict::Illegal(_) | Verdict::BadLine(_)) => 3,
             Conclusion::Checked(Checked::Passed) => 0,
             Conclusion::Checked(Checked::Failed) => 3,

@@ -21,6 +21,8 @@ pub enum Failure {
     Opening,
     File,
     Output,
+    /// The listener of `serve`.
+    Socket,
     NoMemory,
 }
 
@@ -35,6 +37,7 @@ impl Display for Failure {
             Failure::Opening => f.write_str("landtree: opening call refused"),
             Failure::File => f.write_str("landtree: file"),
             Failure::Output => f.write_str("landtree: output"),
+            Failure::Socket => f.write_str("landtree: socket"),
             Failure::NoMemory => f.write_str("landtree: no memory"),
         }
     }
@@ -115,6 +118,7 @@ impl Failure {
             Failure::Opening => 2,
             Failure::File => 1,
             Failure::Output => 1,
+            Failure::Socket => 1,
             Failure::NoMemory => 4,
         }
     }

@@ -1,8 +1,11 @@
 //! What the program sets up, by its words and by a policy.
 
-ghost use Rattle.std.specs.Prelude.{◌≡◌, ◌⊎◌, ℕ, List, Some, None, true, is_some, IfOk, IfErr, IfSome, IsOk};
-ghost use Rattle.std.specs.Prelude.{OnErr};
+ghost use Rattle.std.specs.Prelude.{◌≡◌, ◌⊎◌, ℕ, List, [], Some, None, true, is_some, IfOk, IfErr, IfSome, IsOk};
+ghost use Rattle.std.specs.Prelude.{OnErr, OnOk};
+ghost use Rattle.std.specs.Str.{IsUtf8};
 ghost use Rattle.toml.specs.Parse.{parse_document};
+ghost use Rattle.ll_policy.specs.declared.fault.PolicyFault.{PolicyFault};
+ghost use Rattle.ll_policy.specs.Faults.{document_faults};
 ghost use Rattle.ll_policy.specs.Plan.{IsPlanOf};
 ghost use Rattle.ll_options.specs.Options.{RunOrder, order_in};
 ghost use Rattle.ll_session.specs.Session.{AreOthers};
@@ -18,10 +21,15 @@ use ll_session::Setup;
 use std::alloc::Global;
 use std::io::Read;
 
-// The policy that a text gives.
-fn policy_of(alloc: Global, text: &[u8]) -> Result<Policy, Failure>
+/// The policy that a text gives, or why it gives none, whatever else is asked for: its first fault. Errors: memory ran
+/// out.
+pub fn policy_of(alloc: Global, text: &[u8]) -> Result<Policy, Failure>
+    ensures utf8 { OnOk result (IsUtf8 text.now) }
+    ensures right { OnOk result (document_faults (parse_document text.now) ≡ []) }
     ensures plan { IfOk result (IsPlanOf (parse_document text.now)) }
     ensures failure { IfErr result (λ failure. (order : RunOrder) → Lacks order text.now failure) }
+    ensures alone { IfErr result (λ failure. (failure ≡ Failure.NoMemory)
+        ⊎ ((fault : PolicyFault) × (failure ≡ Failure.Policy fault))) }
 {
     match str::from_utf8(text) {
         Ok(text) => match Policy::from_text(alloc, text) {

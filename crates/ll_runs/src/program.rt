@@ -11,13 +11,15 @@ ghost use Rattle.ll_session.specs.declared.fault.RunFault.{RunFault};
 ghost use Rattle.ll_session.specs.Run.{Runs, Begins, MayEnd};
 ghost use Rattle.ll_wire.specs.Entries.{IsEntry};
 ghost use Rattle.ll_wire.specs.Pieces.{pieces};
-ghost use Rattle.ll_runs.specs.Failure.{failure_of, IsOfDevices, IsOfSaving};
-ghost use Rattle.ll_runs.specs.Policy.{header_of, IsDone, MayFail};
+ghost use Rattle.ll_runs.specs.Failure.{failure_of, IsOfDevices, IsOfSaving, IsRunEnd};
+ghost use Rattle.ll_runs.specs.Policy.{header_of, IsDone, IsRun, MayFail};
 ghost use Rattle.ll_seq.specs.History.{IsLegal};
 ghost use Rattle.ll_seq.specs.State.{start};
 
+use crate::conclusion::Conclusion;
 use crate::failure::Failure;
 use crate::policy::setup_of;
+use crate::strict::run_strictly;
 use ll_options::RunOptions;
 use ll_saved::{Progress, Verdict, run_audit, save};
 use ll_seq::History;
@@ -83,9 +85,8 @@ pub fn save_history<W: Write>(
     }
 }
 
-/// Runs a script as the options ask for it, by the policy in this file where they name one, and saves the history in
-/// the other file, under the header of the tree that it is of, where they name that.
-pub fn run<H: Wait, P: Read, R: Read, W: Write, F: Write>(
+// Runs a script to its end as the options ask for it, and saves the history where they name a file for it.
+fn run_to_end<H: Wait, P: Read, R: Read, W: Write, F: Write>(
     rt: &H,
     alloc: Global,
     options: &RunOptions,
@@ -113,6 +114,33 @@ pub fn run<H: Wait, P: Read, R: Read, W: Write, F: Write>(
         return Ok(());
     }
     save_history(alloc, header, &history, file)
+}
+
+/// Runs a script as the options ask for it, by the policy in this file where they name one, and saves the history in
+/// the other file, under the header of the tree that it is of, where they name that. A strict run may end early.
+pub fn run<H: Wait, P: Read, R: Read, W: Write, F: Write>(
+    rt: &H,
+    alloc: Global,
+    options: &RunOptions,
+    policy: &mut P,
+    script: &mut R,
+    out: &mut W,
+    file: &mut F,
+) -> Result<Conclusion, Failure>
+    ensures done { IfOk result (λ end. (text : List ℕ) × IfSome (P.remaining policy.old) (λ told. text ≡ told)
+        × IsRun (order_in options.now) text end (R.remaining script.old) (R.remaining script.new)
+        (W.contents out.old) (W.contents out.new) (F.contents file.old) (F.contents file.new)) }
+    ensures end { IfOk result (IsRunEnd (order_in options.now)) }
+    ensures failure { IfErr result (λ failure. (text : List ℕ) × IfSome (P.remaining policy.old) (λ told. text ≡ told)
+        × MayFail (order_in options.now) text failure) }
+{
+    if options.strict {
+        return run_strictly(rt, alloc, options, policy, script, out, file);
+    }
+    match run_to_end(rt, alloc, options, policy, script, out, file) {
+        Ok(()) => Ok(Conclusion::Done),
+        Err(failure) => Err(failure),
+    }
 }
 
 /// Judges the history in a file, and writes the answer's line.

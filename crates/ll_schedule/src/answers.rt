@@ -6,7 +6,7 @@ use ll_lines::{Answers, Line};
 use std::alloc::AllocError;
 
 impl Answers for Schedule {
-    ghost use Rattle.std.specs.Prelude.{⊤};
+    ghost use Rattle.std.specs.Prelude.{⊤, false};
     ghost use Rattle.ll_schedule.specs.Tells.{Tells};
 
     ghost tells = { λ before piece line after. Tells before.world piece line after.world };
@@ -15,9 +15,15 @@ impl Answers for Schedule {
 
     ghost used = { λ schedule. 0 };
 
+    ghost over = { λ schedule. false };
+
     fn answer(&mut self, line: &Line) -> Result<String, AllocError> {
         let answer = self.outcome(line);
         answer_text(self.alloc, self.world.history().entries(), answer)
+    }
+
+    fn is_over(&self) -> bool {
+        false
     }
 
     ghost goes_nowhere = { λ a. tt };

@@ -13,6 +13,7 @@ use Rattle.ll_ends.specs.Devices.{Devices, untouched}
 use Rattle.ll_lines.specs.Reached.{AnswersAll, Blames, StartsAll}
 use Rattle.ll_lines.specs.declared.fault.SessionFault.{SessionFault}
 use Rattle.ll_lines.specs.declared.fault.SessionFault.TheVariants as fault
+use Rattle.ll_serve.specs.declared.stream.Stream.{Stream}
 use Rattle.ll_session.specs.Beside.{MakesBeside, StopsBeside, TellsBeside}
 use Rattle.ll_wire.specs.Grammar.{reply_line}
 use Rattle.ll_wire.specs.Writing.{AppendsFront}
@@ -61,3 +62,11 @@ module _ (limit : ℕ) (profile : List Call) where
       let old = untouched left written true in
       (new : Devices) × (new.remaining ≡ left') × (new.contents ≡ written') × OnOk ended (Visits old new ks)
       × IfErr ended (λ fault. StartsBy fault old new ks × Blames fault old new)
+
+-- A stream was served from when it came to when it went, it ended so, and these are its clients: by what its reader
+-- tells to be left, and its writer to be written
+abbrev pub WasServed : {R W A : Type 0} → (R → Option (List ℕ)) → (W → Option (List ℕ)) → (limit : ℕ)
+    → (profile : List Call) → Result A SessionFault → (came went : Stream R W) → List Knows → Type 0
+WasServed remaining contents limit profile ended came went ks =
+    IsServed limit profile ended (remaining came.reader) (contents came.writer) (remaining went.reader)
+    (contents went.writer) ks

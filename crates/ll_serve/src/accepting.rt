@@ -1,19 +1,22 @@
 //! Streams as they come.
 
-ghost use Rattle.std.specs.Prelude.{◌<◌};
+ghost use Rattle.std.specs.Prelude.{◌≡◌, ◌<◌, ◌≤◌, IfOk, length, map};
+ghost use Rattle.std.specs.List.{All};
+ghost use Rattle.ll_serve.specs.Visit.{WasServed};
 
 use crate::handing::hand_over;
 use crate::host::Host;
-use crate::stream::Stream;
+use crate::stream::{Served, Stream};
 use crate::watching::Watches;
-use crate::workers::serve_streams;
-use crossbeam_channel::{Sender, unbounded};
-use ll_client::{Client, Shape};
+use crate::workers::{Takes, serve_from};
+use crossbeam_channel::{Receiver, Sender, unbounded};
+use ll_client::Shape;
 use ll_walk::Gate;
 use std::alloc::{AllocError, Global};
 use std::io::{Read, Write};
 use std::sync::Wait;
-use std::thread::{Threads, join};
+use std::sync::atomic::{AtomicU64, Ordering};
+use std::thread::Threads;
 
 /// What streams come from.
 pub trait Accepts {
@@ -25,29 +28,43 @@ pub trait Accepts {
     fn accept(&self) -> Option<(Self::In, Self::Out)>;
 }
 
-// Accepts so many streams, and hands each over. One that failed counts, and one that can't be handed over is closed.
-// The channel is closed in the end.
-fn accept_all<L: Accepts, H: Wait>(
-    rt: &H,
-    listener: &L,
+// Streams as they come to a listener, so many in all. Whoever takes one accepts the next that comes, hands it over, and
+// takes one that was handed over: so nobody waits for another to accept, and each that was handed over is taken.
+#[derive(Drop)]
+struct Coming<'a, L: Accepts> {
+    listener: &'a L,
     sender: Sender<Stream<L::In, L::Out>>,
+    streams: Receiver<Stream<L::In, L::Out>>,
+    come: AtomicU64,
     connections: usize,
-) {
-    for number in 0..connections {
-        if let Some((reader, writer)) = listener.accept() {
-            let stream = Stream {
-                number: (number as u64).saturating_add(1),
-                reader,
-                writer,
-            };
-            drop(hand_over(rt, &sender, stream));
+}
+
+impl<'a, L: Accepts> Takes<L::In, L::Out> for Coming<'a, L> {
+    // One that failed counts, and one that can't be handed over is closed.
+    fn take<H: Wait>(&self, rt: &H) -> Option<Stream<L::In, L::Out>> {
+        for _ in 0..self.connections {
+            let number = self.come.fetch_add(1, Ordering::SeqCst);
+            if number >= self.connections as u64 {
+                return None;
+            }
+            if let Some((reader, writer)) = self.listener.accept() {
+                let stream = Stream {
+                    number: number.saturating_add(1),
+                    reader,
+                    writer,
+                };
+                match hand_over(rt, &self.sender, stream) {
+                    Ok(()) => return self.streams.recv(rt).ok(),
+                    Err(refused) => drop(refused),
+                }
+            }
         }
+        None
     }
 }
 
-/// Accepts so many streams, and serves each by one of so many threads. The clients of all streams, worker by
-/// worker.
-/// Errors: there is no memory for that.
+/// So many threads accept so many streams in all, and serve each. Where some of the threads can't be started the others
+/// accept and serve. What is left of each that was served: see `serve_streams`. Errors: there is no memory for that.
 pub fn serve_on<
     N: Shape + Send + Sync,
     G: Gate<N> + Sync,
@@ -62,16 +79,21 @@ pub fn serve_on<
     watch: &V,
     workers: usize,
     connections: usize,
-) -> Result<Vec<Vec<Client<N>>>, AllocError>
+) -> Result<Vec<Vec<Served<N, L::In, L::Out>>>, AllocError>
     requires { 0 < workers }
+    ensures workers { IfOk result (λ rooms. length rooms.items ≡ workers) }
+    ensures most { IfOk result (λ rooms. All (λ room. length room.items ≤ connections) rooms.items) }
+    ensures served { IfOk result (λ rooms. All (λ room. All (λ it. WasServed L.In.remaining L.Out.contents N.limit
+        host.now.profile.now it.ended it.came.value it.went.value (map (λ c. c.rider) it.clients.items))
+        room.items) rooms.items) }
 {
     let (sender, streams) = unbounded(alloc)?;
-    let (_, all) = join(
-        rt,
-        move || accept_all(rt, listener, sender, connections),
-        move || -> Result<Vec<Vec<Client<N>>>, AllocError>
-            requires { 0 < workers }
-        { serve_streams(rt, alloc, host, streams, watch, workers, connections) },
-    );
-    all
+    let coming = Coming {
+        listener,
+        sender,
+        streams,
+        come: AtomicU64::new(0),
+        connections,
+    };
+    serve_from(rt, alloc, host, &coming, watch, workers, connections)
 }

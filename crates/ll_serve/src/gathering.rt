@@ -2,6 +2,7 @@
 
 ghost use Rattle.std.specs.Prelude.{◌≡◌, ◌++◌, flat_map};
 
+use crate::stream::Served;
 use ll_client::{Client, Shape};
 use std::sync::Wait;
 
@@ -16,11 +17,26 @@ pub fn add_all<N: Shape, H: Wait>(rt: &H, all: &mut Vec<Client<N>>, clients: Vec
     }
 }
 
-/// The clients of all streams that were served come last in the list, which has room for as many as a tree may have.
-pub fn gather<N: Shape, H: Wait>(rt: &H, all: &mut Vec<Client<N>>, rooms: Vec<Vec<Client<N>>>)
-    ensures { all.new.items ≡ all.old.items ++ flat_map (λ room. room.items) rooms.items }
+// So do those of the streams that one worker served.
+fn add_room<N: Shape, H: Wait, R, W>(rt: &H, all: &mut Vec<Client<N>>, room: Vec<Served<N, R, W>>)
+    ensures { all.new.items ≡ all.old.items ++ flat_map (λ it. it.clients.items) room.items }
+{
+    for served in room {
+        add_all(rt, all, served.clients);
+    }
+}
+
+/// The clients of all streams that were served come last in the list, which has room for as many as a tree may have:
+/// worker by worker, and stream by stream.
+pub fn gather<N: Shape, H: Wait, R, W>(
+    rt: &H,
+    all: &mut Vec<Client<N>>,
+    rooms: Vec<Vec<Served<N, R, W>>>,
+)
+    ensures { all.new.items ≡ all.old.items
+        ++ flat_map (λ room. flat_map (λ it. it.clients.items) room.items) rooms.items }
 {
     for room in rooms {
-        add_all(rt, all, room);
+        add_room(rt, all, room);
     }
 }

@@ -8,7 +8,7 @@ ghost use Rattle.ll_lines.specs.declared.fault.SessionFault.{SessionFault};
 ghost use Rattle.ll_session.specs.Session.{AreOthers};
 ghost use Rattle.ll_client.specs.Coming.{HasNoPlace};
 ghost use Rattle.ll_client.specs.Entries.{Knows};
-ghost use Rattle.ll_serve.specs.Visit.{HasCome, IsServed, StartsBy, Visits};
+ghost use Rattle.ll_serve.specs.Visit.{HasCome, IsServed, StartsBy, Visits, WasServed};
 
 use crate::copies::copy_calls;
 use crate::host::Host;
@@ -130,10 +130,8 @@ pub fn serve_stream<N: Shape, G: Gate<N>, H: Wait, R: Read, W: Write>(
     host: &Host<N, G>,
     stream: &mut Stream<R, W>,
 ) -> Served<N, R, W>
-    ensures served { IsServed N.limit host.now.profile.now result.ended
-        (R.remaining result.came.value.reader) (W.contents result.came.value.writer)
-        (R.remaining result.went.value.reader) (W.contents result.went.value.writer)
-        (map (λ c. c.rider) result.clients.items) }
+    ensures served { WasServed R.remaining W.contents N.limit host.now.profile.now result.ended
+        result.came.value result.went.value (map (λ c. c.rider) result.clients.items) }
     ensures came { result.came.value ≡ stream.old }
     ensures went { result.went.value ≡ stream.new }
 {

@@ -1,26 +1,47 @@
 //! Threads that serve streams.
 
-ghost use Rattle.std.specs.Prelude.{◌<◌};
+ghost use Rattle.std.specs.Prelude.{◌≡◌, ◌<◌, ◌≤◌, IfOk, length, map};
+ghost use Rattle.std.specs.List.{All};
+ghost use Rattle.ll_serve.specs.Rooms.{IsRoomFor};
+ghost use Rattle.ll_serve.specs.Visit.{WasServed};
 
-use crate::gathering::add_all;
 use crate::host::Host;
 use crate::stream::{Served, Stream};
 use crate::visits::serve_stream;
 use crate::watching::Watches;
 use crossbeam_channel::Receiver;
-use ll_client::{Client, Shape};
-use ll_rights::limits::TREE_CLIENTS;
+use ll_client::Shape;
 use ll_walk::Gate;
 use std::alloc::{AllocError, Global};
 use std::io::{Read, Write};
 use std::sync::Wait;
 use std::thread::{self, Threads};
 
-// Room for all clients that a tree may have, for each worker.
-fn rooms<N: Shape>(alloc: Global, workers: usize) -> Result<Vec<Vec<Client<N>>>, AllocError> {
+/// Where workers take streams from.
+pub(crate) trait Takes<R, W> {
+    /// The next stream, once it has come. None where no more come.
+    fn take<H: Wait>(&self, rt: &H) -> Option<Stream<R, W>>;
+}
+
+// Those that are sent, until the channel is closed.
+impl<R: Drop, W: Drop> Takes<R, W> for Receiver<Stream<R, W>> {
+    fn take<H: Wait>(&self, rt: &H) -> Option<Stream<R, W>> {
+        self.recv(rt).ok()
+    }
+}
+
+// Room for what is left of so many streams, for each worker.
+fn rooms<N: Shape, R, W>(
+    alloc: Global,
+    workers: usize,
+    most: usize,
+) -> Result<Vec<Vec<Served<N, R, W>>>, AllocError>
+    ensures workers { IfOk result (λ rooms. length rooms.items ≡ workers) }
+    ensures room { IfOk result (λ rooms. All (IsRoomFor most) rooms.items) }
+{
     let mut rooms = Vec::new(alloc);
     for _ in 0..workers {
-        let room: Vec<Client<N>> = Vec::with_capacity(alloc, TREE_CLIENTS)?;
+        let room: Vec<Served<N, R, W>> = Vec::with_capacity(alloc, most)?;
         if let Err(refused) = rooms.push(room) {
             drop(refused);
             return Err(AllocError);
@@ -29,31 +50,85 @@ fn rooms<N: Shape>(alloc: Global, workers: usize) -> Result<Vec<Vec<Client<N>>>,
     Ok(rooms)
 }
 
-// Serves streams from the channel until it is closed, or so many were served. Their clients come into the room.
-fn work<N: Shape, G: Gate<N>, H: Wait, R: Read + Drop, W: Write + Drop, V: Watches<R, W>>(
+// Serves streams until no more come, or so many were served. What is left of each comes into the room.
+fn work<
+    N: Shape,
+    G: Gate<N>,
+    H: Wait,
+    R: Read + Drop,
+    W: Write + Drop,
+    S: Takes<R, W>,
+    V: Watches<R, W>,
+>(
     rt: &H,
     alloc: Global,
     host: &Host<N, G>,
-    streams: &Receiver<Stream<R, W>>,
+    streams: &S,
     watch: &V,
-    room: &mut Vec<Client<N>>,
+    room: &mut Vec<Served<N, R, W>>,
     most: usize,
-) {
+)
+    requires { IsRoomFor most room.old }
+    ensures most { length room.new.items ≤ most }
+    ensures served { All (λ it. WasServed R.remaining W.contents N.limit host.now.profile.now it.ended it.came.value
+        it.went.value (map (λ c. c.rider) it.clients.items)) room.new.items }
+{
     for _ in 0..most {
-        let Ok(mut stream) = streams.recv(rt) else {
+        let Some(mut stream) = streams.take(rt) else {
             return;
         };
         watch.came(&stream);
         let served = serve_stream(rt, alloc, host, &mut stream);
         watch.went(&stream, &served);
-        let Served { clients, .. } = served;
-        add_all(rt, room, clients);
+        room.push_reserved(served);
     }
 }
 
+/// Threads take streams from where they come, each at most so many, and serve each by `serve_stream`. Where some of the
+/// threads can't be started the others serve.
+pub(crate) fn serve_from<
+    N: Shape + Send + Sync,
+    G: Gate<N> + Sync,
+    H: Threads + Wait + Sync,
+    R: Read + Send + Drop,
+    W: Write + Send + Drop,
+    S: Takes<R, W> + Sync,
+    V: Watches<R, W> + Sync,
+>(
+    rt: &H,
+    alloc: Global,
+    host: &Host<N, G>,
+    streams: &S,
+    watch: &V,
+    workers: usize,
+    most: usize,
+) -> Result<Vec<Vec<Served<N, R, W>>>, AllocError>
+    requires { 0 < workers }
+    ensures workers { IfOk result (λ rooms. length rooms.items ≡ workers) }
+    ensures most { IfOk result (λ rooms. All (λ room. length room.items ≤ most) rooms.items) }
+    // Each of these streams was served as `serve_stream` says of one.
+    ensures served { IfOk result (λ rooms. All (λ room. All (λ it. WasServed R.remaining W.contents N.limit
+        host.now.profile.now it.ended it.came.value it.went.value (map (λ c. c.rider) it.clients.items))
+        room.items) rooms.items) }
+{
+    let mut all = rooms(alloc, workers, most)?;
+    thread::for_each_mut(
+        rt,
+        all.as_mut_slice(),
+        workers,
+        &|_, room|
+            requires { IsRoomFor most room.now }
+            ensures most { length room.exit.now.items ≤ most }
+            ensures served { All (λ it. WasServed R.remaining W.contents N.limit host.entry.now.profile.now it.ended
+                it.came.value it.went.value (map (λ c. c.rider) it.clients.items)) room.exit.now.items }
+        { work(rt, alloc, host, streams, watch, room, most) },
+    );
+    Ok(all)
+}
+
 /// Threads take streams from the channel until it is closed, each at most so many, and serve each by `serve_stream`.
-/// Where some of the threads can't be started the others serve. The clients of all streams, worker by worker. Errors:
-/// there is no memory for a list of them; no stream is taken then.
+/// Where some of the threads can't be started the others serve. What is left of each stream, worker by worker, as each
+/// took them. Errors: there is no memory for a list of that; no stream is taken then.
 pub fn serve_streams<
     N: Shape + Send + Sync,
     G: Gate<N> + Sync,
@@ -69,15 +144,14 @@ pub fn serve_streams<
     watch: &V,
     workers: usize,
     most: usize,
-) -> Result<Vec<Vec<Client<N>>>, AllocError>
+) -> Result<Vec<Vec<Served<N, R, W>>>, AllocError>
     requires { 0 < workers }
+    ensures workers { IfOk result (λ rooms. length rooms.items ≡ workers) }
+    ensures most { IfOk result (λ rooms. All (λ room. length room.items ≤ most) rooms.items) }
+    // Each of these streams was served as `serve_stream` says of one.
+    ensures served { IfOk result (λ rooms. All (λ room. All (λ it. WasServed R.remaining W.contents N.limit
+        host.now.profile.now it.ended it.came.value it.went.value (map (λ c. c.rider) it.clients.items))
+        room.items) rooms.items) }
 {
-    let mut all = rooms(alloc, workers)?;
-    thread::for_each_mut(
-        rt,
-        all.as_mut_slice(),
-        workers,
-        &|_, room| { work(rt, alloc, host, &streams, watch, room, most) },
-    );
-    Ok(all)
+    serve_from(rt, alloc, host, &streams, watch, workers, most)
 }

@@ -34,7 +34,7 @@ use Rattle.ll_session.proofs.Coming.{may_be_refused}
 use Rattle.ll_session.proofs.Replies.{answers_count, answers_so}
 use Rattle.ll_session.proofs.Ways.{AtEnd}
 
-some_is : (o : Option (List ℕ)) (P : List ℕ → Type 0) → ((x : List ℕ) → o ≡ Some x → P x) → IfSome o P
+pub some_is : (o : Option (List ℕ)) (P : List ℕ → Type 0) → ((x : List ℕ) → o ≡ Some x → P x) → IfSome o P
 some_is None P f = tt
 some_is (Some x) P f = f x refl
 

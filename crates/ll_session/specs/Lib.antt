@@ -3,3 +3,5 @@ pub mod Opening
 pub mod Progress
 pub mod Run
 pub mod Session
+pub mod Strict
+pub mod StrictProgress

@@ -1,7 +1,7 @@
 //! A session answers lines.
 
 ghost use Rattle.std.specs.Prelude.{◌≡◌, ◌<◌, ◌≤◌, ◌+◌, ◌-◌, ◌^◌, ◌↔◌, ℕ, List, IsTrue, Some, Err, IfErr, OnErr, OnOk};
-ghost use Rattle.std.specs.Prelude.{length};
+ghost use Rattle.std.specs.Prelude.{false, length};
 ghost use Rattle.ll_ends.specs.Devices.{IsWhole};
 ghost use Rattle.ll_lines.specs.Reached.{AnswersAll, Blames, StartsAll};
 ghost use Rattle.ll_lines.specs.Transcript.{most_reads};
@@ -25,12 +25,12 @@ use std::sync::Wait;
 
 /// A session under way: its tree, and a party of which so many clients came before the session, and then its own.
 #[derive(Drop)]
-struct OpenSession<'a, N: Shape, R: Wait, G: Gate<N>> {
-    rt: &'a R,
-    alloc: Global,
-    tree: &'a Tree<N, G>,
-    party: Party<N>,
-    before: u64,
+pub struct OpenSession<'a, N: Shape, R: Wait, G: Gate<N>> {
+    pub rt: &'a R,
+    pub alloc: Global,
+    pub tree: &'a Tree<N, G>,
+    pub party: Party<N>,
+    pub before: u64,
     ghost some: { before < length party },
 }
 
@@ -82,7 +82,7 @@ impl<'a, N: Shape, R: Wait, G: Gate<N>> OpenSession<'a, N, R, G> {
     }
 
     /// Makes the call that the line spells. How the line is answered, whether it spells one or not.
-    fn reply(&mut self, line: &Line) -> Reply
+    pub fn reply(&mut self, line: &Line) -> Reply
         ensures answers { (piece : List ℕ) → Holds line.now piece
             → AnswersBeside N.limit self.old.before self.old.party piece result self.new.party }
         ensures goes { Goes N.limit self.old.party self.new.party }
@@ -112,9 +112,15 @@ impl<'a, N: Shape, R: Wait, G: Gate<N>> Answers for OpenSession<'a, N, R, G> {
     // The tree has their numbers.
     ghost used = { λ session. 0 };
 
+    ghost over = { λ session. false };
+
     fn answer(&mut self, line: &Line) -> Result<String, AllocError> {
         let reply = self.reply(line);
         reply_line(self.alloc, &reply)
+    }
+
+    fn is_over(&self) -> bool {
+        false
     }
 
     ghost goes_nowhere = { λ a. stands N.limit a.before a.party };

@@ -72,7 +72,7 @@ fn run_session<N: Shape, R: Wait, E: Ends>(
 }
 
 // Writes the line of the refusal that no session begins with, and closes the tree. Its history is left.
-fn tell_refusal<N: Shape, R: Wait, E: Ends>(
+pub(crate) fn tell_refusal<N: Shape, R: Wait, E: Ends>(
     rt: &R,
     alloc: Global,
     shared: Shared<N>,

@@ -61,7 +61,7 @@ pub enum Trial {
 }
 
 /// How often the path was opened and gave the open file's mark or the private one's, was denied, and wasn't there.
-#[derive(Clone, Copy, Debug, Default)]
+#[derive(Clone, Copy, Debug)]
 pub struct Counts {
     pub through: u64,
     pub private: u64,

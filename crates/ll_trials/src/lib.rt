@@ -66,6 +66,8 @@ mod threads;
 #[cfg(test)]
 mod tie;
 #[cfg(test)]
+mod two_streams;
+#[cfg(test)]
 mod two_threads;
 #[cfg(test)]
 mod watched;

@@ -21,3 +21,6 @@ returns-else-is_answered-clause-made g c =
     (same_left _ _ h.1)
     (subst (λ (x : List ℕ). (c.run_script.new.reader.now ≢ []) ⊎ ((x ≢ []) × (c.args.script.now ≡ [])))
     c.as_slice.ensures.value test))
+
+pub returns-in-Err-clause-fault : goal.returns-in-Err-clause-fault
+returns-in-Err-clause-fault g c = c.of_list.ensures c.args.setup c.in-Err.ensures.fault

@@ -1,4 +1,4 @@
-use Rattle.std.proofs.Common.{◌≡◌, ◌+◌, ◌*◌, ◌^◌, ◌≤◌}
+use Rattle.std.proofs.Common.{◌≡◌, ◌+◌, ◌*◌, ◌^◌, ◌≤◌, false}
 use Rattle.ll_lines.specs.Cutting.{Calls, CanGoOn, Counts, most_left, unread}
 use Rattle.ll_lines.specs.Reached.{AnswersSome}
 use Rattle.ll_lines.proofs.answers.answer_lines.Given as goal
@@ -7,6 +7,7 @@ use Rattle.ll_lines.proofs.answers.answer_lines.Given as goal
 abbrev pub invariant-loop-line : goal.invariant-loop-line
 invariant-loop-line g l = record {
   ready : CanGoOn 0 l.exchange (g.E.Ends.devices l.ends);
+  going : g.A.Answers.over l.answers ≡ false;
   numbers : g.A.Answers.used l.answers + 2 * most_left l.exchange ≤ 2 ^ 62 + 2 * most_left unread;
   some : AnswersSome g.A.Answers.tells l.fn.answers l.answers l.exchange (g.E.Ends.devices l.fn.ends)
       (g.E.Ends.devices l.ends);

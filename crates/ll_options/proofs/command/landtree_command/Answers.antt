@@ -24,5 +24,11 @@ returns c =
     ∙ ap₂ with_subcommand audits (ap (λ (a : App). a.top) c.in_ok-schedule.ensures.app) in
     let tells = c.in_ok-with_rights.ensures.shape c.in_ok-rights.ensures.local
     ∙ ap₂ with_subcommand schedules (ap (λ (a : App). a.top) c.in_ok-rights.ensures.app) in
-    IfOk-weaker c.subcommand-5.result _ _ (λ command adds. adds.shape c.in_ok-check.ensures.local
-    ∙ ap₂ with_subcommand tells (ap (λ (a : App). a.top) c.in_ok-check.ensures.app)) c.subcommand-5.ensures
+    let checks = c.in_ok-with_check.ensures.shape c.in_ok-check.ensures.local
+    ∙ ap₂ with_subcommand tells (ap (λ (a : App). a.top) c.in_ok-check.ensures.app) in
+    let serves = c.in_ok-with_serve.ensures.shape c.in_ok-serve.ensures.local
+    ∙ ap₂ with_subcommand checks (ap (λ (a : App). a.top) c.in_ok-serve.ensures.app) in
+    let exports = c.in_ok-with_export.ensures.shape c.in_ok-export.ensures.local
+    ∙ ap₂ with_subcommand serves (ap (λ (a : App). a.top) c.in_ok-export.ensures.app) in
+    IfOk-weaker c.subcommand-8.result _ _ (λ command adds. adds.shape c.in_ok-why.ensures.local
+    ∙ ap₂ with_subcommand exports (ap (λ (a : App). a.top) c.in_ok-why.ensures.app)) c.subcommand-8.ensures

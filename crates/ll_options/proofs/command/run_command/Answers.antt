@@ -17,4 +17,6 @@ returns-clause-app c =
     ∙ ap₂ with_rule policy_added c.profile_option.ensures.rule in
     let history_added = c.in_ok-arg-4.ensures.shape c.history_option.ensures.local
     ∙ ap₂ with_rule profile_added c.history_option.ensures.rule in
-    c.in_ok-run.ensures.shape c.save_option.ensures.local ∙ ap₂ with_rule history_added c.save_option.ensures.rule
+    let save_added = c.in_ok-arg-5.ensures.shape c.save_option.ensures.local
+    ∙ ap₂ with_rule history_added c.save_option.ensures.rule in
+    c.in_ok-run.ensures.shape c.flag.ensures.local ∙ ap₂ with_rule save_added c.flag.ensures.rule

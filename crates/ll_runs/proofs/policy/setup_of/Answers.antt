@@ -1,5 +1,5 @@
 use Rattle.ll_options.specs.Options.{order_in}
-use Rattle.ll_runs.proofs.Known.{a_text, same_text, set_by_level, unread}
+use Rattle.ll_runs.proofs.Known.{a_text, same_text, set_by_level, set_by_plan, unread}
 use Rattle.ll_runs.proofs.policy.setup_of.Goals as goal
 
 pub returns-then-is_none-clause-setup : goal.returns-then-is_none-clause-setup
@@ -26,3 +26,12 @@ returns-clause-failure g c = (
       c.in-Ok.ensures.text,
   c.in-Err-policy_of.ensures.failure (order_in c.args.options.now),
 )
+
+pub returns-in-Ok-policy_of-clause-setup : goal.returns-in-Ok-policy_of-clause-setup
+returns-in-Ok-policy_of-clause-setup g c =
+    set_by_plan c.args.options.now c.as_slice.result.now (g.R.Read.remaining c.args.file.now) c.in-Ok-policy_of.policy
+    c.by_policy.result
+    (same_text (g.R.Read.remaining c.args.file.now) c.as_slice.result.now c.in-Ok.text.items
+    c.as_slice.ensures.value c.in-Ok.ensures.text)
+    c.if-is_none.ensures c.in-Ok-policy_of.ensures.plan c.by_policy.ensures.nodes c.by_policy.ensures.history
+    c.by_policy.ensures.setup

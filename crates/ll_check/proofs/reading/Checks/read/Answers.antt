@@ -1,8 +1,7 @@
-use Rattle.std.proofs.Common.{◌≡◌, ◌+◌, ◌++◌, ◌∷◌, [], ℕ, List, length, map, sym, subst, ◌∙◌, arith}
+use Rattle.std.proofs.Common.{◌≡◌, ◌+◌, ◌++◌, ◌∷◌, [], length, sym, subst, arith}
 use Rattle.std.specs.List.{AllZip}
 use Rattle.std.proofs.lemmas.List.{length-append}
-use Rattle.ll_wire.specs.Pieces.{pieces}
-use Rattle.ll_check.specs.Checks.{Meaning, SpellsLine, meaning_of}
+use Rattle.ll_check.specs.Checks.{SpellsLine}
 use Rattle.ll_check.proofs.Told.{cut_on, each_more}
 use Rattle.ll_check.proofs.reading.Checks.read.Goals as goal
 

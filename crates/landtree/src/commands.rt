@@ -1,0 +1,496 @@
+//! What each command does, over the files that its words name.
+
+ghost use Rattle.std.specs.Prelude.{◌≡◌, ℕ, true, false, List, Option, None, Some, Err, IfErr, IfOk, IfSome};
+ghost use Rattle.ll_files.specs.Sources.{named, text_in};
+ghost use Rattle.ll_options.specs.Options.{checked_in, exported_in, fits, fits_check, fits_export, fits_schedule};
+ghost use Rattle.ll_options.specs.Options.{fits_why};
+ghost use Rattle.ll_options.specs.Options.{fits_serve, order_in, rights_in, scheduled_in, served_in, why_in};
+ghost use Rattle.ll_runs.specs.Failure.{EndsAudit, EndsCheck, EndsExport, EndsRights, EndsRun, EndsSchedule};
+ghost use Rattle.ll_runs.specs.Failure.{EndsServe, IsOfDevices, IsRunEnd};
+ghost use Rattle.ll_runs.specs.Policy.{MayFail};
+ghost use Rattle.ll_explain.specs.Rights as rights;
+ghost use Rattle.ll_export.specs.Export as exports;
+ghost use Rattle.ll_asking.specs.Why.{EndsWhy};
+ghost use Rattle.ll_serving.specs.Serving as serving;
+ghost use Rattle.ll_saved.specs.Saved.{Judges};
+ghost use Rattle.ll_wire.specs.Pieces.{pieces};
+
+use ll_asking::tell_why;
+use ll_explain::tell_rights;
+use ll_export::export;
+use ll_files::{Late, NewFile, Sources, named};
+use ll_hints::{Hints, Misfit};
+use ll_options::{
+    CheckOptions, ExportOptions, Question, RightsOptions, RunOptions, ScheduleOptions,
+    ServeOptions, WhyOptions,
+};
+use ll_replay::{draw_schedule, perform_schedule, setup_by};
+use ll_runs::{Checked, Conclusion, Failure, Shown, audit, check, read_text, run};
+use ll_saved::Verdict;
+use ll_serving::{Binds, Log, serve};
+use std::io::{IsTerminal, Read};
+use std::sync::Wait;
+use std::thread::Threads;
+
+// Tells where the fault of a policy is that keeps a command from being done, or that it lacks the profile.
+fn hint_at_policy<S: Sources>(
+    rt: &HostRuntime,
+    sources: &S,
+    hints: &mut Hints,
+    failure: &Failure,
+    policy: Option<&str>,
+    profile: Option<&str>,
+) {
+    let Some(name) = policy else {
+        return;
+    };
+    match failure {
+        Failure::Policy(_) => {
+            let mut again = Late::new(sources, Some(name));
+            if let Ok(text) = read_text(rt.alloc(), &mut again) {
+                hints.of_policy(name, text.as_slice());
+            }
+        }
+        Failure::CommandLine => {
+            if let Some(profile) = profile {
+                hints.of_profile(name, profile);
+            }
+        }
+        Failure::Opening | Failure::File | Failure::Output => {}
+        Failure::Socket | Failure::NoMemory => {}
+    }
+}
+
+// Sets up the run that is wanted, runs the script, and saves the history, if a file is named.
+fn run_script<S: Sources + Wait>(
+    rt: &HostRuntime,
+    sources: &S,
+    options: &RunOptions,
+    hints: &mut Hints,
+) -> Result<Conclusion, Failure>
+    ensures end { IfOk result (IsRunEnd (order_in options.now)) }
+    ensures failure { IfErr result (λ failure. (text : List ℕ)
+        × IfSome (text_in (S.texts sources.now) (order_in options.now).policy) (λ told. text ≡ told)
+        × MayFail (order_in options.now) text failure) }
+{
+    let mut policy = Late::new(sources, Some(options.policy.unwrap_or("")));
+    let mut script = Late::new(sources, named(options.script));
+    let mut file = NewFile::new(rt, options.save.unwrap_or(""));
+    let ended = run(
+        sources,
+        rt.alloc(),
+        options,
+        &mut policy,
+        &mut script,
+        &mut rt.stdout(),
+        &mut file,
+    );
+    hints.of_input("policy", &policy);
+    hints.of_input("script", &script);
+    hints.of_output("history", &file);
+    ended
+}
+
+// Tells what was expected in the script's line that has ended a strict run, where it spells no command.
+fn hint_at_stop<S: Sources>(
+    rt: &HostRuntime,
+    sources: &S,
+    hints: &mut Hints,
+    script: &str,
+    told: &str,
+) {
+    // Standard input can't be read again.
+    if named(script).is_none() {
+        return;
+    }
+    if let Ok(text) = read_text(rt.alloc(), &mut Late::new(sources, named(script))) {
+        hints.of_stop(script, told, text.as_slice());
+    }
+}
+
+// `run`.
+pub fn run_options<S: Sources + Wait>(
+    rt: &HostRuntime,
+    sources: &S,
+    options: &RunOptions,
+    hints: &mut Hints,
+) -> Result<Conclusion, Failure>
+    ensures unfit { fits (order_in options.now) ≡ false → result ≡ Err Failure.CommandLine }
+    ensures run { fits (order_in options.now) ≡ true → (order_in options.now).profile ≡ None
+        → EndsRun (order_in options.now) result }
+{
+    if !options.fit() {
+        hints.of_misfit(Misfit::of_run(options));
+        return Err(Failure::CommandLine);
+    }
+    match run_script(rt, sources, options, hints) {
+        Ok(conclusion) => {
+            if let Conclusion::Stopped(stopped) = &conclusion {
+                hint_at_stop(rt, sources, hints, options.script, stopped.line.as_str());
+            }
+            Ok(conclusion)
+        }
+        Err(failure) => {
+            let (policy, profile) = (options.policy, options.profile);
+            hint_at_policy(rt, sources, hints, &failure, policy, profile);
+            Err(failure)
+        }
+    }
+}
+
+// Judges the history in the file of this name.
+fn judge_file<S: Sources>(
+    rt: &HostRuntime,
+    sources: &S,
+    file: &str,
+    hints: &mut Hints,
+) -> Result<Verdict, Failure>
+    ensures verdict { IfOk result (λ verdict. IfSome (S.texts sources.now (named file.now))
+        (λ bytes. Judges (pieces bytes) verdict)) }
+    ensures failure { IfErr result IsOfDevices }
+{
+    let mut input = Late::new(sources, named(file));
+    let mut shown = Shown::new(rt.stderr(), rt.stderr().is_terminal());
+    let judged = audit(rt.alloc(), &mut input, &mut rt.stdout(), &mut shown);
+    hints.of_input("history", &input);
+    judged
+}
+
+// Shows the line at which a file is no legal history, and how to ask what the tree answers there.
+fn hint_at_history<S: Sources>(
+    rt: &HostRuntime,
+    sources: &S,
+    hints: &mut Hints,
+    file: &str,
+    verdict: Verdict,
+) {
+    let line = match verdict {
+        Verdict::Legal(_) => return,
+        Verdict::Illegal(entry) => entry.saturating_add(1),
+        Verdict::BadLine(line) => line,
+    };
+    // Standard input can't be read again.
+    if named(file).is_none() {
+        return;
+    }
+    if let Ok(text) = read_text(rt.alloc(), &mut Late::new(sources, named(file))) {
+        hints.of_line(file, text.as_slice(), line);
+    }
+    if let Verdict::Illegal(entry) = verdict {
+        hints.of_entry(file, entry);
+    }
+}
+
+// `audit`, of the file of this name.
+pub fn audit_file<S: Sources>(
+    rt: &HostRuntime,
+    sources: &S,
+    file: &str,
+    hints: &mut Hints,
+) -> Result<Conclusion, Failure>
+    ensures { EndsAudit (S.texts sources.now (named file.now)) result }
+{
+    let verdict = judge_file(rt, sources, file, hints)?;
+    hint_at_history(rt, sources, hints, file, verdict);
+    Ok(Conclusion::Judged(verdict))
+}
+
+// Does what a schedule asks for, which is read whole first, and draws it into the file of this name.
+fn perform_and_draw<R: Read>(
+    rt: &HostRuntime,
+    options: &ScheduleOptions,
+    schedule: &mut R,
+    path: &str,
+    hints: &mut Hints,
+) -> Result<(), Failure>
+    ensures { IfErr result IsOfDevices }
+{
+    let text = read_text(rt.alloc(), schedule)?;
+    let mut lines = text.as_slice();
+    perform_schedule(rt.alloc(), setup_by(options), &mut lines, &mut rt.stdout())?;
+    let mut file = NewFile::new(rt, path);
+    let drawn = draw_schedule(rt.alloc(), setup_by(options), text.as_slice(), &mut file);
+    hints.of_output("picture", &file);
+    drawn
+}
+
+// Does what a schedule asks for, and draws it if a file is named.
+fn perform_file<S: Sources>(
+    rt: &HostRuntime,
+    sources: &S,
+    options: &ScheduleOptions,
+    hints: &mut Hints,
+) -> Result<(), Failure>
+    ensures { IfErr result IsOfDevices }
+{
+    let mut schedule = Late::new(sources, named(options.file));
+    let ended = match options.picture {
+        Some(path) => perform_and_draw(rt, options, &mut schedule, path, hints),
+        None => perform_schedule(
+            rt.alloc(),
+            setup_by(options),
+            &mut schedule,
+            &mut rt.stdout(),
+        ),
+    };
+    hints.of_input("schedule", &schedule);
+    ended
+}
+
+// `schedule`.
+pub fn schedule_options<S: Sources>(
+    rt: &HostRuntime,
+    sources: &S,
+    options: &ScheduleOptions,
+    hints: &mut Hints,
+) -> Result<Conclusion, Failure>
+    ensures unfit { fits_schedule (scheduled_in options.now) ≡ false → result ≡ Err Failure.CommandLine }
+    ensures schedule { fits_schedule (scheduled_in options.now) ≡ true → EndsSchedule result }
+{
+    if !options.fit() {
+        hints.of_misfit(Misfit::of_schedule(options));
+        return Err(Failure::CommandLine);
+    }
+    perform_file(rt, sources, options, hints)?;
+    Ok(Conclusion::Done)
+}
+
+// Tells the rights of a policy's profile.
+fn tell_file<S: Sources>(
+    rt: &HostRuntime,
+    sources: &S,
+    options: &RightsOptions,
+    hints: &mut Hints,
+) -> Result<(), Failure>
+    ensures { IfErr result (λ failure. (text : List ℕ) × rights.MayFail (rights_in options.now) text failure) }
+{
+    let mut file = Late::new(sources, Some(options.policy));
+    let told = tell_rights(rt.alloc(), options, &mut file, &mut rt.stdout());
+    hints.of_input("policy", &file);
+    told
+}
+
+// `rights`.
+pub fn rights_options<S: Sources>(
+    rt: &HostRuntime,
+    sources: &S,
+    options: &RightsOptions,
+    hints: &mut Hints,
+) -> Result<Conclusion, Failure>
+    ensures { EndsRights result }
+{
+    match tell_file(rt, sources, options, hints) {
+        Ok(()) => Ok(Conclusion::Done),
+        Err(failure) => {
+            hint_at_policy(rt, sources, hints, &failure, Some(options.policy), None);
+            Err(failure)
+        }
+    }
+}
+
+// The whole text of this file.
+fn text_of<S: Sources>(
+    rt: &HostRuntime,
+    sources: &S,
+    what: &str,
+    file: Option<&str>,
+    hints: &mut Hints,
+) -> Result<Vec<u8>, Failure> {
+    let mut input = Late::new(sources, file);
+    let text = read_text(rt.alloc(), &mut input);
+    hints.of_input(what, &input);
+    text
+}
+
+// The file that is asked about: a history's, or a policy's.
+fn file_asked<'a>(options: &WhyOptions<'a>) -> Option<&'a str> {
+    match options.question() {
+        Some(Question::Entry(history, _)) => named(history),
+        Some(Question::Command(policy, _, _)) => Some(policy),
+        None => None,
+    }
+}
+
+// `why`.
+pub fn why_options<S: Sources>(
+    rt: &HostRuntime,
+    sources: &S,
+    options: &WhyOptions,
+    hints: &mut Hints,
+) -> Result<Conclusion, Failure>
+    ensures unfit { fits_why (why_in options.now) ≡ false → result ≡ Err Failure.CommandLine }
+    ensures why { EndsWhy result }
+{
+    if !options.fit() {
+        hints.of_misfit(Some(Misfit::NeitherEntryNorCommand));
+        return Err(Failure::CommandLine);
+    }
+    let mut file = Late::new(sources, file_asked(options));
+    let told = tell_why(rt.alloc(), options, &mut file, &mut rt.stdout());
+    hints.of_input("file", &file);
+    if let Err(failure) = &told {
+        hint_at_policy(rt, sources, hints, failure, options.policy, options.profile);
+    }
+    told
+}
+
+// The whole texts of these files.
+fn texts_of<S: Sources>(
+    rt: &HostRuntime,
+    sources: &S,
+    files: &[&str],
+    hints: &mut Hints,
+) -> Result<Vec<Vec<u8>>, Failure> {
+    let mut texts = Vec::new(rt.alloc());
+    for file in files {
+        let text = text_of(rt, sources, "file", named(file), hints)?;
+        if let Err(refused) = texts.push(text) {
+            drop(refused);
+            return Err(Failure::NoMemory);
+        }
+    }
+    Ok(texts)
+}
+
+// Checks the files that are wanted.
+fn check_files<S: Sources + Wait>(
+    rt: &HostRuntime,
+    sources: &S,
+    options: &CheckOptions,
+    hints: &mut Hints,
+) -> Result<Checked, Failure> {
+    let policy = match options.policy {
+        Some(path) => text_of(rt, sources, "policy", Some(path), hints)?,
+        None => Vec::new(rt.alloc()),
+    };
+    let texts = texts_of(rt, sources, options.files.as_slice(), hints)?;
+    check(
+        sources,
+        rt.alloc(),
+        options,
+        policy.as_slice(),
+        texts.as_slice(),
+        &mut rt.stdout(),
+        &mut rt.stderr(),
+    )
+}
+
+// `check`.
+pub fn check_options<S: Sources + Wait>(
+    rt: &HostRuntime,
+    sources: &S,
+    options: &CheckOptions,
+    hints: &mut Hints,
+) -> Result<Conclusion, Failure>
+    ensures unfit { fits_check (checked_in options.now) ≡ false → result ≡ Err Failure.CommandLine }
+    ensures check { fits_check (checked_in options.now) ≡ true → EndsCheck result }
+{
+    if !options.fit() {
+        hints.of_misfit(Misfit::of_check(options));
+        return Err(Failure::CommandLine);
+    }
+    match check_files(rt, sources, options, hints) {
+        Ok(checked) => Ok(Conclusion::Checked(checked)),
+        Err(failure) => {
+            let (policy, profile) = (options.policy, options.profile);
+            hint_at_policy(rt, sources, hints, &failure, policy, profile);
+            Err(failure)
+        }
+    }
+}
+
+// Writes the text that a policy's profile is exported as.
+fn export_file<S: Sources>(
+    rt: &HostRuntime,
+    sources: &S,
+    options: &ExportOptions,
+    hints: &mut Hints,
+) -> Result<(), Failure>
+    ensures { IfErr result (λ failure. (text : List ℕ)
+        × IfSome (S.texts sources.now (Some (exported_in options.now).policy)) (λ told. text ≡ told)
+        × exports.MayFail (exported_in options.now) text failure) }
+{
+    let mut file = Late::new(sources, Some(options.policy));
+    let told = export(rt.alloc(), options, &mut file, &mut rt.stdout());
+    hints.of_input("policy", &file);
+    told
+}
+
+// `export`.
+pub fn export_options<S: Sources>(
+    rt: &HostRuntime,
+    sources: &S,
+    options: &ExportOptions,
+    hints: &mut Hints,
+) -> Result<Conclusion, Failure>
+    ensures unfit { fits_export (exported_in options.now) ≡ false → result ≡ Err Failure.CommandLine }
+    ensures export { fits_export (exported_in options.now) ≡ true → EndsExport result }
+{
+    if !options.fit() {
+        hints.of_misfit(Misfit::of_export(options));
+        return Err(Failure::CommandLine);
+    }
+    match export_file(rt, sources, options, hints) {
+        Ok(()) => Ok(Conclusion::Done),
+        Err(failure) => {
+            let (policy, profile) = (Some(options.policy), Some(options.profile));
+            hint_at_policy(rt, sources, hints, &failure, policy, profile);
+            Err(failure)
+        }
+    }
+}
+
+// Serves the streams that come to a port, and saves the history, if a file is named.
+fn serve_port<S: Sources + Threads + Wait + Sync, B: Binds>(
+    rt: &HostRuntime,
+    sources: &S,
+    ports: &B,
+    options: &ServeOptions,
+    hints: &mut Hints,
+) -> Result<(), Failure>
+    ensures { IfErr result (λ failure. (text : List ℕ) × (out out' file file' : Option (List ℕ))
+        × IfSome (text_in (S.texts sources.now) (served_in options.now).policy) (λ told. text ≡ told)
+        × serving.MayFail (served_in options.now) text out out' file file' failure) }
+{
+    let log = Log::new(sources, options, rt.stderr(), rt.stderr().is_terminal());
+    let mut policy = Late::new(sources, Some(options.policy.unwrap_or("")));
+    let mut file = NewFile::new(rt, options.save.unwrap_or(""));
+    let ended = serve(
+        sources,
+        rt.alloc(),
+        options,
+        ports,
+        &mut policy,
+        &mut rt.stdout(),
+        &log,
+        &mut file,
+    );
+    hints.of_input("policy", &policy);
+    hints.of_output("history", &file);
+    ended
+}
+
+// `serve`.
+pub fn serve_options<S: Sources + Threads + Wait + Sync, B: Binds>(
+    rt: &HostRuntime,
+    sources: &S,
+    ports: &B,
+    options: &ServeOptions,
+    hints: &mut Hints,
+) -> Result<Conclusion, Failure>
+    ensures unfit { fits_serve (served_in options.now) ≡ false → result ≡ Err Failure.CommandLine }
+    ensures serve { fits_serve (served_in options.now) ≡ true → EndsServe (served_in options.now).profile result }
+{
+    if !options.fit() {
+        hints.of_misfit(Misfit::of_serve(options));
+        return Err(Failure::CommandLine);
+    }
+    match serve_port(rt, sources, ports, options, hints) {
+        Ok(()) => Ok(Conclusion::Done),
+        Err(failure) => {
+            let (policy, profile) = (options.policy, options.profile);
+            hint_at_policy(rt, sources, hints, &failure, policy, profile);
+            Err(failure)
+        }
+    }
+}

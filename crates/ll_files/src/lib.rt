@@ -1,0 +1,8 @@
+//! What the program's words name: texts that are read, and files that are made.
+#![tactic(auto)]
+
+mod input;
+mod output;
+
+pub use input::{Late, Sources, named};
+pub use output::{NewFile, Places};

@@ -1,0 +1,189 @@
+//! The lines behind a fault line.
+
+use crate::misfits::Misfit;
+use ll_check::{Blame, explain};
+use ll_files::{Late, NewFile, Places, Sources};
+use ll_policy::first_fault;
+use std::alloc::{AllocError, Global};
+use std::fmt::Display;
+use std::io::Write;
+
+/// Longer lines of a file aren't shown.
+const LONGEST: usize = 1024;
+
+// The line of this number, from 1, without its line feed; no bytes where there is none.
+fn line_at(text: &[u8], number: usize) -> &[u8] {
+    let mut at: usize = 0;
+    for line in text.split(|b| *b == b'\n') {
+        at = at.saturating_add(1);
+        if at == number {
+            return line;
+        }
+    }
+    &[]
+}
+
+/// What is told behind the fault line, each line two spaces further in. Where memory is wanted for a line, it is left
+/// out. No contract says what is told: it helps whoever typed the command.
+#[derive(Drop)]
+pub struct Hints {
+    alloc: Global,
+    is_wanted: bool,
+    text: String,
+}
+
+impl Hints {
+    /// None yet.
+    pub fn new(alloc: Global) -> Hints {
+        Hints {
+            alloc,
+            is_wanted: false,
+            text: String::new(alloc),
+        }
+    }
+
+    /// They are to be told, or not.
+    pub fn want(&mut self, is_wanted: bool) {
+        self.is_wanted = is_wanted;
+    }
+
+    // These lines come last.
+    fn push(&mut self, told: &str) -> Result<(), AllocError> {
+        for line in told.lines() {
+            if !line.is_empty() {
+                self.text.push_str("  ")?;
+                self.text.push_str(line)?;
+                self.text.push_str("\n")?;
+            }
+        }
+        Ok(())
+    }
+
+    /// What this says, line by line.
+    pub fn add<T: Display>(&mut self, told: &T) {
+        if let Ok(told) = format!(in self.alloc; "{told}") {
+            let _ = self.push(told.as_str());
+        }
+    }
+
+    /// That these words don't go together.
+    pub fn of_misfit(&mut self, misfit: Option<Misfit<'_>>) {
+        if let Some(misfit) = misfit {
+            self.add(&misfit);
+        }
+    }
+
+    /// Which file couldn't be read, what for, and why.
+    pub fn of_input<S: Sources>(&mut self, what: &str, input: &Late<'_, S>) {
+        let Some(error) = input.trouble() else {
+            return;
+        };
+        let told = match input.name() {
+            Some(name) => format!(in self.alloc; "cannot read the {what} {name}: {error}"),
+            None => format!(in self.alloc; "cannot read the {what} from standard input: {error}"),
+        };
+        if let Ok(told) = told {
+            let _ = self.push(told.as_str());
+        }
+    }
+
+    /// Which file couldn't be written, what for, and why.
+    pub fn of_output<P: Places>(&mut self, what: &str, output: &NewFile<'_, P>) {
+        let Some(error) = output.trouble() else {
+            return;
+        };
+        let name = output.name();
+        if let Ok(told) = format!(in self.alloc; "cannot write the {what} {name}: {error}") {
+            let _ = self.push(told.as_str());
+        }
+    }
+
+    /// Where the policy's first fault is, and what would be right there.
+    pub fn of_policy(&mut self, name: &str, text: &[u8]) {
+        let Ok(text) = str::from_utf8(text) else {
+            self.add(&"the policy's bytes are no UTF-8");
+            return;
+        };
+        if let Ok(Some(blamed)) = first_fault(self.alloc, text)
+            && let Ok(told) = format!(in self.alloc; "{name}: {blamed}")
+        {
+            let _ = self.push(told.as_str());
+        }
+    }
+
+    /// The line of this number, from 1, of the file's text.
+    pub fn of_line(&mut self, name: &str, text: &[u8], number: usize) {
+        let Ok(line) = str::from_utf8(line_at(text, number)) else {
+            return;
+        };
+        if line.len() <= LONGEST
+            && let Ok(told) = format!(in self.alloc; "{name}:{number}: {line}")
+        {
+            let _ = self.push(told.as_str());
+        }
+    }
+
+    /// Where in a script's line of this number, from 1, something else was expected, and what; of a line that spells no
+    /// command.
+    pub fn of_command(&mut self, name: &str, text: &[u8], number: usize) {
+        let Ok(
+            Blame {
+                column,
+                expected,
+                meant,
+            },
+        ) = explain(self.alloc, text, number)
+        else {
+            return;
+        };
+        let told = match meant {
+            Some(meant) => {
+                format!(in self.alloc; "{name}:{number}:{column}: {expected}: write {meant}")
+            }
+            None => format!(in self.alloc; "{name}:{number}:{column}: {expected}"),
+        };
+        if let Ok(told) = told {
+            let _ = self.push(told.as_str());
+        }
+    }
+
+    /// The same of the script's line that has ended a strict run, which told this of it: its number is in there.
+    pub fn of_stop(&mut self, script: &str, told: &str, text: &[u8]) {
+        let Some(told) = told.strip_prefix(script) else {
+            return;
+        };
+        let Some((place, reply)) = told.split_once(": ") else {
+            return;
+        };
+        if reply.trim_end() == "refused 23 BadLine"
+            && let Some(number) = place.strip_prefix(':')
+            && let Ok(number) = number.parse::<usize>()
+        {
+            self.of_command(script, text, number);
+        }
+    }
+
+    /// How to ask what the tree answers where a history isn't legal: at its entry of this number.
+    pub fn of_entry(&mut self, name: &str, entry: usize) {
+        let told = format!(in self.alloc;
+            "`landtree why {name} {entry}` tells what the tree answers"
+        );
+        if let Ok(told) = told {
+            let _ = self.push(told.as_str());
+        }
+    }
+
+    /// That the policy hasn't this profile.
+    pub fn of_profile(&mut self, policy: &str, profile: &str) {
+        if let Ok(told) = format!(in self.alloc; "the policy {policy} has no profile {profile}") {
+            let _ = self.push(told.as_str());
+        }
+    }
+
+    /// Writes them, where they are wanted.
+    pub fn tell<W: Write>(&self, err: &mut W) {
+        if self.is_wanted {
+            let _ = err.write_all(self.text.as_bytes());
+        }
+    }
+}

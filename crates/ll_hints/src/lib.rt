@@ -1,0 +1,10 @@
+//! What a person needs beside the program's fault line: which file, which word, which place, and what would be right.
+#![tactic(auto)]
+
+mod hints;
+mod misfits;
+mod wanted;
+
+pub use hints::Hints;
+pub use misfits::Misfit;
+pub use wanted::{are_wanted, without_wish};

@@ -1,0 +1,104 @@
+//! Words that clap takes, each for itself, and that don't go together.
+
+use ll_options::{CheckOptions, ExportOptions, RunOptions, ScheduleOptions, ServeOptions};
+use std::fmt;
+use std::fmt::Display;
+
+/// Why words don't go together.
+#[derive(Clone, Copy, Debug, PartialEq, Eq)]
+pub enum Misfit<'a> {
+    /// A level beside a policy.
+    TwoLevels,
+    /// This profile, and no policy.
+    NoPolicy(&'a str),
+    /// This file would be written over what is read.
+    WritesOverInput(&'a str),
+    QuietAndVerbose,
+    NoSuchForm,
+    /// Of `why`.
+    NeitherEntryNorCommand,
+}
+
+impl Display for Misfit<'_> {
+    fn fmt<W: fmt::Write>(&self, f: &mut fmt::Formatter<W>) -> fmt::Result {
+        match self {
+            Misfit::TwoLevels => f.write_str(
+                "--abi has no place beside --policy: the policy tells the level",
+            ),
+            Misfit::NoPolicy(name) => write!(
+                f,
+                "--profile {name} needs the policy that has it: --policy FILE"
+            ),
+            Misfit::WritesOverInput(name) => write!(f, "{name} would be written over, and is read"),
+            Misfit::QuietAndVerbose => f.write_str("--quiet and --verbose don't go together"),
+            Misfit::NeitherEntryNorCommand => {
+                f.write_str(
+                    "why takes HISTORY K, or a command in quotes with --policy and --profile",
+                )
+            }
+            Misfit::NoSuchForm => f.write_str("--as is followed by c or json"),
+        }
+    }
+}
+
+// With these of a run's setup.
+fn of_setup<'a>(
+    has_level: bool,
+    policy: Option<&'a str>,
+    profile: Option<&'a str>,
+) -> Option<Misfit<'a>> {
+    match (policy, profile) {
+        (Some(_), _) if has_level => Some(Misfit::TwoLevels),
+        (None, Some(name)) => Some(Misfit::NoPolicy(name)),
+        _ => None,
+    }
+}
+
+// With this written, and this read, where they are files.
+fn of_output<'a>(output: Option<&'a str>, input: Option<&str>) -> Option<Misfit<'a>> {
+    match (output, input) {
+        (Some(output), Some(input)) if output == input && input != "-" => {
+            Some(Misfit::WritesOverInput(output))
+        }
+        _ => None,
+    }
+}
+
+impl<'a> Misfit<'a> {
+    /// Of `run`.
+    pub fn of_run(options: &RunOptions<'a>) -> Option<Misfit<'a>> {
+        let (save, script, policy) = (options.save, options.script, options.policy);
+        of_setup(options.level.is_some(), policy, options.profile)
+            .or(of_output(save, Some(script)))
+            .or(of_output(save, policy))
+    }
+
+    /// Of `schedule`.
+    pub fn of_schedule(options: &ScheduleOptions<'a>) -> Option<Misfit<'a>> {
+        of_output(options.picture, Some(options.file))
+    }
+
+    /// Of `check`.
+    pub fn of_check(options: &CheckOptions<'a>) -> Option<Misfit<'a>> {
+        if options.quiet && options.verbose {
+            return Some(Misfit::QuietAndVerbose);
+        }
+        of_setup(options.level.is_some(), options.policy, options.profile)
+    }
+
+    /// Of `serve`.
+    pub fn of_serve(options: &ServeOptions<'a>) -> Option<Misfit<'a>> {
+        of_setup(options.level.is_some(), options.policy, options.profile).or(of_output(
+            options.save,
+            options.policy,
+        ))
+    }
+
+    /// Of `export`.
+    pub fn of_export(options: &ExportOptions<'a>) -> Option<Misfit<'a>> {
+        match options.form {
+            Some(_) => None,
+            None => Some(Misfit::NoSuchForm),
+        }
+    }
+}

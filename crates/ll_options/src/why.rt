@@ -1,0 +1,85 @@
+//! What the words of `why` ask for.
+
+ghost use Rattle.std.specs.Prelude.{◌≡◌, ◌≤◌, codes, map, option_map, IfOk};
+ghost use Rattle.ll_rights.specs.declared.limits.TheConstants.{HISTORY_ENTRIES, TREE_NODES};
+
+use crate::values::{number_in, number_of};
+use clap::ArgMatches;
+use ll_rights::limits::{HISTORY_ENTRIES, TREE_NODES};
+use std::alloc::{AllocError, Global};
+
+/// What is asked.
+#[derive(Clone, Copy)]
+pub enum Question<'a> {
+    /// Why a command does what it does, in a new tree by the policy in a file, of a client of its profile: the file's
+    /// name, the profile's, and the command.
+    Command(&'a str, &'a str, &'a str),
+    /// Why an entry of a saved history was answered so: the file, or standard input where it is `-`, and the entry's
+    /// number, from 1.
+    Entry(&'a str, u64),
+}
+
+/// Why it is that is wanted: words that name a history and a number, or else a command, with a policy and a profile, in
+/// a tree in which so many nodes may live.
+#[derive(Drop)]
+pub struct WhyOptions<'a> {
+    pub words: Vec<&'a str>,
+    pub policy: Option<&'a str>,
+    pub profile: Option<&'a str>,
+    pub nodes: usize,
+    ghost some: { 1 ≤ nodes },
+    ghost most: { nodes ≤ TREE_NODES },
+}
+
+impl<'a> WhyOptions<'a> {
+    ghost use Rattle.clap.specs.Words.{found_of, rows_of};
+    ghost use Rattle.ll_options.specs.Options.{asked_by, fits_why, question_of, why_in, why_order};
+
+    /// What the matches of `why` ask for. Errors: memory ran out.
+    #[tactic(auto, using(crate::proofs::Numbers::text_told, crate::proofs::Numbers::texts_told))]
+    pub(crate) fn of_matches(
+        alloc: Global,
+        why: &ArgMatches<'a>,
+    ) -> Result<Option<WhyOptions<'a>>, AllocError>
+        ensures { IfOk result (λ o. option_map why_in o ≡ why_order (rows_of (found_of why.now))) }
+    {
+        let Some(words) = why.get_strs("WORD") else {
+            return Ok(None);
+        };
+        let Some(nodes) = number_of(why, "nodes", 1, TREE_NODES as u64) else {
+            return Ok(None);
+        };
+        let words = Vec::from_slice(alloc, words)?;
+        let policy = why.get_str("policy");
+        let profile = why.get_str("profile");
+        Ok(Some(WhyOptions {
+            words,
+            policy,
+            profile,
+            nodes: nodes as usize,
+        }))
+    }
+
+    /// What is asked, where the words and the options go together.
+    pub fn question(&self) -> Option<Question<'a>>
+        ensures { option_map question_of result ≡ asked_by (why_in self.now) }
+    {
+        match (self.words.as_slice(), self.policy, self.profile) {
+            ([command], Some(policy), Some(profile)) => {
+                Some(Question::Command(policy, profile, command))
+            }
+            ([history, number], None, None) => {
+                let number = number_in(number, 1, HISTORY_ENTRIES as u64)?;
+                Some(Question::Entry(history, number))
+            }
+            _ => None,
+        }
+    }
+
+    /// Whether the options go together: a history and a number alone, or a command with a policy and a profile.
+    pub fn fit(&self) -> bool
+        ensures { result ≡ fits_why (why_in self.now) }
+    {
+        self.question().is_some()
+    }
+}

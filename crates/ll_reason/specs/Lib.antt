@@ -1,0 +1,4 @@
+pub mod Entries
+pub mod Explained
+pub mod Names
+pub mod Told

@@ -1,0 +1,30 @@
+//! Texts of several parts.
+
+ghost use Rattle.std.specs.Prelude.{◌≡◌, map, IfOk, string_bytes};
+ghost use Rattle.std.specs.List.{concat};
+ghost use Rattle.ll_reason.specs.Told.{rights_line};
+
+use ll_rights::Access;
+use std::alloc::{AllocError, Global};
+
+/// The parts in a row.
+pub(crate) fn concat(alloc: Global, parts: &[&str]) -> Result<String, AllocError>
+    ensures { IfOk result (λ text. string_bytes text ≡ concat (map (λ p. p.now) parts.now)) }
+{
+    let mut text = String::new(alloc);
+    for part in parts {
+        text.push_str(part)?;
+    }
+    Ok(text)
+}
+
+/// Some rights behind words that say what they are, as a line; nothing where there is none.
+pub(crate) fn rights_line(alloc: Global, words: &str, rights: Access) -> Result<String, AllocError>
+    ensures { IfOk result (λ text. string_bytes text ≡ rights_line words.now rights.0) }
+{
+    if rights.0 == 0 {
+        return Ok(String::new(alloc));
+    }
+    let names = rights.text(alloc)?;
+    concat(alloc, &["  ", words, ": ", names.as_str(), "\n"])
+}

@@ -1,0 +1,5 @@
+pub mod Endings
+pub mod First
+pub mod Hosted
+pub mod Loadings
+pub mod Stopping

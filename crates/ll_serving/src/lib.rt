@@ -1,0 +1,15 @@
+//! Connections to a port of this machine, served on one tree that threads share, as the program's words ask for it.
+#![tactic(auto)]
+
+mod closing;
+mod counting;
+mod hosting;
+mod listening;
+mod loading;
+mod log;
+mod port;
+mod program;
+
+pub use log::Log;
+pub use port::{Binds, Loopback, Port};
+pub use program::serve;

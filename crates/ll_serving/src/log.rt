@@ -1,0 +1,126 @@
+//! What is told of connections on standard error.
+
+use crate::counting::{Counted, Tally};
+use ll_client::Shape;
+use ll_options::ServeOptions;
+use ll_serve::{Served, Stream, Watches};
+use std::io::Write;
+use std::sync::{Mutex, Wait};
+
+/// How much is told.
+#[derive(Clone, Copy, Debug, PartialEq, Eq)]
+enum Telling {
+    Nothing,
+    /// How many connections are open, in one line that is written again and again.
+    Open,
+    /// A line for each that comes or goes, and the totals.
+    Lines,
+}
+
+// What was told so far, and where. Nobody is told that it can't be written.
+#[derive(Drop)]
+struct Desk<E> {
+    err: E,
+    telling: Telling,
+    open: u64,
+    connections: u64,
+    clients: u64,
+    tally: Tally,
+}
+
+impl<E: Write> Desk<E> {
+    fn tell_open(&mut self) {
+        let open = self.open;
+        if self.telling == Telling::Open {
+            let _ = write!(self.err, "\r{open} open ");
+        }
+    }
+
+    fn came(&mut self, number: u64) {
+        self.open = self.open.saturating_add(1);
+        self.connections = self.connections.saturating_add(1);
+        if self.telling == Telling::Lines {
+            let _ = writeln!(self.err, "connection {number} came");
+        }
+        self.tell_open();
+    }
+
+    fn went<N: Shape, R, W>(&mut self, number: u64, tally: Tally, served: &Served<N, R, W>) {
+        let clients = served.clients.len() as u64;
+        self.open = self.open.saturating_sub(1);
+        self.clients = self.clients.saturating_add(clients);
+        self.tally = self.tally.plus(tally);
+        if self.telling == Telling::Lines {
+            let Tally { lines, denials, .. } = tally;
+            let _ = match &served.ended {
+                Ok(()) => writeln!(
+                    self.err,
+                    "connection {number} went: {clients} clients, {lines} lines, {denials} denied, at its end"
+                ),
+                Err(fault) => writeln!(
+                    self.err,
+                    "connection {number} went: {clients} clients, {lines} lines, {denials} denied, {fault}"
+                ),
+            };
+        }
+        self.tell_open();
+    }
+
+    fn end(&mut self) {
+        let (connections, clients) = (self.connections, self.clients);
+        let Tally { lines, denials, .. } = self.tally;
+        let _ = match self.telling {
+            Telling::Nothing => Ok(()),
+            Telling::Open => writeln!(self.err, ""),
+            Telling::Lines => writeln!(
+                self.err,
+                "{connections} connections: {clients} clients, {lines} lines, {denials} denied"
+            ),
+        };
+    }
+}
+
+/// Tells of connections, as they come and go and at the end: where the options ask for a log, a line each, and else,
+/// where somebody watches, how many are open.
+#[derive(Drop)]
+pub struct Log<'a, H, E> {
+    rt: &'a H,
+    desk: Mutex<Desk<E>>,
+}
+
+impl<'a, H: Wait, E: Write> Log<'a, H, E> {
+    pub fn new(rt: &'a H, options: &ServeOptions, err: E, is_watched: bool) -> Self {
+        let telling = if options.log {
+            Telling::Lines
+        } else if is_watched {
+            Telling::Open
+        } else {
+            Telling::Nothing
+        };
+        let desk = Mutex::new(Desk {
+            err,
+            telling,
+            open: 0,
+            connections: 0,
+            clients: 0,
+            tally: Tally::NOTHING,
+        });
+        Log { rt, desk }
+    }
+
+    /// No more connections come.
+    pub(crate) fn end(&self) {
+        self.desk.lock(self.rt).end();
+    }
+}
+
+impl<H: Wait, E: Write, R, W> Watches<R, Counted<W>> for Log<'_, H, E> {
+    fn came(&self, stream: &Stream<R, Counted<W>>) {
+        self.desk.lock(self.rt).came(stream.number);
+    }
+
+    fn went<N: Shape>(&self, stream: &Stream<R, Counted<W>>, served: &Served<N, R, Counted<W>>) {
+        let mut desk = self.desk.lock(self.rt);
+        desk.went(stream.number, stream.writer.tally, served);
+    }
+}
