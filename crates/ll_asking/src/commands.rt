@@ -87,14 +87,14 @@ fn call_why(alloc: Global, mut tree: Plain, client: u64, call: &Call) -> Result<
     command_text(alloc, call, &reply, &told)
 }
 
-// Nothing happens. No list in memory is longer.
+// Does nothing: it tells only that no list in memory is longer.
 fn fits(calls: &[Call])
     ensures { length calls.now < 2 ^ 62 }
 {
     let _calls = calls;
 }
 
-// Nothing happens. The same of the loader's calls.
+// Does nothing: it tells the same of the loader's calls.
 fn loader_fits(loader: &Option<Vec<Call>>)
     ensures { IfSome loader.now (λ calls. length calls.items < 2 ^ 62) }
 {

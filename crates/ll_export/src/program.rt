@@ -11,8 +11,9 @@ use ll_policy::{Layer, Rule};
 use ll_rights::Access;
 use std::alloc::{AllocError, Global};
 
-/// What a program is made for: the directory that stands for the policy's root, further paths, parted by colons, on
-/// which each layer lets files be read and executed too, and whether it refuses where rights would be cut.
+/// What a program is made for: the directory that stands for the policy's root; further paths, parted by colons, on
+/// which each layer lets files be read and executed too; and whether the program refuses to go on where the kernel
+/// doesn't know some of the rights.
 #[derive(Drop)]
 pub struct Place<'a> {
     pub root: &'a str,

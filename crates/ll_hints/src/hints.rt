@@ -123,8 +123,8 @@ impl Hints {
         }
     }
 
-    /// Where in a script's line of this number, from 1, something else was expected, and what; of a line that spells no
-    /// command.
+    /// Of the script's line of this number, from 1, which spells no command: where in it something else was expected,
+    /// and what.
     pub fn of_command(&mut self, name: &str, text: &[u8], number: usize) {
         let Ok(
             Blame {
@@ -147,7 +147,8 @@ impl Hints {
         }
     }
 
-    /// The same of the script's line that has ended a strict run, which told this of it: its number is in there.
+    /// The same of a bad line at which a strict run has ended. `told` is what the program says of that end, and has the
+    /// bad line's number in it.
     pub fn of_stop(&mut self, script: &str, told: &str, text: &[u8]) {
         let Some(told) = told.strip_prefix(script) else {
             return;
@@ -163,7 +164,7 @@ impl Hints {
         }
     }
 
-    /// How to ask what the tree answers where a history isn't legal: at its entry of this number.
+    /// The history isn't legal at its entry of this number: how to ask what the tree answers there.
     pub fn of_entry(&mut self, name: &str, entry: usize) {
         let told = format!(in self.alloc;
             "`landtree why {name} {entry}` tells what the tree answers"

@@ -28,9 +28,9 @@ impl Form {
     }
 }
 
-/// The text that is wanted: of the profile of the policy in this file, in this form, where its word names one; for this
-/// directory in the place of the policy's root, with these directories open to each layer too, and to be refused where
-/// rights would be cut, if that is asked for.
+/// The text that is wanted: the policy's file and the profile; the form, if the word for it names one; the directory
+/// that stands for the policy's root, if one is told; further directories, in which each layer lets files be read and
+/// executed; and whether the exported program refuses to go on where the kernel doesn't know some of the rights.
 #[derive(Drop)]
 pub struct ExportOptions<'a> {
     pub policy: &'a str,

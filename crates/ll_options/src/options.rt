@@ -15,10 +15,10 @@ use ll_rights::Abi;
 use ll_rights::limits::{HISTORY_ENTRIES, TREE_NODES};
 use std::alloc::{AllocError, Global};
 
-/// The run that is wanted: of the script in this file, or in standard input where it is `-`, over a tree in which so
-/// many nodes may live, at this level or by the policy in this file, whose profile the first client has. Its history
-/// has at most so many entries, and is saved in a file, if one is named. A strict run ends at the first line that says
-/// nothing, or that is refused where layers are asked for.
+/// The run that is wanted: its script's file (`-` is standard input); how many nodes may live in its tree; the tree's
+/// level, or the file of its policy and the profile that the first client has; how many entries its history may have,
+/// and the file in which this is saved, if any; and whether the run is strict. A strict run ends at the first line that
+/// says nothing, or that is refused where layers are asked for.
 #[derive(Drop)]
 pub struct RunOptions<'a> {
     pub script: &'a str,
@@ -89,9 +89,8 @@ impl<'a> RunOptions<'a> {
     }
 }
 
-/// The schedule that is wanted: in this file, or in standard input where it is `-`, over a tree in which so many nodes
-/// may live, at this level. Its history has at most so many entries, and its picture is drawn into a file, if one is
-/// named.
+/// The schedule that is wanted: its file (`-` is standard input); how many nodes may live in its tree; the tree's
+/// level; how many entries its history may have; and the file into which its picture is drawn, if any.
 #[derive(Drop)]
 pub struct ScheduleOptions<'a> {
     pub file: &'a str,
@@ -136,8 +135,9 @@ impl<'a> ScheduleOptions<'a> {
     }
 }
 
-/// The check that is wanted: of the tests in these files (`-` is standard input), each over a tree of its own in which
-/// so many nodes may live, at this level or by the policy in this file, whose profile the first client has.
+/// The check that is wanted: its files of tests (`-` is standard input), each of which has a tree of its own; how many
+/// nodes may live in each tree; the trees' level, or the file of their policy and the profile that the first client
+/// has.
 #[derive(Drop)]
 pub struct CheckOptions<'a> {
     pub files: Vec<&'a str>,

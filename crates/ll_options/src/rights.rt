@@ -8,9 +8,9 @@ use clap::ArgMatches;
 use ll_rights::limits::TREE_NODES;
 use std::alloc::{AllocError, Global};
 
-/// The rights that are wanted: those of the profile of the policy in this file, in a tree in which so many nodes may
-/// live, on these paths, or on the policy's nodes where there is none, with what each layer grants where that is asked
-/// for.
+/// The rights that are wanted: the policy's file and the profile; how many nodes may live in the tree; the paths on
+/// which rights are told (without any, they are told on the policy's nodes); and whether it is told what each layer
+/// grants.
 #[derive(Drop)]
 pub struct RightsOptions<'a> {
     pub policy: &'a str,

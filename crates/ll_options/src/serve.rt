@@ -23,10 +23,10 @@ pub(crate) const CONNECTIONS: usize = 62;
 /// How many seconds a connection may at most be allowed to wait.
 pub(crate) const IDLE_SECONDS: u64 = 3600;
 
-/// The serving that is wanted: at this port, so many connections in all and so many at a time, each given up after so
-/// many seconds without a byte, if that is told, and each told of, if that is asked for; over a tree in which so many
-/// nodes may live, at this level or by the policy in this file, whose profile each connection's first client has. The
-/// tree's history has at most so many entries, and is saved in a file, if one is named.
+/// The serving that is wanted: its port; how many connections are served in all, and how many at a time; after how many
+/// seconds without a byte one is given up, if ever; whether a log tells of each; how many nodes may live in the tree
+/// that they share; the tree's level, or the file of its policy and the profile that each connection's first client
+/// has; how many entries its history may have, and the file in which this is saved, if any.
 #[derive(Drop)]
 pub struct ServeOptions<'a> {
     pub port: u16,

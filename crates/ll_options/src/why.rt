@@ -19,8 +19,8 @@ pub enum Question<'a> {
     Entry(&'a str, u64),
 }
 
-/// Why it is that is wanted: words that name a history and a number, or else a command, with a policy and a profile, in
-/// a tree in which so many nodes may live.
+/// The explanation that is wanted: words that name a history and an entry's number, or else a command; for a command
+/// the policy's file and the profile; and how many nodes may live in the tree.
 #[derive(Drop)]
 pub struct WhyOptions<'a> {
     pub words: Vec<&'a str>,

@@ -36,7 +36,7 @@ fn wants_memory(reply: &Reply) -> bool
     matches!(reply, Reply::Refused(Errno::NoMemory))
 }
 
-/// Why an entry that may not stand in the tree's state may not, which is changed then.
+/// Tells why an entry that may not stand in the tree's state may not. The tree is changed then.
 pub(crate) fn answer_at(tree: &mut Plain, entry: &Entry) -> Result<Standing, AllocError>
     requires next { tree.old.next < 2 ^ 64 - 1 }
     requires not { MayStand tree.old entry.now → ⊥ }

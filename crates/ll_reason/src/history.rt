@@ -127,9 +127,10 @@ fn text_wanted(alloc: Global, saved: &Saved, wanted: usize) -> Result<String, Al
     text_of(alloc, saved.header, entries, number, stands)
 }
 
-/// What is told of the entry of this number, from 1, of the saved history in these bytes: who called, what, and
-/// what was answered; why policy lets the call pass there, or doesn't, and what would; or of an entry that may not
-/// stand what the tree answers. Where an entry before it may not stand, the first of these is told of.
+/// Explains one entry of the saved history in these bytes, the one of this number, from 1: who called, what, and what
+/// was answered. Then why policy lets the call pass there, or why it doesn't and which change would. Of an entry that
+/// may not stand it is told what the tree answers. Where an entry before it may not stand, the first such entry is
+/// explained in its place.
 pub fn why_entry(alloc: Global, bytes: &[u8], wanted: usize) -> Result<HistoryWhy, AllocError>
     ensures { IfOk result (IsHistoryWhy (pieces bytes.now) wanted) }
 {

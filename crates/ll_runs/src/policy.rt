@@ -21,8 +21,7 @@ use ll_session::Setup;
 use std::alloc::Global;
 use std::io::Read;
 
-/// The policy that a text gives, or why it gives none, whatever else is asked for: its first fault. Errors: memory ran
-/// out.
+/// The policy that a text gives, or the text's first fault, whatever else is asked for. Errors: memory ran out.
 pub fn policy_of(alloc: Global, text: &[u8]) -> Result<Policy, Failure>
     ensures utf8 { OnOk result (IsUtf8 text.now) }
     ensures right { OnOk result (document_faults (parse_document text.now) ≡ []) }

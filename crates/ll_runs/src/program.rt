@@ -116,8 +116,8 @@ fn run_to_end<H: Wait, P: Read, R: Read, W: Write, F: Write>(
     save_history(alloc, header, &history, file)
 }
 
-/// Runs a script as the options ask for it, by the policy in this file where they name one, and saves the history in
-/// the other file, under the header of the tree that it is of, where they name that. A strict run may end early.
+/// Runs a script as the options ask for it: where they name a policy, by the one that `policy` reads. Where they name a
+/// file for the history, it is saved into `file`, under the header of its tree. A strict run may end early.
 pub fn run<H: Wait, P: Read, R: Read, W: Write, F: Write>(
     rt: &H,
     alloc: Global,

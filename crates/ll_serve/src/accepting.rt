@@ -28,8 +28,9 @@ pub trait Accepts {
     fn accept(&self) -> Option<(Self::In, Self::Out)>;
 }
 
-// Streams as they come to a listener, so many in all. Whoever takes one accepts the next that comes, hands it over, and
-// takes one that was handed over: so nobody waits for another to accept, and each that was handed over is taken.
+// Streams as they come to a listener, so many in all. A worker that takes a stream first accepts the next one that
+// comes and sends it over the channel, and then takes one out of the channel. So no worker waits for another one to
+// accept, and each stream that was sent is taken.
 #[derive(Drop)]
 struct Coming<'a, L: Accepts> {
     listener: &'a L,
@@ -63,8 +64,9 @@ impl<'a, L: Accepts> Takes<L::In, L::Out> for Coming<'a, L> {
     }
 }
 
-/// So many threads accept so many streams in all, and serve each. Where some of the threads can't be started the others
-/// accept and serve. What is left of each that was served: see `serve_streams`. Errors: there is no memory for that.
+/// So many threads accept so many streams in all, and serve each. Where some of the threads can't be started, the
+/// others accept and serve. Gives what is left of each stream that was served, as `serve_streams` does. Errors: there
+/// is no memory for that.
 pub fn serve_on<
     N: Shape + Send + Sync,
     G: Gate<N> + Sync,

@@ -49,7 +49,7 @@ fn come<N: Shape, H: Wait, G: Gate<N>>(
 
 /// Serves one stream: a client comes, makes the calls of its profile, and answers each line that is read, beside
 /// whatever others call on the tree. Where its connect is refused, or one of those calls, the reply's line is all that
-/// is written, and nothing is read. The clients are left that have come: it, and those that it has spawned.
+/// is written, and nothing is read. Gives the clients that have come: this one, and those that it has spawned.
 pub fn visit<N: Shape, H: Wait, G: Gate<N>, E: Ends>(
     rt: &H,
     alloc: Global,
@@ -63,7 +63,8 @@ pub fn visit<N: Shape, H: Wait, G: Gate<N>, E: Ends>(
     requires whole { IsWhole (E.devices ends.old) }
     requires answered { (E.devices ends.old).owed ≡ 0 }
     requires reads { (E.devices ends.old).reads ≤ 2 ^ 62 }
-    // Without a fault all was read, and the transcript of it written; or the refusal was.
+    // Without a fault all was read, and the transcript of it was written; or the client was refused, and the refusal
+    // was written.
     ensures ok { OnOk result.1 (Visits N.limit profile.items (E.devices ends.old) (E.devices ends.new)
         (map (λ c. c.rider) result.0.items)) }
     // With one, a beginning of that, and the calls were made that were told.
@@ -96,7 +97,7 @@ pub fn visit<N: Shape, H: Wait, G: Gate<N>, E: Ends>(
     }
 }
 
-// Serves one stream by these rules. Its clients, and how it ended.
+// Serves one stream by these rules, and gives its clients and how it ended.
 fn serve_ends<N: Shape, G: Gate<N>, H: Wait, R: Read, W: Write>(
     rt: &H,
     alloc: Global,
@@ -123,7 +124,7 @@ fn serve_ends<N: Shape, G: Gate<N>, H: Wait, R: Read, W: Write>(
     visit(rt, alloc, host.tree, host.limit, profile, &mut ends)
 }
 
-/// Serves one stream: see `visit`. What is left of it.
+/// Serves one stream as `visit` does, and gives what is left of it.
 pub fn serve_stream<N: Shape, G: Gate<N>, H: Wait, R: Read, W: Write>(
     rt: &H,
     alloc: Global,

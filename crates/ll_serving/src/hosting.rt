@@ -33,7 +33,7 @@ use std::marker::Brand;
 use std::sync::Wait;
 use std::thread::Threads;
 
-// A fresh tree, and nobody who has come to it. None where memory is wanted.
+// A fresh tree, and a party to which nobody has come yet. None where memory runs out.
 fn fresh<N: Shape>(
     alloc: Global,
     blank: Blank<Account>,

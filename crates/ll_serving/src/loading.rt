@@ -33,8 +33,8 @@ fn know_at_most<N: Shape>(clients: &[Client<N>], entries: u64) -> bool
     clients.iter().all(|client| client.seen() <= entries)
 }
 
-/// Nothing happens where these clients know of at most so many entries, as the loader does, to whom nobody came. Else
-/// it waits forever.
+/// Does nothing if these clients know of at most so many entries, as the loader does, since nobody else has come. Else
+/// waits forever.
 pub(crate) fn knows_only<N: Shape, H: Wait>(rt: &H, clients: &[Client<N>], entries: usize)
     ensures { All (λ c. c.rider.seen ≤ entries) clients.now }
 {

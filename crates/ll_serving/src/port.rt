@@ -8,8 +8,8 @@ use std::time::Duration;
 pub trait Binds {
     type Listener: Accepts + Sync + Drop;
 
-    /// Listens at this port. A stream that says nothing for so many seconds, or takes no reply, fails, if a number is
-    /// told. None where the port can't be bound.
+    /// Listens at this port. Where a number of seconds is told, a stream fails that says nothing, or takes no reply,
+    /// for so long. None where the port can't be bound.
     fn bind(&self, port: u16, idle: Option<u64>) -> Option<Self::Listener>;
 }
 

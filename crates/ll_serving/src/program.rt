@@ -30,10 +30,10 @@ fn run_of<'a>(options: &ServeOptions<'a>) -> RunOptions<'a>
     }
 }
 
-/// Serves connections as the options ask for it: on a tree that is set up by the policy in this file, where they name
-/// one, to which its loader comes first; then the port is bound, and told, and each stream that comes is served. In
-/// the end the tree is closed with the clients of all streams and the loader's, and its history is saved in the other
-/// file, under the header of the tree, where they name that.
+/// Serves connections as the options ask for it. Where they name a policy, the tree is set up by the one that `policy`
+/// reads, and its loader comes first. Then the port is bound and told, and each stream that comes is served. In the end
+/// the tree is closed with the clients of all streams and the loader. Where the options name a file for the history, it
+/// is saved into `file`, under the header of the tree.
 pub fn serve<H: Threads + Wait + Sync, B: Binds, P: Read, W: Write, E: Write + Send, F: Write>(
     rt: &H,
     alloc: Global,
