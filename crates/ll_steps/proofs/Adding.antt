@@ -1,5 +1,5 @@
 -- What each outcome tells of the history, and what holds of every world.
-use Rattle.std.specs.Prelude.{◌≡◌, ◌≢◌, ℕ, ◌+◌, ◌<◌, ◌≤◌, false, List, [], ◌∷◌, ◌++◌, length, take, Option, Some, None}
+use Rattle.std.specs.Prelude.{◌≡◌, ◌≢◌, ℕ, ◌+◌, ◌<◌, ◌≤◌, false, List, [], ◌∷◌, ◌++◌, length, take, Option, Some}
 use Rattle.std.specs.Prelude.{slice_get, Result, Ok, Err, IfOk, OnErr, refl}
 use Rattle.std.proofs.Common.{sym, ap, subst, ◌∙◌, inl, inr, append_assoc, get_or}
 use Rattle.std.proofs.lemmas.List.{append-nil, length-append, take_more, take_all}

@@ -22,7 +22,7 @@ fn answered(number: u64, answer: Made) -> Report
 }
 
 /// The descriptor that the call is made on.
-fn descriptor_of(call: &Call) -> Option<u64>
+pub(crate) fn descriptor_of(call: &Call) -> Option<u64>
     ensures { result ≡ world.descriptor_of call.now }
 {
     match call {

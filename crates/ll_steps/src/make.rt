@@ -7,13 +7,14 @@ ghost use Rattle.ll_steps.specs.Contents.{IsKept};
 ghost use Rattle.ll_steps.specs.Headline.{IsLawful};
 ghost use Rattle.ll_steps.specs.Left.{StepsOn};
 
+use crate::direct::descriptor_of;
 use crate::report::Report;
+use crate::slots::Hands;
 use crate::walk::{commit_with, descend_between, enter_at, fork_in, restart_with};
 use crate::world::World;
 use ll_held::Held;
 use ll_journal::{Journal, Next};
 use ll_seq::Call;
-use std::alloc::Global;
 
 /// The slot of the directory where the leg in turn of the client's walk stands, or the root's where none stands.
 fn slot_in_turn(journal: &Journal, client: u64) -> u64
@@ -40,7 +41,12 @@ fn unless_made(outcome: Report) -> Option<Report>
 
 /// Makes the one step of the client's walk that comes next. None where the walk is to be led on; else what comes of its
 /// call, or that it waits.
-fn step_on(journal: &mut Journal, slots: &mut [Held], alloc: Global, client: u64) -> Option<Report>
+fn step_on(
+    journal: &mut Journal,
+    slots: &mut [Held],
+    hands: &mut Hands,
+    client: u64,
+) -> Option<Report>
     requires { IsKept journal.old slots.old }
     ensures steps { StepsOn journal.old.world client result journal.new.world }
     ensures kept { IsKept journal.new slots.new }
@@ -49,13 +55,13 @@ fn step_on(journal: &mut Journal, slots: &mut [Held], alloc: Global, client: u64
     let outcome = match journal.next_step(client, from, &slots[from as usize]) {
         Next::Nothing => return Some(Report::NotNow),
         Next::Commit(needed) => {
-            let outcome = commit_with(journal, slots, alloc, client, needed.as_slice());
+            let outcome = commit_with(journal, slots, hands, client, needed.as_slice());
             return Some(outcome);
         }
         Next::Enter(slot) => enter_at(journal, slots, client, slot),
         Next::Descend(to) => descend_between(journal, slots, client, from, to),
         Next::Fork => fork_in(journal, slots, client),
-        Next::Restart(needed) => restart_with(journal, slots, alloc, client, needed.as_slice()),
+        Next::Restart(needed) => restart_with(journal, slots, hands, client, needed.as_slice()),
     };
     unless_made(outcome)
 }
@@ -66,7 +72,7 @@ impl World {
     fn go_on(&mut self, client: u64) -> Option<Report>
         ensures { StepsOn self.old client result self.new }
     {
-        step_on(&mut self.journal, &mut self.slots, self.alloc, client)
+        step_on(&mut self.journal, &mut self.slots, &mut self.hands, client)
     }
 
     /// The client's walk is led to its answer, as far as it goes.
@@ -91,16 +97,29 @@ impl World {
         outcome
     }
 
+    /// The same of a call on a descriptor.
+    fn steps_on_file(&mut self, client: u64, call: Call) -> Report
+        ensures { Calls self.old client call result self.new }
+    {
+        match self.fd_commit(client, call) {
+            Ok(outcome) => outcome,
+            Err(call) => match self.start(client, call) {
+                Some(outcome) => outcome,
+                None => self.lead(client),
+            },
+        }
+    }
+
+    /// The same of any call. One on no descriptor needn't be handed in and back.
     fn steps_of(&mut self, client: u64, call: Call) -> Report
         ensures { Calls self.old client call result self.new }
     {
-        let call = match self.fd_commit(client, call) {
-            Ok(outcome) => return outcome,
-            Err(call) => call,
-        };
-        match self.start(client, call) {
-            Some(outcome) => outcome,
-            None => self.lead(client),
+        match descriptor_of(&call) {
+            Some(_) => self.steps_on_file(client, call),
+            None => match self.start(client, call) {
+                Some(outcome) => outcome,
+                None => self.lead(client),
+            },
         }
     }
 }

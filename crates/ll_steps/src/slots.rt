@@ -17,13 +17,20 @@ use ll_seq::ROOT;
 use std::alloc::{AllocError, Global};
 
 /// What lies in a vacant slot. Takes no memory.
-pub(crate) fn vacant(alloc: Global) -> Held
+fn vacant(alloc: Global) -> Held
     ensures { result ≡ lent.vacant }
 {
     Held {
         inode: 0,
         node: Slot::new(alloc, Kind::Reg),
     }
+}
+
+/// What is lent to a step is taken into these, and put back after it: no step needs more slots.
+pub(crate) type Hands = [Held; 4];
+
+pub(crate) fn new_hands(alloc: Global) -> Hands {
+    [vacant(alloc), vacant(alloc), vacant(alloc), vacant(alloc)]
 }
 
 /// The slots of a tree of the root alone.

@@ -14,13 +14,12 @@ ghost use Rattle.ll_journal.specs.Steps.{IsNext, is_at_top};
 ghost use Rattle.ll_steps.specs.Makes.{Makes};
 
 use crate::report::Report;
-use crate::slots::{trade, vacant};
+use crate::slots::{Hands, trade};
 use crate::world::World;
 use ll_held::Held;
 use ll_journal::{Ending, Journal, Progress, Station};
 use ll_rights::Errno;
 use ll_seq::Call;
-use std::alloc::Global;
 
 /// The same, where enough was lent.
 fn told(outcome: Progress) -> Report
@@ -153,11 +152,11 @@ fn commit_lent(
     ended(number, ending)
 }
 
-/// The same. Most calls need two slots at most.
+/// The same, with these hands.
 pub(crate) fn commit_with(
     journal: &mut Journal,
     slots: &mut [Held],
-    alloc: Global,
+    hands: &mut Hands,
     client: u64,
     numbers: &[u64],
 ) -> Report
@@ -170,13 +169,7 @@ pub(crate) fn commit_with(
     ensures makes { Makes journal.old.world (steps.Commit client) result journal.new.world }
     ensures kept { IsKept journal.new slots.new }
 {
-    if numbers.len() <= 2 {
-        let mut held = [vacant(alloc), vacant(alloc)];
-        commit_lent(journal, slots, client, numbers, &mut held[..numbers.len()])
-    } else {
-        let mut held = [vacant(alloc), vacant(alloc), vacant(alloc), vacant(alloc)];
-        commit_lent(journal, slots, client, numbers, &mut held[..numbers.len()])
-    }
+    commit_lent(journal, slots, client, numbers, &mut hands[..numbers.len()])
 }
 
 /// The client's walk leaves what is common to both paths.
@@ -192,7 +185,7 @@ pub(crate) fn fork_in(journal: &mut Journal, slots: &[Held], client: u64) -> Rep
 pub(crate) fn restart_with(
     journal: &mut Journal,
     slots: &mut [Held],
-    alloc: Global,
+    hands: &mut Hands,
     client: u64,
     numbers: &[u64],
 ) -> Report
@@ -204,8 +197,7 @@ pub(crate) fn restart_with(
     ensures makes { Makes journal.old.world (steps.Restart client) result journal.new.world }
     ensures kept { IsKept journal.new slots.new }
 {
-    let mut held = [vacant(alloc), vacant(alloc), vacant(alloc)];
-    let lent = &mut held[..numbers.len()];
+    let lent = &mut hands[..numbers.len()];
     trade(slots, numbers, lent);
     let outcome = journal.restart(client, numbers, lent);
     trade(slots, numbers, lent);
@@ -274,7 +266,7 @@ impl World {
         commit_with(
             &mut self.journal,
             &mut self.slots,
-            self.alloc,
+            &mut self.hands,
             client,
             numbers,
         )
@@ -289,7 +281,7 @@ impl World {
         restart_with(
             &mut self.journal,
             &mut self.slots,
-            self.alloc,
+            &mut self.hands,
             client,
             numbers,
         )

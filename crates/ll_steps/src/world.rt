@@ -3,7 +3,7 @@
 ghost use Rattle.std.specs.Prelude.{◌≡◌, ◌≤◌, IfOk};
 ghost use Rattle.ll_rights.specs.declared.limits.TheConstants.{HISTORY_ENTRIES, TREE_NODES};
 
-use crate::slots::new_slots;
+use crate::slots::{Hands, new_hands, new_slots};
 use ll_held::Held;
 use ll_journal::{Journal, Station};
 use ll_seq::{History, Rules};
@@ -16,6 +16,7 @@ pub struct World {
     pub(crate) alloc: Global,
     pub(crate) journal: Journal,
     pub(crate) slots: Vec<Held>,
+    pub(crate) hands: Hands,
 }
 
 impl Model for World {
@@ -56,6 +57,7 @@ impl World {
             alloc,
             journal: Journal::new(alloc, rules, nodes, history)?,
             slots: new_slots(alloc, nodes)?,
+            hands: new_hands(alloc),
         })
     }
 

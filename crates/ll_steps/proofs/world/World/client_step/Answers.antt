@@ -1,4 +1,4 @@
-use Rattle.std.proofs.Common.{List, length, Result, Ok, IfOk, refl, ap, sym, subst, ◌∙◌}
+use Rattle.std.proofs.Common.{List, length, Result, IfOk, refl, ap, sym, subst, ◌∙◌}
 use Rattle.ll_seq.specs.declared.call.Call.{Call}
 use Rattle.ll_seq.specs.declared.reply.Entry.{Entry}
 use Rattle.ll_worlds.specs.World.{World}

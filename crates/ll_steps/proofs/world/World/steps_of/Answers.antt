@@ -1,17 +1,10 @@
-use Rattle.ll_steps.specs.Calling.{on_file}
-use Rattle.ll_steps.proofs.StepKinds.{calls_stop, calls_walk}
+use Rattle.std.proofs.Common.{sym}
+use Rattle.ll_steps.specs.Calling.{walks}
+use Rattle.ll_steps.proofs.DirectMakes.{no_descriptor}
 use Rattle.ll_steps.proofs.world.World.steps_of.Goals as goal
 
-pub returns-in-Ok : goal.returns-in-Ok
-returns-in-Ok c = on_file c.fd_commit.new.self c.in-Ok.outcome c.in-Ok.ensures.makes c.in-Ok.ensures.made
-
-pub returns-in-Some : goal.returns-in-Some
-returns-in-Some c =
-    calls_stop c.args.self.now c.args.client c.args.call c.in-Err.ensures.not_now c.fd_commit.new.self c.in-Err.call
-    c.in-Err.ensures.same c.in-Err.ensures.back c.start.new.self c.in-Some.outcome c.in-Some.ensures.stops
-
-pub returns-in-None : goal.returns-in-None
-returns-in-None c =
-    calls_walk c.args.self.now c.args.client c.args.call c.in-Err.ensures.not_now c.fd_commit.new.self c.in-Err.call
-    c.in-Err.ensures.same c.in-Err.ensures.back c.start.new.self c.lead.new.self c.lead.result
-    c.in-None.ensures.alone c.in-None.ensures.begins c.lead.ensures
+pub returns-in-None-start : goal.returns-in-None-start
+returns-in-None-start c =
+    walks c.start.new.self c.lead.new.self c.lead.result
+    (no_descriptor c.args.self.now c.args.client c.args.call (sym c.in-None.ensures))
+    c.in-None-start.ensures.alone c.in-None-start.ensures.begins c.lead.ensures
