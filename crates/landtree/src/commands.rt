@@ -15,6 +15,7 @@ ghost use Rattle.ll_serving.specs.Serving as serving;
 ghost use Rattle.ll_saved.specs.Saved.{Judges};
 ghost use Rattle.ll_wire.specs.Pieces.{pieces};
 
+use crate::openings::{hint_at_opening, opening_run};
 use ll_asking::tell_why;
 use ll_explain::tell_rights;
 use ll_export::export;
@@ -25,6 +26,7 @@ use ll_options::{
     ServeOptions, WhyOptions,
 };
 use ll_replay::{draw_schedule, perform_schedule, setup_by};
+use ll_rights::limits::TREE_NODES;
 use ll_runs::{Checked, Conclusion, Failure, Shown, audit, check, read_text, run};
 use ll_saved::Verdict;
 use ll_serving::{Binds, Log, serve};
@@ -32,32 +34,37 @@ use std::io::{IsTerminal, Read};
 use std::sync::Wait;
 use std::thread::Threads;
 
-// Tells where the fault of a policy is that keeps a command from being done, or that it lacks the profile.
+// Tells where the fault of a policy is that keeps a command from being done, or that it lacks the profile, or which of
+// its calls is refused. It is read again, so only where hints are wanted.
 fn hint_at_policy<S: Sources>(
     rt: &HostRuntime,
     sources: &S,
     hints: &mut Hints,
     failure: &Failure,
-    policy: Option<&str>,
-    profile: Option<&str>,
+    run: &RunOptions,
 ) {
-    let Some(name) = policy else {
+    let Some(name) = run.policy else {
         return;
     };
+    if !hints.are_wanted() {
+        return;
+    }
+    let mut again = Late::new(sources, Some(name));
     match failure {
         Failure::Policy(_) => {
-            let mut again = Late::new(sources, Some(name));
             if let Ok(text) = read_text(rt.alloc(), &mut again) {
                 hints.of_policy(name, text.as_slice());
             }
         }
         Failure::CommandLine => {
-            if let Some(profile) = profile {
-                hints.of_profile(name, profile);
+            if let Some(profile) = run.profile
+                && let Ok(text) = read_text(rt.alloc(), &mut again)
+            {
+                hints.of_profile(name, text.as_slice(), profile);
             }
         }
-        Failure::Opening | Failure::File | Failure::Output => {}
-        Failure::Socket | Failure::NoMemory => {}
+        Failure::Opening => hint_at_opening(rt, sources, hints, run),
+        Failure::File | Failure::Output | Failure::Socket | Failure::NoMemory => {}
     }
 }
 
@@ -88,6 +95,10 @@ fn run_script<S: Sources + Wait>(
     hints.of_input("policy", &policy);
     hints.of_input("script", &script);
     hints.of_output("history", &file);
+    // No script is read where a call of the opening is refused by the only reply.
+    if ended.is_ok() && !script.is_open() {
+        hint_at_opening(rt, sources, hints, options);
+    }
     ended
 }
 
@@ -131,8 +142,7 @@ pub fn run_options<S: Sources + Wait>(
             Ok(conclusion)
         }
         Err(failure) => {
-            let (policy, profile) = (options.policy, options.profile);
-            hint_at_policy(rt, sources, hints, &failure, policy, profile);
+            hint_at_policy(rt, sources, hints, &failure, options);
             Err(failure)
         }
     }
@@ -282,7 +292,8 @@ pub fn rights_options<S: Sources>(
     match tell_file(rt, sources, options, hints) {
         Ok(()) => Ok(Conclusion::Done),
         Err(failure) => {
-            hint_at_policy(rt, sources, hints, &failure, Some(options.policy), None);
+            let run = opening_run(options.nodes, Some(options.policy), Some(options.profile));
+            hint_at_policy(rt, sources, hints, &failure, &run);
             Err(failure)
         }
     }
@@ -329,7 +340,8 @@ pub fn why_options<S: Sources>(
     let told = tell_why(rt.alloc(), options, &mut file, &mut rt.stdout());
     hints.of_input("file", &file);
     if let Err(failure) = &told {
-        hint_at_policy(rt, sources, hints, failure, options.policy, options.profile);
+        let run = opening_run(options.nodes, options.policy, options.profile);
+        hint_at_policy(rt, sources, hints, failure, &run);
     }
     told
 }
@@ -392,8 +404,8 @@ pub fn check_options<S: Sources + Wait>(
     match check_files(rt, sources, options, hints) {
         Ok(checked) => Ok(Conclusion::Checked(checked)),
         Err(failure) => {
-            let (policy, profile) = (options.policy, options.profile);
-            hint_at_policy(rt, sources, hints, &failure, policy, profile);
+            let run = opening_run(options.nodes, options.policy, options.profile);
+            hint_at_policy(rt, sources, hints, &failure, &run);
             Err(failure)
         }
     }
@@ -433,8 +445,8 @@ pub fn export_options<S: Sources>(
     match export_file(rt, sources, options, hints) {
         Ok(()) => Ok(Conclusion::Done),
         Err(failure) => {
-            let (policy, profile) = (Some(options.policy), Some(options.profile));
-            hint_at_policy(rt, sources, hints, &failure, policy, profile);
+            let run = opening_run(TREE_NODES, Some(options.policy), Some(options.profile));
+            hint_at_policy(rt, sources, hints, &failure, &run);
             Err(failure)
         }
     }
@@ -485,11 +497,15 @@ pub fn serve_options<S: Sources + Threads + Wait + Sync, B: Binds>(
         hints.of_misfit(Misfit::of_serve(options));
         return Err(Failure::CommandLine);
     }
+    let mut run = opening_run(options.nodes, options.policy, options.profile);
     match serve_port(rt, sources, ports, options, hints) {
-        Ok(()) => Ok(Conclusion::Done),
+        Ok(()) => {
+            hint_at_opening(rt, sources, hints, &run);
+            Ok(Conclusion::Done)
+        }
         Err(failure) => {
-            let (policy, profile) = (options.policy, options.profile);
-            hint_at_policy(rt, sources, hints, &failure, policy, profile);
+            run.history = options.history;
+            hint_at_policy(rt, sources, hints, &failure, &run);
             Err(failure)
         }
     }

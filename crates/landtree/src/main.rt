@@ -3,6 +3,7 @@
 #![tactic(auto)]
 
 mod commands;
+mod openings;
 
 ghost use Rattle.std.specs.Prelude.{◌≡◌, ◌⊎◌, true, false, [], map, Some, None, Err};
 ghost use Rattle.std.specs.Prelude.{IfErr, IfNone, IfSome, OnOk};

@@ -1,9 +1,11 @@
 //! The lines behind a fault line.
 
 use crate::misfits::Misfit;
+use crate::opening::refused_text;
 use ll_check::{Blame, explain};
 use ll_files::{Late, NewFile, Places, Sources};
-use ll_policy::first_fault;
+use ll_policy::{Policy, first_fault};
+use ll_session::Setup;
 use std::alloc::{AllocError, Global};
 use std::fmt::Display;
 use std::io::Write;
@@ -45,6 +47,11 @@ impl Hints {
     /// They are to be told, or not.
     pub fn want(&mut self, is_wanted: bool) {
         self.is_wanted = is_wanted;
+    }
+
+    /// Whether they are to be told. What takes long to find is looked for only then.
+    pub fn are_wanted(&self) -> bool {
+        self.is_wanted
     }
 
     // These lines come last.
@@ -173,9 +180,25 @@ impl Hints {
         }
     }
 
-    /// That the policy hasn't this profile.
-    pub fn of_profile(&mut self, policy: &str, profile: &str) {
-        if let Ok(told) = format!(in self.alloc; "the policy {policy} has no profile {profile}") {
+    /// That the policy hasn't this profile, where its text tells so.
+    pub fn of_profile(&mut self, policy: &str, text: &[u8], profile: &str) {
+        if let Ok(text) = str::from_utf8(text)
+            && let Ok(read) = Policy::from_text(self.alloc, text)
+            && read.layers(profile).is_none()
+            && let Ok(told) = format!(in self.alloc;
+                "the policy {policy} has no profile {profile}"
+            )
+        {
+            let _ = self.push(told.as_str());
+        }
+    }
+
+    /// Which call is refused where a tree is opened by this policy, and the reply to it: one that makes the policy's
+    /// nodes, or one of the profile that is wanted.
+    pub fn of_opening(&mut self, policy: &str, profile: Option<&str>, setup: &Setup) {
+        if let Ok(Some(refused)) = refused_text(self.alloc, setup, profile.unwrap_or(""))
+            && let Ok(told) = format!(in self.alloc; "{policy}: {refused}")
+        {
             let _ = self.push(told.as_str());
         }
     }
