@@ -15,7 +15,7 @@ ghost use Rattle.ll_serving.specs.Serving as serving;
 ghost use Rattle.ll_saved.specs.Saved.{Judges};
 ghost use Rattle.ll_wire.specs.Pieces.{pieces};
 
-use crate::openings::{hint_at_opening, opening_run};
+use crate::hinting::{hint_at_opening, opening_run, why_text};
 use ll_asking::tell_why;
 use ll_explain::tell_rights;
 use ll_export::export;
@@ -111,7 +111,7 @@ fn hint_at_stop<S: Sources>(
     told: &str,
 ) {
     // Standard input can't be read again.
-    if named(script).is_none() {
+    if named(script).is_none() || !hints.are_wanted() {
         return;
     }
     if let Ok(text) = read_text(rt.alloc(), &mut Late::new(sources, named(script))) {
@@ -180,14 +180,16 @@ fn hint_at_history<S: Sources>(
         Verdict::BadLine(line) => line,
     };
     // Standard input can't be read again.
-    if named(file).is_none() {
+    if named(file).is_none() || !hints.are_wanted() {
         return;
     }
     if let Ok(text) = read_text(rt.alloc(), &mut Late::new(sources, named(file))) {
         hints.of_line(file, text.as_slice(), line);
     }
-    if let Verdict::Illegal(entry) = verdict {
-        hints.of_entry(file, entry);
+    if let Verdict::Illegal(entry) = verdict
+        && let Ok(why) = why_text(rt, sources, file, entry)
+    {
+        hints.of_entry(file, entry, why.as_slice());
     }
 }
 
@@ -289,11 +291,14 @@ pub fn rights_options<S: Sources>(
 ) -> Result<Conclusion, Failure>
     ensures { EndsRights result }
 {
+    let run = opening_run(options.nodes, Some(options.policy), Some(options.profile));
     match tell_file(rt, sources, options, hints) {
         Ok(()) => Ok(Conclusion::Done),
         Err(failure) => {
-            let run = opening_run(options.nodes, Some(options.policy), Some(options.profile));
-            hint_at_policy(rt, sources, hints, &failure, &run);
+            match (&failure, Misfit::of_rights(rt.alloc(), options)) {
+                (Failure::CommandLine, Some(misfit)) => hints.add(&misfit),
+                _ => hint_at_policy(rt, sources, hints, &failure, &run),
+            }
             Err(failure)
         }
     }
@@ -506,6 +511,9 @@ pub fn serve_options<S: Sources + Threads + Wait + Sync, B: Binds>(
         Err(failure) => {
             run.history = options.history;
             hint_at_policy(rt, sources, hints, &failure, &run);
+            if let Failure::Socket = failure {
+                hints.of_port(options.port);
+            }
             Err(failure)
         }
     }

@@ -13,6 +13,9 @@ use std::io::Write;
 /// Longer lines of a file aren't shown.
 const LONGEST: usize = 1024;
 
+/// How the line begins that tells why an entry may not stand.
+const MAY_NOT: &str = "may not stand: ";
+
 // The line of this number, from 1, without its line feed; no bytes where there is none.
 fn line_at(text: &[u8], number: usize) -> &[u8] {
     let mut at: usize = 0;
@@ -170,10 +173,22 @@ impl Hints {
         }
     }
 
-    /// How to ask what the tree answers where a history isn't legal: at its entry of this number.
-    pub fn of_entry(&mut self, name: &str, entry: usize) {
+    /// Why a history's entry of this number may not stand, by what `why` tells of it, and how to ask for the rest of that.
+    pub fn of_entry(&mut self, name: &str, entry: usize, why: &[u8]) {
+        if let Ok(why) = str::from_utf8(why)
+            && let Some(line) = why.lines().find(|line| line.starts_with(MAY_NOT))
+        {
+            let _ = self.push(line);
+        }
+        if let Ok(told) = format!(in self.alloc; "`landtree why {name} {entry}` tells more") {
+            let _ = self.push(told.as_str());
+        }
+    }
+
+    /// That no stream can come to this port of this machine.
+    pub fn of_port(&mut self, port: u16) {
         let told = format!(in self.alloc;
-            "`landtree why {name} {entry}` tells what the tree answers"
+            "cannot listen at port {port} of 127.0.0.1: another program does, or this one may not"
         );
         if let Ok(told) = told {
             let _ = self.push(told.as_str());

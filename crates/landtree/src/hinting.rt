@@ -1,10 +1,15 @@
-//! What is told where a call is refused as a tree is opened by a policy.
+//! Hints for which something is done once more: a tree opened, or an entry of a history made.
 
-use ll_files::{Late, Sources};
+ghost use Rattle.std.specs.Prelude.{◌≤◌};
+ghost use Rattle.ll_rights.specs.declared.limits.TheConstants.{TREE_NODES};
+
+use ll_asking::tell_why;
+use ll_files::{Late, Sources, named};
 use ll_hints::Hints;
-use ll_options::RunOptions;
+use ll_options::{RunOptions, WhyOptions};
 use ll_rights::limits::HISTORY_ENTRIES;
 use ll_runs::setup_of;
+use std::alloc::AllocError;
 
 /// The run whose tree is opened as a command's is that has no history of its own: in it so many nodes may live.
 pub fn opening_run<'a>(
@@ -45,4 +50,24 @@ pub fn hint_at_opening<S: Sources>(
     if let Ok(setup) = setup_of(rt.alloc(), run, &mut file) {
         hints.of_opening(policy, run.profile, &setup);
     }
+}
+
+/// What `why` tells of a saved history's entry of this number, as far as there is memory for it.
+pub fn why_text<S: Sources>(
+    rt: &HostRuntime,
+    sources: &S,
+    file: &str,
+    entry: usize,
+) -> Result<Vec<u8>, AllocError> {
+    let mut text = Vec::new(rt.alloc());
+    let number = entry.to_string(rt.alloc())?;
+    let options = WhyOptions {
+        words: vec![in rt.alloc(); file, number.as_str()]?,
+        policy: None,
+        profile: None,
+        nodes: 1,
+    };
+    let mut input = Late::new(sources, named(file));
+    let _ = tell_why(rt.alloc(), &options, &mut input, &mut text);
+    Ok(text)
 }
