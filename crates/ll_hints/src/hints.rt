@@ -173,7 +173,7 @@ impl Hints {
         }
     }
 
-    /// Why a history's entry of this number may not stand, by what `why` tells of it, and how to ask for the rest of that.
+    /// Why a history's entry of this number may not stand, by what `why` tells of it, and how to ask for the rest.
     pub fn of_entry(&mut self, name: &str, entry: usize, why: &[u8]) {
         if let Ok(why) = str::from_utf8(why)
             && let Some(line) = why.lines().find(|line| line.starts_with(MAY_NOT))
