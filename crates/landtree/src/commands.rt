@@ -15,7 +15,7 @@ ghost use Rattle.ll_serving.specs.Serving as serving;
 ghost use Rattle.ll_saved.specs.Saved.{Judges};
 ghost use Rattle.ll_wire.specs.Pieces.{pieces};
 
-use crate::hinting::{hint_at_opening, opening_run, why_text};
+use crate::hinting::{hint_at_opening, hint_at_question, opening_run, why_text};
 use ll_asking::tell_why;
 use ll_explain::tell_rights;
 use ll_export::export;
@@ -171,7 +171,7 @@ fn hint_at_history<S: Sources>(
     rt: &HostRuntime,
     sources: &S,
     hints: &mut Hints,
-    file: &str,
+    file: Option<&str>,
     verdict: Verdict,
 ) {
     let line = match verdict {
@@ -180,10 +180,13 @@ fn hint_at_history<S: Sources>(
         Verdict::BadLine(line) => line,
     };
     // Standard input can't be read again.
-    if named(file).is_none() || !hints.are_wanted() {
+    let Some(file) = file else {
+        return;
+    };
+    if !hints.are_wanted() {
         return;
     }
-    if let Ok(text) = read_text(rt.alloc(), &mut Late::new(sources, named(file))) {
+    if let Ok(text) = read_text(rt.alloc(), &mut Late::new(sources, Some(file))) {
         hints.of_line(file, text.as_slice(), line);
     }
     if let Verdict::Illegal(entry) = verdict
@@ -203,7 +206,7 @@ pub fn audit_file<S: Sources>(
     ensures { EndsAudit (S.texts sources.now (named file.now)) result }
 {
     let verdict = judge_file(rt, sources, file, hints)?;
-    hint_at_history(rt, sources, hints, file, verdict);
+    hint_at_history(rt, sources, hints, named(file), verdict);
     Ok(Conclusion::Judged(verdict))
 }
 
@@ -344,9 +347,16 @@ pub fn why_options<S: Sources>(
     let mut file = Late::new(sources, file_asked(options));
     let told = tell_why(rt.alloc(), options, &mut file, &mut rt.stdout());
     hints.of_input("file", &file);
-    if let Err(failure) = &told {
-        let run = opening_run(options.nodes, options.policy, options.profile);
-        hint_at_policy(rt, sources, hints, failure, &run);
+    match &told {
+        Ok(Conclusion::Judged(answer)) => {
+            hint_at_history(rt, sources, hints, file_asked(options), *answer);
+        }
+        Ok(_) => {}
+        Err(Failure::CommandLine) if hint_at_question(hints, options) => {}
+        Err(failure) => {
+            let run = opening_run(options.nodes, options.policy, options.profile);
+            hint_at_policy(rt, sources, hints, failure, &run);
+        }
     }
     told
 }

@@ -6,7 +6,7 @@ ghost use Rattle.ll_rights.specs.declared.limits.TheConstants.{TREE_NODES};
 use ll_asking::tell_why;
 use ll_files::{Late, Sources, named};
 use ll_hints::Hints;
-use ll_options::{RunOptions, WhyOptions};
+use ll_options::{Question, RunOptions, WhyOptions};
 use ll_rights::limits::HISTORY_ENTRIES;
 use ll_runs::setup_of;
 use std::alloc::AllocError;
@@ -49,6 +49,19 @@ pub fn hint_at_opening<S: Sources>(
     let mut file = Late::new(sources, Some(policy));
     if let Ok(setup) = setup_of(rt.alloc(), run, &mut file) {
         hints.of_opening(policy, run.profile, &setup);
+    }
+}
+
+/// Tells that a history lacks the entry that `why` is asked for, or that a word spells no command. Whether that is told:
+/// else it is the policy that lacks a profile.
+pub fn hint_at_question(hints: &mut Hints, options: &WhyOptions) -> bool {
+    match options.question() {
+        Some(Question::Entry(history, entry)) => {
+            hints.of_missing_entry(history, entry);
+            true
+        }
+        Some(Question::Command(_, _, command)) => hints.of_word(command),
+        None => false,
     }
 }
 

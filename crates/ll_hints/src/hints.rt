@@ -5,7 +5,9 @@ use crate::opening::refused_text;
 use ll_check::{Blame, explain};
 use ll_files::{Late, NewFile, Places, Sources};
 use ll_policy::{Policy, first_fault};
+use ll_rights::Errno;
 use ll_session::Setup;
+use ll_wire::read_command;
 use std::alloc::{AllocError, Global};
 use std::fmt::Display;
 use std::io::Write;
@@ -157,6 +159,20 @@ impl Hints {
         }
     }
 
+    /// The same of a command that is a word of the command line. Whether it spells none.
+    pub fn of_word(&mut self, command: &str) -> bool {
+        let Ok(line) = format!(in self.alloc; "{command}\n") else {
+            return false;
+        };
+        match read_command(self.alloc, line.as_bytes(), 1) {
+            Err(Errno::BadLine) => {
+                self.of_command("COMMAND", line.as_bytes(), 1);
+                true
+            }
+            _ => false,
+        }
+    }
+
     /// The same of the script's line that has ended a strict run, which told this of it: its number is in there.
     pub fn of_stop(&mut self, script: &str, told: &str, text: &[u8]) {
         let Some(told) = told.strip_prefix(script) else {
@@ -181,6 +197,13 @@ impl Hints {
             let _ = self.push(line);
         }
         if let Ok(told) = format!(in self.alloc; "`landtree why {name} {entry}` tells more") {
+            let _ = self.push(told.as_str());
+        }
+    }
+
+    /// That a history ends before its entry of this number.
+    pub fn of_missing_entry(&mut self, name: &str, entry: u64) {
+        if let Ok(told) = format!(in self.alloc; "the history {name} has no entry {entry}") {
             let _ = self.push(told.as_str());
         }
     }
