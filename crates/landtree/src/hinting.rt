@@ -52,8 +52,8 @@ pub fn hint_at_opening<S: Sources>(
     }
 }
 
-/// Tells that a history lacks the entry that `why` is asked for, or that a word spells no command. Whether that is told:
-/// else it is the policy that lacks a profile.
+/// Tells that a history lacks the entry that `why` is asked for, or that a word spells no command. Whether either is
+/// told: else it is the policy that lacks a profile.
 pub fn hint_at_question(hints: &mut Hints, options: &WhyOptions) -> bool {
     match options.question() {
         Some(Question::Entry(history, entry)) => {
