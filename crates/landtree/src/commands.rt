@@ -298,9 +298,9 @@ pub fn rights_options<S: Sources>(
     match tell_file(rt, sources, options, hints) {
         Ok(()) => Ok(Conclusion::Done),
         Err(failure) => {
-            match (&failure, Misfit::of_rights(rt.alloc(), options)) {
-                (Failure::CommandLine, Some(misfit)) => hints.add(&misfit),
-                _ => hint_at_policy(rt, sources, hints, &failure, &run),
+            match Misfit::of_rights(rt.alloc(), options) {
+                Some(misfit) => hints.add(&misfit),
+                None => hint_at_policy(rt, sources, hints, &failure, &run),
             }
             Err(failure)
         }
@@ -352,10 +352,13 @@ pub fn why_options<S: Sources>(
             hint_at_history(rt, sources, hints, file_asked(options), *answer);
         }
         Ok(_) => {}
-        Err(Failure::CommandLine) if hint_at_question(hints, options) => {}
         Err(failure) => {
-            let run = opening_run(options.nodes, options.policy, options.profile);
-            hint_at_policy(rt, sources, hints, failure, &run);
+            let is_told = matches!(failure, Failure::CommandLine)
+                && hint_at_question(hints, options);
+            if !is_told {
+                let run = opening_run(options.nodes, options.policy, options.profile);
+                hint_at_policy(rt, sources, hints, failure, &run);
+            }
         }
     }
     told
