@@ -15,6 +15,7 @@ ghost use Rattle.ll_serving.specs.Serving as serving;
 ghost use Rattle.ll_saved.specs.Saved.{Judges};
 ghost use Rattle.ll_wire.specs.Pieces.{pieces};
 
+use crate::hinting::{hint_at_opening, hint_at_question, opening_run, why_text};
 use ll_asking::tell_why;
 use ll_explain::tell_rights;
 use ll_export::export;
@@ -25,6 +26,7 @@ use ll_options::{
     ServeOptions, WhyOptions,
 };
 use ll_replay::{draw_schedule, perform_schedule, setup_by};
+use ll_rights::limits::TREE_NODES;
 use ll_runs::{Checked, Conclusion, Failure, Shown, audit, check, read_text, run};
 use ll_saved::Verdict;
 use ll_serving::{Binds, Log, serve};
@@ -32,32 +34,37 @@ use std::io::{IsTerminal, Read};
 use std::sync::Wait;
 use std::thread::Threads;
 
-// Tells where the fault of a policy is that keeps a command from being done, or that it lacks the profile.
+// Tells where the fault of a policy is that keeps a command from being done, or that it lacks the profile, or which of
+// its calls is refused. It is read again, so only where hints are wanted.
 fn hint_at_policy<S: Sources>(
     rt: &HostRuntime,
     sources: &S,
     hints: &mut Hints,
     failure: &Failure,
-    policy: Option<&str>,
-    profile: Option<&str>,
+    run: &RunOptions,
 ) {
-    let Some(name) = policy else {
+    let Some(name) = run.policy else {
         return;
     };
+    if !hints.are_wanted() {
+        return;
+    }
+    let mut again = Late::new(sources, Some(name));
     match failure {
         Failure::Policy(_) => {
-            let mut again = Late::new(sources, Some(name));
             if let Ok(text) = read_text(rt.alloc(), &mut again) {
                 hints.of_policy(name, text.as_slice());
             }
         }
         Failure::CommandLine => {
-            if let Some(profile) = profile {
-                hints.of_profile(name, profile);
+            if let Some(profile) = run.profile
+                && let Ok(text) = read_text(rt.alloc(), &mut again)
+            {
+                hints.of_profile(name, text.as_slice(), profile);
             }
         }
-        Failure::Opening | Failure::File | Failure::Output => {}
-        Failure::Socket | Failure::NoMemory => {}
+        Failure::Opening => hint_at_opening(rt, sources, hints, run),
+        Failure::File | Failure::Output | Failure::Socket | Failure::NoMemory => {}
     }
 }
 
@@ -88,6 +95,10 @@ fn run_script<S: Sources + Wait>(
     hints.of_input("policy", &policy);
     hints.of_input("script", &script);
     hints.of_output("history", &file);
+    // No script is read where a call of the opening is refused by the only reply.
+    if ended.is_ok() && !script.is_open() {
+        hint_at_opening(rt, sources, hints, options);
+    }
     ended
 }
 
@@ -100,7 +111,7 @@ fn hint_at_stop<S: Sources>(
     told: &str,
 ) {
     // Standard input can't be read again.
-    if named(script).is_none() {
+    if named(script).is_none() || !hints.are_wanted() {
         return;
     }
     if let Ok(text) = read_text(rt.alloc(), &mut Late::new(sources, named(script))) {
@@ -131,8 +142,7 @@ pub fn run_options<S: Sources + Wait>(
             Ok(conclusion)
         }
         Err(failure) => {
-            let (policy, profile) = (options.policy, options.profile);
-            hint_at_policy(rt, sources, hints, &failure, policy, profile);
+            hint_at_policy(rt, sources, hints, &failure, options);
             Err(failure)
         }
     }
@@ -161,7 +171,7 @@ fn hint_at_history<S: Sources>(
     rt: &HostRuntime,
     sources: &S,
     hints: &mut Hints,
-    file: &str,
+    file: Option<&str>,
     verdict: Verdict,
 ) {
     let line = match verdict {
@@ -170,14 +180,19 @@ fn hint_at_history<S: Sources>(
         Verdict::BadLine(line) => line,
     };
     // Standard input can't be read again.
-    if named(file).is_none() {
+    let Some(file) = file else {
+        return;
+    };
+    if !hints.are_wanted() {
         return;
     }
-    if let Ok(text) = read_text(rt.alloc(), &mut Late::new(sources, named(file))) {
+    if let Ok(text) = read_text(rt.alloc(), &mut Late::new(sources, Some(file))) {
         hints.of_line(file, text.as_slice(), line);
     }
-    if let Verdict::Illegal(entry) = verdict {
-        hints.of_entry(file, entry);
+    if let Verdict::Illegal(entry) = verdict
+        && let Ok(why) = why_text(rt, sources, file, entry)
+    {
+        hints.of_entry(file, entry, why.as_slice());
     }
 }
 
@@ -191,7 +206,7 @@ pub fn audit_file<S: Sources>(
     ensures { EndsAudit (S.texts sources.now (named file.now)) result }
 {
     let verdict = judge_file(rt, sources, file, hints)?;
-    hint_at_history(rt, sources, hints, file, verdict);
+    hint_at_history(rt, sources, hints, named(file), verdict);
     Ok(Conclusion::Judged(verdict))
 }
 
@@ -279,10 +294,14 @@ pub fn rights_options<S: Sources>(
 ) -> Result<Conclusion, Failure>
     ensures { EndsRights result }
 {
+    let run = opening_run(options.nodes, Some(options.policy), Some(options.profile));
     match tell_file(rt, sources, options, hints) {
         Ok(()) => Ok(Conclusion::Done),
         Err(failure) => {
-            hint_at_policy(rt, sources, hints, &failure, Some(options.policy), None);
+            match Misfit::of_rights(rt.alloc(), options) {
+                Some(misfit) => hints.add(&misfit),
+                None => hint_at_policy(rt, sources, hints, &failure, &run),
+            }
             Err(failure)
         }
     }
@@ -328,8 +347,19 @@ pub fn why_options<S: Sources>(
     let mut file = Late::new(sources, file_asked(options));
     let told = tell_why(rt.alloc(), options, &mut file, &mut rt.stdout());
     hints.of_input("file", &file);
-    if let Err(failure) = &told {
-        hint_at_policy(rt, sources, hints, failure, options.policy, options.profile);
+    match &told {
+        Ok(Conclusion::Judged(answer)) => {
+            hint_at_history(rt, sources, hints, file_asked(options), *answer);
+        }
+        Ok(_) => {}
+        Err(failure) => {
+            let is_told = matches!(failure, Failure::CommandLine)
+                && hint_at_question(hints, options);
+            if !is_told {
+                let run = opening_run(options.nodes, options.policy, options.profile);
+                hint_at_policy(rt, sources, hints, failure, &run);
+            }
+        }
     }
     told
 }
@@ -392,8 +422,8 @@ pub fn check_options<S: Sources + Wait>(
     match check_files(rt, sources, options, hints) {
         Ok(checked) => Ok(Conclusion::Checked(checked)),
         Err(failure) => {
-            let (policy, profile) = (options.policy, options.profile);
-            hint_at_policy(rt, sources, hints, &failure, policy, profile);
+            let run = opening_run(options.nodes, options.policy, options.profile);
+            hint_at_policy(rt, sources, hints, &failure, &run);
             Err(failure)
         }
     }
@@ -433,8 +463,8 @@ pub fn export_options<S: Sources>(
     match export_file(rt, sources, options, hints) {
         Ok(()) => Ok(Conclusion::Done),
         Err(failure) => {
-            let (policy, profile) = (Some(options.policy), Some(options.profile));
-            hint_at_policy(rt, sources, hints, &failure, policy, profile);
+            let run = opening_run(TREE_NODES, Some(options.policy), Some(options.profile));
+            hint_at_policy(rt, sources, hints, &failure, &run);
             Err(failure)
         }
     }
@@ -485,11 +515,18 @@ pub fn serve_options<S: Sources + Threads + Wait + Sync, B: Binds>(
         hints.of_misfit(Misfit::of_serve(options));
         return Err(Failure::CommandLine);
     }
+    let mut run = opening_run(options.nodes, options.policy, options.profile);
     match serve_port(rt, sources, ports, options, hints) {
-        Ok(()) => Ok(Conclusion::Done),
+        Ok(()) => {
+            hint_at_opening(rt, sources, hints, &run);
+            Ok(Conclusion::Done)
+        }
         Err(failure) => {
-            let (policy, profile) = (options.policy, options.profile);
-            hint_at_policy(rt, sources, hints, &failure, policy, profile);
+            run.history = options.history;
+            hint_at_policy(rt, sources, hints, &failure, &run);
+            if let Failure::Socket = failure {
+                hints.of_port(options.port);
+            }
             Err(failure)
         }
     }

@@ -3,6 +3,7 @@
 #![tactic(auto)]
 
 mod commands;
+mod hinting;
 
 ghost use Rattle.std.specs.Prelude.{◌≡◌, ◌⊎◌, true, false, [], map, Some, None, Err};
 ghost use Rattle.std.specs.Prelude.{IfErr, IfNone, IfSome, OnOk};
@@ -31,11 +32,14 @@ use std::sync::Wait;
 use std::thread::Threads;
 use std::{env, io};
 
-fn words_of(rt: &HostRuntime) -> Result<Vec<String>, Failure> {
+fn words_of(rt: &HostRuntime, hints: &mut Hints) -> Result<Vec<String>, Failure> {
     match env::args(rt) {
         Ok(words) => words.collect(rt.alloc()).map_err(|_| Failure::NoMemory),
         Err(error) if error.kind() == io::ErrorKind::OutOfMemory => Err(Failure::NoMemory),
-        Err(_) => Err(Failure::CommandLine),
+        Err(_) => {
+            hints.add(&"a word is no UTF-8");
+            Err(Failure::CommandLine)
+        }
     }
 }
 
@@ -167,7 +171,9 @@ fn run_program<S: Sources + Threads + Wait + Sync, B: Binds>(
     ports: &B,
     hints: &mut Hints,
 ) -> Result<Conclusion, Failure> {
-    let words = words_of(rt)?;
+    // Until the words are known.
+    hints.want(rt.stderr().is_terminal());
+    let words = words_of(rt, hints)?;
     let Ok(words) = words
         .iter()
         .map(|word| word.as_str())

@@ -17,4 +17,5 @@ pub use explaining::{Blame, explain};
 pub use judging::{Detail, Tally};
 pub use line::{CheckLine, Wanted};
 pub use reading::{CheckFault, Checks};
+pub use refusing::{ProfileProgress, answered_text, is_refused, profile_call_text};
 pub use running::Made;

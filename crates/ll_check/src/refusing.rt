@@ -1,66 +1,80 @@
 //! What is told of a profile that is refused.
 
-ghost use Rattle.std.specs.Prelude.{All};
-ghost use Rattle.ll_wire.specs.Entries.{IsEntry};
-
 use ll_seq::{Call, Entry, Reply};
-use ll_wire::entry_text;
+use ll_wire::{command_text, is_spelled, reply_text_behind};
 use std::alloc::{AllocError, Global};
 
-/// Which call of a profile: the layer's number, from 1, and how many of its rules have come.
+/// How far a client has come with its profile's calls: the number of the layer that it makes, from 1, and how many of
+/// that layer's rules have come.
 #[derive(Clone, Copy)]
-struct Progress {
+pub struct ProfileProgress {
     layer: u64,
     rules: u64,
 }
 
-// How far a client has come that connects, or makes one call more.
-fn after(progress: Progress, entry: &Entry) -> Progress {
-    match (&entry.call, &entry.reply) {
-        (Call::Connect, _) => Progress { layer: 1, rules: 0 },
-        (Call::Allow(_, _, _), _) => Progress {
-            layer: progress.layer,
-            rules: progress.rules.saturating_add(1),
-        },
-        (Call::Confine(_), Reply::Done) => Progress {
-            layer: progress.layer.saturating_add(1),
-            rules: 0,
-        },
-        _ => progress,
+impl ProfileProgress {
+    /// Of a client that has connected.
+    pub fn at_connect() -> ProfileProgress {
+        ProfileProgress { layer: 0, rules: 0 }
+    }
+
+    /// With this call, or at another client's connect.
+    pub fn after(self, call: &Call) -> ProfileProgress {
+        match call {
+            Call::Connect => ProfileProgress::at_connect(),
+            Call::Ruleset(_) => ProfileProgress {
+                layer: self.layer.saturating_add(1),
+                rules: 0,
+            },
+            Call::Allow(_, _, _) => ProfileProgress {
+                layer: self.layer,
+                rules: self.rules.saturating_add(1),
+            },
+            _ => self,
+        }
+    }
+
+    // Which rule of which layer the newest call is.
+    fn place(self, alloc: Global, call: &Call) -> Result<String, AllocError> {
+        let ProfileProgress { layer, rules } = self;
+        match call {
+            Call::Allow(_, _, _) => format!(in alloc; "layer {layer}, rule {rules}"),
+            _ => format!(in alloc; "layer {layer}"),
+        }
     }
 }
 
-fn is_refused(reply: &Reply) -> bool {
+/// Whether the reply tells that nothing was done.
+pub fn is_refused(reply: &Reply) -> bool {
     matches!(reply, Reply::Refused(_) | Reply::Denied(_))
 }
 
-// The call's place: which rule of which layer it is.
-fn push_place(
-    out: &mut Vec<u8>,
-    alloc: Global,
-    progress: Progress,
-    call: &Call,
-) -> Result<(), AllocError> {
-    let layer = progress.layer.to_string(alloc)?;
-    out.extend_from_slice(b"layer ")?;
-    out.extend_from_slice(layer.as_bytes())?;
-    if let Call::Allow(_, _, _) = call {
-        let rule = progress.rules.to_string(alloc)?;
-        out.extend_from_slice(b", rule ")?;
-        out.extend_from_slice(rule.as_bytes())?;
-    }
-    out.extend_from_slice(b": ")
+/// The line of a call and the reply to it.
+pub fn answered_text(alloc: Global, call: &Call, reply: &Reply) -> Result<String, AllocError> {
+    let called = match call {
+        Call::Connect => String::from_str(alloc, "connect")?,
+        _ => {
+            is_spelled(call);
+            command_text(alloc, 1, call)?
+        }
+    };
+    let mut text = String::from_str(alloc, called.as_str().trim_end())?;
+    let reply = reply_text_behind(alloc, " =", reply)?;
+    text.push_str(reply.as_str())?;
+    Ok(text)
 }
 
-// An entry without its client: the call, and the reply to it.
-fn push_entry(out: &mut Vec<u8>, alloc: Global, entry: &Entry) -> Result<(), AllocError>
-    requires { IsEntry entry.now }
-{
-    let text = entry_text(alloc, entry)?;
-    match text.as_str().split_once(' ') {
-        Some((_, answered)) => out.extend_from_slice(answered.as_bytes()),
-        None => Ok(()),
-    }
+/// The line of a profile's call, with which the client has come so far: which rule of which layer it is, the call and
+/// the reply to it.
+pub fn profile_call_text(
+    alloc: Global,
+    progress: ProfileProgress,
+    call: &Call,
+    reply: &Reply,
+) -> Result<String, AllocError> {
+    let place = progress.place(alloc, call)?;
+    let answered = answered_text(alloc, call, reply)?;
+    format!(in alloc; "{place}: {answered}")
 }
 
 /// Tells that a profile is refused: of which of its calls, and by which reply's line. No contract says how.
@@ -70,19 +84,17 @@ pub fn push_refusal(
     file: &[u8],
     entries: &[Entry],
     line: &[u8],
-) -> Result<(), AllocError>
-    requires { All IsEntry entries.now }
-{
+) -> Result<(), AllocError> {
     out.extend_from_slice(file)?;
     out.extend_from_slice(b": profile refused: ")?;
-    let mut progress = Progress { layer: 1, rules: 0 };
+    let mut progress = ProfileProgress::at_connect();
     for entry in entries {
-        progress = after(progress, entry);
+        progress = progress.after(&entry.call);
     }
     match entries.last() {
-        Some(entry) if is_refused(&entry.reply) => {
-            push_place(out, alloc, progress, &entry.call)?;
-            push_entry(out, alloc, entry)
+        Some(Entry { call, reply, .. }) if is_refused(reply) => {
+            let told = profile_call_text(alloc, progress, call, reply)?;
+            out.extend_from_slice(told.as_bytes())
         }
         _ => out.extend_from_slice(line),
     }

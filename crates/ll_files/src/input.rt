@@ -81,6 +81,11 @@ impl<'a, S: Sources> Late<'a, S> {
         self.file
     }
 
+    /// Whether a read has opened it.
+    pub fn is_open(&self) -> bool {
+        self.input.is_some()
+    }
+
     /// What the device told where the newest read failed, or the opening before it.
     pub fn trouble(&self) -> Option<io::Error> {
         self.trouble

@@ -1,15 +1,22 @@
 //! The lines behind a fault line.
 
 use crate::misfits::Misfit;
+use crate::opening::refused_text;
 use ll_check::{Blame, explain};
 use ll_files::{Late, NewFile, Places, Sources};
-use ll_policy::first_fault;
+use ll_policy::{Policy, first_fault};
+use ll_rights::Errno;
+use ll_session::Setup;
+use ll_wire::read_command;
 use std::alloc::{AllocError, Global};
 use std::fmt::Display;
 use std::io::Write;
 
 /// Longer lines of a file aren't shown.
 const LONGEST: usize = 1024;
+
+/// How the line begins that tells why an entry may not stand.
+const MAY_NOT: &str = "may not stand: ";
 
 // The line of this number, from 1, without its line feed; no bytes where there is none.
 fn line_at(text: &[u8], number: usize) -> &[u8] {
@@ -45,6 +52,11 @@ impl Hints {
     /// They are to be told, or not.
     pub fn want(&mut self, is_wanted: bool) {
         self.is_wanted = is_wanted;
+    }
+
+    /// Whether they are to be told. What takes long to find is looked for only then.
+    pub fn are_wanted(&self) -> bool {
+        self.is_wanted
     }
 
     // These lines come last.
@@ -147,6 +159,20 @@ impl Hints {
         }
     }
 
+    /// The same of a command that is a word of the command line. Whether it spells none.
+    pub fn of_word(&mut self, command: &str) -> bool {
+        let Ok(line) = format!(in self.alloc; "{command}\n") else {
+            return false;
+        };
+        match read_command(self.alloc, line.as_bytes(), 1) {
+            Err(Errno::BadLine) => {
+                self.of_command("COMMAND", line.as_bytes(), 1);
+                true
+            }
+            _ => false,
+        }
+    }
+
     /// The same of a bad line at which a strict run has ended. `told` is what the program says of that end, and has the
     /// bad line's number in it.
     pub fn of_stop(&mut self, script: &str, told: &str, text: &[u8]) {
@@ -164,19 +190,54 @@ impl Hints {
         }
     }
 
-    /// The history isn't legal at its entry of this number: how to ask what the tree answers there.
-    pub fn of_entry(&mut self, name: &str, entry: usize) {
+    /// Why a history's entry of this number may not stand, by what `why` tells of it, and how to ask for the rest.
+    pub fn of_entry(&mut self, name: &str, entry: usize, why: &[u8]) {
+        if let Ok(why) = str::from_utf8(why)
+            && let Some(line) = why.lines().find(|line| line.starts_with(MAY_NOT))
+        {
+            let _ = self.push(line);
+        }
+        if let Ok(told) = format!(in self.alloc; "`landtree why {name} {entry}` tells more") {
+            let _ = self.push(told.as_str());
+        }
+    }
+
+    /// That a history ends before its entry of this number.
+    pub fn of_missing_entry(&mut self, name: &str, entry: u64) {
+        if let Ok(told) = format!(in self.alloc; "the history {name} has no entry {entry}") {
+            let _ = self.push(told.as_str());
+        }
+    }
+
+    /// That no stream can come to this port of this machine.
+    pub fn of_port(&mut self, port: u16) {
         let told = format!(in self.alloc;
-            "`landtree why {name} {entry}` tells what the tree answers"
+            "cannot listen at port {port} of 127.0.0.1: another program does, or this one may not"
         );
         if let Ok(told) = told {
             let _ = self.push(told.as_str());
         }
     }
 
-    /// That the policy hasn't this profile.
-    pub fn of_profile(&mut self, policy: &str, profile: &str) {
-        if let Ok(told) = format!(in self.alloc; "the policy {policy} has no profile {profile}") {
+    /// That the policy hasn't this profile, where its text tells so.
+    pub fn of_profile(&mut self, policy: &str, text: &[u8], profile: &str) {
+        if let Ok(text) = str::from_utf8(text)
+            && let Ok(read) = Policy::from_text(self.alloc, text)
+            && read.layers(profile).is_none()
+            && let Ok(told) = format!(in self.alloc;
+                "the policy {policy} has no profile {profile}"
+            )
+        {
+            let _ = self.push(told.as_str());
+        }
+    }
+
+    /// Which call is refused where a tree is opened by this policy, and the reply to it: one that makes the policy's
+    /// nodes, or one of the profile that is wanted.
+    pub fn of_opening(&mut self, policy: &str, profile: Option<&str>, setup: &Setup) {
+        if let Ok(Some(refused)) = refused_text(self.alloc, setup, profile.unwrap_or(""))
+            && let Ok(told) = format!(in self.alloc; "{policy}: {refused}")
+        {
             let _ = self.push(told.as_str());
         }
     }

@@ -3,6 +3,7 @@
 
 mod hints;
 mod misfits;
+mod opening;
 mod wanted;
 
 pub use hints::Hints;

@@ -1,6 +1,10 @@
 //! Words that clap takes, each for itself, and that don't go together.
 
-use ll_options::{CheckOptions, ExportOptions, RunOptions, ScheduleOptions, ServeOptions};
+use ll_options::{
+    CheckOptions, ExportOptions, RightsOptions, RunOptions, ScheduleOptions, ServeOptions,
+};
+use ll_path::{Path, Word};
+use std::alloc::Global;
 use std::fmt;
 use std::fmt::Display;
 
@@ -15,6 +19,8 @@ pub enum Misfit<'a> {
     WritesOverInput(&'a str),
     QuietAndVerbose,
     NoSuchForm,
+    /// This word of `rights`.
+    NoPath(&'a str),
     /// Of `why`.
     NeitherEntryNorCommand,
 }
@@ -36,6 +42,10 @@ impl Display for Misfit<'_> {
                     "why takes HISTORY K, or a command in quotes with --policy and --profile",
                 )
             }
+            Misfit::NoPath(word) => write!(
+                f,
+                "{word} is no path: / is expected, or / and a name again and again"
+            ),
             Misfit::NoSuchForm => f.write_str("--as is followed by c or json"),
         }
     }
@@ -61,6 +71,17 @@ fn of_output<'a>(output: Option<&'a str>, input: Option<&str>) -> Option<Misfit<
             Some(Misfit::WritesOverInput(output))
         }
         _ => None,
+    }
+}
+
+// Where memory is wanted, every word is taken for one.
+fn is_path(alloc: Global, word: &str) -> bool {
+    let Ok(text) = String::from_str(alloc, word) else {
+        return true;
+    };
+    match Word::new(text) {
+        Ok(word) => Path::parse(word).is_ok(),
+        Err(_) => false,
     }
 }
 
@@ -92,6 +113,16 @@ impl<'a> Misfit<'a> {
             options.save,
             options.policy,
         ))
+    }
+
+    /// Of `rights`: the first word that is no path.
+    pub fn of_rights(alloc: Global, options: &RightsOptions<'a>) -> Option<Misfit<'a>> {
+        for word in &options.paths {
+            if !is_path(alloc, word) {
+                return Some(Misfit::NoPath(word));
+            }
+        }
+        None
     }
 
     /// Of `export`.

@@ -1,0 +1,150 @@
+//! Which call of a policy's opening is refused.
+
+ghost use Rattle.std.specs.Prelude.{◌≡◌, ◌<◌, ◌≤◌, ◌+◌, ◌-◌, ◌^◌, true, false, IfOk};
+ghost use Rattle.ll_rights.specs.Map.{has};
+ghost use Rattle.ll_seq.specs.History.{is_connect};
+ghost use Rattle.ll_session.specs.Session.{AreOthers};
+
+use ll_check::{ProfileProgress, answered_text, is_refused, profile_call_text};
+use ll_plain::Plain;
+use ll_rights::Errno;
+use ll_seq::{Call, Reply};
+use ll_session::Setup;
+use std::alloc::{AllocError, Global};
+
+/// A client that comes before all others.
+#[derive(Clone, Copy)]
+enum Comer<'a> {
+    /// It makes the policy's nodes.
+    Loader,
+    /// It makes the calls of the profile of this name.
+    Profile(&'a str),
+}
+
+/// Where a client stops: its calls up to the refused one, none where its connect is refused, and the reply.
+#[derive(Drop)]
+struct Stop<'a> {
+    calls: &'a [Call],
+    reply: Reply,
+}
+
+// The reply to the client's call in a tree whose history has room for so many entries.
+fn answer(tree: &mut Plain, room: &mut usize, client: u64, call: &Call) -> Reply
+    requires caller { has tree.old.clients client ≡ true }
+    requires call { is_connect call.now ≡ false }
+    requires next { tree.old.next + room.old < 2 ^ 64 - 1 }
+    ensures there { has tree.new.clients client ≡ true }
+    ensures next { tree.new.next + room.new ≤ tree.old.next + room.old }
+{
+    if *room == 0 {
+        return Reply::Refused(Errno::HistoryFull);
+    }
+    *room -= 1;
+    let fresh = tree.free_number();
+    tree.apply(client, call, fresh)
+}
+
+// The number of a client that connects. Errors: the reply that refuses it.
+fn connect(tree: &mut Plain, room: &mut usize) -> Result<u64, Reply>
+    requires next { tree.old.next + room.old < 2 ^ 64 - 1 }
+    ensures there { IfOk result (λ client. has tree.new.clients client ≡ true) }
+    ensures next { tree.new.next + room.new ≤ tree.old.next + room.old }
+{
+    if *room == 0 {
+        return Err(Reply::Refused(Errno::HistoryFull));
+    }
+    *room -= 1;
+    let client = tree.free_number();
+    let reply = tree.apply(client, &Call::Connect, client);
+    match tree.client(client) {
+        Some(_) => Ok(client),
+        None => Err(reply),
+    }
+}
+
+// A client comes and makes these calls in turn, up to the first that is refused.
+fn come<'a>(tree: &mut Plain, room: &mut usize, calls: &'a [Call]) -> Option<Stop<'a>>
+    requires calls { AreOthers calls.now }
+    requires next { tree.old.next + room.old < 2 ^ 64 - 1 }
+    ensures next { tree.new.next + room.new ≤ tree.old.next + room.old }
+{
+    let client = match connect(tree, room) {
+        Ok(client) => client,
+        Err(reply) => return Some(Stop { calls: &[], reply }),
+    };
+    let mut made: usize = 0;
+    for call in calls {
+        let reply = answer(tree, room, client, call);
+        made = made.saturating_add(1);
+        if is_refused(&reply) {
+            let calls = calls.get(..made).unwrap_or(&[]);
+            return Some(Stop { calls, reply });
+        }
+    }
+    None
+}
+
+// Of a profile's call, the last of these: which rule of which layer it is, the call and the reply to it.
+fn profile_text(
+    alloc: Global,
+    name: &str,
+    calls: &[Call],
+    call: &Call,
+    reply: &Reply,
+) -> Result<String, AllocError> {
+    let mut progress = ProfileProgress::at_connect();
+    for done in calls {
+        progress = progress.after(done);
+    }
+    let told = profile_call_text(alloc, progress, call, reply)?;
+    format!(in alloc; "profile {name}, {told}")
+}
+
+// Of the call that is refused: where the policy asks for it, the call and the reply to it.
+fn call_text(alloc: Global, comer: Comer<'_>, stop: &Stop<'_>) -> Result<String, AllocError> {
+    let (calls, reply) = (stop.calls, &stop.reply);
+    let Some(call) = calls.last() else {
+        return answered_text(alloc, &Call::Connect, reply);
+    };
+    match comer {
+        Comer::Loader => {
+            let makes = calls.iter().filter(|call| matches!(call, Call::Make(_, _)));
+            let node = makes.count();
+            let answered = answered_text(alloc, call, reply)?;
+            format!(in alloc; "node {node}: {answered}")
+        }
+        Comer::Profile(name) => profile_text(alloc, name, calls, call, reply),
+    }
+}
+
+// The same, and of a full history which word of the command line makes it longer.
+fn stop_text(alloc: Global, comer: Comer<'_>, stop: &Stop<'_>) -> Result<String, AllocError> {
+    let told = call_text(alloc, comer, stop)?;
+    match stop.reply {
+        Reply::Refused(Errno::NoMemory) => Err(AllocError),
+        Reply::Refused(Errno::HistoryFull) => {
+            format!(in alloc; "{told}--history tells how many entries there may be")
+        }
+        _ => Ok(told),
+    }
+}
+
+/// The lines on the first call that is refused where a tree is set up so, for a profile of this name: where the policy
+/// asks for it, the call, and the reply to it. None where no call is refused.
+pub(crate) fn refused_text(
+    alloc: Global,
+    setup: &Setup,
+    profile: &str,
+) -> Result<Option<String>, AllocError> {
+    let mut tree = Plain::new(alloc, setup.rules, setup.nodes)?;
+    let mut room = setup.history;
+    if let Some(calls) = &setup.loader
+        && let Some(stop) = come(&mut tree, &mut room, calls.as_slice())
+    {
+        return Ok(Some(stop_text(alloc, Comer::Loader, &stop)?));
+    }
+    match come(&mut tree, &mut room, setup.profile.as_slice()) {
+        Some(stop) => Ok(Some(stop_text(alloc, Comer::Profile(profile), &stop)?)),
+        None => Ok(None),
+    }
+}
