@@ -51,8 +51,8 @@ pub record IsToldOf (s : State) (entries : List Entry) (wanted number : ℕ) : T
   pub legal : IsLegal s (take (number - 1) entries)
   pub one : (number ≡ wanted) ⊎ (IsLegal s (take number entries) → ⊥)
 
--- the text tells of the entry of this number, in the state that the entries before it lead to; and of the opening of the
--- descriptor that has kept what decides its call
+-- the text tells of the entry of this number, in the state that the entries before it lead to; and of the opening of
+-- the descriptor that has kept what decides its call
 pub record IsTextOf (s : State) (entries : List Entry) (number : ℕ) (text : List ℕ) : Type 0 where
   pub entry : Entry
   pub standing : Standing
