@@ -212,7 +212,7 @@ impl Notes for Hints {
             return;
         };
         let line = test.line;
-        if let Ok(Some(text)) = explain_entry(self.alloc, header, test.entries, test.number)
+        if let Ok(Some(text)) = explain_entry(self.alloc, &header, test.entries, test.number)
             && let Ok(told) = format!(in self.alloc; "{file}:{line}: {command}\n{text}")
         {
             let _ = self.push(told.as_str());

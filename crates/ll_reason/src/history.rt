@@ -67,19 +67,19 @@ fn standing_at(tree: &mut Plain, entry: &Entry, stands: bool) -> Result<Standing
 // The text of the entry of this number, which may stand or not, as is said.
 fn text_of(
     alloc: Global,
-    header: Header,
+    header: &Header,
     entries: &[Entry],
     number: usize,
     stands: bool,
 ) -> Result<String, AllocError>
-    requires some { 1 ≤ header.nodes }
-    requires most { header.nodes ≤ TREE_NODES }
+    requires some { 1 ≤ header.now.nodes }
+    requires most { header.now.nodes ≤ TREE_NODES }
     requires first { 1 ≤ number }
     requires last { number ≤ length entries.now }
-    requires legal { IsLegal (opened header) (take (number - 1) entries.now) }
-    requires yes { stands ≡ true → IsLegal (opened header) (take number entries.now) }
-    requires no { stands ≡ false → IsLegal (opened header) (take number entries.now) → ⊥ }
-    ensures { IfOk result (λ text. IsTextOf (opened header) entries.now number (string_bytes text)) }
+    requires legal { IsLegal (opened header.now) (take (number - 1) entries.now) }
+    requires yes { stands ≡ true → IsLegal (opened header.now) (take number entries.now) }
+    requires no { stands ≡ false → IsLegal (opened header.now) (take number entries.now) → ⊥ }
+    ensures { IfOk result (λ text. IsTextOf (opened header.now) entries.now number (string_bytes text)) }
 {
     let before = &entries[..number - 1];
     let mut tree = tree_after(alloc, header, before)?;
@@ -97,14 +97,14 @@ fn text_of(
 /// not stand, the first of these is told of. There may be no entry of this number. Errors: memory ran out.
 pub fn explain_entry(
     alloc: Global,
-    header: Header,
+    header: &Header,
     entries: &[Entry],
     wanted: usize,
 ) -> Result<Option<String>, AllocError>
-    requires some { 1 ≤ header.nodes }
-    requires most { header.nodes ≤ TREE_NODES }
+    requires some { 1 ≤ header.now.nodes }
+    requires most { header.now.nodes ≤ TREE_NODES }
     ensures { IfOk result (λ told. MatchOption told ((wanted ≡ 0) ⊎ (length entries.now < wanted))
-        (λ text. IsEntryWhy (opened header) entries.now wanted (string_bytes text))) }
+        (λ text. IsEntryWhy (opened header.now) entries.now wanted (string_bytes text))) }
 {
     if wanted == 0 || wanted > entries.len() {
         return Ok(None);
@@ -124,7 +124,7 @@ pub fn why_entry(alloc: Global, bytes: &[u8], wanted: usize) -> Result<HistoryWh
         Err(ReadFault::BadLine(line)) => return Ok(HistoryWhy::BadLine(line)),
         Err(ReadFault::NoMemory) => return Err(AllocError),
     };
-    match explain_entry(alloc, saved.header, saved.entries.as_slice(), wanted)? {
+    match explain_entry(alloc, &saved.header, saved.entries.as_slice(), wanted)? {
         Some(text) => Ok(HistoryWhy::Told(text)),
         None => Ok(HistoryWhy::NoEntry),
     }

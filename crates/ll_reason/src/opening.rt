@@ -1,9 +1,9 @@
 //! Which entry opened the descriptor that decides a call, and what policy says of a truncate there.
 
-ghost use Rattle.std.specs.Prelude.{◌≡◌, ◌<◌, ◌≤◌, ◌-◌, ◌^◌, Some, IfOk, IfSome, length, option_map, string_bytes};
+ghost use Rattle.std.specs.Prelude.{◌≡◌, ◌≤◌, true, false, Some, IfNone, IfOk, IfSome, option_map, string_bytes};
+ghost use Rattle.std.specs.Prelude.{if◌then◌else◌};
 ghost use Rattle.ll_rights.specs.declared.limits.TheConstants.{TREE_NODES};
-ghost use Rattle.ll_seq.specs.History.{state_after};
-ghost use Rattle.ll_saved.specs.Saved.{opened as opened_by_header};
+ghost use Rattle.ll_saved.specs.Saved.{opened};
 ghost use Rattle.ll_reason.specs.Opening.{IsOpeningText, TellsOpening, is_opened, is_spawned, kept_descriptor};
 ghost use Rattle.ll_reason.specs.Opening.{opening_behind, opening_text, openings, opens, target_opened};
 
@@ -59,6 +59,19 @@ fn holder_before(entry: &Entry, client: u64) -> u64
     }
 }
 
+// What the entry opens as the client's descriptor of this number, if it does.
+fn opened_target(entry: &Entry, client: u64, descriptor: u64) -> Option<&Target>
+    ensures some { IfSome result (λ t. (opens client descriptor entry.now ≡ true)
+        × (target_opened entry.now.call ≡ Some t.now)) }
+    ensures none { IfNone result (opens client descriptor entry.now ≡ false) }
+{
+    if entry.client == client && is_opened(&entry.reply, descriptor) {
+        target_opened(&entry.call)
+    } else {
+        None
+    }
+}
+
 // Which of the entries opened the descriptor of this number that the client has behind them.
 fn opening_in<'a>(entries: &'a [Entry], client: u64, descriptor: u64) -> Option<Opening<'a>>
     ensures opening { option_map (λ o. (o.upto.now, o.last.now)) result
@@ -68,15 +81,9 @@ fn opening_in<'a>(entries: &'a [Entry], client: u64, descriptor: u64) -> Option<
     let mut rest = entries;
     let mut holder = client;
     while let Some((last, before)) = rest.split_last() {
-        if last.client == holder
-            && is_opened(&last.reply, descriptor)
-            && let Some(target) = target_opened(&last.call)
-        {
-            return Some(Opening {
-                upto: rest,
-                last,
-                target,
-            });
+        if let Some(target) = opened_target(last, holder, descriptor) {
+            let upto = rest;
+            return Some(Opening { upto, last, target });
         }
         holder = holder_before(last, holder);
         rest = before;
@@ -113,15 +120,22 @@ fn opening_behind<'a>(
     }
 }
 
-// A truncate of the same path, or of the same word that spells none.
-fn truncate_of(alloc: Global, target: &Target) -> Result<Call, AllocError>
-    ensures { IfOk result (λ call. call ≡ Call.Truncate target.now 0) }
+// The same path, or the same word that spells none.
+fn copied(alloc: Global, target: &Target) -> Result<Target, AllocError>
+    ensures { IfOk result (λ copy. copy ≡ target.now) }
 {
     let text = String::from_str(alloc, target.as_str())?;
     match Word::new(text) {
-        Ok(word) => Ok(Call::Truncate(Target::read(word), 0)),
+        Ok(word) => Ok(Target::read(word)),
         Err(_) => unreachable!(),
     }
+}
+
+fn truncate_of(alloc: Global, target: &Target) -> Result<Call, AllocError>
+    ensures { IfOk result (λ call. call ≡ Call.Truncate target.now 0) }
+{
+    let target = copied(alloc, target)?;
+    Ok(Call::Truncate(target, 0))
 }
 
 // The entry of this number, which opened a descriptor, and what policy says of a truncate there.
@@ -152,11 +166,11 @@ fn opening_text(
 }
 
 // What is told of an opening.
-fn lines_of(alloc: Global, header: Header, opening: &Opening<'_>) -> Result<String, AllocError>
-    requires some { 1 ≤ header.nodes }
-    requires most { header.nodes ≤ TREE_NODES }
+fn lines_of(alloc: Global, header: &Header, opening: &Opening<'_>) -> Result<String, AllocError>
+    requires some { 1 ≤ header.now.nodes }
+    requires most { header.now.nodes ≤ TREE_NODES }
     requires target { target_opened opening.now.last.now.call ≡ Some opening.now.target.now }
-    ensures { IfOk result (λ text. TellsOpening (opened_by_header header) opening.now.upto.now
+    ensures { IfOk result (λ text. TellsOpening (opened header.now) opening.now.upto.now
         opening.now.last.now (string_bytes text)) }
 {
     let tree = tree_after(alloc, header, opening.upto)?;
@@ -169,14 +183,14 @@ fn lines_of(alloc: Global, header: Header, opening: &Opening<'_>) -> Result<Stri
 /// where none does.
 pub(crate) fn opening_lines(
     alloc: Global,
-    header: Header,
+    header: &Header,
     entries: &[Entry],
     entry: &Entry,
     told: &Option<Explanation>,
 ) -> Result<String, AllocError>
-    requires some { 1 ≤ header.nodes }
-    requires most { header.nodes ≤ TREE_NODES }
-    ensures { IfOk result (λ text. IsOpeningText (opened_by_header header)
+    requires some { 1 ≤ header.now.nodes }
+    requires most { header.now.nodes ≤ TREE_NODES }
+    ensures { IfOk result (λ text. IsOpeningText (opened header.now)
         (opening_behind entries.now entry.now told.now) (string_bytes text)) }
 {
     match opening_behind(entries, entry, told) {

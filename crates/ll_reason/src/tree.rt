@@ -12,10 +12,10 @@ use ll_wire::Header;
 use std::alloc::{AllocError, Global};
 
 /// A tree as the header tells of it, when it was opened.
-pub(crate) fn open(alloc: Global, header: Header) -> Result<Plain, AllocError>
-    requires some { 1 ≤ header.nodes }
-    requires most { header.nodes ≤ TREE_NODES }
-    ensures { IfOk result (λ tree. tree ≡ opened header) }
+pub(crate) fn open(alloc: Global, header: &Header) -> Result<Plain, AllocError>
+    requires some { 1 ≤ header.now.nodes }
+    requires most { header.now.nodes ≤ TREE_NODES }
+    ensures { IfOk result (λ tree. tree ≡ opened header.now) }
 {
     Plain::new(alloc, header.version.rules(), header.nodes)
 }
@@ -23,12 +23,12 @@ pub(crate) fn open(alloc: Global, header: Header) -> Result<Plain, AllocError>
 /// The tree behind these entries, where they are legal; where they aren't, memory is told to have run out.
 pub(crate) fn tree_after(
     alloc: Global,
-    header: Header,
+    header: &Header,
     entries: &[Entry],
 ) -> Result<Plain, AllocError>
-    requires some { 1 ≤ header.nodes }
-    requires most { header.nodes ≤ TREE_NODES }
-    ensures tree { IfOk result (λ tree. tree ≡ state_after (opened header) entries.now) }
+    requires some { 1 ≤ header.now.nodes }
+    requires most { header.now.nodes ≤ TREE_NODES }
+    ensures tree { IfOk result (λ tree. tree ≡ state_after (opened header.now) entries.now) }
     ensures next { IfOk result (λ tree. tree.next < 2 ^ 64 - 1) }
 {
     let mut tree = open(alloc, header)?;

@@ -11,13 +11,13 @@ pub standing_at-requires-clause-yes : goal.standing_at-requires-clause-yes
 standing_at-requires-clause-yes c = λ is.
     let e = c.index-entries-number.result in
     subst (λ (z : State). MayStand z e) (sym c.in_ok-tree.ensures.tree)
-    (stands (opened c.args.header) c.args.entries.now c.args.number e c.requires.first c.requires.last
+    (stands (opened c.args.header.now) c.args.entries.now c.args.number e c.requires.first c.requires.last
     c.index-entries-number.is (c.requires.yes is))
 
 pub standing_at-requires-clause-no : goal.standing_at-requires-clause-no
 standing_at-requires-clause-no c = λ is may.
     let e = c.index-entries-number.result in
-    stands_not (opened c.args.header) c.args.entries.now c.args.number e c.requires.first c.requires.last
+    stands_not (opened c.args.header.now) c.args.entries.now c.args.number e c.requires.first c.requires.last
     c.index-entries-number.is c.requires.legal (c.requires.no is)
     (subst (λ (z : State). MayStand z e) c.in_ok-tree.ensures.tree may)
 
@@ -30,7 +30,7 @@ returns c =
       entry = e;
       standing = standing;
       told = told;
-      at = here (opened c.args.header) c.args.entries.now c.args.number e c.requires.first c.requires.last
+      at = here (opened c.args.header.now) c.args.entries.now c.args.number e c.requires.first c.requires.last
           c.index-entries-number.is;
       stands = subst (λ (z : State). IsStanding z e standing) c.in_ok-tree.ensures.tree c.in_ok-standing.ensures;
       explained = subst (λ (z : State). IsExplained z e.client e.call told) c.in_ok-tree.ensures.tree

@@ -3,8 +3,8 @@ use Rattle.ll_reason.specs.Opening.{openings}
 use Rattle.ll_reason.proofs.opening.opening_in.Given as goal
 
 -- what the last holder has behind the entries that are left
-abbrev pub invariant-loop-rest : goal.invariant-loop-rest
-invariant-loop-rest l = openings l.entries l.client l.descriptor ≡ openings l.rest l.holder l.descriptor
+abbrev pub invariant-loop-last : goal.invariant-loop-last
+invariant-loop-last l = openings l.entries l.client l.descriptor ≡ openings l.rest l.holder l.descriptor
 
-abbrev pub decreases-loop-rest : goal.decreases-loop-rest
-decreases-loop-rest l = length l.rest
+abbrev pub decreases-loop-last : goal.decreases-loop-last
+decreases-loop-last l = length l.rest
