@@ -402,6 +402,7 @@ fn check_files<S: Sources + Wait>(
         texts.as_slice(),
         &mut rt.stdout(),
         &mut rt.stderr(),
+        hints,
     )
 }
 

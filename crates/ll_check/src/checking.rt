@@ -46,6 +46,15 @@ fn report(
     }
 }
 
+/// What came of a file's check.
+#[derive(Drop)]
+pub struct CheckedFile {
+    pub tally: Tally,
+    pub made: Made,
+    /// The history of the file's tree.
+    pub history: History,
+}
+
 /// Makes a file's tests in a tree of its own, judges the replies, and writes the report at the end.
 pub fn check_file<R: Wait>(
     rt: &R,
@@ -55,14 +64,18 @@ pub fn check_file<R: Wait>(
     setup: Setup,
     file: &[u8],
     lines: &[CheckLine<'_>],
-) -> Result<Tally, RunFault>
-    ensures checked { IfOk result (λ tally.
-        IsChecked detail setup file.now (map meaning_of lines.now) out.old.items out.new.items tally) }
+) -> Result<CheckedFile, RunFault>
+    ensures checked { IfOk result (λ checked.
+        IsChecked detail setup file.now (map meaning_of lines.now) out.old.items out.new.items checked.tally) }
     ensures fault { IfErr result (λ fault. MayEnd setup fault) }
 {
     let (made, history) = make(rt, alloc, setup, lines)?;
     match report(out, alloc, detail, file, lines, &made, &history) {
-        Ok(tally) => Ok(tally),
+        Ok(tally) => Ok(CheckedFile {
+            tally,
+            made,
+            history,
+        }),
         Err(_) => Err(RunFault::Session(SessionFault::NoMemory)),
     }
 }

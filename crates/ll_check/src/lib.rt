@@ -2,6 +2,7 @@
 #![tactic(auto)]
 
 mod checking;
+mod denied;
 mod explaining;
 mod judging;
 mod line;
@@ -12,7 +13,8 @@ mod refusing;
 mod running;
 mod wanted;
 
-pub use checking::check_file;
+pub use checking::{CheckedFile, check_file};
+pub use denied::{DeniedTest, Notes, tell_denied};
 pub use explaining::{Blame, explain};
 pub use judging::{Detail, Tally};
 pub use line::{CheckLine, Wanted};

@@ -18,8 +18,8 @@ fn is_line(text: &[u8], line: &[u8]) -> bool
     matches!(behind(text, line), Some([b'\n']))
 }
 
-// Words are compared as words: what the line goes on with is a space.
-fn has_first(words: &[u8], line: &[u8]) -> bool
+/// Whether these are the line's first words. What the line goes on with is a space.
+pub fn has_first(words: &[u8], line: &[u8]) -> bool
     ensures { result ≡ has_first words.now line.now }
 {
     matches!(behind(words, line), Some([b'\n' | b' ', ..]))

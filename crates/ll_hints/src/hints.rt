@@ -2,12 +2,13 @@
 
 use crate::misfits::Misfit;
 use crate::opening::refused_text;
-use ll_check::{Blame, explain};
+use ll_check::{Blame, DeniedTest, Notes, explain};
 use ll_files::{Late, NewFile, Places, Sources};
 use ll_policy::{Policy, first_fault};
+use ll_reason::explain_entry;
 use ll_rights::Errno;
 use ll_session::Setup;
-use ll_wire::read_command;
+use ll_wire::{Header, read_command};
 use std::alloc::{AllocError, Global};
 use std::fmt::Display;
 use std::io::Write;
@@ -17,6 +18,9 @@ const LONGEST: usize = 1024;
 
 /// How the line begins that tells why an entry may not stand.
 const MAY_NOT: &str = "may not stand: ";
+
+/// Of so many tests that fail by a denial it is told why. For each, the entries before it are made again.
+const DENIALS: usize = 20;
 
 // The line of this number, from 1, without its line feed; no bytes where there is none.
 fn line_at(text: &[u8], number: usize) -> &[u8] {
@@ -37,6 +41,8 @@ pub struct Hints {
     alloc: Global,
     is_wanted: bool,
     text: String,
+    /// How many tests were told of that fail by a denial.
+    denials: usize,
 }
 
 impl Hints {
@@ -46,6 +52,7 @@ impl Hints {
             alloc,
             is_wanted: false,
             text: String::new(alloc),
+            denials: 0,
         }
     }
 
@@ -246,6 +253,30 @@ impl Hints {
     pub fn tell<W: Write>(&self, err: &mut W) {
         if self.is_wanted {
             let _ = err.write_all(self.text.as_bytes());
+        }
+    }
+}
+
+impl Notes for Hints {
+    fn are_wanted(&self) -> bool {
+        self.is_wanted && self.denials < DENIALS
+    }
+
+    // Where the test stands, and why its call is denied.
+    fn of_denied(&mut self, header: Header, test: &DeniedTest<'_>) {
+        if !self.is_wanted || self.denials >= DENIALS {
+            return;
+        }
+        self.denials = self.denials.saturating_add(1);
+        let (Ok(file), Ok(command)) = (str::from_utf8(test.file), str::from_utf8(test.command))
+        else {
+            return;
+        };
+        let line = test.line;
+        if let Ok(Some(text)) = explain_entry(self.alloc, &header, test.entries, test.number)
+            && let Ok(told) = format!(in self.alloc; "{file}:{line}: {command}\n{text}")
+        {
+            let _ = self.push(told.as_str());
         }
     }
 }

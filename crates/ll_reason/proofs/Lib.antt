@@ -1,3 +1,4 @@
 pub mod Growing
 pub mod Names
 pub mod Numbered
+pub mod Openings

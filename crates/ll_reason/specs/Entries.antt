@@ -1,5 +1,5 @@
 -- What is told of an entry of a history. own
-use Rattle.std.specs.Prelude.{◌≡◌, ◌⊎◌, ℕ, ◌-◌, ◌≤◌, ◌<◌, true, false, not, List, [], ◌∷◌, Option, Some, None}
+use Rattle.std.specs.Prelude.{◌≡◌, ◌⊎◌, ℕ, ◌-◌, ◌≤◌, ◌<◌, true, false, not, List, [], ◌∷◌, ◌++◌, Option, Some, None}
 use Rattle.std.specs.Prelude.{codes, decimal, length, slice_get, string_bytes, take, if◌then◌else◌}
 use Rattle.std.specs.List.{concat}
 use Rattle.std.specs.Option.{option_map_or}
@@ -7,12 +7,12 @@ use Rattle.ll_rights.specs.Map.{has}
 use Rattle.ll_seq.specs.History.{IsLegal, MayStand, is_connect, state_after}
 use Rattle.ll_seq.specs.State.{State}
 use Rattle.ll_seq.specs.Step.{step}
-use Rattle.ll_seq.specs.declared.call.Call.{Call}
 use Rattle.ll_seq.specs.declared.reply.Entry.{Entry}
 use Rattle.ll_wire.specs.Grammar.{call_tokens, line_of, reply_tokens}
 use Rattle.ll_wire.specs.declared.header.Header.{Header}
 use Rattle.ll_saved.specs.Saved.{IsFirstBad, Tell, opened}
-use Rattle.ll_reason.specs.Explained.{Explains}
+use Rattle.ll_reason.specs.Explained.{IsExplained}
+use Rattle.ll_reason.specs.Opening.{IsOpeningText, opening_behind}
 use Rattle.ll_reason.specs.Told.{told_text}
 use Rattle.ll_reason.specs.declared.entry.Standing.{Standing}
 use Rattle.ll_reason.specs.declared.entry.Standing.TheVariants.{Stands, NoCaller, Answers}
@@ -29,11 +29,6 @@ IsStanding s e NoCaller = has s.clients e.client ≡ is_connect e.call
 IsStanding s e (Answers reply) =
     (MayStand s e → ⊥) × (has s.clients e.client ≡ not (is_connect e.call))
     × (fresh : ℕ) × (has s.clients fresh ≡ false) × (reply ≡ (step s e.client e.call fresh).0)
-
--- a client that is there has its call explained
-abbrev pub IsExplained : State → ℕ → Call → Option Explanation → Type 0
-IsExplained s n call None = has s.clients n ≡ false
-IsExplained s n call (Some told) = (has s.clients n ≡ true) × Explains s n call told
 
 abbrev pub standing_line : Entry → Standing → List ℕ
 standing_line e Stands = []
@@ -56,15 +51,18 @@ pub record IsToldOf (s : State) (entries : List Entry) (wanted number : ℕ) : T
   pub legal : IsLegal s (take (number - 1) entries)
   pub one : (number ≡ wanted) ⊎ (IsLegal s (take number entries) → ⊥)
 
--- the text tells of the entry of this number, in the state that the entries before it lead to
+-- the text tells of the entry of this number, in the state that the entries before it lead to; and of the opening of
+-- the descriptor that has kept what decides its call
 pub record IsTextOf (s : State) (entries : List Entry) (number : ℕ) (text : List ℕ) : Type 0 where
   pub entry : Entry
   pub standing : Standing
   pub told : Option Explanation
+  pub opening : List ℕ
   pub at : slice_get entries (number - 1) ≡ Some entry
   pub stands : IsStanding (state_after s (take (number - 1) entries)) entry standing
   pub explained : IsExplained (state_after s (take (number - 1) entries)) entry.client entry.call told
-  pub is : text ≡ entry_text number entry standing told
+  pub opened : IsOpeningText s (opening_behind (take (number - 1) entries) entry told) opening
+  pub is : text ≡ entry_text number entry standing told ++ opening
 
 -- of the entry that is wanted, or of the first before it that may not stand
 abbrev pub IsEntryWhy : State → List Entry → ℕ → List ℕ → Type 0

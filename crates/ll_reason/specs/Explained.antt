@@ -1,5 +1,6 @@
 -- Why a call is denied in a tree, or isn't, with the least change that would let it through. own
-use Rattle.std.specs.Prelude.{◌≡◌, ℕ, List, None}
+use Rattle.std.specs.Prelude.{◌≡◌, ℕ, List, Option, Some, None, true, false}
+use Rattle.ll_rights.specs.Map.{has}
 use Rattle.ll_seq.specs.State.{State}
 use Rattle.ll_seq.specs.Step.{client_of}
 use Rattle.ll_seq.specs.declared.call.Call.{Call}
@@ -22,3 +23,8 @@ pub record Explains (s : State) (n : ℕ) (call : Call) (told : Explanation) : T
   pub why : IsWhy s (client_of s n) call told.why
   pub answered : IsAnswered s n call told.why
   pub changes : AreLeastFor s (client_of s n) call told.why told.changes.items
+
+-- a client that is there has its call explained
+abbrev pub IsExplained : State → ℕ → Call → Option Explanation → Type 0
+IsExplained s n call None = has s.clients n ≡ false
+IsExplained s n call (Some told) = (has s.clients n ≡ true) × Explains s n call told

@@ -1,4 +1,5 @@
 pub mod Entries
 pub mod Explained
 pub mod Names
+pub mod Opening
 pub mod Told

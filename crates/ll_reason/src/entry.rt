@@ -3,7 +3,8 @@
 ghost use Rattle.std.specs.Prelude.{◌≡◌, ◌<◌, ◌-◌, ◌^◌, ◌↔◌, [], IfOk, IsTrue, string_bytes};
 ghost use Rattle.std.specs.Option.{option_map_or};
 ghost use Rattle.ll_seq.specs.History.{MayStand, is_connect};
-ghost use Rattle.ll_reason.specs.Entries.{IsExplained, IsStanding, entry_text, standing_line};
+ghost use Rattle.ll_reason.specs.Entries.{IsStanding, entry_text, standing_line};
+ghost use Rattle.ll_reason.specs.Explained.{IsExplained};
 ghost use Rattle.ll_reason.specs.Told.{told_text};
 
 use crate::explanation::{Explanation, call_line, explain};
@@ -86,8 +87,12 @@ fn standing_line(alloc: Global, entry: &Entry, standing: &Standing) -> Result<St
     }
 }
 
-// What policy says of the entry's call, where its client is there.
-fn told_lines(alloc: Global, call: &Call, told: &Option<Explanation>) -> Result<String, AllocError>
+/// What policy says of a call, where its client is there.
+pub(crate) fn told_lines(
+    alloc: Global,
+    call: &Call,
+    told: &Option<Explanation>,
+) -> Result<String, AllocError>
     ensures { IfOk result (λ text. string_bytes text ≡ option_map_or (told_text call.now) told.now []) }
 {
     match told {

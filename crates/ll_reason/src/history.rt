@@ -1,13 +1,17 @@
-//! What is told of an entry of a saved history.
+//! What is told of an entry of a history.
 
-ghost use Rattle.std.specs.Prelude.{◌≡◌, ◌<◌, ◌≤◌, ◌-◌, ◌+◌, ◌^◌, true, false, IfOk, length, string_bytes, take};
+ghost use Rattle.std.specs.Prelude.{◌≡◌, ◌<◌, ◌≤◌, ◌-◌, ◌+◌, ◌^◌, ◌⊎◌, true, false, IfOk, MatchOption, length};
+ghost use Rattle.std.specs.Prelude.{string_bytes, take};
 ghost use Rattle.ll_rights.specs.declared.limits.TheConstants.{TREE_NODES};
-ghost use Rattle.ll_seq.specs.History.{IsLegal, MayStand, state_after};
+ghost use Rattle.ll_seq.specs.History.{IsLegal, MayStand};
 ghost use Rattle.ll_wire.specs.Pieces.{pieces};
 ghost use Rattle.ll_saved.specs.Saved.{opened};
 ghost use Rattle.ll_reason.specs.Entries.{IsEntryWhy, IsHistoryWhy, IsStanding, IsTextOf, IsToldOf};
 
 use crate::entry::{Standing, answer_at, entry_text, explain_at};
+use crate::opening::opening_lines;
+use crate::text::concat;
+use crate::tree::{open, tree_after};
 use ll_audit::{AuditFault, follow};
 use ll_plain::Plain;
 use ll_saved::{ReadFault, Saved};
@@ -24,15 +28,6 @@ pub enum HistoryWhy {
     BadLine(usize),
     /// There is no such entry.
     NoEntry,
-}
-
-// A tree as the header tells of it, when it was opened.
-fn open(alloc: Global, header: Header) -> Result<Plain, AllocError>
-    requires some { 1 ≤ header.nodes }
-    requires most { header.nodes ≤ TREE_NODES }
-    ensures { IfOk result (λ tree. tree ≡ opened header) }
-{
-    Plain::new(alloc, header.version.rules(), header.nodes)
 }
 
 // The number of the entry that is told of, and whether it may stand. Its tree is used up.
@@ -55,27 +50,6 @@ fn number_told(
     }
 }
 
-// The tree before the entry of this number, where those before it are legal.
-fn tree_before(
-    alloc: Global,
-    header: Header,
-    entries: &[Entry],
-    number: usize,
-) -> Result<Plain, AllocError>
-    requires some { 1 ≤ header.nodes }
-    requires most { header.nodes ≤ TREE_NODES }
-    requires first { 1 ≤ number }
-    requires last { number ≤ length entries.now }
-    ensures tree { IfOk result (λ tree. tree ≡ state_after (opened header) (take (number - 1) entries.now)) }
-    ensures next { IfOk result (λ tree. tree.next < 2 ^ 64 - 1) }
-{
-    let mut tree = open(alloc, header)?;
-    match follow(&mut tree, &entries[..number - 1]) {
-        Ok(()) => Ok(tree),
-        Err(_) => Err(AllocError),
-    }
-}
-
 // Whether the entry may stand in the tree's state, which is changed then; and if not, what it answers.
 fn standing_at(tree: &mut Plain, entry: &Entry, stands: bool) -> Result<Standing, AllocError>
     requires next { tree.old.next < 2 ^ 64 - 1 }
@@ -93,44 +67,55 @@ fn standing_at(tree: &mut Plain, entry: &Entry, stands: bool) -> Result<Standing
 // The text of the entry of this number, which may stand or not, as is said.
 fn text_of(
     alloc: Global,
-    header: Header,
+    header: &Header,
     entries: &[Entry],
     number: usize,
     stands: bool,
 ) -> Result<String, AllocError>
-    requires some { 1 ≤ header.nodes }
-    requires most { header.nodes ≤ TREE_NODES }
+    requires some { 1 ≤ header.now.nodes }
+    requires most { header.now.nodes ≤ TREE_NODES }
     requires first { 1 ≤ number }
     requires last { number ≤ length entries.now }
-    requires legal { IsLegal (opened header) (take (number - 1) entries.now) }
-    requires yes { stands ≡ true → IsLegal (opened header) (take number entries.now) }
-    requires no { stands ≡ false → IsLegal (opened header) (take number entries.now) → ⊥ }
-    ensures { IfOk result (λ text. IsTextOf (opened header) entries.now number (string_bytes text)) }
+    requires legal { IsLegal (opened header.now) (take (number - 1) entries.now) }
+    requires yes { stands ≡ true → IsLegal (opened header.now) (take number entries.now) }
+    requires no { stands ≡ false → IsLegal (opened header.now) (take number entries.now) → ⊥ }
+    ensures { IfOk result (λ text. IsTextOf (opened header.now) entries.now number (string_bytes text)) }
 {
-    let mut tree = tree_before(alloc, header, entries, number)?;
+    let before = &entries[..number - 1];
+    let mut tree = tree_after(alloc, header, before)?;
     let entry = &entries[number - 1];
     let told = explain_at(alloc, &tree, entry.client, &entry.call)?;
     let standing = standing_at(&mut tree, entry, stands)?;
-    entry_text(alloc, number, entry, &standing, &told)
+    let text = entry_text(alloc, number, entry, &standing, &told)?;
+    let opening = opening_lines(alloc, header, before, entry, &told)?;
+    concat(alloc, &[text.as_str(), opening.as_str()])
 }
 
-// The text of the entry that is wanted, or of the first before it that may not stand.
-fn text_wanted(alloc: Global, saved: &Saved, wanted: usize) -> Result<String, AllocError>
-    requires first { 1 ≤ wanted }
-    requires last { wanted ≤ length saved.now.entries.items }
-    ensures { IfOk result (λ text.
-        IsEntryWhy (opened saved.now.header) saved.now.entries.items wanted (string_bytes text)) }
+/// What is told of the entry of this number, from 1, of the entries of a tree that was opened so: who called, what, and
+/// what was answered; why policy lets the call pass there, or doesn't, and what would; of a call that a descriptor
+/// decides also of its opening; or of an entry that may not stand what the tree answers. Where an entry before it may
+/// not stand, the first of these is told of. There may be no entry of this number. Errors: memory ran out.
+pub fn explain_entry(
+    alloc: Global,
+    header: &Header,
+    entries: &[Entry],
+    wanted: usize,
+) -> Result<Option<String>, AllocError>
+    requires some { 1 ≤ header.now.nodes }
+    requires most { header.now.nodes ≤ TREE_NODES }
+    ensures { IfOk result (λ told. MatchOption told ((wanted ≡ 0) ⊎ (length entries.now < wanted))
+        (λ text. IsEntryWhy (opened header.now) entries.now wanted (string_bytes text))) }
 {
-    let entries = saved.entries.as_slice();
-    let tree = open(alloc, saved.header)?;
+    if wanted == 0 || wanted > entries.len() {
+        return Ok(None);
+    }
+    let tree = open(alloc, header)?;
     let (number, stands) = number_told(tree, entries, wanted)?;
-    text_of(alloc, saved.header, entries, number, stands)
+    let text = text_of(alloc, header, entries, number, stands)?;
+    Ok(Some(text))
 }
 
-/// Explains one entry of the saved history in these bytes, the one of this number, from 1: who called, what, and what
-/// was answered. Then why policy lets the call pass there, or why it doesn't and which change would. Of an entry that
-/// may not stand it is told what the tree answers. Where an entry before it may not stand, the first such entry is
-/// explained in its place.
+/// The same of the entries of the saved history in these bytes.
 pub fn why_entry(alloc: Global, bytes: &[u8], wanted: usize) -> Result<HistoryWhy, AllocError>
     ensures { IfOk result (IsHistoryWhy (pieces bytes.now) wanted) }
 {
@@ -139,9 +124,8 @@ pub fn why_entry(alloc: Global, bytes: &[u8], wanted: usize) -> Result<HistoryWh
         Err(ReadFault::BadLine(line)) => return Ok(HistoryWhy::BadLine(line)),
         Err(ReadFault::NoMemory) => return Err(AllocError),
     };
-    if wanted == 0 || wanted > saved.entries.len() {
-        return Ok(HistoryWhy::NoEntry);
+    match explain_entry(alloc, &saved.header, saved.entries.as_slice(), wanted)? {
+        Some(text) => Ok(HistoryWhy::Told(text)),
+        None => Ok(HistoryWhy::NoEntry),
     }
-    let text = text_wanted(alloc, &saved, wanted)?;
-    Ok(HistoryWhy::Told(text))
 }

@@ -5,9 +5,11 @@ mod entry;
 mod explanation;
 mod history;
 mod layers;
+mod opening;
 mod paths;
 mod text;
+mod tree;
 
 pub use entry::Standing;
 pub use explanation::{Explanation, call_line, explain};
-pub use history::{HistoryWhy, why_entry};
+pub use history::{HistoryWhy, explain_entry, why_entry};

@@ -8,7 +8,10 @@ ghost use Rattle.ll_runs.specs.declared.checks.Checked as checked;
 
 use crate::failure::Failure;
 use crate::policy::setup_of;
-use ll_check::{CheckFault, Checks, Detail, Tally, check_file, explain};
+use crate::program::header_of;
+use ll_check::{
+    CheckFault, CheckLine, Checks, Detail, Notes, Tally, check_file, explain, tell_denied,
+};
 use ll_options::{CheckOptions, RunOptions};
 use ll_rights::limits::HISTORY_ENTRIES;
 use ll_session::Setup;
@@ -112,14 +115,38 @@ fn name_of<'a>(options: &CheckOptions<'a>, file: usize) -> &'a str {
     }
 }
 
-// Checks all files, one after the other. What is reported comes behind the report so far.
-fn check_all<R: Wait>(
+// Checks a file of this name. What is reported comes behind the report so far.
+fn check_one<R: Wait, N: Notes>(
+    rt: &R,
+    alloc: Global,
+    detail: Detail,
+    setup: Setup,
+    name: &str,
+    lines: &[CheckLine<'_>],
+    report: &mut Vec<u8>,
+    notes: &mut N,
+) -> Result<Tally, Failure> {
+    let name = name.as_bytes();
+    let header = header_of(&setup);
+    let checked = match check_file(rt, report, alloc, detail, setup, name, lines) {
+        Ok(checked) => checked,
+        Err(fault) => return Err(Failure::of_run(fault)),
+    };
+    if detail != Detail::Quiet && notes.are_wanted() {
+        tell_denied(notes, header, name, lines, &checked);
+    }
+    Ok(checked.tally)
+}
+
+// Checks all files, one after the other.
+fn check_all<R: Wait, N: Notes>(
     rt: &R,
     alloc: Global,
     options: &CheckOptions,
     policy: &[u8],
     all: &[Checks<'_>],
     report: &mut Vec<u8>,
+    notes: &mut N,
 ) -> Result<Tally, Failure> {
     let mut total = Tally {
         passed: 0,
@@ -131,18 +158,8 @@ fn check_all<R: Wait>(
         file = file.saturating_add(1);
         let lines = checks.lines.as_slice();
         let setup = setup_for(alloc, options, policy, lines.len())?;
-        let tally = match check_file(
-            rt,
-            report,
-            alloc,
-            detail_of(options),
-            setup,
-            name.as_bytes(),
-            lines,
-        ) {
-            Ok(tally) => tally,
-            Err(fault) => return Err(Failure::of_run(fault)),
-        };
+        let detail = detail_of(options);
+        let tally = check_one(rt, alloc, detail, setup, name, lines, report, notes)?;
         total = Tally {
             passed: total.passed.saturating_add(tally.passed),
             failed: total.failed.saturating_add(tally.failed),
@@ -161,18 +178,19 @@ fn push_total(report: &mut Vec<u8>, alloc: Global, total: Tally) -> Result<(), A
     report.extend_from_slice(b" failed\n")
 }
 
-fn check_and_tell<R: Wait, W: Write>(
+fn check_and_tell<R: Wait, W: Write, N: Notes>(
     rt: &R,
     alloc: Global,
     options: &CheckOptions,
     policy: &[u8],
     all: &[Checks<'_>],
     out: &mut W,
+    notes: &mut N,
 ) -> Result<Checked, Failure>
     ensures { IfOk result (λ end. end ≢ checked.Checked.BadLine) }
 {
     let mut report = Vec::new(alloc);
-    let total = check_all(rt, alloc, options, policy, all, &mut report)?;
+    let total = check_all(rt, alloc, options, policy, all, &mut report, notes)?;
     if push_total(&mut report, alloc, total).is_err() {
         return Err(Failure::NoMemory);
     }
@@ -217,8 +235,9 @@ fn tell_bad<E: Write>(
 }
 
 /// Checks these files' texts, each over a tree of its own, and writes the report. All are read before anything is run:
-/// where a line says nothing, that is told, and nothing else is done.
-pub fn check<R: Wait, W: Write, E: Write>(
+/// where a line says nothing, that is told, and nothing else is done. Notes that are wanted are told of the tests that
+/// are shown and fail by a denial.
+pub fn check<R: Wait, W: Write, E: Write, N: Notes>(
     rt: &R,
     alloc: Global,
     options: &CheckOptions,
@@ -226,12 +245,13 @@ pub fn check<R: Wait, W: Write, E: Write>(
     texts: &[Vec<u8>],
     out: &mut W,
     err: &mut E,
+    notes: &mut N,
 ) -> Result<Checked, Failure>
     ensures whole { IfOk result (λ end. end ≢ checked.Checked.BadLine → AreTold texts.now) }
     ensures nothing { result ≡ Ok checked.Checked.BadLine → Keeps (W.contents out.old) (W.contents out.new) }
 {
     match read_all(alloc, texts) {
-        Ok(all) => check_and_tell(rt, alloc, options, policy, all.as_slice(), out),
+        Ok(all) => check_and_tell(rt, alloc, options, policy, all.as_slice(), out, notes),
         Err(
             BadFile {
                 fault: CheckFault::NoMemory,
