@@ -47,6 +47,11 @@ impl Hints {
         self.is_wanted = is_wanted;
     }
 
+    /// Whether they are to be told.
+    pub fn are_wanted(&self) -> bool {
+        self.is_wanted
+    }
+
     // These lines come last.
     fn push(&mut self, told: &str) -> Result<(), AllocError> {
         for line in told.lines() {
