@@ -1,6 +1,6 @@
 //! From a schedule's text to its picture, and to the reasons of what can't be made.
 
-ghost use Rattle.std.specs.Prelude.{◌≡◌, ◌≤◌, None, IfOk, length, string_bytes};
+ghost use Rattle.std.specs.Prelude.{◌≡◌, ◌≤◌, suc, None, IfOk, OnOk, if◌then◌else◌, length, string_bytes};
 ghost use Rattle.ll_rights.specs.declared.limits.TheConstants.{HISTORY_ENTRIES, TREE_NODES};
 ghost use Rattle.ll_drawing.specs.Windows.{drawn_of};
 ghost use Rattle.ll_picture.specs.Pictures.{IsPicture};
@@ -10,7 +10,7 @@ use crate::lines::cut;
 use crate::replay::Replay;
 use crate::shadow::Shadow;
 use crate::window::Window;
-use ll_picture::picture_of;
+use ll_picture::{Column, picture_of};
 use ll_seq::Rules;
 use ll_steps::World;
 use std::alloc::{AllocError, Global};
@@ -30,6 +30,17 @@ fn replay_in(
     let shadow = Shadow::new(alloc, rules, nodes)?;
     let world = World::new(alloc, rules, nodes, history)?;
     Ok(Replay::new(alloc, world, shadow))
+}
+
+// One column more, if it is drawn.
+fn keep(columns: &mut Vec<Column>, column: Column, is_drawn: bool) -> Result<(), AllocError>
+    ensures { OnOk result (length columns.new.items
+        ≡ (if is_drawn then suc (length columns.old.items) else length columns.old.items)) }
+{
+    if is_drawn {
+        columns.push(column)?;
+    }
+    Ok(())
 }
 
 /// Makes a schedule in a new tree of so many nodes, with a history of so many entries at most. Gives the picture of the
@@ -59,9 +70,7 @@ pub fn draw(
         let (line, more) = cut(rest);
         number += 1;
         let column = replay.take_line(line)?;
-        if window.has(number) {
-            columns.push(column)?;
-        }
+        keep(&mut columns, column, window.has(number))?;
         rest = more;
     }
     let first = window.from.saturating_sub(1) as usize;

@@ -41,8 +41,8 @@ pub enum Unmet {
     UnderWay,
     /// It has none.
     NoWalk,
-    /// The call is made by the step of this name.
-    ByOtherStep(&'static str),
+    /// Another step makes the call, by this rule.
+    OtherStep(&'static str),
     /// The walk of this client holds the move gate.
     Gate(u64),
     /// So too, and the walk takes the gate as it enters the root for the fourth time.
@@ -75,7 +75,7 @@ impl Display for Unmet {
         match self {
             Unmet::UnderWay => f.write_str("its walk is under way, and a client has one at a time"),
             Unmet::NoWalk => f.write_str("no walk of it is under way"),
-            Unmet::ByOtherStep(word) => write!(f, "this call is made by `{word}`"),
+            Unmet::OtherStep(rule) => f.write_str(rule),
             Unmet::Gate(client) => write!(f, "client {client}'s walk holds the move gate"),
             Unmet::GateAtFourth(client) => write!(
                 f,

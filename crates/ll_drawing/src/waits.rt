@@ -23,12 +23,13 @@ pub enum Manner {
 }
 
 impl Manner {
-    // The word of the step.
-    fn word(self) -> &'static str {
+    // Of which calls that is so.
+    fn rule(self) -> &'static str {
         match self {
-            Manner::Begin => "begin",
-            Manner::Fd => "fd",
-            Manner::Step => "step",
+            Manner::Begin => "`begin` makes a call that walks",
+            Manner::Fd => "`fd` makes a call on a descriptor that the client has",
+            Manner::Step =>
+                "`step` makes a call that doesn't walk, nor is on a descriptor that the client has",
         }
     }
 }
@@ -88,7 +89,7 @@ fn number_of(row: usize) -> u64 {
 // Of a call that isn't on its way by itself: its client's walk is at this place.
 fn of_call(at: Station, manner: Manner) -> Cause {
     let unmet = if at == Station::Idle {
-        Unmet::ByOtherStep(manner.word())
+        Unmet::OtherStep(manner.rule())
     } else {
         Unmet::UnderWay
     };
@@ -130,7 +131,7 @@ impl Scenery<'_> {
         }
         match self.gate_holder() {
             _ if manner != Manner::Begin => {
-                Cause::alone(Tried::Begin, Unmet::ByOtherStep(manner.word()))
+                Cause::alone(Tried::Begin, Unmet::OtherStep(manner.rule()))
             }
             Some(obstacle) if moves => Cause {
                 tried: Tried::Begin,

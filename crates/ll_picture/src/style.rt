@@ -3,12 +3,12 @@
 use crate::canvas::Canvas;
 use std::alloc::AllocError;
 
-/// How much of a hue's circle, in degrees, is between a client and the next.
-const TURN: usize = 137;
+/// How many degrees of the circle of hues clients have: not those from red to yellow, which signs have.
+const HUES: usize = 270;
 
 // The hue of a row's client, in degrees. Clients that come one after the other have hues far from each other.
 fn hue_of(row: usize) -> usize {
-    (212 + TURN * (row % 360)) % 360
+    60 + (152 + 167 * (row % HUES)) % HUES
 }
 
 // How light its colour is, in percent, on white and in the dark. Each eight clients differ in it from the eight before.
