@@ -27,8 +27,9 @@ fn replay_in(
     requires entry { 1 ≤ history }
     requires entries { history ≤ HISTORY_ENTRIES }
 {
-    let shadow = Shadow::new(alloc, rules, nodes)?;
-    let world = World::new(alloc, rules, nodes, history)?;
+    let Rules { abi, copies } = rules;
+    let shadow = Shadow::new(alloc, Rules { abi, copies }, nodes)?;
+    let world = World::new(alloc, Rules { abi, copies }, nodes, history)?;
     Ok(Replay::new(alloc, world, shadow))
 }
 
