@@ -228,8 +228,8 @@ impl Canvas {
         )
     }
 
-    /// Words that rise to the right, on a line that is so far below the one that goes through the point; at most so many
-    /// characters of them, and all of them where they are pointed at.
+    /// Words that rise to the right, on a line that is so far below the one that goes through the point. So many
+    /// characters of them are shown at most, and all of them where they are pointed at.
     pub fn write_rising(
         &mut self,
         class: &str,

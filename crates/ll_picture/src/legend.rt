@@ -42,7 +42,7 @@ const SIGNS: [(Sign, &str, &str); 13] = [
     (
         Sign::GoesOn,
         "class='goes-on'",
-        "the walk is under way at the end",
+        "the walk is still under way",
     ),
 ];
 

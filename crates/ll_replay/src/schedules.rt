@@ -98,7 +98,8 @@ pub fn perform_schedule<R: Read, W: Write>(
     perform_over(alloc, setup, &mut ends)
 }
 
-/// Draws these lines of a schedule, as `draw_schedule` does, to a device that counts its failures. A failed write isn't tried again.
+/// Draws these lines of a schedule, as `draw_schedule` does, to a device that counts its failures. A failed write isn't
+/// tried again.
 pub fn draw_over<E: Ends>(
     alloc: Global,
     setup: WorldSetup,
@@ -161,8 +162,8 @@ pub fn draw_schedule<W: Write>(
     draw_over(alloc, setup, window, schedule, &mut ends)
 }
 
-/// Why the steps of a schedule that weren't made couldn't be made, a line each, and which walks are under way at the end.
-/// None for want of memory.
+/// Why the steps of a schedule that weren't made couldn't be made, a line each, and which walks are under way at the
+/// end. None for want of memory.
 pub fn explain_schedule(alloc: Global, setup: WorldSetup, schedule: &[u8]) -> Option<String> {
     explain(alloc, setup.rules, setup.nodes, setup.history, schedule).ok()
 }
