@@ -23,12 +23,12 @@ _landtree() {
         mapfile -t COMPREPLY < <(compgen -d -- "$word")
         return
         ;;
-    --nodes | --history | --profile | --port | --workers | --connections | --idle) return ;;
+    --nodes | --history | --from | --to | --profile | --port | --workers | --connections | --idle) return ;;
     esac
     case ${COMP_WORDS[1]} in
     run) options="--nodes --abi --history --policy --profile --save --strict --explain --help" ;;
     audit) options="--explain --help" ;;
-    schedule) options="--nodes --abi --history --picture --explain --help" ;;
+    schedule) options="--nodes --abi --history --picture --from --to --explain --help" ;;
     rights) options="--policy --profile --nodes --layers --explain --help" ;;
     why) options="--policy --profile --nodes --explain --help" ;;
     check) options="--nodes --abi --policy --profile --quiet --verbose --explain --help" ;;

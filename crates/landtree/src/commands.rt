@@ -19,13 +19,13 @@ use crate::hinting::{hint_at_opening, hint_at_question, opening_run, why_text};
 use ll_asking::tell_why;
 use ll_explain::tell_rights;
 use ll_export::export;
-use ll_files::{Late, NewFile, Sources, named};
+use ll_files::{Kept, Late, NewFile, Sources, named};
 use ll_hints::{Hints, Misfit};
 use ll_options::{
     CheckOptions, ExportOptions, Question, RightsOptions, RunOptions, ScheduleOptions,
     ServeOptions, WhyOptions,
 };
-use ll_replay::{draw_schedule, perform_schedule, setup_by};
+use ll_replay::{draw_schedule, explain_schedule, perform_schedule, setup_by, window_by};
 use ll_rights::limits::TREE_NODES;
 use ll_runs::{Checked, Conclusion, Failure, Shown, audit, check, read_text, run};
 use ll_saved::Verdict;
@@ -210,6 +210,34 @@ pub fn audit_file<S: Sources>(
     Ok(Conclusion::Judged(verdict))
 }
 
+// Tells why steps of a schedule couldn't be made, and which walks are under way at its end.
+fn hint_at_steps(rt: &HostRuntime, options: &ScheduleOptions, text: &[u8], hints: &mut Hints) {
+    if let Some(reasons) = explain_schedule(rt.alloc(), setup_by(options), text) {
+        hints.add(&reasons);
+    }
+}
+
+// Does what a schedule asks for, and tells of it.
+fn perform_and_tell<S: Sources>(
+    rt: &HostRuntime,
+    sources: &S,
+    options: &ScheduleOptions,
+    hints: &mut Hints,
+) -> Result<(), Failure>
+    ensures { IfErr result IsOfDevices }
+{
+    let file = Late::new(sources, named(options.file));
+    let mut kept = Kept::new(rt.alloc(), file, hints.are_wanted());
+    let ended = perform_schedule(rt.alloc(), setup_by(options), &mut kept, &mut rt.stdout());
+    hints.of_input("schedule", &kept.reader);
+    if ended.is_ok()
+        && let Some(text) = kept.text()
+    {
+        hint_at_steps(rt, options, text, hints);
+    }
+    ended
+}
+
 // Does what a schedule asks for, which is read whole first, and draws it into the file of this name.
 fn perform_and_draw<R: Read>(
     rt: &HostRuntime,
@@ -224,8 +252,12 @@ fn perform_and_draw<R: Read>(
     let mut lines = text.as_slice();
     perform_schedule(rt.alloc(), setup_by(options), &mut lines, &mut rt.stdout())?;
     let mut file = NewFile::new(rt, path);
-    let drawn = draw_schedule(rt.alloc(), setup_by(options), text.as_slice(), &mut file);
+    let (setup, window) = (setup_by(options), window_by(options));
+    let drawn = draw_schedule(rt.alloc(), setup, window, text.as_slice(), &mut file);
     hints.of_output("picture", &file);
+    if hints.are_wanted() {
+        hint_at_steps(rt, options, text.as_slice(), hints);
+    }
     drawn
 }
 
@@ -238,16 +270,11 @@ fn perform_file<S: Sources>(
 ) -> Result<(), Failure>
     ensures { IfErr result IsOfDevices }
 {
-    let mut schedule = Late::new(sources, named(options.file));
-    let ended = match options.picture {
-        Some(path) => perform_and_draw(rt, options, &mut schedule, path, hints),
-        None => perform_schedule(
-            rt.alloc(),
-            setup_by(options),
-            &mut schedule,
-            &mut rt.stdout(),
-        ),
+    let Some(path) = options.picture else {
+        return perform_and_tell(rt, sources, options, hints);
     };
+    let mut schedule = Late::new(sources, named(options.file));
+    let ended = perform_and_draw(rt, options, &mut schedule, path, hints);
     hints.of_input("schedule", &schedule);
     ended
 }

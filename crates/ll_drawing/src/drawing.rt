@@ -1,20 +1,87 @@
-//! From a schedule's text to its picture.
+//! From a schedule's text to its picture, and to the reasons of what can't be made.
 
-ghost use Rattle.std.specs.Prelude.{◌≤◌, IfOk, length, string_bytes};
+ghost use Rattle.std.specs.Prelude.{◌≡◌, ◌≤◌, suc, None, IfOk, OnOk, if◌then◌else◌, length, string_bytes};
 ghost use Rattle.ll_rights.specs.declared.limits.TheConstants.{HISTORY_ENTRIES, TREE_NODES};
+ghost use Rattle.ll_drawing.specs.Windows.{drawn_of};
 ghost use Rattle.ll_picture.specs.Pictures.{IsPicture};
 ghost use Rattle.ll_wire.specs.Pieces.{pieces};
 
 use crate::lines::cut;
 use crate::replay::Replay;
-use ll_picture::picture_of;
+use crate::shadow::Shadow;
+use crate::window::Window;
+use ll_picture::{Column, picture_of};
 use ll_seq::Rules;
 use ll_steps::World;
 use std::alloc::{AllocError, Global};
 
-/// Makes a schedule in a new tree of so many nodes, with a history of so many entries at most. Gives its picture, as
-/// SVG.
+// Before the first line.
+fn replay_in(
+    alloc: Global,
+    rules: Rules,
+    nodes: usize,
+    history: usize,
+) -> Result<Replay, AllocError>
+    requires some { 1 ≤ nodes }
+    requires most { nodes ≤ TREE_NODES }
+    requires entry { 1 ≤ history }
+    requires entries { history ≤ HISTORY_ENTRIES }
+{
+    let Rules { abi, copies } = rules;
+    let shadow = Shadow::new(alloc, Rules { abi, copies }, nodes)?;
+    let world = World::new(alloc, Rules { abi, copies }, nodes, history)?;
+    Ok(Replay::new(alloc, world, shadow))
+}
+
+// One column more, if it is drawn.
+fn keep(columns: &mut Vec<Column>, column: Column, is_drawn: bool) -> Result<(), AllocError>
+    ensures { OnOk result (length columns.new.items
+        ≡ (if is_drawn then suc (length columns.old.items) else length columns.old.items)) }
+{
+    if is_drawn {
+        columns.push(column)?;
+    }
+    Ok(())
+}
+
+/// Makes a schedule in a new tree of so many nodes, with a history of so many entries at most. Gives the picture of the
+/// lines that the window has, as SVG.
 pub fn draw(
+    alloc: Global,
+    rules: Rules,
+    nodes: usize,
+    history: usize,
+    window: Window,
+    schedule: &[u8],
+) -> Result<String, AllocError>
+    requires some { 1 ≤ nodes }
+    requires most { nodes ≤ TREE_NODES }
+    requires entry { 1 ≤ history }
+    requires entries { history ≤ HISTORY_ENTRIES }
+    ensures drawn { IfOk result (λ text.
+        IsPicture (drawn_of window (length (pieces schedule.now))) (string_bytes text)) }
+    ensures all { window.from ≤ 1 → window.to ≡ None → IfOk result (λ text.
+        IsPicture (length (pieces schedule.now)) (string_bytes text)) }
+{
+    let mut replay = replay_in(alloc, rules, nodes, history)?;
+    let mut columns = Vec::new(alloc);
+    let mut number = 0u64;
+    let mut rest = schedule;
+    while !rest.is_empty() {
+        let (line, more) = cut(rest);
+        number += 1;
+        let column = replay.take_line(line)?;
+        keep(&mut columns, column, window.has(number))?;
+        rest = more;
+    }
+    let first = window.from.saturating_sub(1) as usize;
+    let scene = replay.into_scene(first, columns)?;
+    picture_of(alloc, &scene)
+}
+
+/// Makes a schedule in such a tree. Gives the reason why each step that isn't made can't be made then, a line each, and
+/// which walks are under way at the end.
+pub fn explain(
     alloc: Global,
     rules: Rules,
     nodes: usize,
@@ -25,16 +92,13 @@ pub fn draw(
     requires most { nodes ≤ TREE_NODES }
     requires entry { 1 ≤ history }
     requires entries { history ≤ HISTORY_ENTRIES }
-    ensures { IfOk result (λ text. IsPicture (length (pieces schedule.now)) (string_bytes text)) }
 {
-    let mut replay = Replay::new(alloc, World::new(alloc, rules, nodes, history)?);
-    let mut columns = Vec::new(alloc);
+    let mut replay = replay_in(alloc, rules, nodes, history)?;
     let mut rest = schedule;
     while !rest.is_empty() {
         let (line, more) = cut(rest);
-        columns.push(replay.take_line(line)?)?;
+        drop(replay.take_line(line)?);
         rest = more;
     }
-    let scene = replay.into_scene(columns)?;
-    picture_of(alloc, &scene)
+    replay.into_reasons()
 }

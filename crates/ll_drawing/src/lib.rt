@@ -1,4 +1,4 @@
-//! A schedule, made once more for its picture.
+//! A schedule, made once more for its picture, and to tell why its steps can't be made.
 #![tactic(auto)]
 
 mod course;
@@ -6,6 +6,11 @@ mod drawing;
 mod lines;
 mod replay;
 mod seat;
+mod shadow;
 mod told;
+mod unmet;
+mod waits;
+mod window;
 
-pub use drawing::draw;
+pub use drawing::{draw, explain};
+pub use window::Window;

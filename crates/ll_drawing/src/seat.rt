@@ -2,7 +2,7 @@
 
 use crate::course::Course;
 use ll_journal::Station;
-use ll_picture::{Branch, Caption, Event, Moment};
+use ll_picture::{Branch, Ending, Event, Moment, Wait};
 use ll_steps::Report;
 use std::alloc::{AllocError, Global};
 
@@ -10,7 +10,7 @@ use std::alloc::{AllocError, Global};
 #[derive(Drop)]
 pub struct Seat {
     pub moments: Vec<Moment>,
-    course: Option<Course>,
+    pub course: Option<Course>,
 }
 
 impl Seat {
@@ -21,108 +21,131 @@ impl Seat {
         }
     }
 
-    fn note(&mut self, column: usize, event: Event) -> Result<(), AllocError> {
-        self.moments.push(Moment { column, event })?;
+    fn note(&mut self, line: usize, event: Event) -> Result<(), AllocError> {
+        self.moments.push(Moment { line, event })?;
         Ok(())
     }
 
     /// The client came.
-    pub fn come(&mut self, column: usize) -> Result<(), AllocError> {
-        self.note(column, Event::Came)
+    pub fn come(&mut self, line: usize) -> Result<(), AllocError> {
+        self.note(line, Event::Came)
     }
 
     /// Its walk begins.
-    pub fn begin(&mut self, column: usize, course: Course) -> Result<(), AllocError> {
-        let takes_gate = course.begins_at_gate();
+    pub fn begin(&mut self, line: usize, course: Course) -> Result<(), AllocError> {
+        let takes_gate = course.has_gate;
         self.course = Some(course);
-        self.note(column, Event::Begun)?;
+        self.note(line, Event::Begun)?;
         if takes_gate {
-            self.note(column, Event::GateTaken)?;
+            self.note(line, Event::GateTaken)?;
         }
         Ok(())
     }
 
-    fn takes_gate(&self, from: Station) -> bool {
-        match &self.course {
-            Some(course) => from == Station::Above && course.enters_by_gate(),
-            None => false,
+    // Whether the line told last that the walk stands on this branch. The steps of a whole call do so.
+    fn stands_already(&self, line: usize, branch: Branch) -> bool {
+        match self.moments.last() {
+            Some(
+                Moment {
+                    line: last,
+                    event: Event::Stands(known, _),
+                },
+            ) => *last == line && *known == branch,
+            _ => false,
         }
     }
 
     fn stand(
         &mut self,
         alloc: Global,
-        column: usize,
+        line: usize,
         from: Station,
         inode: u64,
     ) -> Result<(), AllocError> {
-        if self.takes_gate(from) {
-            self.note(column, Event::GateTaken)?;
-        }
-        let (branch, name) = match &mut self.course {
-            Some(course) => course.descend(alloc, from, inode)?,
-            None => (Branch::Trunk, inode.to_string(alloc)?),
+        let branch = Course::branch_at(from);
+        let is_again = self.stands_already(line, branch);
+        let Some(course) = &mut self.course else {
+            return Ok(());
         };
-        self.note(column, Event::Stands(branch, name))
+        let takes_gate = from == Station::Above && course.enters_by_gate();
+        if takes_gate {
+            course.has_gate = true;
+        }
+        let spot = course.descend(alloc, from, inode, !is_again)?;
+        if is_again {
+            drop(self.moments.pop());
+        }
+        if takes_gate {
+            self.note(line, Event::GateTaken)?;
+        }
+        self.note(line, Event::Stands(branch, spot))
     }
 
-    fn restart(&mut self, column: usize) -> Result<(), AllocError> {
+    fn fork(&mut self, line: usize) -> Result<(), AllocError> {
+        if let Some(course) = &mut self.course {
+            course.fork();
+        }
+        self.note(line, Event::Forked)
+    }
+
+    fn restart(&mut self, line: usize) -> Result<(), AllocError> {
         if let Some(course) = &mut self.course {
             course.restart();
         }
-        self.note(column, Event::Restarted)
+        self.note(line, Event::Restarted)
     }
 
-    /// A step of the client, whose walk was at a place, ended with this outcome, which tells no reply.
+    /// A step of the client's walk, which was at a place, ended with this outcome, which tells no reply.
     pub fn step(
         &mut self,
         alloc: Global,
-        column: usize,
+        line: usize,
         from: Station,
         outcome: Report,
     ) -> Result<(), AllocError> {
         match outcome {
-            Report::Stands(inode) => self.stand(alloc, column, from, inode),
-            Report::Forked => self.note(column, Event::Forked),
-            Report::Restarted => self.restart(column),
-            _ => self.note(column, Event::NotNow),
+            Report::Stands(inode) => self.stand(alloc, line, from, inode),
+            Report::Forked => self.fork(line),
+            Report::Restarted => self.restart(line),
+            _ => Ok(()),
         }
     }
 
+    /// A step of the client can't be made now.
+    pub fn wait(&mut self, line: usize, wait: Wait) -> Result<(), AllocError> {
+        self.note(line, Event::NotNow(wait))
+    }
+
     /// A call of the client, whose walk was at a place, is answered.
-    pub fn answer(
-        &mut self,
-        column: usize,
-        from: Station,
-        answer: Caption,
-    ) -> Result<(), AllocError> {
+    pub fn answer(&mut self, line: usize, from: Station, ending: Ending) -> Result<(), AllocError> {
         self.course = None;
         self.note(
-            column,
+            line,
             match from {
-                Station::Idle => Event::Made(answer),
-                _ => Event::Answered(answer),
+                Station::Idle => Event::Made(ending),
+                _ => Event::Answered(ending),
             },
         )
     }
 
-    /// All steps of a call were made, up to one that can't be made now: the walk is left at a place.
-    pub fn leave(&mut self, alloc: Global, column: usize, at: Station) -> Result<(), AllocError> {
-        if let Some(course) = &mut self.course {
-            course.lose();
+    /// A call of the client is answered, all steps of which the line has made: its walk isn't told.
+    pub fn make(&mut self, line: usize, ending: Ending) -> Result<(), AllocError> {
+        self.course = None;
+        while self
+            .moments
+            .last()
+            .is_some_and(|moment| moment.line == line)
+        {
+            drop(self.moments.pop());
         }
-        if at != Station::Above {
-            let name = String::from_str(alloc, "…")?;
-            self.note(column, Event::Stands(Branch::Trunk, name))?;
-        }
-        self.note(column, Event::NotNow)
+        self.note(line, Event::Made(ending))
     }
 
     // Whether the walk, which is at this place, has just become stale.
-    fn becomes_stale(&mut self, at: Station) -> bool {
+    fn becomes_stale(&mut self, at: Station, mover: usize) -> bool {
         match &mut self.course {
-            Some(course) if at == Station::Stale && !course.is_stale => {
-                course.is_stale = true;
+            Some(course) if at == Station::Stale && course.mover.is_none() => {
+                course.mover = Some(mover);
                 true
             }
             _ => false,
@@ -130,9 +153,9 @@ impl Seat {
     }
 
     /// Where the walk is. If it has become stale, that was by the client of the row.
-    pub fn see(&mut self, column: usize, at: Station, mover: usize) -> Result<(), AllocError> {
-        if self.becomes_stale(at) {
-            self.note(column, Event::Overtaken(mover))?;
+    pub fn see(&mut self, line: usize, at: Station, mover: usize) -> Result<(), AllocError> {
+        if self.becomes_stale(at, mover) {
+            self.note(line, Event::Overtaken(mover))?;
         }
         Ok(())
     }

@@ -1,6 +1,6 @@
 //! What is told of outcomes.
 
-use ll_picture::Caption;
+use ll_picture::Ending;
 use ll_rights::Errno;
 use ll_seq::Reply;
 use ll_steps::{Report, World};
@@ -58,41 +58,14 @@ pub fn outcome_words(alloc: Global, world: &World, outcome: Report) -> Result<St
     }
 }
 
-// A reply in short.
-fn short_of(alloc: Global, reply: &Reply) -> Result<String, AllocError> {
-    match reply {
-        Reply::Done => String::from_str(alloc, "ok"),
-        Reply::Opened(number) => format!(in alloc; "fd {number}"),
-        Reply::Bytes(_) => String::from_str(alloc, "bytes"),
-        Reply::Wrote(count) => format!(in alloc; "wrote {count}"),
-        Reply::Listed(_) => String::from_str(alloc, "names"),
-        Reply::Found(_) => String::from_str(alloc, "stat"),
-        Reply::Created(_) => String::from_str(alloc, "ruleset"),
-        Reply::Spawned(number) => format!(in alloc; "client {number}"),
-        Reply::Refused(errno) => String::from_str(alloc, errno.text()),
-        Reply::Denied(denial) => String::from_str(alloc, denial.cause.errno().text()),
-    }
-}
-
-fn answer_by(alloc: Global, reply: &Reply) -> Result<Caption, AllocError> {
-    Ok(Caption {
-        text: short_of(alloc, reply)?,
-        is_refusal: matches!(reply, Reply::Refused(_) | Reply::Denied(_)),
-    })
-}
-
-/// What a call was answered, where the outcome tells it.
-pub fn answer_in(
-    alloc: Global,
-    world: &World,
-    outcome: Report,
-) -> Result<Option<Caption>, AllocError> {
+/// How a call ends, where the outcome tells its reply.
+pub fn ending_in(world: &World, outcome: Report) -> Option<Ending> {
     match outcome {
         Report::Replied(number) => match reply_in(world, number) {
-            Some(reply) => Ok(Some(answer_by(alloc, reply)?)),
-            None => Ok(None),
+            Some(Reply::Refused(_) | Reply::Denied(_)) => Some(Ending::Refused),
+            _ => Some(Ending::Done),
         },
-        Report::Refused(errno) => Ok(Some(answer_by(alloc, &Reply::Refused(errno))?)),
-        _ => Ok(None),
+        Report::Refused(_) => Some(Ending::Refused),
+        _ => None,
     }
 }

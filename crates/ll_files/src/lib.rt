@@ -2,7 +2,9 @@
 #![tactic(auto)]
 
 mod input;
+mod kept;
 mod output;
 
 pub use input::{Late, Sources, named};
+pub use kept::Kept;
 pub use output::{NewFile, Places};

@@ -18,6 +18,10 @@ pub enum Misfit<'a> {
     /// This file would be written over what is read.
     WritesOverInput(&'a str),
     QuietAndVerbose,
+    /// Lines are chosen, and no picture is wanted.
+    LinesOfNoPicture,
+    /// The first of the lines that are chosen is behind the last.
+    LinesTurned(u64, u64),
     NoSuchForm,
     /// This word of `rights`.
     NoPath(&'a str),
@@ -37,6 +41,12 @@ impl Display for Misfit<'_> {
             ),
             Misfit::WritesOverInput(name) => write!(f, "{name} would be written over, and is read"),
             Misfit::QuietAndVerbose => f.write_str("--quiet and --verbose don't go together"),
+            Misfit::LinesOfNoPicture => {
+                f.write_str("--from and --to choose the lines of a picture: --picture OUT")
+            }
+            Misfit::LinesTurned(from, to) => {
+                write!(f, "--from {from} is behind --to {to}: lines count from 1")
+            }
             Misfit::NeitherEntryNorCommand => {
                 f.write_str(
                     "why takes HISTORY K, or a command in quotes with --policy and --profile",
@@ -74,6 +84,17 @@ fn of_output<'a>(output: Option<&'a str>, input: Option<&str>) -> Option<Misfit<
     }
 }
 
+// With these lines chosen for a picture.
+fn of_lines<'a>(options: &ScheduleOptions<'a>) -> Option<Misfit<'a>> {
+    if options.may_be_drawn() {
+        return None;
+    }
+    match (options.from, options.to) {
+        (Some(from), Some(to)) if to < from => Some(Misfit::LinesTurned(from, to)),
+        _ => Some(Misfit::LinesOfNoPicture),
+    }
+}
+
 // Where memory is wanted, every word is taken for one.
 fn is_path(alloc: Global, word: &str) -> bool {
     let Ok(text) = String::from_str(alloc, word) else {
@@ -96,7 +117,7 @@ impl<'a> Misfit<'a> {
 
     /// Of `schedule`.
     pub fn of_schedule(options: &ScheduleOptions<'a>) -> Option<Misfit<'a>> {
-        of_output(options.picture, Some(options.file))
+        of_output(options.picture, Some(options.file)).or(of_lines(options))
     }
 
     /// Of `check`.

@@ -21,7 +21,7 @@ use Rattle.clap.specs.declared.builder.value_parser.Reading.TheVariants.{AsWritt
 use Rattle.ll_options.specs.Options.{abi, also, audit, check, connection_numbers, connections, export, file, files}
 use Rattle.ll_options.specs.Options.{flag, history, history_numbers, idle, needed, node_numbers, nodes, paths, port}
 use Rattle.ll_options.specs.Options.{ports, rights, run, schedule, script, serve, valued, why, worker_numbers, workers}
-use Rattle.ll_options.specs.Options.{words}
+use Rattle.ll_options.specs.Options.{line_number, line_numbers, words}
 use Rattle.ll_options.proofs.ArgumentsUsed.{Keeps, no_faults}
 
 -- ---- what the rows of a subcommand hold
@@ -123,7 +123,8 @@ audit_built = with_built audit.top (placed file ∷ help_built ∷ [])
 
 abbrev pub schedule_built : Shape
 schedule_built = with_built schedule.top
-    (placed file ∷ filled nodes ∷ filled abi ∷ filled history ∷ filled (valued (codes "picture")) ∷ help_built ∷ [])
+    (placed file ∷ filled nodes ∷ filled abi ∷ filled history ∷ filled (valued (codes "picture"))
+    ∷ filled (line_number (codes "from")) ∷ filled (line_number (codes "to")) ∷ help_built ∷ [])
 
 abbrev pub rights_built : Shape
 rights_built = with_built rights.top
@@ -285,6 +286,9 @@ abi_keeps = option_keeps (codes "abi") abi.parser [] false refl
 idle_keeps : Keeps Good (filled idle)
 idle_keeps = option_keeps (codes "idle") idle.parser [] false refl
 
+line_number_keeps : (name : Text) → IsOther name → Keeps Good (filled (line_number name))
+line_number_keeps name = option_keeps name (Some line_numbers) [] false
+
 help_keeps : Keeps Good help_built
 help_keeps again values rows e g = g
 
@@ -331,7 +335,16 @@ schedule_keeps p a e = found_there (Keeps Good) p schedule_built.rules a (
   single_keeps (codes "FILE") refl,
   (
     nodes_keep,
-    (abi_keeps, (history_keeps, (valued_keeps (codes "picture") refl, (help_keeps, tt)))),
+    (
+      abi_keeps,
+      (
+        history_keeps,
+        (
+          valued_keeps (codes "picture") refl,
+          (line_number_keeps (codes "from") refl, (line_number_keeps (codes "to") refl, (help_keeps, tt))),
+        ),
+      ),
+    ),
   ),
 ) e
 

@@ -106,11 +106,19 @@ together path n most level policy profile save strict =
     }) most) n) path
 
 -- the same of a schedule
-abbrev pub together_scheduled : Option Text → Option ℕ → Option ℕ → Option ℕ → Option Text → Option ScheduleOrder
-together_scheduled path n most level picture =
+abbrev pub together_scheduled : Option Text → Option ℕ → Option ℕ → Option ℕ → Option Text → (from to : Option ℕ)
+    → Option ScheduleOrder
+together_scheduled path n most level picture from to =
     option_and_then (λ p. option_and_then
-    (λ k. option_map (λ m. record { file = p; nodes = k; level = level; history = m; picture = picture }) most) n)
-    path
+    (λ k. option_map (λ m. record {
+      file = p;
+      nodes = k;
+      level = level;
+      history = m;
+      picture = picture;
+      from = from;
+      to = to;
+    }) most) n) path
 
 -- the rights that are wanted, where each part is there
 abbrev pub together_rights : Option Text → Option Text → Option ℕ → List Text → Bool → Option RightsOrder
@@ -174,10 +182,10 @@ pub whole : (p : Option Text) (n m l : Option ℕ) (q r s : Option Text) (t : Bo
     → is_some (together p n m l q r s t) ≡ true
 whole p n m l q r s t path nodes most e f g = rw (e, f, g) refl
 
-pub whole_schedule : (p : Option Text) (n m l : Option ℕ) (q : Option Text) (path : Text) (nodes most : ℕ)
-    → p ≡ Some path → n ≡ Some nodes → m ≡ Some most
-    → is_some (together_scheduled p n m l q) ≡ true
-whole_schedule p n m l q path nodes most e f g = rw (e, f, g) refl
+pub whole_schedule : (p : Option Text) (n m l : Option ℕ) (q : Option Text) (i j : Option ℕ) (path : Text)
+    (nodes most : ℕ) → p ≡ Some path → n ≡ Some nodes → m ≡ Some most
+    → is_some (together_scheduled p n m l q i j) ≡ true
+whole_schedule p n m l q i j path nodes most e f g = rw (e, f, g) refl
 
 pub whole_rights : (p q : Option Text) (n : Option ℕ) (told : List Text) (layers : Bool) (file name : Text) (nodes : ℕ)
     → p ≡ Some file → q ≡ Some name → n ≡ Some nodes

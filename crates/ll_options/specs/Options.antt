@@ -1,6 +1,7 @@
 -- The words of the command line, as clap matches them. own
 use Rattle.std.specs.Prelude.{bytes_eq, ◌≡◌, ◌⊎◌, ℕ, List, [], ◌∷◌, Option, Some, None, is_some, option_and_then}
-use Rattle.std.specs.Prelude.{option_map, codes, Bool, true, false, not, map, unwrap_or, ◌&&◌, if◌then◌else◌}
+use Rattle.std.specs.Prelude.{option_map, codes, Bool, true, false, not, map, unwrap_or, ◌&&◌, if◌then◌else◌, is_none}
+use Rattle.std.specs.Prelude.{nat_le}
 use Rattle.std.specs.List.{fold}
 use Rattle.std.specs.Option.{option_map_or}
 use Rattle.std.specs.Str.Parse.{digits_value, without_leading_plus}
@@ -75,8 +76,18 @@ file = record (new_rule (codes "FILE")) { required = true }
 abbrev pub audit : App
 audit = with_rule (new_app (codes "audit")) file
 
+-- from 1 to 1,000,000,000
+abbrev pub line_numbers : ValueParser
+line_numbers = Unsigned 1 1000000000
+
+-- an option of this name, whose value is the number of a line
+abbrev pub line_number : Text → Rule
+line_number name = record (valued name) { parser = Some line_numbers }
+
 abbrev pub schedule : App
-schedule = fold with_rule (new_app (codes "schedule")) (file ∷ nodes ∷ abi ∷ history ∷ valued (codes "picture") ∷ [])
+schedule = fold with_rule (new_app (codes "schedule"))
+    (file ∷ nodes ∷ abi ∷ history ∷ valued (codes "picture") ∷ line_number (codes "from") ∷ line_number (codes "to")
+    ∷ [])
 
 -- one path or more
 abbrev pub paths : Rule
@@ -180,6 +191,8 @@ pub record ScheduleOrder : Type 0 where
   pub level : Option ℕ
   pub history : ℕ
   pub picture : Option Text
+  pub from : Option ℕ
+  pub to : Option ℕ
 
 pub record RightsOrder : Type 0 where
   pub policy : Text
@@ -256,6 +269,8 @@ scheduled_in o =
       level = o.level;
       history = o.history;
       picture = option_map (λ t. t.now) o.picture;
+      from = o.from;
+      to = o.to;
     }
 
 abbrev pub rights_in : RightsOptions → RightsOrder
@@ -360,6 +375,8 @@ schedule_order rows =
       level = number_of (codes "abi") levels rows;
       history = most;
       picture = first_of (codes "picture") rows;
+      from = number_of (codes "from") line_numbers rows;
+      to = number_of (codes "to") line_numbers rows;
     })
     (number_of (codes "history") history_numbers rows))
     (number_of (codes "nodes") node_numbers rows))
@@ -479,8 +496,14 @@ abbrev pub fits : RunOrder → Bool
 fits o = go_together o.level o.policy o.profile
     && (not (names_input o.save (file_of o.script)) && not (names_input o.save o.policy))
 
+-- Lines are chosen for a picture alone, and the first of them isn't behind the last
+abbrev pub may_be_drawn : (picture : Option Text) → (from to : Option ℕ) → Bool
+may_be_drawn (Some picture) (Some from) (Some to) = nat_le from to
+may_be_drawn (Some picture) from to = true
+may_be_drawn None from to = is_none from && is_none to
+
 abbrev pub fits_schedule : ScheduleOrder → Bool
-fits_schedule o = not (names_input o.picture (file_of o.file))
+fits_schedule o = not (names_input o.picture (file_of o.file)) && may_be_drawn o.picture o.from o.to
 
 -- a check isn't both quiet and verbose
 abbrev pub fits_check : CheckOrder → Bool

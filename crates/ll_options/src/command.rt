@@ -4,9 +4,11 @@ ghost use Rattle.std.specs.Prelude.{◌≡◌, codes, IfOk, false};
 ghost use Rattle.clap.specs.Words.{app_of, rule_of};
 ghost use Rattle.clap.specs.declared.builder.command.Command.TheViews.{out-Command as fields_of};
 ghost use Rattle.ll_options.specs.Options.{abi, also, audit, check, connections, export, file, files, flag, history};
-ghost use Rattle.ll_options.specs.Options.{idle, landtree, needed, nodes, paths, port, rights, run, schedule, script};
+ghost use Rattle.ll_options.specs.Options.{idle, landtree, line_number, needed, nodes, paths, port, rights, run};
+ghost use Rattle.ll_options.specs.Options.{schedule, script};
 ghost use Rattle.ll_options.specs.Options.{serve, valued, why, words, workers};
 
+use crate::options::LINES;
 use crate::serve::{CONNECTIONS, IDLE_SECONDS, PORTS, WORKERS};
 use clap::{Arg, ArgAction, Command, value_parser};
 use ll_rights::limits::{HISTORY_ENTRIES, TREE_NODES};
@@ -139,6 +141,17 @@ fn audit_command<'a>(alloc: Global) -> Result<Command<'a>, AllocError>
     Ok(audit)
 }
 
+fn line_option<'a>(alloc: Global, name: &'a str, help: &'a str) -> Arg<'a>
+    ensures rule { rule_of result ≡ line_number name.entry.now }
+    ensures local { result.global ≡ false }
+{
+    Arg::new(alloc, name)
+        .long(name)
+        .value_name("K")
+        .value_parser(value_parser!(u64).range(1..=LINES as i64))
+        .help(help)
+}
+
 fn schedule_command<'a>(alloc: Global) -> Result<Command<'a>, AllocError>
     ensures app { IfOk result (λ command. app_of command ≡ schedule) }
     ensures local { IfOk result (λ command. (fields_of command).has_globals ≡ false) }
@@ -146,7 +159,7 @@ fn schedule_command<'a>(alloc: Global) -> Result<Command<'a>, AllocError>
     let of_file = Command::new(alloc, "schedule")
         .about("Makes steps of many clients' calls: a step a line in, what came of it a line out")
         .arg(file_argument(alloc, "The schedule's file, or `-` for standard input"))?;
-    let schedule = of_file
+    let drawn = of_file
         .arg(nodes_option(alloc))?
         .arg(abi_option(
             alloc,
@@ -154,6 +167,17 @@ fn schedule_command<'a>(alloc: Global) -> Result<Command<'a>, AllocError>
         ))?
         .arg(history_option(alloc))?
         .arg(picture_option(alloc))?;
+    let schedule = drawn
+        .arg(line_option(
+            alloc,
+            "from",
+            "The first line of the schedule that is drawn (1)",
+        ))?
+        .arg(line_option(
+            alloc,
+            "to",
+            "The last line that is drawn (the schedule's last)",
+        ))?;
     Ok(schedule)
 }
 

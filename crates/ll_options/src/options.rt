@@ -15,6 +15,9 @@ use ll_rights::Abi;
 use ll_rights::limits::{HISTORY_ENTRIES, TREE_NODES};
 use std::alloc::{AllocError, Global};
 
+/// The most that the number of a schedule's line may be which is chosen for its picture.
+pub(crate) const LINES: u64 = 1_000_000_000;
+
 /// The run that is wanted: its script's file (`-` is standard input); how many nodes may live in its tree; the tree's
 /// level, or the file of its policy and the profile that the first client has; how many entries its history may have,
 /// and the file in which this is saved, if any; and whether the run is strict. A strict run ends at the first line that
@@ -90,7 +93,8 @@ impl<'a> RunOptions<'a> {
 }
 
 /// The schedule that is wanted: its file (`-` is standard input); how many nodes may live in its tree; the tree's
-/// level; how many entries its history may have; and the file into which its picture is drawn, if any.
+/// level; how many entries its history may have; and the file into which its picture is drawn, if any:
+/// of the lines from one number to another, which count from 1, or of all.
 #[derive(Drop)]
 pub struct ScheduleOptions<'a> {
     pub file: &'a str,
@@ -98,6 +102,8 @@ pub struct ScheduleOptions<'a> {
     pub level: Option<Abi>,
     pub history: usize,
     pub picture: Option<&'a str>,
+    pub from: Option<u64>,
+    pub to: Option<u64>,
     ghost some: { 1 ≤ nodes },
     ghost most: { nodes ≤ TREE_NODES },
     ghost some_entries: { 1 ≤ history },
@@ -106,7 +112,7 @@ pub struct ScheduleOptions<'a> {
 
 impl<'a> ScheduleOptions<'a> {
     ghost use Rattle.clap.specs.Words.{found_of, rows_of};
-    ghost use Rattle.ll_options.specs.Options.{fits_schedule, schedule_order, scheduled_in};
+    ghost use Rattle.ll_options.specs.Options.{fits_schedule, may_be_drawn, schedule_order, scheduled_in};
 
     // What the matches of `schedule` ask for.
     #[tactic(auto, using(crate::proofs::Numbers::text_told))]
@@ -118,20 +124,35 @@ impl<'a> ScheduleOptions<'a> {
         let history = number_of(schedule, "history", 1, HISTORY_ENTRIES as u64)?;
         let level = RunOptions::level_of(schedule);
         let picture = schedule.get_str("picture");
+        let from = number_of(schedule, "from", 1, LINES);
+        let to = number_of(schedule, "to", 1, LINES);
         Some(ScheduleOptions {
             file,
             nodes: nodes as usize,
             level,
             history: history as usize,
             picture,
+            from,
+            to,
         })
     }
 
-    /// Whether the options go together: the picture isn't drawn over the schedule.
+    /// Whether lines are chosen for a picture alone, the first of them not behind the last.
+    pub fn may_be_drawn(&self) -> bool
+        ensures { result ≡ may_be_drawn (scheduled_in self.now).picture self.now.from self.now.to }
+    {
+        match (self.picture, self.from, self.to) {
+            (Some(_), Some(from), Some(to)) => from <= to,
+            (Some(_), _, _) => true,
+            (None, from, to) => from.is_none() && to.is_none(),
+        }
+    }
+
+    /// Whether the options go together: the picture isn't drawn over the schedule, and its lines are well chosen.
     pub fn fit(&self) -> bool
         ensures { result ≡ fits_schedule (scheduled_in self.now) }
     {
-        !names_input(self.picture, file_of(self.file))
+        !names_input(self.picture, file_of(self.file)) && self.may_be_drawn()
     }
 }
 

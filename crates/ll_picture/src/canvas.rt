@@ -32,10 +32,15 @@ impl<'a> Cut<'a> {
                 text: &text[..end],
                 goes_on: true,
             },
-            None => Cut {
-                text,
-                goes_on: false,
-            },
+            None => Cut::whole(text),
+        }
+    }
+
+    /// All of a text.
+    pub fn whole(text: &'a str) -> Cut<'a> {
+        Cut {
+            text,
+            goes_on: false,
         }
     }
 }
@@ -48,6 +53,7 @@ impl Display for Cut<'_> {
                 '&' => f.write_str("&amp;")?,
                 '<' => f.write_str("&lt;")?,
                 '>' => f.write_str("&gt;")?,
+                '\'' => f.write_str("&#39;")?,
                 ' '..='~' | '\u{a0}'..='\u{d7ff}' => f.write_char(c)?,
                 _ => f.write_char('?')?,
             }
@@ -117,18 +123,33 @@ impl Canvas {
         self.text.push_str(elements)
     }
 
-    /// What comes now, up to the end of the group, has this colour.
-    pub fn begin_group(&mut self, color: &str) -> Result<(), AllocError>
+    /// What comes now, up to the end of the group, has the colour of this row's client, or without one is grey.
+    pub fn begin_group(&mut self, row: Option<usize>) -> Result<(), AllocError>
         ensures { OnOk result (IsFrontOf (string_bytes self.old.text) (string_bytes self.new.text)) }
     {
-        let group = format!(in *self.text.allocator(); "<g color='{color}'>\n")?;
-        self.add(group.as_str())
+        match row {
+            Some(row) => {
+                let group = format!(in *self.text.allocator(); "<g class='tint{row}'>\n")?;
+                self.add(group.as_str())
+            }
+            None => self.add("<g class='grey'>\n"),
+        }
+    }
+
+    /// What comes now, up to the end of the group, is told so where it is pointed at.
+    pub fn begin_title(&mut self, title: Cut<'_>) -> Result<(), AllocError> {
+        writeln!(self.text, "<g><title>{title}</title>")
     }
 
     pub fn end_group(&mut self) -> Result<(), AllocError>
         ensures { OnOk result (IsFrontOf (string_bytes self.old.text) (string_bytes self.new.text)) }
     {
         self.add("</g>\n")
+    }
+
+    /// A row's colour, as a style: its hue, and how light it is.
+    pub fn tint(&mut self, row: usize, hue: usize, lightness: usize) -> Result<(), AllocError> {
+        writeln!(self.text, ".tint{row}{{color:hsl({hue},70%,{lightness}%)}}")
     }
 
     /// A box with this upper left corner.
@@ -187,6 +208,17 @@ impl Canvas {
         )
     }
 
+    /// A tip to the right: what ends in the point goes on.
+    pub fn tip(&mut self, class: &str, point: Point) -> Result<(), AllocError> {
+        let from = point.by(2.0, -4.0);
+        let middle = point.by(6.0, 0.0);
+        let to = point.by(2.0, 4.0);
+        writeln!(
+            self.text,
+            "<path class='{class}' d='M{from} L{middle} L{to}'/>"
+        )
+    }
+
     /// Words from the point on.
     pub fn write(&mut self, class: &str, from: Point, words: Cut<'_>) -> Result<(), AllocError> {
         let Point { x, y } = from;
@@ -196,20 +228,24 @@ impl Canvas {
         )
     }
 
-    /// Words that rise to the right, on a line that is so far below the one that goes through the point.
+    /// Words that rise to the right, on a line that is so far below the one that goes through the point. So many
+    /// characters of them are shown at most, and all of them where they are pointed at.
     pub fn write_rising(
         &mut self,
         class: &str,
         from: Point,
         below: f64,
-        words: Cut<'_>,
+        words: &str,
+        most: usize,
     ) -> Result<(), AllocError>
         ensures { OnOk result (IsFrontOf
             (string_bytes self.old.text ++ (codes "<text class='" ++ class.now ++ codes "' "))
             (string_bytes self.new.text)) }
     {
+        let shown = Cut::new(words, most);
+        let whole = Cut::whole(words);
         let rest = format!(in *self.text.allocator();
-            "transform='translate({from}) rotate(-55)' y='{below:.1}'>{words}</text>\n"
+            "transform='translate({from}) rotate(-55)' y='{below:.1}'><title>{whole}</title>{shown}</text>\n"
         )?;
         self.text.push_str("<text class='")?;
         self.text.push_str(class)?;

@@ -3,10 +3,9 @@
 ghost use Rattle.std.specs.Prelude.{◌++◌, ℕ, List, OnOk, length, string_bytes};
 ghost use Rattle.ll_picture.specs.Pictures.{HasMarks, IsFrontOf, mark};
 
-use crate::canvas::{Canvas, Cut, Point};
+use crate::canvas::{Canvas, Point};
 use crate::scene::{Column, Scene};
 use crate::sheet::{MOST_SHOWN, Sheet};
-use crate::style::{GREY, color_of};
 use std::alloc::AllocError;
 
 fn class_of(outcome: &str) -> &'static str {
@@ -31,21 +30,16 @@ fn write_column(
         × IsFrontOf (mid ++ mark) (string_bytes canvas.new.text)) }
 {
     let outcome = column.outcome.as_str();
-    let from = Point::new(sheet.column(index), sheet.top - 6.0);
+    let from = Point::new(sheet.middle(index), sheet.top - 6.0);
     canvas.line(
         "column",
         from.by(0.0, 2.0),
         Point::new(from.x, sheet.bottom),
     )?;
-    canvas.begin_group(column.row.map_or(GREY, color_of))?;
-    canvas.write_rising(
-        "line",
-        from,
-        0.0,
-        Cut::new(column.line.as_str(), MOST_SHOWN),
-    )?;
+    canvas.begin_group(column.row)?;
+    canvas.write_rising("line", from, 0.0, column.line.as_str(), MOST_SHOWN)?;
     canvas.end_group()?;
-    canvas.write_rising(class_of(outcome), from, 13.0, Cut::new(outcome, MOST_SHOWN))?;
+    canvas.write_rising(class_of(outcome), from, 13.0, outcome, MOST_SHOWN)?;
     Ok(())
 }
 

@@ -2,13 +2,13 @@
 
 use crate::canvas::{Canvas, Cut, Point};
 use crate::sheet::MARGIN;
-use crate::style::GREY;
-use std::alloc::AllocError;
+use std::alloc::{AllocError, Global};
 
 #[derive(Clone, Copy)]
 enum Sign {
     Made,
     Walk,
+    Denied,
     Above,
     Mark,
     Fork,
@@ -16,26 +16,48 @@ enum Sign {
     Stale,
     Restart,
     NotNow,
+    Wait,
     Gate,
+    GoesOn,
 }
 
-const SIGNS: [(Sign, &str); 10] = [
-    (Sign::Made, "a call is made at once"),
-    (Sign::Walk, "a walk begins, or is answered"),
-    (Sign::Above, "the walk is above the root"),
-    (Sign::Mark, "it stands in dir, which it marks"),
-    (Sign::Fork, "it leaves what its paths share"),
-    (Sign::Moves, "a move overtakes the walk"),
-    (Sign::Stale, "so it can only start again"),
-    (Sign::Restart, "it starts again"),
-    (Sign::NotNow, "not now: nothing happens"),
-    (Sign::Gate, "it holds the move gate"),
+// Each sign, what the text of a picture that has it holds, and what it means.
+const SIGNS: [(Sign, &str, &str); 13] = [
+    (Sign::Made, "class='made'", "a call is made at once"),
+    (Sign::Walk, "class='point'", "a walk begins, or is answered"),
+    (Sign::Denied, "class='denied'", "refused or denied"),
+    (Sign::Above, "class='above'", "the walk is above the root"),
+    (
+        Sign::Mark,
+        "class='mark'",
+        "it stands in dir, which it marks",
+    ),
+    (Sign::Fork, "class='fork'", "it leaves what its paths share"),
+    (Sign::Moves, "class='move'", "a move overtakes the walk"),
+    (Sign::Stale, "class='stale'", "so it can only start again"),
+    (Sign::Restart, "class='back'", "it starts again"),
+    (Sign::NotNow, "class='cross'", "not now: nothing happens"),
+    (Sign::Wait, "class='wait'", "what stands in the way of that"),
+    (Sign::Gate, "class='gate'", "it holds the move gate"),
+    (
+        Sign::GoesOn,
+        "class='goes-on'",
+        "the walk is still under way",
+    ),
 ];
 
 /// How wide the place of a sign is, and how high.
 const WIDTH: f64 = 240.0;
 
 const HEIGHT: f64 = 22.0;
+
+/// The signs that a picture has, each with its meaning and its place.
+#[derive(Drop)]
+pub struct Legend {
+    signs: Vec<(Sign, &'static str, Point)>,
+    /// Where it ends.
+    pub bottom: f64,
+}
 
 // The place to the right, or the first of the next line where there is none.
 fn next_place(place: Point, width: f64) -> Point {
@@ -50,44 +72,53 @@ fn next_place(place: Point, width: f64) -> Point {
 fn draw_sign(canvas: &mut Canvas, sign: Sign, at: Point) -> Result<(), AllocError> {
     let middle = at.by(17.0, 0.0);
     match sign {
-        Sign::Made => canvas.diamond("point", middle, 5.5),
+        Sign::Made => canvas.diamond("made", middle, 5.5),
         Sign::Walk => canvas.circle("point", middle, 4.5),
+        Sign::Denied => {
+            canvas.diamond("denied", middle.by(-7.0, 0.0), 5.5)?;
+            canvas.circle("denied", middle.by(7.0, 0.0), 4.5)
+        }
         Sign::Above => canvas.line("above", at, at.by(34.0, 0.0)),
         Sign::Mark => {
             canvas.rect("mark", at.by(0.0, -8.0), 34.0, 16.0)?;
-            canvas.write("name", at.by(8.0, 3.5), Cut::new("dir", 3))
+            canvas.write("name", at.by(8.0, 3.5), Cut::whole("dir"))
         }
         Sign::Fork => canvas.circle("fork", middle, 4.0),
         Sign::Moves => canvas.line("move", at, at.by(34.0, 0.0)),
         Sign::Stale => {
             canvas.rect("stale", at.by(0.0, -8.0), 34.0, 16.0)?;
-            canvas.write("name", at.by(3.0, 3.5), Cut::new("stale", 5))
+            canvas.write("name", at.by(3.0, 3.5), Cut::whole("stale"))
         }
         Sign::Restart => canvas.line("back", at, at.by(34.0, 0.0)),
         Sign::NotNow => canvas.cross("cross", middle, 3.5),
+        Sign::Wait => canvas.line("wait", at, at.by(34.0, 0.0)),
         Sign::Gate => canvas.line("gate", at, at.by(34.0, 0.0)),
+        Sign::GoesOn => canvas.tip("goes-on", middle),
     }
 }
 
-/// Where the legend ends that begins at this height, in a picture of this width.
-pub fn legend_end(top: f64, width: f64) -> f64 {
-    let mut place = Point::new(MARGIN, top);
-    let mut last = top;
-    for _ in SIGNS {
-        last = place.y;
-        place = next_place(place, width);
+impl Legend {
+    /// The legend of what is drawn, which begins at this height, in a picture of this width.
+    pub fn new(alloc: Global, drawn: &str, top: f64, width: f64) -> Result<Legend, AllocError> {
+        let mut signs = Vec::new(alloc);
+        let mut place = Point::new(MARGIN, top);
+        let mut bottom = top;
+        for (sign, class, meaning) in SIGNS {
+            if drawn.contains(class) {
+                signs.push((sign, meaning, place))?;
+                bottom = place.y + HEIGHT;
+                place = next_place(place, width);
+            }
+        }
+        Ok(Legend { signs, bottom })
     }
-    last + HEIGHT
-}
 
-/// The signs, each with its meaning.
-pub fn draw_legend(canvas: &mut Canvas, top: f64, width: f64) -> Result<(), AllocError> {
-    let mut place = Point::new(MARGIN, top);
-    canvas.begin_group(GREY)?;
-    for (sign, meaning) in SIGNS {
-        draw_sign(canvas, sign, place)?;
-        canvas.write("note", place.by(42.0, 3.5), Cut::new(meaning, 40))?;
-        place = next_place(place, width);
+    pub fn draw(&self, canvas: &mut Canvas) -> Result<(), AllocError> {
+        canvas.begin_group(None)?;
+        for (sign, meaning, place) in self.signs.as_slice() {
+            draw_sign(canvas, *sign, *place)?;
+            canvas.write("note", place.by(42.0, 3.5), Cut::whole(meaning))?;
+        }
+        canvas.end_group()
     }
-    canvas.end_group()
 }

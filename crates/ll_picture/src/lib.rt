@@ -11,4 +11,4 @@ mod style;
 mod track;
 
 pub use picture::picture_of;
-pub use scene::{Branch, Caption, Column, Event, Moment, Row, Scene};
+pub use scene::{Branch, Column, Ending, Event, Moment, Obstacle, Row, Scene, Spot, Wait};

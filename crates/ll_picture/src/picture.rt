@@ -3,33 +3,61 @@
 ghost use Rattle.std.specs.Prelude.{IfOk, length, string_bytes};
 ghost use Rattle.ll_picture.specs.Pictures.{IsPicture};
 
-use crate::canvas::{Canvas, Point};
+use crate::canvas::{Canvas, Cut, Point};
 use crate::head::write_head;
-use crate::legend::{draw_legend, legend_end};
+use crate::legend::Legend;
 use crate::scene::Scene;
 use crate::sheet::{MARGIN, Sheet};
-use crate::style::STYLE;
+use crate::style::{STYLE, write_tints};
 use crate::track::draw_row;
 use std::alloc::{AllocError, Global};
+
+// The number of each line, below its column.
+fn write_numbers(
+    alloc: Global,
+    canvas: &mut Canvas,
+    sheet: &Sheet,
+    scene: &Scene,
+) -> Result<(), AllocError> {
+    for (index, _) in scene.columns.iter().enumerate() {
+        let number = scene
+            .first
+            .saturating_add(index)
+            .saturating_add(1)
+            .to_string(alloc)?;
+        let below = Point::new(sheet.middle(index), sheet.bottom + 10.0);
+        canvas.write("number", below, Cut::whole(number.as_str()))?;
+    }
+    Ok(())
+}
+
+// The rows, and what reaches from one to another over them.
+fn draw_rows(alloc: Global, sheet: &Sheet, scene: &Scene) -> Result<Canvas, AllocError> {
+    let mut canvas = Canvas::new(alloc);
+    let mut above = Canvas::new(alloc);
+    write_tints(&mut canvas, sheet.rows())?;
+    for (index, row) in scene.rows.iter().enumerate().take(sheet.rows()) {
+        draw_row(alloc, &mut canvas, &mut above, sheet, index, row)?;
+    }
+    canvas.add(above.as_str())?;
+    write_numbers(alloc, &mut canvas, sheet, scene)?;
+    Ok(canvas)
+}
 
 /// The picture of a scene, as SVG.
 pub fn picture_of(alloc: Global, scene: &Scene) -> Result<String, AllocError>
     ensures { IfOk result (λ text. IsPicture (length scene.now.columns.items) (string_bytes text)) }
 {
     let sheet = Sheet::new(alloc, scene)?;
-    let legend = sheet.bottom + 24.0;
-    let height = legend_end(legend, sheet.width);
-    let mut head = Canvas::open(alloc, sheet.width, height)?;
+    let mut rows = draw_rows(alloc, &sheet, scene)?;
+    let edge = Point::new(MARGIN, sheet.bottom + 16.0);
+    let legend = Legend::new(alloc, rows.as_str(), edge.y + 18.0, sheet.width)?;
+    let mut head = Canvas::open(alloc, sheet.width, legend.bottom)?;
     head.add(STYLE)?;
     write_head(&mut head, &sheet, scene)?;
-    let mut canvas = Canvas::new(alloc);
-    for (index, row) in scene.rows.iter().enumerate() {
-        draw_row(alloc, &mut canvas, &sheet, index, row)?;
-    }
-    let edge = Point::new(MARGIN, sheet.bottom + 6.0);
-    canvas.line("column", edge, Point::new(sheet.width - MARGIN, edge.y))?;
-    draw_legend(&mut canvas, legend, sheet.width)?;
-    head.add(canvas.as_str())?;
+    rows.line("column", edge, Point::new(sheet.width - MARGIN, edge.y))?;
+    legend.draw(&mut rows)?;
+    head.add(rows.as_str())?;
     head.close()?;
     Ok(head.into_text())
 }

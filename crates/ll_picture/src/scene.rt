@@ -8,11 +8,33 @@ pub enum Branch {
     Second,
 }
 
-/// What a call is answered, in short.
+/// A directory in which a walk stands: its name, or where that isn't known its inode's number, and its whole path.
 #[derive(Drop)]
-pub struct Caption {
-    pub text: String,
-    pub is_refusal: bool,
+pub struct Spot {
+    pub name: String,
+    pub path: String,
+}
+
+/// How a call ends.
+#[derive(Clone, Copy, Debug, PartialEq, Eq)]
+pub enum Ending {
+    Done,
+    Refused,
+}
+
+/// What another client has in a step's way: the mark that stands so many bars below the line of its row, or where no
+/// bar is told the move gate.
+#[derive(Clone, Copy, Debug, PartialEq, Eq)]
+pub struct Obstacle {
+    pub row: usize,
+    pub bar: Option<usize>,
+}
+
+/// Why a step can't be made now.
+#[derive(Drop)]
+pub struct Wait {
+    pub reason: String,
+    pub obstacle: Option<Obstacle>,
 }
 
 /// What a line of the schedule does to a client.
@@ -22,8 +44,8 @@ pub enum Event {
     Came,
     /// Its walk begins, above the root.
     Begun,
-    /// Its walk stands in the directory of this name.
-    Stands(Branch, String),
+    /// Its walk stands in this directory.
+    Stands(Branch, Spot),
     /// Its walk leaves what is common to its paths.
     Forked,
     /// Its walk is stale: the client of this row moved a directory on its way.
@@ -33,21 +55,21 @@ pub enum Event {
     /// Its walk holds the move gate.
     GateTaken,
     /// Its walk ends.
-    Answered(Caption),
+    Answered(Ending),
     /// A call is made at once.
-    Made(Caption),
+    Made(Ending),
     /// The step can't be made now.
-    NotNow,
+    NotNow(Wait),
 }
 
 /// An event, and the line that brought it about, from 0.
 #[derive(Drop)]
 pub struct Moment {
-    pub column: usize,
+    pub line: usize,
     pub event: Event,
 }
 
-/// What happens to a client, in order.
+/// What happens to a client, in order. First of all it comes.
 #[derive(Drop)]
 pub struct Row {
     pub moments: Vec<Moment>,
@@ -61,9 +83,11 @@ pub struct Column {
     pub row: Option<usize>,
 }
 
-/// What the picture shows: its lines as columns, its clients as rows.
+/// What the picture shows: lines of the schedule, one after the other, as columns, and its clients as rows. What
+/// happens before the first of these lines (from 0) is seen by what is left of it, and what happens after them isn't.
 #[derive(Drop)]
 pub struct Scene {
+    pub first: usize,
     pub columns: Vec<Column>,
     pub rows: Vec<Row>,
 }

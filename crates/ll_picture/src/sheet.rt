@@ -26,7 +26,9 @@ const BELOW: f64 = 24.0;
 #[derive(Drop)]
 pub struct Sheet {
     pitch: f64,
-    columns: usize,
+    // the first line that is drawn, from 0, and the one behind the last
+    first: usize,
+    end: usize,
     /// Where the head ends and the first row begins.
     pub top: f64,
     /// Where the last row ends.
@@ -36,17 +38,29 @@ pub struct Sheet {
     lines: Vec<f64>,
 }
 
-// How far down the bars of the row's walks go.
-fn depth_of(row: &Row) -> f64 {
+// Whether the row's client comes before this line.
+fn comes_before(row: &Row, line: usize) -> bool {
+    match row.moments.first() {
+        Some(moment) => moment.line < line,
+        None => false,
+    }
+}
+
+// How far down the bars of the row's walks go, from the first of the lines on that are drawn.
+fn depth_of(row: &Row, first: usize, end: usize) -> f64 {
     let mut deepest = 0.0f64;
     let mut depth = 0.0f64;
-    for moment in row.moments.iter() {
+    for moment in row.moments.iter().take_while(|moment| moment.line < end) {
         match moment.event {
-            Event::Begun | Event::Restarted => depth = 0.0,
+            Event::Begun | Event::Restarted | Event::Answered(_) => depth = 0.0,
             Event::Stands(_, _) => depth += STEP,
             _ => {}
         }
-        deepest = deepest.max(depth);
+        deepest = if moment.line < first {
+            depth
+        } else {
+            deepest.max(depth)
+        };
     }
     deepest
 }
@@ -59,21 +73,27 @@ fn writing_of(column: &Column) -> f64 {
     line.max(outcome).min(most)
 }
 
-// How far down each client's line is, and where the last row ends.
-fn lines_from(alloc: Global, top: f64, rows: &[Row]) -> Result<(Vec<f64>, f64), AllocError> {
+// How far down the line is of each client that comes before the end, and where the last row ends.
+fn lines_from(
+    alloc: Global,
+    top: f64,
+    scene: &Scene,
+    end: usize,
+) -> Result<(Vec<f64>, f64), AllocError> {
     let mut lines = Vec::new(alloc);
-    let mut end = top;
-    for row in rows {
-        lines.push(end + ABOVE)?;
-        end += ABOVE + depth_of(row) + BELOW;
+    let mut bottom = top;
+    for row in scene.rows.iter().take_while(|row| comes_before(row, end)) {
+        lines.push(bottom + ABOVE)?;
+        bottom += ABOVE + depth_of(row, scene.first, end) + BELOW;
     }
-    Ok((lines, end))
+    Ok((lines, bottom))
 }
 
 impl Sheet {
     /// A sheet on which the scene has room.
     pub fn new(alloc: Global, scene: &Scene) -> Result<Sheet, AllocError> {
         let columns = scene.columns.len();
+        let end = scene.first.saturating_add(columns);
         let pitch = (1000.0 / nearest_usize_to_f64(columns)).max(36.0).min(54.0);
         let mut height = 0.0f64;
         let mut width = LEFT + pitch * nearest_usize_to_f64(columns);
@@ -84,10 +104,11 @@ impl Sheet {
             width = width.max(begin + pitch + writing * RUN);
         }
         let top = MARGIN + height + MARGIN;
-        let (lines, bottom) = lines_from(alloc, top, scene.rows.as_slice())?;
+        let (lines, bottom) = lines_from(alloc, top, scene, end)?;
         Ok(Sheet {
             pitch,
-            columns,
+            first: scene.first,
+            end,
             top,
             bottom,
             width: width.max(560.0) + MARGIN,
@@ -95,14 +116,38 @@ impl Sheet {
         })
     }
 
+    /// How many rows there are.
+    pub fn rows(&self) -> usize {
+        self.lines.len()
+    }
+
+    /// Whether the line is before those that are drawn.
+    pub fn is_before(&self, line: usize) -> bool {
+        line < self.first
+    }
+
+    /// Whether the line is behind those that are drawn.
+    pub fn is_behind(&self, line: usize) -> bool {
+        line >= self.end
+    }
+
     /// How far to the right the middle of a column is.
-    pub fn column(&self, index: usize) -> f64 {
+    pub fn middle(&self, index: usize) -> f64 {
         LEFT + self.pitch * (nearest_usize_to_f64(index) + 0.5)
+    }
+
+    /// How far to the right a line of the schedule is. What was before the first that is drawn is at the left edge.
+    pub fn column(&self, line: usize) -> f64 {
+        if self.is_before(line) {
+            LEFT
+        } else {
+            self.middle(line.saturating_sub(self.first))
+        }
     }
 
     /// Where the last column ends.
     pub fn end(&self) -> f64 {
-        LEFT + self.pitch * nearest_usize_to_f64(self.columns)
+        LEFT + self.pitch * nearest_usize_to_f64(self.end.saturating_sub(self.first))
     }
 
     /// How far down the line of a row's client is.

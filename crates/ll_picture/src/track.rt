@@ -1,11 +1,10 @@
 //! The row of a client.
 
 use crate::canvas::{Canvas, Cut, Point, SMALL};
-use crate::scene::{Branch, Caption, Event, Row};
+use crate::scene::{Branch, Ending, Event, Obstacle, Row, Spot, Wait};
 use crate::sheet::{MARGIN, STEP, Sheet};
-use crate::style::color_of;
 use std::alloc::{AllocError, Global};
-use std::num::saturating_f64_to_usize;
+use std::num::{nearest_usize_to_f64, saturating_f64_to_usize};
 
 /// Half the height of a bar.
 const HALF: f64 = 8.5;
@@ -14,16 +13,21 @@ const HALF: f64 = 8.5;
 #[derive(Clone, Copy)]
 struct Mark<'a> {
     name: &'a str,
+    path: &'a str,
     y: f64,
     since: f64,
 }
 
 impl<'a> Mark<'a> {
-    // Draws the bar of the mark up to here.
+    // Draws the bar of the mark up to here, if it was there before.
     fn draw(self, canvas: &mut Canvas, x: f64, is_stale: bool) -> Result<(), AllocError> {
         let width = x - self.since;
+        if width < 1.0 {
+            return Ok(());
+        }
         let room = saturating_f64_to_usize((width - 7.0) / SMALL);
         let corner = Point::new(self.since, self.y - HALF);
+        canvas.begin_title(Cut::whole(self.path))?;
         canvas.rect("ground", corner, width, HALF + HALF)?;
         canvas.rect(
             if is_stale { "stale" } else { "mark" },
@@ -31,7 +35,8 @@ impl<'a> Mark<'a> {
             width,
             HALF + HALF,
         )?;
-        canvas.write("name", corner.by(6.0, 12.0), Cut::new(self.name, room))
+        canvas.write("name", corner.by(6.0, 12.0), Cut::new(self.name, room))?;
+        canvas.end_group()
     }
 
     // The mark from here on. It is told again only that it is stale.
@@ -99,8 +104,10 @@ impl<'a> Pen<'a> {
     // The walk isn't above the root from here on.
     fn leave_above(&mut self, canvas: &mut Canvas, x: f64) -> Result<(), AllocError> {
         match self.above.take() {
-            Some(since) => canvas.line("above", self.on_line(since), self.on_line(x)),
-            None => Ok(()),
+            Some(since) if since < x => {
+                canvas.line("above", self.on_line(since), self.on_line(x))
+            }
+            _ => Ok(()),
         }
     }
 
@@ -113,6 +120,17 @@ impl<'a> Pen<'a> {
         self.second = None;
         self.lowest = self.line;
         self.is_stale = false;
+        Ok(())
+    }
+
+    // Tells that what is under way here goes on.
+    fn go_on(&self, canvas: &mut Canvas, x: f64) -> Result<(), AllocError> {
+        if self.above.is_some() {
+            canvas.tip("goes-on", self.on_line(x))?;
+        }
+        for mark in [self.trunk, self.first, self.second].into_iter().flatten() {
+            canvas.tip("goes-on", Point::new(x, mark.y))?;
+        }
         Ok(())
     }
 
@@ -132,13 +150,13 @@ impl<'a> Pen<'a> {
         }
     }
 
-    // The walk goes down, to the directory of this name.
+    // The walk goes down, into this directory.
     fn descend(
         &mut self,
         canvas: &mut Canvas,
         x: f64,
         branch: Branch,
-        name: &'a str,
+        spot: &'a Spot,
     ) -> Result<(), AllocError> {
         self.leave_above(canvas, x)?;
         if let Some(mark) = self.mark_of(branch) {
@@ -151,7 +169,16 @@ impl<'a> Pen<'a> {
         self.lowest += STEP;
         let y = self.lowest;
         canvas.line("way", Point::new(x, upper), Point::new(x, y - HALF))?;
-        self.put(branch, Mark { name, y, since: x });
+        let (name, path) = (spot.name.as_str(), spot.path.as_str());
+        self.put(
+            branch,
+            Mark {
+                name,
+                path,
+                y,
+                since: x,
+            },
+        );
         Ok(())
     }
 
@@ -177,20 +204,6 @@ impl<'a> Pen<'a> {
         canvas.line("back", from, self.on_line(x).by(0.0, 3.0))
     }
 
-    // What a call is answered, beside its point.
-    fn tell(&self, canvas: &mut Canvas, x: f64, answer: &Caption) -> Result<(), AllocError> {
-        let class = if answer.is_refusal {
-            "reply refusal"
-        } else {
-            "reply outcome"
-        };
-        canvas.write(
-            class,
-            self.on_line(x).by(4.0, -7.0),
-            Cut::new(answer.text.as_str(), 12),
-        )
-    }
-
     fn draw_gate(&mut self, canvas: &mut Canvas, x: f64) -> Result<(), AllocError> {
         match self.gate.take() {
             Some(since) => {
@@ -204,23 +217,65 @@ impl<'a> Pen<'a> {
         }
     }
 
-    fn answer(&mut self, canvas: &mut Canvas, x: f64, answer: &Caption) -> Result<(), AllocError> {
+    fn answer(&mut self, canvas: &mut Canvas, x: f64, ending: Ending) -> Result<(), AllocError> {
         let lowest = Point::new(x, self.lowest);
         self.end(canvas, x)?;
         self.draw_gate(canvas, x)?;
         canvas.line("way", lowest, self.on_line(x))?;
-        canvas.circle("point", self.on_line(x), 4.5)?;
-        self.tell(canvas, x, answer)
+        let class = match ending {
+            Ending::Done => "point",
+            Ending::Refused => "denied",
+        };
+        canvas.circle(class, self.on_line(x), 4.5)
+    }
+
+    fn make(&self, canvas: &mut Canvas, x: f64, ending: Ending) -> Result<(), AllocError> {
+        let class = match ending {
+            Ending::Done => "made",
+            Ending::Refused => "denied",
+        };
+        canvas.diamond(class, self.on_line(x), 5.5)
     }
 
     // A cross where the client is: beneath the walk's lowest bar, or on the client's line.
-    fn cross(&self, canvas: &mut Canvas, x: f64) -> Result<(), AllocError> {
-        let below = if self.is_idle() { 0.0 } else { HALF + 5.5 };
-        canvas.cross("cross", Point::new(x, self.lowest + below), 3.5)
+    fn cross(&self, canvas: &mut Canvas, x: f64, wait: &Wait) -> Result<(), AllocError> {
+        canvas.begin_title(Cut::whole(wait.reason.as_str()))?;
+        canvas.cross("cross", Point::new(x, self.cross_height()), 3.5)?;
+        canvas.end_group()
     }
 
-    fn come(&self, canvas: &mut Canvas, x: f64, end: f64) -> Result<(), AllocError> {
-        canvas.line("life", self.on_line(x), self.on_line(end))?;
+    // How far down a cross is drawn.
+    fn cross_height(&self) -> f64 {
+        if self.is_idle() {
+            self.line
+        } else {
+            self.lowest + HALF + 5.5
+        }
+    }
+
+    // An arrow from the cross to what is in the way.
+    fn point_at(
+        &self,
+        canvas: &mut Canvas,
+        sheet: &Sheet,
+        x: f64,
+        obstacle: Obstacle,
+    ) -> Result<(), AllocError> {
+        let cross = self.cross_height();
+        let line = sheet.line(obstacle.row);
+        let (middle, half) = match obstacle.bar {
+            Some(bar) => (line + STEP * nearest_usize_to_f64(bar), HALF),
+            None => (line - 6.0, 1.5),
+        };
+        let (from, to) = if middle < cross {
+            (cross - 5.0, middle + half + 1.0)
+        } else {
+            (cross + 5.0, middle - half - 1.0)
+        };
+        canvas.line("wait", Point::new(x, from), Point::new(x, to))
+    }
+
+    fn come(&self, canvas: &mut Canvas, x: f64) -> Result<(), AllocError> {
         canvas.line(
             "way",
             self.on_line(x).by(0.0, -5.0),
@@ -236,12 +291,12 @@ impl<'a> Pen<'a> {
         event: &'a Event,
     ) -> Result<(), AllocError> {
         match event {
-            Event::Came => self.come(canvas, x, sheet.end()),
+            Event::Came => self.come(canvas, x),
             Event::Begun => {
                 self.above = Some(x);
                 canvas.circle("point", self.on_line(x), 4.5)
             }
-            Event::Stands(branch, name) => self.descend(canvas, x, *branch, name.as_str()),
+            Event::Stands(branch, spot) => self.descend(canvas, x, *branch, spot),
             Event::Forked => {
                 self.fork = Some(Point::new(x, self.lowest));
                 Ok(())
@@ -252,35 +307,67 @@ impl<'a> Pen<'a> {
                 self.gate = Some(x);
                 Ok(())
             }
-            Event::Answered(answer) => self.answer(canvas, x, answer),
-            Event::Made(answer) => {
-                canvas.diamond("point", self.on_line(x), 5.5)?;
-                self.tell(canvas, x, answer)
-            }
-            Event::NotNow => self.cross(canvas, x),
+            Event::Answered(ending) => self.answer(canvas, x, *ending),
+            Event::Made(ending) => self.make(canvas, x, *ending),
+            Event::NotNow(wait) => self.cross(canvas, x, wait),
         }
     }
 }
 
-/// A client's number, and what happens to it. What is under way at the end goes on to the edge.
-pub fn draw_row(
+// The client's number, and its line from where it came.
+fn draw_line(
     alloc: Global,
     canvas: &mut Canvas,
     sheet: &Sheet,
     index: usize,
     row: &Row,
 ) -> Result<(), AllocError> {
-    let mut pen = Pen::new(sheet.line(index));
+    let y = sheet.line(index);
     let client = format!(in alloc; "client {}", index.saturating_add(1))?;
-    canvas.begin_group(color_of(index))?;
     canvas.write(
         "client",
-        Point::new(MARGIN, sheet.line(index) + 4.0),
-        Cut::new(client.as_str(), 24),
+        Point::new(MARGIN, y + 4.0),
+        Cut::whole(client.as_str()),
     )?;
-    for moment in row.moments.iter() {
-        pen.draw(canvas, sheet, sheet.column(moment.column), &moment.event)?;
+    match row.moments.first() {
+        Some(came) => canvas.line(
+            "life",
+            Point::new(sheet.column(came.line), y),
+            Point::new(sheet.end(), y),
+        ),
+        None => Ok(()),
     }
+}
+
+/// A client's number, and what happens to it; above all rows, what is in the way of its steps. What is under way at the
+/// end goes on to the edge.
+pub fn draw_row(
+    alloc: Global,
+    canvas: &mut Canvas,
+    above: &mut Canvas,
+    sheet: &Sheet,
+    index: usize,
+    row: &Row,
+) -> Result<(), AllocError> {
+    let mut pen = Pen::new(sheet.line(index));
+    // What was before the first line that is drawn isn't shown, only what is left of it.
+    let mut before = Canvas::new(alloc);
+    canvas.begin_group(Some(index))?;
+    draw_line(alloc, canvas, sheet, index, row)?;
+    for moment in row.moments.iter() {
+        let x = sheet.column(moment.line);
+        if sheet.is_before(moment.line) {
+            pen.draw(&mut before, sheet, x, &moment.event)?;
+        } else if !sheet.is_behind(moment.line) {
+            pen.draw(canvas, sheet, x, &moment.event)?;
+            if let Event::NotNow(wait) = &moment.event
+                && let Some(obstacle) = wait.obstacle
+            {
+                pen.point_at(above, sheet, x, obstacle)?;
+            }
+        }
+    }
+    pen.go_on(canvas, sheet.end())?;
     pen.end(canvas, sheet.end())?;
     pen.draw_gate(canvas, sheet.end())?;
     canvas.end_group()

@@ -3,4 +3,6 @@
 
 mod schedules;
 
-pub use schedules::{draw_over, draw_schedule, perform_over, perform_schedule, setup_by};
+pub use schedules::{
+    draw_over, draw_schedule, explain_schedule, perform_over, perform_schedule, setup_by, window_by,
+};

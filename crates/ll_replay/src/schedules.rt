@@ -3,20 +3,21 @@
 ghost use Rattle.std.specs.Prelude.{◌≡◌, ◌≤◌, ◌^◌, ℕ, List, [], Err, length, OnOk, OnErr, IfErr, IfSome, Some, false};
 ghost use Rattle.std.specs.Prelude.{true};
 ghost use Rattle.std.specs.Io.KnownBytes.{Appends};
+ghost use Rattle.ll_drawing.specs.Windows.{drawn_of};
 ghost use Rattle.ll_ends.specs.Devices.{IsWhole};
 ghost use Rattle.ll_lines.specs.Reached.{Blames};
 ghost use Rattle.ll_lines.specs.Transcript.{Writes};
 ghost use Rattle.ll_lines.specs.declared.fault.SessionFault.{SessionFault};
 ghost use Rattle.ll_options.specs.Options.{scheduled_in};
 ghost use Rattle.ll_picture.specs.Pictures.{IsPicture};
-ghost use Rattle.ll_replay.specs.Schedules.{IsWorldSetup};
+ghost use Rattle.ll_replay.specs.Schedules.{IsWorldSetup, window_of};
 ghost use Rattle.ll_runs.specs.declared.failure.Failure.{Failure};
 ghost use Rattle.ll_runs.specs.Failure.{failure_in_session, IsOfDevices, IsOfSaving};
 ghost use Rattle.ll_schedule.specs.Told.{IsBegun, IsTold};
 ghost use Rattle.ll_wire.specs.Pieces.{pieces};
 ghost use Rattle.ll_wire.specs.Writing.{AppendsFront};
 
-use ll_drawing::draw;
+use ll_drawing::{Window, draw, explain};
 use ll_ends::{Ends, Pair, write_out};
 use ll_options::ScheduleOptions;
 use ll_rights::Abi;
@@ -37,6 +38,16 @@ pub fn setup_by(options: &ScheduleOptions) -> WorldSetup
         },
         nodes: options.nodes,
         history: options.history,
+    }
+}
+
+/// Which lines of a schedule are to be drawn.
+pub fn window_by(options: &ScheduleOptions) -> Window
+    ensures { result ≡ window_of (scheduled_in options.now) }
+{
+    Window {
+        from: options.from.unwrap_or(1),
+        to: options.to,
     }
 }
 
@@ -87,24 +98,32 @@ pub fn perform_schedule<R: Read, W: Write>(
     perform_over(alloc, setup, &mut ends)
 }
 
-/// Draws a schedule, as `draw_schedule` does, to a device that counts its failures. A failed write isn't tried again.
+/// Draws these lines of a schedule, as `draw_schedule` does, to a device that counts its failures. A failed write isn't
+/// tried again.
 pub fn draw_over<E: Ends>(
     alloc: Global,
     setup: WorldSetup,
+    window: Window,
     schedule: &[u8],
     ends: &mut E,
 ) -> Result<(), Failure>
     requires { (E.devices ends.old).is_output_broken ≡ false }
-    ensures drawn { OnOk result ((text : List ℕ) × IsPicture (length (pieces schedule.now)) text
+    ensures drawn { OnOk result ((text : List ℕ) × IsPicture (drawn_of window (length (pieces schedule.now))) text
         × Appends (E.devices ends.old).contents (E.devices ends.new).contents text) }
-    ensures file { result ≡ Err Failure.File → (text : List ℕ) × IsPicture (length (pieces schedule.now)) text
+    ensures file { result ≡ Err Failure.File → (text : List ℕ)
+        × IsPicture (drawn_of window (length (pieces schedule.now))) text
         × AppendsFront (E.devices ends.old).contents (E.devices ends.new).contents text }
     ensures broken { result ≡ Err Failure.File → (E.devices ends.new).is_output_broken ≡ true }
     ensures memory { result ≡ Err Failure.NoMemory → E.devices ends.new ≡ E.devices ends.old }
     ensures failure { IfErr result IsOfSaving }
     ensures same { E.names ends.new ≡ E.names ends.old }
 {
-    let Ok(picture) = draw(alloc, setup.rules, setup.nodes, setup.history, schedule) else {
+    let WorldSetup {
+        rules,
+        nodes,
+        history,
+    } = setup;
+    let Ok(picture) = draw(alloc, rules, nodes, history, window, schedule) else {
         return Err(Failure::NoMemory);
     };
     match write_out(ends, picture.as_str().as_bytes()) {
@@ -113,17 +132,19 @@ pub fn draw_over<E: Ends>(
     }
 }
 
-/// Draws what the lines of a schedule ask for, in a tree that is set up so. Want of memory is told before anything is
+/// Draws what these lines of a schedule ask for, in a tree that is set up so. Want of memory is told before anything is
 /// written.
 pub fn draw_schedule<W: Write>(
     alloc: Global,
     setup: WorldSetup,
+    window: Window,
     schedule: &[u8],
     file: &mut W,
 ) -> Result<(), Failure>
-    ensures drawn { OnOk result ((text : List ℕ) × IsPicture (length (pieces schedule.now)) text
+    ensures drawn { OnOk result ((text : List ℕ) × IsPicture (drawn_of window (length (pieces schedule.now))) text
         × Appends (W.contents file.old) (W.contents file.new) text) }
-    ensures file { result ≡ Err Failure.File → (text : List ℕ) × IsPicture (length (pieces schedule.now)) text
+    ensures file { result ≡ Err Failure.File → (text : List ℕ)
+        × IsPicture (drawn_of window (length (pieces schedule.now))) text
         × AppendsFront (W.contents file.old) (W.contents file.new) text }
     ensures memory { result ≡ Err Failure.NoMemory → W.contents file.new ≡ W.contents file.old }
     ensures failure { IfErr result IsOfSaving }
@@ -138,5 +159,11 @@ pub fn draw_schedule<W: Write>(
         is_input_broken: false,
         is_output_broken: false,
     };
-    draw_over(alloc, setup, schedule, &mut ends)
+    draw_over(alloc, setup, window, schedule, &mut ends)
+}
+
+/// Why the steps of a schedule that weren't made couldn't be made, a line each, and which walks are under way at the
+/// end. None for want of memory.
+pub fn explain_schedule(alloc: Global, setup: WorldSetup, schedule: &[u8]) -> Option<String> {
+    explain(alloc, setup.rules, setup.nodes, setup.history, schedule).ok()
 }

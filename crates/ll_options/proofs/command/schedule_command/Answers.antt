@@ -13,5 +13,9 @@ returns-clause-app c =
     ∙ ap₂ with_rule nodes_added c.abi_option.ensures.rule in
     let history_added = c.in_ok-arg-3.ensures.shape c.history_option.ensures.local
     ∙ ap₂ with_rule abi_added c.history_option.ensures.rule in
-    c.in_ok-schedule.ensures.shape c.picture_option.ensures.local
-    ∙ ap₂ with_rule history_added c.picture_option.ensures.rule
+    let picture_added = c.in_ok-drawn.ensures.shape c.picture_option.ensures.local
+    ∙ ap₂ with_rule history_added c.picture_option.ensures.rule in
+    let from_added = c.in_ok-arg-4.ensures.shape c.line_option.ensures.local
+    ∙ ap₂ with_rule picture_added c.line_option.ensures.rule in
+    c.in_ok-schedule.ensures.shape c.line_option-2.ensures.local
+    ∙ ap₂ with_rule from_added c.line_option-2.ensures.rule

@@ -1,0 +1,138 @@
+//! Why a step can't be made now.
+
+use ll_picture::{Obstacle, Wait};
+use std::alloc::{AllocError, Global};
+use std::fmt;
+use std::fmt::Display;
+
+/// What a client tries.
+#[derive(Drop)]
+pub enum Tried {
+    /// To begin a call.
+    Begin,
+    /// To make a call at once, by a step.
+    Make,
+    Descend,
+    /// To go down to the directory of this path.
+    DescendTo(String),
+    Fork,
+    Commit,
+    Restart,
+}
+
+impl Display for Tried {
+    fn fmt<W: fmt::Write>(&self, f: &mut fmt::Formatter<W>) -> fmt::Result {
+        match self {
+            Tried::Begin => f.write_str("begin the call"),
+            Tried::Make => f.write_str("make the call"),
+            Tried::Descend => f.write_str("go down"),
+            Tried::DescendTo(path) => write!(f, "go down to {path}"),
+            Tried::Fork => f.write_str("fork"),
+            Tried::Commit => f.write_str("commit"),
+            Tried::Restart => f.write_str("restart"),
+        }
+    }
+}
+
+/// What of a step isn't met. Clients are told by their numbers.
+#[derive(Drop)]
+pub enum Unmet {
+    /// The client has a walk under way.
+    UnderWay,
+    /// It has none.
+    NoWalk,
+    /// Another step makes the call, by this rule.
+    OtherStep(&'static str),
+    /// The walk of this client holds the move gate.
+    Gate(u64),
+    /// So too, and the walk takes the gate as it enters the root for the fourth time.
+    GateAtFourth(u64),
+    /// The walk of this client stands in the directory.
+    Marked(u64),
+    /// The walk of this client stands in the directory of this path, which the call names last.
+    LastMarked(u64, String),
+    /// This client moved a directory on the walk's way.
+    Stale(Option<u64>),
+    NotStale,
+    /// There is no directory of this path.
+    NoDirectory(String),
+    /// The walk has to go down before, to the directory of this path.
+    NamesAhead(String),
+    /// The walk is at the fork.
+    AtFork,
+    /// The walk is past the fork.
+    Forked,
+    /// The walk is at its end.
+    AtEnd,
+    /// The call has one path.
+    OnePath,
+    /// Nothing is seen that isn't met.
+    Unknown,
+}
+
+impl Display for Unmet {
+    fn fmt<W: fmt::Write>(&self, f: &mut fmt::Formatter<W>) -> fmt::Result {
+        match self {
+            Unmet::UnderWay => f.write_str("its walk is under way, and a client has one at a time"),
+            Unmet::NoWalk => f.write_str("no walk of it is under way"),
+            Unmet::OtherStep(rule) => f.write_str(rule),
+            Unmet::Gate(client) => write!(f, "client {client}'s walk holds the move gate"),
+            Unmet::GateAtFourth(client) => write!(
+                f,
+                "on its fourth start it takes the move gate, which client {client}'s walk holds"
+            ),
+            Unmet::Marked(client) => write!(f, "client {client}'s walk stands there"),
+            Unmet::LastMarked(client, path) => {
+                write!(
+                    f,
+                    "client {client}'s walk stands in {path}, which the call names"
+                )
+            }
+            Unmet::Stale(Some(client)) => write!(
+                f,
+                "client {client} moved a directory on its way, so it can only restart"
+            ),
+            Unmet::Stale(None) => {
+                f.write_str("a directory on its way was moved, so it can only restart")
+            }
+            Unmet::NotStale => f.write_str("no directory on its way was moved"),
+            Unmet::NoDirectory(path) => {
+                write!(f, "there is no directory {path}, so it can only commit")
+            }
+            Unmet::NamesAhead(path) => write!(f, "it has to go down to {path} before"),
+            Unmet::AtFork => f.write_str("its two paths part here, so it has to fork before"),
+            Unmet::Forked => f.write_str("it has forked already"),
+            Unmet::AtEnd => f.write_str("its way ends here, so it can only commit"),
+            Unmet::OnePath => f.write_str("its call has one path"),
+            Unmet::Unknown => f.write_str("it isn't seen why"),
+        }
+    }
+}
+
+/// What a client tries, what of that isn't met, and what is in the way.
+#[derive(Drop)]
+pub struct Cause {
+    pub tried: Tried,
+    pub unmet: Unmet,
+    pub obstacle: Option<Obstacle>,
+}
+
+impl Cause {
+    /// Of what nobody else stands in the way.
+    pub fn alone(tried: Tried, unmet: Unmet) -> Cause {
+        Cause {
+            tried,
+            unmet,
+            obstacle: None,
+        }
+    }
+
+    /// What is told of it, of this client.
+    pub fn told(&self, alloc: Global, client: u64) -> Result<Wait, AllocError> {
+        let Cause { tried, unmet, .. } = self;
+        Ok(Wait {
+            reason: format!(in alloc; "client {client} can't {tried}: {unmet}")?,
+            obstacle: self.obstacle,
+        })
+    }
+}
