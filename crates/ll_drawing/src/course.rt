@@ -234,7 +234,8 @@ impl Course {
         }
     }
 
-    /// The walk goes down from a place, into the directory of an inode. Its mark has a new bar, or that of the one before.
+    /// The walk goes down from a place, into the directory of an inode. Its mark has a new bar, or that of the one
+    /// before.
     pub fn descend(
         &mut self,
         alloc: Global,

@@ -46,19 +46,16 @@ fn client_of(step: &Step, next: u64) -> u64 {
 }
 
 // What the step tries. A connect is always answered.
-fn trial_of(shadow: &Shadow, step: &Step) -> Option<Trial> {
+fn trial_of(shadow: &Shadow, step: &Step) -> Trial {
     match step {
-        Step::Join => None,
-        Step::Begin(client, call) => {
-            let manner = manner_of(shadow, *client, call);
-            Some(Trial::Begin(manner, moves(call)))
-        }
-        Step::FdCommit(client, call) => Some(Trial::Fd(manner_of(shadow, *client, call))),
-        Step::ClientStep(client, call) => Some(Trial::Step(manner_of(shadow, *client, call))),
-        Step::Descend(_) => Some(Trial::Descend),
-        Step::Fork(_) => Some(Trial::Fork),
-        Step::Commit(_) => Some(Trial::Commit),
-        Step::Restart(_) => Some(Trial::Restart),
+        Step::Join => Trial::Make(Manner::Step),
+        Step::Begin(client, call) => Trial::Begin(manner_of(shadow, *client, call), moves(call)),
+        Step::FdCommit(client, call) => Trial::Make(manner_of(shadow, *client, call)),
+        Step::ClientStep(client, call) => Trial::Make(manner_of(shadow, *client, call)),
+        Step::Descend(_) => Trial::Descend,
+        Step::Fork(_) => Trial::Fork,
+        Step::Commit(_) => Trial::Commit,
+        Step::Restart(_) => Trial::Restart,
     }
 }
 
@@ -145,6 +142,20 @@ impl Replay {
         }
     }
 
+    // What came of a step that was made, with the course of the walk that it began, if it is one to begin it.
+    fn tell_step(
+        &mut self,
+        client: u64,
+        from: Station,
+        outcome: Report,
+        course: Option<Course>,
+    ) -> Result<(), AllocError> {
+        match course {
+            Some(course) if outcome == Report::Begun => self.begin(client, course),
+            _ => self.tell(client, from, outcome),
+        }
+    }
+
     // Makes a step, whose client's row stands in the scene already if there is one.
     fn take_step(&mut self, step: Step, words: &str) -> Result<(u64, Report), AllocError> {
         let client = client_of(&step, self.world.clients().saturating_add(1));
@@ -152,10 +163,10 @@ impl Replay {
         let course = course_of(self.alloc, &step, words)?;
         let from = self.world.station(client);
         let outcome = self.world.step(step);
-        match (outcome, course, trial) {
-            (Report::Begun, Some(course), _) => self.begin(client, course)?,
-            (Report::NotNow, _, Some(trial)) => self.wait(client, from, trial)?,
-            _ => self.tell(client, from, outcome)?,
+        if outcome == Report::NotNow {
+            self.wait(client, from, trial)?;
+        } else {
+            self.tell_step(client, from, outcome, course)?;
         }
         Ok((client, outcome))
     }
@@ -228,9 +239,10 @@ impl Replay {
             return Ok((client, outcome));
         }
         let outcome = self.world.make(client, call);
-        match outcome {
-            Report::NotNow => self.wait(client, from, Trial::Step(manner))?,
-            _ => self.tell(client, from, outcome)?,
+        if outcome == Report::NotNow {
+            self.wait(client, from, Trial::Make(manner))?;
+        } else {
+            self.tell(client, from, outcome)?;
         }
         Ok((client, outcome))
     }

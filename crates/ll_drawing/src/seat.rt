@@ -131,13 +131,12 @@ impl Seat {
     /// A call of the client is answered, all steps of which the line has made: its walk isn't told.
     pub fn make(&mut self, line: usize, ending: Ending) -> Result<(), AllocError> {
         self.course = None;
-        while self
+        let before = self
             .moments
-            .last()
-            .is_some_and(|moment| moment.line == line)
-        {
-            drop(self.moments.pop());
-        }
+            .iter()
+            .take_while(|moment| moment.line != line)
+            .count();
+        self.moments.truncate(before);
         self.note(line, Event::Made(ending))
     }
 

@@ -70,42 +70,65 @@ pub enum Unmet {
     Unknown,
 }
 
+impl Unmet {
+    // The client that it tells first.
+    fn client(&self) -> Option<u64> {
+        match self {
+            Unmet::Gate(client) | Unmet::GateAtFourth(client) => Some(*client),
+            Unmet::Marked(client) | Unmet::LastMarked(client, _) => Some(*client),
+            Unmet::Stale(client) => *client,
+            _ => None,
+        }
+    }
+
+    // The path that it tells.
+    fn path(&self) -> &str {
+        match self {
+            Unmet::LastMarked(_, path) | Unmet::NoDirectory(path) => path.as_str(),
+            Unmet::NamesAhead(path) => path.as_str(),
+            _ => "",
+        }
+    }
+
+    // Its words before the path, and those behind it.
+    fn words(&self) -> (&'static str, &'static str) {
+        match self {
+            Unmet::UnderWay => ("its walk is under way, and a client has one at a time", ""),
+            Unmet::NoWalk => ("no walk of it is under way", ""),
+            Unmet::OtherStep(rule) => (rule, ""),
+            Unmet::Gate(_) => ("'s walk holds the move gate", ""),
+            Unmet::GateAtFourth(_) => (
+                "'s walk holds the move gate, which it takes on its fourth start",
+                "",
+            ),
+            Unmet::Marked(_) => ("'s walk stands there", ""),
+            Unmet::LastMarked(_, _) => ("'s walk stands in ", ", which the call names"),
+            Unmet::Stale(Some(_)) => (" moved a directory on its way, so it can only restart", ""),
+            Unmet::Stale(None) => (
+                "a directory on its way was moved, so it can only restart",
+                "",
+            ),
+            Unmet::NotStale => ("no directory on its way was moved", ""),
+            Unmet::NoDirectory(_) => ("there is no directory ", ", so it can only commit"),
+            Unmet::NamesAhead(_) => ("it has to go down to ", " before"),
+            Unmet::AtFork => ("its two paths part here, so it has to fork before", ""),
+            Unmet::Forked => ("it has forked already", ""),
+            Unmet::AtEnd => ("its way ends here, so it can only commit", ""),
+            Unmet::OnePath => ("its call has one path", ""),
+            Unmet::Unknown => ("it isn't seen why", ""),
+        }
+    }
+}
+
 impl Display for Unmet {
     fn fmt<W: fmt::Write>(&self, f: &mut fmt::Formatter<W>) -> fmt::Result {
-        match self {
-            Unmet::UnderWay => f.write_str("its walk is under way, and a client has one at a time"),
-            Unmet::NoWalk => f.write_str("no walk of it is under way"),
-            Unmet::OtherStep(rule) => f.write_str(rule),
-            Unmet::Gate(client) => write!(f, "client {client}'s walk holds the move gate"),
-            Unmet::GateAtFourth(client) => write!(
-                f,
-                "on its fourth start it takes the move gate, which client {client}'s walk holds"
-            ),
-            Unmet::Marked(client) => write!(f, "client {client}'s walk stands there"),
-            Unmet::LastMarked(client, path) => {
-                write!(
-                    f,
-                    "client {client}'s walk stands in {path}, which the call names"
-                )
-            }
-            Unmet::Stale(Some(client)) => write!(
-                f,
-                "client {client} moved a directory on its way, so it can only restart"
-            ),
-            Unmet::Stale(None) => {
-                f.write_str("a directory on its way was moved, so it can only restart")
-            }
-            Unmet::NotStale => f.write_str("no directory on its way was moved"),
-            Unmet::NoDirectory(path) => {
-                write!(f, "there is no directory {path}, so it can only commit")
-            }
-            Unmet::NamesAhead(path) => write!(f, "it has to go down to {path} before"),
-            Unmet::AtFork => f.write_str("its two paths part here, so it has to fork before"),
-            Unmet::Forked => f.write_str("it has forked already"),
-            Unmet::AtEnd => f.write_str("its way ends here, so it can only commit"),
-            Unmet::OnePath => f.write_str("its call has one path"),
-            Unmet::Unknown => f.write_str("it isn't seen why"),
+        if let Some(client) = self.client() {
+            write!(f, "client {client}")?;
         }
+        let (front, back) = self.words();
+        f.write_str(front)?;
+        f.write_str(self.path())?;
+        f.write_str(back)
     }
 }
 

@@ -38,8 +38,7 @@ impl Manner {
 #[derive(Clone, Copy, Debug, PartialEq, Eq)]
 pub enum Trial {
     Begin(Manner, bool),
-    Fd(Manner),
-    Step(Manner),
+    Make(Manner),
     Descend,
     Fork,
     Commit,
@@ -96,6 +95,16 @@ fn of_call(at: Station, manner: Manner) -> Cause {
     Cause::alone(Tried::Make, unmet)
 }
 
+// What a step of a walk tries.
+fn tried_by(trial: Trial) -> Tried {
+    match trial {
+        Trial::Fork => Tried::Fork,
+        Trial::Commit => Tried::Commit,
+        Trial::Restart => Tried::Restart,
+        _ => Tried::Descend,
+    }
+}
+
 impl Scenery<'_> {
     // Whose walk but that of this row stands in the directory.
     fn marker_of(&self, row: usize, inode: u64) -> Option<Obstacle> {
@@ -129,10 +138,10 @@ impl Scenery<'_> {
         if at != Station::Idle {
             return Cause::alone(Tried::Begin, Unmet::UnderWay);
         }
+        if manner != Manner::Begin {
+            return Cause::alone(Tried::Begin, Unmet::OtherStep(manner.rule()));
+        }
         match self.gate_holder() {
-            _ if manner != Manner::Begin => {
-                Cause::alone(Tried::Begin, Unmet::OtherStep(manner.rule()))
-            }
             Some(obstacle) if moves => Cause {
                 tried: Tried::Begin,
                 unmet: Unmet::Gate(number_of(obstacle.row)),
@@ -263,32 +272,34 @@ impl Scenery<'_> {
         course: &Course,
         trial: Trial,
     ) -> Result<Cause, AllocError> {
-        let stale = Unmet::Stale(course.mover.map(number_of));
+        if at == Station::Stale && trial != Trial::Restart {
+            let mover = course.mover.map(number_of);
+            return Ok(Cause::alone(tried_by(trial), Unmet::Stale(mover)));
+        }
         match trial {
             Trial::Restart => Ok(Cause::alone(Tried::Restart, Unmet::NotStale)),
-            Trial::Fork if at == Station::Stale => Ok(Cause::alone(Tried::Fork, stale)),
-            Trial::Commit if at == Station::Stale => Ok(Cause::alone(Tried::Commit, stale)),
-            _ if at == Station::Stale => Ok(Cause::alone(Tried::Descend, stale)),
             Trial::Fork => self.of_fork(at, course),
             Trial::Commit => self.of_commit(row, at, course),
             _ => self.of_descent(row, at, course),
         }
     }
 
+    // Of a step of the client's walk, if one is under way.
+    fn of_step(&self, row: usize, at: Station, trial: Trial) -> Result<Cause, AllocError> {
+        if let Some(seat) = self.seats.get(row)
+            && let Some(course) = &seat.course
+        {
+            return self.of_walk(row, at, course, trial);
+        }
+        Ok(Cause::alone(tried_by(trial), Unmet::NoWalk))
+    }
+
     /// Why the client of this row, whose walk is at this place, can't do so now.
     pub fn cause_of(&self, row: usize, at: Station, trial: Trial) -> Result<Cause, AllocError> {
-        let course = match self.seats.get(row) {
-            Some(seat) => seat.course.as_ref(),
-            None => None,
-        };
-        match (trial, course) {
-            (Trial::Begin(manner, moves), _) => Ok(self.of_begin(at, manner, moves)),
-            (Trial::Fd(manner) | Trial::Step(manner), _) => Ok(of_call(at, manner)),
-            (_, Some(course)) => self.of_walk(row, at, course, trial),
-            (Trial::Fork, None) => Ok(Cause::alone(Tried::Fork, Unmet::NoWalk)),
-            (Trial::Commit, None) => Ok(Cause::alone(Tried::Commit, Unmet::NoWalk)),
-            (Trial::Restart, None) => Ok(Cause::alone(Tried::Restart, Unmet::NoWalk)),
-            (_, None) => Ok(Cause::alone(Tried::Descend, Unmet::NoWalk)),
+        match trial {
+            Trial::Begin(manner, moves) => Ok(self.of_begin(at, manner, moves)),
+            Trial::Make(manner) => Ok(of_call(at, manner)),
+            _ => self.of_step(row, at, trial),
         }
     }
 }

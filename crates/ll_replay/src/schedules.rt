@@ -118,12 +118,14 @@ pub fn draw_over<E: Ends>(
     ensures failure { IfErr result IsOfSaving }
     ensures same { E.names ends.new ≡ E.names ends.old }
 {
-    let WorldSetup {
-        rules,
-        nodes,
-        history,
-    } = setup;
-    let Ok(picture) = draw(alloc, rules, nodes, history, window, schedule) else {
+    let Ok(picture) = draw(
+        alloc,
+        setup.rules,
+        setup.nodes,
+        setup.history,
+        window,
+        schedule,
+    ) else {
         return Err(Failure::NoMemory);
     };
     match write_out(ends, picture.as_str().as_bytes()) {
