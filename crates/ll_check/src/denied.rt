@@ -29,9 +29,9 @@ pub trait Notes {
     fn are_wanted(&self) -> bool;
 
     /// This test fails by a denial, in a tree that was opened so.
-    fn of_denied(&mut self, header: Header, test: &DeniedTest<'_>)
-        requires some { 1 ≤ header.nodes }
-        requires most { header.nodes ≤ TREE_NODES };
+    fn of_denied(&mut self, header: &Header, test: &DeniedTest<'_>)
+        requires some { 1 ≤ header.now.nodes }
+        requires most { header.now.nodes ≤ TREE_NODES };
 }
 
 // Whether a call that gets this reply stands in the history.
@@ -56,15 +56,15 @@ fn entered(replies: &[u8]) -> usize {
 }
 
 /// Tells of the tests of a file that fail by a denial.
-pub fn tell_denied<N: Notes>(
+pub fn tell_denied<'a, N: Notes>(
     notes: &mut N,
-    header: Header,
-    file: &[u8],
-    lines: &[CheckLine<'_>],
-    checked: &CheckedFile,
+    header: &Header,
+    file: &'a [u8],
+    lines: &'a [CheckLine<'a>],
+    checked: &'a CheckedFile,
 )
-    requires some { 1 ≤ header.nodes }
-    requires most { header.nodes ≤ TREE_NODES }
+    requires some { 1 ≤ header.now.nodes }
+    requires most { header.now.nodes ≤ TREE_NODES }
 {
     let Made::Answered(replies) = &checked.made else {
         return;

@@ -263,7 +263,7 @@ impl Notes for Hints {
     }
 
     // Where the test stands, and why its call is denied.
-    fn of_denied(&mut self, header: Header, test: &DeniedTest<'_>) {
+    fn of_denied(&mut self, header: &Header, test: &DeniedTest<'_>) {
         if !self.is_wanted || self.denials >= DENIALS {
             return;
         }
@@ -273,7 +273,7 @@ impl Notes for Hints {
             return;
         };
         let line = test.line;
-        if let Ok(Some(text)) = explain_entry(self.alloc, &header, test.entries, test.number)
+        if let Ok(Some(text)) = explain_entry(self.alloc, header, test.entries, test.number)
             && let Ok(told) = format!(in self.alloc; "{file}:{line}: {command}\n{text}")
         {
             let _ = self.push(told.as_str());

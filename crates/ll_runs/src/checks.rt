@@ -133,7 +133,7 @@ fn check_one<R: Wait, N: Notes>(
         Err(fault) => return Err(Failure::of_run(fault)),
     };
     if detail != Detail::Quiet && notes.are_wanted() {
-        tell_denied(notes, header, name, lines, &checked);
+        tell_denied(notes, &header, name, lines, &checked);
     }
     Ok(checked.tally)
 }
