@@ -23,7 +23,8 @@ returns-clause-drawn c =
     let h = c.loop-rest.invariant in
     let left = none_left c.loop-rest.rest.now (eqb-true _ _ (sym c.loop-rest-test.ensures)) in
     let lines : c.loop-rest.number ≡ length (pieces c.args.schedule.now) = omega (arith, left, h.0) in
-    let drawn : length c.in_ok-scene.scene.columns.items ≡ drawn_of c.args.window (length (pieces c.args.schedule.now)) =
+    let all = length (pieces c.args.schedule.now) in
+    let drawn : length c.in_ok-scene.scene.columns.items ≡ drawn_of c.args.window all =
     ap (λ cs. length cs.items) c.in_ok-scene.ensures ∙ sym h.1 ∙ ap (drawn_of c.args.window) lines in
     subst (λ (n : ℕ). IfOk c.picture_of.result (λ text. IsPicture n (string_bytes text))) drawn c.picture_of.ensures
 
