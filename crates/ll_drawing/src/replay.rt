@@ -142,17 +142,33 @@ impl Replay {
         }
     }
 
-    // What came of a step that was made, with the course of the walk that it began, if it is one to begin it.
+    // What came of a step, or why it couldn't be made, but for one that began a walk.
+    fn tell_or_wait(
+        &mut self,
+        client: u64,
+        from: Station,
+        outcome: Report,
+        trial: Trial,
+    ) -> Result<(), AllocError> {
+        if outcome == Report::NotNow {
+            self.wait(client, from, trial)
+        } else {
+            self.tell(client, from, outcome)
+        }
+    }
+
+    // The same of any step, with the course of the walk that it was to begin, if it is one to begin it.
     fn tell_step(
         &mut self,
         client: u64,
         from: Station,
         outcome: Report,
         course: Option<Course>,
+        trial: Trial,
     ) -> Result<(), AllocError> {
         match course {
             Some(course) if outcome == Report::Begun => self.begin(client, course),
-            _ => self.tell(client, from, outcome),
+            _ => self.tell_or_wait(client, from, outcome, trial),
         }
     }
 
@@ -160,14 +176,10 @@ impl Replay {
     fn take_step(&mut self, step: Step, words: &str) -> Result<(u64, Report), AllocError> {
         let client = client_of(&step, self.world.clients().saturating_add(1));
         let trial = trial_of(&self.shadow, &step);
-        let course = course_of(self.alloc, &step, words)?;
+        let course = course_of(self.alloc, &step, words);
         let from = self.world.station(client);
         let outcome = self.world.step(step);
-        if outcome == Report::NotNow {
-            self.wait(client, from, trial)?;
-        } else {
-            self.tell_step(client, from, outcome, course)?;
-        }
+        self.tell_step(client, from, outcome, course?, trial)?;
         Ok((client, outcome))
     }
 
@@ -239,11 +251,7 @@ impl Replay {
             return Ok((client, outcome));
         }
         let outcome = self.world.make(client, call);
-        if outcome == Report::NotNow {
-            self.wait(client, from, Trial::Make(manner))?;
-        } else {
-            self.tell(client, from, outcome)?;
-        }
+        self.tell_or_wait(client, from, outcome, Trial::Make(manner))?;
         Ok((client, outcome))
     }
 
