@@ -1,6 +1,5 @@
 use Rattle.std.proofs.Common.{◌≡◌, ◌∙◌, ℕ, ◌+◌, suc, IfOk, ap, arith, length, string_bytes, subst, sym}
 use Rattle.std.proofs.lemmas.Bool.{eqb-true}
-use Rattle.std.proofs.lemmas.Result.{IfOk-weaker}
 use Rattle.ll_picture.specs.Pictures.{IsPicture}
 use Rattle.ll_wire.specs.Pieces.{pieces}
 use Rattle.ll_drawing.specs.Windows.{drawn_of}
