@@ -1,4 +1,4 @@
-use Rattle.std.proofs.Common.{◌≡◌, ◌∙◌, ℕ, ◌+◌, suc, IfOk, ap, arith, length, string_bytes, subst, sym}
+use Rattle.std.proofs.Common.{◌≡◌, ◌∙◌, ℕ, suc, IfOk, ap, arith, length, string_bytes, subst, sym}
 use Rattle.std.proofs.lemmas.Bool.{eqb-true}
 use Rattle.ll_picture.specs.Pictures.{IsPicture}
 use Rattle.ll_wire.specs.Pieces.{pieces}
