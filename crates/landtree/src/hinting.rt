@@ -65,17 +65,16 @@ pub fn hint_at_question(hints: &mut Hints, options: &WhyOptions) -> bool {
     }
 }
 
-/// What `why` tells of a saved history's entry of this number, as far as there is memory for it.
-pub fn why_text<S: Sources>(
+// What `why` tells where these are its words, as far as there is memory for it.
+fn why_told<'a, S: Sources>(
     rt: &HostRuntime,
     sources: &S,
-    file: &str,
-    entry: usize,
+    file: &'a str,
+    entry: &'a str,
 ) -> Result<Vec<u8>, AllocError> {
     let mut text = Vec::new(rt.alloc());
-    let number = entry.to_string(rt.alloc())?;
     let options = WhyOptions {
-        words: vec![in rt.alloc(); file, number.as_str()]?,
+        words: vec![in rt.alloc(); file, entry]?,
         policy: None,
         profile: None,
         nodes: 1,
@@ -83,4 +82,15 @@ pub fn why_text<S: Sources>(
     let mut input = Late::new(sources, named(file));
     let _ = tell_why(rt.alloc(), &options, &mut input, &mut text);
     Ok(text)
+}
+
+/// What `why` tells of a saved history's entry of this number, as far as there is memory for it.
+pub fn why_text<S: Sources>(
+    rt: &HostRuntime,
+    sources: &S,
+    file: &str,
+    entry: usize,
+) -> Result<Vec<u8>, AllocError> {
+    let number = entry.to_string(rt.alloc())?;
+    why_told(rt, sources, file, number.as_str())
 }
