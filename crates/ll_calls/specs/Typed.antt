@@ -1,8 +1,6 @@
 -- What a call came to, as its answer's type tells it. own
-use Rattle.std.specs.Prelude.{Result, Ok, Err, Bool, true, false, ⊤}
+use Rattle.std.specs.Prelude.{Result, Ok, Err, Bool, ⊤}
 use Rattle.ll_rights.specs.declared.errno.Errno.TheVariants as errno
-use Rattle.ll_seq.specs.declared.call.Call.{Call}
-use Rattle.ll_seq.specs.declared.call.Call.TheVariants as call
 use Rattle.ll_seq.specs.declared.reply.Reply.{Reply}
 use Rattle.ll_seq.specs.declared.reply.Reply.TheVariants as reply
 use Rattle.ll_journal.specs.declared.direct.Made.{Made}
@@ -28,27 +26,3 @@ abbrev pub FitsMade : (Reply → Bool) → Made → Type 0
 FitsMade succeeds (made.Replied told) = Fits succeeds told
 FitsMade succeeds made.HistoryFull = ⊤
 FitsMade succeeds made.NoMemory = ⊤
-
--- the call brings a client
-abbrev pub brings_client : Call → Bool
-brings_client (call.Make kind target) = false
-brings_client (call.Open mode target) = false
-brings_client (call.Read fd offset count) = false
-brings_client (call.Write fd offset bytes) = false
-brings_client (call.Ftruncate fd size) = false
-brings_client (call.Close fd) = false
-brings_client (call.Truncate target size) = false
-brings_client (call.ReadDir target) = false
-brings_client (call.Stat target) = false
-brings_client (call.Exec target) = false
-brings_client (call.Unlink target) = false
-brings_client (call.Rmdir target) = false
-brings_client (call.Rename from into) = false
-brings_client (call.RenameNoreplace from into) = false
-brings_client (call.Exchange from into) = false
-brings_client (call.Link from into) = false
-brings_client (call.Ruleset rights) = false
-brings_client (call.Allow number target rights) = false
-brings_client (call.Confine number) = false
-brings_client call.Spawn = true
-brings_client call.Connect = true

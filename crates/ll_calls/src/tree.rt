@@ -4,13 +4,14 @@ ghost use Rattle.std.specs.Prelude.{◌≡◌, ◌⊎◌, ℕ, ◌+◌, ◌<◌,
 ghost use Rattle.ll_rights.specs.declared.limits.TheConstants.{TREE_CLIENTS};
 ghost use Rattle.ll_seq.specs.declared.call.Call.TheVariants as calls;
 ghost use Rattle.ll_seq.specs.declared.reply.Reply.TheVariants as replies;
+ghost use Rattle.ll_seq.specs.History.{is_connect};
 ghost use Rattle.ll_client.specs.Closed.{IsClosed};
 ghost use Rattle.ll_client.specs.Coming.{HasNoPlace, childless};
 ghost use Rattle.ll_client.specs.Entries.{knows, numbered};
 ghost use Rattle.ll_client.specs.Gains.{Gains, Told};
 ghost use Rattle.ll_client.specs.Replies.{success};
 ghost use Rattle.ll_calls.specs.Opening.{MayOpen};
-ghost use Rattle.ll_calls.specs.Typed.{FitsMade, brings_client};
+ghost use Rattle.ll_calls.specs.Typed.{FitsMade};
 
 use ll_client::{Account, Client, Shape};
 use ll_journal::Made;
@@ -133,7 +134,9 @@ impl<N: Shape, G: Gate<N>> Tree<N, G> {
     /// `spawn`. (A call that comes back is made again.)
     #[tactic(auto, using(crate::proofs::Typing::gains_fit))]
     pub fn call<R: Wait>(&self, rt: &R, me: &mut Client<N>, call: Call) -> Made
-        requires { brings_client call ≡ false }
+        requires other { is_connect call ≡ false }
+        // a child is no success of it
+        requires childless { success call (replies.Spawned 0) ≡ false }
         ensures gains { Gains N.limit call me.old.rider result me.new.rider }
         ensures fits { FitsMade (success call) result }
     {

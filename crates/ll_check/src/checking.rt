@@ -66,7 +66,8 @@ pub fn check_file<R: Wait>(
     lines: &[CheckLine<'_>],
 ) -> Result<CheckedFile, RunFault>
     ensures checked { IfOk result (λ checked.
-        IsChecked detail setup file.now (map meaning_of lines.now) out.old.items out.new.items checked.tally) }
+        IsChecked detail setup file.now (map meaning_of lines.now) checked.made checked.history.entries
+        out.old.items out.new.items checked.tally) }
     ensures fault { IfErr result (λ fault. MayEnd setup fault) }
 {
     let (made, history) = make(rt, alloc, setup, lines)?;

@@ -71,11 +71,4 @@ success Connect = is_done
 abbrev pub Fits : (Reply → Bool) → Reply → Type 0
 Fits succeeds (replies.Refused errno) = (3 ≤ errno_number errno) × (errno_number errno ≤ 20)
 Fits succeeds (replies.Denied denial) = ⊤
-Fits succeeds replies.Done = succeeds replies.Done ≡ true
-Fits succeeds (replies.Opened number) = succeeds (replies.Opened number) ≡ true
-Fits succeeds (replies.Bytes bytes) = succeeds (replies.Bytes bytes) ≡ true
-Fits succeeds (replies.Wrote count) = succeeds (replies.Wrote count) ≡ true
-Fits succeeds (replies.Listed names) = succeeds (replies.Listed names) ≡ true
-Fits succeeds (replies.Found status) = succeeds (replies.Found status) ≡ true
-Fits succeeds (replies.Created number) = succeeds (replies.Created number) ≡ true
-Fits succeeds (replies.Spawned number) = succeeds (replies.Spawned number) ≡ true
+Fits succeeds told = succeeds told ≡ true

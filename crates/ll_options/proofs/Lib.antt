@@ -5,3 +5,4 @@ pub mod Numbers
 pub mod BuiltRows
 pub mod Defaults
 pub mod Ordered
+pub mod Added

@@ -15,7 +15,7 @@ use Rattle.ll_lines.specs.declared.fault.SessionFault.TheVariants.{Read, Write, 
 use Rattle.ll_session.specs.Beside.{MakesBeside, StopsBeside, TellsBeside}
 use Rattle.ll_session.specs.Progress.{IsOfRefusal}
 use Rattle.ll_wire.specs.Grammar.{reply_line}
-use Rattle.ll_serve.specs.Visit.{HasCome, IsReady, IsServed, IsTurnedAway, Starts, StartsBy, Visits}
+use Rattle.ll_serve.specs.Visit.{HasCome, IsReady, IsTurnedAway, Starts, StartsBy, Visits}
 
 module _ (limit : ℕ) (profile : List Call) (old new : Devices) where
   by_fault : (fault : SessionFault) (ks : List Knows) → Starts limit profile old new ks
@@ -84,6 +84,14 @@ both : {A : Type 0} (P Q : SessionFault → Type 0) (ended : Result A SessionFau
     → IfErr ended (λ fault. P fault × Q fault)
 both P Q (Ok value) p q = tt
 both P Q (Err fault) p q = (p, q)
+
+-- what `WasServed` says of a stream, by what was left of it and written before and is afterwards
+abbrev pub IsServed : {A : Type 0} → (limit : ℕ) → (profile : List Call) → Result A SessionFault
+    → (left written left' written' : Option (List ℕ)) → List Knows → Type 0
+IsServed limit profile ended left written left' written' ks =
+    let old = untouched left written true in
+    (new : Devices) × (new.remaining ≡ left') × (new.contents ≡ written') × OnOk ended (Visits limit profile old new ks)
+    × IfErr ended (λ fault. StartsBy limit profile fault old new ks × Blames fault old new)
 
 -- by a reader and a writer, with an equal profile
 pub served_so : {A : Type 0} (limit : ℕ) (copy profile : List Call) (ended : Result A SessionFault)

@@ -23,7 +23,7 @@ abbrev pub HasCome : Knows → Type 0
 HasCome me = me ≡ knows me.number (numbered me.seen Connect Done ∷ []) [] me.seen None
 
 module _ (limit : ℕ) (profile : List Call) where
-  -- The client has come, and has made the calls of its profile. These are what it knows, and those that it has spawned
+  -- The client has come and has made its profile's calls: it, and those that it has spawned
   abbrev pub IsReady : List Knows → Type 0
   IsReady ks = (me : Knows) × HasCome me × MakesBeside limit (me ∷ []) 0 profile ks
 
@@ -33,40 +33,30 @@ module _ (limit : ℕ) (profile : List Call) where
       ((errno : Errno) × HasNoPlace errno × (reply ≡ Refused errno) × (ks ≡ []))
       ⊎ ((me : Knows) × HasCome me × StopsBeside limit (me ∷ []) 0 profile reply ks)
 
-  -- A whole visit leaves these clients: it has answered all that it read, or it has read nothing and told the refusal
+  -- A whole visit answered all that it read, or read nothing and told the refusal
   abbrev pub Visits : (old new : Devices) → List Knows → Type 0
   Visits old new ks =
       ((first : List Knows) × IsReady first × AnswersAll (TellsBeside limit 0) first ks old new)
       ⊎ ((reply : Reply) × IsTurnedAway reply ks × (new.remaining ≡ old.remaining)
       × Appends old.contents new.contents (reply_line reply))
 
-  -- A visit that a fault ends has answered some first lines, or has told a beginning of the refusal
+  -- A visit that a fault ends answered some first lines, or told a beginning of the refusal
   abbrev pub Starts : (old new : Devices) → List Knows → Type 0
   Starts old new ks =
       ((first : List Knows) × IsReady first × StartsAll (TellsBeside limit 0) first ks old new)
       ⊎ ((reply : Reply) × IsTurnedAway reply ks × (new.remaining ≡ old.remaining)
       × AppendsFront old.contents new.contents (reply_line reply))
 
-  -- with this fault; and before anybody has come, memory may be wanted
+  -- with this fault; before anybody has come, memory may be wanted
   abbrev pub StartsBy : SessionFault → (old new : Devices) → List Knows → Type 0
   StartsBy fault.NoMemory old new ks = ((ks ≡ []) × (new ≡ old)) ⊎ Starts old new ks
-  StartsBy fault.Read old new ks = Starts old new ks
-  StartsBy fault.Write old new ks = Starts old new ks
-  StartsBy fault.TooLong old new ks = Starts old new ks
+  StartsBy other old new ks = Starts old new ks
 
-  -- Of a stream this was left to read and that was written, and afterwards this and that. So it was served, and these
-  -- are its clients
-  abbrev pub IsServed : {A : Type 0} → Result A SessionFault → (left written left' written' : Option (List ℕ))
-      → List Knows → Type 0
-  IsServed ended left written left' written' ks =
-      let old = untouched left written true in
-      (new : Devices) × (new.remaining ≡ left') × (new.contents ≡ written') × OnOk ended (Visits old new ks)
-      × IfErr ended (λ fault. StartsBy fault old new ks × Blames fault old new)
-
--- A stream was served from when it came to when it went, it ended so, and these are its clients: by what its reader
--- tells to be left, and its writer to be written
-abbrev pub WasServed : {R W A : Type 0} → (R → Option (List ℕ)) → (W → Option (List ℕ)) → (limit : ℕ)
-    → (profile : List Call) → Result A SessionFault → (came went : Stream R W) → List Knows → Type 0
-WasServed remaining contents limit profile ended came went ks =
-    IsServed limit profile ended (remaining came.reader) (contents came.writer) (remaining went.reader)
-    (contents went.writer) ks
+  -- A stream was served and ended so, with these clients: by what its reader tells to be left, and its writer to be
+  -- written
+  abbrev pub WasServed : {R W A : Type 0} → (R → Option (List ℕ)) → (W → Option (List ℕ)) → Result A SessionFault
+      → (came went : Stream R W) → List Knows → Type 0
+  WasServed remaining contents ended came went ks =
+      let old = untouched (remaining came.reader) (contents came.writer) true in
+      (new : Devices) × (new.remaining ≡ remaining went.reader) × (new.contents ≡ contents went.writer)
+      × OnOk ended (Visits old new ks) × IfErr ended (λ fault. StartsBy fault old new ks × Blames fault old new)

@@ -8,7 +8,7 @@ ghost use Rattle.ll_lines.specs.declared.fault.SessionFault.{SessionFault};
 ghost use Rattle.ll_session.specs.Session.{AreOthers};
 ghost use Rattle.ll_client.specs.Coming.{HasNoPlace};
 ghost use Rattle.ll_client.specs.Entries.{Knows};
-ghost use Rattle.ll_serve.specs.Visit.{HasCome, IsServed, StartsBy, Visits, WasServed};
+ghost use Rattle.ll_serve.specs.Visit.{HasCome, StartsBy, Visits, WasServed};
 
 use crate::copies::copy_calls;
 use crate::host::Host;
@@ -104,9 +104,7 @@ fn serve_ends<N: Shape, G: Gate<N>, H: Wait, R: Read, W: Write>(
     host: &Host<N, G>,
     stream: &mut Stream<R, W>,
 ) -> (Vec<Client<N>>, Result<(), SessionFault>)
-    ensures { IsServed N.limit host.now.profile.now result.1
-        (R.remaining stream.old.reader) (W.contents stream.old.writer)
-        (R.remaining stream.new.reader) (W.contents stream.new.writer)
+    ensures { WasServed N.limit host.now.profile.now R.remaining W.contents result.1 stream.old stream.new
         (map (λ c. c.rider) result.0.items) }
 {
     let Ok(profile) = copy_calls(alloc, host.profile) else {
@@ -131,7 +129,7 @@ pub fn serve_stream<N: Shape, G: Gate<N>, H: Wait, R: Read, W: Write>(
     host: &Host<N, G>,
     stream: &mut Stream<R, W>,
 ) -> Served<N, R, W>
-    ensures served { WasServed R.remaining W.contents N.limit host.now.profile.now result.ended
+    ensures served { WasServed N.limit host.now.profile.now R.remaining W.contents result.ended
         result.came.value result.went.value (map (λ c. c.rider) result.clients.items) }
     ensures came { result.came.value ≡ stream.old }
     ensures went { result.went.value ≡ stream.new }

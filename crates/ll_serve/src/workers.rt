@@ -70,7 +70,7 @@ fn work<
 )
     requires { IsRoomFor most room.old }
     ensures most { length room.new.items ≤ most }
-    ensures served { All (λ it. WasServed R.remaining W.contents N.limit host.now.profile.now it.ended it.came.value
+    ensures served { All (λ it. WasServed N.limit host.now.profile.now R.remaining W.contents it.ended it.came.value
         it.went.value (map (λ c. c.rider) it.clients.items)) room.new.items }
 {
     for _ in 0..most {
@@ -107,8 +107,8 @@ pub(crate) fn serve_from<
     ensures workers { IfOk result (λ rooms. length rooms.items ≡ workers) }
     ensures most { IfOk result (λ rooms. All (λ room. length room.items ≤ most) rooms.items) }
     // Each of these streams was served as `serve_stream` says of one.
-    ensures served { IfOk result (λ rooms. All (λ room. All (λ it. WasServed R.remaining W.contents N.limit
-        host.now.profile.now it.ended it.came.value it.went.value (map (λ c. c.rider) it.clients.items))
+    ensures served { IfOk result (λ rooms. All (λ room. All (λ it. WasServed N.limit host.now.profile.now
+        R.remaining W.contents it.ended it.came.value it.went.value (map (λ c. c.rider) it.clients.items))
         room.items) rooms.items) }
 {
     let mut all = rooms(alloc, workers, most)?;
@@ -119,7 +119,7 @@ pub(crate) fn serve_from<
         &|_, room|
             requires { IsRoomFor most room.now }
             ensures most { length room.exit.now.items ≤ most }
-            ensures served { All (λ it. WasServed R.remaining W.contents N.limit host.entry.now.profile.now it.ended
+            ensures served { All (λ it. WasServed N.limit host.entry.now.profile.now R.remaining W.contents it.ended
                 it.came.value it.went.value (map (λ c. c.rider) it.clients.items)) room.exit.now.items }
         { work(rt, alloc, host, streams, watch, room, most) },
     );
@@ -149,8 +149,8 @@ pub fn serve_streams<
     ensures workers { IfOk result (λ rooms. length rooms.items ≡ workers) }
     ensures most { IfOk result (λ rooms. All (λ room. length room.items ≤ most) rooms.items) }
     // Each of these streams was served as `serve_stream` says of one.
-    ensures served { IfOk result (λ rooms. All (λ room. All (λ it. WasServed R.remaining W.contents N.limit
-        host.now.profile.now it.ended it.came.value it.went.value (map (λ c. c.rider) it.clients.items))
+    ensures served { IfOk result (λ rooms. All (λ room. All (λ it. WasServed N.limit host.now.profile.now
+        R.remaining W.contents it.ended it.came.value it.went.value (map (λ c. c.rider) it.clients.items))
         room.items) rooms.items) }
 {
     serve_from(rt, alloc, host, &streams, watch, workers, most)

@@ -22,7 +22,8 @@ use Rattle.ll_seq.specs.declared.reply.Reply.{Reply}
 use Rattle.ll_seq.specs.declared.reply.Reply.TheVariants.{Done}
 use Rattle.ll_seq.specs.declared.rules.Rules.{Rules}
 use Rattle.ll_session.specs.Beside.{MakesBeside}
-use Rattle.ll_talk.specs.Talk.{AreAbove, Asks, AsksFor, GrowAbove, Grows, met, reply_of, seen_by}
+use Rattle.ll_talk.specs.Growth.{AreAbove, GrowAbove, Grows}
+use Rattle.ll_talk.specs.Talk.{Asks, AsksFor, met, reply_of, seen_by}
 use Rattle.ll_talk.proofs.Entered.{IsAmong, IsEntered}
 use Rattle.ll_talk.proofs.Growths.{all_stay}
 use Rattle.ll_talk.proofs.Kept.{IsEntry, all_first, all_map, part_entries}

@@ -16,10 +16,9 @@ abbrev pub placed : ℕ → Reply → Reply
 placed clients (Spawned number) = Spawned clients
 placed clients reply = reply
 
--- Of these clients the first so many came before the session, and lines name the others by their places. A piece that
--- spells a call of one of them gets the reply to that call; or, where the call holds a word or bytes and there is no
--- memory to read them, want of memory, but HistoryFull where the history is full; every other piece gets
--- `refused 23 BadLine`
+-- The first so many clients came before the session; lines name the others by place. A piece that spells a call of one
+-- of them gets its reply; or, where no memory is there for its words or bytes, want of memory, but HistoryFull where
+-- the history is full; every other piece gets `refused 23 BadLine`
 pub data AnswersBeside (limit before : ℕ) (ks : List Knows) (piece : List ℕ) : Reply → List Knows → Type 0 where
   calls : (n : ℕ) (call : Call) (reply : Reply) (ks' : List Knows) → SpellsCommand piece n call
       → before + n ≤ length ks → AsksFor limit ks (before + n - 1) call reply ks'

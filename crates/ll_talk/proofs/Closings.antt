@@ -11,7 +11,8 @@ use Rattle.ll_seq.specs.State.{start}
 use Rattle.ll_talk.specs.Between.{tree_at}
 use Rattle.ll_client.specs.Closed.{IsClosed, HoldsPart}
 use Rattle.ll_client.specs.Entries.{IsStarved, Knows, part_from}
-use Rattle.ll_talk.specs.Talk.{Grows, seen_by}
+use Rattle.ll_talk.specs.Growth.{Grows}
+use Rattle.ll_talk.specs.Talk.{seen_by}
 use Rattle.ll_talk.proofs.Entered.{IsAmong, IsEntered, entered_before, entered_of, part_has}
 use Rattle.ll_talk.proofs.Kept.{IsEntry, all_at, all_first, all_map, part_entries, still_there}
 use Rattle.ll_talk.proofs.Points.{client_there, has_entry}

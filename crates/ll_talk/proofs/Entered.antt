@@ -9,7 +9,7 @@ use Rattle.ll_worlds.specs.Walk.{is_in}
 use Rattle.ll_client.specs.Closed.{numbers_of}
 use Rattle.ll_client.specs.Entries.{Knows, numbered, part_from}
 use Rattle.ll_client.specs.declared.account.Numbered.{Numbered}
-use Rattle.ll_talk.specs.Talk.{AreAbove, ComesOn, GrowAbove}
+use Rattle.ll_talk.specs.Growth.{AreAbove, ComesOn, GrowAbove}
 
 -- one of them has this number
 abbrev pub IsAmong : List Numbered → ℕ → Type 0

@@ -5,7 +5,8 @@ use Rattle.std.proofs.Common.{sym, ap, subst, ◌∙◌, arith, append_assoc}
 use Rattle.std.proofs.lemmas.List.{append-nil}
 use Rattle.ll_client.specs.Entries.{Knows}
 use Rattle.ll_client.specs.declared.account.Numbered.{Numbered}
-use Rattle.ll_talk.specs.Talk.{AreAbove, ComesOn, GrowAbove, Grows, seen_by}
+use Rattle.ll_talk.specs.Growth.{AreAbove, ComesOn, GrowAbove, Grows}
+use Rattle.ll_talk.specs.Talk.{seen_by}
 use Rattle.ll_talk.proofs.Kept.{all_map}
 use Rattle.ll_talk.proofs.Seen.{seen_push, seen_set}
 

@@ -7,7 +7,7 @@ use Rattle.std.proofs.lemmas.Bool.{eqb-true}
 use Rattle.ll_seq.specs.declared.reply.Entry.{Entry}
 use Rattle.ll_client.specs.Entries.{Knows, numbered, part_from}
 use Rattle.ll_client.specs.declared.account.Numbered.{Numbered}
-use Rattle.ll_talk.specs.Talk.{ComesOn, GrowAbove}
+use Rattle.ll_talk.specs.Growth.{ComesOn, GrowAbove}
 
 pub all_first : {A : Type 0} (P : A → Type 0) (xs ys : List A) → AllByRecursion P (xs ++ ys) → AllByRecursion P xs
 all_first P [] ys all = tt

@@ -11,7 +11,7 @@ use Rattle.ll_seq.specs.declared.reply.Reply.TheVariants.{Done, Spawned}
 use Rattle.ll_seq.specs.History.{is_connect}
 use Rattle.ll_journal.specs.declared.direct.Made.{Made}
 use Rattle.ll_client.specs.Gains.{Gains, Told}
-use Rattle.ll_calls.specs.Typed.{brings_client}
+use Rattle.ll_client.specs.Replies.{success}
 use Rattle.ll_client.specs.Entries.{Knows, knows, numbered}
 use Rattle.ll_seq.specs.declared.reply.Reply.{Reply}
 use Rattle.ll_talk.specs.Talk.{Asks, AsksFor, IsLast, IsMet, Joins, LooksAt, Spawns, is_birth, met, seen_by}
@@ -120,12 +120,8 @@ module _ {A : Type 0} (f : A → Knows) (ks mid : List Knows) (xs : List A) (pla
 
 -- ---- calls that bring nobody
 
-pub no_connect : (call : Call) → brings_client call ≡ false → is_connect call ≡ false
-no_connect Connect none = absurd (false≢true (sym none))
-no_connect _ none = refl
-
-pub no_spawn : (call : Call) → brings_client call ≡ false → call ≢ Spawn
-no_spawn call none same = false≢true (sym none ∙ ap brings_client same)
+pub no_spawn : (call : Call) → success call (Spawned 0) ≡ false → call ≢ Spawn
+no_spawn call none same = false≢true (sym none ∙ ap (λ (it : Call). success it (Spawned 0)) same)
 
 -- ---- how many they are then
 

@@ -20,7 +20,8 @@ use Rattle.ll_client.specs.Closed.{IsClosed, numbers_of}
 use Rattle.ll_client.specs.Entries.{Knows, numbered}
 use Rattle.ll_client.specs.declared.account.Numbered.{Numbered}
 use Rattle.ll_talk.specs.Session.{Called, answered, brought, next}
-use Rattle.ll_talk.specs.Talk.{Grows, seen_by}
+use Rattle.ll_talk.specs.Growth.{Grows}
+use Rattle.ll_talk.specs.Talk.{seen_by}
 use Rattle.ll_talk.proofs.Closings.{covered, numbers_at, part_tells}
 use Rattle.ll_talk.proofs.Comers.{same_many}
 use Rattle.ll_talk.proofs.Entered.{AreBelow, IsAmong, IsEntered, entered_below}

@@ -22,11 +22,11 @@ use Rattle.ll_client.specs.Gains.{Told}
 use Rattle.ll_client.specs.declared.account.Numbered.{Numbered}
 use Rattle.ll_client.specs.Closed.{numbers_of}
 use Rattle.ll_client.specs.Entries.{starved_at}
-use Rattle.ll_talk.specs.Laws.{AsksIsCall, JoinsIsConnect, LooksIsNothing, SpawnsIsCall}
 use Rattle.ll_journal.specs.declared.direct.Made.TheVariants as made
 use Rattle.ll_journal.specs.declared.direct.Made.{Made}
 use Rattle.ll_talk.specs.Session.{Session, Called, Connects, brought, following, full, joined, next, starved}
-use Rattle.ll_talk.specs.Talk.{Asks, ComesOn, Grows, Joins, Looks, LooksAt, Spawns, is_birth, met, seen_by}
+use Rattle.ll_talk.specs.Growth.{ComesOn, Grows}
+use Rattle.ll_talk.specs.Talk.{Asks, Joins, Looks, LooksAt, Spawns, is_birth, met, reply_of, seen_by}
 use Rattle.ll_talk.proofs.Closings.{was_starved}
 use Rattle.ll_talk.proofs.Comers.{caller_there, child_there, one_child, one_comer}
 use Rattle.ll_talk.proofs.Entered.{AreBelow, entered_push, entered_set}
@@ -206,7 +206,8 @@ module _ (rules : Rules) (room limit : ℕ) (ks : List Knows) (place : ℕ) (me 
 -- ---- by what came of it
 
 pub asks : (rules : Rules) (room limit : ℕ) (ks ks' : List Knows) (place : ℕ) (call : Call) (made : Made)
-    → (a : Asks limit ks place call made ks') → AsksIsCall rules room limit ks ks' place call made a
+    → (a : Asks limit ks place call made ks')
+    → Leads rules room limit ks ks' (λ s t. Called s a.me.number call (reply_of made) t)
 asks rules room limit ks ks' place call (made.Replied reply) a =
     subst (λ l. Leads rules room limit ks l (λ s t. Called s a.me.number call reply t)) (sym a.after)
     (replied rules room limit ks place a.me a.now a.at call reply a.gains a.other a.childless)
@@ -232,7 +233,7 @@ looks_at rules room limit ks ks' place l =
     )
 
 pub looks : (rules : Rules) (room limit : ℕ) (ks ks' : List Knows) (l : Looks ks ks')
-    → LooksIsNothing rules room limit ks ks' l
+    → Leads rules room limit ks ks' (λ s t. t ≡ s)
 looks rules room limit ks ks' (inl none) =
     subst (λ m. Leads rules room limit ks m (λ s t. t ≡ s)) (none.0 ∙ sym none.1)
     (stays_so ks, λ history end c g s. (s, refl))
@@ -286,7 +287,7 @@ spawns_so rules room limit ks place child me now at told =
     )
 
 pub spawns : (rules : Rules) (room limit : ℕ) (ks ks' : List Knows) (place child : ℕ) (a : Spawns ks place child ks')
-    → SpawnsIsCall rules room limit ks ks' place child a
+    → Leads rules room limit ks ks' (λ s t. Called s a.me.number Spawn (Spawned child) t × (child ≡ following s))
 spawns rules room limit ks ks' place child a =
     subst (λ l. Leads rules room limit ks l
     (λ s t. Called s a.me.number Spawn (Spawned child) t × (child ≡ following s))) (sym a.after)
@@ -360,7 +361,8 @@ joins_so rules room limit ks number seen later =
     )
 
 pub joins : (rules : Rules) (room limit : ℕ) (ks ks' : List Knows) (number : ℕ) (j : Joins ks number ks')
-    → JoinsIsConnect rules room limit ks ks' number j
+    → Leads rules room limit ks ks'
+    (λ s t. (mid : Session) × Connects s Done mid × (joined s mid ≡ t) × (number ≡ following s))
 joins rules room limit ks ks' number j =
     subst (λ l. Leads rules room limit ks l
     (λ s t. (mid : Session) × Connects s Done mid × (joined s mid ≡ t) × (number ≡ following s))) (sym j.after)

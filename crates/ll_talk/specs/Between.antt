@@ -1,4 +1,4 @@
--- What a session was at each point, told when its tree is closed. own
+-- What a session was at each point, told when its tree is closed. Cited by contracts between crates alone. own
 use Rattle.std.specs.Prelude.{◌≡◌, ℕ, ◌≤◌, true, List, length, take}
 use Rattle.std.specs.List.{AllByRecursion}
 use Rattle.ll_rights.specs.Map.{has, len}
@@ -11,7 +11,8 @@ use Rattle.ll_client.specs.Closed.{IsClosed, numbers_of}
 use Rattle.ll_client.specs.Entries.{Knows}
 use Rattle.ll_client.specs.declared.account.Numbered.{Numbered}
 use Rattle.ll_talk.specs.Session.{Session}
-use Rattle.ll_talk.specs.Talk.{Grows, seen_by}
+use Rattle.ll_talk.specs.Growth.{Grows}
+use Rattle.ll_talk.specs.Talk.{seen_by}
 
 -- the tree after so many entries
 abbrev pub tree_at : Rules → ℕ → List Entry → ℕ → State

@@ -1,4 +1,5 @@
--- Calls that one session makes one after the other are the plain tree's steps, in order. own
+-- Calls that one session makes one after the other are the plain tree's steps, in order. Cited by contracts between
+-- crates alone. own
 use Rattle.std.specs.Prelude.{◌≡◌, ℕ, ◌<◌, ◌≤◌, List, [], length}
 use Rattle.ll_rights.specs.declared.errno.Errno.TheVariants.{EMFILE, HistoryFull, NoMemory}
 use Rattle.ll_rights.specs.declared.limits.TheConstants.{TREE_CLIENTS}
@@ -16,46 +17,32 @@ use Rattle.ll_journal.specs.declared.direct.Made.{Made}
 use Rattle.ll_talk.specs.Session.{Session, Called, Connects, following, joined}
 use Rattle.ll_talk.specs.Talk.{Asks, Spawns, Joins, Looks, reply_of, seen_by}
 
-module _ (rules : Rules) (room limit : ℕ) (ks ks' : List Knows) where
-  -- a call is answered as the plain tree would answer it there
-  abbrev pub AsksIsCall : (place : ℕ) (call : Call) (made : Made) → Asks limit ks place call made ks' → Type 0
-  AsksIsCall place call made a = Leads rules room limit ks ks' (λ s t. Called s a.me.number call (reply_of made) t)
-
-  -- a spawned child is the next client
-  abbrev pub SpawnsIsCall : (place child : ℕ) → Spawns ks place child ks' → Type 0
-  SpawnsIsCall place child a = Leads rules room limit ks ks'
-      (λ s t. Called s a.me.number Spawn (Spawned child) t × (child ≡ following s))
-
-  -- whoever connects is the next client
-  abbrev pub JoinsIsConnect : (number : ℕ) → Joins ks number ks' → Type 0
-  JoinsIsConnect number j = Leads rules room limit ks ks'
-      (λ s t. (mid : Session) × Connects s Done mid × (joined s mid ≡ t) × (number ≡ following s))
-
-  -- a look changes nothing
-  abbrev pub LooksIsNothing : Looks ks ks' → Type 0
-  LooksIsNothing l = Leads rules room limit ks ks' (λ s t. t ≡ s)
-
--- ---- The laws
-
+-- A call that brings nobody is answered as the plain tree would answer it there
 abbrev pub CallsAreSteps : Type 0
 CallsAreSteps =
     (rules : Rules) (room limit : ℕ) (ks ks' : List Knows) (place : ℕ) (call : Call) (made : Made)
-    → (a : Asks limit ks place call made ks') → AsksIsCall rules room limit ks ks' place call made a
+    → (a : Asks limit ks place call made ks')
+    → Leads rules room limit ks ks' (λ s t. Called s a.me.number call (reply_of made) t)
 
+-- a spawned child is the next client
 abbrev pub SpawnsAreSteps : Type 0
 SpawnsAreSteps =
     (rules : Rules) (room limit : ℕ) (ks ks' : List Knows) (place child : ℕ) → (a : Spawns ks place child ks')
-    → SpawnsIsCall rules room limit ks ks' place child a
+    → Leads rules room limit ks ks'
+    (λ s t. Called s a.me.number Spawn (Spawned child) t × (child ≡ following s))
 
+-- whoever connects is the next client
 abbrev pub ConnectsAreSteps : Type 0
 ConnectsAreSteps =
-    (rules : Rules) (room limit : ℕ) (ks ks' : List Knows) (number : ℕ) → (j : Joins ks number ks')
-    → JoinsIsConnect rules room limit ks ks' number j
+    (rules : Rules) (room limit : ℕ) (ks ks' : List Knows) (number : ℕ) → Joins ks number ks'
+    → Leads rules room limit ks ks'
+    (λ s t. (mid : Session) × Connects s Done mid × (joined s mid ≡ t) × (number ≡ following s))
 
+-- a look changes nothing
 abbrev pub LooksChangeNothing : Type 0
 LooksChangeNothing =
-    (rules : Rules) (room limit : ℕ) (ks ks' : List Knows) → (l : Looks ks ks')
-    → LooksIsNothing rules room limit ks ks' l
+    (rules : Rules) (room limit : ℕ) (ks ks' : List Knows) → Looks ks ks'
+    → Leads rules room limit ks ks' (λ s t. t ≡ s)
 
 -- Of the next client's connect: where the history is full, it is refused so; where there are too many clients, so; and
 -- else memory may run out for it

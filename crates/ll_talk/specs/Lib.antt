@@ -1,4 +1,5 @@
 pub mod Between
+pub mod Growth
 pub mod Laws
 pub mod Session
 pub mod Talk

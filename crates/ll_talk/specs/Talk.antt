@@ -1,7 +1,6 @@
 -- How the clients of a shared tree come on that one session owns: it makes their calls one after the other. own
 use Rattle.std.specs.Prelude.{◌≡◌, ◌⊎◌, ℕ, ◌<◌, ◌≤◌, max, Bool, true, false, List, [], ◌∷◌, ◌++◌, None, Some}
 use Rattle.std.specs.Prelude.{slice_get, slice_set}
-use Rattle.std.specs.List.{AllByRecursion}
 use Rattle.ll_rights.specs.declared.errno.Errno.TheVariants as errnos
 use Rattle.ll_seq.specs.declared.call.Call.{Call}
 use Rattle.ll_seq.specs.declared.call.Call.TheVariants.{Connect, Spawn}
@@ -12,8 +11,6 @@ use Rattle.ll_journal.specs.declared.direct.Made.TheVariants as made
 use Rattle.ll_journal.specs.declared.direct.Made.{Made}
 use Rattle.ll_client.specs.Entries.{Knows, knows, numbered}
 use Rattle.ll_client.specs.Gains.{Gains, Told}
-use Rattle.ll_client.specs.declared.account.Numbered.{Numbered}
-use Rattle.ll_client.specs.declared.account.Starved.{Starved}
 
 -- the number of the last entry that one of them knows of
 abbrev pub seen_by : List Knows → ℕ
@@ -49,7 +46,7 @@ reply_of (made.Replied reply) = reply
 reply_of made.HistoryFull = Refused errnos.HistoryFull
 reply_of made.NoMemory = Refused errnos.NoMemory
 
--- The client at this place calls, when it has met all others. The call is no connect, and brings no child
+-- The client at this place has met all others, and calls: that is no connect, and brings no child
 pub record Asks (limit : ℕ) (ks : List Knows) (place : ℕ) (call : Call) (made : Made) (ks' : List Knows) : Type 0 where
   pub me : Knows
   pub now : Knows
@@ -97,25 +94,3 @@ pub data Goes (limit : ℕ) (ks : List Knows) : List Knows → Type 0 where
   asks : (mid ks' : List Knows) (place : ℕ) (call : Call) (reply : Reply) → Goes limit ks mid
       → AsksFor limit mid place call reply ks' → Goes limit ks ks'
   looks : (mid ks' : List Knows) → Goes limit ks mid → Looks mid ks' → Goes limit ks ks'
-
--- ---- What stays, while clients come on
-
--- all these entries are above this number
-abbrev pub AreAbove : ℕ → List Numbered → Type 0
-AreAbove n entries = AllByRecursion (λ (x : Numbered). n < x.number) entries
-
--- a client has come on: its part goes on above this number, and it was refused memory for more calls
-pub record ComesOn (n : ℕ) (k k' : Knows) : Type 0 where
-  pub number : k'.number ≡ k.number
-  pub part : (more : List Numbered) × (k'.part ≡ k.part ++ more) × AreAbove n more
-  pub starved : (more : List Starved) × (k'.starved ≡ k.starved ++ more)
-
--- each of them has come on, and others have come, all above this number
-abbrev pub GrowAbove : ℕ → (ks ks' : List Knows) → Type 0
-GrowAbove n [] ks' = AllByRecursion (λ (k : Knows). AreAbove n k.part) ks'
-GrowAbove n (k ∷ ks) [] = ⊥
-GrowAbove n (k ∷ ks) (k' ∷ ks') = ComesOn n k k' × GrowAbove n ks ks'
-
--- what one of them knew stays, and what is new is above it
-abbrev pub Grows : (ks ks' : List Knows) → Type 0
-Grows ks ks' = GrowAbove (seen_by ks) ks ks' × (seen_by ks ≤ seen_by ks')

@@ -10,7 +10,7 @@ ghost use Rattle.ll_journal.specs.declared.direct.Made.{Made};
 ghost use Rattle.ll_client.specs.Closed.{IsClosed};
 ghost use Rattle.ll_client.specs.Coming.{HasNoPlace};
 ghost use Rattle.ll_client.specs.Entries.{knows, numbered};
-ghost use Rattle.ll_calls.specs.Typed.{brings_client};
+ghost use Rattle.ll_client.specs.Replies.{success};
 ghost use Rattle.ll_talk.specs.Between.{Leads};
 ghost use Rattle.ll_talk.specs.Session.{Session, Connects, joined};
 ghost use Rattle.ll_talk.specs.Talk.{Asks, AsksFor, IsMet, Looks, reply_of, seen_by};
@@ -182,7 +182,8 @@ impl<N: Shape> Party<N> {
         call: Call,
     ) -> Reply
         requires place { place < length self.old }
-        requires call { brings_client call ≡ false }
+        requires call { is_connect call ≡ false }
+        requires childless { success call (replies.Spawned 0) ≡ false }
         ensures { (it : Made) × Asks N.limit self.old place call it self.new × (result ≡ reply_of it) }
     {
         self.meet(rt, tree, place);

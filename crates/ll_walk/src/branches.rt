@@ -33,7 +33,7 @@ impl<N: Shape, G: Gate<N>> Table<N, G> {
         let section = self.section(rt);
         let (progress, view, above) = match branch {
             None => {
-                let (progress, view) = section.descend(&self.tie, me, common, &mut to);
+                let (progress, view) = section.descend_from_fork(&self.tie, me, common, &mut to);
                 (progress, view, None)
             }
             Some(mut from) => {

@@ -17,7 +17,7 @@ use ll_journal::{Next, Progress, Station};
 use ll_tie::Tie;
 use std::sync::MutexGuard;
 
-/// What is seen of a walk: where it is, and which step comes next.
+/// What is seen of a walk past its fork: where it is, and which step comes next.
 #[derive(Drop)]
 pub struct View {
     pub station: Station,
@@ -31,6 +31,41 @@ pub struct Section<'a, N: Shape> {
 
 /// A look at what comes next, from this slot.
 #[tactic(auto, using(crate::proofs::Looks::are_there))]
+fn next_at<N: Shape>(
+    desk: &mut Desk<N>,
+    tie: &Tie<N, Account>,
+    me: &Rider<N>,
+    here: &mut Locked<N>,
+) -> Next
+    ensures desk { desk.new ≡ desk.old }
+    ensures here { here.new ≡ here.old }
+    ensures there { AreThere N.slots result }
+{
+    desk.by_law();
+    desk.next_step(tie, me, here)
+}
+
+/// After a descent above the fork: from where the walk now stands.
+fn next_after<N: Shape>(
+    desk: &mut Desk<N>,
+    tie: &Tie<N, Account>,
+    me: &Rider<N>,
+    progress: &Progress,
+    from: &mut Locked<N>,
+    to: &mut Locked<N>,
+) -> Next
+    ensures desk { desk.new ≡ desk.old }
+    ensures from { from.new ≡ from.old }
+    ensures to { to.new ≡ to.old }
+    ensures there { AreThere N.slots result }
+{
+    match progress {
+        Progress::Stands(_) => next_at(desk, tie, me, to),
+        _ => next_at(desk, tie, me, from),
+    }
+}
+
+/// A look at where the walk is too.
 fn view_at<N: Shape>(
     desk: &mut Desk<N>,
     tie: &Tie<N, Account>,
@@ -41,9 +76,8 @@ fn view_at<N: Shape>(
     ensures here { here.new ≡ here.old }
     ensures there { AreThere N.slots result.next }
 {
-    desk.by_law();
     let station = desk.station(me);
-    let next = desk.next_step(tie, me, here);
+    let next = next_at(desk, tie, me, here);
     View { station, next }
 }
 
@@ -112,22 +146,43 @@ impl<'a, N: Shape> Section<'a, N> {
         tie: &Tie<N, Account>,
         me: &mut Rider<N>,
         root: &mut Locked<N>,
-    ) -> (Progress, View)
+    ) -> (Progress, Next)
         ensures step { (w : Book) × Does (mutex_guard_value self.entry.desk) (Descend me.old.number) result.0 w
             × Shows (mutex_guard_value self.entry.desk) w (root.old ∷ []) (root.new ∷ []) }
         ensures stands { (inode : ℕ) → result.0 ≡ Progress.Stands inode
             → (root.new.held.inode ≡ inode) × (root.new.held.node.mark ≡ Some me.old.number) }
-        ensures there { AreThere N.slots result.1.next }
+        ensures there { AreThere N.slots result.1 }
         ensures mine { me.new ≡ me.old }
     {
         let Section { mut desk } = self;
         let progress = desk.enter(tie, me, root);
-        let view = view_at(&mut desk, tie, me, root);
-        (progress, view)
+        let next = next_at(&mut desk, tie, me, root);
+        (progress, next)
     }
 
-    /// A descent of the client's walk, and a look at what comes next.
+    /// A descent of the client's walk above its fork, and a look at what comes next.
     pub fn descend(
+        self,
+        tie: &Tie<N, Account>,
+        me: &mut Rider<N>,
+        from: &mut Locked<N>,
+        to: &mut Locked<N>,
+    ) -> (Progress, Next)
+        ensures step { (w : Book) × Does (mutex_guard_value self.entry.desk) (Descend me.old.number) result.0 w
+            × Shows (mutex_guard_value self.entry.desk) w (from.old ∷ to.old ∷ []) (from.new ∷ to.new ∷ []) }
+        ensures stands { (inode : ℕ) → result.0 ≡ Progress.Stands inode
+            → (to.new.held.inode ≡ inode) × (to.new.held.node.mark ≡ Some me.old.number) }
+        ensures there { AreThere N.slots result.1 }
+        ensures mine { me.new ≡ me.old }
+    {
+        let Section { mut desk } = self;
+        let progress = desk.descend(tie, me, from, to);
+        let next = next_after(&mut desk, tie, me, &progress, from, to);
+        (progress, next)
+    }
+
+    /// The same from the directory of the fork.
+    pub fn descend_from_fork(
         self,
         tie: &Tie<N, Account>,
         me: &mut Rider<N>,
@@ -147,7 +202,7 @@ impl<'a, N: Shape> Section<'a, N> {
         (progress, view)
     }
 
-    /// The same past the fork, where the directory of the fork is held too.
+    /// The same from below it, where the directory of the fork is held too.
     pub fn descend_below(
         self,
         tie: &Tie<N, Account>,
@@ -189,7 +244,8 @@ impl<'a, N: Shape> Section<'a, N> {
         (progress, view)
     }
 
-    /// A look at what comes next, from one of two slots where the walk's leg in turn stands.
+    /// A look at where the walk is past its fork, and what comes next, from one of two slots where its leg in turn
+    /// stands.
     pub fn view(
         self,
         tie: &Tie<N, Account>,
@@ -205,7 +261,16 @@ impl<'a, N: Shape> Section<'a, N> {
         view_from(&mut desk, tie, me, one, other)
     }
 
-    /// The same from one slot.
+    /// The same above the fork, from the slot where the walk stands.
+    pub fn next_here(self, tie: &Tie<N, Account>, me: &Rider<N>, here: &mut Locked<N>) -> Next
+        ensures here { here.new ≡ here.old }
+        ensures there { AreThere N.slots result }
+    {
+        let Section { mut desk } = self;
+        next_at(&mut desk, tie, me, here)
+    }
+
+    /// The same past the fork, from one slot.
     pub fn view_here(self, tie: &Tie<N, Account>, me: &Rider<N>, here: &mut Locked<N>) -> View
         ensures here { here.new ≡ here.old }
         ensures there { AreThere N.slots result.next }

@@ -7,7 +7,6 @@ ghost use Rattle.ll_walk.specs.Ends.{made_of};
 
 use crate::gate::Gate;
 use crate::held::{other_than, unless_held};
-use crate::section::View;
 use crate::table::Table;
 use ll_client::{Leaving, Left, Locked, Rider, Shape};
 use ll_journal::{Made, Next, Progress};
@@ -28,18 +27,18 @@ pub(crate) fn made_of(left: Left) -> Option<Made>
 
 impl<N: Shape, G: Gate<N>> Table<N, G> {
     /// The walk comes to the root, and holds it.
-    fn enter<R: Wait>(&self, rt: &R, me: &mut Rider<N>) -> (MutexGuard<'_, Locked<N>>, View)
-        ensures there { AreThere N.slots result.1.next }
+    fn enter<R: Wait>(&self, rt: &R, me: &mut Rider<N>) -> (MutexGuard<'_, Locked<N>>, Next)
+        ensures there { AreThere N.slots result.1 }
         ensures mine { me.new ≡ me.old }
     {
         let client = me.number();
         for _ in rt.forever() {
             let slot = self.section(rt).root_slot();
             let mut root = self.locked(rt, slot);
-            let (progress, view) = self.section(rt).enter(&self.tie, me, &mut root);
+            let (progress, next) = self.section(rt).enter(&self.tie, me, &mut root);
             if let Progress::Stands(inode) = progress {
                 self.gate.held(client, inode, &root);
-                return (root, view);
+                return (root, next);
             }
             drop(root);
             thread::yield_now();
@@ -54,24 +53,24 @@ impl<N: Shape, G: Gate<N>> Table<N, G> {
         me: &mut Rider<N>,
         mut here: MutexGuard<'a, Locked<N>>,
         next: u64,
-    ) -> (MutexGuard<'a, Locked<N>>, View)
+    ) -> (MutexGuard<'a, Locked<N>>, Next)
         requires { next < N.slots }
-        ensures there { AreThere N.slots result.1.next }
+        ensures there { AreThere N.slots result.1 }
         ensures mine { me.new ≡ me.old }
     {
         let client = me.number();
         let mut to = self.locked(rt, next);
-        let (progress, view) = self.section(rt).descend(&self.tie, me, &mut here, &mut to);
+        let (progress, then) = self.section(rt).descend(&self.tie, me, &mut here, &mut to);
         match progress {
             Progress::Stands(inode) => {
                 drop(here);
                 self.gate.held(client, inode, &to);
-                (to, view)
+                (to, then)
             }
             _ => {
                 drop(to);
                 thread::yield_now();
-                (here, view)
+                (here, then)
             }
         }
     }
@@ -104,17 +103,17 @@ impl<N: Shape, G: Gate<N>> Table<N, G> {
     pub(crate) fn start<R: Wait>(&self, rt: &R, me: &mut Rider<N>) -> Option<Made>
         ensures { Came N.limit me.old result me.new }
     {
-        let (mut here, mut view) = self.enter(rt, me);
+        let (mut here, mut next) = self.enter(rt, me);
         for _ in rt.forever() {
-            match view.next {
-                Next::Descend(next) => {
-                    (here, view) = self.further(rt, me, here, next);
+            match next {
+                Next::Descend(slot) => {
+                    (here, next) = self.further(rt, me, here, slot);
                     continue;
                 }
                 Next::Fork => {
-                    let (progress, then) = self.section(rt).fork(&self.tie, me, &mut here);
+                    let (progress, view) = self.section(rt).fork(&self.tie, me, &mut here);
                     if progress == Progress::Forked {
-                        return self.branches(rt, me, here, then);
+                        return self.branches(rt, me, here, view);
                     }
                 }
                 Next::Restart(_) => {
@@ -137,7 +136,7 @@ impl<N: Shape, G: Gate<N>> Table<N, G> {
             }
             let way = self.section(rt).slot_in_way_here(&self.tie, me, &mut here);
             self.wait_for(rt, unless_held(way, &[here.number()]));
-            view = self.section(rt).view_here(&self.tie, me, &mut here);
+            next = self.section(rt).next_here(&self.tie, me, &mut here);
         }
         unreachable!()
     }

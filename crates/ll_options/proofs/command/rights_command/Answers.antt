@@ -1,23 +1,33 @@
-use Rattle.std.proofs.Common.{◌∙◌, ap, ap₂, true}
-use Rattle.clap.specs.Words.{Rule, rule_of, with_rule}
+use Rattle.std.proofs.Common.{IfOk, List, ap, ap₂, codes, map, refl, subst, sym, ◌∙◌, ◌∷◌, ◌≡◌, fold}
+use Rattle.clap.specs.Words.{Rule, app_of, new_app, rule_of, with_rule}
 use Rattle.clap.specs.declared.builder.arg.Arg.{Arg}
-use Rattle.clap.specs.Simple.{app_of_fields}
+use Rattle.ll_options.proofs.Added.{AreLocal, must, several}
 use Rattle.ll_options.proofs.command.rights_command.Goals as goal
-
--- the same argument, where it must be there
-abbrev demanding : Rule → Rule
-demanding rule = record rule { required = true }
 
 pub returns-clause-app : goal.returns-clause-app
 returns-clause-app c =
-    let paths_added = c.in_ok-arg.ensures.shape c.paths_argument.ensures.local
-    ∙ ap₂ with_rule (ap app_of_fields c.about.ensures ∙ c.new.ensures.app) c.paths_argument.ensures.rule in
-    let policy_added = c.in_ok-arg-2.ensures.shape (ap (λ (a : Arg). a.global) c.required.ensures
-    ∙ c.policy_option.ensures.local)
-    ∙ ap₂ with_rule paths_added (ap rule_of c.required.ensures ∙ ap demanding c.policy_option.ensures.rule) in
-    let profile_added = c.in_ok-by_policy.ensures.shape (ap (λ (a : Arg). a.global) c.required-2.ensures
-    ∙ c.profile_option.ensures.local)
-    ∙ ap₂ with_rule policy_added (ap rule_of c.required-2.ensures ∙ ap demanding c.profile_option.ensures.rule) in
-    let nodes_added = c.in_ok-arg-3.ensures.shape c.nodes_option.ensures.local
-    ∙ ap₂ with_rule profile_added c.nodes_option.ensures.rule in
-    c.in_ok-rights.ensures.shape c.layers_option.ensures.local ∙ ap₂ with_rule nodes_added c.layers_option.ensures.rule
+    subst (λ (rules : List Rule). IfOk c.command_of.result
+    (λ command. app_of command ≡ fold with_rule (new_app (codes "rights")) rules))
+    (ap (map rule_of) c.in_ok-arguments.ensures.items
+    ∙ ap₂ ◌∷◌ (c.one_or_more.ensures.rule ∙ ap several (ap rule_of c.help-paths.ensures ∙ c.new.ensures.rule))
+    (ap₂ ◌∷◌ (ap rule_of c.required.ensures ∙ ap must c.policy_option.ensures.rule)
+    (ap₂ ◌∷◌ (ap rule_of c.required-2.ensures ∙ ap must c.profile_option.ensures.rule)
+    (ap₂ ◌∷◌ c.nodes_option.ensures.rule
+    (ap₂ ◌∷◌ c.flag.ensures.rule refl)))))
+    c.command_of.ensures.app
+
+pub command_of-requires : goal.command_of-requires
+command_of-requires c =
+    subst AreLocal (sym c.in_ok-arguments.ensures.items) (
+      c.one_or_more.ensures.local ∙ (ap (λ (a : Arg). a.global) c.help-paths.ensures ∙ c.new.ensures.optional.1),
+      (
+        ap (λ (a : Arg). a.global) c.required.ensures ∙ c.policy_option.ensures.local,
+        (
+          ap (λ (a : Arg). a.global) c.required-2.ensures ∙ c.profile_option.ensures.local,
+          (
+            c.nodes_option.ensures.local,
+            (c.flag.ensures.local, tt),
+          ),
+        ),
+      ),
+    )

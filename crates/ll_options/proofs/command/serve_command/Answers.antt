@@ -1,28 +1,56 @@
-use Rattle.std.proofs.Common.{◌∙◌, ap, ap₂}
-use Rattle.clap.specs.Words.{with_rule}
-use Rattle.clap.specs.Simple.{app_of_fields}
+use Rattle.std.proofs.Common.{IfOk, List, ap, ap₂, codes, map, refl, subst, sym, ◌∙◌, ◌∷◌, ◌≡◌, fold}
+use Rattle.clap.specs.Words.{Rule, app_of, new_app, rule_of, with_rule}
+use Rattle.ll_options.proofs.Added.{AreLocal}
 use Rattle.ll_options.proofs.command.serve_command.Goals as goal
 
 pub returns-clause-app : goal.returns-clause-app
 returns-clause-app c =
-    let port_added = c.in_ok-arg.ensures.shape c.port_option.ensures.local
-    ∙ ap₂ with_rule (ap app_of_fields c.about.ensures ∙ c.new.ensures.app) c.port_option.ensures.rule in
-    let workers_added = c.in_ok-arg-2.ensures.shape c.workers_option.ensures.local
-    ∙ ap₂ with_rule port_added c.workers_option.ensures.rule in
-    let connections_added = c.in_ok-arg-3.ensures.shape c.connections_option.ensures.local
-    ∙ ap₂ with_rule workers_added c.connections_option.ensures.rule in
-    let idle_added = c.in_ok-arg-4.ensures.shape c.idle_option.ensures.local
-    ∙ ap₂ with_rule connections_added c.idle_option.ensures.rule in
-    let log_added = c.in_ok-by_port.ensures.shape c.flag.ensures.local
-    ∙ ap₂ with_rule idle_added c.flag.ensures.rule in
-    let nodes_added = c.in_ok-arg-5.ensures.shape c.nodes_option.ensures.local
-    ∙ ap₂ with_rule log_added c.nodes_option.ensures.rule in
-    let abi_added = c.in_ok-by_level.ensures.shape c.abi_option.ensures.local
-    ∙ ap₂ with_rule nodes_added c.abi_option.ensures.rule in
-    let policy_added = c.in_ok-arg-6.ensures.shape c.policy_option.ensures.local
-    ∙ ap₂ with_rule abi_added c.policy_option.ensures.rule in
-    let profile_added = c.in_ok-by_policy.ensures.shape c.profile_option.ensures.local
-    ∙ ap₂ with_rule policy_added c.profile_option.ensures.rule in
-    let history_added = c.in_ok-arg-7.ensures.shape c.history_option.ensures.local
-    ∙ ap₂ with_rule profile_added c.history_option.ensures.rule in
-    c.in_ok-serve.ensures.shape c.save_option.ensures.local ∙ ap₂ with_rule history_added c.save_option.ensures.rule
+    subst (λ (rules : List Rule). IfOk c.command_of.result
+    (λ command. app_of command ≡ fold with_rule (new_app (codes "serve")) rules))
+    (ap (map rule_of) c.in_ok-arguments.ensures.items
+    ∙ ap₂ ◌∷◌ c.port_option.ensures.rule
+    (ap₂ ◌∷◌ c.workers_option.ensures.rule
+    (ap₂ ◌∷◌ c.connections_option.ensures.rule
+    (ap₂ ◌∷◌ c.idle_option.ensures.rule
+    (ap₂ ◌∷◌ c.flag.ensures.rule
+    (ap₂ ◌∷◌ c.nodes_option.ensures.rule
+    (ap₂ ◌∷◌ c.abi_option.ensures.rule
+    (ap₂ ◌∷◌ c.policy_option.ensures.rule
+    (ap₂ ◌∷◌ c.profile_option.ensures.rule
+    (ap₂ ◌∷◌ c.history_option.ensures.rule
+    (ap₂ ◌∷◌ c.save_option.ensures.rule refl)))))))))))
+    c.command_of.ensures.app
+
+pub command_of-requires : goal.command_of-requires
+command_of-requires c =
+    subst AreLocal (sym c.in_ok-arguments.ensures.items) (
+      c.port_option.ensures.local,
+      (
+        c.workers_option.ensures.local,
+        (
+          c.connections_option.ensures.local,
+          (
+            c.idle_option.ensures.local,
+            (
+              c.flag.ensures.local,
+              (
+                c.nodes_option.ensures.local,
+                (
+                  c.abi_option.ensures.local,
+                  (
+                    c.policy_option.ensures.local,
+                    (
+                      c.profile_option.ensures.local,
+                      (
+                        c.history_option.ensures.local,
+                        (c.save_option.ensures.local, tt),
+                      ),
+                    ),
+                  ),
+                ),
+              ),
+            ),
+          ),
+        ),
+      ),
+    )

@@ -8,10 +8,10 @@ pub loop-preserved : goal.loop-preserved
 loop-preserved g c = record {
   room = omega (arith, c.push_reserved.ensures.capacity, c.loop.invariant.room);
   most = omega (arith, c.push_reserved.ensures.len, c.loop.invariant.most);
-  served = subst (All (λ it. WasServed g.R.Read.remaining g.W.Write.contents g.N.Shape.limit
-      c.args.host.now.profile.now it.ended it.came.value it.went.value (map (λ c. c.rider) it.clients.items)))
+  served = subst (All (λ it. WasServed g.N.Shape.limit c.args.host.now.profile.now
+      g.R.Read.remaining g.W.Write.contents it.ended it.came.value it.went.value (map (λ c. c.rider) it.clients.items)))
       (sym c.push_reserved.ensures.items)
-      (All-push (λ it. WasServed g.R.Read.remaining g.W.Write.contents g.N.Shape.limit c.args.host.now.profile.now
+      (All-push (λ it. WasServed g.N.Shape.limit c.args.host.now.profile.now g.R.Read.remaining g.W.Write.contents
       it.ended it.came.value it.went.value (map (λ c. c.rider) it.clients.items)) c.loop.room.items
       c.serve_stream-served.result c.loop.invariant.served c.serve_stream-served.ensures.served);
 }
