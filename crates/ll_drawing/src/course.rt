@@ -2,10 +2,12 @@
 
 use ll_answer::{Targets, targets_of};
 use ll_journal::Station;
-use ll_path::{Names, Target};
+use ll_path::Target;
 use ll_picture::{Branch, Spot};
 use ll_seq::{Call, ROOT};
 use std::alloc::{AllocError, Global};
+use std::fmt;
+use std::fmt::Display;
 
 /// A directory in which a walk stands, and how many bars below its client's line the mark is.
 #[derive(Clone, Copy)]
@@ -14,22 +16,46 @@ struct Stand {
     bar: usize,
 }
 
-/// The way of a path: the names of the directories down to its parent, and its last name. Which name is the next, and
-/// where the walk stands on it, past the fork.
-#[derive(Drop)]
-struct Way {
-    names: Vec<String>,
-    last: Option<String>,
-    next: usize,
-    stand: Option<Stand>,
+/// The path that these names make.
+#[derive(Clone, Copy)]
+pub struct PathOf<'a> {
+    names: &'a [String],
+}
+
+impl<'a> PathOf<'a> {
+    pub fn root() -> PathOf<'a> {
+        PathOf { names: &[] }
+    }
+}
+
+impl Display for PathOf<'_> {
+    fn fmt<W: fmt::Write>(&self, f: &mut fmt::Formatter<W>) -> fmt::Result {
+        if self.names.is_empty() {
+            return f.write_str("/");
+        }
+        for name in self.names {
+            f.write_str("/")?;
+            f.write_str(name.as_str())?;
+        }
+        Ok(())
+    }
 }
 
 /// What comes next on a walk's way: a name in a directory, and its whole path.
-#[derive(Drop)]
+#[derive(Clone, Copy)]
 pub struct Ahead<'a> {
     pub directory: u64,
     pub name: &'a str,
-    pub path: String,
+    pub path: PathOf<'a>,
+}
+
+/// The way of a path: all its names, of which the last isn't gone down to. Which name is the next, and where the walk
+/// stands on it, past the fork.
+#[derive(Drop)]
+struct Way {
+    names: Vec<String>,
+    next: usize,
+    stand: Option<Stand>,
 }
 
 /// The names on the ways of a call's paths, and how far its walk has come.
@@ -38,7 +64,9 @@ pub struct Course {
     /// The call's words.
     pub call: String,
     first: Way,
-    second: Option<Way>,
+    // without a name where the call has one path
+    second: Way,
+    is_double: bool,
     // how many names both ways begin with
     shared: usize,
     trunk: Option<Stand>,
@@ -51,141 +79,184 @@ pub struct Course {
     pub mover: Option<usize>,
 }
 
-fn copies_of(alloc: Global, names: Names<'_>) -> Result<Vec<String>, AllocError> {
-    let mut copies = Vec::new(alloc);
-    for name in names {
-        copies.push(String::from_str(alloc, name)?)?;
-    }
-    Ok(copies)
+/// The paths of the directories in which a walk stands, one after the other.
+#[derive(Clone, Copy)]
+pub struct Places<'a> {
+    trunk: PathOf<'a>,
+    first: Option<PathOf<'a>>,
+    second: Option<PathOf<'a>>,
 }
 
-/// A path's text.
-fn path_of(alloc: Global, names: &[String]) -> Result<String, AllocError> {
-    if names.is_empty() {
-        return String::from_str(alloc, "/");
+// A place behind another one, if there is one.
+fn write_further<W: fmt::Write>(
+    f: &mut fmt::Formatter<W>,
+    place: Option<PathOf<'_>>,
+) -> fmt::Result {
+    match place {
+        Some(path) => write!(f, " and {path}"),
+        None => Ok(()),
     }
-    let mut path = String::new(alloc);
-    for name in names {
-        path.push_str("/")?;
-        path.push_str(name.as_str())?;
-    }
-    Ok(path)
 }
 
-// Up to the name of this number, which comes last.
-fn path_to(alloc: Global, names: &[String], number: usize) -> Result<String, AllocError> {
-    path_of(alloc, &names[..names.len().min(number.saturating_add(1))])
+impl Display for Places<'_> {
+    fn fmt<W: fmt::Write>(&self, f: &mut fmt::Formatter<W>) -> fmt::Result {
+        let trunk = self.trunk;
+        write!(f, "{trunk}")?;
+        write_further(f, self.first)?;
+        write_further(f, self.second)
+    }
 }
 
 fn shared_by(first: &[String], second: &[String]) -> usize {
-    first
-        .iter()
-        .zip(second.iter())
-        .take_while(|(name, other)| name.as_str() == other.as_str())
-        .count()
+    let mut shared = 0usize;
+    for (name, other) in first.iter().zip(second.iter()) {
+        if name.as_str() != other.as_str() {
+            return shared;
+        }
+        shared = shared.saturating_add(1);
+    }
+    shared
+}
+
+// Of a name and a path, where memory sufficed for both.
+fn spot_of(
+    name: Result<String, AllocError>,
+    path: Result<String, AllocError>,
+) -> Result<Spot, AllocError> {
+    Ok(Spot {
+        name: name?,
+        path: path?,
+    })
+}
+
+// The bar of a mark, if it is on the directory.
+fn bar_of(stand: Option<Stand>, inode: u64) -> Option<usize> {
+    match stand {
+        Some(stand) if stand.inode == inode => Some(stand.bar),
+        _ => None,
+    }
 }
 
 impl Way {
-    fn new(alloc: Global, target: &Target) -> Result<Way, AllocError> {
-        let (names, last) = match target {
-            Target::Good(path) => match path.split_last() {
-                Some((parent, last)) => (
-                    copies_of(alloc, parent)?,
-                    Some(String::from_str(alloc, last)?),
-                ),
-                None => (Vec::new(alloc), None),
-            },
-            Target::Bad(_) => (Vec::new(alloc), None),
-        };
-        Ok(Way {
-            names,
-            last,
-            next: 0,
-            stand: None,
-        })
-    }
-
     fn empty(alloc: Global) -> Way {
         Way {
             names: Vec::new(alloc),
-            last: None,
             next: 0,
             stand: None,
+        }
+    }
+
+    // The names of the path that a call's word spells. One that spells none has no names.
+    fn take_names(&mut self, alloc: Global, target: &Target) -> Result<(), AllocError> {
+        if let Target::Good(path) = target {
+            for name in path.names() {
+                self.names.push(String::from_str(alloc, name)?)?;
+            }
+        }
+        Ok(())
+    }
+
+    // The names of the directories down to the path's parent.
+    fn parents(&self) -> &[String] {
+        match self.names.as_slice().split_last() {
+            Some((_, parents)) => parents,
+            None => &[],
+        }
+    }
+
+    // So many directories down.
+    fn path_down(&self, depth: usize) -> PathOf<'_> {
+        let parents = self.parents();
+        PathOf {
+            names: &parents[..parents.len().min(depth)],
+        }
+    }
+
+    fn restart(&mut self) {
+        self.next = 0;
+        self.stand = None;
+    }
+
+    // The name of a directory on the way, or where it has none its inode's number.
+    fn name_of(&self, alloc: Global, number: usize, inode: u64) -> Result<String, AllocError> {
+        match self.parents().get(number) {
+            Some(name) => String::from_str(alloc, name.as_str()),
+            None => format!(in alloc; "{inode}"),
         }
     }
 
     // The walk goes down into the directory of the next name. Its name and path.
     fn descend(&mut self, alloc: Global, inode: u64) -> Result<Spot, AllocError> {
-        let next = self.next;
-        self.next = next.saturating_add(1);
-        let name = match self.names.get(next) {
-            Some(name) => name.clone()?,
-            None => inode.to_string(alloc)?,
-        };
-        let path = path_to(alloc, self.names.as_slice(), next)?;
-        Ok(Spot { name, path })
+        let name = self.name_of(alloc, self.next, inode);
+        self.next = self.next.saturating_add(1);
+        let path = self.path_down(self.next);
+        spot_of(name, format!(in alloc; "{path}"))
     }
 
     // The next name, in the directory where the walk stands.
-    fn ahead(&self, alloc: Global, directory: u64) -> Result<Option<Ahead<'_>>, AllocError> {
-        let Some(name) = self.names.get(self.next) else {
-            return Ok(None);
-        };
-        Ok(Some(Ahead {
+    fn ahead(&self, directory: u64) -> Option<Ahead<'_>> {
+        let name = self.parents().get(self.next)?;
+        Some(Ahead {
             directory,
             name: name.as_str(),
-            path: path_to(alloc, self.names.as_slice(), self.next)?,
-        }))
+            path: self.path_down(self.next.saturating_add(1)),
+        })
     }
 
     // The last name, in the directory at the way's end.
-    fn end(&self, alloc: Global, directory: u64) -> Result<Option<Ahead<'_>>, AllocError> {
-        let Some(name) = &self.last else {
-            return Ok(None);
-        };
-        let mut path = path_of(alloc, self.names.as_slice())?;
-        if !self.names.is_empty() {
-            path.push_str("/")?;
-        }
-        path.push_str(name.as_str())?;
-        Ok(Some(Ahead {
+    fn end(&self, directory: u64) -> Option<Ahead<'_>> {
+        let names = self.names.as_slice();
+        let name = names.last()?;
+        Some(Ahead {
             directory,
             name: name.as_str(),
-            path,
-        }))
+            path: PathOf { names },
+        })
     }
 }
 
 impl Course {
     /// The course of the call's walk when it begins. The call's words are told too.
     pub fn new(alloc: Global, call: &Call, words: &str) -> Result<Course, AllocError> {
-        let (first, second) = match targets_of(call) {
-            Targets::No => (Way::empty(alloc), None),
-            Targets::One(target) => (Way::new(alloc, target)?, None),
-            Targets::Two(old, new) => (Way::new(alloc, old)?, Some(Way::new(alloc, new)?)),
-        };
-        let shared = match &second {
-            Some(second) => shared_by(first.names.as_slice(), second.names.as_slice()),
-            None => 0,
-        };
-        let moves = moves(call);
-        Ok(Course {
-            call: String::from_str(alloc, words)?,
-            first,
-            second,
-            shared,
+        let mut course = Course::empty(alloc, moves(call));
+        course.take_names(alloc, call, words)?;
+        Ok(course)
+    }
+
+    fn empty(alloc: Global, moves: bool) -> Course {
+        Course {
+            call: String::new(alloc),
+            first: Way::empty(alloc),
+            second: Way::empty(alloc),
+            is_double: false,
+            shared: 0,
             trunk: None,
             bars: 0,
             starts: 1,
             moves,
             has_gate: moves,
             mover: None,
-        })
+        }
+    }
+
+    fn take_names(&mut self, alloc: Global, call: &Call, words: &str) -> Result<(), AllocError> {
+        self.call.push_str(words)?;
+        match targets_of(call) {
+            Targets::No => Ok(()),
+            Targets::One(target) => self.first.take_names(alloc, target),
+            Targets::Two(old, new) => {
+                self.first.take_names(alloc, old)?;
+                self.second.take_names(alloc, new)?;
+                self.is_double = true;
+                self.shared = shared_by(self.first.parents(), self.second.parents());
+                Ok(())
+            }
+        }
     }
 
     /// Whether the call has two paths.
     pub fn has_two_paths(&self) -> bool {
-        self.second.is_some()
+        self.is_double
     }
 
     /// Whether the walk takes the move gate as it enters the root.
@@ -195,12 +266,8 @@ impl Course {
 
     /// The walk is above the root again.
     pub fn restart(&mut self) {
-        self.first.next = 0;
-        self.first.stand = None;
-        if let Some(second) = &mut self.second {
-            second.next = 0;
-            second.stand = None;
-        }
+        self.first.restart();
+        self.second.restart();
         self.trunk = None;
         self.bars = 0;
         self.starts = self.starts.saturating_add(1);
@@ -209,19 +276,15 @@ impl Course {
 
     /// The walk leaves what is common to its paths.
     pub fn fork(&mut self) {
-        let shared = self.shared;
-        if let Some(second) = &mut self.second {
-            second.next = shared;
-        }
+        self.second.next = self.shared;
     }
 
     // Where the walk stands on the branch, from now on.
     fn put(&mut self, branch: Branch, stand: Stand) {
-        match (branch, &mut self.second) {
-            (Branch::Trunk, _) => self.trunk = Some(stand),
-            (Branch::First, _) => self.first.stand = Some(stand),
-            (Branch::Second, Some(second)) => second.stand = Some(stand),
-            (Branch::Second, None) => {}
+        match branch {
+            Branch::Trunk => self.trunk = Some(stand),
+            Branch::First => self.first.stand = Some(stand),
+            Branch::Second => self.second.stand = Some(stand),
         }
     }
 
@@ -248,84 +311,70 @@ impl Course {
         }
         let bar = self.bars;
         self.put(Course::branch_at(from), Stand { inode, bar });
-        match (from, &mut self.second) {
-            (Station::Above, _) => Ok(Spot {
-                name: String::from_str(alloc, "/")?,
-                path: String::from_str(alloc, "/")?,
-            }),
-            (Station::Second, Some(second)) => second.descend(alloc, inode),
+        match from {
+            Station::Above => spot_of(String::from_str(alloc, "/"), String::from_str(alloc, "/")),
+            Station::Second => self.second.descend(alloc, inode),
             _ => self.first.descend(alloc, inode),
         }
     }
 
     // The directory of a branch: past the fork that where it forked, until it goes down.
-    fn directory_of(&self, stand: Option<Stand>) -> u64 {
-        match stand.or(self.trunk) {
+    fn directory_of(&self, way: &Way) -> u64 {
+        match way.stand.or(self.trunk) {
             Some(stand) => stand.inode,
             None => ROOT,
         }
     }
 
     /// What comes next on the way of the walk, which is at this place.
-    pub fn ahead(&self, alloc: Global, at: Station) -> Result<Option<Ahead<'_>>, AllocError> {
-        match (at, &self.second) {
-            (Station::Second, Some(second)) => {
-                second.ahead(alloc, self.directory_of(second.stand))
-            }
-            _ => self.first.ahead(alloc, self.directory_of(self.first.stand)),
-        }
+    pub fn ahead(&self, at: Station) -> Option<Ahead<'_>> {
+        let way = match at {
+            Station::Second => &self.second,
+            _ => &self.first,
+        };
+        way.ahead(self.directory_of(way))
     }
 
-    /// The first path's last name, and the second's, of a walk that is at its end.
-    pub fn ends(&self, alloc: Global) -> Result<[Option<Ahead<'_>>; 2], AllocError> {
-        let first = self.first.end(alloc, self.directory_of(self.first.stand))?;
-        let second = match &self.second {
-            Some(second) => second.end(alloc, self.directory_of(second.stand))?,
-            None => None,
-        };
-        Ok([first, second])
+    /// The first path's last name, of a walk that is at its end.
+    pub fn first_end(&self) -> Option<Ahead<'_>> {
+        self.first.end(self.directory_of(&self.first))
     }
 
-    // Where its marks are.
-    fn stands(&self) -> [Option<Stand>; 3] {
-        let second = match &self.second {
-            Some(second) => second.stand,
-            None => None,
-        };
-        [self.trunk, self.first.stand, second]
+    /// The second path's last name, of a walk that is at its end.
+    pub fn second_end(&self) -> Option<Ahead<'_>> {
+        self.second.end(self.directory_of(&self.second))
     }
 
     /// The bar of the walk's mark on the directory, if it has marked it.
     pub fn bar_on(&self, inode: u64) -> Option<usize> {
-        self.stands()
-            .into_iter()
-            .flatten()
-            .find(|stand| stand.inode == inode)
-            .map(|stand| stand.bar)
+        bar_of(self.trunk, inode)
+            .or(bar_of(self.first.stand, inode))
+            .or(bar_of(self.second.stand, inode))
     }
 
-    /// The paths of the directories in which the walk stands, one after the other.
-    pub fn places(&self, alloc: Global) -> Result<String, AllocError> {
-        let is_forked = self.first.stand.is_some() || self.stands()[2].is_some();
-        let trunk = if is_forked {
+    // The path of the directory in which the walk stands on a branch.
+    fn place_on(way: &Way) -> Option<PathOf<'_>> {
+        match way.stand {
+            Some(_) => Some(way.path_down(way.next)),
+            None => None,
+        }
+    }
+
+    /// Where the walk stands.
+    pub fn places(&self) -> Places<'_> {
+        let first = Course::place_on(&self.first);
+        let second = Course::place_on(&self.second);
+        let is_forked = first.is_some() || second.is_some();
+        let depth = if is_forked {
             self.shared
         } else {
             self.first.next
         };
-        let names = self.first.names.as_slice();
-        let mut text = path_of(alloc, &names[..names.len().min(trunk)])?;
-        if self.first.stand.is_some() {
-            text.push_str(" and ")?;
-            text.push_str(path_of(alloc, &names[..names.len().min(self.first.next)])?.as_str())?;
+        Places {
+            trunk: self.first.path_down(depth),
+            first,
+            second,
         }
-        if let Some(second) = &self.second
-            && second.stand.is_some()
-        {
-            let names = second.names.as_slice();
-            text.push_str(" and ")?;
-            text.push_str(path_of(alloc, &names[..names.len().min(second.next)])?.as_str())?;
-        }
-        Ok(text)
     }
 }
 

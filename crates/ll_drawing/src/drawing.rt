@@ -33,15 +33,44 @@ fn replay_in(
     Ok(Replay::new(alloc, world, shadow))
 }
 
-// One column more, if it is drawn.
-fn keep(columns: &mut Vec<Column>, column: Column, is_drawn: bool) -> Result<(), AllocError>
+// Makes a line of the schedule. One column more, if it is drawn.
+fn draw_line(
+    replay: &mut Replay,
+    columns: &mut Vec<Column>,
+    line: &[u8],
+    is_drawn: bool,
+) -> Result<(), AllocError>
     ensures { OnOk result (length columns.new.items
         ≡ (if is_drawn then suc (length columns.old.items) else length columns.old.items)) }
 {
+    let column = replay.take_line(line)?;
     if is_drawn {
         columns.push(column)?;
+    } else {
+        drop(column);
     }
     Ok(())
+}
+
+// Makes the schedule's lines. The columns of those that are drawn.
+fn columns_of(
+    alloc: Global,
+    replay: &mut Replay,
+    window: Window,
+    schedule: &[u8],
+) -> Result<Vec<Column>, AllocError>
+    ensures { IfOk result (λ columns. length columns.items ≡ drawn_of window (length (pieces schedule.now))) }
+{
+    let mut columns = Vec::new(alloc);
+    let mut number = 0u64;
+    let mut rest = schedule;
+    while !rest.is_empty() {
+        let (line, more) = cut(rest);
+        number += 1;
+        draw_line(replay, &mut columns, line, window.has(number))?;
+        rest = more;
+    }
+    Ok(columns)
 }
 
 /// Makes a schedule in a new tree of so many nodes, with a history of so many entries at most. Gives the picture of the
@@ -64,19 +93,21 @@ pub fn draw(
         IsPicture (length (pieces schedule.now)) (string_bytes text)) }
 {
     let mut replay = replay_in(alloc, rules, nodes, history)?;
-    let mut columns = Vec::new(alloc);
-    let mut number = 0u64;
-    let mut rest = schedule;
-    while !rest.is_empty() {
-        let (line, more) = cut(rest);
-        number += 1;
-        let column = replay.take_line(line)?;
-        keep(&mut columns, column, window.has(number))?;
-        rest = more;
-    }
+    let columns = columns_of(alloc, &mut replay, window, schedule)?;
     let first = window.from.saturating_sub(1) as usize;
     let scene = replay.into_scene(first, columns)?;
     picture_of(alloc, &scene)
+}
+
+// Makes the schedule's lines. Why steps couldn't be made, and which walks are left.
+fn reasons_of(replay: &mut Replay, schedule: &[u8]) -> Result<String, AllocError> {
+    let mut rest = schedule;
+    while !rest.is_empty() {
+        let (line, more) = cut(rest);
+        drop(replay.take_line(line)?);
+        rest = more;
+    }
+    replay.reasons()
 }
 
 /// Makes a schedule in such a tree. Gives the reason why each step that isn't made can't be made then, a line each, and
@@ -94,11 +125,7 @@ pub fn explain(
     requires entries { history ≤ HISTORY_ENTRIES }
 {
     let mut replay = replay_in(alloc, rules, nodes, history)?;
-    let mut rest = schedule;
-    while !rest.is_empty() {
-        let (line, more) = cut(rest);
-        drop(replay.take_line(line)?);
-        rest = more;
-    }
-    replay.into_reasons()
+    let reasons = reasons_of(&mut replay, schedule);
+    drop(replay);
+    reasons
 }

@@ -14,6 +14,7 @@ use ll_steps::{Report, World};
 use ll_wire::{ScheduleLine, read_schedule_line};
 use ll_worlds::Step;
 use std::alloc::{AllocError, Global};
+use std::mem;
 
 /// More steps than a walk makes without another's: a path has 64 names at most.
 const MOST_STEPS: usize = 256;
@@ -70,13 +71,6 @@ fn call_in(line: &str) -> &str {
     }
 }
 
-fn course_of(alloc: Global, step: &Step, words: &str) -> Result<Option<Course>, AllocError> {
-    match step {
-        Step::Begin(_, call) => Ok(Some(Course::new(alloc, call, words)?)),
-        _ => Ok(None),
-    }
-}
-
 // The row of a client. Clients are numbered from 1.
 fn row_of(client: u64) -> usize {
     client.saturating_sub(1) as usize
@@ -85,6 +79,77 @@ fn row_of(client: u64) -> usize {
 // What is shown of a line.
 fn shown(alloc: Global, line: &[u8]) -> Result<String, AllocError> {
     String::from_utf8_lossy(alloc, line.strip_suffix(b"\n").unwrap_or(line))
+}
+
+// The column of a line, of what came of it and of its client's row.
+fn column_of(
+    line: String,
+    made: Result<(String, Option<usize>), AllocError>,
+) -> Result<Column, AllocError> {
+    let (outcome, row) = made?;
+    Ok(Column { line, outcome, row })
+}
+
+// A text with one more at its end.
+fn add(text: &mut String, part: Result<String, AllocError>) -> Result<(), AllocError> {
+    let part = part?;
+    let added = text.push_str(part.as_str());
+    drop(part);
+    added
+}
+
+// That the client's walk, which is at this place, is still under way.
+fn walk_left(
+    alloc: Global,
+    client: u64,
+    at: Station,
+    course: &Course,
+) -> Result<String, AllocError> {
+    let call = course.call.as_str();
+    let gate = if course.has_gate {
+        ", and holds the move gate"
+    } else {
+        ""
+    };
+    let stale = if at == Station::Stale { ", stale" } else { "" };
+    let places = course.places();
+    match at {
+        Station::Above => {
+            format!(in alloc;
+                "at the end client {client}'s `{call}` is under way, above the root{gate}\n"
+            )
+        }
+        _ => {
+            format!(in alloc;
+                "at the end client {client}'s `{call}` is under way, in {places}{stale}{gate}\n"
+            )
+        }
+    }
+}
+
+// The rows of seats that aren't needed any more.
+fn rows_of(alloc: Global, seats: &mut [Seat]) -> Result<Vec<Row>, AllocError> {
+    let mut rows = Vec::with_capacity(alloc, seats.len())?;
+    for seat in seats {
+        let moments = mem::replace(&mut seat.moments, Vec::new(alloc));
+        rows.push(Row { moments })?;
+    }
+    Ok(rows)
+}
+
+fn scene_of(
+    first: usize,
+    columns: Vec<Column>,
+    rows: Result<Vec<Row>, AllocError>,
+) -> Result<Scene, AllocError>
+    ensures { IfOk result (λ scene. scene.columns ≡ columns) }
+{
+    let rows = rows?;
+    Ok(Scene {
+        first,
+        columns,
+        rows,
+    })
 }
 
 impl Replay {
@@ -103,7 +168,10 @@ impl Replay {
     fn begin(&mut self, client: u64, course: Course) -> Result<(), AllocError> {
         match self.seats.get_mut(row_of(client)) {
             Some(seat) => seat.begin(self.line, course),
-            None => Ok(()),
+            None => {
+                drop(course);
+                Ok(())
+            }
         }
     }
 
@@ -121,25 +189,33 @@ impl Replay {
     // Why the client, whose walk is at this place, can't do so now.
     fn wait_of(&self, client: u64, at: Station, trial: Trial) -> Result<Wait, AllocError> {
         let scenery = Scenery {
-            alloc: self.alloc,
             seats: self.seats.as_slice(),
             shadow: &self.shadow,
         };
         scenery
-            .cause_of(row_of(client), at, trial)?
+            .cause_of(row_of(client), at, trial)
             .told(self.alloc, client)
+    }
+
+    // The client waits so.
+    fn seat_wait(&mut self, client: u64, wait: Wait) -> Result<(), AllocError> {
+        match self.seats.get_mut(row_of(client)) {
+            Some(seat) => seat.wait(self.line, wait),
+            None => {
+                drop(wait);
+                Ok(())
+            }
+        }
     }
 
     // The client, whose walk is at this place, can't do so now.
     fn wait(&mut self, client: u64, at: Station, trial: Trial) -> Result<(), AllocError> {
         let wait = self.wait_of(client, at, trial)?;
         let number = self.line.saturating_add(1);
-        let told = format!(in self.alloc; "line {number}: {}\n", wait.reason.as_str())?;
-        self.told.push_str(told.as_str())?;
-        match self.seats.get_mut(row_of(client)) {
-            Some(seat) => seat.wait(self.line, wait),
-            None => Ok(()),
-        }
+        let line = format!(in self.alloc; "line {number}: {}\n", wait.reason.as_str());
+        let seated = self.seat_wait(client, wait);
+        add(&mut self.told, line)?;
+        seated
     }
 
     // What came of a step, or why it couldn't be made, but for one that began a walk.
@@ -157,30 +233,51 @@ impl Replay {
         }
     }
 
-    // The same of any step, with the course of the walk that it was to begin, if it is one to begin it.
-    fn tell_step(
+    // The same of a step that was to begin a walk, with the walk's course.
+    fn tell_begin(
         &mut self,
         client: u64,
         from: Station,
         outcome: Report,
-        course: Option<Course>,
+        course: Course,
         trial: Trial,
     ) -> Result<(), AllocError> {
-        match course {
-            Some(course) if outcome == Report::Begun => self.begin(client, course),
-            _ => self.tell_or_wait(client, from, outcome, trial),
+        if outcome == Report::Begun {
+            self.begin(client, course)
+        } else {
+            drop(course);
+            self.tell_or_wait(client, from, outcome, trial)
         }
     }
 
-    // Makes a step, whose client's row stands in the scene already if there is one.
-    fn take_step(&mut self, step: Step, words: &str) -> Result<(u64, Report), AllocError> {
+    // Makes the step that begins a call's walk.
+    fn begin_walk(&mut self, client: u64, call: Call, words: &str) -> Result<Report, AllocError> {
+        let trial = Trial::Begin(manner_of(&self.shadow, client, &call), moves(&call));
+        let course = Course::new(self.alloc, &call, words);
+        let from = self.world.station(client);
+        let outcome = self.world.step(Step::Begin(client, call));
+        self.tell_begin(client, from, outcome, course?, trial)?;
+        Ok(outcome)
+    }
+
+    // Makes another step, whose client's row stands in the scene already if there is one.
+    fn take_other(&mut self, step: Step) -> Result<(u64, Report), AllocError> {
         let client = client_of(&step, self.world.clients().saturating_add(1));
         let trial = trial_of(&self.shadow, &step);
-        let course = course_of(self.alloc, &step, words);
         let from = self.world.station(client);
         let outcome = self.world.step(step);
-        self.tell_step(client, from, outcome, course?, trial)?;
+        self.tell_or_wait(client, from, outcome, trial)?;
         Ok((client, outcome))
+    }
+
+    fn take_step(&mut self, step: Step, words: &str) -> Result<(u64, Report), AllocError> {
+        match step {
+            Step::Begin(client, call) => {
+                let outcome = self.begin_walk(client, call, words)?;
+                Ok((client, outcome))
+            }
+            _ => self.take_other(step),
+        }
     }
 
     // Makes the first step of the client's walk that may be made: its commit, a fork, a descent, or that it restarts.
@@ -225,34 +322,19 @@ impl Replay {
         Ok(Report::NotNow)
     }
 
-    // Makes all steps of a call that walks, of a client without a walk.
-    fn walk(&mut self, client: u64, call: Call, words: &str) -> Result<Report, AllocError> {
-        let trial = Trial::Begin(manner_of(&self.shadow, client, &call), moves(&call));
-        let course = Course::new(self.alloc, &call, words)?;
-        if self.world.step(Step::Begin(client, call)) != Report::Begun {
-            self.wait(client, Station::Idle, trial)?;
-            return Ok(Report::NotNow);
-        }
-        self.begin(client, course)?;
-        self.lead(client)
-    }
-
     // Makes all steps of a call.
-    fn take_call(
-        &mut self,
-        client: u64,
-        call: Call,
-        words: &str,
-    ) -> Result<(u64, Report), AllocError> {
+    fn take_call(&mut self, client: u64, call: Call, words: &str) -> Result<Report, AllocError> {
         let from = self.world.station(client);
         let manner = manner_of(&self.shadow, client, &call);
-        if from == Station::Idle && manner == Manner::Begin {
-            let outcome = self.walk(client, call, words)?;
-            return Ok((client, outcome));
+        if from == Station::Idle && matches!(manner, Manner::Begin) {
+            return match self.begin_walk(client, call, words)? {
+                Report::Begun => self.lead(client),
+                outcome => Ok(outcome),
+            };
         }
         let outcome = self.world.make(client, call);
         self.tell_or_wait(client, from, outcome, Trial::Make(manner))?;
-        Ok((client, outcome))
+        Ok(outcome)
     }
 
     // Looks at each walk, whether the line's step overtook it.
@@ -269,101 +351,81 @@ impl Replay {
     // A row for each client that came.
     fn seat_all(&mut self) -> Result<(), AllocError> {
         for _ in self.seats.len() as u64..self.world.clients() {
-            let mut seat = Seat::new(self.alloc);
-            seat.come(self.line)?;
-            self.seats.push(seat)?;
+            self.seats.push(Seat::new(self.alloc))?;
+            if let Some(seat) = self.seats.last_mut() {
+                seat.come(self.line)?;
+            }
         }
         Ok(())
     }
 
-    // The column of a line, after which the next one comes.
-    fn column_of(&mut self, line: String, outcome: String, row: Option<usize>) -> Column {
-        self.line = self.line.saturating_add(1);
-        Column { line, outcome, row }
+    // Makes what is asked for. Its outcome in words, and the row of its client.
+    fn take_asked(
+        &mut self,
+        asked: ScheduleLine,
+        words: &str,
+    ) -> Result<(String, Option<usize>), AllocError> {
+        let (client, outcome) = match asked {
+            ScheduleLine::Step(step) => self.take_step(step, words)?,
+            ScheduleLine::Do(client, call) => (client, self.take_call(client, call, words)?),
+        };
+        let row = row_of(client);
+        self.see_walks(row)?;
+        self.seat_all()?;
+        self.shadow.follow(self.world.history().entries())?;
+        let told = outcome_words(self.alloc, &self.world, outcome)?;
+        Ok((told, Some(row)))
+    }
+
+    // The same of a line, and of one that asks for nothing its refusal.
+    fn make_line(
+        &mut self,
+        line: &[u8],
+        words: &str,
+    ) -> Result<(String, Option<usize>), AllocError> {
+        match read_schedule_line(self.alloc, line, self.world.clients()) {
+            Ok(asked) => self.take_asked(asked, words),
+            Err(errno) => {
+                let told = refusal_words(self.alloc, errno)?;
+                Ok((told, None))
+            }
+        }
     }
 
     /// Makes what a line of the schedule asks for. The line's column.
     pub fn take_line(&mut self, line: &[u8]) -> Result<Column, AllocError> {
         let text = shown(self.alloc, line)?;
-        let words = call_in(text.as_str());
-        let (client, outcome) = match read_schedule_line(self.alloc, line, self.world.clients()) {
-            Ok(ScheduleLine::Step(step)) => self.take_step(step, words)?,
-            Ok(ScheduleLine::Do(client, call)) => self.take_call(client, call, words)?,
-            Err(errno) => {
-                let words = refusal_words(self.alloc, errno)?;
-                return Ok(self.column_of(text, words, None));
-            }
-        };
-        self.see_walks(row_of(client))?;
-        self.seat_all()?;
-        self.shadow.follow(self.world.history().entries())?;
-        let words = outcome_words(self.alloc, &self.world, outcome)?;
-        Ok(self.column_of(text, words, Some(row_of(client))))
+        let made = self.make_line(line, call_in(text.as_str()));
+        self.line = self.line.saturating_add(1);
+        column_of(text, made)
     }
 
-    // Which walk of the client is still under way, and where it is.
-    fn walk_left(&self, client: u64, course: &Course) -> Result<String, AllocError> {
-        let call = course.call.as_str();
-        let gate = if course.has_gate {
-            ", and holds the move gate"
-        } else {
-            ""
-        };
-        match self.world.station(client) {
-            Station::Above => {
-                format!(in self.alloc;
-                    "at the end client {client}'s `{call}` is under way, above the root{gate}\n"
-                )
-            }
-            at => {
-                let stale = if at == Station::Stale { ", stale" } else { "" };
-                let places = course.places(self.alloc)?;
-                format!(in self.alloc;
-                    "at the end client {client}'s `{call}` is under way, in {places}{stale}{gate}\n"
-                )
-            }
-        }
-    }
-
-    /// Why steps couldn't be made, a line each, and then which walks are still under way.
-    pub fn into_reasons(self) -> Result<String, AllocError> {
-        let mut told = String::from_str(self.alloc, self.told.as_str())?;
+    // Which walks are still under way, a line each.
+    fn tell_walks_left(&mut self) -> Result<(), AllocError> {
         let mut client = 0u64;
         for seat in self.seats.iter() {
             client = client.saturating_add(1);
             if let Some(course) = &seat.course {
-                told.push_str(self.walk_left(client, course)?.as_str())?;
+                let at = self.world.station(client);
+                add(&mut self.told, walk_left(self.alloc, client, at, course))?;
             }
         }
-        Ok(told)
+        Ok(())
+    }
+
+    /// Why steps couldn't be made, a line each, and then which walks are still under way.
+    pub fn reasons(&mut self) -> Result<String, AllocError> {
+        self.tell_walks_left()?;
+        Ok(mem::replace(&mut self.told, String::new(self.alloc)))
     }
 
     /// What the picture of these columns shows, of which the first is that of the line of this number, from 0.
     pub fn into_scene(self, first: usize, columns: Vec<Column>) -> Result<Scene, AllocError>
         ensures { IfOk result (λ scene. scene.columns ≡ columns) }
     {
-        let Replay {
-            alloc,
-            world,
-            shadow,
-            seats,
-            told,
-            ..
-        } = self;
-        drop(world);
-        drop(shadow);
-        drop(told);
-        let mut rows = Vec::with_capacity(alloc, seats.len())?;
-        for seat in seats {
-            drop(seat.course);
-            rows.push(Row {
-                moments: seat.moments,
-            })?;
-        }
-        Ok(Scene {
-            first,
-            columns,
-            rows,
-        })
+        let mut replay = self;
+        let rows = rows_of(replay.alloc, replay.seats.as_mut_slice());
+        drop(replay);
+        scene_of(first, columns, rows)
     }
 }

@@ -55,6 +55,33 @@ impl Seat {
         }
     }
 
+    // Whether the walk takes the move gate as it goes on from this place. It holds it then.
+    fn takes_gate(&mut self, from: Station) -> bool {
+        match &mut self.course {
+            Some(course) if from == Station::Above && course.enters_by_gate() => {
+                course.has_gate = true;
+                true
+            }
+            _ => false,
+        }
+    }
+
+    // What is told of the directory into which the walk goes down, if one is under way.
+    fn descend(
+        &mut self,
+        alloc: Global,
+        line: usize,
+        from: Station,
+        inode: u64,
+        is_again: bool,
+    ) -> Result<(), AllocError> {
+        let Some(course) = &mut self.course else {
+            return Ok(());
+        };
+        let spot = course.descend(alloc, from, inode, !is_again)?;
+        self.note(line, Event::Stands(Course::branch_at(from), spot))
+    }
+
     fn stand(
         &mut self,
         alloc: Global,
@@ -62,23 +89,18 @@ impl Seat {
         from: Station,
         inode: u64,
     ) -> Result<(), AllocError> {
-        let branch = Course::branch_at(from);
-        let is_again = self.stands_already(line, branch);
-        let Some(course) = &mut self.course else {
+        if self.course.is_none() {
             return Ok(());
-        };
-        let takes_gate = from == Station::Above && course.enters_by_gate();
-        if takes_gate {
-            course.has_gate = true;
         }
-        let spot = course.descend(alloc, from, inode, !is_again)?;
+        let is_again = self.stands_already(line, Course::branch_at(from));
         if is_again {
-            drop(self.moments.pop());
+            let before = self.moments.len().saturating_sub(1);
+            self.moments.truncate(before);
         }
-        if takes_gate {
+        if self.takes_gate(from) {
             self.note(line, Event::GateTaken)?;
         }
-        self.note(line, Event::Stands(branch, spot))
+        self.descend(alloc, line, from, inode, is_again)
     }
 
     fn fork(&mut self, line: usize) -> Result<(), AllocError> {
@@ -128,14 +150,22 @@ impl Seat {
         )
     }
 
+    // How much happened to the client before this line.
+    fn count_before(&self, line: usize) -> usize {
+        let mut count = 0usize;
+        for moment in self.moments.iter() {
+            if moment.line == line {
+                return count;
+            }
+            count = count.saturating_add(1);
+        }
+        count
+    }
+
     /// A call of the client is answered, all steps of which the line has made: its walk isn't told.
     pub fn make(&mut self, line: usize, ending: Ending) -> Result<(), AllocError> {
         self.course = None;
-        let before = self
-            .moments
-            .iter()
-            .take_while(|moment| moment.line != line)
-            .count();
+        let before = self.count_before(line);
         self.moments.truncate(before);
         self.note(line, Event::Made(ending))
     }

@@ -35,6 +35,14 @@ fn reply_in(world: &World, number: u64) -> Option<&Reply> {
     }
 }
 
+// What is told of a call that is answered in these words.
+fn replied(alloc: Global, words: Result<String, AllocError>) -> Result<String, AllocError> {
+    let words = words?;
+    let told = format!(in alloc; "reply {words}");
+    drop(words);
+    told
+}
+
 /// What an outcome's line says.
 pub fn outcome_words(alloc: Global, world: &World, outcome: Report) -> Result<String, AllocError> {
     match outcome {
@@ -45,16 +53,10 @@ pub fn outcome_words(alloc: Global, world: &World, outcome: Report) -> Result<St
         Report::Restarted => String::from_str(alloc, "restarted"),
         Report::Joined(client) => format!(in alloc; "client {client}"),
         Report::Replied(number) => match reply_in(world, number) {
-            Some(reply) => {
-                let words = reply_words(alloc, reply)?;
-                format!(in alloc; "reply {words}")
-            }
+            Some(reply) => replied(alloc, reply_words(alloc, reply)),
             None => String::from_str(alloc, "reply"),
         },
-        Report::Refused(errno) => {
-            let words = refusal_words(alloc, errno)?;
-            format!(in alloc; "reply {words}")
-        }
+        Report::Refused(errno) => replied(alloc, refusal_words(alloc, errno)),
     }
 }
 

@@ -1,26 +1,27 @@
 //! Why a step can't be made now.
 
+use crate::course::PathOf;
 use ll_picture::{Obstacle, Wait};
 use std::alloc::{AllocError, Global};
 use std::fmt;
 use std::fmt::Display;
 
 /// What a client tries.
-#[derive(Drop)]
-pub enum Tried {
+#[derive(Clone, Copy)]
+pub enum Tried<'a> {
     /// To begin a call.
     Begin,
     /// To make a call at once, by a step.
     Make,
     Descend,
     /// To go down to the directory of this path.
-    DescendTo(String),
+    DescendTo(PathOf<'a>),
     Fork,
     Commit,
     Restart,
 }
 
-impl Display for Tried {
+impl Display for Tried<'_> {
     fn fmt<W: fmt::Write>(&self, f: &mut fmt::Formatter<W>) -> fmt::Result {
         match self {
             Tried::Begin => f.write_str("begin the call"),
@@ -35,8 +36,8 @@ impl Display for Tried {
 }
 
 /// What of a step isn't met. Clients are told by their numbers.
-#[derive(Drop)]
-pub enum Unmet {
+#[derive(Clone, Copy)]
+pub enum Unmet<'a> {
     /// The client has a walk under way.
     UnderWay,
     /// It has none.
@@ -50,14 +51,14 @@ pub enum Unmet {
     /// The walk of this client stands in the directory.
     Marked(u64),
     /// The walk of this client stands in the directory of this path, which the call names last.
-    LastMarked(u64, String),
+    LastMarked(u64, PathOf<'a>),
     /// This client moved a directory on the walk's way.
     Stale(Option<u64>),
     NotStale,
     /// There is no directory of this path.
-    NoDirectory(String),
+    NoDirectory(PathOf<'a>),
     /// The walk has to go down before, to the directory of this path.
-    NamesAhead(String),
+    NamesAhead(PathOf<'a>),
     /// The walk is at the fork.
     AtFork,
     /// The walk is past the fork.
@@ -70,7 +71,7 @@ pub enum Unmet {
     Unknown,
 }
 
-impl Unmet {
+impl<'a> Unmet<'a> {
     // The client that it tells first.
     fn client(&self) -> Option<u64> {
         match self {
@@ -82,11 +83,11 @@ impl Unmet {
     }
 
     // The path that it tells.
-    fn path(&self) -> &str {
+    fn path(&self) -> Option<PathOf<'a>> {
         match self {
-            Unmet::LastMarked(_, path) | Unmet::NoDirectory(path) => path.as_str(),
-            Unmet::NamesAhead(path) => path.as_str(),
-            _ => "",
+            Unmet::LastMarked(_, path) => Some(*path),
+            Unmet::NoDirectory(path) | Unmet::NamesAhead(path) => Some(*path),
+            _ => None,
         }
     }
 
@@ -120,29 +121,31 @@ impl Unmet {
     }
 }
 
-impl Display for Unmet {
+impl Display for Unmet<'_> {
     fn fmt<W: fmt::Write>(&self, f: &mut fmt::Formatter<W>) -> fmt::Result {
         if let Some(client) = self.client() {
             write!(f, "client {client}")?;
         }
         let (front, back) = self.words();
         f.write_str(front)?;
-        f.write_str(self.path())?;
+        if let Some(path) = self.path() {
+            write!(f, "{path}")?;
+        }
         f.write_str(back)
     }
 }
 
 /// What a client tries, what of that isn't met, and what is in the way.
-#[derive(Drop)]
-pub struct Cause {
-    pub tried: Tried,
-    pub unmet: Unmet,
+#[derive(Clone, Copy)]
+pub struct Cause<'a> {
+    pub tried: Tried<'a>,
+    pub unmet: Unmet<'a>,
     pub obstacle: Option<Obstacle>,
 }
 
-impl Cause {
+impl<'a> Cause<'a> {
     /// Of what nobody else stands in the way.
-    pub fn alone(tried: Tried, unmet: Unmet) -> Cause {
+    pub fn alone(tried: Tried<'a>, unmet: Unmet<'a>) -> Cause<'a> {
         Cause {
             tried,
             unmet,
@@ -151,11 +154,13 @@ impl Cause {
     }
 
     /// What is told of it, of this client.
-    pub fn told(&self, alloc: Global, client: u64) -> Result<Wait, AllocError> {
-        let Cause { tried, unmet, .. } = self;
-        Ok(Wait {
-            reason: format!(in alloc; "client {client} can't {tried}: {unmet}")?,
-            obstacle: self.obstacle,
-        })
+    pub fn told(self, alloc: Global, client: u64) -> Result<Wait, AllocError> {
+        let Cause {
+            tried,
+            unmet,
+            obstacle,
+        } = self;
+        let reason = format!(in alloc; "client {client} can't {tried}: {unmet}")?;
+        Ok(Wait { reason, obstacle })
     }
 }

@@ -1,18 +1,17 @@
 //! Which clause of a step isn't met, and whose walk is in the way.
 
-use crate::course::{Ahead, Course};
+use crate::course::{Ahead, Course, PathOf};
 use crate::seat::Seat;
 use crate::shadow::Shadow;
 use crate::unmet::{Cause, Tried, Unmet};
 use ll_answer::{Targets, refused_early, targets_of};
 use ll_journal::Station;
 use ll_picture::Obstacle;
-use ll_seq::{Call, ROOT};
+use ll_seq::{Call, ClientRecord, ROOT};
 use ll_worlds::Step;
-use std::alloc::{AllocError, Global};
 
 /// By which step a call is made.
-#[derive(Clone, Copy, Debug, PartialEq, Eq)]
+#[derive(Clone, Copy)]
 pub enum Manner {
     /// It walks.
     Begin,
@@ -35,7 +34,7 @@ impl Manner {
 }
 
 /// Which step it is, and of a call how it is made, and whether it takes the move gate.
-#[derive(Clone, Copy, Debug, PartialEq, Eq)]
+#[derive(Clone, Copy)]
 pub enum Trial {
     Begin(Manner, bool),
     Make(Manner),
@@ -46,9 +45,8 @@ pub enum Trial {
 }
 
 /// All that is under way, and the tree.
-#[derive(Drop)]
+#[derive(Clone, Copy)]
 pub struct Scenery<'a> {
-    pub alloc: Global,
     pub seats: &'a [Seat],
     pub shadow: &'a Shadow,
 }
@@ -63,17 +61,21 @@ fn descriptor_of(call: &Call) -> Option<u64> {
     }
 }
 
+// Whether the call is made on a descriptor that the client has.
+fn is_on_descriptor(record: &ClientRecord, call: &Call) -> bool {
+    match descriptor_of(call) {
+        Some(number) => record.descriptors.get(number).is_some(),
+        None => false,
+    }
+}
+
 /// By which step the client's call is made.
 pub fn manner_of(shadow: &Shadow, client: u64, call: &Call) -> Manner {
     let Some(record) = shadow.client(client) else {
         return Manner::Step;
     };
-    let has_descriptor = descriptor_of(call).is_some_and(|number| record
-        .descriptors
-        .get(number)
-        .is_some());
     match targets_of(call) {
-        _ if has_descriptor => Manner::Fd,
+        _ if is_on_descriptor(record, call) => Manner::Fd,
         Targets::No => Manner::Step,
         _ if refused_early(record, call).is_some() => Manner::Step,
         _ => Manner::Begin,
@@ -86,7 +88,7 @@ fn number_of(row: usize) -> u64 {
 }
 
 // Of a call that isn't on its way by itself: its client's walk is at this place.
-fn of_call(at: Station, manner: Manner) -> Cause {
+fn of_call(at: Station, manner: Manner) -> Cause<'static> {
     let unmet = if at == Station::Idle {
         Unmet::OtherStep(manner.rule())
     } else {
@@ -96,7 +98,7 @@ fn of_call(at: Station, manner: Manner) -> Cause {
 }
 
 // What a step of a walk tries.
-fn tried_by(trial: Trial) -> Tried {
+fn tried_by(trial: Trial) -> Tried<'static> {
     match trial {
         Trial::Fork => Tried::Fork,
         Trial::Commit => Tried::Commit,
@@ -105,7 +107,16 @@ fn tried_by(trial: Trial) -> Tried {
     }
 }
 
-impl Scenery<'_> {
+// Of a walk that is stale.
+fn of_stale(trial: Trial, course: &Course) -> Cause<'static> {
+    let mover = match course.mover {
+        Some(row) => Some(number_of(row)),
+        None => None,
+    };
+    Cause::alone(tried_by(trial), Unmet::Stale(mover))
+}
+
+impl<'a> Scenery<'a> {
     // Whose walk but that of this row stands in the directory.
     fn marker_of(&self, row: usize, inode: u64) -> Option<Obstacle> {
         for (other, seat) in self.seats.iter().enumerate() {
@@ -134,11 +145,11 @@ impl Scenery<'_> {
         None
     }
 
-    fn of_begin(&self, at: Station, manner: Manner, moves: bool) -> Cause {
+    fn of_begin(&self, at: Station, manner: Manner, moves: bool) -> Cause<'a> {
         if at != Station::Idle {
             return Cause::alone(Tried::Begin, Unmet::UnderWay);
         }
-        if manner != Manner::Begin {
+        if !matches!(manner, Manner::Begin) {
             return Cause::alone(Tried::Begin, Unmet::OtherStep(manner.rule()));
         }
         match self.gate_holder() {
@@ -152,132 +163,116 @@ impl Scenery<'_> {
     }
 
     // Of the first descent.
-    fn of_entry(&self, row: usize) -> Result<Cause, AllocError> {
-        let root = Tried::DescendTo(String::from_str(self.alloc, "/")?);
+    fn of_entry(&self, row: usize) -> Cause<'a> {
+        let tried = Tried::DescendTo(PathOf::root());
         if let Some(obstacle) = self.marker_of(row, ROOT) {
-            return Ok(Cause {
-                tried: root,
+            return Cause {
+                tried,
                 unmet: Unmet::Marked(number_of(obstacle.row)),
                 obstacle: Some(obstacle),
-            });
+            };
         }
         match self.gate_holder() {
-            Some(obstacle) => Ok(Cause {
-                tried: root,
+            Some(obstacle) => Cause {
+                tried,
                 unmet: Unmet::GateAtFourth(number_of(obstacle.row)),
                 obstacle: Some(obstacle),
-            }),
-            None => Ok(Cause::alone(root, Unmet::Unknown)),
+            },
+            None => Cause::alone(tried, Unmet::Unknown),
         }
     }
 
-    fn of_descent(&self, row: usize, at: Station, course: &Course) -> Result<Cause, AllocError> {
-        match at {
-            Station::Above => return self.of_entry(row),
-            Station::Fork => return Ok(Cause::alone(Tried::Descend, Unmet::AtFork)),
-            _ => {}
-        }
-        let Some(
-            Ahead {
-                directory,
-                name,
-                path,
-            },
-        ) = course.ahead(self.alloc, at)?
-        else {
-            return Ok(Cause::alone(Tried::Descend, Unmet::AtEnd));
+    // Of a descent by the next name.
+    fn of_next(&self, row: usize, next: Ahead<'a>) -> Cause<'a> {
+        let Some(inode) = self.shadow.directory(next.directory, next.name) else {
+            return Cause::alone(Tried::Descend, Unmet::NoDirectory(next.path));
         };
-        let Some(inode) = self.shadow.directory(directory, name) else {
-            return Ok(Cause::alone(Tried::Descend, Unmet::NoDirectory(path)));
-        };
+        let tried = Tried::DescendTo(next.path);
         match self.marker_of(row, inode) {
-            Some(obstacle) => Ok(Cause {
-                tried: Tried::DescendTo(path),
+            Some(obstacle) => Cause {
+                tried,
                 unmet: Unmet::Marked(number_of(obstacle.row)),
                 obstacle: Some(obstacle),
-            }),
-            None => Ok(Cause::alone(Tried::DescendTo(path), Unmet::Unknown)),
+            },
+            None => Cause::alone(tried, Unmet::Unknown),
+        }
+    }
+
+    fn of_descent(&self, row: usize, at: Station, course: &'a Course) -> Cause<'a> {
+        match at {
+            Station::Above => return self.of_entry(row),
+            Station::Fork => return Cause::alone(Tried::Descend, Unmet::AtFork),
+            _ => {}
+        }
+        match course.ahead(at) {
+            Some(next) => self.of_next(row, next),
+            None => Cause::alone(Tried::Descend, Unmet::AtEnd),
         }
     }
 
     // Where names are ahead, but something is tried that comes behind them.
-    fn of_names(&self, tried: Tried, at: Station, course: &Course) -> Result<Cause, AllocError> {
+    fn of_names(&self, tried: Tried<'a>, at: Station, course: &'a Course) -> Cause<'a> {
         if at == Station::Above {
-            let root = String::from_str(self.alloc, "/")?;
-            return Ok(Cause::alone(tried, Unmet::NamesAhead(root)));
+            return Cause::alone(tried, Unmet::NamesAhead(PathOf::root()));
         }
-        let Some(
-            Ahead {
-                directory,
-                name,
-                path,
-            },
-        ) = course.ahead(self.alloc, at)?
-        else {
-            return Ok(Cause::alone(tried, Unmet::Unknown));
+        let Some(next) = course.ahead(at) else {
+            return Cause::alone(tried, Unmet::Unknown);
         };
-        let unmet = match self.shadow.directory(directory, name) {
-            Some(_) => Unmet::NamesAhead(path),
-            None => Unmet::NoDirectory(path),
+        let unmet = match self.shadow.directory(next.directory, next.name) {
+            Some(_) => Unmet::NamesAhead(next.path),
+            None => Unmet::NoDirectory(next.path),
         };
-        Ok(Cause::alone(tried, unmet))
+        Cause::alone(tried, unmet)
     }
 
-    fn of_fork(&self, at: Station, course: &Course) -> Result<Cause, AllocError> {
+    fn of_fork(&self, at: Station, course: &'a Course) -> Cause<'a> {
         if !course.has_two_paths() {
-            return Ok(Cause::alone(Tried::Fork, Unmet::OnePath));
+            return Cause::alone(Tried::Fork, Unmet::OnePath);
         }
         match at {
             Station::First | Station::Second | Station::End => {
-                Ok(Cause::alone(Tried::Fork, Unmet::Forked))
+                Cause::alone(Tried::Fork, Unmet::Forked)
             }
             _ => self.of_names(Tried::Fork, at, course),
         }
     }
 
-    // Of a walk that is at its end: what a path names last is marked.
-    fn of_last(&self, row: usize, course: &Course) -> Result<Cause, AllocError> {
-        for last in course.ends(self.alloc)?.into_iter().flatten() {
-            let Ahead {
-                directory,
-                name,
-                path,
-            } = last;
-            if let Some(inode) = self.shadow.child(directory, name)
-                && let Some(obstacle) = self.marker_of(row, inode)
-            {
-                return Ok(Cause {
-                    tried: Tried::Commit,
-                    unmet: Unmet::LastMarked(number_of(obstacle.row), path),
-                    obstacle: Some(obstacle),
-                });
-            }
-        }
-        Ok(Cause::alone(Tried::Commit, Unmet::Unknown))
+    // Of a walk that is at its end, if what a path names last is marked.
+    fn of_marked(&self, row: usize, last: Option<Ahead<'a>>) -> Option<Cause<'a>> {
+        let last = last?;
+        let inode = self.shadow.child(last.directory, last.name)?;
+        let obstacle = self.marker_of(row, inode)?;
+        Some(Cause {
+            tried: Tried::Commit,
+            unmet: Unmet::LastMarked(number_of(obstacle.row), last.path),
+            obstacle: Some(obstacle),
+        })
     }
 
-    fn of_commit(&self, row: usize, at: Station, course: &Course) -> Result<Cause, AllocError> {
+    // Of a walk that is at its end.
+    fn of_last(&self, row: usize, course: &'a Course) -> Cause<'a> {
+        let first = self.of_marked(row, course.first_end());
+        match first.or(self.of_marked(row, course.second_end())) {
+            Some(cause) => cause,
+            None => Cause::alone(Tried::Commit, Unmet::Unknown),
+        }
+    }
+
+    fn of_commit(&self, row: usize, at: Station, course: &'a Course) -> Cause<'a> {
         match at {
-            Station::Fork => Ok(Cause::alone(Tried::Commit, Unmet::AtFork)),
+            Station::Fork => Cause::alone(Tried::Commit, Unmet::AtFork),
             Station::End => self.of_last(row, course),
             _ => self.of_names(Tried::Commit, at, course),
         }
     }
 
     // Of a walk that is under way, at this place.
-    fn of_walk(
-        &self,
-        row: usize,
-        at: Station,
-        course: &Course,
-        trial: Trial,
-    ) -> Result<Cause, AllocError> {
-        if at == Station::Stale && trial != Trial::Restart {
-            let mover = course.mover.map(number_of);
-            return Ok(Cause::alone(tried_by(trial), Unmet::Stale(mover)));
+    fn of_walk(&self, row: usize, at: Station, course: &'a Course, trial: Trial) -> Cause<'a> {
+        if at == Station::Stale && !matches!(trial, Trial::Restart) {
+            return of_stale(trial, course);
         }
         match trial {
-            Trial::Restart => Ok(Cause::alone(Tried::Restart, Unmet::NotStale)),
+            Trial::Restart => Cause::alone(Tried::Restart, Unmet::NotStale),
             Trial::Fork => self.of_fork(at, course),
             Trial::Commit => self.of_commit(row, at, course),
             _ => self.of_descent(row, at, course),
@@ -285,20 +280,20 @@ impl Scenery<'_> {
     }
 
     // Of a step of the client's walk, if one is under way.
-    fn of_step(&self, row: usize, at: Station, trial: Trial) -> Result<Cause, AllocError> {
+    fn of_step(&self, row: usize, at: Station, trial: Trial) -> Cause<'a> {
         if let Some(seat) = self.seats.get(row)
             && let Some(course) = &seat.course
         {
             return self.of_walk(row, at, course, trial);
         }
-        Ok(Cause::alone(tried_by(trial), Unmet::NoWalk))
+        Cause::alone(tried_by(trial), Unmet::NoWalk)
     }
 
     /// Why the client of this row, whose walk is at this place, can't do so now.
-    pub fn cause_of(&self, row: usize, at: Station, trial: Trial) -> Result<Cause, AllocError> {
+    pub fn cause_of(&self, row: usize, at: Station, trial: Trial) -> Cause<'a> {
         match trial {
-            Trial::Begin(manner, moves) => Ok(self.of_begin(at, manner, moves)),
-            Trial::Make(manner) => Ok(of_call(at, manner)),
+            Trial::Begin(manner, moves) => self.of_begin(at, manner, moves),
+            Trial::Make(manner) => of_call(at, manner),
             _ => self.of_step(row, at, trial),
         }
     }

@@ -337,18 +337,22 @@ fn race<N: Shape + Send + Sync, R: Threads + Wait + Sync>(
     }
 }
 
-/// Whether a client that finds no room in the history is told so.
+/// Whether a client that finds no room in the history is told so, and the first one, which knows of its own entry
+/// alone, catches up with both.
 fn fills<N: Shape>(rt: &impl Wait, tree: Tree<N, NoGate>) -> bool {
-    let (Ok(one), Ok(other)) = (tree.connect(rt), tree.connect(rt)) else {
+    let (Ok(mut one), Ok(other)) = (tree.connect(rt), tree.connect(rt)) else {
         return false;
     };
     let third = tree.connect(rt);
     let is_full = matches!(&third, Err(Errno::HistoryFull));
+    let seen = one.seen();
+    tree.catch_up(rt, &mut one);
+    let is_caught_up = seen == 1 && one.seen() == 2;
     drop(third);
     drop(one);
     drop(other);
     drop(tree);
-    is_full
+    is_full && is_caught_up
 }
 
 fn tries<N: Shape + Send + Sync, R: Threads + Wait + Sync>(

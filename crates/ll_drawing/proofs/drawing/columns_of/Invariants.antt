@@ -1,7 +1,7 @@
 use Rattle.std.proofs.Common.{◌≡◌, ◌+◌, ◌≤◌, length}
 use Rattle.ll_drawing.specs.Windows.{drawn_of}
 use Rattle.ll_wire.specs.Pieces.{pieces}
-use Rattle.ll_drawing.proofs.drawing.draw.Given as goal
+use Rattle.ll_drawing.proofs.drawing.columns_of.Given as goal
 
 -- so many lines are before the rest, and those that are drawn have their columns
 abbrev pub invariant-loop-rest : goal.invariant-loop-rest
