@@ -135,7 +135,7 @@ impl<N: Shape, G: Gate<N>> Tree<N, G> {
     #[tactic(auto, using(crate::proofs::Typing::gains_fit))]
     pub fn call<R: Wait>(&self, rt: &R, me: &mut Client<N>, call: Call) -> Made
         requires other { is_connect call ≡ false }
-        // a child is no success of it
+        // It isn't a spawn, whose success is a child.
         requires childless { success call (replies.Spawned 0) ≡ false }
         ensures gains { Gains N.limit call me.old.rider result me.new.rider }
         ensures fits { FitsMade (success call) result }

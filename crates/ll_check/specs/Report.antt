@@ -76,8 +76,8 @@ Tells detail file meanings (Answered text) before after =
 Tells detail file meanings (Refused text) before after = ⊤
 
 -- its tests are made so under this setup, by the calls of this history, and reported, and so many pass and fail
-abbrev pub IsChecked : Detail → Setup → (file : List ℕ) → List Meaning → Made → List Entry → (before after : List ℕ)
-    → Tally → Type 0
+abbrev pub IsChecked : Detail → Setup → (file : List ℕ) → List Meaning → Made → List Entry
+    → (before after : List ℕ) → Tally → Type 0
 IsChecked detail setup file meanings made entries before after tally =
     Makes setup (script_of meanings) made entries × Tells detail file meanings made before after
     × (tally.passed ≡ passed (verdicts_on meanings made)) × (tally.failed ≡ failed (verdicts_on meanings made))

@@ -46,7 +46,8 @@ several rule = record rule { range = Some (record { start_inclusive = 1; end_inc
 
 -- what a range from 1 makes of the numbers of 64 bits, where its end is far below theirs
 pub narrowed : (p r : ValueParser) (low high : Option ℤ) (most : ℕ) → p ≡ Unsigned 0 18446744073709551615
-    → low ≡ Some (pos 1) → high ≡ Some (pos most) → most ≤ 1000000000 → NarrowsTo p low high r → r ≡ Unsigned 1 most
+    → low ≡ Some (pos 1) → high ≡ Some (pos most) → most ≤ 1000000000 → NarrowsTo p low high r
+    → r ≡ Unsigned 1 most
 narrowed p r low high most all from to few h =
     let made : r ≡ Unsigned 1 (ord_min nat_cmp 18446744073709551615 most) = rw (all, from, to) at h in
     made ∙ sym (ap (λ (o : Ordering). Unsigned 1 (cond (is_lt o) most 18446744073709551615))
