@@ -107,6 +107,7 @@ pub fn granted_at(domain: &Domain, mut masks: Masks, node: Option<u64>) -> Masks
 impl Spot {
     /// The spot of a name in this directory, where this is in the way to it and the name stands for this node: by what
     /// is counted of each node.
+    #[inline(always)]
     pub fn of(
         facts: &NumberMap<Fact>,
         way: Option<Errno>,

@@ -70,6 +70,7 @@ impl<N: Shape, G: Gate<N>> Tree<N, G> {
     }
 
     /// What the node is. Takes no memory. stat(2)
+    #[inline(always)]
     pub fn stat<R: Wait>(
         &self,
         rt: &R,

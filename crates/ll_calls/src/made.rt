@@ -13,6 +13,7 @@ use ll_rights::Errno;
 use ll_seq::{Listing, Reply, Status};
 
 /// The reply of a call that did something, or why it did nothing.
+#[inline(always)]
 fn success(made: Made) -> Result<Reply, Refused>
     requires { (succeeds : Reply → Bool) × FitsMade succeeds made }
     ensures made { made_as (λ told. told) result ≡ made }
@@ -28,6 +29,7 @@ fn success(made: Made) -> Result<Reply, Refused>
     }
 }
 
+#[inline(always)]
 pub(crate) fn done(made: Made) -> Result<(), Refused>
     requires { FitsMade is_done made }
     ensures { made_as (λ nothing. replies.Done) result ≡ made }
@@ -38,6 +40,7 @@ pub(crate) fn done(made: Made) -> Result<(), Refused>
     }
 }
 
+#[inline(always)]
 pub(crate) fn opened(made: Made) -> Result<u64, Refused>
     requires { FitsMade is_opened made }
     ensures { made_as replies.Opened result ≡ made }
@@ -78,6 +81,7 @@ pub(crate) fn listed(made: Made) -> Result<Listing, Refused>
     }
 }
 
+#[inline(always)]
 pub(crate) fn found(made: Made) -> Result<Status, Refused>
     requires { FitsMade is_found made }
     ensures { made_as replies.Found result ≡ made }

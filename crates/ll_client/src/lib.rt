@@ -13,6 +13,7 @@ mod left;
 mod locked;
 mod look;
 mod meet;
+mod onward;
 mod opened;
 mod rider;
 mod shape;

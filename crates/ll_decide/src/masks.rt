@@ -93,10 +93,14 @@ impl Masks {
     }
 
     /// The same masks again.
+    #[inline(always)]
     pub fn copy(&self) -> Masks
         ensures { result ≡ self.now }
     {
         let alloc = *self.sets.allocator();
+        if self.sets.is_empty() {
+            return Masks::empty(alloc);
+        }
         let Ok(sets) = SmallVec::from_slice(alloc, self.sets.as_slice()) else {
             unreachable!()
         };

@@ -58,3 +58,4 @@ pub mod LastNodes
 pub mod EntryDirs
 pub mod SlotTrees
 pub mod InTheWay
+pub mod KnownNames

@@ -6,7 +6,7 @@ use Rattle.ll_seq.specs.State.{Name}
 use Rattle.ll_worlds.specs.World.{shown, is_marked_by_other}
 use Rattle.ll_held.specs.declared.held.Held.{Held}
 use Rattle.ll_journal.specs.declared.journal.Journal.TheInside.{Inside}
-use Rattle.ll_journal.specs.declared.check_commit.CommitCheck.{CommitCheck}
+use Rattle.ll_journal.specs.CommitCheck.{CommitCheck}
 use Rattle.ll_journal.specs.Book.{Seat, slot_of}
 use Rattle.ll_journal.specs.Kept.{IsKept, book_of, world_of}
 use Rattle.ll_journal.specs.Checks.{Stops, StopsBy, goes_on, is_all_lent}

@@ -10,7 +10,7 @@ use Rattle.ll_seq.specs.declared.call.Call.{Call}
 use Rattle.ll_seq.specs.declared.facts.Fact.{Fact}
 use Rattle.ll_seq.specs.State.{Name}
 use Rattle.ll_held.specs.declared.held.Held.{Held}
-use Rattle.ll_journal.specs.declared.check_commit.CommitCheck.{CommitCheck}
+use Rattle.ll_journal.specs.CommitCheck.{CommitCheck}
 use Rattle.ll_journal.specs.Checks.{StopsBefore, StopsBetween, stop_by, check_there, found_at, blocked_at}
 
 -- an element is the one at its place

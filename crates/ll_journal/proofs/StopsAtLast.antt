@@ -30,8 +30,8 @@ use Rattle.ll_changes.specs.Accounts.{names_map}
 use Rattle.ll_held.specs.declared.held.Held.{Held}
 use Rattle.ll_held.specs.Lent.{Misses}
 use Rattle.ll_journal.specs.declared.journal.Journal.TheInside.{Inside}
-use Rattle.ll_journal.specs.declared.check_commit.CommitCheck.{CommitCheck}
-use Rattle.ll_journal.specs.declared.check_commit.CommitCheck.TheVariants as stops
+use Rattle.ll_journal.specs.CommitCheck.{CommitCheck}
+use Rattle.ll_journal.specs.CommitCheck as stops
 use Rattle.ll_journal.specs.Book.{Book, Seat, slot_of}
 use Rattle.ll_journal.specs.WalkEnds.{AreEnough, IsAstrayAtEnd, spare_of}
 use Rattle.ll_journal.specs.Kept.{IsKept, book_of, spares_of, world_of}

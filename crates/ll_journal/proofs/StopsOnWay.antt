@@ -26,8 +26,8 @@ use Rattle.ll_changes.specs.Accounts.{names_map}
 use Rattle.ll_changes.proofs.NameMaps.{get-names_map}
 use Rattle.ll_held.specs.declared.held.Held.{Held}
 use Rattle.ll_journal.specs.declared.journal.Journal.TheInside.{Inside}
-use Rattle.ll_journal.specs.declared.check_commit.CommitCheck.{CommitCheck}
-use Rattle.ll_journal.specs.declared.check_commit.CommitCheck.TheVariants as stops
+use Rattle.ll_journal.specs.CommitCheck.{CommitCheck}
+use Rattle.ll_journal.specs.CommitCheck as stops
 use Rattle.ll_journal.specs.Book.{Seat, slot_of}
 use Rattle.ll_journal.specs.Kept.{IsKept, world_of, book_of}
 use Rattle.ll_journal.specs.Checks.{Lies, StopsBefore, blocked_at, goes_on, is_all_lent, stop_by}

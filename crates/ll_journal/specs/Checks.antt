@@ -23,8 +23,8 @@ use Rattle.ll_worlds.specs.Walk.{Walk, Leg, has_two_paths, is_in, legs, is_above
 use Rattle.ll_held.specs.declared.held.Held.{Held}
 use Rattle.ll_journal.specs.declared.check_step.StepCheck.{StepCheck}
 use Rattle.ll_journal.specs.declared.check_step.StepCheck.TheVariants.{NotNow, Astray, Go}
-use Rattle.ll_journal.specs.declared.check_commit.CommitCheck.{CommitCheck}
-use Rattle.ll_journal.specs.declared.check_commit.CommitCheck.TheVariants as stops
+use Rattle.ll_journal.specs.CommitCheck.{CommitCheck}
+use Rattle.ll_journal.specs.CommitCheck as stops
 use Rattle.ll_journal.specs.Book.{Seat}
 use Rattle.ll_journal.specs.Seated.{call_in, first_here_in, here_in, is_at_ends, next_in, second_here_in}
 

@@ -5,6 +5,7 @@ pub mod Direct
 pub mod Own
 pub mod SeatCodes
 pub mod Seated
+pub mod CommitCheck
 pub mod Checks
 pub mod Starving
 pub mod WalkEnds
@@ -18,3 +19,4 @@ pub mod NextStep
 pub mod Starts
 pub mod SlotTree
 pub mod InWay
+pub mod Onward

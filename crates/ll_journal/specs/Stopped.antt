@@ -17,8 +17,8 @@ use Rattle.ll_worlds.specs.Walk.{Walk, Leg, is_in, marks}
 use Rattle.ll_worlds.specs.World as world
 use Rattle.ll_worlds.specs.World.{advance, shown, may_commit, reply_to}
 use Rattle.ll_worlds.specs.declared.step.Step.TheVariants.{Commit}
-use Rattle.ll_journal.specs.declared.check_commit.CommitCheck.{CommitCheck}
-use Rattle.ll_journal.specs.declared.check_commit.CommitCheck.TheVariants as stops
+use Rattle.ll_journal.specs.CommitCheck.{CommitCheck}
+use Rattle.ll_journal.specs.CommitCheck as stops
 use Rattle.ll_journal.specs.Book.{Book}
 use Rattle.ll_journal.specs.WalkEnds.{IsAstrayAtEnd, is_lent, spare_of}
 

@@ -3,6 +3,7 @@
 ghost use Rattle.std.specs.Prelude.{◌≡◌, ◌==◌, ◌||◌, ◌&&◌, ℕ, Bool, List, true, not, nat_le, slice_index_or};
 ghost use Rattle.std.specs.List.{list_all};
 ghost use Rattle.ll_answer.specs.Near as near;
+ghost use Rattle.ll_answer.specs.declared.found.Found.{Found};
 ghost use Rattle.ll_inodes.specs.InodeTable.{IsTable};
 ghost use Rattle.ll_path.specs.Path as paths;
 ghost use Rattle.ll_path.specs.Path.{Path};
@@ -13,6 +14,7 @@ ghost use Rattle.ll_worlds.specs.Walk.{is_in};
 ghost use Rattle.ll_worlds.specs.World as world;
 ghost use Rattle.ll_journal.specs.Kept.{walks_from};
 ghost use Rattle.ll_journal.specs.Checks as checks;
+ghost use Rattle.ll_journal.specs.CommitCheck.{check_of};
 
 use crate::ending::is_marked_by_other;
 use crate::find_ends::{blocked, find_end, find_ends};
@@ -26,28 +28,42 @@ use ll_path::Target;
 use ll_rights::Errno;
 use ll_seq::Call;
 
-/// Why a commit isn't made, or what it finds.
+/// Why a commit isn't made, or that it may be.
 #[derive(Clone, Copy)]
-pub(crate) enum CommitCheck {
+pub(crate) enum Stop {
     NotNow,
     /// Other slots are lent than the commit may need.
     Astray,
     /// The leg in turn can't go on, which is refused so.
     Blocked(Errno),
-    /// Each branch is at its end.
-    Reached(Found),
+    /// Each branch is at its end. What is found there lies in the caller's place for it.
+    Reached,
 }
 
+/// Nothing is found.
+pub(crate) const NOTHING: Found = Found {
+    first: NOWHERE,
+    second: NOWHERE,
+    is_full: false,
+};
+
+const NOWHERE: Spot = Spot {
+    way: None,
+    directory: 0,
+    is_crowded: false,
+    there: None,
+};
+
 /// With this name ahead of the leg in turn, which stands here.
-fn check_before(table: &Inodes, lent: &[Held], here: u64, name: &str) -> CommitCheck
-    ensures { checks.StopsBefore table.now.facts lent.now here name.now result }
+fn check_before(table: &Inodes, lent: &[Held], here: u64, name: &str) -> Stop
+    ensures { (found : Found) → checks.StopsBefore table.now.facts lent.now here name.now (check_of result found) }
 {
     let Some(place) = find(lent, here) else {
-        return CommitCheck::Astray;
+        return Stop::Astray;
     };
     match blocked(table, lent[place].node.look_up(name)) {
-        None => CommitCheck::NotNow,
-        Some(errno) => CommitCheck::Blocked(errno),
+        None => Stop::NotNow,
+        Some(errno) => Stop::Blocked(errno),
     }
 }
 
@@ -130,6 +146,7 @@ fn is_spare_lent(slots: &[u64], spare: u64, call: &Call, found: &Found) -> bool
 }
 
 /// Whether the slots besides those of directories are there which the call may need.
+#[inline(always)]
 fn is_enough(slots: &[u64], lent: &[Held], spare: u64, call: &Call, found: &Found) -> bool
     ensures { result ≡ checks.is_enough slots.now lent.now spare call.now found.now }
 {
@@ -182,6 +199,7 @@ pub(crate) fn is_marked_at(seats: &[Seat], client: u64, is_root: bool, spot: &Sp
     }
 }
 
+#[inline(always)]
 fn is_marked_there(seats: &[Seat], client: u64, call: &Call, found: &Found) -> bool
     ensures { (w : world.World) → w.walks ≡ walks_from 1 seats.now
         → result ≡ checks.is_marked_there (world.is_marked_by_other w client) call.now found.now }
@@ -192,21 +210,22 @@ fn is_marked_there(seats: &[Seat], client: u64, call: &Call, found: &Found) -> b
 }
 
 /// With this found at the ends.
-fn check_there(sight: &Sight<'_>, client: u64, spare: u64, call: &Call, found: Found) -> CommitCheck
+#[inline(always)]
+fn check_there(sight: &Sight<'_>, client: u64, spare: u64, call: &Call, found: &Found) -> Stop
     ensures { (w : world.World) → w.walks ≡ walks_from 1 sight.now.seats.now
-        → result ≡ checks.check_there (world.is_marked_by_other w client) sight.now.slots.now sight.now.lent.now spare
-        call.now found }
+        → check_of result found.now ≡ checks.check_there (world.is_marked_by_other w client) sight.now.slots.now
+        sight.now.lent.now spare call.now found.now }
 {
-    if is_marked_there(sight.seats, client, call, &found) {
-        CommitCheck::NotNow
-    } else if is_enough(sight.slots, sight.lent, spare, call, &found) {
-        CommitCheck::Reached(found)
+    if is_marked_there(sight.seats, client, call, found) {
+        Stop::NotNow
+    } else if is_enough(sight.slots, sight.lent, spare, call, found) {
+        Stop::Reached
     } else {
-        CommitCheck::Astray
+        Stop::Astray
     }
 }
 
-/// With the legs of both paths at their ends, in these directories.
+/// With the legs of both paths at their ends, in these directories. What is found there goes into the caller's place.
 fn check_between(
     sight: &Sight<'_>,
     client: u64,
@@ -214,41 +233,44 @@ fn check_between(
     call: &Call,
     first: u64,
     second: u64,
-) -> CommitCheck
+    into: &mut Found,
+) -> Stop
     ensures { (w : world.World) (s : State) (spares : List ℕ) → w.walks ≡ walks_from 1 sight.now.seats.now
         → IsTable s spares sight.now.table.now
         → checks.StopsBetween sight.now.table.now.facts (nat_le sight.now.room (len s.nodes))
-        (world.is_marked_by_other w client) sight.now.slots.now sight.now.lent.now spare call.now first second result }
+        (world.is_marked_by_other w client) sight.now.slots.now sight.now.lent.now spare call.now first second
+        (check_of result into.new) }
 {
     let Some(old) = find(sight.lent, first) else {
-        return CommitCheck::Astray;
+        return Stop::Astray;
     };
     if first == second && !has_two_paths(call) {
-        let found = find_end(sight.table, sight.room, &sight.lent[old], call);
-        return check_there(sight, client, spare, call, found);
+        *into = find_end(sight.table, sight.room, &sight.lent[old], call);
+        return check_there(sight, client, spare, call, into);
     }
     let Some(new) = find(sight.lent, second) else {
-        return CommitCheck::Astray;
+        return Stop::Astray;
     };
-    let found = find_ends(
+    *into = find_ends(
         sight.table,
         sight.room,
         &sight.lent[old],
         &sight.lent[new],
         call,
     );
-    check_there(sight, client, spare, call, found)
+    check_there(sight, client, spare, call, into)
 }
 
-/// With no name ahead of the leg in turn.
-fn check_at_ends(sight: &Sight<'_>, client: u64, seat: &Seat) -> CommitCheck
+/// With no name ahead of the leg in turn. What is found at the ends goes into the caller's place.
+fn check_at_ends(sight: &Sight<'_>, client: u64, seat: &Seat, into: &mut Found) -> Stop
     ensures { (w : world.World) (s : State) (spares : List ℕ) → w.walks ≡ walks_from 1 sight.now.seats.now
         → IsTable s spares sight.now.table.now
         → checks.StopsAtEnds sight.now.table.now.facts (nat_le sight.now.room (len s.nodes))
-        (world.is_marked_by_other w client) sight.now.slots.now sight.now.lent.now seat.now result }
+        (world.is_marked_by_other w client) sight.now.slots.now sight.now.lent.now seat.now
+        (check_of result into.new) }
 {
     if !seat.is_at_ends() {
-        return CommitCheck::NotNow;
+        return Stop::NotNow;
     }
     let (Some(first), Some(second)) = (seat.first_here(), seat.second_here()) else {
         unreachable!()
@@ -256,24 +278,25 @@ fn check_at_ends(sight: &Sight<'_>, client: u64, seat: &Seat) -> CommitCheck
     let Some(call) = seat.call() else {
         unreachable!()
     };
-    check_between(sight, client, seat.spare(), call, first, second)
+    check_between(sight, client, seat.spare(), call, first, second, into)
 }
 
-/// Whether the client's walk may be answered.
-pub(crate) fn check_commit(sight: &Sight<'_>, client: u64, seat: &Seat) -> CommitCheck
+/// Whether the client's walk may be answered. What is found at its ends goes into the caller's place.
+pub(crate) fn check_commit(sight: &Sight<'_>, client: u64, seat: &Seat, into: &mut Found) -> Stop
     ensures { (w : world.World) (s : State) (spares : List ℕ) → w.walks ≡ walks_from 1 sight.now.seats.now
         → IsTable s spares sight.now.table.now
         → checks.Stops sight.now.table.now.facts (nat_le sight.now.room (len s.nodes))
-        (world.is_marked_by_other w client) sight.now.slots.now sight.now.lent.now seat.now result }
+        (world.is_marked_by_other w client) sight.now.slots.now sight.now.lent.now seat.now
+        (check_of result into.new) }
 {
     if !seat.goes_on() {
-        return CommitCheck::NotNow;
+        return Stop::NotNow;
     }
     if !seat.is_all_lent(sight.lent) {
-        return CommitCheck::Astray;
+        return Stop::Astray;
     }
     match seat.next_name() {
-        None => check_at_ends(sight, client, seat),
+        None => check_at_ends(sight, client, seat, into),
         Some(name) => match seat.here() {
             None => unreachable!(),
             Some(here) => check_before(sight.table, sight.lent, here, name),

@@ -1,14 +1,18 @@
 //! Whether a step may be made, seen from what is lent.
 
-ghost use Rattle.std.specs.Prelude.{◌≡◌, ◌==◌, true};
+ghost use Rattle.std.specs.Prelude.{◌≡◌, ◌==◌, true, Some};
 ghost use Rattle.std.specs.Option.{option_map_or};
+ghost use Rattle.ll_rights.specs.Map.{get};
+ghost use Rattle.ll_seq.specs.State.{Name};
 ghost use Rattle.ll_journal.specs.Checks as checks;
-ghost use Rattle.ll_journal.specs.Seated.{next_in};
+ghost use Rattle.ll_journal.specs.Onward.{Names};
+ghost use Rattle.ll_journal.specs.Seated.{call_in, next_in};
 
+use crate::onward::Onward;
 use crate::seat::Seat;
 use ll_held::Held;
 use ll_inodes::Inodes;
-use ll_seq::ROOT;
+use ll_seq::{Call, ROOT};
 
 /// What is found: the step may be made; or not now; or it is lent other slots than it names.
 #[derive(Clone, Copy)]
@@ -96,6 +100,38 @@ pub(crate) fn check_descend(table: &Inodes, seat: &Seat, from: &Held, to: &Held)
     }
 }
 
+/// Of the same descent, where the next name is known to stand for this inode.
+fn check_known(table: &Inodes, seat: &Seat, from: &Held, to: &Held, inode: u64) -> StepCheck
+    requires { (name : Name) × (next_in seat.now ≡ Some name) × (get from.now.node.names name ≡ Some inode) }
+    ensures { result ≡ checks.check_descend table.now.facts seat.now from.now to.now }
+{
+    if !seat.goes_on() {
+        return StepCheck::NotNow;
+    }
+    match seat.here() {
+        Some(here) if here == from.inode => check_into(table, Some(inode), to),
+        _ => StepCheck::Astray,
+    }
+}
+
+/// Of the same descent, where the name at this depth of the call's first path is known to stand for this inode: if that
+/// is the next name, it isn't looked up.
+pub(crate) fn check_onward(
+    table: &Inodes,
+    seat: &Seat,
+    from: &Held,
+    to: &Held,
+    on: Onward,
+) -> StepCheck
+    requires { (call : Call) → call_in seat.now ≡ Some call → Names call from.now on.depth on.inode }
+    ensures { result ≡ checks.check_descend table.now.facts seat.now from.now to.now }
+{
+    match seat.depth_ahead() {
+        Some(depth) if depth == on.depth => check_known(table, seat, from, to, on.inode),
+        _ => check_descend(table, seat, from, to),
+    }
+}
+
 /// Of a new start, where this is lent.
 pub(crate) fn check_restart(seat: &Seat, lent: &[Held]) -> StepCheck
     ensures { result ≡ checks.check_restart lent.now seat.now }
@@ -129,6 +165,7 @@ fn directory_for(table: &Inodes, seat: &Seat, from: &Held) -> Option<u64>
 }
 
 /// The directory to which the walk would go down from here, if it stands here.
+#[inline(always)]
 pub(crate) fn directory_below(table: &Inodes, seat: &Seat, from: &Held) -> Option<u64>
     ensures { result ≡ checks.directory_below table.now.facts seat.now from.now }
 {

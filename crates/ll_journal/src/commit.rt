@@ -4,7 +4,7 @@ ghost use Rattle.std.specs.Prelude.{◌≡◌, ◌≢◌, ◌<◌, ℕ, List, su
 ghost use Rattle.ll_rights.specs.Map.{get};
 ghost use Rattle.ll_worlds.specs.Walk as walks;
 
-use crate::check_commit::{CommitCheck, Sight, check_commit};
+use crate::check_commit::{NOTHING, Sight, Stop, check_commit};
 use crate::decide_end::{moved_by, overtake_moved};
 use crate::ending::released;
 use crate::journal::{Journal, place_of};
@@ -21,9 +21,11 @@ impl Journal {
     ghost use Rattle.ll_journal.specs.Performed.{EndsAs};
     ghost use Rattle.ll_inodes.specs.InodeTable.{AreDistinct};
     ghost use Rattle.ll_journal.specs.WalkEnds.{Ends, IsAstrayAtEnd, LeavesFree, MayTakeMemory, is_lent};
+    ghost use Rattle.ll_journal.specs.CommitCheck.{check_of};
     ghost use Rattle.ll_journal.specs.Stopped.{IsBlockedEnd, IsReachedEnd, IsStop};
 
     /// The walk of the client at the place ends, and with it its marks.
+    #[inline(always)]
     pub(crate) fn end_walk(&mut self, place: usize, client: u64, lent: &mut [Held]) -> Ended
         requires numbered { client ≡ suc place }
         requires place { place < length self.old.spares }
@@ -38,19 +40,25 @@ impl Journal {
             → ((inode : ℕ) → walks.marks walk inode ≡ true → is_lent self.old slots inode ≡ true)
             → Spares self.old self.new slots }
     {
-        let seat = &mut self.seats[place];
-        let walk = seat.end();
         self.gate = released(self.gate, client);
         unmark(lent, client);
-        walk
+        let seat = &mut self.seats[place];
+        seat.end()
     }
 
-    /// Whether the walk of the client at the place may be answered, and for what.
-    fn check_end(&self, place: usize, client: u64, slots: &[u64], lent: &[Held]) -> CommitCheck
+    /// Whether the walk of the client at the place may be answered, and for what: that goes into the caller's place.
+    fn check_end(
+        &self,
+        place: usize,
+        client: u64,
+        slots: &[u64],
+        lent: &[Held],
+        into: &mut Found,
+    ) -> Stop
         requires numbered { client ≡ suc place }
         requires place { place < length self.now.spares }
         requires lent { lent.now ≡ map (slot_of self.now) slots.now }
-        ensures { IsStop self.now client slots.now result }
+        ensures { IsStop self.now client slots.now (check_of result into.new) }
     {
         let sight = Sight {
             seats: &self.seats,
@@ -59,7 +67,7 @@ impl Journal {
             slots,
             lent,
         };
-        check_commit(&sight, client, &self.seats[place])
+        check_commit(&sight, client, &self.seats[place], into)
     }
 
     /// The walk can't go on: its call is refused so.
@@ -155,11 +163,12 @@ impl Journal {
         let Some(place) = place_of(&self.seats, client) else {
             return Ending::NotNow;
         };
-        match self.check_end(place, client, slots, lent) {
-            CommitCheck::NotNow => Ending::NotNow,
-            CommitCheck::Astray => Ending::Astray,
-            CommitCheck::Blocked(errno) => self.refuse(place, client, slots, lent, errno),
-            CommitCheck::Reached(found) => self.answer(place, client, slots, lent, &found),
+        let mut found = NOTHING;
+        match self.check_end(place, client, slots, lent, &mut found) {
+            Stop::NotNow => Ending::NotNow,
+            Stop::Astray => Ending::Astray,
+            Stop::Blocked(errno) => self.refuse(place, client, slots, lent, errno),
+            Stop::Reached => self.answer(place, client, slots, lent, &found),
         }
     }
 }

@@ -41,6 +41,7 @@ use ll_seq::{Call, ClientRecord, Listing, Reply};
 use std::alloc::{AllocError, Global};
 
 /// What is granted on the path that the word spells, by what is granted on its parent.
+#[inline(always)]
 fn granted_on(domain: &Domain, target: &Target, spot: &Spot, masks: &Masks) -> Masks
     requires { length masks.now ≡ length domain.now }
     ensures masks { (s : State) → Stands s (path_of target.now) spot.now

@@ -195,6 +195,7 @@ impl Journal {
 
     /// The client's call for itself alone is made and answered, or comes back where it is none, or the client isn't
     /// there or has a walk under way. Only ruleset, confine and spawn take memory.
+    #[inline(always)]
     pub fn client_step(&mut self, client: u64, call: Call) -> Result<Made, Call>
         ensures does { IfOk result (λ answer. Answers self.old (steps.ClientStep client call) answer self.new) }
         ensures not_now { OnErr result

@@ -16,6 +16,7 @@ use ll_rights::Errno;
 use ll_seq::{Call, ROOT};
 
 /// What the word's last name stands for in the directory.
+#[inline(always)]
 fn last_in(here: &Held, target: &Target) -> Option<u64>
     ensures { result ≡ last_in here.now (path_of target.now) }
 {
@@ -29,6 +30,7 @@ fn last_in(here: &Held, target: &Target) -> Option<u64>
 }
 
 /// Where the word's last name stands, or would.
+#[inline(always)]
 fn spot(table: &Inodes, here: &Held, target: &Target) -> Spot
     ensures { result ≡ spot_at table.now.facts here.now (path_of target.now) }
 {

@@ -209,7 +209,8 @@ impl Journal {
     }
 
     /// The client at the place goes down from the directory in the one slot to that in the other.
-    fn go_down(
+    #[inline(always)]
+    pub(crate) fn go_down(
         &mut self,
         place: usize,
         client: u64,

@@ -75,6 +75,7 @@ impl Leg {
     }
 
     /// One directory further, by its next name, which is one of this path.
+    #[inline(always)]
     pub(crate) fn go_down(&mut self, domain: &Domain, path: Option<&Path>, inode: u64)
         requires roomy { IsRoomy self.old }
         requires short { length self.old.chain.items < PATH_NAMES }

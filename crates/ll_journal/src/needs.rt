@@ -63,6 +63,7 @@ impl Journal {
     }
 
     /// The slots of the directories where the client's walk stands, also where it is stale.
+    #[inline(always)]
     pub fn stands_in(&self, client: u64) -> Slots
         ensures marked { (inode : ℕ) → is_lent self.now result inode ≡ has_mark self.now.world inode client }
         ensures distinct { AreDistinct result }

@@ -30,6 +30,7 @@ impl Model for ReplyPair {
 
 impl ReplyPair {
     /// The reply, and a copy of it. Errors: memory ran out; only for one that holds bytes or names.
+    #[inline(always)]
     pub(crate) fn new(alloc: Global, reply: Reply) -> Result<ReplyPair, AllocError>
         ensures ok { IfOk result (λ pair. pair ≡ reply) }
         ensures err { OnErr result (holds_memory reply ≡ true) }

@@ -1,11 +1,12 @@
 //! Clients, each with its walk.
 
-ghost use Rattle.std.specs.Prelude.{◌≡◌, ℕ, List, Option, is_ok, ◌&&◌, ◌==◌, ◌≤◌, not, false, true, None, Some};
-ghost use Rattle.std.specs.Prelude.{is_none, is_some, IfOk, OnErr, IfSome, IfNone, IsSome, option_map};
+ghost use Rattle.std.specs.Prelude.{◌≡◌, ◌⊎◌, ℕ, List, Option, is_ok, ◌&&◌, ◌==◌, ◌≤◌, not, false, true, None, Some};
+ghost use Rattle.std.specs.Prelude.{is_none, is_some, IfOk, OnErr, IfSome, IfNone, IsSome, option_map, slice_get};
 ghost use Rattle.std.specs.Option.{option_map_or};
 ghost use Rattle.ll_answer.specs.Lean.{spares_memory};
 ghost use Rattle.ll_decide.specs.Masks.{AreMasks};
 ghost use Rattle.ll_rights.specs.Map.{remove};
+ghost use Rattle.ll_seq.specs.Call as calls;
 ghost use Rattle.ll_seq.specs.Effects.{child_of};
 ghost use Rattle.ll_worlds.specs.Commits.{first_end, second_end};
 ghost use Rattle.ll_worlds.specs.Walk as walks;
@@ -77,6 +78,7 @@ pub(crate) struct Ended {
 }
 
 impl Seat {
+    ghost use Rattle.ll_journal.specs.Onward.{is_past_fork};
     ghost use Rattle.ll_journal.specs.Own.{Comes, IsFreeOwn, IsOwn};
     ghost use Rattle.ll_journal.specs.Seated.{again, call_in, entered, gone_down, is_at_ends, next_in, split};
 
@@ -123,8 +125,7 @@ impl Seat {
         } }
     {
         know_ways(&call);
-        let last = self.call.replace(call);
-        drop(last);
+        self.call = Some(call);
         self.starts = 1;
         self.is_stale = false;
         self.stage = Stage::Above;
@@ -212,6 +213,7 @@ impl Seat {
     }
 
     /// The next name of the leg in turn.
+    #[inline(always)]
     pub(crate) fn next_name(&self) -> Option<&str>
         ensures { option_map (λ name. name.now) result ≡ next_in self.now }
     {
@@ -221,6 +223,23 @@ impl Seat {
             Turn::Trunk => next_name(first_path(call), self.trunk.ahead),
             Turn::First => next_name(first_path(call), self.first.ahead),
             Turn::Second => next_name(second_path(call), self.second.ahead),
+        }
+    }
+
+    /// At which name of the call's first path the next one stands. None at the end of its way, and past the fork.
+    pub(crate) fn depth_ahead(&self) -> Option<usize>
+        ensures some { IfSome result (λ depth. (call : Call) × (call_in self.now ≡ Some call)
+            × (next_in self.now ≡ slice_get (calls.first_path call) depth)) }
+        ensures none { IfNone result ((next_in self.now ≡ None) ⊎ (is_past_fork self.now.walk ≡ true)) }
+    {
+        if self.call.is_none() {
+            return None;
+        }
+        match self.stage {
+            Stage::Above => None,
+            Stage::Down if self.trunk.is_at_end() => None,
+            Stage::Down => Some(self.trunk.ahead.place.depth),
+            Stage::Split => None,
         }
     }
 
@@ -330,6 +349,7 @@ impl Seat {
     }
 
     /// The walk ends.
+    #[inline(always)]
     pub(crate) fn end(&mut self) -> Ended
         requires { (walk : walks.Walk) × (self.old.walk ≡ Some walk) }
         ensures ended { (walk : walks.Walk) → self.old.walk ≡ Some walk → EndsAs self.old.client.domain walk result }
@@ -338,14 +358,17 @@ impl Seat {
         let Some(call) = self.call.take() else {
             unreachable!()
         };
-        let (first, second) = match self.stage {
-            Stage::Split => (self.first.masks.copy(), self.second.masks.copy()),
-            _ => (self.trunk.masks.copy(), self.trunk.masks.copy()),
-        };
-        Ended {
-            call,
-            first,
-            second,
+        match self.stage {
+            Stage::Split => Ended {
+                call,
+                first: self.first.masks.copy(),
+                second: self.second.masks.copy(),
+            },
+            _ => Ended {
+                call,
+                first: self.trunk.masks.copy(),
+                second: self.trunk.masks.copy(),
+            },
         }
     }
 

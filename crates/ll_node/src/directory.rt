@@ -57,6 +57,7 @@ impl Directory {
         self.get(name).is_some()
     }
 
+    #[inline(always)]
     pub(crate) fn get(&self, name: &str) -> Option<u64>
         ensures { result ≡ get self.now name.now }
     {
@@ -64,6 +65,7 @@ impl Directory {
     }
 
     /// The inode gets the name, also where another one has it.
+    #[inline(always)]
     pub(crate) fn insert(&mut self, alloc: Global, name: &str, inode: u64) -> Result<(), AllocError>
         requires { IsName name.now }
         ensures ok { OnOk result (self.new ≡ insert self.old name.now inode) }
@@ -75,6 +77,7 @@ impl Directory {
     }
 
     /// Another inode gets a name that is there. What had it is told. Takes no memory.
+    #[inline(always)]
     pub(crate) fn replace(&mut self, name: &str, inode: u64) -> Option<u64>
         ensures found { result ≡ get self.old name.now }
         ensures now { self.new ≡ replaced self.old name.now inode }
@@ -86,6 +89,7 @@ impl Directory {
     }
 
     /// Takes the name away and tells what had it. Takes no memory.
+    #[inline(always)]
     pub(crate) fn remove(&mut self, name: &str) -> Option<u64>
         ensures found { result ≡ get self.old name.now }
         ensures left { self.new ≡ remove self.old name.now }

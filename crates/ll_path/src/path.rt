@@ -42,7 +42,14 @@ fn is_same(this: &str, other: &str) -> bool
 fn is_no_name(name: &str) -> bool
     ensures { result ≡ is_no_name name.now }
 {
-    name.is_empty() || is_same(name, ".") || is_same(name, "..")
+    if name.is_empty() {
+        return true;
+    }
+    // Few names begin with a dot, so most are compared with neither.
+    if name.as_bytes()[0] != b'.' {
+        return false;
+    }
+    is_same(name, ".") || is_same(name, "..")
 }
 
 fn has_no_name(mut names: Names<'_>) -> bool
@@ -197,6 +204,7 @@ impl Path {
     }
 
     /// The parent's names and the last name. The root has neither.
+    #[inline(always)]
     pub fn split_last(&self) -> Option<(Names<'_>, &str)>
         ensures none { IfNone result (self.now ≡ []) }
         ensures parent { IfSome result (λ both. both.0 ≡ parent self.now) }

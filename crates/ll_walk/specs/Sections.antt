@@ -7,9 +7,12 @@ use Rattle.ll_journal.specs.declared.direct.Made.{Made}
 use Rattle.ll_journal.specs.declared.next.Next.{Next}
 use Rattle.ll_journal.specs.declared.next.Next.TheVariants as next
 use Rattle.ll_journal.specs.Book.{Book, Spares}
+use Rattle.ll_journal.specs.Onward.{Names}
 use Rattle.ll_client.specs.Entries.{Kept, Knows}
 use Rattle.ll_client.specs.Coming.{kept_at}
 use Rattle.ll_client.specs.Gains.{Gains}
+use Rattle.ll_walk.specs.declared.section.Coming.{Coming}
+use Rattle.ll_walk.specs.declared.section.Coming.TheVariants as coming
 
 -- Between two books: what is lent was the slots' accounts in the one, and is so in the other; and no other account
 -- changed
@@ -34,3 +37,10 @@ AreThere slots (next.Enter to) = to < slots
 AreThere slots (next.Descend to) = to < slots
 AreThere slots next.Fork = ⊤
 AreThere slots (next.Commit needed) = AllByRecursion (λ slot. slot < slots) needed
+
+-- Of a walk for this call, which stands in this slot: the slots that its next step needs are slots of the tree, and
+-- where it goes down, the name that is told stands there for the inode that is told
+abbrev pub IsComing : ℕ → Option Call → Kept → Coming → Type 0
+IsComing slots doing here (coming.Down on) =
+    (on.slot < slots) × ((call : Call) → doing ≡ Some call → Names call here.held on.depth on.inode)
+IsComing slots doing here (coming.Other next) = AreThere slots next

@@ -12,6 +12,7 @@ use ll_tie::Tie;
 
 impl<'a, N: Shape> Section<'a, N> {
     /// The client's walk is left, with one slot.
+    #[inline(always)]
     pub fn leave_1(
         self,
         tie: &Tie<N, Account>,
@@ -30,6 +31,7 @@ impl<'a, N: Shape> Section<'a, N> {
     }
 
     /// The same with two slots.
+    #[inline(always)]
     pub fn leave_2(
         self,
         tie: &Tie<N, Account>,

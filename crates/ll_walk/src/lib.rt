@@ -13,5 +13,5 @@ mod start;
 mod table;
 
 pub use gate::{Gate, NoGate};
-pub use section::{Section, View};
+pub use section::{Coming, Section, View};
 pub use table::Table;

@@ -1,19 +1,21 @@
 //! The journal's lock, held.
 
-ghost use Rattle.std.specs.Prelude.{◌≡◌, ◌<◌, ◌≤◌, ℕ, ◌∷◌, [], Some, IfSome, length, max};
+ghost use Rattle.std.specs.Prelude.{◌≡◌, ◌≢◌, ◌<◌, ◌≤◌, ℕ, ◌∷◌, [], Some, IfSome, length, max};
 ghost use Rattle.std.specs.Sync.Mutex.{mutex_guard_value};
 ghost use Rattle.ll_journal.specs.Book.{Book};
 ghost use Rattle.ll_journal.specs.InWay.{IsInWay};
+ghost use Rattle.ll_journal.specs.Onward.{Names};
 ghost use Rattle.ll_journal.specs.Steps.{Does};
 ghost use Rattle.ll_worlds.specs.declared.step.Step.TheVariants.{Descend, Fork};
-ghost use Rattle.ll_walk.specs.Sections.{AreThere, Shows};
+ghost use Rattle.ll_walk.specs.Sections.{AreThere, IsComing, Shows};
+ghost use Rattle.ll_seq.specs.declared.call.Call.{Call};
 ghost use Rattle.ll_seq.specs.History.{IsLegal};
 ghost use Rattle.ll_seq.specs.State.{start};
 ghost use Rattle.ll_worlds.specs.Walks.{AreApart, AreFew, AreValid, GateIsHeld};
 ghost use Rattle.ll_journal.specs.SlotTree.{HoldTree, accounts_of};
 
 use ll_client::{Account, Client, Desk, Locked, Rider, Shape};
-use ll_journal::{Next, Progress, Station};
+use ll_journal::{Next, Onward, Progress, Station};
 use ll_tie::Tie;
 use std::sync::MutexGuard;
 
@@ -24,6 +26,13 @@ pub struct View {
     pub next: Next,
 }
 
+/// What comes next of a walk above its fork: it goes down, or makes another step.
+#[derive(Drop)]
+pub enum Coming {
+    Down(Onward),
+    Other(Next),
+}
+
 /// The journal's lock, held. Its one act uses it up, and lets the lock go. In it no other lock is waited for.
 pub struct Section<'a, N: Shape> {
     pub(crate) desk: MutexGuard<'a, Desk<N>>,
@@ -31,6 +40,7 @@ pub struct Section<'a, N: Shape> {
 
 /// A look at what comes next, from this slot.
 #[tactic(auto, using(crate::proofs::Looks::are_there))]
+#[inline(always)]
 fn next_at<N: Shape>(
     desk: &mut Desk<N>,
     tie: &Tie<N, Account>,
@@ -45,23 +55,48 @@ fn next_at<N: Shape>(
     desk.next_step(tie, me, here)
 }
 
-/// After a descent above the fork: from where the walk now stands.
-fn next_after<N: Shape>(
+/// The same above the fork.
+#[tactic(auto, using(crate::proofs::Looks::comes_down))]
+#[inline(always)]
+fn coming_at<N: Shape>(
     desk: &mut Desk<N>,
     tie: &Tie<N, Account>,
-    me: &Rider<N>,
+    me: &mut Rider<N>,
+    here: &mut Locked<N>,
+) -> Coming
+    ensures desk { desk.new ≡ desk.old }
+    ensures me { me.new ≡ me.old }
+    ensures here { here.new ≡ here.old }
+    ensures there { IsComing N.slots me.old.doing here.old result }
+{
+    desk.by_law();
+    match desk.onward(tie, me, here) {
+        Some(on) => Coming::Down(on),
+        None => Coming::Other(next_at(desk, tie, me, here)),
+    }
+}
+
+/// After a descent above the fork: from where the walk now stands.
+fn coming_after<N: Shape>(
+    desk: &mut Desk<N>,
+    tie: &Tie<N, Account>,
+    me: &mut Rider<N>,
     progress: &Progress,
     from: &mut Locked<N>,
     to: &mut Locked<N>,
-) -> Next
+) -> Coming
     ensures desk { desk.new ≡ desk.old }
+    ensures me { me.new ≡ me.old }
     ensures from { from.new ≡ from.old }
     ensures to { to.new ≡ to.old }
-    ensures there { AreThere N.slots result }
+    ensures there { (inode : ℕ) → progress.now ≡ Progress.Stands inode
+        → IsComing N.slots me.old.doing to.old result }
+    ensures still { ((inode : ℕ) → progress.now ≢ Progress.Stands inode)
+        → IsComing N.slots me.old.doing from.old result }
 {
     match progress {
-        Progress::Stands(_) => next_at(desk, tie, me, to),
-        _ => next_at(desk, tie, me, from),
+        Progress::Stands(_) => coming_at(desk, tie, me, to),
+        _ => coming_at(desk, tie, me, from),
     }
 }
 
@@ -146,39 +181,44 @@ impl<'a, N: Shape> Section<'a, N> {
         tie: &Tie<N, Account>,
         me: &mut Rider<N>,
         root: &mut Locked<N>,
-    ) -> (Progress, Next)
+    ) -> (Progress, Coming)
         ensures step { (w : Book) × Does (mutex_guard_value self.entry.desk) (Descend me.old.number) result.0 w
             × Shows (mutex_guard_value self.entry.desk) w (root.old ∷ []) (root.new ∷ []) }
         ensures stands { (inode : ℕ) → result.0 ≡ Progress.Stands inode
             → (root.new.held.inode ≡ inode) × (root.new.held.node.mark ≡ Some me.old.number) }
-        ensures there { AreThere N.slots result.1 }
+        ensures there { IsComing N.slots me.new.doing root.new result.1 }
         ensures mine { me.new ≡ me.old }
     {
         let Section { mut desk } = self;
         let progress = desk.enter(tie, me, root);
-        let next = next_at(&mut desk, tie, me, root);
-        (progress, next)
+        let coming = coming_at(&mut desk, tie, me, root);
+        (progress, coming)
     }
 
-    /// A descent of the client's walk above its fork, and a look at what comes next.
+    /// A descent of the client's walk above its fork, to where the last look told, and a look at what comes next.
     pub fn descend(
         self,
         tie: &Tie<N, Account>,
         me: &mut Rider<N>,
         from: &mut Locked<N>,
         to: &mut Locked<N>,
-    ) -> (Progress, Next)
+        on: Onward,
+    ) -> (Progress, Coming)
+        requires { (call : Call) → me.old.doing ≡ Some call → Names call from.old.held on.depth on.inode }
         ensures step { (w : Book) × Does (mutex_guard_value self.entry.desk) (Descend me.old.number) result.0 w
             × Shows (mutex_guard_value self.entry.desk) w (from.old ∷ to.old ∷ []) (from.new ∷ to.new ∷ []) }
         ensures stands { (inode : ℕ) → result.0 ≡ Progress.Stands inode
             → (to.new.held.inode ≡ inode) × (to.new.held.node.mark ≡ Some me.old.number) }
-        ensures there { AreThere N.slots result.1 }
+        ensures there { (inode : ℕ) → result.0 ≡ Progress.Stands inode
+            → IsComing N.slots me.new.doing to.new result.1 }
+        ensures still { ((inode : ℕ) → result.0 ≢ Progress.Stands inode)
+            → IsComing N.slots me.new.doing from.new result.1 }
         ensures mine { me.new ≡ me.old }
     {
         let Section { mut desk } = self;
-        let progress = desk.descend(tie, me, from, to);
-        let next = next_after(&mut desk, tie, me, &progress, from, to);
-        (progress, next)
+        let progress = desk.descend_onward(tie, me, from, to, on);
+        let coming = coming_after(&mut desk, tie, me, &progress, from, to);
+        (progress, coming)
     }
 
     /// The same from the directory of the fork.
@@ -262,12 +302,18 @@ impl<'a, N: Shape> Section<'a, N> {
     }
 
     /// The same above the fork, from the slot where the walk stands.
-    pub fn next_here(self, tie: &Tie<N, Account>, me: &Rider<N>, here: &mut Locked<N>) -> Next
+    pub fn coming_here(
+        self,
+        tie: &Tie<N, Account>,
+        me: &mut Rider<N>,
+        here: &mut Locked<N>,
+    ) -> Coming
         ensures here { here.new ≡ here.old }
-        ensures there { AreThere N.slots result }
+        ensures there { IsComing N.slots me.new.doing here.new result }
+        ensures mine { me.new ≡ me.old }
     {
         let Section { mut desk } = self;
-        next_at(&mut desk, tie, me, here)
+        coming_at(&mut desk, tie, me, here)
     }
 
     /// The same past the fork, from one slot.

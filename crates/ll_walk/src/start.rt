@@ -1,15 +1,20 @@
 //! One start of a walk, on what is common to its paths.
 
-ghost use Rattle.std.specs.Prelude.{◌≡◌, ◌<◌, IfSome};
-ghost use Rattle.ll_walk.specs.Sections.{AreThere, Came};
+ghost use Rattle.std.specs.Prelude.{◌≡◌, ◌<◌, Some, IfSome};
+ghost use Rattle.std.specs.Sync.Mutex.{mutex_guard_value};
+ghost use Rattle.ll_seq.specs.declared.call.Call.{Call};
+ghost use Rattle.ll_journal.specs.Onward.{Names};
+ghost use Rattle.ll_walk.specs.Sections.{Came, IsComing};
+ghost use Rattle.ll_client.specs.Entries.{Kept};
 ghost use Rattle.ll_client.specs.Gains.{Goes};
 ghost use Rattle.ll_walk.specs.Ends.{made_of};
 
 use crate::gate::Gate;
 use crate::held::{other_than, unless_held};
+use crate::section::Coming;
 use crate::table::Table;
 use ll_client::{Leaving, Left, Locked, Rider, Shape};
-use ll_journal::{Made, Next, Progress};
+use ll_journal::{Made, Next, Onward, Progress};
 use std::sync::{MutexGuard, Wait};
 use std::thread;
 
@@ -26,22 +31,24 @@ pub(crate) fn made_of(left: Left) -> Option<Made>
 }
 
 impl<N: Shape, G: Gate<N>> Table<N, G> {
-    /// The walk comes to the root, and holds it.
-    fn enter<R: Wait>(&self, rt: &R, me: &mut Rider<N>) -> (MutexGuard<'_, Locked<N>>, Next)
-        ensures there { AreThere N.slots result.1 }
+    /// The walk comes to the root, and holds it. The root's slot is the one where it lay when the tree was opened; only
+    /// if it isn't found there is it looked up.
+    fn enter<R: Wait>(&self, rt: &R, me: &mut Rider<N>) -> (MutexGuard<'_, Locked<N>>, Coming)
+        ensures there { IsComing N.slots me.new.doing (mutex_guard_value {X = Kept} result.0) result.1 }
         ensures mine { me.new ≡ me.old }
     {
         let client = me.number();
+        let mut slot = self.root;
         for _ in rt.forever() {
-            let slot = self.section(rt).root_slot();
             let mut root = self.locked(rt, slot);
-            let (progress, next) = self.section(rt).enter(&self.tie, me, &mut root);
+            let (progress, coming) = self.section(rt).enter(&self.tie, me, &mut root);
             if let Progress::Stands(inode) = progress {
                 self.gate.held(client, inode, &root);
-                return (root, next);
+                return (root, coming);
             }
             drop(root);
             thread::yield_now();
+            slot = self.section(rt).root_slot();
         }
         unreachable!()
     }
@@ -52,15 +59,19 @@ impl<N: Shape, G: Gate<N>> Table<N, G> {
         rt: &R,
         me: &mut Rider<N>,
         mut here: MutexGuard<'a, Locked<N>>,
-        next: u64,
-    ) -> (MutexGuard<'a, Locked<N>>, Next)
-        requires { next < N.slots }
-        ensures there { AreThere N.slots result.1 }
+        on: Onward,
+    ) -> (MutexGuard<'a, Locked<N>>, Coming)
+        requires within { on.slot < N.slots }
+        requires names { (call : Call) → me.old.doing ≡ Some call
+            → Names call (mutex_guard_value {X = Kept} here).held on.depth on.inode }
+        ensures there { IsComing N.slots me.new.doing (mutex_guard_value {X = Kept} result.0) result.1 }
         ensures mine { me.new ≡ me.old }
     {
         let client = me.number();
-        let mut to = self.locked(rt, next);
-        let (progress, then) = self.section(rt).descend(&self.tie, me, &mut here, &mut to);
+        let mut to = self.locked(rt, on.slot);
+        let (progress, then) = self
+            .section(rt)
+            .descend(&self.tie, me, &mut here, &mut to, on);
         match progress {
             Progress::Stands(inode) => {
                 drop(here);
@@ -103,13 +114,16 @@ impl<N: Shape, G: Gate<N>> Table<N, G> {
     pub(crate) fn start<R: Wait>(&self, rt: &R, me: &mut Rider<N>) -> Option<Made>
         ensures { Came N.limit me.old result me.new }
     {
-        let (mut here, mut next) = self.enter(rt, me);
+        let (mut here, mut coming) = self.enter(rt, me);
         for _ in rt.forever() {
-            match next {
-                Next::Descend(slot) => {
-                    (here, next) = self.further(rt, me, here, slot);
+            let next = match coming {
+                Coming::Down(on) => {
+                    (here, coming) = self.further(rt, me, here, on);
                     continue;
                 }
+                Coming::Other(next) => next,
+            };
+            match next {
                 Next::Fork => {
                     let (progress, view) = self.section(rt).fork(&self.tie, me, &mut here);
                     if progress == Progress::Forked {
@@ -132,11 +146,11 @@ impl<N: Shape, G: Gate<N>> Table<N, G> {
                         return Some(made);
                     }
                 }
-                Next::Nothing | Next::Enter(_) => {}
+                Next::Nothing | Next::Enter(_) | Next::Descend(_) => {}
             }
             let way = self.section(rt).slot_in_way_here(&self.tie, me, &mut here);
             self.wait_for(rt, unless_held(way, &[here.number()]));
-            next = self.section(rt).next_here(&self.tie, me, &mut here);
+            coming = self.section(rt).coming_here(&self.tie, me, &mut here);
         }
         unreachable!()
     }

@@ -20,10 +20,12 @@ use std::thread;
 pub struct Table<N: Shape, G: Gate<N>> {
     pub(crate) tie: Tie<N, Account>,
     pub(crate) slots: Vec<Mutex<Locked<N>>>,
+    pub(crate) root: u64,
     pub(crate) desk: Mutex<Desk<N>>,
     pub(crate) moving: Mutex<()>,
     pub(crate) gate: G,
     ghost all_slots: { vec_len slots ≡ N.slots },
+    ghost root_there: { root < N.slots },
 }
 
 /// Each slot with a lock.
@@ -61,9 +63,12 @@ impl<N: Shape, G: Gate<N>> Table<N, G> {
         requires rules { N.rules ≡ rules }
     {
         let Opened { tie, desk, slots } = open::<N>(alloc, blank, rules, nodes, history)?;
+        desk.by_law();
+        let root = desk.root_slot();
         Ok(Table {
             tie,
             slots: locks(alloc, slots)?,
+            root,
             desk: Mutex::new(desk),
             moving: Mutex::new(()),
             gate,
@@ -81,6 +86,7 @@ impl<N: Shape, G: Gate<N>> Table<N, G> {
         let Table {
             tie,
             slots,
+            root,
             desk,
             moving,
             gate,
@@ -93,6 +99,7 @@ impl<N: Shape, G: Gate<N>> Table<N, G> {
                 let table = Table {
                     tie,
                     slots,
+                    root,
                     desk: Mutex::new(desk),
                     moving,
                     gate,
@@ -103,6 +110,7 @@ impl<N: Shape, G: Gate<N>> Table<N, G> {
     }
 
     /// The journal's lock, taken.
+    #[inline(always)]
     pub fn section<R: Wait>(&self, rt: &R) -> Section<'_, N> {
         Section {
             desk: self.desk.lock(rt),
@@ -110,6 +118,7 @@ impl<N: Shape, G: Gate<N>> Table<N, G> {
     }
 
     /// The slot of this number, locked.
+    #[inline(always)]
     pub fn locked<R: Wait>(&self, rt: &R, slot: u64) -> MutexGuard<'_, Locked<N>>
         requires { slot < N.slots }
         ensures { (mutex_guard_value {X = Kept} result).number ≡ slot }

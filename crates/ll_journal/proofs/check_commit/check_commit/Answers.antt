@@ -3,6 +3,7 @@ use Rattle.ll_rights.specs.Map.{len}
 use Rattle.ll_seq.specs.State.{Name}
 use Rattle.ll_worlds.specs.World as world
 use Rattle.ll_journal.specs.Checks.{StopsBy}
+use Rattle.ll_journal.specs.CommitCheck.{check_of}
 use Rattle.ll_journal.specs.Seated.{next_in}
 use Rattle.ll_journal.proofs.check_commit.check_commit.Goals as goal
 
@@ -14,6 +15,7 @@ returns-in-None c = λ w s spares walks table.
       sym c.is_all_lent.ensures ∙ c.if-not-is_all_lent.false,
       subst (λ (next : Option Name). StopsBy c.args.sight.now.table.now.facts
           (nat_le c.args.sight.now.room (len s.nodes)) (world.is_marked_by_other w c.args.client)
-          c.args.sight.now.slots.now c.args.sight.now.lent.now c.args.seat.now next c.check_at_ends.result)
+          c.args.sight.now.slots.now c.args.sight.now.lent.now c.args.seat.now next
+          (check_of c.check_at_ends.result c.check_at_ends.new.into))
           (sym none) (c.check_at_ends.ensures w s spares walks table),
     ))

@@ -6,10 +6,10 @@ use Rattle.ll_walk.proofs.section.Section.descend.Goals as goal
 
 pub returns-clause-step : goal.returns-clause-step
 returns-clause-step g c =
-    let w = c.descend-progress.new.self in
-    let done = c.descend-progress.ensures in
-    let still = c.next_after-next.ensures in
-    stepped (λ b x. Does b (Descend c.args.me.now.number) c.descend-progress.result x) _ _ w _ _
+    let w = c.descend_onward-progress.new.self in
+    let done = c.descend_onward-progress.ensures in
+    let still = c.coming_after-coming.ensures in
+    stepped (λ b x. Does b (Descend c.args.me.now.number) c.descend_onward-progress.result x) _ _ w _ _
     c.deref_mut.ensures.value done.does
     (shows_2 _ w _ _ _ _ (turns _ w _ _ done.from_before (still.from ∙ done.from_after))
     (turns _ w _ _ done.to_before (still.to ∙ done.to_after)) done.spares)

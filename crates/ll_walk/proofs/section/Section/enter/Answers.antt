@@ -8,7 +8,7 @@ pub returns-clause-step : goal.returns-clause-step
 returns-clause-step g c =
     let w = c.enter-progress.new.self in
     let done = c.enter-progress.ensures in
-    let still = c.next_at-next.ensures in
+    let still = c.coming_at-coming.ensures in
     stepped (λ b x. Does b (Descend c.args.me.now.number) c.enter-progress.result x) _ _ w _ _
     c.deref_mut.ensures.value done.does
     (shows_1 _ w _ _ (turns _ w _ _ done.before (still.here ∙ done.after)) done.spares)

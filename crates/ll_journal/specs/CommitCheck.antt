@@ -1,0 +1,20 @@
+-- Why a commit isn't made, or what it finds. No public contract cites it. own
+use Rattle.ll_rights.specs.declared.errno.Errno.{Errno}
+use Rattle.ll_answer.specs.declared.found.Found.{Found}
+use Rattle.ll_journal.specs.declared.check_commit.Stop.{Stop}
+use Rattle.ll_journal.specs.declared.check_commit.Stop.TheVariants as code
+
+-- what the code tells in two parts: not now; other slots are lent than it may need; the leg in turn can't go on, which
+-- is refused so; or each branch is at its end, with this found
+pub data CommitCheck : Type 0 where
+  NotNow : CommitCheck
+  Astray : CommitCheck
+  Blocked : (errno : Errno) → CommitCheck
+  Reached : (found : Found) → CommitCheck
+
+-- with this in the place for what is found
+abbrev pub check_of : Stop → Found → CommitCheck
+check_of code.NotNow found = NotNow
+check_of code.Astray found = Astray
+check_of (code.Blocked errno) found = Blocked errno
+check_of code.Reached found = Reached found

@@ -1,0 +1,23 @@
+-- What a look on a walk's way tells: the name that its directory has for the next one. own
+use Rattle.std.specs.Prelude.{◌≡◌, ℕ, Bool, true, false, Option, Some, slice_get}
+use Rattle.std.specs.Option.{option_map_or}
+use Rattle.ll_rights.specs.Map.{get}
+use Rattle.ll_seq.specs.declared.call.Call.{Call}
+use Rattle.ll_seq.specs.Call.{first_path}
+use Rattle.ll_seq.specs.State.{Name}
+use Rattle.ll_worlds.specs.Walk.{Position, Split, Walk}
+use Rattle.ll_held.specs.declared.held.Held.{Held}
+
+-- The name at this depth of the call's first path stands for the inode in the directory that lies here
+abbrev pub Names : Call → Held → ℕ → ℕ → Type 0
+Names call held depth inode =
+    (name : Name) × (slice_get (first_path call) depth ≡ Some name) × (get held.node.names name ≡ Some inode)
+
+-- each path has its own leg
+abbrev pub is_split : Position → Bool
+is_split (Split trunk old new) = true
+is_split at = false
+
+-- there is a walk, past its fork
+abbrev pub is_past_fork : Option Walk → Bool
+is_past_fork walk = option_map_or (λ (w : Walk). is_split w.at) walk false
