@@ -146,6 +146,7 @@ impl<N: Shape, G: Gate<N>> Table<N, G> {
                         return Some(made);
                     }
                 }
+                // Where a walk above its fork goes down, `Coming::Down` told it.
                 Next::Nothing | Next::Enter(_) | Next::Descend(_) => {}
             }
             let way = self.section(rt).slot_in_way_here(&self.tie, me, &mut here);
