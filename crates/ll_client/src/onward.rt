@@ -1,8 +1,9 @@
 //! A walk goes down by what the last look told.
 
-ghost use Rattle.std.specs.Prelude.{◌≡◌, ◌<◌, ◌∷◌, [], ℕ, Some, IfSome, length};
+ghost use Rattle.std.specs.Prelude.{◌≡◌, ◌<◌, ◌∷◌, [], ℕ, true, Some, IfSome, IfNone, length};
+ghost use Rattle.ll_rights.specs.Map.{get};
 ghost use Rattle.ll_seq.specs.declared.call.Call.{Call};
-ghost use Rattle.ll_journal.specs.Onward.{Names};
+ghost use Rattle.ll_journal.specs.Onward.{Names, is_past_fork};
 
 use crate::account::Account;
 use crate::desk::Desk;
@@ -15,7 +16,7 @@ use ll_tie::Tie;
 
 impl<N: Shape> Desk<N> {
     ghost use Rattle.ll_journal.specs.Book.{Spares, slot_of};
-    ghost use Rattle.ll_journal.specs.Steps.{Does, IsAstrayBelow, IsNext};
+    ghost use Rattle.ll_journal.specs.Steps.{Does, GoesDown, IsAstrayBelow, IsNext};
     ghost use Rattle.ll_worlds.specs.declared.step.Step.TheVariants.{Descend};
 
     /// The directory to which the client's walk would go down from the one in this slot. None where it wouldn't, where
@@ -31,6 +32,8 @@ impl<N: Shape> Desk<N> {
         ensures within { IfSome result (λ on. on.slot < length self.old.inodes) }
         ensures names { IfSome result (λ on. (call : Call) → me.old.doing ≡ Some call
             → Names call here.old.held on.depth on.inode) }
+        ensures none { IfNone result (GoesDown self.old me.old.number here.old.number
+            → is_past_fork (get self.old.world.walks me.old.number) ≡ true) }
         ensures same { self.new ≡ self.old }
         ensures after { here.new ≡ here.old }
         ensures mine { me.new ≡ me.old }

@@ -10,7 +10,9 @@ use Rattle.ll_journal.specs.declared.onward.Onward.{Onward}
 use Rattle.ll_client.specs.Entries.{Kept}
 use Rattle.ll_seq.specs.declared.call.Call.{Call}
 use Rattle.ll_walk.specs.declared.section.Coming.TheVariants as coming
-use Rattle.ll_walk.specs.Sections.{AreThere, IsComing}
+use Rattle.ll_journal.specs.declared.progress.Progress.{Progress}
+use Rattle.ll_walk.specs.declared.section.Coming.{Coming}
+use Rattle.ll_walk.specs.Sections.{AreThere, IsComing, Sees, SeesAfter}
 
 pub are_there : (b : Book) (slots : ℕ) (it : Next) → length b.inodes ≡ slots → CanBeLent b it → AreThere slots it
 are_there b slots next.Nothing is h = tt
@@ -24,3 +26,14 @@ pub comes_down : (b : Book) (slots : ℕ) (doing : Option Call) (here : Kept) (o
     → on.slot < length b.inodes → ((call : Call) → doing ≡ Some call → Names call here.held on.depth on.inode)
     → IsComing slots doing here (coming.Down on)
 comes_down b slots doing here on is within names = (subst (λ (n : ℕ). on.slot < n) is within, names)
+
+-- the same book, client and slots, by other names
+pub sees_as : (b w : Book) (m n j k : ℕ) (it : Coming) → b ≡ w → m ≡ n → j ≡ k → Sees b m j it → Sees w n k it
+sees_as b w m n j k it book number slot =
+    subst (λ (p : Book × (ℕ × ℕ)). Sees p.0 p.1.0 p.1.1 it) (λ i. (book i, (number i, slot i)))
+
+pub sees_after_as : (b w : Book) (m n j k h l : ℕ) (made : Progress) (it : Coming) → b ≡ w → m ≡ n → j ≡ k → h ≡ l
+    → SeesAfter b m j h made it → SeesAfter w n k l made it
+sees_after_as b w m n j k h l made it book number from to =
+    subst (λ (p : Book × (ℕ × (ℕ × ℕ))). SeesAfter p.0 p.1.0 p.1.1.0 p.1.1.1 made it)
+    (λ i. (book i, (number i, (from i, to i))))

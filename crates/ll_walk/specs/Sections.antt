@@ -1,13 +1,17 @@
 -- What a section is, and what a walk's start comes to. own
 use Rattle.std.specs.Prelude.{◌≡◌, ℕ, ◌<◌, List, map, Option, Some, None, ⊤, true}
 use Rattle.std.specs.List.{AllByRecursion}
+use Rattle.ll_rights.specs.Map.{get}
 use Rattle.ll_answer.specs.Passed.{has_path}
 use Rattle.ll_seq.specs.declared.call.Call.{Call}
 use Rattle.ll_journal.specs.declared.direct.Made.{Made}
+use Rattle.ll_journal.specs.declared.progress.Progress.{Progress}
+use Rattle.ll_journal.specs.declared.progress.Progress.TheVariants as progress
 use Rattle.ll_journal.specs.declared.next.Next.{Next}
 use Rattle.ll_journal.specs.declared.next.Next.TheVariants as next
 use Rattle.ll_journal.specs.Book.{Book, Spares}
-use Rattle.ll_journal.specs.Onward.{Names}
+use Rattle.ll_journal.specs.Onward.{Names, is_past_fork}
+use Rattle.ll_journal.specs.Steps.{GoesDown, IsNext}
 use Rattle.ll_client.specs.Entries.{Kept, Knows}
 use Rattle.ll_client.specs.Coming.{kept_at}
 use Rattle.ll_client.specs.Gains.{Gains}
@@ -44,3 +48,18 @@ abbrev pub IsComing : ℕ → Option Call → Kept → Coming → Type 0
 IsComing slots doing here (coming.Down on) =
     (on.slot < slots) × ((call : Call) → doing ≡ Some call → Names call here.held on.depth on.inode)
 IsComing slots doing here (coming.Other next) = AreThere slots next
+
+-- Of the client's walk in this book, seen from the slot: where it is told to go down, that is where it would go; and
+-- where it would go down, it is told so, unless it is past its fork
+abbrev pub Sees : Book → ℕ → ℕ → Coming → Type 0
+Sees b number slot (coming.Down on) = IsNext b number slot on.slot
+Sees b number slot (coming.Other next) =
+    GoesDown b number slot → is_past_fork (get b.world.walks number) ≡ true
+
+-- the same after a descent from the one slot to the other: from where the walk now stands
+abbrev pub SeesAfter : Book → ℕ → ℕ → ℕ → Progress → Coming → Type 0
+SeesAfter b number from to (progress.Stands inode) it = Sees b number to it
+SeesAfter b number from to progress.NotNow it = Sees b number from it
+SeesAfter b number from to progress.Astray it = Sees b number from it
+SeesAfter b number from to progress.Forked it = Sees b number from it
+SeesAfter b number from to progress.Restarted it = Sees b number from it

@@ -128,7 +128,7 @@ impl<N: Shape, G: Gate<N>> Table<N, G> {
         }
         let mut moving = None;
         if takes_gate(&call) {
-            moving = Some(self.moving.lock(rt));
+            moving = Some(self.soon(rt, &self.moving));
         }
         let rider = &mut me.rider;
         match self.section(rt).start(&self.tie, rider, call) {

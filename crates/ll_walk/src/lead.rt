@@ -42,7 +42,7 @@ impl<N: Shape, G: Gate<N>> Table<N, G> {
         }
         let moving = match moving {
             Some(guard) => guard,
-            None => self.moving.lock(rt),
+            None => self.soon(rt, &self.moving),
         };
         let made = self.last_start(rt, me);
         drop(moving);

@@ -7,7 +7,7 @@ ghost use Rattle.ll_journal.specs.InWay.{IsInWay};
 ghost use Rattle.ll_journal.specs.Onward.{Names};
 ghost use Rattle.ll_journal.specs.Steps.{Does};
 ghost use Rattle.ll_worlds.specs.declared.step.Step.TheVariants.{Descend, Fork};
-ghost use Rattle.ll_walk.specs.Sections.{AreThere, IsComing, Shows};
+ghost use Rattle.ll_walk.specs.Sections.{AreThere, IsComing, Sees, SeesAfter, Shows};
 ghost use Rattle.ll_seq.specs.declared.call.Call.{Call};
 ghost use Rattle.ll_seq.specs.History.{IsLegal};
 ghost use Rattle.ll_seq.specs.State.{start};
@@ -68,6 +68,7 @@ fn coming_at<N: Shape>(
     ensures me { me.new ≡ me.old }
     ensures here { here.new ≡ here.old }
     ensures there { IsComing N.slots me.old.doing here.old result }
+    ensures sees { Sees desk.old me.old.number here.old.number result }
 {
     desk.by_law();
     match desk.onward(tie, me, here) {
@@ -93,6 +94,7 @@ fn coming_after<N: Shape>(
         → IsComing N.slots me.old.doing to.old result }
     ensures still { ((inode : ℕ) → progress.now ≢ Progress.Stands inode)
         → IsComing N.slots me.old.doing from.old result }
+    ensures sees { SeesAfter desk.old me.old.number from.old.number to.old.number progress.now result }
 {
     match progress {
         Progress::Stands(_) => coming_at(desk, tie, me, to),
@@ -182,7 +184,8 @@ impl<'a, N: Shape> Section<'a, N> {
         me: &mut Rider<N>,
         root: &mut Locked<N>,
     ) -> (Progress, Coming)
-        ensures step { (w : Book) × Does (mutex_guard_value self.entry.desk) (Descend me.old.number) result.0 w
+        ensures step { (w : Book) × (Does (mutex_guard_value self.entry.desk) (Descend me.old.number) result.0 w
+            × Sees w me.old.number root.old.number result.1)
             × Shows (mutex_guard_value self.entry.desk) w (root.old ∷ []) (root.new ∷ []) }
         ensures stands { (inode : ℕ) → result.0 ≡ Progress.Stands inode
             → (root.new.held.inode ≡ inode) × (root.new.held.node.mark ≡ Some me.old.number) }
@@ -205,7 +208,8 @@ impl<'a, N: Shape> Section<'a, N> {
         on: Onward,
     ) -> (Progress, Coming)
         requires { (call : Call) → me.old.doing ≡ Some call → Names call from.old.held on.depth on.inode }
-        ensures step { (w : Book) × Does (mutex_guard_value self.entry.desk) (Descend me.old.number) result.0 w
+        ensures step { (w : Book) × (Does (mutex_guard_value self.entry.desk) (Descend me.old.number) result.0 w
+            × SeesAfter w me.old.number from.old.number to.old.number result.0 result.1)
             × Shows (mutex_guard_value self.entry.desk) w (from.old ∷ to.old ∷ []) (from.new ∷ to.new ∷ []) }
         ensures stands { (inode : ℕ) → result.0 ≡ Progress.Stands inode
             → (to.new.held.inode ≡ inode) × (to.new.held.node.mark ≡ Some me.old.number) }
@@ -310,6 +314,7 @@ impl<'a, N: Shape> Section<'a, N> {
     ) -> Coming
         ensures here { here.new ≡ here.old }
         ensures there { IsComing N.slots me.new.doing here.new result }
+        ensures sees { Sees (mutex_guard_value self.entry.desk) me.old.number here.old.number result }
         ensures mine { me.new ≡ me.old }
     {
         let Section { mut desk } = self;

@@ -12,8 +12,41 @@ use ll_client::{Account, Client, Desk, Locked, Opened, Shape, close, open};
 use ll_seq::{History, Rules};
 use ll_tie::{Blank, Tie};
 use std::alloc::{AllocError, Global};
+use std::hint::spin_loop;
+use std::sync::atomic::{AtomicU64, Ordering};
 use std::sync::{Mutex, MutexGuard, Wait};
 use std::thread;
+
+/// How often a lock that another thread holds is tried before the thread sleeps until it is let go.
+const TRIES: u32 = 20;
+
+/// How many pauses the processor makes before the first try. Before each further one it makes twice as many, up to the
+/// most.
+const PAUSES: u32 = 16;
+
+const MOST_PAUSES: u32 = 512;
+
+/// So few threads wait awake. More would keep the processors from those that hold the locks.
+const MOST_AWAKE: u64 = 3;
+
+/// The lock, if it is let go within a while.
+fn tried<T>(lock: &Mutex<T>) -> Option<MutexGuard<'_, T>> {
+    let mut pauses = PAUSES;
+    for _ in 0..TRIES {
+        for _ in 0..pauses {
+            spin_loop();
+        }
+        if let Some(guard) = lock.try_lock() {
+            return Some(guard);
+        }
+        if pauses < MOST_PAUSES {
+            pauses *= 2;
+        } else {
+            thread::yield_now();
+        }
+    }
+    None
+}
 
 /// A tree that threads share: a lock for each slot, one for the journal, and the move gate.
 #[derive(Drop)]
@@ -24,6 +57,8 @@ pub struct Table<N: Shape, G: Gate<N>> {
     pub(crate) desk: Mutex<Desk<N>>,
     pub(crate) moving: Mutex<()>,
     pub(crate) gate: G,
+    /// How many threads wait for one of these locks.
+    pub(crate) waiting: AtomicU64,
     ghost all_slots: { vec_len slots ≡ N.slots },
     ghost root_there: { root < N.slots },
 }
@@ -72,6 +107,7 @@ impl<N: Shape, G: Gate<N>> Table<N, G> {
             desk: Mutex::new(desk),
             moving: Mutex::new(()),
             gate,
+            waiting: AtomicU64::new(0),
         })
     }
 
@@ -90,6 +126,7 @@ impl<N: Shape, G: Gate<N>> Table<N, G> {
             desk,
             moving,
             gate,
+            waiting,
         } = self;
         let desk = desk.into_inner();
         desk.by_law();
@@ -103,9 +140,36 @@ impl<N: Shape, G: Gate<N>> Table<N, G> {
                     desk: Mutex::new(desk),
                     moving,
                     gate,
+                    waiting,
                 };
                 Err((table, clients))
             }
+        }
+    }
+
+    /// The lock, taken, where another thread holds it. Locks are held for short, and a thread that sleeps is slow to
+    /// wake: so where few threads wait, this one tries for a while before it sleeps.
+    fn late<'a, T, R: Wait>(&self, rt: &R, lock: &'a Mutex<T>) -> MutexGuard<'a, T> {
+        let others = self.waiting.fetch_add(1, Ordering::Relaxed);
+        let found = if others < MOST_AWAKE {
+            tried(lock)
+        } else {
+            None
+        };
+        let guard = match found {
+            Some(guard) => guard,
+            None => lock.lock(rt),
+        };
+        let _ = self.waiting.fetch_sub(1, Ordering::Relaxed);
+        guard
+    }
+
+    /// The lock, taken.
+    #[inline(always)]
+    pub(crate) fn soon<'a, T, R: Wait>(&self, rt: &R, lock: &'a Mutex<T>) -> MutexGuard<'a, T> {
+        match lock.try_lock() {
+            Some(guard) => guard,
+            None => self.late(rt, lock),
         }
     }
 
@@ -113,7 +177,7 @@ impl<N: Shape, G: Gate<N>> Table<N, G> {
     #[inline(always)]
     pub fn section<R: Wait>(&self, rt: &R) -> Section<'_, N> {
         Section {
-            desk: self.desk.lock(rt),
+            desk: self.soon(rt, &self.desk),
         }
     }
 
@@ -126,7 +190,7 @@ impl<N: Shape, G: Gate<N>> Table<N, G> {
         // No type says that the lock of a place is that of the slot of this number: it is looked up, and is so each
         // time.
         for _ in rt.forever() {
-            let guard = self.slots[slot as usize].lock(rt);
+            let guard = self.soon(rt, &self.slots[slot as usize]);
             if guard.number() == slot {
                 return guard;
             }
