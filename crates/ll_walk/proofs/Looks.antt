@@ -32,8 +32,8 @@ pub sees_as : (b w : Book) (m n j k : ℕ) (it : Coming) → b ≡ w → m ≡ n
 sees_as b w m n j k it book number slot =
     subst (λ (p : Book × (ℕ × ℕ)). Sees p.0 p.1.0 p.1.1 it) (λ i. (book i, (number i, slot i)))
 
-pub sees_after_as : (b w : Book) (m n j k h l : ℕ) (made : Progress) (it : Coming) → b ≡ w → m ≡ n → j ≡ k → h ≡ l
-    → SeesAfter b m j h made it → SeesAfter w n k l made it
+pub sees_after_as : (b w : Book) (m n j k h l : ℕ) (made : Progress) (it : Coming) → b ≡ w → m ≡ n → j ≡ k
+    → h ≡ l → SeesAfter b m j h made it → SeesAfter w n k l made it
 sees_after_as b w m n j k h l made it book number from to =
     subst (λ (p : Book × (ℕ × (ℕ × ℕ))). SeesAfter p.0 p.1.0 p.1.1.0 p.1.1.1 made it)
     (λ i. (book i, (number i, (from i, to i))))
