@@ -183,8 +183,15 @@ def error_of(reply):
 # ---- words of commands
 
 
+def whole(number):
+    """Returns the number as an int, which `operator.index` gives from Python 3.10 on alone. True and False are none."""
+    if isinstance(number, bool):
+        raise ValueError(f"a number is wanted: {number}")
+    return int(operator.index(number))
+
+
 def number_word(number):
-    number = operator.index(number)
+    number = whole(number)
     if not 0 <= number < 2**64:
         raise ValueError(f"a number is from 0 to 2^64 - 1: {number}")
     return str(number)
@@ -499,7 +506,7 @@ class Landtree:
         numbers = {"nodes": nodes, "abi": abi, "history": history}
         texts = {"policy": policy, "profile": profile, "save": save}
         words = [program, "run", "-"]
-        words += [f"--{name}={operator.index(it)}" for name, it in numbers.items() if it is not None]
+        words += [f"--{name}={whole(it)}" for name, it in numbers.items() if it is not None]
         words += [f"--{name}={os.fsdecode(it)}" for name, it in texts.items() if it is not None]
         return cls._opened(Process(words))
 
@@ -511,7 +518,7 @@ class Landtree:
         does, `ProgramFault` where the program closes the connection, and `OSError` where nobody listens. The program
         may close a connection that says nothing for long (`--idle`); the next call raises `ProgramFault` then.
         """
-        port = operator.index(port)
+        port = whole(port)
         if not 1 <= port <= 65_535:
             raise ValueError(f"a port is from 1 to 65,535: {port}")
         return cls._opened(Connection(port))

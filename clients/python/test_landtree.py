@@ -444,7 +444,7 @@ class Unsaid(Case):
             self.assertRaises(ValueError, self.client.open, mode, "/f")
 
     def test_numbers(self):
-        for number in (-1, 2**64):
+        for number in (-1, 2**64, True, False):
             for call in (self.client.close, self.client.confine):
                 self.assertRaises(ValueError, call, number)
             for numbers in ((number, 0, 0), (0, number, 0), (0, 0, number)):
@@ -490,6 +490,12 @@ class Lines(Case):
         wanted = [f"@2 rename // {'x' * 8000}", "@2 allow 15 /a refer,truncate", "ftruncate 18446744073709551615 0"]
         self.assertEqual(sent, wanted)
 
+    def test_numbers_with_names(self):
+        transport = mock.Mock()
+        transport.send.return_value = "ok"
+        Client(transport, 1).close(signal.SIGINT)
+        transport.send.assert_called_once_with(f"close {signal.SIGINT.value}")
+
     def test_each_mode(self):
         transport = mock.Mock()
         transport.send.return_value = "fd 0"
@@ -525,6 +531,11 @@ class Programs(Case):
 
     def test_no_program(self):
         self.assertRaises(FileNotFoundError, Landtree.run, self.room / "landtree")
+
+    def test_options_that_are_no_numbers(self):
+        for name in ("nodes", "abi", "history"):
+            self.assertRaises(ValueError, run, **{name: True})
+            self.assertRaises(TypeError, run, **{name: "1"})
 
     def test_worked_faults(self):
         seen = 0
@@ -725,7 +736,7 @@ class Connections(Case):
         self.assertRaises(ConnectionRefusedError, Landtree.connect, free_port())
 
     def test_ports(self):
-        for port in (0, -1, 65_536):
+        for port in (0, -1, 65_536, True):
             self.assertRaises(ValueError, Landtree.connect, port)
         for port in ("7000", 7000.0, None):
             self.assertRaises(TypeError, Landtree.connect, port)
