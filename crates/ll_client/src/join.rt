@@ -91,9 +91,14 @@ impl<N: Shape> Desk<N> {
     ) -> Result<Client<N>, Errno>
         ensures joined { IfOk result (λ client.
             advance self.old.world Join ≡ (Joined client.rider.number, self.new.world)) }
+        ensures refused { IfErr result (λ errno. errno ≢ Errno.NoMemory
+            → advance self.old.world Join ≡ (Replied (Refused errno), self.old.world)) }
+        ensures starved { IfErr result (λ errno. errno ≡ Errno.NoMemory → (after : World)
+            × (advance self.old.world Join ≡ (Joined (next_number self.old.world), after))) }
         ensures errors { IfErr result HasNoPlace }
         ensures same { OnErr result (self.new ≡ self.old) }
         ensures spares { Spares self.old self.new [] }
+        ensures rest { OnOk result (TakesSpare self.old self.new) }
         ensures client { IfOk result (λ client. client.rider
             ≡ knows client.rider.number (numbered client.rider.seen Connect Done ∷ []) [] client.rider.seen None) }
         ensures after { IfOk result (λ client. me.old.rider.seen < client.rider.seen) }

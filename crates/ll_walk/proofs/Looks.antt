@@ -1,5 +1,5 @@
 -- A look at what comes next tells slots of the tree.
-use Rattle.std.proofs.Common.{◌≡◌, ℕ, ◌<◌, length, Option, Some, subst}
+use Rattle.std.proofs.Common.{◌≡◌, ℕ, ◌<◌, length, Option, Some, None, IfNone, subst}
 use Rattle.std.specs.List.{AllByRecursion}
 use Rattle.ll_journal.specs.Book.{Book}
 use Rattle.ll_journal.specs.declared.next.Next.{Next}
@@ -12,7 +12,8 @@ use Rattle.ll_seq.specs.declared.call.Call.{Call}
 use Rattle.ll_walk.specs.declared.section.Coming.TheVariants as coming
 use Rattle.ll_journal.specs.declared.progress.Progress.{Progress}
 use Rattle.ll_walk.specs.declared.section.Coming.{Coming}
-use Rattle.ll_walk.specs.Sections.{AreThere, IsComing, Sees, SeesAfter}
+use Rattle.ll_walk.specs.declared.section.View.{View}
+use Rattle.ll_walk.specs.Sections.{AreThere, IsComing, IsView, IsViewAfter, IsViewFrom, Sees, SeesAfter}
 
 pub are_there : (b : Book) (slots : ℕ) (it : Next) → length b.inodes ≡ slots → CanBeLent b it → AreThere slots it
 are_there b slots next.Nothing is h = tt
@@ -37,3 +38,24 @@ pub sees_after_as : (b w : Book) (m n j k h l : ℕ) (made : Progress) (it : Com
 sees_after_as b w m n j k h l made it book number from to =
     subst (λ (p : Book × (ℕ × (ℕ × ℕ))). SeesAfter p.0 p.1.0 p.1.1.0 p.1.1.1 made it)
     (λ i. (book i, (number i, (from i, to i))))
+
+pub view_as : (b w : Book) (m n j k : ℕ) (it : View) → b ≡ w → m ≡ n → j ≡ k → IsView b m j it → IsView w n k it
+view_as b w m n j k it book number slot =
+    subst (λ (p : Book × (ℕ × ℕ)). IsView p.0 p.1.0 p.1.1 it) (λ i. (book i, (number i, slot i)))
+
+pub view_from_as : (b w : Book) (m n j k h l : ℕ) (it : View) → b ≡ w → m ≡ n → j ≡ k → h ≡ l
+    → IsViewFrom b m j h it → IsViewFrom w n k l it
+view_from_as b w m n j k h l it book number one other =
+    subst (λ (p : Book × (ℕ × (ℕ × ℕ))). IsViewFrom p.0 p.1.0 p.1.1.0 p.1.1.1 it)
+    (λ i. (book i, (number i, (one i, other i))))
+
+pub view_after_as : (b w : Book) (m n c j k h l : ℕ) (made : Progress) (it : View) → b ≡ w → m ≡ n → j ≡ k → h ≡ l
+    → IsViewAfter b m c j h made it → IsViewAfter w n c k l made it
+view_after_as b w m n c j k h l made it book number from to =
+    subst (λ (p : Book × (ℕ × (ℕ × ℕ))). IsViewAfter p.0 p.1.0 c p.1.1.0 p.1.1.1 made it)
+    (λ i. (book i, (number i, (from i, to i))))
+
+-- what holds anyhow holds where nothing was told
+pub if_none : {T : Type 0} (told : Option T) (P : Type 0) → P → IfNone told P
+if_none (Some x) P h = tt
+if_none None P h = h

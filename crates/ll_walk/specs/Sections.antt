@@ -1,5 +1,5 @@
 -- What a section is, and what a walk's start comes to. own
-use Rattle.std.specs.Prelude.{◌≡◌, ℕ, ◌<◌, List, map, Option, Some, None, ⊤, true}
+use Rattle.std.specs.Prelude.{◌≡◌, ◌⊎◌, ℕ, ◌<◌, List, map, Option, Some, None, ⊤, true}
 use Rattle.std.specs.List.{AllByRecursion}
 use Rattle.ll_rights.specs.Map.{get}
 use Rattle.ll_answer.specs.Passed.{has_path}
@@ -10,13 +10,16 @@ use Rattle.ll_journal.specs.declared.progress.Progress.TheVariants as progress
 use Rattle.ll_journal.specs.declared.next.Next.{Next}
 use Rattle.ll_journal.specs.declared.next.Next.TheVariants as next
 use Rattle.ll_journal.specs.Book.{Book, Spares}
+use Rattle.ll_journal.specs.NextStep.{ComesNext}
 use Rattle.ll_journal.specs.Onward.{Names, is_past_fork}
+use Rattle.ll_journal.specs.Stations.{station_in}
 use Rattle.ll_journal.specs.Steps.{GoesDown, IsNext}
 use Rattle.ll_client.specs.Entries.{Kept, Knows}
 use Rattle.ll_client.specs.Coming.{kept_at}
 use Rattle.ll_client.specs.Gains.{Gains}
 use Rattle.ll_walk.specs.declared.section.Coming.{Coming}
 use Rattle.ll_walk.specs.declared.section.Coming.TheVariants as coming
+use Rattle.ll_walk.specs.declared.section.View.{View}
 
 -- Between two books: what is lent was the slots' accounts in the one, and is so in the other; and no other account
 -- changed
@@ -50,11 +53,11 @@ IsComing slots doing here (coming.Down on) =
 IsComing slots doing here (coming.Other next) = AreThere slots next
 
 -- Of the client's walk in this book, seen from the slot: where it is told to go down, that is where it would go; and
--- where it would go down, it is told so, unless it is past its fork
+-- where it would go down, it is told so, unless it is past its fork. Another step that is told comes next
 abbrev pub Sees : Book → ℕ → ℕ → Coming → Type 0
 Sees b number slot (coming.Down on) = IsNext b number slot on.slot
 Sees b number slot (coming.Other next) =
-    GoesDown b number slot → is_past_fork (get b.world.walks number) ≡ true
+    (GoesDown b number slot → is_past_fork (get b.world.walks number) ≡ true) × ComesNext b number slot next
 
 -- the same after a descent from the one slot to the other: from where the walk now stands
 abbrev pub SeesAfter : Book → ℕ → ℕ → ℕ → Progress → Coming → Type 0
@@ -63,3 +66,20 @@ SeesAfter b number from to progress.NotNow it = Sees b number from it
 SeesAfter b number from to progress.Astray it = Sees b number from it
 SeesAfter b number from to progress.Forked it = Sees b number from it
 SeesAfter b number from to progress.Restarted it = Sees b number from it
+
+-- Of the client's walk in this book, seen from the slot: where it is, and which step comes next
+pub record IsView (b : Book) (number slot : ℕ) (view : View) : Type 0 where
+  pub stands : view.station ≡ station_in b.world number
+  pub comes : ComesNext b number slot view.next
+
+-- seen from the one slot or from the other
+abbrev pub IsViewFrom : Book → ℕ → ℕ → ℕ → View → Type 0
+IsViewFrom b number one other view = IsView b number one view ⊎ IsView b number other view
+
+-- the same after a descent from the one slot to the other, past the fork, in whose directory's slot it began
+abbrev pub IsViewAfter : Book → ℕ → ℕ → ℕ → ℕ → Progress → View → Type 0
+IsViewAfter b number common from to (progress.Stands inode) view = IsViewFrom b number to common view
+IsViewAfter b number common from to progress.NotNow view = IsViewFrom b number from common view
+IsViewAfter b number common from to progress.Astray view = IsViewFrom b number from common view
+IsViewAfter b number common from to progress.Forked view = IsViewFrom b number from common view
+IsViewAfter b number common from to progress.Restarted view = IsViewFrom b number from common view

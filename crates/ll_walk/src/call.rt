@@ -1,8 +1,9 @@
 //! Calls of clients.
 
-ghost use Rattle.std.specs.Prelude.{◌≡◌, ◌<◌, ◌≤◌, ◌∷◌, [], None, IfOk, IfErr, max};
+ghost use Rattle.std.specs.Prelude.{◌≡◌, ◌<◌, ◌≤◌, ◌∷◌, [], None, IfOk, IfErr, IsErr, max};
 ghost use Rattle.ll_seq.specs.declared.call.Call.TheVariants as calls;
 ghost use Rattle.ll_seq.specs.declared.reply.Reply.TheVariants as replies;
+ghost use Rattle.ll_worlds.specs.World as world;
 ghost use Rattle.ll_client.specs.Coming.{HasNoPlace, childless};
 ghost use Rattle.ll_client.specs.Entries.{knows, numbered};
 ghost use Rattle.ll_client.specs.Gains.{Gains, Told};
@@ -16,7 +17,9 @@ use ll_seq::Call;
 use std::sync::Wait;
 
 /// Whether the call may move a directory, so that its walk needs the move gate.
-fn takes_gate(call: &Call) -> bool {
+fn takes_gate(call: &Call) -> bool
+    ensures { result ≡ world.takes_gate call.now }
+{
     match call {
         Call::Rename(..) | Call::RenameNoreplace(..) | Call::Exchange(..) => true,
         Call::Make(..) | Call::Open(..) | Call::Truncate(..) | Call::ReadDir(_) => false,
@@ -27,7 +30,9 @@ fn takes_gate(call: &Call) -> bool {
 }
 
 /// The descriptor that the call is made on.
-fn descriptor_of(call: &Call) -> Option<u64> {
+fn descriptor_of(call: &Call) -> Option<u64>
+    ensures { result ≡ world.descriptor_of call.now }
+{
     match call {
         Call::Read(number, ..) | Call::Write(number, ..) => Some(*number),
         Call::Ftruncate(number, _) | Call::Close(number) => Some(*number),
@@ -122,8 +127,10 @@ impl<N: Shape, G: Gate<N>> Table<N, G> {
     pub fn call<R: Wait>(&self, rt: &R, me: &mut Client<N>, call: Call) -> Result<Made, Call>
         ensures made { IfOk result (λ made. Gains N.limit call me.old.rider made me.new.rider) }
         ensures back { IfErr result (λ back. (back ≡ call) × (me.new ≡ me.old)) }
+        ensures spawn { call ≡ calls.Spawn → IsErr result }
+        ensures connect { call ≡ calls.Connect → IsErr result }
     {
-        if matches!(call, Call::Spawn) {
+        if matches!(call, Call::Spawn | Call::Connect) {
             return Err(call);
         }
         let mut moving = None;

@@ -1,13 +1,14 @@
 //! What a client does in one section, without a walk.
 
-ghost use Rattle.std.specs.Prelude.{◌≡◌, ◌<◌, ◌≤◌, ◌++◌, ◌∷◌, [], None, Some, IfOk, IfErr, IfSome, length};
+ghost use Rattle.std.specs.Prelude.{◌≡◌, ◌≢◌, ◌<◌, ◌≤◌, ◌++◌, ◌∷◌, [], None, Some, IfOk, IfErr, IfSome, IfNone, length};
 ghost use Rattle.std.specs.Sync.Mutex.{mutex_guard_value};
 ghost use Rattle.ll_seq.specs.declared.call.Call.TheVariants as calls;
 ghost use Rattle.ll_seq.specs.declared.reply.Reply.TheVariants as replies;
-ghost use Rattle.ll_worlds.specs.World.{Joined, advance};
+ghost use Rattle.ll_seq.specs.declared.client.Descriptor as descriptor;
+ghost use Rattle.ll_worlds.specs.World.{Joined, Replied, World, advance, next_number};
 ghost use Rattle.ll_worlds.specs.declared.step.Step.TheVariants.{ClientStep, FdCommit, Join};
-ghost use Rattle.ll_journal.specs.Book.{Book};
-ghost use Rattle.ll_journal.specs.Direct.{Answers, ComesBack};
+ghost use Rattle.ll_journal.specs.Book.{Book, inode_in};
+ghost use Rattle.ll_journal.specs.Direct.{Answers, ComesBack, IsOpen};
 ghost use Rattle.ll_journal.specs.Starts.{Starts};
 ghost use Rattle.ll_client.specs.Coming.{HasNoPlace, SetsOut, childless};
 ghost use Rattle.ll_client.specs.Entries.{knows, numbered};
@@ -34,7 +35,12 @@ impl<'a, N: Shape> Section<'a, N> {
 
     /// The slot of the file that the client has open under this number.
     pub fn file_slot(self, me: &Rider<N>, number: u64) -> Option<u64>
-        ensures { IfSome result (λ slot. slot < N.slots) }
+        ensures within { IfSome result (λ slot. slot < N.slots) }
+        ensures some { IfSome result (λ slot. (file : descriptor.Descriptor)
+            × IsOpen (mutex_guard_value self.entry.desk).world me.now.number number file
+            × (inode_in (mutex_guard_value self.entry.desk) slot ≡ file.inode)) }
+        ensures none { IfNone result ((file : descriptor.Descriptor)
+            → ¬ IsOpen (mutex_guard_value self.entry.desk).world me.now.number number file) }
     {
         let Section { desk } = self;
         desk.by_law();
@@ -70,6 +76,12 @@ impl<'a, N: Shape> Section<'a, N> {
             client.rider.seen None) }
         ensures some { IfOk result (λ client. 0 < client.rider.seen) }
         ensures errors { IfErr result HasNoPlace }
+        ensures refused { IfErr result (λ errno. errno ≢ Errno.NoMemory
+            → advance (mutex_guard_value self.entry.desk).world Join
+            ≡ (Replied (replies.Refused errno), (mutex_guard_value self.entry.desk).world)) }
+        ensures starved { IfErr result (λ errno. errno ≡ Errno.NoMemory → (after : World)
+            × (advance (mutex_guard_value self.entry.desk).world Join
+            ≡ (Joined (next_number (mutex_guard_value self.entry.desk).world), after))) }
     {
         let Section { mut desk } = self;
         desk.connect(tie)
@@ -81,11 +93,20 @@ impl<'a, N: Shape> Section<'a, N> {
         tie: &Tie<N, Account>,
         me: &mut Client<N>,
     ) -> Result<Client<N>, Errno>
+        ensures step { IfOk result (λ client. (w : Book)
+            × (advance (mutex_guard_value self.entry.desk).world Join ≡ (Joined client.rider.number, w.world))
+            × Shows (mutex_guard_value self.entry.desk) w [] []) }
         ensures client { IfOk result (λ client. client.rider
             ≡ knows client.rider.number (numbered client.rider.seen calls.Connect replies.Done ∷ []) []
             client.rider.seen None) }
         ensures after { IfOk result (λ client. me.old.rider.seen < client.rider.seen) }
         ensures errors { IfErr result HasNoPlace }
+        ensures refused { IfErr result (λ errno. errno ≢ Errno.NoMemory
+            → advance (mutex_guard_value self.entry.desk).world Join
+            ≡ (Replied (replies.Refused errno), (mutex_guard_value self.entry.desk).world)) }
+        ensures starved { IfErr result (λ errno. errno ≡ Errno.NoMemory → (after : World)
+            × (advance (mutex_guard_value self.entry.desk).world Join
+            ≡ (Joined (next_number (mutex_guard_value self.entry.desk).world), after))) }
         ensures mine { me.new.rider ≡ me.old.rider }
     {
         let Section { mut desk } = self;

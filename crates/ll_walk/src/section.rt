@@ -1,13 +1,14 @@
 //! The journal's lock, held.
 
-ghost use Rattle.std.specs.Prelude.{◌≡◌, ◌≢◌, ◌<◌, ◌≤◌, ℕ, ◌∷◌, [], Some, IfSome, length, max};
+ghost use Rattle.std.specs.Prelude.{◌≡◌, ◌≢◌, ◌<◌, ◌≤◌, ℕ, ◌∷◌, [], Some, IfSome, IfNone, length, max};
 ghost use Rattle.std.specs.Sync.Mutex.{mutex_guard_value};
 ghost use Rattle.ll_journal.specs.Book.{Book};
-ghost use Rattle.ll_journal.specs.InWay.{IsInWay};
+ghost use Rattle.ll_journal.specs.InWay.{IsFreeFrom, IsInWay};
+ghost use Rattle.ll_journal.specs.NextStep.{ComesNext};
 ghost use Rattle.ll_journal.specs.Onward.{Names};
 ghost use Rattle.ll_journal.specs.Steps.{Does};
 ghost use Rattle.ll_worlds.specs.declared.step.Step.TheVariants.{Descend, Fork};
-ghost use Rattle.ll_walk.specs.Sections.{AreThere, IsComing, Sees, SeesAfter, Shows};
+ghost use Rattle.ll_walk.specs.Sections.{AreThere, IsComing, IsView, IsViewAfter, IsViewFrom, Sees, SeesAfter, Shows};
 ghost use Rattle.ll_seq.specs.declared.call.Call.{Call};
 ghost use Rattle.ll_seq.specs.History.{IsLegal};
 ghost use Rattle.ll_seq.specs.State.{start};
@@ -50,6 +51,7 @@ fn next_at<N: Shape>(
     ensures desk { desk.new ≡ desk.old }
     ensures here { here.new ≡ here.old }
     ensures there { AreThere N.slots result }
+    ensures comes { ComesNext desk.old me.now.number here.old.number result }
 {
     desk.by_law();
     desk.next_step(tie, me, here)
@@ -112,6 +114,7 @@ fn view_at<N: Shape>(
     ensures desk { desk.new ≡ desk.old }
     ensures here { here.new ≡ here.old }
     ensures there { AreThere N.slots result.next }
+    ensures sees { IsView desk.old me.now.number here.old.number result }
 {
     let station = desk.station(me);
     let next = next_at(desk, tie, me, here);
@@ -130,6 +133,7 @@ fn view_from<N: Shape>(
     ensures one { one.new ≡ one.old }
     ensures other { other.new ≡ other.old }
     ensures there { AreThere N.slots result.next }
+    ensures sees { IsViewFrom desk.old me.now.number one.old.number other.old.number result }
 {
     if desk.turn_slot(me) == Some(one.number()) {
         view_at(desk, tie, me, one)
@@ -153,6 +157,8 @@ fn view_below<N: Shape>(
     ensures from { from.new ≡ from.old }
     ensures to { to.new ≡ to.old }
     ensures there { AreThere N.slots result.next }
+    ensures sees { IsViewAfter desk.old me.now.number common.old.number from.old.number to.old.number progress.now
+        result }
 {
     match progress {
         Progress::Stands(_) => view_from(desk, tie, me, to, common),
@@ -171,6 +177,7 @@ fn slot_in_way<N: Shape>(
     ensures here { here.new ≡ here.old }
     ensures way { IfSome result (IsInWay desk.old me.now.number) }
     ensures there { IfSome result (λ way. way < N.slots) }
+    ensures none { IfNone result (IsFreeFrom desk.old me.now.number here.old.number) }
 {
     desk.by_law();
     desk.slot_in_way(tie, me, here)
@@ -233,7 +240,8 @@ impl<'a, N: Shape> Section<'a, N> {
         from: &mut Locked<N>,
         to: &mut Locked<N>,
     ) -> (Progress, View)
-        ensures step { (w : Book) × Does (mutex_guard_value self.entry.desk) (Descend me.old.number) result.0 w
+        ensures step { (w : Book) × (Does (mutex_guard_value self.entry.desk) (Descend me.old.number) result.0 w
+            × IsViewFrom w me.old.number to.old.number from.old.number result.1)
             × Shows (mutex_guard_value self.entry.desk) w (from.old ∷ to.old ∷ []) (from.new ∷ to.new ∷ []) }
         ensures stands { (inode : ℕ) → result.0 ≡ Progress.Stands inode
             → (to.new.held.inode ≡ inode) × (to.new.held.node.mark ≡ Some me.old.number) }
@@ -255,7 +263,8 @@ impl<'a, N: Shape> Section<'a, N> {
         from: &mut Locked<N>,
         to: &mut Locked<N>,
     ) -> (Progress, View)
-        ensures step { (w : Book) × Does (mutex_guard_value self.entry.desk) (Descend me.old.number) result.0 w
+        ensures step { (w : Book) × (Does (mutex_guard_value self.entry.desk) (Descend me.old.number) result.0 w
+            × IsViewAfter w me.old.number common.old.number from.old.number to.old.number result.0 result.1)
             × Shows (mutex_guard_value self.entry.desk) w (from.old ∷ to.old ∷ []) (from.new ∷ to.new ∷ []) }
         ensures stands { (inode : ℕ) → result.0 ≡ Progress.Stands inode
             → (to.new.held.inode ≡ inode) × (to.new.held.node.mark ≡ Some me.old.number) }
@@ -276,8 +285,8 @@ impl<'a, N: Shape> Section<'a, N> {
         me: &mut Rider<N>,
         here: &mut Locked<N>,
     ) -> (Progress, View)
-        ensures step { (w : Book) × Does (mutex_guard_value self.entry.desk) (Fork me.old.number) result.0 w
-            × Shows (mutex_guard_value self.entry.desk) w [] [] }
+        ensures step { (w : Book) × (Does (mutex_guard_value self.entry.desk) (Fork me.old.number) result.0 w
+            × IsView w me.old.number here.old.number result.1) × Shows (mutex_guard_value self.entry.desk) w [] [] }
         ensures here { here.new ≡ here.old }
         ensures there { AreThere N.slots result.1.next }
         ensures mine { me.new ≡ me.old }
@@ -300,6 +309,8 @@ impl<'a, N: Shape> Section<'a, N> {
         ensures one { one.new ≡ one.old }
         ensures other { other.new ≡ other.old }
         ensures there { AreThere N.slots result.next }
+        ensures sees { IsViewFrom (mutex_guard_value self.entry.desk) me.now.number one.old.number
+            other.old.number result }
     {
         let Section { mut desk } = self;
         view_from(&mut desk, tie, me, one, other)
@@ -325,6 +336,7 @@ impl<'a, N: Shape> Section<'a, N> {
     pub fn view_here(self, tie: &Tie<N, Account>, me: &Rider<N>, here: &mut Locked<N>) -> View
         ensures here { here.new ≡ here.old }
         ensures there { AreThere N.slots result.next }
+        ensures sees { IsView (mutex_guard_value self.entry.desk) me.now.number here.old.number result }
     {
         let Section { mut desk } = self;
         view_at(&mut desk, tie, me, here)
@@ -343,6 +355,10 @@ impl<'a, N: Shape> Section<'a, N> {
         ensures other { other.new ≡ other.old }
         ensures way { IfSome result (IsInWay (mutex_guard_value self.entry.desk) me.now.number) }
         ensures there { IfSome result (λ way. way < N.slots) }
+        ensures none_one { IfNone result
+            (IsFreeFrom (mutex_guard_value self.entry.desk) me.now.number one.old.number) }
+        ensures none_other { IfNone result
+            (IsFreeFrom (mutex_guard_value self.entry.desk) me.now.number other.old.number) }
     {
         let Section { mut desk } = self;
         match slot_in_way(&mut desk, tie, me, one) {
@@ -361,6 +377,8 @@ impl<'a, N: Shape> Section<'a, N> {
         ensures here { here.new ≡ here.old }
         ensures way { IfSome result (IsInWay (mutex_guard_value self.entry.desk) me.now.number) }
         ensures there { IfSome result (λ way. way < N.slots) }
+        ensures none { IfNone result
+            (IsFreeFrom (mutex_guard_value self.entry.desk) me.now.number here.old.number) }
     {
         let Section { mut desk } = self;
         slot_in_way(&mut desk, tie, me, here)

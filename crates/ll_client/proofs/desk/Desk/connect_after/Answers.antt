@@ -1,0 +1,12 @@
+use Rattle.std.proofs.Common.{◌≡◌, IfErr, subst}
+use Rattle.ll_rights.specs.declared.errno.Errno.{Errno}
+use Rattle.ll_rights.specs.declared.errno.Errno.TheVariants.{NoMemory}
+use Rattle.ll_journal.specs.Book.{Book}
+use Rattle.ll_worlds.specs.World.{World, Joined, advance, next_number}
+use Rattle.ll_worlds.specs.declared.step.Step.TheVariants.{Join}
+use Rattle.ll_client.proofs.desk.Desk.connect_after.Goals as goal
+
+pub returns-clause-starved : goal.returns-clause-starved
+returns-clause-starved g c =
+    subst (λ (b : Book). IfErr c.connect.result (λ (errno : Errno). errno ≡ NoMemory → (after : World)
+    × (advance b.world Join ≡ (Joined (next_number b.world), after)))) c.learn.ensures.same c.connect.ensures.starved
