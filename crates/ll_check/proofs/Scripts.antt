@@ -8,7 +8,7 @@ use Rattle.ll_seq.specs.declared.reply.Entry.{Entry}
 use Rattle.ll_lines.specs.Transcript.{Transcript}
 use Rattle.ll_wire.specs.Pieces.{pieces}
 use Rattle.ll_session.specs.declared.setup.Setup.{Setup}
-use Rattle.ll_talk.specs.Session.{Session}
+use Rattle.ll_session.specs.Session.{Session}
 use Rattle.ll_session.specs.Session.{Tells}
 use Rattle.ll_session.specs.Run.{Runs}
 use Rattle.ll_check.specs.declared.running.Made.TheVariants.{Answered, Refused}

@@ -6,7 +6,7 @@ use Rattle.ll_wire.specs.Grammar.{reply_line}
 use Rattle.ll_wire.specs.Pieces.{pieces}
 use Rattle.ll_lines.specs.Transcript.{Transcript}
 use Rattle.ll_session.specs.declared.setup.Setup.{Setup}
-use Rattle.ll_talk.specs.Session.{Session}
+use Rattle.ll_session.specs.Session.{Session}
 use Rattle.ll_session.specs.Session as session
 use Rattle.ll_session.specs.Opening.{Opens, begun, refused}
 use Rattle.ll_check.specs.declared.running.Made.{Made}

@@ -11,7 +11,7 @@ use crate::watching::Watches;
 use crate::workers::{Takes, serve_from};
 use crossbeam_channel::{Receiver, Sender, unbounded};
 use ll_client::Shape;
-use ll_walk::Gate;
+use ll_session::Gate;
 use std::alloc::{AllocError, Global};
 use std::io::{Read, Write};
 use std::sync::Wait;

@@ -3,10 +3,9 @@
 ghost use Rattle.std.specs.Prelude.{◌≡◌};
 ghost use Rattle.ll_session.specs.Session.{AreOthers};
 
-use ll_calls::Tree;
 use ll_client::Shape;
 use ll_seq::Call;
-use ll_walk::Gate;
+use ll_session::{Gate, Tree};
 
 /// A tree, how many entries its history may have, and the calls that each stream's client makes before its lines.
 #[derive(Drop)]

@@ -11,7 +11,7 @@ use crate::visits::serve_stream;
 use crate::watching::Watches;
 use crossbeam_channel::Receiver;
 use ll_client::Shape;
-use ll_walk::Gate;
+use ll_session::Gate;
 use std::alloc::{AllocError, Global};
 use std::io::{Read, Write};
 use std::sync::Wait;

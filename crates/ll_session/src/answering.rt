@@ -11,14 +11,12 @@ ghost use Rattle.ll_talk.specs.Talk.{Goes};
 ghost use Rattle.ll_session.specs.Beside.{TellsBeside, placed};
 
 use crate::output::reply_line;
-use ll_calls::Tree;
 use ll_client::Shape;
 use ll_ends::Ends;
 use ll_lines::{Answers, Line, SessionFault, answer_lines};
 use ll_rights::Errno;
 use ll_seq::Reply;
-use ll_talk::Party;
-use ll_walk::Gate;
+use ll_talk::{Gate, Party, Tree};
 use ll_wire::read_command;
 use std::alloc::{AllocError, Global};
 use std::sync::Wait;

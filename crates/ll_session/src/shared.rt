@@ -5,12 +5,10 @@ ghost use Rattle.ll_rights.specs.declared.limits.TheConstants.{TREE_CLIENTS};
 
 use crate::entries::are_entries;
 use crate::setup::Setup;
-use ll_calls::Tree;
 use ll_client::{Account, Shape};
 use ll_seq::History;
-use ll_talk::Party;
+use ll_talk::{NoGate, Party, Tree};
 use ll_tie::Blank;
-use ll_walk::NoGate;
 use std::alloc::Global;
 use std::sync::Wait;
 

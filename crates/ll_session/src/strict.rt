@@ -15,13 +15,11 @@ use crate::answering::OpenSession;
 use crate::asking::is_end;
 use crate::output::reply_line;
 use crate::stop::Stop;
-use ll_calls::Tree;
 use ll_client::Shape;
 use ll_ends::Ends;
 use ll_lines::{Answers, Line, SessionFault, answer_lines};
 use ll_seq::Reply;
-use ll_talk::Party;
-use ll_walk::NoGate;
+use ll_talk::{NoGate, Party, Tree};
 use std::alloc::{AllocError, Global};
 use std::sync::Wait;
 

@@ -5,12 +5,11 @@ ghost use Rattle.ll_rights.specs.declared.limits.TheConstants.{TREE_CLIENTS};
 ghost use Rattle.ll_client.specs.Closed.{IsClosed};
 ghost use Rattle.ll_talk.specs.Talk.{IsLast, IsMet, HaveMet, reply_of};
 
-use ll_calls::Tree;
+use ll_calls::{Gate, Tree};
 use ll_client::{Client, Shape};
 use ll_journal::Made;
 use ll_rights::Errno;
 use ll_seq::{History, Reply};
-use ll_walk::Gate;
 use std::sync::Wait;
 use std::thread;
 

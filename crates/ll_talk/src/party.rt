@@ -16,12 +16,11 @@ ghost use Rattle.ll_talk.specs.Session.{Session, Connects, joined};
 ghost use Rattle.ll_talk.specs.Talk.{Asks, AsksFor, IsMet, Looks, reply_of, seen_by};
 
 use crate::clients::{close_all, meet_all, reply_to};
-use ll_calls::Tree;
+use ll_calls::{Gate, Tree};
 use ll_client::{Client, Shape};
 use ll_rights::Errno;
 use ll_rights::limits::TREE_CLIENTS;
 use ll_seq::{Call, History, Reply};
-use ll_walk::Gate;
 use std::alloc::{AllocError, Global};
 use std::marker::Model;
 use std::sync::Wait;
