@@ -32,12 +32,13 @@ const TURNS: u64 = 10_000_000;
 
 const ROUNDS: u64 = 100_000;
 
-/// Where the first client's walk is held, that it is held, and that it may go on.
+/// Where the first client's walk is held, that it is held, that it may go on, and that it went on without that.
 #[derive(Drop)]
 struct Flags {
     inode: AtomicU64,
     is_held: AtomicU64,
     goes_on: AtomicU64,
+    gave_up: AtomicU64,
 }
 
 /// Holds the walks of the first client in one directory.
@@ -62,7 +63,9 @@ impl<N: Shape> Gate<N> for Holding {
         let _ = slot;
         if client == 1 && inode == self.flags.inode.load(Ordering::SeqCst) {
             self.flags.is_held.store(1, Ordering::SeqCst);
-            let _ = waits_for(&self.flags.goes_on);
+            if !waits_for(&self.flags.goes_on) {
+                self.flags.gave_up.store(1, Ordering::SeqCst);
+            }
         }
     }
 }
@@ -105,7 +108,7 @@ fn inode_at<N: Shape, G: Gate<N>>(
 }
 
 /// The first client's walk is held in `/a`, until the second client has made a file in `/b`. Whether both files are
-/// made.
+/// made, the second one's while the first walk was held.
 fn passes<N: Shape + Send + Sync, R: Threads + Wait + Sync>(
     rt: &R,
     alloc: Global,
@@ -132,7 +135,8 @@ fn passes<N: Shape + Send + Sync, R: Threads + Wait + Sync>(
             is_held && is_done
         },
     );
-    inode != 0 && is_first_done && is_second_done
+    let gave_up = flags.gave_up.load(Ordering::SeqCst) != 0;
+    inode != 0 && is_first_done && is_second_done && !gave_up
 }
 
 fn opens_holding<N: Shape + Send + Sync, R: Threads + Wait + Sync>(
@@ -151,6 +155,7 @@ fn opens_holding<N: Shape + Send + Sync, R: Threads + Wait + Sync>(
             inode: AtomicU64::new(0),
             is_held: AtomicU64::new(0),
             goes_on: AtomicU64::new(0),
+            gave_up: AtomicU64::new(0),
         },
     )?;
     let gate = Holding {

@@ -67,4 +67,6 @@ fn two_threads_and_one_is_confined(rt: HostRuntime) {
         _ => false,
     };
     assert!(rt; is_right);
+    let nothing = Refused::Errno(Errno::ENOENT);
+    assert!(rt; says(alloc, nothing, "refused with ENOENT"));
 }
