@@ -30,12 +30,14 @@ pub trait Accepts {
 
 // Streams as they come to a listener, so many in all. A worker that takes a stream first accepts the next one that
 // comes and sends it over the channel, and then takes one out of the channel. So no worker waits for another one to
-// accept, and each stream that was sent is taken.
+// accept, and each stream that was sent is taken. A stream's number is drawn once it has come.
 #[derive(Drop)]
 struct Coming<'a, L: Accepts> {
     listener: &'a L,
     sender: Sender<Stream<L::In, L::Out>>,
     streams: Receiver<Stream<L::In, L::Out>>,
+    // How many streams workers have set out to accept.
+    awaited: AtomicU64,
     come: AtomicU64,
     connections: usize,
 }
@@ -44,11 +46,12 @@ impl<'a, L: Accepts> Takes<L::In, L::Out> for Coming<'a, L> {
     // One that failed counts, and one that can't be handed over is closed.
     fn take<H: Wait>(&self, rt: &H) -> Option<Stream<L::In, L::Out>> {
         for _ in 0..self.connections {
-            let number = self.come.fetch_add(1, Ordering::SeqCst);
-            if number >= self.connections as u64 {
+            let before = self.awaited.fetch_add(1, Ordering::SeqCst);
+            if before >= self.connections as u64 {
                 return None;
             }
             if let Some((reader, writer)) = self.listener.accept() {
+                let number = self.come.fetch_add(1, Ordering::SeqCst);
                 let stream = Stream {
                     number: number.saturating_add(1),
                     reader,
@@ -94,6 +97,7 @@ pub fn serve_on<
         listener,
         sender,
         streams,
+        awaited: AtomicU64::new(0),
         come: AtomicU64::new(0),
         connections,
     };
