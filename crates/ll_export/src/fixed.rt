@@ -190,7 +190,7 @@ int main(int count, char **words)
 {
     long abi = syscall(CREATE_RULESET, NULL, 0, VERSION);
     const struct row *row = rows;
-    int top;
+    int top, why;
 
     if (count < 2) {
         say(\"no program is named\");
@@ -207,7 +207,8 @@ int main(int count, char **words)
         row = enforce(row, top, known_set(abi));
     close(top);
     execvp(words[1], words + 1);
-    say(\"can't run %s: %s\", words[1], strerror(errno));
-    return errno == ENOENT ? 127 : 126;
+    why = errno;
+    say(\"can't run %s: %s\", words[1], strerror(why));
+    return why == ENOENT ? 127 : 126;
 }
 ";
