@@ -2,8 +2,58 @@
 
 use crate::lines::{body_of, cut};
 use crate::wanted::are_first_words;
+use ll_rights::limits::WORD_BYTES;
 use ll_rights::{Access, Kind, Right};
+use ll_wire::LINE_LIMIT;
 use std::alloc::{AllocError, Global};
+
+/// What lines are of, which tells what they may say.
+#[derive(Clone, Copy, Debug, PartialEq, Eq)]
+pub enum LinesOf {
+    /// A script, in which each is a command, of any client that has come.
+    Script,
+    /// A file of checks, which has comments too, and replies behind the sign `=`.
+    Checks,
+    /// A word of the command line, which is one command of the only client, without a line feed.
+    Word,
+}
+
+impl LinesOf {
+    fn command_text(self, column: usize) -> &'static str {
+        match self {
+            LinesOf::Checks if column == 1 => "a command is expected, or a comment",
+            _ => "a command is expected",
+        }
+    }
+
+    fn client_text(self) -> &'static str {
+        match self {
+            LinesOf::Word => "a command is expected, without a client in front",
+            LinesOf::Script | LinesOf::Checks => "a client is expected: @2 to @64",
+        }
+    }
+
+    fn end_text(self) -> &'static str {
+        match self {
+            LinesOf::Script => "the line's end is expected",
+            LinesOf::Checks => "the line's end is expected, or = and a reply",
+            LinesOf::Word => "the command's end is expected",
+        }
+    }
+
+    // Whether a line of them may name a client.
+    fn names_client(self, token: &str) -> bool {
+        match self {
+            LinesOf::Script | LinesOf::Checks => is_client(token),
+            LinesOf::Word => false,
+        }
+    }
+
+    // Whether a reply may stand behind a command.
+    fn has_replies(self) -> bool {
+        matches!(self, LinesOf::Checks)
+    }
+}
 
 /// Where in a line something else was expected, counted in bytes from 1; what; and the word that was meant, where that
 /// is plain.
@@ -60,6 +110,14 @@ fn argument_of(name: &str, place: usize) -> Argument {
 }
 
 impl Argument {
+    // What is expected in the place of this token.
+    fn text_for(self, token: &str) -> &'static str {
+        match self {
+            Argument::Path if is_printed(token) => "a word of at most 8000 bytes is expected",
+            _ => self.text(),
+        }
+    }
+
     fn text(self) -> &'static str {
         match self {
             Argument::Kind => "a kind is expected: reg, dir, sym, fifo, sock, char or block",
@@ -114,10 +172,12 @@ fn are_bytes(token: &str) -> bool {
         .all(|b| matches!(*b, b'0'..=b'9' | b'a'..=b'f'))
 }
 
+fn is_printed(token: &str) -> bool {
+    !token.is_empty() && token.as_bytes().iter().all(|b| matches!(*b, b'!'..=b'~'))
+}
+
 fn is_word(token: &str) -> bool {
-    !token.is_empty()
-        && token.len() <= 8192
-        && token.as_bytes().iter().all(|b| matches!(*b, b'!'..=b'~'))
+    token.len() <= WORD_BYTES && is_printed(token)
 }
 
 fn is_client(token: &str) -> bool {
@@ -146,7 +206,7 @@ fn blame_argument(
     argument: Argument,
     token: &str,
 ) -> Result<Blame, AllocError> {
-    let mut blame = Blame::new(column, argument.text());
+    let mut blame = Blame::new(column, argument.text_for(token));
     if let Argument::Rights = argument {
         blame.meant = meant(alloc, token)?;
     }
@@ -167,26 +227,27 @@ enum Stage<'a> {
 // What comes behind a word that stands in its place, or the blame.
 fn step<'a>(
     alloc: Global,
+    of: LinesOf,
     stage: Stage<'a>,
     column: usize,
     token: &'a str,
 ) -> Result<Result<Stage<'a>, Blame>, AllocError> {
     match stage {
         Stage::Start if column == 1 && token.starts_with('@') => {
-            if is_client(token) {
+            if of.names_client(token) {
                 return Ok(Ok(Stage::Start));
             }
-            Ok(Err(Blame::new(column, "a client is expected: @2 to @64")))
+            Ok(Err(Blame::new(column, of.client_text())))
         }
         Stage::Start => match count_of(token) {
             Some(_) => Ok(Ok(Stage::Arguments(token, 0))),
-            None => Ok(Err(Blame::new(column, "a command is expected, or a comment"))),
+            None => Ok(Err(Blame::new(column, of.command_text(column)))),
         },
         Stage::Arguments(name, place) if Some(place) == count_of(name) => {
-            if token == "=" {
+            if token == "=" && of.has_replies() {
                 return Ok(Ok(Stage::Reply));
             }
-            Ok(Err(Blame::new(column, "the line's end is expected, or = and a reply")))
+            Ok(Err(Blame::new(column, of.end_text())))
         }
         Stage::Arguments(name, place) => {
             let argument = argument_of(name, place);
@@ -220,46 +281,69 @@ fn blame_reply(alloc: Global, column: usize, reply: &str) -> Result<Blame, Alloc
     ))
 }
 
-// What is expected behind a line's last word.
-fn blame_end(stage: Stage<'_>, column: usize) -> Blame {
-    match stage {
-        Stage::Start => Blame::new(column, "a command is expected, or a comment"),
-        Stage::Arguments(name, place) if Some(place) == count_of(name) => {
-            Blame::new(column, "a line of at most 16384 bytes is expected")
+// What is wrong with a line that spells this command, whose end is at this column, and has its line feed or lacks it.
+fn blame_whole(of: LinesOf, command: &str, column: usize, is_ended: bool) -> Option<Blame> {
+    match of {
+        LinesOf::Script if !is_ended => Some(Blame::new(column, "a line feed is expected")),
+        LinesOf::Script if command.starts_with('@') => {
+            Some(Blame::new(1, "a client that was spawned is expected"))
         }
-        Stage::Arguments(name, place) => Blame::new(column, argument_of(name, place).text()),
-        Stage::Reply => Blame::new(column, "a reply is expected"),
+        LinesOf::Word if is_ended => Some(Blame::new(column, of.end_text())),
+        LinesOf::Script | LinesOf::Checks | LinesOf::Word => None,
     }
 }
 
-fn explain_text(alloc: Global, text: &str) -> Result<Blame, AllocError> {
+// What is expected behind the last word of a line's text.
+fn blame_end(
+    of: LinesOf,
+    stage: Stage<'_>,
+    text: &str,
+    column: usize,
+    is_ended: bool,
+) -> Option<Blame> {
+    match stage {
+        Stage::Start => Some(Blame::new(column, of.command_text(column))),
+        Stage::Arguments(name, place) if Some(place) == count_of(name) => {
+            blame_whole(of, text, column, is_ended)
+        }
+        Stage::Arguments(name, place) => Some(Blame::new(column, argument_of(name, place).text())),
+        Stage::Reply => Some(Blame::new(column, "a reply is expected")),
+    }
+}
+
+fn explain_text(
+    alloc: Global,
+    of: LinesOf,
+    text: &str,
+    is_ended: bool,
+) -> Result<Option<Blame>, AllocError> {
     let mut stage = Stage::Start;
     let mut place: usize = 0;
     for token in text.split(' ') {
         let column = place.saturating_add(1);
         if let Stage::Reply = stage {
             return match text.get(place..) {
-                Some(reply) => blame_reply(alloc, column, reply),
-                None => Ok(Blame::new(column, "a reply is expected")),
+                Some(reply) => Ok(Some(blame_reply(alloc, column, reply)?)),
+                None => Ok(Some(Blame::new(column, "a reply is expected"))),
             };
         }
-        match step(alloc, stage, column, token)? {
+        match step(alloc, of, stage, column, token)? {
             Ok(next) => stage = next,
-            Err(blame) => return Ok(blame),
+            Err(blame) => return Ok(Some(blame)),
         }
         place = place.saturating_add(token.len()).saturating_add(1);
     }
-    Ok(blame_end(stage, place))
+    Ok(blame_end(of, stage, text, place, is_ended))
 }
 
-// The line of this number, from 1, without its line feed.
+// The line of this number, from 1.
 fn line_at(text: &[u8], number: usize) -> &[u8] {
     let mut rest = text;
     let mut left = number;
     while !rest.is_empty() {
         let (line, more) = cut(rest);
         if left <= 1 {
-            return body_of(line);
+            return line;
         }
         left -= 1;
         rest = more;
@@ -267,10 +351,29 @@ fn line_at(text: &[u8], number: usize) -> &[u8] {
     &[]
 }
 
-/// What is wrong with a text's line of this number, from 1.
-pub fn explain(alloc: Global, text: &[u8], number: usize) -> Result<Blame, AllocError> {
-    match str::from_utf8(line_at(text, number)) {
-        Ok(line) => explain_text(alloc, line),
-        Err(_) => Ok(Blame::new(1, "printed ASCII characters are expected")),
+// Whether no command is so long. (In a file of checks a reply may stand behind it.)
+fn is_too_long(of: LinesOf, body: &[u8]) -> bool {
+    body.len() >= LINE_LIMIT && !of.has_replies()
+}
+
+/// What is wrong with a text's line of this number, from 1, which says nothing. None where nothing is seen to be, or
+/// there is no such line.
+pub fn explain(
+    alloc: Global,
+    of: LinesOf,
+    text: &[u8],
+    number: usize,
+) -> Result<Option<Blame>, AllocError> {
+    let line = line_at(text, number);
+    if line.is_empty() && of != LinesOf::Word {
+        return Ok(None);
+    }
+    let body = body_of(line);
+    if is_too_long(of, body) {
+        return Ok(Some(Blame::new(LINE_LIMIT, "a line of at most 16384 bytes is expected")));
+    }
+    match str::from_utf8(body) {
+        Ok(words) => explain_text(alloc, of, words, body.len() < line.len()),
+        Err(_) => Ok(Some(Blame::new(1, "printed ASCII characters are expected"))),
     }
 }

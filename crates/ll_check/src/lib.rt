@@ -15,7 +15,7 @@ mod wanted;
 
 pub use checking::{CheckedFile, check_file};
 pub use denied::{DeniedTest, Notes, tell_denied};
-pub use explaining::{Blame, explain};
+pub use explaining::{Blame, LinesOf, explain};
 pub use judging::{Detail, Tally};
 pub use line::{CheckLine, Wanted};
 pub use reading::{CheckFault, Checks};

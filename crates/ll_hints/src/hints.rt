@@ -2,7 +2,7 @@
 
 use crate::misfits::Misfit;
 use crate::opening::refused_text;
-use ll_check::{Blame, DeniedTest, Notes, explain};
+use ll_check::{Blame, DeniedTest, LinesOf, Notes, explain};
 use ll_files::{Late, NewFile, Places, Sources};
 use ll_policy::{Policy, first_fault};
 use ll_reason::explain_entry;
@@ -142,16 +142,17 @@ impl Hints {
         }
     }
 
-    /// Of the script's line of this number, from 1, which spells no command: where in it something else was expected,
-    /// and what.
-    pub fn of_command(&mut self, name: &str, text: &[u8], number: usize) {
+    // Of the line of this number, from 1, which spells no command: where in it something else was expected, and what.
+    fn of_command(&mut self, of: LinesOf, name: &str, text: &[u8], number: usize) {
         let Ok(
-            Blame {
-                column,
-                expected,
-                meant,
-            },
-        ) = explain(self.alloc, text, number)
+            Some(
+                Blame {
+                    column,
+                    expected,
+                    meant,
+                },
+            ),
+        ) = explain(self.alloc, of, text, number)
         else {
             return;
         };
@@ -166,22 +167,23 @@ impl Hints {
         }
     }
 
-    /// The same of a command that is a word of the command line. Whether it spells none.
+    /// Of a command that is a word of the command line: where in it something else was expected, and what. Whether it
+    /// spells none.
     pub fn of_word(&mut self, command: &str) -> bool {
         let Ok(line) = format!(in self.alloc; "{command}\n") else {
             return false;
         };
         match read_command(self.alloc, line.as_bytes(), 1) {
             Err(Errno::BadLine) => {
-                self.of_command("COMMAND", line.as_bytes(), 1);
+                self.of_command(LinesOf::Word, "COMMAND", command.as_bytes(), 1);
                 true
             }
             _ => false,
         }
     }
 
-    /// The same of a bad line at which a strict run has ended. `told` is what the program says of that end, and has the
-    /// bad line's number in it.
+    /// The same of the script's bad line at which a strict run has ended. `told` is what the program says of that end,
+    /// and has the bad line's number in it.
     pub fn of_stop(&mut self, script: &str, told: &str, text: &[u8]) {
         let Some(told) = told.strip_prefix(script) else {
             return;
@@ -193,7 +195,7 @@ impl Hints {
             && let Some(number) = place.strip_prefix(':')
             && let Ok(number) = number.parse::<usize>()
         {
-            self.of_command(script, text, number);
+            self.of_command(LinesOf::Script, script, text, number);
         }
     }
 

@@ -10,7 +10,7 @@ use crate::failure::Failure;
 use crate::policy::setup_of;
 use crate::program::header_of;
 use ll_check::{
-    CheckFault, CheckLine, Checks, Detail, Notes, Tally, check_file, explain, tell_denied,
+    CheckFault, CheckLine, Checks, Detail, LinesOf, Notes, Tally, check_file, explain, tell_denied,
 };
 use ll_options::{CheckOptions, RunOptions};
 use ll_rights::limits::HISTORY_ENTRIES;
@@ -206,7 +206,7 @@ fn check_and_tell<R: Wait, W: Write, N: Notes>(
 
 // Tells where a file's line says nothing, and what was expected there.
 fn tell_line<E: Write>(alloc: Global, name: &str, text: &[u8], line: usize, err: &mut E) {
-    let Ok(blame) = explain(alloc, text, line) else {
+    let Ok(Some(blame)) = explain(alloc, LinesOf::Checks, text, line) else {
         let _ = writeln!(err, "{name}:{line}:1: a command is expected, or a comment");
         return;
     };
