@@ -15,7 +15,6 @@ ghost use Rattle.ll_serving.specs.Serving as serving;
 ghost use Rattle.ll_saved.specs.Saved.{Judges};
 ghost use Rattle.ll_wire.specs.Pieces.{pieces};
 
-use crate::hinting::{hint_at_opening, hint_at_question, opening_run, why_text};
 use ll_asking::tell_why;
 use ll_explain::tell_rights;
 use ll_export::export;
@@ -26,47 +25,12 @@ use ll_options::{
     ServeOptions, WhyOptions,
 };
 use ll_replay::{draw_schedule, explain_schedule, perform_schedule, setup_by, window_by};
-use ll_rights::limits::TREE_NODES;
 use ll_runs::{Checked, Conclusion, Failure, Shown, audit, check, read_text, run};
 use ll_saved::Verdict;
 use ll_serving::{Binds, Log, serve};
 use std::io::{IsTerminal, Read};
 use std::sync::Wait;
 use std::thread::Threads;
-
-// Tells where the fault of a policy is that keeps a command from being done, or that it lacks the profile, or which of
-// its calls is refused. It is read again, so only where hints are wanted.
-fn hint_at_policy<S: Sources>(
-    rt: &HostRuntime,
-    sources: &S,
-    hints: &mut Hints,
-    failure: &Failure,
-    run: &RunOptions,
-) {
-    let Some(name) = run.policy else {
-        return;
-    };
-    if !hints.are_wanted() {
-        return;
-    }
-    let mut again = Late::new(sources, Some(name));
-    match failure {
-        Failure::Policy(_) => {
-            if let Ok(text) = read_text(rt.alloc(), &mut again) {
-                hints.of_policy(name, text.as_slice());
-            }
-        }
-        Failure::CommandLine => {
-            if let Some(profile) = run.profile
-                && let Ok(text) = read_text(rt.alloc(), &mut again)
-            {
-                hints.of_profile(name, text.as_slice(), profile);
-            }
-        }
-        Failure::Opening => hint_at_opening(rt, sources, hints, run),
-        Failure::File | Failure::Output | Failure::Socket | Failure::NoMemory => {}
-    }
-}
 
 // Sets up the run that is wanted, runs the script, and saves the history, if a file is named.
 fn run_script<S: Sources + Wait>(
@@ -97,26 +61,9 @@ fn run_script<S: Sources + Wait>(
     hints.of_output("history", &file);
     // No script is read where a call of the opening is refused by the only reply.
     if ended.is_ok() && !script.is_open() {
-        hint_at_opening(rt, sources, hints, options);
+        hints.want_opening();
     }
     ended
-}
-
-// Tells what was expected in the script's line that has ended a strict run, where it spells no command.
-fn hint_at_stop<S: Sources>(
-    rt: &HostRuntime,
-    sources: &S,
-    hints: &mut Hints,
-    script: &str,
-    told: &str,
-) {
-    // Standard input can't be read again.
-    if named(script).is_none() || !hints.are_wanted() {
-        return;
-    }
-    if let Ok(text) = read_text(rt.alloc(), &mut Late::new(sources, named(script))) {
-        hints.of_stop(script, told, text.as_slice());
-    }
 }
 
 // `run`.
@@ -135,16 +82,8 @@ pub fn run_options<S: Sources + Wait>(
         return Err(Failure::CommandLine);
     }
     match run_script(rt, sources, options, hints) {
-        Ok(conclusion) => {
-            if let Conclusion::Stopped(stopped) = &conclusion {
-                hint_at_stop(rt, sources, hints, options.script, stopped.line.as_str());
-            }
-            Ok(conclusion)
-        }
-        Err(failure) => {
-            hint_at_policy(rt, sources, hints, &failure, options);
-            Err(failure)
-        }
+        Ok(conclusion) => Ok(conclusion),
+        Err(failure) => Err(failure),
     }
 }
 
@@ -166,36 +105,6 @@ fn judge_file<S: Sources>(
     judged
 }
 
-// Shows the line at which a file is no legal history, and how to ask what the tree answers there.
-fn hint_at_history<S: Sources>(
-    rt: &HostRuntime,
-    sources: &S,
-    hints: &mut Hints,
-    file: Option<&str>,
-    verdict: Verdict,
-) {
-    let line = match verdict {
-        Verdict::Legal(_) => return,
-        Verdict::Illegal(entry) => entry.saturating_add(1),
-        Verdict::BadLine(line) => line,
-    };
-    // Standard input can't be read again.
-    let Some(file) = file else {
-        return;
-    };
-    if !hints.are_wanted() {
-        return;
-    }
-    if let Ok(text) = read_text(rt.alloc(), &mut Late::new(sources, Some(file))) {
-        hints.of_line(file, text.as_slice(), line);
-    }
-    if let Verdict::Illegal(entry) = verdict
-        && let Ok(why) = why_text(rt, sources, file, entry)
-    {
-        hints.of_entry(file, entry, why.as_slice());
-    }
-}
-
 // `audit`, of the file of this name.
 pub fn audit_file<S: Sources>(
     rt: &HostRuntime,
@@ -206,7 +115,6 @@ pub fn audit_file<S: Sources>(
     ensures { EndsAudit (S.texts sources.now (named file.now)) result }
 {
     let verdict = judge_file(rt, sources, file, hints)?;
-    hint_at_history(rt, sources, hints, named(file), verdict);
     Ok(Conclusion::Judged(verdict))
 }
 
@@ -321,14 +229,10 @@ pub fn rights_options<S: Sources>(
 ) -> Result<Conclusion, Failure>
     ensures { EndsRights result }
 {
-    let run = opening_run(options.nodes, Some(options.policy), Some(options.profile));
     match tell_file(rt, sources, options, hints) {
         Ok(()) => Ok(Conclusion::Done),
         Err(failure) => {
-            match Misfit::of_rights(rt.alloc(), options) {
-                Some(misfit) => hints.add(&misfit),
-                None => hint_at_policy(rt, sources, hints, &failure, &run),
-            }
+            hints.of_misfit(Misfit::of_rights(rt.alloc(), options));
             Err(failure)
         }
     }
@@ -374,20 +278,6 @@ pub fn why_options<S: Sources>(
     let mut file = Late::new(sources, file_asked(options));
     let told = tell_why(rt.alloc(), options, &mut file, &mut rt.stdout());
     hints.of_input("file", &file);
-    match &told {
-        Ok(Conclusion::Judged(answer)) => {
-            hint_at_history(rt, sources, hints, file_asked(options), *answer);
-        }
-        Ok(_) => {}
-        Err(failure) => {
-            let is_told = matches!(failure, Failure::CommandLine)
-                && hint_at_question(hints, options);
-            if !is_told {
-                let run = opening_run(options.nodes, options.policy, options.profile);
-                hint_at_policy(rt, sources, hints, failure, &run);
-            }
-        }
-    }
     told
 }
 
@@ -449,11 +339,7 @@ pub fn check_options<S: Sources + Wait>(
     }
     match check_files(rt, sources, options, hints) {
         Ok(checked) => Ok(Conclusion::Checked(checked)),
-        Err(failure) => {
-            let run = opening_run(options.nodes, options.policy, options.profile);
-            hint_at_policy(rt, sources, hints, &failure, &run);
-            Err(failure)
-        }
+        Err(failure) => Err(failure),
     }
 }
 
@@ -490,11 +376,7 @@ pub fn export_options<S: Sources>(
     }
     match export_file(rt, sources, options, hints) {
         Ok(()) => Ok(Conclusion::Done),
-        Err(failure) => {
-            let run = opening_run(TREE_NODES, Some(options.policy), Some(options.profile));
-            hint_at_policy(rt, sources, hints, &failure, &run);
-            Err(failure)
-        }
+        Err(failure) => Err(failure),
     }
 }
 
@@ -543,15 +425,12 @@ pub fn serve_options<S: Sources + Threads + Wait + Sync, B: Binds>(
         hints.of_misfit(Misfit::of_serve(options));
         return Err(Failure::CommandLine);
     }
-    let mut run = opening_run(options.nodes, options.policy, options.profile);
     match serve_port(rt, sources, ports, options, hints) {
         Ok(()) => {
-            hint_at_opening(rt, sources, hints, &run);
+            hints.want_opening();
             Ok(Conclusion::Done)
         }
         Err(failure) => {
-            run.history = options.history;
-            hint_at_policy(rt, sources, hints, &failure, &run);
             if let Failure::Socket = failure {
                 hints.of_port(options.port);
             }

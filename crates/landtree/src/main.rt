@@ -21,6 +21,7 @@ use commands::{
     audit_file, check_options, export_options, rights_options, run_options, schedule_options,
     serve_options, why_options,
 };
+use hinting::{Doubt, hint_behind};
 use ll_files::Sources;
 use ll_hints::{Hints, are_wanted, without_wish};
 use ll_options::Options;
@@ -165,12 +166,14 @@ fn run_words<S: Sources + Threads + Wait + Sync, B: Binds>(
     }
 }
 
+// Does what the program's words ask for, and tells of its end before it looks for further hints. Errors: there are no
+// such words, and nothing is told.
 fn run_program<S: Sources + Threads + Wait + Sync, B: Binds>(
     rt: &HostRuntime,
     sources: &S,
     ports: &B,
     hints: &mut Hints,
-) -> Result<Conclusion, Failure> {
+) -> Result<ExitCode, Failure> {
     // Until the words are known.
     hints.want(rt.stderr().is_terminal());
     let words = words_of(rt, hints)?;
@@ -185,13 +188,19 @@ fn run_program<S: Sources + Threads + Wait + Sync, B: Binds>(
     let Ok(words) = without_wish(rt.alloc(), words.as_slice()) else {
         return Err(Failure::NoMemory);
     };
-    run_words(rt, sources, ports, words.as_slice(), hints)
+    let ended = run_words(rt, sources, ports, words.as_slice(), hints);
+    let doubt = Doubt::of(rt.alloc(), hints, &ended);
+    let status = concluded(rt, ended);
+    hint_behind(rt, sources, hints, words.as_slice(), &doubt);
+    Ok(status)
 }
 
 fn main(rt: HostRuntime) -> ExitCode {
     let mut hints = Hints::new(rt.alloc());
-    let ended = run_program(&rt, &rt, &Loopback { net: &rt }, &mut hints);
-    let status = concluded(&rt, ended);
+    let status = match run_program(&rt, &rt, &Loopback { net: &rt }, &mut hints) {
+        Ok(status) => status,
+        Err(failure) => concluded(&rt, Err(failure)),
+    };
     hints.tell(&mut rt.stderr());
     status
 }

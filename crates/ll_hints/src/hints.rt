@@ -40,6 +40,7 @@ fn line_at(text: &[u8], number: usize) -> &[u8] {
 pub struct Hints {
     alloc: Global,
     is_wanted: bool,
+    wants_opening: bool,
     text: String,
     /// How many tests were told of that fail by a denial.
     denials: usize,
@@ -51,6 +52,7 @@ impl Hints {
         Hints {
             alloc,
             is_wanted: false,
+            wants_opening: false,
             text: String::new(alloc),
             denials: 0,
         }
@@ -64,6 +66,21 @@ impl Hints {
     /// Whether they are to be told. What takes long to find is looked for only then.
     pub fn are_wanted(&self) -> bool {
         self.is_wanted
+    }
+
+    /// Whether there are some already.
+    pub fn are_told(&self) -> bool {
+        !self.text.is_empty()
+    }
+
+    /// A command that doesn't fail may tell of a call that was refused as the tree was opened, and of nothing else.
+    pub fn want_opening(&mut self) {
+        self.wants_opening = true;
+    }
+
+    /// Whether it may.
+    pub fn is_opening_wanted(&self) -> bool {
+        self.wants_opening
     }
 
     // These lines come last.
