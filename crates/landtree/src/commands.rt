@@ -81,10 +81,7 @@ pub fn run_options<S: Sources + Wait>(
         hints.of_misfit(Misfit::of_run(options));
         return Err(Failure::CommandLine);
     }
-    match run_script(rt, sources, options, hints) {
-        Ok(conclusion) => Ok(conclusion),
-        Err(failure) => Err(failure),
-    }
+    run_script(rt, sources, options, hints)
 }
 
 // Judges the history in the file of this name.
