@@ -76,7 +76,8 @@ pub record IsView (b : Book) (number slot : ℕ) (view : View) : Type 0 where
 abbrev pub IsViewFrom : Book → ℕ → ℕ → ℕ → View → Type 0
 IsViewFrom b number one other view = IsView b number one view ⊎ IsView b number other view
 
--- the same after a descent from the one slot to the other, past the fork, in whose directory's slot it began
+-- the same after a descent past the fork: from the slot to which the walk went down, or where it still stands, or from
+-- that of the fork's directory
 abbrev pub IsViewAfter : Book → ℕ → ℕ → ℕ → ℕ → Progress → View → Type 0
 IsViewAfter b number common from to (progress.Stands inode) view = IsViewFrom b number to common view
 IsViewAfter b number common from to progress.NotNow view = IsViewFrom b number from common view
