@@ -3,12 +3,9 @@
 ghost use Rattle.std.specs.Prelude.{◌≡◌, true};
 
 use crate::calls::target;
-use ll_calls::{Refused, Tree};
-use ll_client::{Account, Shape};
+use ll_calls::{Account, Blank, NoGate, Refused, Shape, Tree};
 use ll_rights::{Abi, Access, Errno, Kind};
 use ll_seq::Rules;
-use ll_tie::Blank;
-use ll_walk::NoGate;
 use std::alloc::Global;
 use std::marker::Brand;
 use std::sync::Wait;
