@@ -39,7 +39,8 @@ sees_after_as b w m n j k h l made it book number from to =
     subst (λ (p : Book × (ℕ × (ℕ × ℕ))). SeesAfter p.0 p.1.0 p.1.1.0 p.1.1.1 made it)
     (λ i. (book i, (number i, (from i, to i))))
 
-pub view_as : (b w : Book) (m n j k : ℕ) (it : View) → b ≡ w → m ≡ n → j ≡ k → IsView b m j it → IsView w n k it
+pub view_as : (b w : Book) (m n j k : ℕ) (it : View) → b ≡ w → m ≡ n → j ≡ k → IsView b m j it
+    → IsView w n k it
 view_as b w m n j k it book number slot =
     subst (λ (p : Book × (ℕ × ℕ)). IsView p.0 p.1.0 p.1.1 it) (λ i. (book i, (number i, slot i)))
 
@@ -49,8 +50,8 @@ view_from_as b w m n j k h l it book number one other =
     subst (λ (p : Book × (ℕ × (ℕ × ℕ))). IsViewFrom p.0 p.1.0 p.1.1.0 p.1.1.1 it)
     (λ i. (book i, (number i, (one i, other i))))
 
-pub view_after_as : (b w : Book) (m n c j k h l : ℕ) (made : Progress) (it : View) → b ≡ w → m ≡ n → j ≡ k → h ≡ l
-    → IsViewAfter b m c j h made it → IsViewAfter w n c k l made it
+pub view_after_as : (b w : Book) (m n c j k h l : ℕ) (made : Progress) (it : View) → b ≡ w → m ≡ n → j ≡ k
+    → h ≡ l → IsViewAfter b m c j h made it → IsViewAfter w n c k l made it
 view_after_as b w m n c j k h l made it book number from to =
     subst (λ (p : Book × (ℕ × (ℕ × ℕ))). IsViewAfter p.0 p.1.0 c p.1.1.0 p.1.1.1 made it)
     (λ i. (book i, (number i, (from i, to i))))
