@@ -11,7 +11,10 @@ Snapshots or Snapshots.test_each_node.
 
 import contextlib
 import errno
+import gc
+import itertools
 import os
+import pickle
 import re
 import signal
 import socket
@@ -23,7 +26,8 @@ import tempfile
 import threading
 import time
 import unittest
-from pathlib import Path
+from concurrent.futures import ThreadPoolExecutor
+from pathlib import Path, PurePosixPath
 from unittest import mock
 
 sys.dont_write_bytecode = True
@@ -31,14 +35,22 @@ HERE = Path(__file__).resolve().parent
 TOP = HERE.parent.parent
 sys.path.insert(0, str(HERE))
 
-import landtree  # noqa: E402
 from landtree import BadReply, Client, Denied, Landtree, LandtreeError, OpeningRefused  # noqa: E402
-from landtree import ProgramFault, Refused, Rights, Stat, snapshot  # noqa: E402
+from landtree import ProgramFault, Refused, Rights, Stat, TimedOut, snapshot  # noqa: E402
+from landtree import directories, transports  # noqa: E402
 
 PROGRAM = str(TOP / "crates/landtree/out/landtree")
 BAD_LINE = "refused 23 BadLine"
 # Seconds after which a program that should have ended is taken for one that hangs.
 LONGEST = 60
+# Of what each error has, what a test names.
+FIELDS = {
+    Denied: ("name", "layer", "right", "place"),
+    Refused: ("number", "name"),
+    OpeningRefused: ("number", "name"),
+    ProgramFault: ("status", "line"),
+    BadReply: ("reply",),
+}
 
 
 def run(**options):
@@ -102,12 +114,76 @@ class Case(unittest.TestCase):
         path.chmod(0o755)
         return path
 
-    def raises(self, kind, args, call, *words, **options):
-        """Wants the call to raise this very kind of error with these arguments."""
+    def in_thread(self, tree, call, *words):
+        """Has another thread make a call of the session, waits until it is under way, and returns what waits for its
+        end and gives its error."""
+
+        def make():
+            try:
+                call(*words)
+            except Exception as error:
+                errors.append(error)
+
+        def ended():
+            thread.join(LONGEST)
+            self.assertFalse(thread.is_alive())
+            return errors[0] if errors else None
+
+        errors = []
+        thread = threading.Thread(target=make)
+        thread.start()
+        with self.within(LONGEST):
+            while not tree._transport.way.channel.is_owed:
+                time.sleep(0.01)
+        return ended
+
+    def waiting(self):
+        """Words of a shell that wait until `let_go` is called."""
+        return f"while [ ! -e '{self.room}/go' ]; do sleep 0.01; done"
+
+    def let_go(self):
+        (self.room / "go").touch()
+
+    @contextlib.contextmanager
+    def a_fork(self, call=lambda: None):
+        """A fork of this process, which has made the call well and lives on."""
+        ours, theirs = socket.socketpair()
+        fork = os.fork()
+        if not fork:
+            with contextlib.suppress(BaseException):
+                ours.close()
+                call()
+                theirs.send(b"well")
+                theirs.recv(1)
+            os._exit(0)
+        theirs.close()
+        with ours:
+            self.assertEqual(ours.recv(9), b"well")
+            yield
+        os.waitpid(fork, 0)
+
+    @contextlib.contextmanager
+    def leaves_nothing(self):
+        """Wants as many descriptors after as before, and no child."""
+        gc.collect()
+        before = os.listdir("/proc/self/fd")
+        yield
+        gc.collect()
+        self.assertEqual(os.listdir("/proc/self/fd"), before)
+        self.assertRaises(ChildProcessError, os.waitpid, -1, os.WNOHANG)
+
+    @contextlib.contextmanager
+    def within(self, seconds):
+        began = time.monotonic()
+        yield
+        self.assertLess(time.monotonic() - began, seconds)
+
+    def raises(self, kind, fields, call, *words, **options):
+        """Wants the call to raise this very kind of error with these fields."""
         with self.assertRaises(kind) as caught:
             call(*words, **options)
         self.assertIs(type(caught.exception), kind)
-        self.assertEqual(caught.exception.args, args)
+        self.assertEqual(tuple(getattr(caught.exception, it) for it in FIELDS[kind]), fields)
         return caught.exception
 
 
@@ -199,7 +275,7 @@ class Script:
         try:
             result = getattr(client, name)(*arguments)
         except (Denied, Refused) as error:
-            return str(error)
+            return error.reply
         if name == "spawn":
             self.clients[result.number] = result
         return REPLIES[name](result) if name in REPLIES else {None: "ok"}[result]
@@ -248,6 +324,9 @@ REFUSED_OPENINGS = ["policy-profile-call-refused", "policy-257-rules", "policy-s
 
 
 class Scripts(Case):
+    # Every STEPth of the worked scripts is replayed, so many at once.
+    STEP, AT_ONCE = 1, 4
+
     def replay(self, lines, replies, **options):
         """Makes each line's call, and returns the lines that no call has; each of these is refused in a script."""
         unsaid = []
@@ -277,25 +356,29 @@ class Scripts(Case):
 
     def test_worked_scripts(self):
         said = 0
-        for name, words, folder in worked(0):
-            lines, replies = lines_of(folder / "stdin"), lines_of(folder / "stdout")
-            if name in REFUSED_OPENINGS:
-                continue
-            with self.subTest(name):
-                unsaid = self.replay(lines, replies, **options_of(words, folder))
-                said += len(lines) - len(unsaid)
-        self.assertGreater(said, 1_000)
+        with ThreadPoolExecutor(self.AT_ONCE) as pool:
+            replays = []
+            for name, words, folder in itertools.islice(worked(0), 0, None, self.STEP):
+                lines, replies = lines_of(folder / "stdin"), lines_of(folder / "stdout")
+                if name not in REFUSED_OPENINGS:
+                    unsaid = pool.submit(self.replay, lines, replies, **options_of(words, folder))
+                    replays.append((name, len(lines), unsaid))
+            for name, count, unsaid in replays:
+                with self.subTest(name):
+                    said += count - len(unsaid.result())
+        self.assertGreater(said, 2_000 // self.STEP)
 
     def test_refused_openings(self):
         for name, words, folder in worked(0):
             if name in REFUSED_OPENINGS:
                 with self.subTest(name), self.assertRaises(OpeningRefused) as caught:
                     self.session(**options_of(words, folder))
-                self.assertEqual([str(caught.exception)], lines_of(folder / "stdout"), name)
+                self.assertEqual([caught.exception.reply], lines_of(folder / "stdout"), name)
 
 
 class ScriptsByPort(ByPort, Scripts):
-    pass
+    # The lines are those of a child, so a few show that a connection carries them.
+    STEP, AT_ONCE = 5, 1
 
 
 class Calls(Case):
@@ -338,20 +421,57 @@ class Calls(Case):
             tree.client.make("reg", "/f")
             tree.client.confine(tree.client.ruleset(Rights.WRITE_FILE))
             error = self.raises(Denied, ("EACCES", 1, Rights.WRITE_FILE, "at"), tree.client.open, "w", "/f")
-            fields = (error.errno, error.layer, error.right, error.place)
-            self.assertEqual(fields, ("EACCES", 1, Rights.WRITE_FILE, "at"))
-            self.assertEqual(str(error), "denied EACCES layer 1 write_file at")
-            self.raises(Denied, ("EXDEV", 1, Rights.REFER, "old"), tree.client.rename, "/f", "/a/f")
+            self.assertIsInstance(error, PermissionError)
+            self.assertEqual((error.errno, error.path, error.filename), (errno.EACCES, "/f", "/f"))
+            self.assertEqual((error.call, error.reply), ("open w /f", "denied EACCES layer 1 write_file at"))
+            self.assertEqual(str(error), "open w /f = denied EACCES layer 1 write_file at")
+            error = self.raises(Denied, ("EXDEV", 1, Rights.REFER, "old"), tree.client.rename, "/f", "/a/f")
+            self.assertEqual((error.errno, error.path), (errno.EXDEV, "/f"))
+            self.assertEqual((error.filename, error.filename2), ("/f", "/a/f"))
+            error = self.raises(Denied, ("EACCES", 1, Rights.WRITE_FILE, "at"), tree.client.spawn().open, "w", "/f")
+            self.assertEqual(str(error), "@2 open w /f = denied EACCES layer 1 write_file at")
+
+    def test_denied_at_a_new_path_and_at_a_descriptor(self):
+        with self.session() as tree:
+            tree.client.make("dir", "/a")
+            tree.client.make("reg", "/f")
+            rules = tree.client.ruleset(Rights.MAKE_REG | Rights.TRUNCATE)
+            tree.client.allow(rules, "/a", Rights.TRUNCATE)
+            tree.client.confine(rules)
+            error = self.raises(Denied, ("EACCES", 1, Rights.MAKE_REG, "new"), tree.client.link, "/f", "/g")
+            self.assertEqual(error.path, "/g")
+            file = tree.client.open("w", "/f")
+            error = self.raises(Denied, ("EACCES", 1, Rights.TRUNCATE, "at"), tree.client.ftruncate, file, 0)
+            self.assertEqual((error.path, error.filename), (None, None))
+
+    def test_paths_of_pathlib(self):
+        with self.session() as tree:
+            tree.client.make("dir", PurePosixPath("/a"))
+            tree.client.rename(PurePosixPath("/a"), PurePosixPath("/b"))
+            self.assertEqual(tree.client.list("/"), ["b"])
 
     def test_refused(self):
         with self.session() as tree:
             error = self.raises(Refused, (3, "ENOENT"), tree.client.stat, "/none")
-            self.assertEqual((error.number, error.name, str(error)), (3, "ENOENT", "refused 3 ENOENT"))
+            self.assertEqual((error.call, error.reply), ("stat /none", "refused 3 ENOENT"))
+            self.assertEqual(str(error), "stat /none = refused 3 ENOENT")
             self.raises(Refused, (11, "EBADF"), tree.client.close, 0)
 
     def test_errors_have_one_base(self):
-        for error in (Denied, Refused, OpeningRefused, ProgramFault, BadReply):
+        for error in (Denied, Refused, OpeningRefused, ProgramFault, TimedOut, BadReply):
             self.assertTrue(issubclass(error, LandtreeError), error)
+
+    def test_errors_can_be_pickled(self):
+        denied = Denied("EXDEV", 2, Rights.REFER, "new", "@2 link /f /g", ["/f", "/g"])
+        errors = [denied, Refused(3, "ENOENT", "stat /"), OpeningRefused(3, "ENOENT", "  why"), TimedOut("late")]
+        for error in [*errors, ProgramFault(2, "landtree: file", "  why"), BadReply("hello", "stat /")]:
+            copy = pickle.loads(pickle.dumps(error))
+            self.assertEqual((type(copy), str(copy), vars(copy)), (type(error), str(error), vars(error)))
+
+    def test_long_calls_in_messages(self):
+        error = Refused(16, "EFBIG", f"write 0 65536 {'00' * 4096}")
+        self.assertEqual(str(error), f"write 0 65536 {'0' * 186}.. = refused 16 EFBIG")
+        self.assertEqual(str(BadReply("x" * 201)), f"the program answered '{'x' * 200}..'")
 
     def test_long_reads_and_writes(self):
         data = bytes(range(256)) * 17
@@ -393,7 +513,7 @@ class Calls(Case):
 
     def test_threads(self):
         def make_files(client):
-            for number in range(100):
+            for number in range(50):
                 path = f"/{client.number}-{number}"
                 file = client.open("rwcx", path)
                 client.write(file, 0, path.encode())
@@ -407,7 +527,7 @@ class Calls(Case):
                 it.start()
             for it in threads:
                 it.join()
-        paths = [f"/{client}-{number}" for client in range(2, 10) for number in range(100)]
+        paths = [f"/{client}-{number}" for client in range(2, 10) for number in range(50)]
         self.assertEqual(told, {path: path.encode() for path in paths})
 
 
@@ -478,6 +598,11 @@ class Lines(Case):
         self.assertEqual(str(Rights.NONE), "none")
         self.assertEqual(str(Rights.TRUNCATE | Rights.EXECUTE | Rights.READ_DIR), "execute,read_dir,truncate")
         self.assertEqual(str(Rights.ALL & ~Rights.READ_FILE), ",".join(it for it in names if it != "read_file"))
+        self.assertEqual(Rights.parse("none"), Rights.NONE)
+        self.assertEqual(Rights.parse("execute,read_dir,truncate"), Rights.EXECUTE | Rights.READ_DIR | Rights.TRUNCATE)
+        self.assertEqual(Rights.parse(",".join(names)), Rights.ALL)
+        for text in ("", "readfile", "READ_FILE", "all", "read_file,", "read_dir,execute", "execute,execute", "none,refer"):
+            self.assertRaises(ValueError, Rights.parse, text)
 
     def test_lines(self):
         transport = mock.Mock()
@@ -517,9 +642,26 @@ class Lines(Case):
         for name, words in calls.items():
             client = Client(mock.Mock(send=mock.Mock(return_value="ok")), 1)
             self.raises(BadReply, ("ok",), getattr(client, name), *words)
-        for reply in ("data", "data 0", "data 0A", "data 00 ", "data -0"):
+        self.wants_bad_replies(["data", "data 0", "data 0A", "data 00 ", "data -0", "data 0000"], "read", 0, 0, 1)
+
+    def wants_bad_replies(self, replies, name, *words):
+        for reply in replies:
             client = Client(mock.Mock(send=mock.Mock(return_value=reply)), 1)
-            self.raises(BadReply, (reply,), client.read, 0, 0, 1)
+            self.raises(BadReply, (reply,), getattr(client, name), *words)
+
+    def test_no_numbers(self):
+        for digits in (21, 5_000):
+            number = "9" * digits
+            self.wants_bad_replies([f"fd {number}", f"refused {number} ENOENT"], "open", "r", "/f")
+            self.wants_bad_replies([f"denied EACCES layer {number} read_file at"], "open", "r", "/f")
+            self.wants_bad_replies([f"stat {number} reg 0 1", f"stat 1 reg {number} 1"], "stat", "/f")
+            self.wants_bad_replies([f"ruleset {number}"], "ruleset", Rights.ALL)
+            self.wants_bad_replies([f"client {number}"], "spawn")
+        self.wants_bad_replies(["wrote 0", "wrote 2", "wrote 01", f"wrote {'9' * 5_000}"], "write", 0, 0, b"x")
+
+    def test_no_listings(self):
+        replies = ["names a a", "names b a", "names .", "names ..", "names a/b", "names  a", f"names {'a' * 256}"]
+        self.wants_bad_replies([*replies, f"names {' '.join(f'{it:04}' for it in range(1_025))}"], "list", "/")
 
 
 class Programs(Case):
@@ -543,7 +685,7 @@ class Programs(Case):
             if name in BEYOND_OPTIONS:
                 continue
             with self.subTest(name):
-                fault = int((folder / "status").read_text()), (folder / "stderr").read_text().rstrip("\n")
+                fault = int((folder / "status").read_text()), (folder / "stderr").read_text().split("\n")[0]
                 self.raises(ProgramFault, fault, lambda: run(**options_of(words, folder)).__exit__(None, None, None))
                 seen += 1
         self.assertGreater(seen, 15)
@@ -566,7 +708,7 @@ class Programs(Case):
     def test_a_program_that_is_killed(self):
         tree = run()
         tree.client.make("reg", "/f")
-        child = tree._transport._child
+        child = tree._transport.way._child
         child.kill()
         self.raises(ProgramFault, (-signal.SIGKILL, ""), tree.client.stat, "/f")
         self.raises(ProgramFault, (-signal.SIGKILL, ""), tree.client.spawn)
@@ -591,7 +733,7 @@ class Programs(Case):
         with self.assertRaises(ProgramFault) as caught:
             with Landtree.run(self.stand_in("exit 4")):
                 pass
-        self.assertEqual(caught.exception.args, (4, ""))
+        self.assertEqual(caught.exception.args, (4, "", ""))
 
     def test_an_error_in_the_block_goes_first(self):
         with self.assertRaises(KeyError):
@@ -611,6 +753,206 @@ class Programs(Case):
             tree.client.make("reg", "/g")
         self.assertIs(type(caught.exception), LandtreeError)
         self.assertEqual(tree.close(), 0)
+
+
+    def test_hints(self):
+        policy = self.file("policy.toml", 'version = 2\nabi = 3\n[[node]]\npath = "/a"\nkind = "hole"\n')
+        error = self.raises(ProgramFault, (2, "landtree: policy BadKind"), run, policy=policy)
+        self.assertIn('node 1: kind = "hole"', error.hints)
+        first = "the program has ended with status 2: landtree: policy BadKind"
+        self.assertEqual(str(error), f"{first}\n{error.hints}")
+        folder = TOP / "worked/policy-profile-call-refused"
+        error = self.raises(OpeningRefused, (3, "ENOENT"), run, policy=folder / "policy.toml", profile="reader")
+        self.assertIn("profile reader, layer 1, rule 1", error.hints)
+        self.assertEqual(str(error), f"refused 3 ENOENT\n{error.hints}")
+
+    def test_a_long_standard_error(self):
+        lines = "yes '  a hint' | head -n 50000 >&2; echo 'landtree: file' >&2; echo '  a hint' >&2; exit 1"
+        tree = Landtree.run(self.stand_in(f"read line; {lines}"))
+        error = self.raises(ProgramFault, (1, "landtree: file"), tree.client.stat, "/")
+        self.assertEqual(error.hints, "  a hint")
+        tree = Landtree.run(self.stand_in("yes '  a hint' | head -n 50000 >&2; exit 1"))
+        self.raises(ProgramFault, (1, ""), tree.client.stat, "/")
+
+    def late(self, call, *words, **options):
+        """Wants the call to time out, and not long after its time."""
+        with self.within(LONGEST / 2):
+            error = self.assertRaises(TimedOut, call, *words, **options)
+        return error
+
+    def test_a_late_opening(self):
+        silent = self.file("silent", "#!/bin/sh\nexec sleep 1000\n")
+        silent.chmod(0o755)
+        with self.leaves_nothing():
+            self.late(Landtree.run, silent, timeout=0.2)
+
+    def test_a_late_reply(self):
+        with self.leaves_nothing():
+            tree = Landtree.run(self.stand_in("read line; echo ok; exec sleep 1000"))
+            tree.client.make("reg", "/f")
+            tree.timeout = 0.2
+            with self.assertRaises(TimeoutError) as caught:
+                tree.client.make("reg", "/g")
+            self.assertEqual(str(caught.exception), "make reg /g: no reply within 0.2 seconds")
+            self.raises_no_call(tree)
+            self.assertEqual(tree.close(), -signal.SIGKILL)
+            error = self.raises(ProgramFault, (-signal.SIGKILL, tree._transport.close().line), tree.client.stat, "/")
+            self.assertIn("killed", str(error))
+
+    def raises_no_call(self, tree):
+        """Wants no further call to be made, since one was left."""
+        with self.assertRaises(LandtreeError) as caught:
+            tree.client.make("reg", "/h")
+        self.assertIs(type(caught.exception), LandtreeError)
+
+    def test_a_reply_that_drips(self):
+        tree = Landtree.run(self.stand_in("read line; while :; do printf x; sleep 0.05; done"))
+        tree.timeout = 0.3
+        self.late(tree.client.stat, "/")
+        self.assertEqual(tree.close(), -signal.SIGKILL)
+
+    def test_a_late_reply_that_comes_before_the_end(self):
+        tree = Landtree.run(self.stand_in(f"read line; {self.waiting()}; echo ok; read line; exit 3"))
+        tree.timeout = 0.2
+        self.late(tree.client.make, "reg", "/f")
+        self.let_go()
+        tree.timeout = None
+        with mock.patch.object(transports, "GRACE", LONGEST):
+            self.assertEqual(tree.close(), 3)
+
+    def test_a_late_end(self):
+        with self.assertRaises(ProgramFault) as caught, self.within(LONGEST / 2):
+            with Landtree.run(self.stand_in("exec sleep 1000")) as tree:
+                tree.timeout = 0.2
+        self.assertEqual(caught.exception.status, -signal.SIGKILL)
+        self.assertIn("killed", caught.exception.line)
+
+    def test_timeouts(self):
+        for seconds in (0, -1, float("nan"), float("inf"), 1_000_001, True):
+            self.assertRaises(ValueError, run, timeout=seconds)
+            self.assertRaises(ValueError, Landtree.connect, 7000, timeout=seconds)
+        self.assertRaises(TypeError, run, timeout="1")
+        with run(timeout=1_000_000) as tree:
+            self.assertEqual((tree.timeout, tree.client.list("/")), (1_000_000, []))
+            tree.timeout = LONGEST
+            self.assertEqual((tree.timeout, tree.client.list("/")), (LONGEST, []))
+            with self.assertRaises(ValueError):
+                tree.timeout = 0
+            self.assertEqual(tree.timeout, LONGEST)
+
+    def answering(self, reply):
+        """A session with a program that answers so."""
+        self.room.joinpath("reply").write_bytes(reply)
+        return Landtree.run(self.stand_in(f"read line; cat '{self.room}/reply'; read line; exit 0"))
+
+    def test_the_longest_reply(self):
+        names = [f"{number:04}" + "n" * 251 for number in range(1_024)]
+        reply = " ".join(["names", *names])
+        with self.answering(f"{reply}\n".encode()) as tree:
+            self.assertEqual(tree.client.list("/"), names)
+        with self.leaves_nothing():
+            tree = self.answering(f"{reply}x\n".encode())
+            self.raises(BadReply, (f"{reply}x\n",), tree.client.list, "/")
+            self.assertRaises(ProgramFault, tree.client.stat, "/")
+
+    def test_a_reply_without_end(self):
+        with self.leaves_nothing():
+            tree = Landtree.run(self.stand_in("read line; exec cat /dev/zero"))
+            with self.assertRaises(BadReply) as caught, self.within(LONGEST / 2):
+                tree.client.list("/")
+            self.assertLess(len(caught.exception.reply), 400_000)
+            self.assertRaises(ProgramFault, tree.client.stat, "/")
+
+    def test_two_replies_to_one_call(self):
+        tree = self.answering(b"ok\nok\n")
+        self.raises(BadReply, ("ok\nok\n",), tree.client.make, "reg", "/f")
+        self.assertRaises(ProgramFault, tree.client.make, "reg", "/f")
+
+    def test_close_in_a_call(self):
+        with self.leaves_nothing(), mock.patch.object(transports, "GRACE", 0.2):
+            tree = Landtree.run(self.stand_in("read line; exec sleep 1000"), timeout=LONGEST)
+            error = self.in_thread(tree, tree.client.stat, "/")
+            with self.within(LONGEST / 2):
+                self.assertEqual(tree.close(), -signal.SIGKILL)
+            self.assertIs(type(error()), ProgramFault)
+            self.assertEqual(str(error()), "the session has ended: it was closed during the call")
+
+    def test_close_in_a_call_that_is_answered(self):
+        history = self.room / "history"
+        tree = run(save=history)
+        child = tree._transport.way._child
+        child.send_signal(signal.SIGSTOP)
+        error = self.in_thread(tree, tree.client.make, "reg", "/f")
+        goes_on = threading.Timer(0.5, child.send_signal, [signal.SIGCONT])
+        goes_on.start()
+        with mock.patch.object(transports, "GRACE", LONGEST):
+            self.assertEqual(tree.close(), 0)
+        goes_on.join()
+        self.assertIs(type(error()), ProgramFault)
+        self.assertEqual(lines_of(history)[2:], ["1 make reg /f = ok"])
+
+    def test_a_signal_that_closes_in_a_call(self):
+        with self.leaves_nothing(), mock.patch.object(transports, "GRACE", 0.2):
+            tree = Landtree.run(self.stand_in("read line; exec sleep 1000"), timeout=LONGEST / 4)
+            with done_after(0.2, tree.close), self.within(LONGEST / 2):
+                self.assertRaises(ProgramFault, tree.client.stat, "/")
+            self.assertEqual(tree.close(), -signal.SIGKILL)
+
+    def test_a_signal_that_calls_in_a_call(self):
+        def call():
+            self.raises_no_call(tree)
+            self.let_go()
+
+        tree = Landtree.run(self.stand_in(f"read line; {self.waiting()}; echo ok; read line"))
+        with done_after(0.2, call):
+            tree.client.make("reg", "/f")
+        tree.close()
+
+    def test_a_dropped_session(self):
+        with self.leaves_nothing(), mock.patch.object(transports, "GRACE", LONGEST):
+            tree = run(save=self.room / "history")
+            client = tree.client
+            del tree
+            gc.collect()
+            client.make("reg", "/f")
+            del client
+        self.assertEqual(lines_of(self.room / "history")[2:], ["1 make reg /f = ok"])
+
+    def test_a_dropped_session_that_does_not_end(self):
+        with self.leaves_nothing(), mock.patch.object(transports, "GRACE", 0.2):
+            Landtree.run(self.stand_in("exec sleep 1000"))
+
+    def test_a_session_that_is_open_at_the_exit(self):
+        lines = "import landtree\ntree = landtree.Landtree.run(PROGRAM)\nprint(tree._transport.way._child.pid)\n"
+        program = self.file("program.py", lines.replace("PROGRAM", repr(PROGRAM)))
+        environment = {**os.environ, "PYTHONPATH": str(HERE), "PYTHONDONTWRITEBYTECODE": "1"}
+        how = {"env": environment, "capture_output": True, "text": True, "timeout": LONGEST}
+        ran = subprocess.run([sys.executable, program], **how)
+        self.assertEqual((ran.returncode, ran.stderr), (0, ""))
+        self.assertRaises(ProcessLookupError, os.kill, int(ran.stdout), 0)
+
+    def test_a_fork_that_lives(self):
+        tree = run()
+        with self.a_fork():
+            self.assertEqual(tree.close(), 0)
+
+    def test_a_fork_makes_no_call(self):
+        def call():
+            self.raises_no_call(tree)
+            tree.close()
+
+        with run() as tree, self.a_fork(call):
+            tree.client.make("reg", "/f")
+
+    def test_a_fork_that_drops_the_session(self):
+        def drop():
+            trees.clear()
+            gc.collect()
+
+        trees = [run()]
+        with self.a_fork(drop):
+            trees[0].client.make("reg", "/f")
+        self.assertEqual(trees[0].close(), 0)
 
 
 class Connections(Case):
@@ -730,7 +1072,7 @@ class Connections(Case):
         self.assertIsNone(tree.close())
         self.assertIsNone(tree.close())
         error = self.raises(ProgramFault, (None, ""), tree.client.stat, "/")
-        self.assertEqual(str(error), "the connection has ended")
+        self.assertEqual(str(error), "the session has ended")
 
     def test_nobody_listens(self):
         self.assertRaises(ConnectionRefusedError, Landtree.connect, free_port())
@@ -746,7 +1088,7 @@ class Connections(Case):
         fault = (None, "the program has closed it")
         error = self.raises(ProgramFault, fault, tree.client.stat, "/")
         self.assertEqual((error.status, error.line), fault)
-        self.assertEqual(str(error), "the connection has ended: the program has closed it")
+        self.assertEqual(str(error), "the session has ended: the program has closed it")
         self.raises(ProgramFault, fault, tree.client.stat, "/")
         self.assertIsNone(tree.close())
 
@@ -799,6 +1141,72 @@ class Connections(Case):
         self.assertIs(type(caught.exception), LandtreeError)
         self.assertIsNone(tree.close())
 
+    def test_a_late_connection(self):
+        with socket.create_server(("127.0.0.1", 0)) as silent:
+            with self.leaves_nothing(), self.within(LONGEST / 2):
+                self.assertRaises(TimedOut, Landtree.connect, silent.getsockname()[1], timeout=0.2)
+        with mock.patch("socket.create_connection", side_effect=socket.timeout):
+            self.assertRaises(TimedOut, Landtree.connect, 7000, timeout=0.2)
+
+    def test_a_late_reply(self):
+        tree = Landtree.connect(self.stand_in_at(lambda _, lines: lines.read()))
+        tree.timeout = 0.2
+        self.assertRaises(TimedOut, tree.client.stat, "/")
+        self.assertIsNone(tree.close())
+
+    def test_a_late_end(self):
+        done = threading.Event()
+        port = self.stand_in_at(lambda *_: done.wait())
+        self.addCleanup(done.set)
+        with self.assertRaises(ProgramFault) as caught, self.within(LONGEST / 2):
+            with Landtree.connect(port) as tree:
+                tree.timeout = 0.2
+        self.assertEqual(caught.exception.args, (None, "the program has not closed it in time", ""))
+
+    def test_a_reply_without_end(self):
+        def answer_for_ever(connection, lines):
+            lines.readline()
+            with contextlib.suppress(ConnectionError):
+                while True:
+                    connection.sendall(b"names a ")
+
+        tree = Landtree.connect(self.stand_in_at(answer_for_ever))
+        with self.assertRaises(BadReply) as caught, self.within(LONGEST / 2):
+            tree.client.list("/")
+        self.assertLess(len(caught.exception.reply), 400_000)
+        self.assertRaises(ProgramFault, tree.client.stat, "/")
+
+    def test_one_that_speaks_unasked(self):
+        def speak(_, lines):
+            time.sleep(0.2)
+            answer(lines, "ok")
+
+        with self.assertRaises(ProgramFault) as caught, Landtree.connect(self.stand_in_at(speak)):
+            pass
+        self.assertEqual(caught.exception.line, "the program sent what no call asked for")
+
+    def test_close_in_a_call(self):
+        tree = Landtree.connect(self.stand_in_at(lambda _, lines: lines.read()))
+        error = self.in_thread(tree, tree.client.stat, "/")
+        with self.within(LONGEST / 2):
+            self.assertIsNone(tree.close())
+        self.assertIs(type(error()), ProgramFault)
+
+    def test_a_dropped_session(self):
+        server = self.serve()
+        before = os.listdir("/proc/self/fd")
+        Landtree.connect(server.port)
+        gc.collect()
+        self.assertEqual(os.listdir("/proc/self/fd"), before)
+        self.wants_well(server)
+
+    def test_a_fork_that_lives(self):
+        server = self.serve()
+        tree = Landtree.connect(server.port)
+        with self.a_fork():
+            self.assertIsNone(tree.close())
+            self.wants_well(server)
+
     def test_an_interrupted_opening(self):
         with socket.create_server(("127.0.0.1", 0)) as silent, interrupted_after(0.2):
             self.assertRaises(KeyboardInterrupt, Landtree.connect, silent.getsockname()[1])
@@ -813,12 +1221,17 @@ def reset_at_close(connection):
     connection.setsockopt(socket.SOL_SOCKET, socket.SO_LINGER, struct.pack("ii", 1, 0))
 
 
-@contextlib.contextmanager
 def interrupted_after(seconds):
-    def interrupt(*_):
+    def interrupt():
         raise KeyboardInterrupt
 
-    before = signal.signal(signal.SIGALRM, interrupt)
+    return done_after(seconds, interrupt)
+
+
+@contextlib.contextmanager
+def done_after(seconds, act):
+    """Has a signal do this in the middle of what is done."""
+    before = signal.signal(signal.SIGALRM, lambda *_: act())
     signal.setitimer(signal.ITIMER_REAL, seconds)
     try:
         yield
@@ -898,15 +1311,15 @@ class Snapshots(Case):
 
     def test_each_node(self):
         self.fill()
-        taken = snapshot(self.real)
-        self.assertEqual(taken.left_out, [])
+        taken = snapshot(self.real, data=True)
+        self.assertEqual((taken.left_out, taken.excluded), ([], []))
         tree = self.opened(taken)
         self.wants_nodes(tree.client, list(places_in(self.real)), lambda it: f"/{it.relative_to(self.real)}", 2)
         self.assertEqual(tree.client.list("/"), sorted(os.listdir(self.real)))
 
     def test_elsewhere(self):
         self.fill()
-        taken = snapshot(os.fsencode(self.real), at="/srv/www")
+        taken = snapshot(os.fsencode(self.real), at=PurePosixPath("/srv/www"), data=True)
         tree = self.opened(taken)
         self.assertEqual(tree.client.list("/"), ["srv"])
         self.assertEqual(tree.client.list("/srv"), ["www"])
@@ -938,7 +1351,8 @@ class Snapshots(Case):
         self.put("a")
         self.put("b", b"x" * 4096)
         self.put("c/d", b"x" * 4097)
-        taken = snapshot(self.real)
+        self.assertEqual(snapshot(self.real).entries, 1 + 4)
+        taken = snapshot(self.real, data=True)
         # The connect; a, b, c and d; open, write and close of b; open, two writes and close of d.
         self.assertEqual(taken.entries, 1 + 4 + 3 + 4)
         policy = self.file("policy.toml", taken.text)
@@ -968,7 +1382,8 @@ class Snapshots(Case):
     def test_sizes(self):
         over = self.put("over", bytes(65_537))
         self.put("whole", bytes(65_536))
-        taken = snapshot(self.real)
+        self.assertEqual(snapshot(self.real).left_out, [])
+        taken = snapshot(self.real, data=True)
         self.wants_left_out(taken, [over], "65,536 bytes")
         self.assertEqual(self.opened(taken).client.list("/"), ["whole"])
 
@@ -1022,45 +1437,134 @@ class Snapshots(Case):
         self.assertEqual(self.opened(taken, nodes=4).client.list("/"), ["a", "b", "c"])
         self.assertRaises(ValueError, snapshot, self.real, at="/x/y", nodes=2)
 
+    def before_opening(self, name, act):
+        """Has this done right before a snapshot opens what has this name."""
+        really = os.open
+
+        def opens(place, flags, **options):
+            if place == name:
+                act()
+            return really(place, flags, **options)
+
+        return mock.patch("os.open", opens)
+
     def test_what_cannot_be_read(self):
-        self.put("f")
-        self.put("d/g")
-        self.put("h")
-        really, names = os.open, os.listdir
+        def refuse():
+            raise PermissionError(errno.EACCES, os.strerror(errno.EACCES))
 
-        def opens(place, flags):
-            if Path(place).name == "f":
-                raise PermissionError(13, "Permission denied", place)
-            return really(place, flags)
-
-        def lists(place):
-            if Path(place).name == "d":
-                raise PermissionError(13, "Permission denied", place)
-            return names(place)
-
-        with mock.patch("os.open", opens), mock.patch("os.listdir", lists):
-            taken = snapshot(self.real)
+        for name in ("f", "d/g", "h"):
+            self.put(name, b"x")
+        with self.before_opening("f", refuse), self.before_opening("d", refuse):
+            taken = snapshot(self.real, data=True)
         self.assertEqual(taken.left_out, [(str(self.real / name), "Permission denied") for name in ("d", "f")])
         self.assertEqual(self.opened(taken).client.list("/"), ["h"])
 
     def test_a_file_that_becomes_a_link(self):
         outside = self.file("outside", "secret")
-        place = self.put("f")
-        really = os.open
+        place = self.put("f", b"x")
 
-        def opens(file, flags):
+        def replace():
             place.unlink()
             place.symlink_to(outside)
-            return really(file, flags)
 
-        with mock.patch("os.open", opens):
-            taken = snapshot(self.real)
+        with self.before_opening("f", replace):
+            taken = snapshot(self.real, data=True)
         self.assertEqual(taken.left_out, [(str(place), os.strerror(errno.ELOOP))])
         self.assertEqual(self.opened(taken).client.list("/"), [])
 
+    def test_a_file_that_becomes_a_fifo(self):
+        place = self.put("f", b"x")
+
+        def replace():
+            place.unlink()
+            os.mkfifo(place)
+
+        with self.before_opening("f", replace):
+            self.wants_left_out(snapshot(self.real, data=True), [place], "it was replaced")
+
+    def outside(self):
+        """A directory elsewhere, with a file of the name that `d` has too."""
+        self.put("d/f", b"inside")
+        outside = self.room / "outside"
+        outside.mkdir()
+        (outside / "f").write_bytes(b"secret")
+        (outside / "key").touch()
+        return outside
+
+    def test_a_directory_that_becomes_a_link(self):
+        outside, place = self.outside(), self.real / "d"
+
+        def replace():
+            place.rename(self.room / "moved")
+            place.symlink_to(outside)
+
+        with self.before_opening("d", replace):
+            taken = snapshot(self.real, data=True)
+        self.wants_left_out(taken, [place], os.strerror(errno.ENOTDIR))
+        self.assertEqual(self.opened(taken).client.list("/"), [])
+
+    def test_a_directory_that_another_one_replaces(self):
+        outside, place = self.outside(), self.real / "d"
+
+        def replace():
+            place.rename(self.room / "moved")
+            outside.rename(place)
+
+        with self.before_opening("d", replace):
+            taken = snapshot(self.real, data=True)
+        self.wants_left_out(taken, [place], "it was replaced")
+
+    def test_a_directory_that_becomes_a_link_while_it_is_read(self):
+        outside, place = self.outside(), self.real / "d"
+
+        def replace():
+            place.rename(self.room / "moved")
+            place.symlink_to(outside)
+
+        with self.before_opening("f", replace):
+            taken = snapshot(self.real, data=True)
+        self.assertEqual(taken.left_out, [])
+        client = self.opened(taken).client
+        self.assertEqual(client.list("/d"), ["f"])
+        self.assertEqual(client.read_all(client.open("r", "/d/f")), b"inside")
+
+    def test_no_contents(self):
+        self.fill()
+        self.put("huge", bytes(70_000))
+        with mock.patch("os.read", side_effect=AssertionError):
+            taken = snapshot(self.real)
+        self.assertEqual(taken.left_out, [])
+        self.assertNotIn("data", re.sub('^path = ".*"$', "", taken.text, flags=re.MULTILINE))
+        self.assertEqual(self.opened(taken).client.stat("/huge").size, 0)
+
+    def wants_excluded(self, exclude, excluded, files):
+        """Wants these patterns to exclude these places, and these files to be left."""
+        taken = snapshot(self.real, exclude=exclude)
+        self.assertEqual((taken.excluded, taken.left_out), ([str(self.real / it) for it in excluded], []), exclude)
+        self.assertEqual(re.findall('path = "/(.*)"\nkind = "reg"', taken.text), files, exclude)
+
+    def test_exclude(self):
+        for name in (".git/x", "a.c", "a.o", "src/.git/x", "src/a.c", "src/b.o", "src/lib/b.o"):
+            self.put(name)
+        self.wants_excluded([], [], [".git/x", "a.c", "a.o", "src/.git/x", "src/a.c", "src/b.o", "src/lib/b.o"])
+        self.wants_excluded([".git", "src/lib"], [".git", "src/.git", "src/lib"], ["a.c", "a.o", "src/a.c", "src/b.o"])
+        self.wants_excluded("*.o", ["a.o", "src/b.o", "src/lib/b.o"], [".git/x", "a.c", "src/.git/x", "src/a.c"])
+        left = [".git/x", "a.c", "a.o", "src/.git/x", "src/a.c"]
+        self.wants_excluded(["src/*.o"], ["src/b.o", "src/lib/b.o"], left)
+        self.wants_excluded((it for it in ["src/[!.]*", "A.C"]), ["src/a.c", "src/b.o", "src/lib"], left[:-1])
+        self.wants_excluded("*", [".git", "a.c", "a.o", "src"], [])
+
+    def test_excluded_names_need_be_no_names(self):
+        self.put("a b/c")
+        self.wants_excluded("a b", ["a b"], [])
+
+    def test_no_patterns(self):
+        for exclude in ("", "/a", "a/", ["*.o", "build/"], [""]):
+            self.assertRaises(ValueError, snapshot, self.real, exclude=exclude)
+
     def test_what_is_of_no_kind(self):
         place = self.put("f")
-        with mock.patch.object(landtree, "REAL_KINDS", {stat.S_IFDIR: "dir"}):
+        with mock.patch.object(directories, "REAL_KINDS", {stat.S_IFDIR: "dir"}):
             taken = snapshot(self.real)
         self.wants_left_out(taken, [place], "no kind")
 
