@@ -1,10 +1,13 @@
 //! A tree that threads share.
 
-ghost use Rattle.std.specs.Prelude.{◌≡◌, ◌⊎◌, ℕ, ◌+◌, ◌<◌, ◌≤◌, ◌∷◌, [], None, false, OnOk, IfOk, IfErr, map, max};
+ghost use Rattle.std.specs.Prelude.{◌≡◌, ◌⊎◌, ℕ, ◌+◌, ◌<◌, ◌≤◌, ◌∷◌, [], List, None, false, OnOk, IfOk, IfErr, length};
+ghost use Rattle.std.specs.Prelude.{map, max};
 ghost use Rattle.ll_rights.specs.declared.limits.TheConstants.{TREE_CLIENTS};
 ghost use Rattle.ll_seq.specs.declared.call.Call.TheVariants as calls;
 ghost use Rattle.ll_seq.specs.declared.reply.Reply.TheVariants as replies;
-ghost use Rattle.ll_seq.specs.History.{is_connect};
+ghost use Rattle.ll_seq.specs.History.{IsLegal, is_connect};
+ghost use Rattle.ll_seq.specs.State.{start};
+ghost use Rattle.ll_seq.specs.declared.reply.Entry.{Entry};
 ghost use Rattle.ll_client.specs.Closed.{IsClosed};
 ghost use Rattle.ll_client.specs.Coming.{HasNoPlace, childless};
 ghost use Rattle.ll_client.specs.Entries.{knows, numbered};
@@ -13,7 +16,7 @@ ghost use Rattle.ll_client.specs.Replies.{success};
 ghost use Rattle.ll_calls.specs.Opening.{MayOpen};
 ghost use Rattle.ll_calls.specs.Typed.{FitsMade};
 
-use ll_client::{Account, Client, Shape};
+use ll_client::{Account, Client, ReadsHistory, Shape};
 use ll_journal::Made;
 use ll_rights::Errno;
 use ll_rights::limits::{HISTORY_ENTRIES, TREE_NODES};
@@ -113,6 +116,17 @@ impl<N: Shape, G: Gate<N>> Tree<N, G> {
         ensures mine { me.new.rider ≡ record me.old.rider { seen = me.new.rider.seen } }
     {
         self.table.catch_up(rt, me);
+    }
+
+    /// Has the reader read the history as it is at one point, at which all entries are there that the client knows of.
+    /// It makes no entry.
+    pub fn read_history<R: Wait, V: ReadsHistory>(&self, rt: &R, me: &mut Client<N>, reader: &mut V)
+        ensures mine { me.new.rider ≡ me.old.rider }
+        ensures read { (history : List Entry) × (me.old.rider.seen ≤ length history)
+            × V.reads reader.old history reader.new
+            × ((room : ℕ) → N.slots ≡ room + TREE_CLIENTS → IsLegal (start N.rules room) history) }
+    {
+        self.table.read_history(rt, me, reader);
     }
 
     /// The history, where the list holds all clients of the tree; else tree and list come back. Waits for nobody, and

@@ -6,6 +6,7 @@ use crate::account::Account;
 use crate::client::Client;
 use crate::desk::Desk;
 use crate::hand::{give_client, take_client};
+use crate::reader::ReadsHistory;
 use crate::rider::Rider;
 use crate::shape::Shape;
 use ll_tie::Tie;
@@ -50,5 +51,21 @@ impl<N: Shape> Desk<N> {
     {
         let entries = self.journal.entries().len() as u64;
         self.learn(tie, &mut me.rider, entries);
+    }
+    /// Has the reader read the history, of which the client knows no entry that isn't there. Nothing changes.
+    pub fn read_history<V: ReadsHistory>(
+        &mut self,
+        tie: &Tie<N, Account>,
+        me: &mut Client<N>,
+        reader: &mut V,
+    )
+        ensures same { self.new ≡ self.old }
+        ensures mine { me.new.rider ≡ me.old.rider }
+        ensures known { me.old.rider.seen ≤ length self.old.world.history }
+        ensures read { V.reads reader.old self.old.world.history reader.new }
+    {
+        self.learn(tie, &mut me.rider, 0);
+        self.by_law();
+        reader.read(self.journal.entries());
     }
 }

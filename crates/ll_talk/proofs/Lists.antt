@@ -35,6 +35,17 @@ last_within f xs n last size is (inr l) =
     let within = slice_get_within (map f xs) last l.0 l.1 in
     omega (arith, mapped, within)
 
+pub last_there : {A : Type 0} (f : A → Knows) (xs : List A) (ks : List Knows) (last : ℕ) → map f xs ≡ ks
+    → 0 < length ks → IsLast (map f xs) last → last < length xs
+last_there f xs ks last view some (inl none) =
+    let empty = ap length none in
+    let same = ap length view in
+    absurd (omega (arith, empty, same, some))
+last_there f xs ks last view some (inr l) =
+    let mapped = length-map xs f in
+    let within = slice_get_within (map f xs) last l.0 l.1 in
+    omega (arith, mapped, within)
+
 module _ {A : Type 0} (f : A → Knows) (xs : List A) (i : ℕ) (x : A) (there : x ≡ slice_index_or xs i x)
     (within : i < length xs)
   where

@@ -8,7 +8,7 @@ ghost use Rattle.ll_talk.specs.Laws.{CallsAreSteps, ConnectsAreSteps, ConnectsMa
 ghost use Rattle.ll_talk.specs.Laws.{PointsAreLegal, SpawnsAreSteps};
 
 // What callers of a party need of the crates below.
-pub use ll_calls::{Gate, NoGate, Tree};
+pub use ll_calls::{Gate, NoGate, ReadsHistory, Tree};
 pub use party::Party;
 
 /// A client's call that brings nobody is answered as the plain tree answers it at that point of the session.

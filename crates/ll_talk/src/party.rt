@@ -1,9 +1,11 @@
 //! All clients of a shared tree, in one hand.
 
-ghost use Rattle.std.specs.Prelude.{◌≡◌, ℕ, ◌+◌, ◌∷◌, ◌++◌, ◌<◌, ◌≤◌, ◌↔◌, [], IsTrue, None, IfErr, IfOk};
+ghost use Rattle.std.specs.Prelude.{◌≡◌, ℕ, ◌+◌, ◌∷◌, ◌++◌, ◌<◌, ◌≤◌, ◌↔◌, [], IsTrue, List, None, IfErr, IfOk};
 ghost use Rattle.std.specs.Prelude.{OnErr, OnOk, false, length, map};
 ghost use Rattle.ll_rights.specs.declared.limits.TheConstants.{TREE_CLIENTS};
-ghost use Rattle.ll_seq.specs.History.{is_connect};
+ghost use Rattle.ll_seq.specs.History.{IsLegal, is_connect};
+ghost use Rattle.ll_seq.specs.State.{start};
+ghost use Rattle.ll_seq.specs.declared.reply.Entry.{Entry};
 ghost use Rattle.ll_seq.specs.declared.call.Call.TheVariants as calls;
 ghost use Rattle.ll_seq.specs.declared.reply.Reply.TheVariants as replies;
 ghost use Rattle.ll_journal.specs.declared.direct.Made.{Made};
@@ -16,7 +18,7 @@ ghost use Rattle.ll_talk.specs.Session.{Session, Connects, joined};
 ghost use Rattle.ll_talk.specs.Talk.{Asks, AsksFor, IsMet, Looks, reply_of, seen_by};
 
 use crate::clients::{close_all, meet_all, reply_to};
-use ll_calls::{Gate, Tree};
+use ll_calls::{Gate, ReadsHistory, Tree};
 use ll_client::{Client, Shape};
 use ll_rights::Errno;
 use ll_rights::limits::TREE_CLIENTS;
@@ -80,6 +82,22 @@ impl<N: Shape> Party<N> {
         if !self.clients.is_empty() {
             tree.catch_up(rt, &mut self.clients[self.last]);
         }
+    }
+
+    /// Has the reader read the history as it is at one point, at which all entries are there that one of them knows of.
+    pub fn read_history<R: Wait, G: Gate<N>, V: ReadsHistory>(
+        &mut self,
+        rt: &R,
+        tree: &Tree<N, G>,
+        reader: &mut V,
+    )
+        requires { 0 < length self.old }
+        ensures same { self.new ≡ self.old }
+        ensures read { (history : List Entry) × (seen_by self.old ≤ length history)
+            × V.reads reader.old history reader.new
+            × ((room : ℕ) → N.slots ≡ room + TREE_CLIENTS → IsLegal (start N.rules room) history) }
+    {
+        tree.read_history(rt, &mut self.clients[self.last], reader);
     }
 
     /// The number of the last entry that one of them knows of.

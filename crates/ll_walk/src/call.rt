@@ -1,6 +1,10 @@
 //! Calls of clients.
 
-ghost use Rattle.std.specs.Prelude.{◌≡◌, ◌<◌, ◌≤◌, ◌∷◌, [], None, IfOk, IfErr, IsErr, max};
+ghost use Rattle.std.specs.Prelude.{◌≡◌, ◌<◌, ◌≤◌, ◌+◌, ◌∷◌, [], ℕ, List, None, IfOk, IfErr, IsErr, length, max};
+ghost use Rattle.ll_rights.specs.declared.limits.TheConstants.{TREE_CLIENTS};
+ghost use Rattle.ll_seq.specs.History.{IsLegal};
+ghost use Rattle.ll_seq.specs.State.{start};
+ghost use Rattle.ll_seq.specs.declared.reply.Entry.{Entry};
 ghost use Rattle.ll_seq.specs.declared.call.Call.TheVariants as calls;
 ghost use Rattle.ll_seq.specs.declared.reply.Reply.TheVariants as replies;
 ghost use Rattle.ll_worlds.specs.World as world;
@@ -10,7 +14,7 @@ ghost use Rattle.ll_client.specs.Gains.{Gains, Told};
 
 use crate::gate::Gate;
 use crate::table::Table;
-use ll_client::{Client, Rider, Shape};
+use ll_client::{Client, ReadsHistory, Rider, Shape};
 use ll_journal::{Made, Start, Unmade};
 use ll_rights::Errno;
 use ll_seq::Call;
@@ -121,6 +125,17 @@ impl<N: Shape, G: Gate<N>> Table<N, G> {
         ensures mine { me.new.rider ≡ record me.old.rider { seen = me.new.rider.seen } }
     {
         self.section(rt).catch_up(&self.tie, me);
+    }
+
+    /// Has the reader read the history as it is at one point, at which all entries are there that the client knows of.
+    /// It makes no entry. No lock is held but the journal's.
+    pub fn read_history<R: Wait, V: ReadsHistory>(&self, rt: &R, me: &mut Client<N>, reader: &mut V)
+        ensures mine { me.new.rider ≡ me.old.rider }
+        ensures read { (history : List Entry) × (me.old.rider.seen ≤ length history)
+            × V.reads reader.old history reader.new
+            × ((room : ℕ) → N.slots ≡ room + TREE_CLIENTS → IsLegal (start N.rules room) history) }
+    {
+        self.section(rt).read_history(&self.tie, me, reader);
     }
 
     /// A client's call, led to its reply. Connect and spawn come back: they have functions of their own.

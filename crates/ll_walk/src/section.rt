@@ -1,6 +1,7 @@
 //! The journal's lock, held.
 
-ghost use Rattle.std.specs.Prelude.{◌≡◌, ◌≢◌, ◌<◌, ◌≤◌, ℕ, ◌∷◌, [], Some, IfSome, IfNone, length, max};
+ghost use Rattle.std.specs.Prelude.{◌≡◌, ◌≢◌, ◌<◌, ◌≤◌, ◌+◌, ℕ, ◌∷◌, [], Some, IfSome, IfNone, length, max};
+ghost use Rattle.ll_rights.specs.declared.limits.TheConstants.{TREE_CLIENTS};
 ghost use Rattle.std.specs.Sync.Mutex.{mutex_guard_value};
 ghost use Rattle.ll_journal.specs.Book.{Book};
 ghost use Rattle.ll_journal.specs.InWay.{IsFreeFrom, IsInWay};
@@ -15,7 +16,7 @@ ghost use Rattle.ll_seq.specs.State.{start};
 ghost use Rattle.ll_worlds.specs.Walks.{AreApart, AreFew, AreValid, GateIsHeld};
 ghost use Rattle.ll_journal.specs.SlotTree.{HoldTree, accounts_of};
 
-use ll_client::{Account, Client, Desk, Locked, Rider, Shape};
+use ll_client::{Account, Client, Desk, Locked, ReadsHistory, Rider, Shape};
 use ll_journal::{Next, Onward, Progress, Station};
 use ll_tie::Tie;
 use std::sync::MutexGuard;
@@ -403,6 +404,24 @@ impl<'a, N: Shape> Section<'a, N> {
     {
         let Section { mut desk } = self;
         desk.catch_up(tie, me);
+    }
+
+    /// Has the reader read the history, of which the client knows no entry that isn't there. Nothing changes.
+    pub fn read_history<V: ReadsHistory>(
+        self,
+        tie: &Tie<N, Account>,
+        me: &mut Client<N>,
+        reader: &mut V,
+    )
+        ensures mine { me.new.rider ≡ me.old.rider }
+        ensures known { me.old.rider.seen ≤ length (mutex_guard_value self.entry.desk).world.history }
+        ensures read { V.reads reader.old (mutex_guard_value self.entry.desk).world.history reader.new }
+        ensures legal { (room : ℕ) → N.slots ≡ room + TREE_CLIENTS
+            → IsLegal (start N.rules room) (mutex_guard_value self.entry.desk).world.history }
+    {
+        let Section { mut desk } = self;
+        desk.by_law();
+        desk.read_history(tie, me, reader);
     }
 
     /// The slot of the root.
