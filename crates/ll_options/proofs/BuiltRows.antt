@@ -18,10 +18,10 @@ use Rattle.clap.specs.declared.parser.matches.ValueSource.{ValueSource}
 use Rattle.clap.specs.declared.parser.matches.ValueSource.TheVariants.{CommandLine}
 use Rattle.clap.specs.declared.builder.value_parser.Reading.{Reading}
 use Rattle.clap.specs.declared.builder.value_parser.Reading.TheVariants.{AsWritten}
-use Rattle.ll_options.specs.Options.{abi, also, audit, check, connection_numbers, connections, export, file, files}
+use Rattle.ll_options.specs.Options.{abi, audit, check, connection_numbers, connections, export, file, files}
 use Rattle.ll_options.specs.Options.{flag, history, history_numbers, idle, needed, node_numbers, nodes, paths, port}
 use Rattle.ll_options.specs.Options.{ports, rights, run, schedule, script, serve, valued, why, worker_numbers, workers}
-use Rattle.ll_options.specs.Options.{line_number, line_numbers, words}
+use Rattle.ll_options.specs.Options.{line_number, line_numbers, repeated, words}
 use Rattle.ll_options.proofs.ArgumentsUsed.{Keeps, no_faults}
 
 -- ---- what the rows of a subcommand hold
@@ -145,7 +145,9 @@ serve_built = with_built serve.top
 abbrev pub export_built : Shape
 export_built = with_built export.top
     (filled (needed (codes "policy")) ∷ filled (needed (codes "profile")) ∷ filled (needed (codes "as"))
-    ∷ filled (valued (codes "root")) ∷ filled also ∷ filled (flag (codes "exact")) ∷ help_built ∷ [])
+    ∷ filled (valued (codes "root")) ∷ filled (repeated (codes "also")) ∷ filled (flag (codes "follow"))
+    ∷ filled (valued (codes "deny")) ∷ filled (flag (codes "exact")) ∷ filled (flag (codes "best-effort"))
+    ∷ filled (repeated (codes "checked")) ∷ help_built ∷ [])
 
 abbrev pub why_built : Shape
 why_built = with_built why.top
@@ -186,10 +188,10 @@ flag_keeps name other again [] rows e g = good_values name AsWritten CommandLine
 flag_keeps name other again (v ∷ vs) rows e g =
     good_values name AsWritten CommandLine v vs _ (others name v AsWritten other) (good_without name rows g)
 
-also_keeps : Keeps Good (filled also)
-also_keeps again [] rows e g = absurd cc
-also_keeps again (v ∷ vs) rows e g =
-    good_values (codes "also") AsWritten CommandLine v vs _ (others (codes "also") v AsWritten refl) g
+repeated_keeps : (name : Text) → IsOther name → Keeps Good (filled (repeated name))
+repeated_keeps name other again [] rows e g = absurd cc
+repeated_keeps name other again (v ∷ vs) rows e g =
+    good_values name AsWritten CommandLine v vs _ (others name v AsWritten other) g
 
 accepted : (ignore_case : Bool) (p : ValueParser) (t : Text) → value_kinds ignore_case p t ≡ []
     → accepts ignore_case p t ≡ true
@@ -417,7 +419,22 @@ export_keeps p a e = found_there (Keeps Good) p export_built.rules a (
       needed_keeps (codes "as") refl,
       (
         valued_keeps (codes "root") refl,
-        (also_keeps, (flag_keeps (codes "exact") refl, (help_keeps, tt))),
+        (
+          repeated_keeps (codes "also") refl,
+          (
+            flag_keeps (codes "follow") refl,
+            (
+              valued_keeps (codes "deny") refl,
+              (
+                flag_keeps (codes "exact") refl,
+                (
+                  flag_keeps (codes "best-effort") refl,
+                  (repeated_keeps (codes "checked") refl, (help_keeps, tt)),
+                ),
+              ),
+            ),
+          ),
+        ),
       ),
     ),
   ),

@@ -6,3 +6,4 @@ pub mod BuiltRows
 pub mod Defaults
 pub mod Ordered
 pub mod Added
+pub mod DeniedWords

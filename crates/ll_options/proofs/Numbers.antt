@@ -16,6 +16,7 @@ use Rattle.clap.proofs.WalkLemmas.{both, first_value-rows, raw_values-rows}
 use Rattle.ll_options.specs.Options.{CheckOrder, ExportOrder, RightsOrder, RunOrder, ScheduleOrder, ServeOrder}
 use Rattle.ll_options.specs.Options.{WhyOrder}
 use Rattle.ll_options.specs.Options.{number_in}
+use Rattle.ll_options.specs.declared.denied.Denied.{Denied}
 use Rattle.ll_options.specs.declared.export.Form.{Form}
 
 -- the first text of an argument, and all of them, by its row
@@ -160,16 +161,20 @@ together_served at threads all n most idle level log policy profile save =
     }) most) n) all) threads) at
 
 -- the same of an export
-abbrev pub together_exported : Option Text → Option Text → Option Form → Option Text → List Text → Bool
-    → Option ExportOrder
-together_exported file name form root told exact =
+abbrev pub together_exported : Option Text → Option Text → Option Form → Option Text → List Text → Bool → Option Denied
+    → (exact effort : Bool) → List Text → Option ExportOrder
+together_exported file name form root told follow deny exact effort files =
     option_and_then (λ p. option_map (λ q. record {
       policy = p;
       profile = q;
       form = form;
       root = root;
       also = told;
+      follow = follow;
+      deny = deny;
       exact = exact;
+      best_effort = effort;
+      checked = files;
     }) name) file
 
 -- the same of a why
@@ -202,10 +207,10 @@ pub whole_serve : (p w c n m i l : Option ℕ) (log : Bool) (q r s : Option Text
     → is_some (together_served p w c n m i l log q r s) ≡ true
 whole_serve p w c n m i l log q r s at threads all nodes most e f g h j = rw (e, f, g, h, j) refl
 
-pub whole_export : (p q : Option Text) (form : Option Form) (root : Option Text) (told : List Text) (exact : Bool)
-    (file name : Text) → p ≡ Some file → q ≡ Some name
-    → is_some (together_exported p q form root told exact) ≡ true
-whole_export p q form root told exact file name e f = rw (e, f) refl
+pub whole_export : (p q : Option Text) (form : Option Form) (root : Option Text) (told : List Text) (follow : Bool)
+    (deny : Option Denied) (exact effort : Bool) (files : List Text) (file name : Text) → p ≡ Some file → q ≡ Some name
+    → is_some (together_exported p q form root told follow deny exact effort files) ≡ true
+whole_export p q form root told follow deny exact effort files file name e f = rw (e, f) refl
 
 pub whole_why : (p : Option (List Text)) (n : Option ℕ) (q r : Option Text) (told : List Text) (nodes : ℕ)
     → p ≡ Some told → n ≡ Some nodes

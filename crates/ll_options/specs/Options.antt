@@ -1,8 +1,8 @@
 -- The words of the command line, as clap matches them. own
-use Rattle.std.specs.Prelude.{bytes_eq, ◌≡◌, ◌⊎◌, ℕ, List, [], ◌∷◌, Option, Some, None, is_some, option_and_then}
+use Rattle.std.specs.Prelude.{bytes_eq, ◌==◌, ◌≡◌, ◌⊎◌, ℕ, List, [], ◌∷◌, Option, Some, None, is_some, option_and_then}
 use Rattle.std.specs.Prelude.{option_map, codes, Bool, true, false, not, map, unwrap_or, ◌&&◌, if◌then◌else◌, is_none}
-use Rattle.std.specs.Prelude.{nat_le}
-use Rattle.std.specs.List.{fold}
+use Rattle.std.specs.Prelude.{length, nat_eq, nat_le}
+use Rattle.std.specs.List.{fold, list_all, slice_split, starts_with}
 use Rattle.std.specs.Option.{option_map_or}
 use Rattle.std.specs.Str.Parse.{digits_value, without_leading_plus}
 use Rattle.clap.specs.declared.error.kind.ErrorKind.TheVariants.{DisplayHelp, DisplayVersion}
@@ -20,6 +20,7 @@ use Rattle.ll_options.specs.declared.options.ScheduleOptions.{ScheduleOptions}
 use Rattle.ll_options.specs.declared.rights.RightsOptions.{RightsOptions}
 use Rattle.ll_options.specs.declared.options.CheckOptions.{CheckOptions}
 use Rattle.ll_options.specs.declared.serve.ServeOptions.{ServeOptions}
+use Rattle.ll_options.specs.declared.denied.Denied.{Denied}
 use Rattle.ll_options.specs.declared.export.Form.{Form}
 use Rattle.ll_options.specs.declared.export.Form.TheVariants.{C, Json}
 use Rattle.ll_options.specs.declared.export.ExportOptions.{ExportOptions}
@@ -149,14 +150,15 @@ serve = fold with_rule (new_app (codes "serve"))
     (port ∷ workers ∷ connections ∷ idle ∷ flag (codes "log") ∷ nodes ∷ abi ∷ valued (codes "policy")
     ∷ valued (codes "profile") ∷ history ∷ valued (codes "save") ∷ [])
 
--- a further directory, with each use one more
-abbrev pub also : Rule
-also = record (valued (codes "also")) { action = Some Append }
+-- an option with a value, with each use one more
+abbrev pub repeated : Text → Rule
+repeated name = record (valued name) { action = Some Append }
 
 abbrev pub export : App
 export = fold with_rule (new_app (codes "export"))
-    (needed (codes "policy") ∷ needed (codes "profile") ∷ needed (codes "as") ∷ valued (codes "root") ∷ also
-    ∷ flag (codes "exact") ∷ [])
+    (needed (codes "policy") ∷ needed (codes "profile") ∷ needed (codes "as") ∷ valued (codes "root")
+    ∷ repeated (codes "also") ∷ flag (codes "follow") ∷ valued (codes "deny") ∷ flag (codes "exact")
+    ∷ flag (codes "best-effort") ∷ repeated (codes "checked") ∷ [])
 
 -- a history and a number, or a command
 abbrev pub words : Rule
@@ -229,7 +231,11 @@ pub record ExportOrder : Type 0 where
   pub form : Option Form
   pub root : Option Text
   pub also : List Text
+  pub follow : Bool
+  pub deny : Option Denied
   pub exact : Bool
+  pub best_effort : Bool
+  pub checked : List Text
 
 pub record WhyOrder : Type 0 where
   pub words : List Text
@@ -321,7 +327,11 @@ exported_in o =
       form = o.form;
       root = option_map (λ t. t.now) o.root;
       also = map (λ t. t.now) o.also.items;
+      follow = o.follow;
+      deny = o.deny;
       exact = o.exact;
+      best_effort = o.best_effort;
+      checked = map (λ t. t.now) o.checked.items;
     }
 
 abbrev pub why_in : WhyOptions → WhyOrder
@@ -436,6 +446,30 @@ abbrev pub form_of : Text → Option Form
 form_of word =
     if bytes_eq word (codes "c") then Some C else if bytes_eq word (codes "json") then Some Json else None
 
+abbrev pub nothing_denied : Denied
+nothing_denied = record { tcp = false; ioctl_dev = false; signal = false; abstract_unix_socket = false }
+
+-- with what the word names
+abbrev pub denied_too : Denied → Text → Option Denied
+denied_too denied word =
+    if bytes_eq word (codes "tcp") then Some (record denied { tcp = true })
+    else if bytes_eq word (codes "ioctl_dev") then Some (record denied { ioctl_dev = true })
+    else if bytes_eq word (codes "signal") then Some (record denied { signal = true })
+    else if bytes_eq word (codes "abstract_unix_socket") then Some (record denied { abstract_unix_socket = true })
+    else None
+
+abbrev pub denied_all : Denied → List Text → Option Denied
+denied_all denied [] = Some denied
+denied_all denied (word ∷ words) = option_and_then (λ d. denied_all d words) (denied_too denied word)
+
+-- a list's words stand between commas (44), and each names something
+abbrev pub denied_by : Text → Option Denied
+denied_by list = denied_all nothing_denied (slice_split (λ b. b == 44) list)
+
+abbrev pub denied_of : Option Text → Option Denied
+denied_of None = Some nothing_denied
+denied_of (Some list) = denied_by list
+
 abbrev pub export_order : List Row → Option ExportOrder
 export_order rows =
     option_and_then (λ file. option_map (λ name. record {
@@ -444,7 +478,11 @@ export_order rows =
       form = option_and_then form_of (first_of (codes "as") rows);
       root = first_of (codes "root") rows;
       also = unwrap_or (all_of (codes "also") rows) [];
+      follow = is_set (codes "follow") rows;
+      deny = denied_of (first_of (codes "deny") rows);
       exact = is_set (codes "exact") rows;
+      best_effort = is_set (codes "best-effort") rows;
+      checked = unwrap_or (all_of (codes "checked") rows) [];
     })
     (first_of (codes "profile") rows))
     (first_of (codes "policy") rows)
@@ -512,9 +550,19 @@ fits_check o = go_together o.level o.policy o.profile && not (o.quiet && o.verbo
 abbrev pub fits_serve : ServeOrder → Bool
 fits_serve o = go_together o.level o.policy o.profile && not (names_input o.save o.policy)
 
--- the word after `--as` names a form
+-- it begins with a slash
+abbrev pub is_absolute : Text → Bool
+is_absolute path = starts_with nat_eq path (codes "/")
+
+-- the words after `--as` and `--deny` name what there is, paths are absolute, and what is refused isn't let go too
 abbrev pub fits_export : ExportOrder → Bool
-fits_export o = is_some o.form
+fits_export o = (is_some o.form && is_some o.deny)
+    && (not (o.exact && o.best_effort)
+    && (is_absolute (unwrap_or o.root (codes "/")) && list_all is_absolute o.also))
+
+-- the profile must pass checks
+abbrev pub is_checked : ExportOrder → Bool
+is_checked o = not (length o.checked == 0)
 
 -- what `why` is asked: why a command, by a policy and its profile, or an entry of a history, by its number
 pub data Asked : Type 0 where

@@ -7,7 +7,7 @@ ghost use Rattle.clap.specs.Words.{App, app_of, new_app, new_rule, rule_of, with
 ghost use Rattle.clap.specs.declared.builder.command.Command.TheViews.{out-Command as fields_of};
 ghost use Rattle.clap.specs.declared.builder.value_parser.ValueParser.TheVariants.{Unsigned};
 ghost use Rattle.ll_options.specs.Options.{abi, audit, check, connections, export, flag, history};
-ghost use Rattle.ll_options.specs.Options.{idle, landtree, line_number, nodes, port, rights, run};
+ghost use Rattle.ll_options.specs.Options.{idle, landtree, line_number, nodes, port, repeated, rights, run};
 ghost use Rattle.ll_options.specs.Options.{schedule, serve, valued, why, workers};
 
 use crate::options::LINES;
@@ -396,37 +396,73 @@ fn serve_command<'a>(alloc: Global) -> Result<Command<'a>, AllocError>
     )
 }
 
+// An option of this name, with a value, that may be there again and again.
+fn repeated<'a>(alloc: Global, name: &'a str, value_name: &'a str, help: &'a str) -> Arg<'a>
+    ensures rule { rule_of result ≡ repeated name.entry.now }
+    ensures local { result.global ≡ false }
+{
+    valued(alloc, name, value_name, help).action(ArgAction::Append)
+}
+
+fn form_option<'a>(alloc: Global) -> Arg<'a>
+    ensures rule { rule_of result ≡ record (valued (codes "as")) { required = true } }
+    ensures local { result.global ≡ false }
+{
+    valued(
+        alloc,
+        "as",
+        "FORM",
+        "What is written: c, a C program that confines itself so, or json",
+    )
+    .required(true)
+}
+
 fn export_command<'a>(alloc: Global) -> Result<Command<'a>, AllocError>
     ensures app { IfOk result (λ command. app_of command ≡ export) }
     ensures local { IfOk result (λ command. (fields_of command).has_globals ≡ false) }
 {
-    let also = valued(
-        alloc,
-        "also",
-        "DIR",
-        "A directory in which each layer lets files be read and executed too; may be told again",
-    );
     let arguments = vec![in alloc;
         policy_option(alloc).required(true),
         profile_option(alloc).required(true),
-        valued(
-            alloc,
-            "as",
-            "FORM",
-            "What is written: c, a C program that confines itself so, or json",
-        )
-        .required(true),
+        form_option(alloc),
         valued(
             alloc,
             "root",
             "DIR",
-            "The directory that stands for the policy's root"
+            "The directory that stands for the policy's root, by its absolute path (/)"
         ),
-        also.action(ArgAction::Append),
+        repeated(
+            alloc,
+            "also",
+            "PATH",
+            "An absolute path on which each layer grants reading and executing too; may be repeated",
+        ),
+        flag(
+            alloc,
+            "follow",
+            "Follow links on rules' paths: whoever may write below the root decides what is granted",
+        ),
+        valued(
+            alloc,
+            "deny",
+            "LIST",
+            "Deny these too: tcp, ioctl_dev, signal and abstract_unix_socket, with commas between",
+        ),
         flag(
             alloc,
             "exact",
-            "Refuse where the kernel knows too few rights, in place of cutting them",
+            "Refuse to run where a rule's rights would be cut, since its path is no directory",
+        ),
+        flag(
+            alloc,
+            "best-effort",
+            "Run with what the kernel can enforce, in place of refusing to run",
+        ),
+        repeated(
+            alloc,
+            "checked",
+            "FILE",
+            "Write only if the profile passes this file of checks; may be repeated",
         ),
     ]?;
     command_of(

@@ -1,7 +1,10 @@
 //! What the words of `export` ask for.
 
 ghost use Rattle.std.specs.Prelude.{◌≡◌, codes, map, option_and_then, option_map, unwrap_or, [], IfOk};
+ghost use Rattle.std.specs.List.{list_all};
+ghost use Rattle.ll_options.specs.Options.{is_absolute};
 
+use crate::denied::Denied;
 use crate::options::CheckOptions;
 use clap::ArgMatches;
 use std::alloc::{AllocError, Global};
@@ -28,22 +31,51 @@ impl Form {
     }
 }
 
-/// The text that is wanted: the policy's file and the profile; the form, if the word for it names one; the directory
-/// that stands for the policy's root, if one is told; further directories, in which each layer lets files be read and
-/// executed; and whether the exported program refuses to go on where the kernel doesn't know some of the rights.
+/// What `export` writes, and for which place.
 #[derive(Drop)]
 pub struct ExportOptions<'a> {
+    /// The policy's file.
     pub policy: &'a str,
     pub profile: &'a str,
+    /// The form, if the word for it names one.
     pub form: Option<Form>,
+    /// The directory that the exported program takes for the policy's root, if not `/`.
     pub root: Option<&'a str>,
+    /// Files and directories on which each layer grants reading and executing too.
     pub also: Vec<&'a str>,
+    /// Whether the exported program follows links on a rule's path.
+    pub follow: bool,
+    /// What it denies beside the rights on files, if the list names nothing else.
+    pub deny: Option<Denied>,
+    /// Whether it refuses to go on where a rule's rights would be cut.
     pub exact: bool,
+    /// Whether it goes on with the layers that the kernel knows.
+    pub best_effort: bool,
+    /// Files of checks, which the profile must pass.
+    pub checked: Vec<&'a str>,
+}
+
+// Whether the path begins at the root of the file system.
+fn is_absolute(path: &str) -> bool
+    ensures { result ≡ is_absolute path.now }
+{
+    path.starts_with('/')
+}
+
+fn are_absolute(paths: &[&str]) -> bool
+    ensures { result ≡ list_all is_absolute (map (λ t. t.now) paths.now) }
+{
+    for path in paths {
+        if !is_absolute(path) {
+            return false;
+        }
+    }
+    true
 }
 
 impl<'a> ExportOptions<'a> {
     ghost use Rattle.clap.specs.Words.{all_of, first_of, found_of, rows_of};
-    ghost use Rattle.ll_options.specs.Options.{export_order, exported_in, fits_export, form_of};
+    ghost use Rattle.ll_options.specs.Options.{denied_of, export_order, exported_in, fits_export, form_of, is_checked};
 
     // The form that the matches tell.
     #[tactic(auto, using(crate::proofs::Numbers::text_told))]
@@ -53,17 +85,32 @@ impl<'a> ExportOptions<'a> {
         Form::of_word(export.get_str("as")?)
     }
 
-    // The further directories that the matches tell.
-    #[tactic(auto, using(crate::proofs::Numbers::texts_told))]
-    fn also_of(alloc: Global, export: &ArgMatches<'a>) -> Result<Vec<&'a str>, AllocError>
-        ensures { IfOk result (λ also. map (λ t. t.now) also.items
-            ≡ unwrap_or (all_of (codes "also") (rows_of (found_of export.now))) []) }
+    // What the matches say is denied beside the rights on files.
+    #[tactic(auto, using(crate::proofs::Numbers::text_told))]
+    fn deny_of(export: &ArgMatches) -> Option<Denied>
+        ensures { result ≡ denied_of (first_of (codes "deny") (rows_of (found_of export.now))) }
     {
-        let mut also = Vec::new(alloc);
-        if let Some(told) = export.get_strs("also") {
-            also.extend_from_slice(told)?;
+        match export.get_str("deny") {
+            Some(list) => Denied::of_list(list),
+            None => Some(Denied::NOTHING),
         }
-        Ok(also)
+    }
+
+    // All values of an option that may be there again and again.
+    #[tactic(auto, using(crate::proofs::Numbers::texts_told))]
+    fn values_of(
+        alloc: Global,
+        export: &ArgMatches<'a>,
+        name: &'static str,
+    ) -> Result<Vec<&'a str>, AllocError>
+        ensures { IfOk result (λ values. map (λ t. t.now) values.items
+            ≡ unwrap_or (all_of name.now (rows_of (found_of export.now))) []) }
+    {
+        let mut values = Vec::new(alloc);
+        if let Some(told) = export.get_strs(name) {
+            values.extend_from_slice(told)?;
+        }
+        Ok(values)
     }
 
     /// What the matches of `export` ask for. Errors: memory ran out.
@@ -74,7 +121,8 @@ impl<'a> ExportOptions<'a> {
     ) -> Result<Option<ExportOptions<'a>>, AllocError>
         ensures { IfOk result (λ o. option_map exported_in o ≡ export_order (rows_of (found_of export.now))) }
     {
-        let also = ExportOptions::also_of(alloc, export)?;
+        let also = ExportOptions::values_of(alloc, export, "also")?;
+        let checked = ExportOptions::values_of(alloc, export, "checked")?;
         let Some(policy) = export.get_str("policy") else {
             return Ok(None);
         };
@@ -83,21 +131,38 @@ impl<'a> ExportOptions<'a> {
         };
         let form = ExportOptions::form_of(export);
         let root = export.get_str("root");
+        let follow = CheckOptions::is_set(export, "follow");
+        let deny = ExportOptions::deny_of(export);
         let exact = CheckOptions::is_set(export, "exact");
+        let best_effort = CheckOptions::is_set(export, "best-effort");
         Ok(Some(ExportOptions {
             policy,
             profile,
             form,
             root,
             also,
+            follow,
+            deny,
             exact,
+            best_effort,
+            checked,
         }))
     }
 
-    /// Whether the word after `--as` names a form.
+    /// Whether the profile must pass checks.
+    pub fn is_checked(&self) -> bool
+        ensures { result ≡ is_checked (exported_in self.now) }
+    {
+        !self.checked.is_empty()
+    }
+
+    /// Whether the words after `--as` and `--deny` name what there is, paths are absolute, and at most one of
+    /// `--exact` and `--best-effort` is there.
     pub fn fit(&self) -> bool
         ensures { result ≡ fits_export (exported_in self.now) }
     {
-        self.form.is_some()
+        (self.form.is_some() && self.deny.is_some())
+            && (!(self.exact && self.best_effort)
+                && (is_absolute(self.root.unwrap_or("/")) && are_absolute(self.also.as_slice())))
     }
 }

@@ -2,6 +2,7 @@
 #![tactic(auto)]
 
 mod command;
+mod denied;
 mod export;
 mod inputs;
 mod options;
@@ -10,6 +11,7 @@ mod serve;
 mod values;
 mod why;
 
+pub use denied::Denied;
 pub use export::{ExportOptions, Form};
 pub use options::{CheckOptions, Options, RunOptions, ScheduleOptions};
 pub use rights::RightsOptions;
