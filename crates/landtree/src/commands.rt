@@ -3,10 +3,11 @@
 ghost use Rattle.std.specs.Prelude.{◌≡◌, ℕ, true, false, List, Option, None, Some, Err, IfErr, IfOk, IfSome};
 ghost use Rattle.ll_files.specs.Sources.{named, text_in};
 ghost use Rattle.ll_options.specs.Options.{checked_in, exported_in, fits, fits_check, fits_export, fits_schedule};
+ghost use Rattle.ll_options.specs.Options.{is_checked};
 ghost use Rattle.ll_options.specs.Options.{fits_why};
 ghost use Rattle.ll_options.specs.Options.{fits_serve, order_in, rights_in, scheduled_in, served_in, why_in};
 ghost use Rattle.ll_runs.specs.Failure.{EndsAudit, EndsCheck, EndsExport, EndsRights, EndsRun, EndsSchedule};
-ghost use Rattle.ll_runs.specs.Failure.{EndsServe, IsOfDevices, IsRunEnd};
+ghost use Rattle.ll_runs.specs.Failure.{EndsServe, IsOfDevices, IsOfExport, IsRunEnd};
 ghost use Rattle.ll_runs.specs.Policy.{MayFail};
 ghost use Rattle.ll_explain.specs.Rights as rights;
 ghost use Rattle.ll_export.specs.Export as exports;
@@ -17,7 +18,7 @@ ghost use Rattle.ll_wire.specs.Pieces.{pieces};
 
 use ll_asking::tell_why;
 use ll_explain::tell_rights;
-use ll_export::export;
+use ll_export::{export, export_checked};
 use ll_files::{Kept, Late, NewFile, Sources, named};
 use ll_hints::{Hints, Misfit};
 use ll_options::{
@@ -25,6 +26,7 @@ use ll_options::{
     ServeOptions, WhyOptions,
 };
 use ll_replay::{draw_schedule, explain_schedule, perform_schedule, setup_by, window_by};
+use ll_rights::limits::TREE_NODES;
 use ll_runs::{Checked, Conclusion, Failure, Shown, audit, check, read_text, run};
 use ll_saved::Verdict;
 use ll_serving::{Binds, Log, serve};
@@ -347,9 +349,10 @@ fn export_file<S: Sources>(
     options: &ExportOptions,
     hints: &mut Hints,
 ) -> Result<(), Failure>
-    ensures { IfErr result (λ failure. (text : List ℕ)
+    ensures told { IfErr result (λ failure. (text : List ℕ)
         × IfSome (S.texts sources.now (Some (exported_in options.now).policy)) (λ told. text ≡ told)
         × exports.MayFail (exported_in options.now) text failure) }
+    ensures failure { IfErr result IsOfExport }
 {
     let mut file = Late::new(sources, Some(options.policy));
     let told = export(rt.alloc(), options, &mut file, &mut rt.stdout());
@@ -357,19 +360,77 @@ fn export_file<S: Sources>(
     told
 }
 
+// Checks that a profile passes these files, by the policy of this text. What `check` prints goes to standard error.
+fn check_profile<S: Sources + Wait>(
+    rt: &HostRuntime,
+    sources: &S,
+    options: &ExportOptions,
+    policy: &[u8],
+    hints: &mut Hints,
+) -> Result<Checked, Failure> {
+    let texts = texts_of(rt, sources, options.checked.as_slice(), hints)?;
+    let Ok(files) = options.checked.clone() else {
+        return Err(Failure::NoMemory);
+    };
+    let checks = CheckOptions {
+        files,
+        nodes: TREE_NODES,
+        level: None,
+        policy: Some(options.policy),
+        profile: Some(options.profile),
+        quiet: false,
+        verbose: false,
+    };
+    check(
+        sources,
+        rt.alloc(),
+        &checks,
+        policy,
+        texts.as_slice(),
+        &mut rt.stderr(),
+        &mut rt.stderr(),
+        hints,
+    )
+}
+
+// Writes the text that a policy's profile is exported as, if the profile passes the files of checks. The policy is read
+// once, so what is exported is what was checked.
+fn export_profile<S: Sources + Wait>(
+    rt: &HostRuntime,
+    sources: &S,
+    options: &ExportOptions,
+    hints: &mut Hints,
+) -> Result<Conclusion, Failure>
+    ensures { EndsExport true result }
+{
+    let policy = text_of(rt, sources, "policy", Some(options.policy), hints)?;
+    let checked = check_profile(rt, sources, options, policy.as_slice(), hints)?;
+    export_checked(
+        rt.alloc(),
+        checked,
+        options,
+        &mut policy.as_slice(),
+        &mut rt.stdout(),
+    )
+}
+
 // `export`.
-pub fn export_options<S: Sources>(
+pub fn export_options<S: Sources + Wait>(
     rt: &HostRuntime,
     sources: &S,
     options: &ExportOptions,
     hints: &mut Hints,
 ) -> Result<Conclusion, Failure>
     ensures unfit { fits_export (exported_in options.now) ≡ false → result ≡ Err Failure.CommandLine }
-    ensures export { fits_export (exported_in options.now) ≡ true → EndsExport result }
+    ensures export { fits_export (exported_in options.now) ≡ true
+        → EndsExport (is_checked (exported_in options.now)) result }
 {
     if !options.fit() {
         hints.of_misfit(Misfit::of_export(options));
         return Err(Failure::CommandLine);
+    }
+    if options.is_checked() {
+        return export_profile(rt, sources, options, hints);
     }
     match export_file(rt, sources, options, hints) {
         Ok(()) => Ok(Conclusion::Done),

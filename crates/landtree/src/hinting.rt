@@ -4,6 +4,7 @@ ghost use Rattle.std.specs.Prelude.{◌≤◌};
 ghost use Rattle.ll_rights.specs.declared.limits.TheConstants.{TREE_NODES};
 
 use ll_asking::tell_why;
+use ll_export::flaw_of;
 use ll_files::{Late, Sources, named};
 use ll_hints::Hints;
 use ll_options::{
@@ -187,6 +188,14 @@ fn hint_at_export<S: Sources>(
 ) {
     let run = opening_run(TREE_NODES, Some(options.policy), Some(options.profile));
     hint_at_policy(rt, sources, hints, &run, doubt);
+    if !hints.are_told()
+        && matches!(doubt, Doubt::Words)
+        && let Some(text) = text_again(rt, sources, options.policy)
+        && let Ok(text) = str::from_utf8(text.as_slice())
+        && let Some(flawed) = flaw_of(rt.alloc(), text, options.profile)
+    {
+        hints.add(&flawed);
+    }
 }
 
 // Of `serve`. What a connection's profile asks is asked of a history that the others haven't filled.

@@ -10,6 +10,7 @@ ghost use Rattle.std.specs.Prelude.{IfErr, IfNone, IfSome, OnOk};
 ghost use Rattle.clap.specs.Words.{Text, fault_of, kind_of};
 ghost use Rattle.ll_files.specs.Sources.{named};
 ghost use Rattle.ll_options.specs.Options.{CheckOrder, EndsWell, ExportOrder, RightsOrder, RunOrder, ScheduleOrder};
+ghost use Rattle.ll_options.specs.Options.{is_checked};
 ghost use Rattle.ll_options.specs.Options.{ServeOrder, fits, fits_check, fits_export, fits_schedule, fits_serve};
 ghost use Rattle.ll_options.specs.Options.{landtree, ordered_by, ordered_in, to_audit, to_check, to_export, to_rights};
 ghost use Rattle.ll_options.specs.Options.{WhyOrder, fits_why, to_run, to_schedule, to_serve, to_why};
@@ -91,7 +92,7 @@ fn carry_out<S: Sources + Threads + Wait + Sync, B: Binds>(
     ensures unfit_export { (order : ExportOrder) → ordered_in options.now ≡ to_export order
         → fits_export order ≡ false → result ≡ Err Failure.CommandLine }
     ensures export { (order : ExportOrder) → ordered_in options.now ≡ to_export order → fits_export order ≡ true
-        → EndsExport result }
+        → EndsExport (is_checked order) result }
     ensures unfit_why { (order : WhyOrder) → ordered_in options.now ≡ to_why order → fits_why order ≡ false
         → result ≡ Err Failure.CommandLine }
     ensures why { (order : WhyOrder) → ordered_in options.now ≡ to_why order → EndsWhy result }
@@ -153,7 +154,7 @@ fn run_words<S: Sources + Threads + Wait + Sync, B: Binds>(
         → (result ≡ Err Failure.CommandLine) ⊎ (result ≡ Err Failure.NoMemory) }
     ensures export { (order : ExportOrder) → fault_of landtree (map (λ w. w.now) words.now) ≡ []
         → ordered_by (map (λ w. w.now) words.now) ≡ Some (to_export order) → fits_export order ≡ true
-        → EndsExport result }
+        → EndsExport (is_checked order) result }
     ensures unfit_why { (order : WhyOrder) → fault_of landtree (map (λ w. w.now) words.now) ≡ []
         → ordered_by (map (λ w. w.now) words.now) ≡ Some (to_why order) → fits_why order ≡ false
         → (result ≡ Err Failure.CommandLine) ⊎ (result ≡ Err Failure.NoMemory) }

@@ -1,3 +1,4 @@
+pub mod Confinement
 pub mod Export
 pub mod Json
 pub mod Program

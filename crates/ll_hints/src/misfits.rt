@@ -23,6 +23,10 @@ pub enum Misfit<'a> {
     /// The first of the lines that are chosen is behind the last.
     LinesTurned(u64, u64),
     NoSuchForm,
+    NoSuchDenial,
+    ExactBestEffort,
+    /// The path after this option isn't absolute.
+    RelativePath(&'static str, &'a str),
     /// This word of `rights`.
     NoPath(&'a str),
     /// Of `why`.
@@ -57,6 +61,16 @@ impl Display for Misfit<'_> {
                 "{word} is no path: / is expected, or / and a name again and again"
             ),
             Misfit::NoSuchForm => f.write_str("--as is followed by c or json"),
+            Misfit::NoSuchDenial => f.write_str(
+                "--deny is followed by some of tcp,ioctl_dev,signal,abstract_unix_socket",
+            ),
+            Misfit::ExactBestEffort => f.write_str("--exact and --best-effort don't go together"),
+            Misfit::RelativePath(option, path) => {
+                write!(
+                    f,
+                    "{option} is followed by an absolute path, and not by '{path}'"
+                )
+            }
         }
     }
 }
@@ -93,6 +107,16 @@ fn of_lines<'a>(options: &ScheduleOptions<'a>) -> Option<Misfit<'a>> {
         (Some(from), Some(to)) if to < from => Some(Misfit::LinesTurned(from, to)),
         _ => Some(Misfit::LinesOfNoPicture),
     }
+}
+
+// With the first of these paths behind an option that isn't absolute.
+fn of_paths<'a>(option: &'static str, paths: &[&'a str]) -> Option<Misfit<'a>> {
+    for path in paths {
+        if !path.starts_with('/') {
+            return Some(Misfit::RelativePath(option, path));
+        }
+    }
+    None
 }
 
 // Where memory is wanted, every word is taken for one.
@@ -148,9 +172,14 @@ impl<'a> Misfit<'a> {
 
     /// Of `export`.
     pub fn of_export(options: &ExportOptions<'a>) -> Option<Misfit<'a>> {
-        match options.form {
-            Some(_) => None,
-            None => Some(Misfit::NoSuchForm),
+        if options.form.is_none() {
+            Some(Misfit::NoSuchForm)
+        } else if options.deny.is_none() {
+            Some(Misfit::NoSuchDenial)
+        } else if options.exact && options.best_effort {
+            Some(Misfit::ExactBestEffort)
+        } else {
+            of_paths("--root", options.root.as_slice()).or(of_paths("--also", &options.also))
         }
     }
 }

@@ -1,6 +1,6 @@
 -- How the program ends where it fails. own
-use Rattle.std.specs.Prelude.{◌≡◌, ◌≢◌, ◌++◌, ⊤, ℕ, true, List, Option, Some, None, Result, Ok, Err, codes, decimal}
-use Rattle.std.specs.Prelude.{IfSome}
+use Rattle.std.specs.Prelude.{◌≡◌, ◌≢◌, ◌⊎◌, ◌++◌, ⊤, ℕ, Bool, true, List, Option, Some, None, Result, Ok, Err, codes}
+use Rattle.std.specs.Prelude.{IfSome, decimal}
 use Rattle.clap.specs.declared.error.kind.ErrorKind.{ErrorKind}
 use Rattle.clap.specs.declared.error.kind.ErrorKind.TheVariants.{DisplayHelp, DisplayVersion}
 use Rattle.clap.specs.declared.error.kind.ErrorKind.TheVariants as kind
@@ -175,16 +175,20 @@ EndsServe profile (Err Output) = ⊤
 EndsServe profile (Err Socket) = ⊤
 EndsServe profile (Err NoMemory) = ⊤
 
--- a profile is exported, or why not: by any failure but a refused call and a listener's, since nothing is run
-abbrev pub EndsExport : Result Conclusion Failure → Type 0
-EndsExport (Ok Done) = ⊤
-EndsExport (Ok (Stopped stopped)) = ⊥
-EndsExport (Ok (Judged verdict)) = ⊥
-EndsExport (Ok (Checked end)) = ⊥
-EndsExport (Err CommandLine) = ⊤
-EndsExport (Err (Policy fault)) = ⊤
-EndsExport (Err Opening) = ⊥
-EndsExport (Err File) = ⊤
-EndsExport (Err Output) = ⊤
-EndsExport (Err Socket) = ⊥
-EndsExport (Err NoMemory) = ⊤
+-- what keeps a profile from being exported where nothing is run: any failure but a refused call and a listener's
+abbrev pub IsOfExport : Failure → Type 0
+IsOfExport CommandLine = ⊤
+IsOfExport (Policy fault) = ⊤
+IsOfExport Opening = ⊥
+IsOfExport File = ⊤
+IsOfExport Output = ⊤
+IsOfExport Socket = ⊥
+IsOfExport NoMemory = ⊤
+
+-- A profile is exported, or why not. Where it must pass checks first, checks that don't pass may end it, or any failure
+abbrev pub EndsExport : (is_checked : Bool) → Result Conclusion Failure → Type 0
+EndsExport is_checked (Ok Done) = ⊤
+EndsExport is_checked (Ok (Stopped stopped)) = ⊥
+EndsExport is_checked (Ok (Judged verdict)) = ⊥
+EndsExport is_checked (Ok (Checked end)) = (is_checked ≡ true) × (end ≢ checked.Passed)
+EndsExport is_checked (Err failure) = (is_checked ≡ true) ⊎ IsOfExport failure

@@ -1,6 +1,7 @@
 //! Documents of policies: the faults that they are told, and the calls that they stand for.
 
-use ll_export::json_text;
+use ll_export::{Confinement, json_text};
+use ll_options::{Denied, ExportOptions, Form};
 use ll_policy::{Policy, PolicyFault};
 use ll_rights::{Access, Kind};
 use ll_seq::Call;
@@ -237,9 +238,13 @@ const TWO_LAYERS: &str = "version = 1\n[[profile.p.layer]]\nhandled = \"write_fi
     [[profile.p.layer.rule]]\npath = \"/\"\nrights = \"refer\"\n\
     [[profile.p.layer]]\nhandled = \"truncate\"\n";
 
-const JSON: &str = "{\n  \"layers\": [\n\
+const JSON: &str =
+    "{\n  \"version\": 1,\n  \"abi\": 3,\n  \"root\": \"/\",\n  \"also\": [\"/\\n\"],\n\
+    \x20 \"follow\": false,\n  \"exact\": true,\n  \"best_effort\": false,\n\
+    \x20 \"deny\": {\"tcp\": false, \"ioctl_dev\": false, \"signal\": false, \"abstract_unix_socket\": false},\n\
+    \x20 \"layers\": [\n\
     \x20   {\"handled\": [\"write_file\", \"refer\"], \"rules\": [\n\
-    \x20     {\"path\": \"/\", \"rights\": [\"refer\"]}\n\
+    \x20     {\"path\": \"/\", \"kind\": \"dir\", \"rights\": [\"refer\"]}\n\
     \x20   ]},\n\
     \x20   {\"handled\": [\"truncate\"], \"rules\": [\n\n\
     \x20   ]}\n\
@@ -247,7 +252,25 @@ const JSON: &str = "{\n  \"layers\": [\n\
 
 fn json(alloc: Global) -> Option<String> {
     let policy = Policy::from_text(alloc, TWO_LAYERS).ok()?;
-    json_text(alloc, policy.layers("p")?).ok()
+    let opening = policy.opening(alloc).ok()?;
+    let options = ExportOptions {
+        policy: "",
+        profile: "p",
+        form: Some(Form::Json),
+        root: None,
+        also: vec![in alloc; "/\n"].ok()?,
+        follow: false,
+        deny: Some(Denied::NOTHING),
+        exact: true,
+        best_effort: false,
+        checked: Vec::new(alloc),
+    };
+    let confinement = Confinement {
+        abi: policy.abi(),
+        opening: opening.as_slice(),
+        layers: policy.layers("p")?,
+    };
+    json_text(alloc, &options, &confinement).ok()
 }
 
 #[test]

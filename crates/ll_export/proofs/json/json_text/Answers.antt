@@ -1,20 +1,22 @@
-use Rattle.std.proofs.Common.{◌≡◌, ◌∷◌, [], codes, ap, ◌∙◌, map, string_bytes, List, String}
+use Rattle.std.proofs.Common.{◌≡◌, ◌∷◌, [], codes, ap, ap₂, ◌∙◌}
 use Rattle.std.specs.List.{concat, join_by}
-use Rattle.std.specs.declared.alloc.Global.{Global}
 use Rattle.std.proofs.lemmas.Result.{IfOk-weaker}
-use Rattle.ll_export.specs.Json.{json_layer, json_text}
-use Rattle.ll_export.proofs.Growing.{joined_parts}
+use Rattle.ll_options.specs.Options.{exported_in}
+use Rattle.ll_export.specs.Json.{json_head, json_layer, json_options, json_text}
 use Rattle.ll_export.proofs.json.json_text.Goals as goal
 
 pub returns : goal.returns
 unfolding json_text
 returns c =
-    let layers = c.args.layers.now in
-    let same : map string_bytes c.as_slice.result.now ≡ map json_layer layers =
-    ap (λ (l : List (String Global)). map string_bytes l) c.as_slice.ensures.value ∙ c.in_ok-texts.ensures in
-    let told : c.as_str.result.now ≡ join_by json_layer (codes ",\n") layers =
-    c.as_str.ensures.value ∙ c.in_ok-all.ensures
-    ∙ joined_parts json_layer string_bytes (codes ",\n") layers c.as_slice.result.now same in
+    let it = c.args.confinement.now in
+    let order = exported_in c.args.options.now in
+    let head : c.as_str.result.now ≡ json_head order it.abi = c.as_str.ensures.value ∙ c.in_ok-head.ensures in
+    let told : c.as_str-2.result.now ≡ json_options order = c.as_str-2.ensures.value ∙ c.in_ok-told.ensures in
+    let layers : c.as_str-3.result.now ≡ join_by (json_layer it.opening.now) (codes ",\n") it.layers.now =
+    c.as_str-3.ensures.value ∙ c.in_ok-layers.ensures in
     IfOk-weaker c.concat.result _ _ (λ text e. e
-    ∙ ap (λ l. concat (codes "{\n  \"layers\": [\n" ∷ l ∷ codes "\n  ]\n}\n" ∷ [])) told)
+    ∙ ap₂ (λ h t. concat (
+    h ∷ t ∷ codes "  \"layers\": [\n" ∷ c.as_str-3.result.now ∷ codes "\n  ]\n}\n" ∷ [])) head told
+    ∙ ap (λ l. concat (
+    json_head order it.abi ∷ json_options order ∷ codes "  \"layers\": [\n" ∷ l ∷ codes "\n  ]\n}\n" ∷ [])) layers)
     c.concat.ensures

@@ -5,4 +5,5 @@ use Rattle.ll_export.proofs.json.rules_of.Given as goal
 -- what is still to come
 abbrev pub invariant-loop-rule : goal.invariant-loop-rule
 invariant-loop-rule l =
-    map json_rule l.rules ≡ map string_bytes l.texts.items ++ map json_rule (drop l.rule-index l.rules)
+    map (json_rule l.opening) l.rules
+    ≡ map string_bytes l.texts.items ++ map (json_rule l.opening) (drop l.rule-index l.rules)

@@ -6,4 +6,5 @@ use Rattle.ll_export.proofs.program.c_layers.Given as goal
 -- what is still to come
 abbrev pub invariant-loop-layer : goal.invariant-loop-layer
 invariant-loop-layer l =
-    flat_map c_layer l.layers ≡ string_bytes l.text ++ flat_map c_layer (drop l.layer-index l.layers)
+    flat_map (c_layer l.opening) l.layers
+    ≡ string_bytes l.text ++ flat_map (c_layer l.opening) (drop l.layer-index l.layers)

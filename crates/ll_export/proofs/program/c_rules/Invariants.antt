@@ -6,4 +6,4 @@ use Rattle.ll_export.proofs.program.c_rules.Given as goal
 -- what is still to come
 abbrev pub invariant-loop-rule : goal.invariant-loop-rule
 invariant-loop-rule l =
-    flat_map c_rule l.rules ≡ string_bytes l.text ++ flat_map c_rule (drop l.rule-index l.rules)
+    flat_map (c_rule l.opening) l.rules ≡ string_bytes l.text ++ flat_map (c_rule l.opening) (drop l.rule-index l.rules)

@@ -1,20 +1,20 @@
 use Rattle.std.proofs.Common.{◌≡◌, ◌∷◌, [], ap, ap₂, ◌∙◌}
 use Rattle.std.specs.List.{concat, flat_map}
 use Rattle.std.proofs.lemmas.Result.{IfOk-weaker}
-use Rattle.ll_export.specs.Program.{c_flag, c_layer, c_rows, c_string, c_text, c_values}
-use Rattle.ll_export.specs.declared.fixed.TheConstants.{HEAD, TAIL}
+use Rattle.ll_options.specs.Options.{exported_in}
+use Rattle.ll_export.specs.Program.{c_layer, c_place, c_rows, c_text, restrict_self}
+use Rattle.ll_export.specs.declared.fixed.TheConstants.{HEAD, HELPERS, TAIL}
 use Rattle.ll_export.proofs.program.c_text.Goals as goal
 
 pub returns : goal.returns
-unfolding c_text
+unfolding c_text restrict_self
 returns c =
-    let place = c.args.place.now in
-    let told : c.as_str-2.result.now
-    ≡ c_values (c_string place.root.now) (c_string place.also.now) (c_flag place.exact) =
+    let it = c.args.confinement.now in
+    let told : c.as_str-2.result.now ≡ c_place (exported_in c.args.options.now) =
     c.as_str-2.ensures.value ∙ c.in_ok-told.ensures in
-    let rows : c.as_str.result.now ≡ flat_map c_layer c.args.layers.now =
+    let rows : c.as_str.result.now ≡ flat_map (c_layer it.opening.now) it.layers.now =
     c.as_str.ensures.value ∙ c.in_ok-rows.ensures in
-    let table : c.as_str-3.result.now ≡ c_rows (flat_map c_layer c.args.layers.now) =
+    let table : c.as_str-3.result.now ≡ c_rows (flat_map (c_layer it.opening.now) it.layers.now) =
     c.as_str-3.ensures.value ∙ c.in_ok-table.ensures ∙ ap c_rows rows in
     IfOk-weaker c.concat.result _ _ (λ text e. e
-    ∙ ap₂ (λ t r. concat (HEAD.now ∷ t ∷ r ∷ TAIL.now ∷ [])) told table) c.concat.ensures
+    ∙ ap₂ (λ t r. concat (HEAD.now ∷ t ∷ r ∷ HELPERS.now ∷ restrict_self ∷ TAIL.now ∷ [])) told table) c.concat.ensures
