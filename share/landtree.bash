@@ -19,6 +19,10 @@ _landtree() {
         mapfile -t COMPREPLY < <(compgen -W "c json" -- "$word")
         return
         ;;
+    --deny)
+        mapfile -t COMPREPLY < <(compgen -W "tcp ioctl_dev signal abstract_unix_socket" -- "$word")
+        return
+        ;;
     --root | --also)
         mapfile -t COMPREPLY < <(compgen -d -- "$word")
         return
@@ -35,7 +39,9 @@ _landtree() {
     serve)
         options="--port --workers --connections --idle --log --nodes --abi --history --policy --profile --save --explain --help"
         ;;
-    export) options="--policy --profile --as --root --also --exact --explain --help" ;;
+    export)
+        options="--policy --profile --as --root --also --follow --deny --exact --best-effort --checked --explain --help"
+        ;;
     help) options="run audit schedule rights why check serve export" ;;
     *) return ;;
     esac
