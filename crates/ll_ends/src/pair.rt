@@ -2,6 +2,7 @@
 
 use crate::ends::{Broken, Ends};
 use crate::feeds::count_feeds;
+use ll_wire::{read_steadily, write_steadily};
 use std::io::{Read, Write};
 
 /// A reader and a writer, and what is counted of them: how many reads gave bytes, and how many line feeds are owed, if
@@ -33,7 +34,7 @@ impl<R: Read, W: Write> Ends for Pair<'_, R, W> {
     ghost names = { λ p. p.reader.ghost_name ∷ p.writer.ghost_name ∷ [] };
 
     fn read(&mut self, buf: &mut [u8]) -> Result<usize, Broken> {
-        match self.reader.read(buf) {
+        match read_steadily(self.reader, buf) {
             Ok(0) => Ok(0),
             Ok(count) => {
                 self.reads += 1;
@@ -50,7 +51,7 @@ impl<R: Read, W: Write> Ends for Pair<'_, R, W> {
     }
 
     fn write(&mut self, bytes: &[u8]) -> Result<usize, Broken> {
-        match self.writer.write(bytes) {
+        match write_steadily(self.writer, bytes) {
             Ok(count) if count > 0 || bytes.is_empty() => {
                 self.owed = self.owed.saturating_sub(count_feeds(&bytes[..count]));
                 Ok(count)

@@ -19,3 +19,4 @@ pub mod Targets
 pub mod Tokens
 pub mod Unique
 pub mod WrittenText
+pub mod KeptBytes

@@ -11,6 +11,7 @@ mod read;
 mod replies;
 mod schedule;
 mod spelled;
+mod steady;
 mod token;
 mod write;
 
@@ -25,4 +26,5 @@ pub use read::{LINE_LIMIT, read_command};
 pub use replies::read_reply;
 pub use schedule::{ScheduleLine, read_schedule_line};
 pub use spelled::{is_entered, is_spelled};
+pub use steady::{read_steadily, write_steadily};
 pub use write::{command_text, line_text, reply_text, reply_text_behind};

@@ -12,6 +12,9 @@ use ll_rights::{Access, Errno};
 use ll_seq::{AccessMode, Call, Creation, Mode, Reply, Status};
 use std::alloc::{AllocError, Global};
 
+/// Most texts have no more bytes, so their room never grows.
+const ROOM: usize = 64;
+
 fn push_token(text: &mut String, token: &str) -> Result<(), AllocError>
     ensures { OnOk result (string_bytes text.new ≡ string_bytes text.old ++ 32 ∷ token.now) }
 {
@@ -30,7 +33,8 @@ fn ended(mut text: String) -> Result<String, AllocError>
 fn spaced_text(alloc: Global, first: &str, others: &[&str]) -> Result<String, AllocError>
     ensures { IfOk result (λ text. string_bytes text ≡ join_with_byte 32 (first.now ∷ map (λ t. t.now) others.now)) }
 {
-    let mut text = String::from_str(alloc, first)?;
+    let mut text = String::with_capacity(alloc, ROOM)?;
+    text.push_str(first)?;
     for token in others {
         push_token(&mut text, token)?;
     }
