@@ -1,5 +1,5 @@
 -- One line more of a transcript.
-use Rattle.std.proofs.Common.{◌≡◌, ℕ, Bool, true, false, List, [], ◌∷◌, ◌++◌, Option, Result, Ok, Err, Some, refl, sym}
+use Rattle.std.proofs.Common.{◌≡◌, ℕ, Bool, true, false, List, [], ◌∷◌, ◌++◌, Option, Result, Ok, Err, refl, sym}
 use Rattle.std.proofs.Common.{ap}
 use Rattle.std.proofs.Common.{subst, ◌∙◌, append_assoc}
 use Rattle.std.specs.Prelude.{OnErr}
@@ -12,7 +12,8 @@ use Rattle.ll_lines.specs.Cutting.{Cuts, Holds, IsLeft, IsTold, Reading, TellsFr
 use Rattle.ll_lines.specs.Cutting.{unread}
 use Rattle.ll_lines.specs.Transcript.{Transcript}
 use Rattle.ll_lines.specs.Reached.{AnswersAll, AnswersFirst, AnswersSome, StartsAll}
-use Rattle.ll_lines.proofs.LeftToRead.{at_last, at_start}
+use Rattle.ll_lines.specs.Settling.{TellsStill}
+use Rattle.ll_lines.proofs.LeftToRead.{at_last, at_start, none_of}
 
 pub on_err : {T E P : Type 0} → (r : Result T E) → P → OnErr r P
 on_err (Ok value) p = tt
@@ -31,6 +32,45 @@ module _ {S : Type 0} (Tells : S → List ℕ → List ℕ → S → Type 0) whe
     lines-append ps h.1 mid t h.2 piece line h.4 a,
     ap (λ (x : List ℕ). x ++ line) h.5 ∙ append_assoc h.0 h.2 line,
   )
+
+  -- lines that led to t may as well lead to u
+  still_more : (p : List ℕ) (ps : List (List ℕ)) (s t u : S) (text : List ℕ) → TellsStill Tells t u
+      → Transcript Tells s (p ∷ ps) text t → Transcript Tells s (p ∷ ps) text u
+  still_more p [] s t u text still h = (
+    h.0,
+    u,
+    h.2,
+    still s p h.0 (subst (λ (m : S). Tells s p h.0 m) (sym h.4.1) h.3),
+    (h.4.0, refl),
+    h.5,
+  )
+  still_more p (q ∷ qs) s t u text still h = (h.0, h.1, h.2, h.3, still_more q qs h.1 t u h.2 still h.4, h.5)
+
+  still_lines : (done : List (List ℕ)) (s t u : S) (text : List ℕ) → TellsStill Tells t u → (text ≡ [] → u ≡ t)
+      → Transcript Tells s done text t → Transcript Tells s done text u
+  still_lines [] s t u text still quiet h = (h.0, quiet h.0 ∙ h.1)
+  still_lines (p ∷ ps) s t u text still quiet h = still_more p ps s t u text still h
+
+  -- where nothing waits, nothing changes
+  still_told : (done : List (List ℕ)) (s t u : S) (text : List ℕ) (first : Option (List ℕ)) (r : Reading) (d : Devices)
+      → TellsStill Tells t u → (r.waiting ≡ [] → u ≡ t) → IsTold first r d text → Transcript Tells s done text t
+      → Transcript Tells s done text u
+  still_told done s t u text first r d still quiet told h =
+      still_lines done s t u text still (λ none. quiet (none_of told.0 r.waiting (sym none ∙ told.1))) h
+
+  -- what was answered is kept
+  pub still_some : (s t u : S) (r : Reading) (first d : Devices) → AnswersSome Tells s t r first d
+      → TellsStill Tells t u → (r.waiting ≡ [] → u ≡ t) → AnswersSome Tells s u r first d
+  still_some s t u r first d some still quiet input is =
+      let a = some input is in (
+        a.0,
+        a.1,
+        a.2,
+        a.3,
+        a.4,
+        still_told a.1 s t u a.2 first.contents r d still quiet a.6 a.5,
+        a.6,
+      )
 
   -- nothing is read yet
   pub none_yet : (s : S) (r : Reading) (d : Devices) → r ≡ unread → AnswersSome Tells s s r d d
@@ -118,24 +158,35 @@ module _ {S : Type 0} (Tells : S → List ℕ → List ℕ → S → Type 0) whe
               ),
             )
 
-      -- there is none, and all is written
-      pub all_read : (f : Devices) → is_there ≡ false → f.remaining ≡ e.remaining
-          → ((text : List ℕ) → IsTold first.contents r' e text → Appends first.contents f.contents text)
-          → AnswersAll Tells s t first f
-      all_read f is same written input told =
-          let a = some input told in
-          let cut = at false is a.0 a.3 in
-          let all : a.1 ≡ pieces input = sym (a.4 ∙ ap (λ (x : List ℕ). a.1 ++ pieces x) cut.0 ∙ append-nil a.1) in (
-            same ∙ at_last r' e.remaining cut.1,
-            (
-              a.2,
-              subst (λ (x : List (List ℕ)). Transcript Tells s x a.2 t) all a.5,
-              written a.2 (on first.contents a.2 a.6),
-            ),
-          )
+      -- what was answered is kept then
+      module _ (u : S) (still : TellsStill Tells t u) (quiet : r'.waiting ≡ [] → u ≡ t) where
+        -- there is none, and all is written
+        pub all_read : (f : Devices) → is_there ≡ false → f.remaining ≡ e.remaining
+            → ((text : List ℕ) → IsTold first.contents r' e text → Appends first.contents f.contents text)
+            → AnswersAll Tells s u first f
+        all_read f is same written input told =
+            let a = some input told in
+            let cut = at false is a.0 a.3 in
+            let o = on first.contents a.2 a.6 in
+            let all : a.1 ≡ pieces input = sym (a.4 ∙ ap (λ (x : List ℕ). a.1 ++ pieces x) cut.0 ∙ append-nil a.1) in (
+              same ∙ at_last r' e.remaining cut.1,
+              (
+                a.2,
+                subst (λ (x : List (List ℕ)). Transcript Tells s x a.2 u) all
+                    (still_told a.1 s t u a.2 first.contents r' e still quiet o a.5),
+                written a.2 o,
+              ),
+            )
 
-      -- there is none, and not all is written
-      pub end_stops : (f : Devices) → TellsFront r' e f → StartsAll Tells s t first f
-      end_stops f front =
-          λ input told. let a = some input told in
-          (a.1, pieces a.0, a.2, a.4, a.5, front first.contents a.2 (on first.contents a.2 a.6))
+        -- there is none, and not all is written
+        pub end_stops : (f : Devices) → TellsFront r' e f → StartsAll Tells s u first f
+        end_stops f front input told =
+            let a = some input told in
+            let o = on first.contents a.2 a.6 in (
+              a.1,
+              pieces a.0,
+              a.2,
+              a.4,
+              still_told a.1 s t u a.2 first.contents r' e still quiet o a.5,
+              front first.contents a.2 o,
+            )

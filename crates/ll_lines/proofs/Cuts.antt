@@ -1,9 +1,26 @@
 -- What a line holds.
 use Rattle.std.proofs.Common.{◌≡◌, ◌∙◌, ◌↔◌, IsTrue, not, ℕ, ◌<◌, Bool, true, false, List, [], ◌∷◌, ◌++◌, append_assoc}
 use Rattle.std.proofs.Common.{length, Option, None, Some, ap, refl, subst, sym, arith}
+use Rattle.std.proofs.Common.{◌==◌, ◌||◌, ◌+◌, ◌≤◌, cond}
+use Rattle.std.specs.List.{list_any}
+use Rattle.ll_ends.specs.Devices.{line_feeds}
+use Rattle.ll_ends.proofs.FeedsInParts.{feeds-append}
 use Rattle.ll_wire.specs.Pieces.{pieces}
 use Rattle.ll_wire.proofs.CutStreams.{IsOpen, open-append, pieces-last, pieces-line}
 use Rattle.ll_lines.specs.Cutting.{Cuts, Gives, Holds}
+
+some_at : (b rest : Bool) (n : ℕ) → (rest ≡ true → 1 ≤ n) → (b || rest) ≡ true → 1 ≤ cond b 1 0 + n
+some_at true rest n more any = omega arith
+some_at false rest n more any = let some = more any in omega (arith, some)
+
+-- a line feed among the bytes is counted
+pub some_feed : (bytes : List ℕ) → list_any (λ b. b == 10) bytes ≡ true → 1 ≤ line_feeds bytes
+some_feed [] any = absurd cc
+some_feed (b ∷ bytes) any =
+    let all = feeds-append (b ∷ []) bytes in
+    let one : 0 + cond (b == 10) 1 0 ≡ cond (b == 10) 1 0 = omega arith in
+    let some = some_at (b == 10) (list_any (λ x. x == 10) bytes) (line_feeds bytes) (some_feed bytes) any in
+    omega (arith, all, one, some)
 
 -- what a line holds that isn't too long
 pub kept : (line : Option (List ℕ)) (bytes part : List ℕ) → line ≡ Some bytes → Holds line part → bytes ≡ part

@@ -73,7 +73,7 @@ at_start r remaining input is e = record {
   ended = λ over. absurd (let no = sym over ∙ ap (λ (x : Reading). x.is_ended) is in cc);
 }
 
-none_of : (xs ys : List ℕ) → [] ≡ xs ++ ys → ys ≡ []
+pub none_of : (xs ys : List ℕ) → [] ≡ xs ++ ys → ys ≡ []
 none_of [] ys e = sym e
 none_of (x ∷ xs) ys e = absurd cc
 

@@ -1,6 +1,6 @@
 -- What is told, of which some waits.
-use Rattle.std.proofs.Common.{◌≡◌, ℕ, ◌+◌, ◌-◌, ◌^◌, ◌≤◌, List, [], ◌++◌, Option, sym, ap, subst, ◌∙◌, append_assoc}
-use Rattle.std.proofs.Common.{arith}
+use Rattle.std.proofs.Common.{◌≡◌, ℕ, ◌+◌, ◌^◌, ◌≤◌, List, [], ◌++◌, Option, sym, ap, subst, ◌∙◌, append_assoc}
+use Rattle.std.proofs.Common.{arith, inl, inr}
 use Rattle.std.proofs.Common.{Result, Ok, Err, Some, false, ◌==◌}
 use Rattle.std.proofs.lemmas.Bool.{ne_eqb}
 use Rattle.std.proofs.lemmas.List.{append-nil}
@@ -10,7 +10,7 @@ use Rattle.ll_ends.specs.Devices.{Devices, IsWhole, Took, line_feeds}
 use Rattle.ll_ends.proofs.FeedsInParts.{feeds-append}
 use Rattle.ll_wire.specs.Writing.{AppendsFront}
 use Rattle.ll_wire.proofs.WrittenText.{appends-more, front-more}
-use Rattle.ll_lines.specs.Cutting.{Calls, CanGoOn, Reading, Told, feeds_of, unread}
+use Rattle.ll_lines.specs.Cutting.{Calls, CanGoOn, IsSilent, Reading, Told, feeds_of, unread}
 
 pub on_ok : {T E P : Type 0} → (r : Result T E) → P → OnOk r P
 on_ok (Ok value) p = p
@@ -133,6 +133,16 @@ byte_owes r d byte other can =
     let no : (byte == 10) ≡ false = ne_eqb byte 10 other in
     let less = can.1 in
     (can.0, (rw no at less), can.2)
+
+-- a byte that is no line feed leaves nothing more waiting
+pub byte_silent : (r : Reading) (byte : ℕ) → (byte ≡ 10 → ⊥) → IsSilent (feeds_of (Some byte)) r → IsSilent 0 r
+byte_silent r byte other silent =
+    let no : (byte == 10) ≡ false = ne_eqb byte 10 other in rw no at silent
+
+-- where nothing is held, nothing waits
+pub silent_empty : (r : Reading) → r.bytes ≡ [] → IsSilent 0 r → r.waiting ≡ []
+silent_empty r none (inl silent) = silent
+silent_empty r none (inr fed) = let empty = ap line_feeds none in absurd (omega (arith, empty, fed))
 
 pub calls_more : (a b c : Reading) (d e f : Devices) → Calls a b d e → Calls b c e f → Calls a c d f
 calls_more a b c d e f first then = omega (arith, first, then)

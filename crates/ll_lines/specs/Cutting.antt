@@ -1,5 +1,5 @@
 -- How lines are cut from what is read, and their replies gathered. Cited by contracts between crates alone. own
-use Rattle.std.specs.Prelude.{◌≡◌, ℕ, ◌+◌, ◌-◌, ◌*◌, ◌^◌, ◌<◌, ◌≤◌, Bool, true, false, List, [], ◌∷◌, ◌++◌, length}
+use Rattle.std.specs.Prelude.{◌≡◌, ◌⊎◌, ℕ, ◌+◌, ◌-◌, ◌*◌, ◌^◌, ◌<◌, ◌≤◌, Bool, true, false, List, [], ◌∷◌, ◌++◌, length}
 use Rattle.std.specs.Prelude.{Option, Some, None}
 use Rattle.std.specs.Io.KnownBytes.{Appends}
 use Rattle.ll_wire.specs.Pieces.{pieces}
@@ -62,6 +62,10 @@ abbrev pub CanGoOn : ℕ → Reading → Devices → Type 0
 CanGoOn more r d =
     IsWhole d × (d.owed - line_feeds r.waiting ≤ line_feeds r.bytes + more)
     × (d.reads + most_reads < 2 ^ 63 + r.reads)
+
+-- No reply waits, or the next line is held whole, with so many line feeds that are given already
+abbrev pub IsSilent : ℕ → Reading → Type 0
+IsSilent given r = (r.waiting ≡ []) ⊎ (1 ≤ line_feeds r.bytes + given)
 
 -- how many line feeds are in a byte, if there is one
 abbrev pub feeds_of : Option ℕ → ℕ

@@ -1,3 +1,4 @@
 pub mod Cutting
 pub mod Reached
+pub mod Settling
 pub mod Transcript

@@ -1,5 +1,5 @@
 -- How far the answering of lines has come. Cited by contracts between crates alone. own
-use Rattle.std.specs.Prelude.{◌≡◌, ◌≤◌, ◌+◌, ℕ, List, [], ◌++◌, Option, Some, true, false}
+use Rattle.std.specs.Prelude.{◌≡◌, ◌+◌, ℕ, List, [], ◌++◌, Some, true, false}
 use Rattle.std.specs.Io.KnownBytes.{Appends}
 use Rattle.ll_ends.specs.Devices.{Devices, IsWhole}
 use Rattle.ll_wire.specs.Pieces.{pieces}

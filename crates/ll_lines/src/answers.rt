@@ -28,6 +28,9 @@ pub trait Answers {
     /// It answers no further line.
     ghost over: { Self → Bool };
 
+    /// What it has answered is kept, as far as anybody keeps it: the replies may be written.
+    ghost kept: { Self → Type 0 };
+
     /// The line that answers this one, with its line feed. Where memory is wanted for it, the line was answered all the
     /// same.
     fn answer(&mut self, line: &Line) -> Result<String, AllocError>
@@ -40,6 +43,14 @@ pub trait Answers {
             → (text : List ℕ) × tells self.old piece text self.new) }
         ensures goes { goes self.old self.new }
         ensures used { used self.new ≤ used self.old + 2 };
+
+    /// Keeps what it has answered.
+    fn settle(&mut self)
+        ensures kept { kept self.new }
+        ensures tells { (a : Self) (piece line : List ℕ) → tells a piece line self.old → tells a piece line self.new }
+        ensures goes { goes self.old self.new }
+        ensures used { used self.new ≡ used self.old }
+        ensures over { over self.new ≡ over self.old };
 
     /// Whether it is over with the line that it has answered last.
     fn is_over(&self) -> bool
@@ -82,14 +93,14 @@ pub fn answer_lines<E: Ends, A: Answers>(
     let (Ok(mut exchange), Ok(mut line)) = (Exchange::new(alloc), Line::new(alloc)) else {
         return Err(SessionFault::NoMemory);
     };
-    while exchange.read_line(ends, &mut line)? {
+    while exchange.read_line(ends, answers, &mut line)? {
         match answers.answer(&line) {
-            Ok(text) => exchange.reply(ends, text.as_str())?,
-            Err(_) => return Err(exchange.starve(ends)),
+            Ok(text) => exchange.reply(ends, answers, text.as_str())?,
+            Err(_) => return Err(exchange.starve(ends, answers)),
         }
         if answers.is_over() {
-            return exchange.end(ends);
+            return exchange.end(ends, answers);
         }
     }
-    exchange.end(ends)
+    exchange.end(ends, answers)
 }

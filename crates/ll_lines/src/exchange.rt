@@ -5,12 +5,15 @@ ghost use Rattle.std.specs.Prelude.{OnErr};
 ghost use Rattle.std.specs.Prelude.{MatchOption, Err, IsTrue};
 ghost use Rattle.std.specs.Prelude.{Option, ◌+◌};
 ghost use Rattle.std.specs.Io.KnownBytes.{Appends};
-ghost use Rattle.ll_ends.specs.Devices.{IsWhole, line_feeds};
+ghost use Rattle.ll_ends.specs.Devices.{IsWhole, Took, TookNone, line_feeds};
+ghost use Rattle.ll_wire.specs.Writing.{AppendsFront};
 ghost use Rattle.ll_lines.specs.Cutting.{Calls, CanGoOn, Counts, Cuts, Faults, Gives, IsLeft, TellsFront, TellsFrontOf};
-ghost use Rattle.ll_lines.specs.Cutting.{IsTold, TellsMore, TellsOn, feeds_of, most_left, unread};
+ghost use Rattle.ll_lines.specs.Cutting.{IsSilent, IsTold, TellsMore, TellsOn, feeds_of, most_left, unread};
+ghost use Rattle.ll_lines.specs.Settling.{Settles};
 ghost use Rattle.ll_lines.specs.Transcript.{most_reads};
 ghost use Rattle.ll_lines.specs.declared.fault.SessionFault.{SessionFault};
 
+use crate::answers::Answers;
 use crate::fault::SessionFault;
 use crate::line::Line;
 use crate::output::write_line;
@@ -54,6 +57,26 @@ impl Model for Exchange {
         × (r.reads ≤ most_reads) };
 }
 
+// Writes a line that doesn't wait with others. What it answers is kept.
+fn write_through<E: Ends, A: Answers>(
+    ends: &mut E,
+    answers: &A,
+    line: &str,
+) -> Result<(), SessionFault>
+    requires whole { IsWhole (E.devices ends.old) }
+    requires kept { A.kept answers.now }
+    ensures ok { OnOk result (Appends (E.devices ends.old).contents (E.devices ends.new).contents line.now) }
+    ensures took { OnOk result (Took (E.devices ends.old) (E.devices ends.new) line.now) }
+    ensures err { OnErr result
+        (AppendsFront (E.devices ends.old).contents (E.devices ends.new).contents line.now) }
+    ensures broken { OnErr result (TookNone (E.devices ends.old) (E.devices ends.new)) }
+    ensures fault { IfErr result (λ fault. fault ≡ SessionFault.Write) }
+    ensures same { E.names ends.new ≡ E.names ends.old }
+{
+    let _ = answers;
+    write_line(ends, line)
+}
+
 impl Exchange {
     /// Nothing is read yet.
     pub fn new(alloc: Global) -> Result<Exchange, AllocError>
@@ -69,9 +92,14 @@ impl Exchange {
         })
     }
 
-    // Writes the replies that wait.
-    fn write_waiting<E: Ends>(&mut self, ends: &mut E) -> Result<(), SessionFault>
-        requires { IsWhole (E.devices ends.old) }
+    // Writes the replies that wait. What they answer is kept.
+    fn write_waiting<E: Ends, A: Answers>(
+        &mut self,
+        ends: &mut E,
+        answers: &A,
+    ) -> Result<(), SessionFault>
+        requires whole { IsWhole (E.devices ends.old) }
+        requires kept { A.kept answers.now }
         ensures ready { OnOk result ((more : ℕ) → CanGoOn more self.old (E.devices ends.old)
             → CanGoOn more self.new (E.devices ends.new)) }
         ensures none { OnOk result (self.new ≡ record self.old { waiting = [] }) }
@@ -85,6 +113,7 @@ impl Exchange {
         ensures fault { IfErr result (λ fault. Faults fault self.new (E.devices ends.new)) }
         ensures same { E.names ends.new ≡ E.names ends.old }
     {
+        let _ = answers;
         match write_out(ends, &self.waiting) {
             Ok(()) => {
                 self.waiting.clear();
@@ -94,16 +123,72 @@ impl Exchange {
         }
     }
 
-    // Reads on where nothing is held, unless the input has ended. The replies that wait are written before it does.
+    // Keeps what was answered, and then writes the replies that wait.
+    fn write_kept<E: Ends, A: Answers>(
+        &mut self,
+        ends: &mut E,
+        answers: &mut A,
+    ) -> Result<(), SessionFault>
+        requires { IsWhole (E.devices ends.old) }
+        ensures settled { Settles A.tells A.goes A.used A.over answers.old answers.new }
+        ensures kept { A.kept answers.new }
+        ensures ready { OnOk result ((more : ℕ) → CanGoOn more self.old (E.devices ends.old)
+            → CanGoOn more self.new (E.devices ends.new)) }
+        ensures none { OnOk result (self.new ≡ record self.old { waiting = [] }) }
+        ensures whole { OnOk result (IsWhole (E.devices ends.new)) }
+        ensures tells { OnOk result (TellsOn self.old self.new (E.devices ends.old) (E.devices ends.new)) }
+        ensures front { OnErr result (TellsFront self.old (E.devices ends.old) (E.devices ends.new)) }
+        ensures remaining { (E.devices ends.new).remaining ≡ (E.devices ends.old).remaining }
+        ensures calls { Calls self.old self.new (E.devices ends.old) (E.devices ends.new) }
+        ensures reads { self.new.reads ≡ self.old.reads }
+        ensures broken { IfErr result (λ fault. fault ≡ SessionFault.Write) }
+        ensures fault { IfErr result (λ fault. Faults fault self.new (E.devices ends.new)) }
+        ensures same { E.names ends.new ≡ E.names ends.old }
+    {
+        answers.settle();
+        self.write_waiting(ends, answers)
+    }
+
+    // The same, where any reply waits.
+    fn flush<E: Ends, A: Answers>(
+        &mut self,
+        ends: &mut E,
+        answers: &mut A,
+    ) -> Result<(), SessionFault>
+        requires { IsWhole (E.devices ends.old) }
+        ensures settled { Settles A.tells A.goes A.used A.over answers.old answers.new }
+        ensures quiet { self.old.waiting ≡ [] → answers.new ≡ answers.old }
+        ensures ready { OnOk result ((more : ℕ) → CanGoOn more self.old (E.devices ends.old)
+            → CanGoOn more self.new (E.devices ends.new)) }
+        ensures none { OnOk result (self.new ≡ record self.old { waiting = [] }) }
+        ensures whole { OnOk result (IsWhole (E.devices ends.new)) }
+        ensures tells { OnOk result (TellsOn self.old self.new (E.devices ends.old) (E.devices ends.new)) }
+        ensures front { OnErr result (TellsFront self.old (E.devices ends.old) (E.devices ends.new)) }
+        ensures remaining { (E.devices ends.new).remaining ≡ (E.devices ends.old).remaining }
+        ensures calls { Calls self.old self.new (E.devices ends.old) (E.devices ends.new) }
+        ensures reads { self.new.reads ≡ self.old.reads }
+        ensures broken { IfErr result (λ fault. fault ≡ SessionFault.Write) }
+        ensures fault { IfErr result (λ fault. Faults fault self.new (E.devices ends.new)) }
+        ensures same { E.names ends.new ≡ E.names ends.old }
+    {
+        if self.waiting.is_empty() {
+            return Ok(());
+        }
+        self.write_kept(ends, answers)
+    }
+
+    // Reads on where nothing is held, unless the input has ended. No reply waits then.
     fn fill<E: Ends>(&mut self, ends: &mut E) -> Result<(), SessionFault>
-        requires { CanGoOn 0 self.old (E.devices ends.old) }
+        requires ready { CanGoOn 0 self.old (E.devices ends.old) }
+        requires silent { IsSilent 0 self.old }
         ensures ready { OnOk result (CanGoOn 0 self.new (E.devices ends.new)) }
+        ensures silent { OnOk result (IsSilent 0 self.new) }
         ensures left { OnOk result ((left : List ℕ) → IsLeft self.old (E.devices ends.old).remaining left
             → IsLeft self.new (E.devices ends.new).remaining left) }
         ensures some { OnOk result (self.new.bytes ≡ [] → self.new.is_ended ≡ true) }
         ensures fewer { OnOk result (most_left self.new ≤ most_left self.old) }
-        ensures tells { OnOk result (TellsOn self.old self.new (E.devices ends.old) (E.devices ends.new)) }
-        ensures front { OnErr result (TellsFront self.old (E.devices ends.old) (E.devices ends.new)) }
+        ensures contents { (E.devices ends.new).contents ≡ (E.devices ends.old).contents }
+        ensures waiting { self.new.waiting ≡ self.old.waiting }
         ensures counted { Counts self.old self.new (E.devices ends.old).remaining (E.devices ends.new).remaining }
         ensures calls { Calls self.old self.new (E.devices ends.old) (E.devices ends.new) }
         ensures fault { IfErr result (λ fault. Faults fault self.new (E.devices ends.new)) }
@@ -112,7 +197,6 @@ impl Exchange {
         if self.start < self.end || self.is_ended {
             return Ok(());
         }
-        self.write_waiting(ends)?;
         self.read_chunk(ends)
     }
 
@@ -150,14 +234,16 @@ impl Exchange {
 
     // The next byte, or none at the end.
     fn next_byte<E: Ends>(&mut self, ends: &mut E) -> Result<Option<u8>, SessionFault>
-        requires { CanGoOn 0 self.old (E.devices ends.old) }
+        requires ready { CanGoOn 0 self.old (E.devices ends.old) }
+        requires silent { IsSilent 0 self.old }
         ensures ready { IfOk result (λ byte. CanGoOn (feeds_of byte) self.new (E.devices ends.new)) }
+        ensures silent { IfOk result (λ byte. IsSilent (feeds_of byte) self.new) }
         ensures byte { IfOk result (λ byte. (left : List ℕ) → IsLeft self.old (E.devices ends.old).remaining left
             → Gives left byte (IsLeft self.new (E.devices ends.new).remaining)) }
         ensures fewer { IfOk result (λ byte. MatchOption byte (most_left self.new ≤ most_left self.old)
             (λ _. most_left self.new < most_left self.old)) }
-        ensures tells { OnOk result (TellsOn self.old self.new (E.devices ends.old) (E.devices ends.new)) }
-        ensures front { OnErr result (TellsFront self.old (E.devices ends.old) (E.devices ends.new)) }
+        ensures contents { (E.devices ends.new).contents ≡ (E.devices ends.old).contents }
+        ensures waiting { self.new.waiting ≡ self.old.waiting }
         ensures counted { Counts self.old self.new (E.devices ends.old).remaining (E.devices ends.new).remaining }
         ensures calls { Calls self.old self.new (E.devices ends.old) (E.devices ends.new) }
         ensures fault { IfErr result (λ fault. Faults fault self.new (E.devices ends.new)) }
@@ -174,30 +260,75 @@ impl Exchange {
         }
     }
 
-    /// Memory is wanted: the replies that wait are written, if they can be.
-    pub fn starve<E: Ends>(&mut self, ends: &mut E) -> SessionFault
-        requires { IsWhole (E.devices ends.old) }
-        ensures front { TellsFront self.old (E.devices ends.old) (E.devices ends.new) }
+    // Whether the next line is held whole, so that no read comes before it.
+    fn holds_line(&self) -> bool
+        ensures { IsTrue result → 1 ≤ line_feeds self.now.bytes }
+    {
+        self.chunk[self.start..self.end].contains(&b'\n')
+    }
+
+    // Cuts the next line, and reads on for it only where no reply waits.
+    fn cut_line<E: Ends>(&mut self, ends: &mut E, line: &mut Line) -> Result<bool, SessionFault>
+        requires ready { CanGoOn 0 self.old (E.devices ends.old) }
+        requires silent { IsSilent 0 self.old }
+        ensures ready { OnOk result (CanGoOn 1 self.new (E.devices ends.new)) }
+        ensures line { IfOk result (λ is_there. (left : List ℕ) → IsLeft self.old (E.devices ends.old).remaining left
+            → Cuts left is_there line.new (IsLeft self.new (E.devices ends.new).remaining)) }
+        ensures fewer { result ≡ Ok true → most_left self.new < most_left self.old }
+        ensures contents { (E.devices ends.new).contents ≡ (E.devices ends.old).contents }
+        ensures waiting { self.new.waiting ≡ self.old.waiting }
+        ensures counted { Counts self.old self.new (E.devices ends.old).remaining (E.devices ends.new).remaining }
+        ensures calls { Calls self.old self.new (E.devices ends.old) (E.devices ends.new) }
+        ensures fault { IfErr result (λ fault. Faults fault self.new (E.devices ends.new)) }
+        ensures same { E.names ends.new ≡ E.names ends.old }
+    {
+        line.clear();
+        while let Some(byte) = self.next_byte(ends)? {
+            line.push(byte);
+            if byte == b'\n' {
+                return Ok(true);
+            }
+        }
+        Ok(!line.is_empty())
+    }
+
+    // Where the next line isn't held whole, no reply waits any more.
+    fn fall_silent<E: Ends, A: Answers>(
+        &mut self,
+        ends: &mut E,
+        answers: &mut A,
+    ) -> Result<(), SessionFault>
+        requires { CanGoOn 0 self.old (E.devices ends.old) }
+        ensures settled { Settles A.tells A.goes A.used A.over answers.old answers.new }
+        ensures quiet { self.old.waiting ≡ [] → answers.new ≡ answers.old }
+        ensures ready { OnOk result (CanGoOn 0 self.new (E.devices ends.new)) }
+        ensures silent { OnOk result (IsSilent 0 self.new) }
+        ensures left { OnOk result ((self.new.bytes ≡ self.old.bytes) × (self.new.is_ended ≡ self.old.is_ended)) }
+        ensures tells { OnOk result (TellsOn self.old self.new (E.devices ends.old) (E.devices ends.new)) }
+        ensures front { OnErr result (TellsFront self.old (E.devices ends.old) (E.devices ends.new)) }
         ensures remaining { (E.devices ends.new).remaining ≡ (E.devices ends.old).remaining }
         ensures calls { Calls self.old self.new (E.devices ends.old) (E.devices ends.new) }
         ensures reads { self.new.reads ≡ self.old.reads }
-        ensures fault { Faults result self.new (E.devices ends.new) }
-        ensures few { result ≢ SessionFault.TooLong }
+        ensures fault { IfErr result (λ fault. Faults fault self.new (E.devices ends.new)) }
         ensures same { E.names ends.new ≡ E.names ends.old }
     {
-        match self.write_waiting(ends) {
-            Ok(()) => SessionFault::NoMemory,
-            Err(fault) => fault,
+        if self.holds_line() {
+            return Ok(());
         }
+        self.flush(ends, answers)
     }
 
-    /// Reads the next line, whose line feed only the last may lack. Whether there is one.
-    pub fn read_line<E: Ends>(
+    /// Reads the next line, whose line feed only the last may lack. Whether there is one. Before each read the replies
+    /// that wait are written, once what they answer is kept.
+    pub fn read_line<E: Ends, A: Answers>(
         &mut self,
         ends: &mut E,
+        answers: &mut A,
         line: &mut Line,
     ) -> Result<bool, SessionFault>
         requires { CanGoOn 0 self.old (E.devices ends.old) }
+        ensures settled { Settles A.tells A.goes A.used A.over answers.old answers.new }
+        ensures quiet { self.old.waiting ≡ [] → answers.new ≡ answers.old }
         ensures ready { OnOk result (CanGoOn 1 self.new (E.devices ends.new)) }
         ensures line { IfOk result (λ is_there. (left : List ℕ) → IsLeft self.old (E.devices ends.old).remaining left
             → Cuts left is_there line.new (IsLeft self.new (E.devices ends.new).remaining)) }
@@ -209,16 +340,26 @@ impl Exchange {
         ensures fault { IfErr result (λ fault. Faults fault self.new (E.devices ends.new)) }
         ensures same { E.names ends.new ≡ E.names ends.old }
     {
-        line.clear();
-        while let Some(byte) = self.next_byte(ends)? {
-            let Ok(()) = line.push(byte) else {
-                return Err(self.starve(ends));
-            };
-            if byte == b'\n' {
-                return Ok(true);
-            }
+        self.fall_silent(ends, answers)?;
+        self.cut_line(ends, line)
+    }
+
+    /// Memory is wanted for a reply: what was answered is kept, and the replies that wait are written, if they can be.
+    pub fn starve<E: Ends, A: Answers>(&mut self, ends: &mut E, answers: &mut A) -> SessionFault
+        requires { IsWhole (E.devices ends.old) }
+        ensures settled { Settles A.tells A.goes A.used A.over answers.old answers.new }
+        ensures front { TellsFront self.old (E.devices ends.old) (E.devices ends.new) }
+        ensures remaining { (E.devices ends.new).remaining ≡ (E.devices ends.old).remaining }
+        ensures calls { Calls self.old self.new (E.devices ends.old) (E.devices ends.new) }
+        ensures reads { self.new.reads ≡ self.old.reads }
+        ensures fault { Faults result self.new (E.devices ends.new) }
+        ensures few { result ≢ SessionFault.TooLong }
+        ensures same { E.names ends.new ≡ E.names ends.old }
+    {
+        match self.write_kept(ends, answers) {
+            Ok(()) => SessionFault::NoMemory,
+            Err(fault) => fault,
         }
-        Ok(!line.is_empty())
     }
 
     // Lets the line wait with the others, where it fits. Whether it does.
@@ -235,10 +376,16 @@ impl Exchange {
         }
     }
 
-    /// Answers a line. The answer is written before the next read.
-    pub fn reply<E: Ends>(&mut self, ends: &mut E, line: &str) -> Result<(), SessionFault>
+    /// Answers a line. The answer is written before the next read, once what it answers is kept.
+    pub fn reply<E: Ends, A: Answers>(
+        &mut self,
+        ends: &mut E,
+        answers: &mut A,
+        line: &str,
+    ) -> Result<(), SessionFault>
         requires ready { CanGoOn 1 self.old (E.devices ends.old) }
         requires line { 1 ≤ line_feeds line.now }
+        ensures settled { Settles A.tells A.goes A.used A.over answers.old answers.new }
         ensures ready { OnOk result (CanGoOn 0 self.new (E.devices ends.new)) }
         ensures kept { OnOk result ((self.new.bytes ≡ self.old.bytes) × (self.new.is_ended ≡ self.old.is_ended)) }
         ensures reads { self.new.reads ≡ self.old.reads }
@@ -253,13 +400,19 @@ impl Exchange {
         if self.gather(line) {
             return Ok(());
         }
-        self.write_waiting(ends)?;
-        write_line(ends, line)
+        self.write_kept(ends, answers)?;
+        write_through(ends, answers, line)
     }
 
-    /// All is read, and the last answers are written.
-    pub fn end<E: Ends>(&mut self, ends: &mut E) -> Result<(), SessionFault>
+    /// All is read: what was answered is kept, and the last answers are written.
+    pub fn end<E: Ends, A: Answers>(
+        &mut self,
+        ends: &mut E,
+        answers: &mut A,
+    ) -> Result<(), SessionFault>
         requires { IsWhole (E.devices ends.old) }
+        ensures settled { Settles A.tells A.goes A.used A.over answers.old answers.new }
+        ensures quiet { self.old.waiting ≡ [] → answers.new ≡ answers.old }
         ensures tells { OnOk result ((first : Option (List ℕ)) (text : List ℕ)
             → IsTold first self.old (E.devices ends.old) text → Appends first (E.devices ends.new).contents text) }
         ensures whole { OnOk result (IsWhole (E.devices ends.new)) }
@@ -270,6 +423,6 @@ impl Exchange {
         ensures fault { IfErr result (λ fault. Faults fault self.new (E.devices ends.new)) }
         ensures same { E.names ends.new ≡ E.names ends.old }
     {
-        self.write_waiting(ends)
+        self.flush(ends, answers)
     }
 }

@@ -1,6 +1,6 @@
 //! The line that is being read.
 
-ghost use Rattle.std.specs.Prelude.{◌≡◌, [], ◌∷◌, ◌++◌, ◌↔◌, ℕ, List, OnOk, IfOk, IsTrue, Some, option_map};
+ghost use Rattle.std.specs.Prelude.{◌≡◌, [], ◌∷◌, ◌++◌, ◌↔◌, ℕ, List, IfOk, IsTrue, Some, option_map};
 ghost use Rattle.ll_lines.specs.Cutting.{Holds};
 
 use ll_wire::LINE_LIMIT;
@@ -15,11 +15,14 @@ pub struct Line {
 }
 
 impl Model for Line {
-    ghost use Rattle.std.specs.Prelude.{ℕ, List, Option, None, Some, if◌then◌else◌};
+    ghost use Rattle.std.specs.Prelude.{ℕ, List, Option, None, Some, if◌then◌else◌, ◌≤◌};
+    ghost use Rattle.std.specs.Vec.{vec_capacity};
 
     ghost Value = { Option (List ℕ) };
 
     ghost view = { λ line. if line.is_long then None else Some line.bytes.items };
+
+    ghost invariant = { λ line. 16384 ≤ vec_capacity line.bytes };
 }
 
 impl Line {
@@ -44,18 +47,18 @@ impl Line {
         }
     }
 
-    pub fn push(&mut self, byte: u8) -> Result<(), AllocError>
-        ensures { OnOk result ((part : List ℕ) → Holds self.old part → Holds self.new (part ++ byte ∷ [])) }
+    /// Adds a byte. There is room for it, or the line gets too long.
+    pub fn push(&mut self, byte: u8)
+        ensures { (part : List ℕ) → Holds self.old part → Holds self.new (part ++ byte ∷ []) }
     {
         if self.is_long {
-            return Ok(());
+            return;
         }
-        if self.bytes.len() == LINE_LIMIT {
+        if self.bytes.len() >= LINE_LIMIT {
             self.is_long = true;
-            return Ok(());
+            return;
         }
-        self.bytes.push(byte)?;
-        Ok(())
+        self.bytes.push_reserved(byte);
     }
 
     pub fn clear(&mut self)

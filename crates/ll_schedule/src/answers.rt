@@ -17,10 +17,15 @@ impl Answers for Schedule {
 
     ghost over = { λ schedule. false };
 
+    // Nobody keeps it.
+    ghost kept = { λ schedule. ⊤ };
+
     fn answer(&mut self, line: &Line) -> Result<String, AllocError> {
         let answer = self.outcome(line);
         answer_text(self.alloc, self.world.history().entries(), answer)
     }
+
+    fn settle(&mut self) {}
 
     fn is_over(&self) -> bool {
         false

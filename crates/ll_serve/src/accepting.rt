@@ -11,7 +11,7 @@ use crate::watching::Watches;
 use crate::workers::{Takes, serve_from};
 use crossbeam_channel::{Receiver, Sender, unbounded};
 use ll_client::Shape;
-use ll_session::Gate;
+use ll_session::{Gate, Keeps};
 use std::alloc::{AllocError, Global};
 use std::io::{Read, Write};
 use std::sync::Wait;
@@ -76,10 +76,11 @@ pub fn serve_on<
     H: Threads + Wait + Sync,
     L: Accepts + Sync,
     V: Watches<L::In, L::Out> + Sync,
+    K: Keeps + Sync,
 >(
     rt: &H,
     alloc: Global,
-    host: &Host<N, G>,
+    host: &Host<N, G, K>,
     listener: &L,
     watch: &V,
     workers: usize,

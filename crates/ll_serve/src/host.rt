@@ -5,13 +5,15 @@ ghost use Rattle.ll_session.specs.Session.{AreOthers};
 
 use ll_client::Shape;
 use ll_seq::Call;
-use ll_session::{Gate, Tree};
+use ll_session::{Gate, Keeps, Tree};
 
-/// A tree, how many entries its history may have, and the calls that each stream's client makes before its lines.
+/// A tree, how many entries its history may have, who keeps these, and the calls that each stream's client makes before
+/// its lines.
 #[derive(Drop)]
-pub struct Host<'a, N: Shape, G: Gate<N>> {
+pub struct Host<'a, N: Shape, G: Gate<N>, K: Keeps> {
     pub tree: &'a Tree<N, G>,
     pub limit: u64,
+    pub keeper: &'a K,
     pub profile: &'a [Call],
     ghost limit_is: { limit ≡ N.limit },
     ghost others: { AreOthers profile.now },

@@ -1,11 +1,14 @@
 //! One stream's session.
 
 ghost use Rattle.std.specs.Prelude.{◌≡◌, ◌≤◌, ◌^◌, ℕ, List, [], ◌∷◌, Some, Err, IfErr, OnErr, OnOk, length, map};
+ghost use Rattle.std.specs.Io.KnownBytes.{Appends};
 ghost use Rattle.ll_ends.specs.Devices.{IsWhole};
 ghost use Rattle.ll_lines.specs.Reached.{Blames};
 ghost use Rattle.ll_lines.specs.Transcript.{most_reads};
 ghost use Rattle.ll_lines.specs.declared.fault.SessionFault.{SessionFault};
+ghost use Rattle.ll_session.specs.Progress.{IsOfRefusal};
 ghost use Rattle.ll_session.specs.Session.{AreOthers};
+ghost use Rattle.ll_wire.specs.Grammar.{reply_line};
 ghost use Rattle.ll_client.specs.Coming.{HasNoPlace};
 ghost use Rattle.ll_client.specs.Entries.{Knows};
 ghost use Rattle.ll_serve.specs.Visit.{HasCome, StartsBy, Visits, WasServed};
@@ -18,7 +21,7 @@ use ll_ends::{Ends, Pair};
 use ll_lines::SessionFault;
 use ll_rights::Errno;
 use ll_seq::{Call, Reply};
-use ll_session::{Gate, Party, Tree, make_calls, session, write_reply};
+use ll_session::{Gate, Keeps, Kept, OpenSession, Party, Tree, make_calls, session, tell_reply};
 use std::alloc::Global;
 use std::io::{Read, Write};
 use std::snapshot::Snapshot;
@@ -44,18 +47,41 @@ fn come<N: Shape, H: Wait, G: Gate<N>>(
     }
 }
 
+// Writes the line of the refusal that no session begins with, once the entries are kept of which its clients know.
+fn turn_away<N: Shape, H: Wait, G: Gate<N>, K: Keeps, E: Ends>(
+    rt: &H,
+    alloc: Global,
+    host: &Host<N, G, K>,
+    party: Party<N>,
+    reply: &Reply,
+    ends: &mut E,
+) -> (Vec<Client<N>>, Result<(), SessionFault>)
+    requires { IsWhole (E.devices ends.old) }
+    ensures clients { map (λ c. c.rider) result.0.items ≡ party }
+    ensures ok { OnOk result.1 (Appends (E.devices ends.old).contents (E.devices ends.new).contents
+        (reply_line reply.now)) }
+    ensures err { IfErr result.1 (λ fault. IsOfRefusal fault (E.devices ends.old).contents (E.devices ends.new).contents
+        (reply_line reply.now)) }
+    ensures fault { IfErr result.1 (λ fault. Blames fault (E.devices ends.old) (E.devices ends.new)) }
+    ensures remaining { (E.devices ends.new).remaining ≡ (E.devices ends.old).remaining }
+    ensures same { E.names ends.new ≡ E.names ends.old }
+{
+    let mut party = party;
+    let kept = host.keeper.keep(rt, host.tree, &mut party);
+    let told = tell_reply(alloc, reply, &party, kept, ends);
+    (party.into_clients(), told)
+}
+
 /// Serves one stream: a client comes, makes the calls of its profile, and answers each line that is read, beside
 /// whatever others call on the tree. Where its connect is refused, or one of those calls, the reply's line is all that
 /// is written, and nothing is read. Gives the clients that have come: this one, and those that it has spawned.
-pub fn visit<N: Shape, H: Wait, G: Gate<N>, E: Ends>(
+pub fn visit<N: Shape, H: Wait, G: Gate<N>, K: Keeps, E: Ends>(
     rt: &H,
     alloc: Global,
-    tree: &Tree<N, G>,
-    limit: u64,
+    host: &Host<N, G, K>,
     profile: Vec<Call>,
     ends: &mut E,
 ) -> (Vec<Client<N>>, Result<(), SessionFault>)
-    requires limit { limit ≡ N.limit }
     requires calls { AreOthers profile.items }
     requires whole { IsWhole (E.devices ends.old) }
     requires answered { (E.devices ends.old).owed ≡ 0 }
@@ -73,32 +99,37 @@ pub fn visit<N: Shape, H: Wait, G: Gate<N>, E: Ends>(
         → (input : List ℕ) → (E.devices ends.old).remaining ≡ Some input → most_reads ≤ length input }
     ensures same { E.names ends.new ≡ E.names ends.old }
 {
-    let Ok(mut party) = Party::<N>::new(alloc, limit) else {
+    let Ok(mut party) = Party::<N>::new(alloc, host.limit) else {
         drop(profile);
         return (Vec::new(alloc), Err(SessionFault::NoMemory));
     };
-    if let Err(errno) = come(rt, tree, &mut party) {
+    if let Err(errno) = come(rt, host.tree, &mut party) {
         drop(profile);
-        let told = write_reply(alloc, &Reply::Refused(errno), ends);
-        return (party.into_clients(), told);
+        return turn_away(rt, alloc, host, party, &Reply::Refused(errno), ends);
     }
-    match make_calls(rt, tree, &mut party, 0, profile) {
+    match make_calls(rt, host.tree, &mut party, 0, profile) {
         Ok(()) => {
-            let (party, ended) = session(rt, alloc, tree, party, 0, ends);
+            let open = OpenSession {
+                rt,
+                alloc,
+                tree: host.tree,
+                keeper: host.keeper,
+                party,
+                before: 0,
+                kept: Kept::UpTo(0),
+            };
+            let (party, ended) = session(open, ends);
             (party.into_clients(), ended)
         }
-        Err(reply) => {
-            let told = write_reply(alloc, &reply, ends);
-            (party.into_clients(), told)
-        }
+        Err(reply) => turn_away(rt, alloc, host, party, &reply, ends),
     }
 }
 
 // Serves one stream by these rules, and gives its clients and how it ended.
-fn serve_ends<N: Shape, G: Gate<N>, H: Wait, R: Read, W: Write>(
+fn serve_ends<N: Shape, G: Gate<N>, K: Keeps, H: Wait, R: Read, W: Write>(
     rt: &H,
     alloc: Global,
-    host: &Host<N, G>,
+    host: &Host<N, G, K>,
     stream: &mut Stream<R, W>,
 ) -> (Vec<Client<N>>, Result<(), SessionFault>)
     ensures { WasServed N.limit host.now.profile.now R.remaining W.contents result.1 stream.old stream.new
@@ -116,14 +147,14 @@ fn serve_ends<N: Shape, G: Gate<N>, H: Wait, R: Read, W: Write>(
         is_input_broken: false,
         is_output_broken: false,
     };
-    visit(rt, alloc, host.tree, host.limit, profile, &mut ends)
+    visit(rt, alloc, host, profile, &mut ends)
 }
 
 /// Serves one stream as `visit` does, and gives what is left of it.
-pub fn serve_stream<N: Shape, G: Gate<N>, H: Wait, R: Read, W: Write>(
+pub fn serve_stream<N: Shape, G: Gate<N>, K: Keeps, H: Wait, R: Read, W: Write>(
     rt: &H,
     alloc: Global,
-    host: &Host<N, G>,
+    host: &Host<N, G, K>,
     stream: &mut Stream<R, W>,
 ) -> Served<N, R, W>
     ensures served { WasServed N.limit host.now.profile.now R.remaining W.contents result.ended

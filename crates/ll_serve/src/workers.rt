@@ -11,7 +11,7 @@ use crate::visits::serve_stream;
 use crate::watching::Watches;
 use crossbeam_channel::Receiver;
 use ll_client::Shape;
-use ll_session::Gate;
+use ll_session::{Gate, Keeps};
 use std::alloc::{AllocError, Global};
 use std::io::{Read, Write};
 use std::sync::Wait;
@@ -59,10 +59,11 @@ fn work<
     W: Write + Drop,
     S: Takes<R, W>,
     V: Watches<R, W>,
+    K: Keeps,
 >(
     rt: &H,
     alloc: Global,
-    host: &Host<N, G>,
+    host: &Host<N, G, K>,
     streams: &S,
     watch: &V,
     room: &mut Vec<Served<N, R, W>>,
@@ -94,10 +95,11 @@ pub(crate) fn serve_from<
     W: Write + Send + Drop,
     S: Takes<R, W> + Sync,
     V: Watches<R, W> + Sync,
+    K: Keeps + Sync,
 >(
     rt: &H,
     alloc: Global,
-    host: &Host<N, G>,
+    host: &Host<N, G, K>,
     streams: &S,
     watch: &V,
     workers: usize,
@@ -136,10 +138,11 @@ pub fn serve_streams<
     R: Read + Send + Drop,
     W: Write + Send + Drop,
     V: Watches<R, W> + Sync,
+    K: Keeps + Sync,
 >(
     rt: &H,
     alloc: Global,
-    host: &Host<N, G>,
+    host: &Host<N, G, K>,
     streams: Receiver<Stream<R, W>>,
     watch: &V,
     workers: usize,

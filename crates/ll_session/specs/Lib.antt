@@ -1,4 +1,5 @@
 pub mod Beside
+pub mod Keeping
 pub mod Opening
 pub mod Progress
 pub mod Run

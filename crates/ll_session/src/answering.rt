@@ -10,6 +10,7 @@ ghost use Rattle.ll_rights.specs.declared.errno.Errno.{Errno};
 ghost use Rattle.ll_talk.specs.Talk.{Goes};
 ghost use Rattle.ll_session.specs.Beside.{TellsBeside, placed};
 
+use crate::keeper::{Keeps, Kept};
 use crate::output::reply_line;
 use ll_client::Shape;
 use ll_ends::Ends;
@@ -21,14 +22,17 @@ use ll_wire::read_command;
 use std::alloc::{AllocError, Global};
 use std::sync::Wait;
 
-/// A session under way: its tree, and a party of which so many clients came before the session, and then its own.
+/// A session under way: its tree, a party of which so many clients came before the session, and then its own, who keeps
+/// the history, and how far it is kept.
 #[derive(Drop)]
-pub struct OpenSession<'a, N: Shape, R: Wait, G: Gate<N>> {
+pub struct OpenSession<'a, N: Shape, R: Wait, G: Gate<N>, K: Keeps> {
     pub rt: &'a R,
     pub alloc: Global,
     pub tree: &'a Tree<N, G>,
+    pub keeper: &'a K,
     pub party: Party<N>,
     pub before: u64,
+    pub kept: Kept,
     ghost some: { before < length party },
 }
 
@@ -49,9 +53,10 @@ fn placed(clients: u64, reply: Reply) -> Reply
     }
 }
 
-impl<'a, N: Shape, R: Wait, G: Gate<N>> OpenSession<'a, N, R, G> {
+impl<'a, N: Shape, R: Wait, G: Gate<N>, K: Keeps> OpenSession<'a, N, R, G, K> {
     ghost use Rattle.ll_lines.specs.Cutting.{Holds};
     ghost use Rattle.ll_session.specs.Beside.{AnswersBeside};
+    ghost use Rattle.ll_session.specs.Keeping.{AreKept};
     ghost use Rattle.ll_session.specs.Progress.{IsUnread};
 
     // How many clients the session has.
@@ -98,9 +103,29 @@ impl<'a, N: Shape, R: Wait, G: Gate<N>> OpenSession<'a, N, R, G> {
             Err(errno) => Reply::Refused(self.unread(errno)),
         }
     }
+
+    /// Keeps all entries that its clients know of.
+    pub fn keep(&mut self)
+        ensures kept { AreKept self.new.kept self.new.party }
+        ensures party { self.new.party ≡ self.old.party }
+        ensures before { self.new.before ≡ self.old.before }
+    {
+        self.kept = self.keeper.keep(self.rt, self.tree, &mut self.party);
+    }
+
+    /// Keeps all entries that its clients know of, and leaves these.
+    pub fn close(self) -> Party<N>
+        ensures { result ≡ self.entry.party }
+    {
+        let mut session = self;
+        session.keep();
+        let OpenSession { party, .. } = session;
+        party
+    }
 }
 
-impl<'a, N: Shape, R: Wait, G: Gate<N>> Answers for OpenSession<'a, N, R, G> {
+impl<'a, N: Shape, R: Wait, G: Gate<N>, K: Keeps> Answers for OpenSession<'a, N, R, G, K> {
+    ghost use Rattle.ll_session.specs.Keeping.{AreKept};
     ghost use Rattle.ll_session.specs.Progress.{StandsOn, stands, stands_on};
 
     ghost tells = { λ a piece line b. TellsBeside N.limit a.before a.party piece line b.party × (b.before ≡ a.before) };
@@ -112,9 +137,16 @@ impl<'a, N: Shape, R: Wait, G: Gate<N>> Answers for OpenSession<'a, N, R, G> {
 
     ghost over = { λ session. false };
 
+    // All entries that its clients know of are kept, as far as anybody keeps them.
+    ghost kept = { λ session. AreKept session.kept session.party };
+
     fn answer(&mut self, line: &Line) -> Result<String, AllocError> {
         let reply = self.reply(line);
         reply_line(self.alloc, &reply)
+    }
+
+    fn settle(&mut self) {
+        self.keep();
     }
 
     fn is_over(&self) -> bool {
@@ -128,41 +160,31 @@ impl<'a, N: Shape, R: Wait, G: Gate<N>> Answers for OpenSession<'a, N, R, G> {
 
 /// Answers each line that is read, beside whatever others call on the tree. The first so many clients of the party came
 /// before the session, and no line names them; those that the session spawns come last. Before each read, the replies
-/// to all lines that were read are written. With a fault, calls that the tree has answered stand.
-pub fn session<N: Shape, R: Wait, G: Gate<N>, E: Ends>(
-    rt: &R,
-    alloc: Global,
-    tree: &Tree<N, G>,
-    party: Party<N>,
-    before: u64,
+/// to all lines that were read are written, and before that the entries are kept of which its clients know. With a
+/// fault, calls that the tree has answered stand.
+pub fn session<N: Shape, R: Wait, G: Gate<N>, K: Keeps, E: Ends>(
+    session: OpenSession<'_, N, R, G, K>,
     ends: &mut E,
 ) -> (Party<N>, Result<(), SessionFault>)
-    requires some { before < length party }
     requires whole { IsWhole (E.devices ends.old) }
     requires answered { (E.devices ends.old).owed ≡ 0 }
     requires reads { (E.devices ends.old).reads ≤ 2 ^ 62 }
     // Without a fault all was read, and the transcript of it written.
-    ensures ok { OnOk result.1 (AnswersAll (TellsBeside N.limit before) party result.0
+    ensures ok { OnOk result.1 (AnswersAll (TellsBeside N.limit session.entry.before) session.entry.party result.0
         (E.devices ends.old) (E.devices ends.new)) }
     // With one, a beginning of the transcript of some first pieces, whose calls were made.
-    ensures err { OnErr result.1 (StartsAll (TellsBeside N.limit before) party result.0
+    ensures err { OnErr result.1 (StartsAll (TellsBeside N.limit session.entry.before) session.entry.party result.0
         (E.devices ends.old) (E.devices ends.new)) }
     // Whatever the devices tell: its clients have made calls, and looked how long the history is.
-    ensures goes { Goes N.limit party result.0 }
+    ensures goes { Goes N.limit session.entry.party result.0 }
     ensures fault { IfErr result.1 (λ fault. Blames fault (E.devices ends.old) (E.devices ends.new)) }
     // Each read gives a byte at least.
     ensures long { result.1 ≡ Err SessionFault.TooLong
         → (input : List ℕ) → (E.devices ends.old).remaining ≡ Some input → most_reads ≤ length input }
     ensures same { E.names ends.new ≡ E.names ends.old }
 {
-    let mut session = OpenSession {
-        rt,
-        alloc,
-        tree,
-        party,
-        before,
-    };
-    let ended = answer_lines(alloc, ends, &mut session);
-    let OpenSession { party, .. } = session;
+    let mut session = session;
+    let ended = answer_lines(session.alloc, ends, &mut session);
+    let party = session.close();
     (party, ended)
 }

@@ -8,8 +8,8 @@ ghost use Rattle.ll_wire.specs.Entries.{IsEntry};
 use ll_seq::{Entry, History};
 use ll_wire::{is_entered, is_spelled};
 
-// Nothing happens. What a step and the types of an entry keep of it: it has a spelling.
-fn is_entry(entry: &Entry)
+/// Nothing happens. What a step and the types of an entry keep of it: it has a spelling.
+pub(crate) fn is_entry(entry: &Entry)
     requires { (state : State) × ((outcome_of state entry.now).0 ≡ entry.now.reply) }
     ensures { IsEntry entry.now }
 {

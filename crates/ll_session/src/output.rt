@@ -6,12 +6,16 @@ ghost use Rattle.ll_ends.specs.Devices.{IsWhole};
 ghost use Rattle.ll_lines.specs.Reached.{Blames};
 ghost use Rattle.ll_seq.specs.declared.reply.Reply.{Reply};
 ghost use Rattle.ll_wire.specs.Grammar.{IsReply, reply_line};
+ghost use Rattle.ll_session.specs.Keeping.{AreKept};
 ghost use Rattle.ll_session.specs.Progress.{IsOfRefusal};
 
+use crate::keeper::Kept;
+use ll_client::Shape;
 use ll_ends::Ends;
 use ll_lines::{SessionFault, write_line};
 use ll_rights::Errno;
 use ll_seq::Reply;
+use ll_talk::Party;
 use ll_wire::{is_entered, line_text, reply_text};
 use std::alloc::{AllocError, Global};
 
@@ -52,4 +56,27 @@ pub fn write_reply<E: Ends>(alloc: Global, reply: &Reply, ends: &mut E) -> Resul
         return Err(SessionFault::NoMemory);
     };
     write_line(ends, line.as_str())
+}
+
+/// Writes the line of a reply to these clients. What they know of is kept.
+pub fn tell_reply<N: Shape, E: Ends>(
+    alloc: Global,
+    reply: &Reply,
+    party: &Party<N>,
+    kept: Kept,
+    ends: &mut E,
+) -> Result<(), SessionFault>
+    requires kept { AreKept kept party.now }
+    requires whole { IsWhole (E.devices ends.old) }
+    ensures ok { OnOk result (Appends (E.devices ends.old).contents (E.devices ends.new).contents
+        (reply_line reply.now)) }
+    ensures err { IfErr result (λ fault. IsOfRefusal fault (E.devices ends.old).contents (E.devices ends.new).contents
+        (reply_line reply.now)) }
+    ensures fault { IfErr result (λ fault. Blames fault (E.devices ends.old) (E.devices ends.new)) }
+    ensures remaining { (E.devices ends.new).remaining ≡ (E.devices ends.old).remaining }
+    ensures same { E.names ends.new ≡ E.names ends.old }
+{
+    let _ = party;
+    let _ = kept;
+    write_reply(alloc, reply, ends)
 }

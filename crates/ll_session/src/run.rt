@@ -19,10 +19,11 @@ ghost use Rattle.ll_ends.specs.Devices.{IsWhole};
 ghost use Rattle.ll_lines.specs.Reached.{Blames};
 ghost use Rattle.ll_session.specs.Progress.{Closes, IsOfRefusal, RunsTo, StopsAt};
 
-use crate::answering::session;
+use crate::answering::{OpenSession, session};
 use crate::fault::RunFault;
+use crate::keeper::{Keeps, Kept, NoKeeper};
 use crate::opening::Shut;
-use crate::output::write_reply;
+use crate::output::tell_reply;
 use crate::setup::Setup;
 use crate::shared::Shared;
 use ll_client::{Account, Shape};
@@ -36,10 +37,11 @@ use std::marker::Brand;
 use std::sync::Wait;
 
 // Answers each line of the input, and closes the tree. Its history is left.
-fn run_session<N: Shape, R: Wait, E: Ends>(
+fn run_session<N: Shape, R: Wait, K: Keeps, E: Ends>(
     rt: &R,
     alloc: Global,
     shared: Shared<N>,
+    keeper: &K,
     before: u64,
     ends: &mut E,
 ) -> Result<History, SessionFault>
@@ -60,7 +62,16 @@ fn run_session<N: Shape, R: Wait, E: Ends>(
     ensures same { E.names ends.new ≡ E.names ends.old }
 {
     let Shared { tree, party } = shared;
-    let (party, ended) = session(rt, alloc, &tree, party, before, ends);
+    let open = OpenSession {
+        rt,
+        alloc,
+        tree: &tree,
+        keeper,
+        party,
+        before,
+        kept: Kept::UpTo(0),
+    };
+    let (party, ended) = session(open, ends);
     let history = Shared { tree, party }.close(rt);
     match ended {
         Ok(()) => Ok(history),
@@ -72,10 +83,11 @@ fn run_session<N: Shape, R: Wait, E: Ends>(
 }
 
 // Writes the line of the refusal that no session begins with, and closes the tree. Its history is left.
-pub(crate) fn tell_refusal<N: Shape, R: Wait, E: Ends>(
+pub(crate) fn tell_refusal<N: Shape, R: Wait, K: Keeps, E: Ends>(
     rt: &R,
     alloc: Global,
     shared: Shared<N>,
+    keeper: &K,
     reply: &Reply,
     ends: &mut E,
 ) -> Result<History, SessionFault>
@@ -93,18 +105,21 @@ pub(crate) fn tell_refusal<N: Shape, R: Wait, E: Ends>(
     ensures remaining { (E.devices ends.new).remaining ≡ (E.devices ends.old).remaining }
     ensures same { E.names ends.new ≡ E.names ends.old }
 {
-    let ended = write_reply(alloc, reply, ends);
-    let history = shared.close(rt);
+    let Shared { tree, mut party } = shared;
+    let kept = keeper.keep(rt, &tree, &mut party);
+    let ended = tell_reply(alloc, reply, &party, kept, ends);
+    let history = Shared { tree, party }.close(rt);
     ended?;
     Ok(history)
 }
 
 // The same, over a tree that this blank is of.
-fn run_in<N: Shape, R: Wait, E: Ends>(
+fn run_in<N: Shape, R: Wait, K: Keeps, E: Ends>(
     rt: &R,
     alloc: Global,
     blank: Blank<Account>,
     setup: Setup,
+    keeper: &K,
     ends: &mut E,
 ) -> Result<History, RunFault>
     requires named { blank ≡ N.table }
@@ -132,21 +147,23 @@ fn run_in<N: Shape, R: Wait, E: Ends>(
         return Err(RunFault::Session(SessionFault::NoMemory));
     };
     match shared.open(rt, setup) {
-        Ok(before) => Ok(run_session(rt, alloc, shared, before, ends)?),
-        Err(Shut::Refused(reply)) => Ok(tell_refusal(rt, alloc, shared, &reply, ends)?),
+        Ok(before) => Ok(run_session(rt, alloc, shared, keeper, before, ends)?),
+        Err(Shut::Refused(reply)) => { Ok(tell_refusal(rt, alloc, shared, keeper, &reply, ends)?) }
         Err(Shut::Stopped) => {
-            drop(shared.close(rt));
+            drop(shared.close_kept(rt, keeper));
             Err(RunFault::Opening)
         }
     }
 }
 
 /// Runs a script, as `run_script` does, over two devices, which count their calls and failures. Before each read, the
-/// replies to all lines that were read are written; a device that failed isn't called again.
-pub fn run_over<R: Wait, E: Ends>(
+/// replies to all lines that were read are written, and before that the keeper keeps their entries; a device that
+/// failed isn't called again.
+pub fn run_over<R: Wait, K: Keeps, E: Ends>(
     rt: &R,
     alloc: Global,
     setup: Setup,
+    keeper: &K,
     ends: &mut E,
 ) -> Result<History, RunFault>
     requires whole { IsWhole (E.devices ends.old) }
@@ -170,7 +187,7 @@ pub fn run_over<R: Wait, E: Ends>(
     ensures same { E.names ends.new ≡ E.names ends.old }
 {
     match Blank::new(alloc) {
-        Ok(blank) => run_in::<Brand, R, E>(rt, alloc, blank, setup, ends),
+        Ok(blank) => run_in::<Brand, R, K, E>(rt, alloc, blank, setup, keeper, ends),
         Err(_) => Err(RunFault::Session(SessionFault::NoMemory)),
     }
 }
@@ -203,6 +220,36 @@ pub fn run_script<H: Wait, R: Read, W: Write>(
     ensures long { result ≡ Err (RunFault.Session SessionFault.TooLong)
         → (input : List ℕ) → R.remaining reader.old ≡ Some input → most_reads ≤ length input }
 {
+    run_kept(rt, alloc, setup, &NoKeeper, reader, writer)
+}
+
+/// Runs a script, as `run_script` does. The keeper keeps each entry before the reply to it is written.
+pub fn run_kept<H: Wait, K: Keeps, R: Read, W: Write>(
+    rt: &H,
+    alloc: Global,
+    setup: Setup,
+    keeper: &K,
+    reader: &mut R,
+    writer: &mut W,
+) -> Result<History, RunFault>
+    // Where no fault is answered: what was read, what is left of the input, what was written, and the entries, are
+    // those of a run.
+    ensures transcript { IfOk result (λ history. IfSome (R.remaining reader.old) (λ input. (left : List ℕ)
+        × (R.remaining reader.new ≡ Some left)
+        × Writes (W.contents writer.old) (W.contents writer.new)
+        (λ text. Runs setup input left text history.entries))) }
+    // Whatever the reader and the writer tell: the entries are a legal history of the setup's tree, and each has a
+    // spelling.
+    ensures legal { IfOk result (λ history. IsLegal (start setup.rules setup.nodes) history.entries) }
+    ensures entries { IfOk result (λ history. All IsEntry history.entries) }
+    // With a fault, what was written is a beginning of such a text.
+    ensures beginning { OnErr result (IfSome (R.remaining reader.old) (λ input.
+        Writes (W.contents writer.old) (W.contents writer.new) (Begins setup input))) }
+    ensures fault { IfErr result (λ fault. MayEnd setup fault) }
+    // Each read gives a byte at least.
+    ensures long { result ≡ Err (RunFault.Session SessionFault.TooLong)
+        → (input : List ℕ) → R.remaining reader.old ≡ Some input → most_reads ≤ length input }
+{
     let mut ends = Pair {
         reader,
         writer,
@@ -212,5 +259,5 @@ pub fn run_script<H: Wait, R: Read, W: Write>(
         is_input_broken: false,
         is_output_broken: false,
     };
-    run_over(rt, alloc, setup, &mut ends)
+    run_over(rt, alloc, setup, keeper, &mut ends)
 }

@@ -4,6 +4,7 @@ ghost use Rattle.std.specs.Prelude.{◌≡◌, ℕ, ◌+◌, ◌≤◌, All, [],
 ghost use Rattle.ll_rights.specs.declared.limits.TheConstants.{TREE_CLIENTS};
 
 use crate::entries::are_entries;
+use crate::keeper::Keeps;
 use crate::setup::Setup;
 use ll_client::{Account, Shape};
 use ll_seq::History;
@@ -62,5 +63,16 @@ impl<N: Shape> Shared<N> {
         let history = party.close(rt, tree);
         are_entries(&history);
         history
+    }
+
+    /// The same, once the keeper has kept it.
+    pub fn close_kept<R: Wait, K: Keeps>(self, rt: &R, keeper: &K) -> History
+        ensures closed { (nodes : ℕ) → N.slots ≡ nodes + TREE_CLIENTS
+            → IsClosed N.rules nodes N.limit result.entries self.party }
+        ensures entries { All IsEntry result.entries }
+    {
+        let Shared { tree, mut party } = self;
+        let _ = keeper.keep(rt, &tree, &mut party);
+        Shared { tree, party }.close(rt)
     }
 }

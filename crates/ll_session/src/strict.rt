@@ -13,26 +13,28 @@ ghost use Rattle.ll_session.specs.StrictProgress.{AnswersTo, stop_at};
 
 use crate::answering::OpenSession;
 use crate::asking::is_end;
+use crate::keeper::Keeps;
 use crate::output::reply_line;
 use crate::stop::Stop;
 use ll_client::Shape;
 use ll_ends::Ends;
 use ll_lines::{Answers, Line, SessionFault, answer_lines};
 use ll_seq::Reply;
-use ll_talk::{NoGate, Party, Tree};
+use ll_talk::{NoGate, Party};
 use std::alloc::{AllocError, Global};
 use std::sync::Wait;
 
 /// A session under way that ends strictly: how many lines it has answered, and the reply that has ended it, if one has.
 #[derive(Drop)]
-struct StrictSession<'a, N: Shape, R: Wait> {
-    session: OpenSession<'a, N, R, NoGate>,
+struct StrictSession<'a, N: Shape, R: Wait, K: Keeps> {
+    session: OpenSession<'a, N, R, NoGate, K>,
     lines: u64,
     end: Option<Reply>,
 }
 
-impl<'a, N: Shape, R: Wait> Answers for StrictSession<'a, N, R> {
+impl<'a, N: Shape, R: Wait, K: Keeps> Answers for StrictSession<'a, N, R, K> {
     ghost use Rattle.std.specs.Prelude.{is_some};
+    ghost use Rattle.ll_session.specs.Keeping.{AreKept};
     ghost use Rattle.ll_session.specs.Progress.{StandsOn, stands, stands_on};
 
     ghost tells = { λ a piece line b.
@@ -46,6 +48,8 @@ impl<'a, N: Shape, R: Wait> Answers for StrictSession<'a, N, R> {
 
     ghost over = { λ strict. is_some strict.end };
 
+    ghost kept = { λ strict. AreKept strict.session.kept strict.session.party };
+
     fn answer(&mut self, line: &Line) -> Result<String, AllocError> {
         let reply = self.session.reply(line);
         let text = reply_line(self.session.alloc, &reply);
@@ -56,6 +60,10 @@ impl<'a, N: Shape, R: Wait> Answers for StrictSession<'a, N, R> {
             drop(reply);
         }
         text
+    }
+
+    fn settle(&mut self) {
+        self.session.keep();
     }
 
     fn is_over(&self) -> bool {
@@ -81,23 +89,18 @@ fn stop_at(lines: u64, end: Option<Reply>) -> Option<Stop>
 
 /// Answers each line that is read, as `session` does, up to the first whose reply ends a strict run. What ended it, if
 /// anything did. No line is called after that one, even if it was read with it.
-pub fn strict_session<N: Shape, R: Wait, E: Ends>(
-    rt: &R,
-    alloc: Global,
-    tree: &Tree<N, NoGate>,
-    party: Party<N>,
-    before: u64,
+pub fn strict_session<N: Shape, R: Wait, K: Keeps, E: Ends>(
+    session: OpenSession<'_, N, R, NoGate, K>,
     ends: &mut E,
 ) -> (Party<N>, Result<Option<Stop>, SessionFault>)
-    requires some { before < length party }
     requires whole { IsWhole (E.devices ends.old) }
     requires answered { (E.devices ends.old).owed ≡ 0 }
     requires reads { (E.devices ends.old).reads ≤ 2 ^ 62 }
-    ensures ok { IfOk result.1 (λ stop. AnswersTo (TellsStrictlyBeside N.limit before) party result.0 stop
-        (E.devices ends.old) (E.devices ends.new)) }
-    ensures err { OnErr result.1 ((end : Option Reply) × StartsAll (TellsStrictlyBeside N.limit before) (party, None)
-        (result.0, end) (E.devices ends.old) (E.devices ends.new)) }
-    ensures goes { Goes N.limit party result.0 }
+    ensures ok { IfOk result.1 (λ stop. AnswersTo (TellsStrictlyBeside N.limit session.entry.before)
+        session.entry.party result.0 stop (E.devices ends.old) (E.devices ends.new)) }
+    ensures err { OnErr result.1 ((end : Option Reply) × StartsAll (TellsStrictlyBeside N.limit session.entry.before)
+        (session.entry.party, None) (result.0, end) (E.devices ends.old) (E.devices ends.new)) }
+    ensures goes { Goes N.limit session.entry.party result.0 }
     ensures fault { IfErr result.1 (λ fault. Blames fault (E.devices ends.old) (E.devices ends.new)) }
     // Each read gives a byte at least.
     ensures long { result.1 ≡ Err SessionFault.TooLong
@@ -105,23 +108,17 @@ pub fn strict_session<N: Shape, R: Wait, E: Ends>(
     ensures same { E.names ends.new ≡ E.names ends.old }
 {
     let mut strict = StrictSession {
-        session: OpenSession {
-            rt,
-            alloc,
-            tree,
-            party,
-            before,
-        },
+        session,
         lines: 0,
         end: None,
     };
-    let ended = answer_lines(alloc, ends, &mut strict);
+    let ended = answer_lines(strict.session.alloc, ends, &mut strict);
     let StrictSession {
         session,
         lines,
         end,
     } = strict;
-    let OpenSession { party, .. } = session;
+    let party = session.close();
     match ended {
         Ok(()) => (party, Ok(stop_at(lines, end))),
         Err(fault) => {

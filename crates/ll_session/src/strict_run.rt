@@ -16,7 +16,9 @@ ghost use Rattle.ll_session.specs.Strict.{BeginsStrictly, RunsStrictly};
 ghost use Rattle.ll_session.specs.StrictProgress.{RunsStrictlyTo, StopsStrictlyAt};
 ghost use Rattle.ll_session.specs.declared.fault.RunFault.{RunFault};
 
+use crate::answering::OpenSession;
 use crate::fault::RunFault;
+use crate::keeper::{Keeps, Kept, NoKeeper};
 use crate::opening::Shut;
 use crate::run::tell_refusal;
 use crate::setup::Setup;
@@ -33,10 +35,11 @@ use std::marker::Brand;
 use std::sync::Wait;
 
 // Answers the lines of the input strictly, and closes the tree. Its history is left.
-fn run_strict_session<N: Shape, R: Wait, E: Ends>(
+fn run_strict_session<N: Shape, R: Wait, K: Keeps, E: Ends>(
     rt: &R,
     alloc: Global,
     shared: Shared<N>,
+    keeper: &K,
     before: u64,
     ends: &mut E,
 ) -> Result<StrictRun, SessionFault>
@@ -56,7 +59,16 @@ fn run_strict_session<N: Shape, R: Wait, E: Ends>(
     ensures same { E.names ends.new ≡ E.names ends.old }
 {
     let Shared { tree, party } = shared;
-    let (party, ended) = strict_session(rt, alloc, &tree, party, before, ends);
+    let open = OpenSession {
+        rt,
+        alloc,
+        tree: &tree,
+        keeper,
+        party,
+        before,
+        kept: Kept::UpTo(0),
+    };
+    let (party, ended) = strict_session(open, ends);
     let history = Shared { tree, party }.close(rt);
     match ended {
         Ok(stop) => Ok(StrictRun { history, stop }),
@@ -68,11 +80,12 @@ fn run_strict_session<N: Shape, R: Wait, E: Ends>(
 }
 
 // A strict run, over a tree that this blank is of.
-fn run_strict_in<N: Shape, R: Wait, E: Ends>(
+fn run_strict_in<N: Shape, R: Wait, K: Keeps, E: Ends>(
     rt: &R,
     alloc: Global,
     blank: Blank<Account>,
     setup: Setup,
+    keeper: &K,
     ends: &mut E,
 ) -> Result<StrictRun, RunFault>
     requires named { blank ≡ N.table }
@@ -98,24 +111,25 @@ fn run_strict_in<N: Shape, R: Wait, E: Ends>(
         return Err(RunFault::Session(SessionFault::NoMemory));
     };
     match shared.open(rt, setup) {
-        Ok(before) => Ok(run_strict_session(rt, alloc, shared, before, ends)?),
+        Ok(before) => Ok(run_strict_session(rt, alloc, shared, keeper, before, ends)?),
         Err(Shut::Refused(reply)) => {
-            let history = tell_refusal(rt, alloc, shared, &reply, ends)?;
+            let history = tell_refusal(rt, alloc, shared, keeper, &reply, ends)?;
             let stop = Some(Stop::AtOpening(reply));
             Ok(StrictRun { history, stop })
         }
         Err(Shut::Stopped) => {
-            drop(shared.close(rt));
+            drop(shared.close_kept(rt, keeper));
             Err(RunFault::Opening)
         }
     }
 }
 
 // A strict run over two devices.
-fn run_strict_over<R: Wait, E: Ends>(
+fn run_strict_over<R: Wait, K: Keeps, E: Ends>(
     rt: &R,
     alloc: Global,
     setup: Setup,
+    keeper: &K,
     ends: &mut E,
 ) -> Result<StrictRun, RunFault>
     requires whole { IsWhole (E.devices ends.old) }
@@ -134,7 +148,7 @@ fn run_strict_over<R: Wait, E: Ends>(
     ensures same { E.names ends.new ≡ E.names ends.old }
 {
     match Blank::new(alloc) {
-        Ok(blank) => run_strict_in::<Brand, R, E>(rt, alloc, blank, setup, ends),
+        Ok(blank) => run_strict_in::<Brand, R, K, E>(rt, alloc, blank, setup, keeper, ends),
         Err(_) => Err(RunFault::Session(SessionFault::NoMemory)),
     }
 }
@@ -165,6 +179,34 @@ pub fn run_strict<H: Wait, R: Read, W: Write>(
     ensures long { result ≡ Err (RunFault.Session SessionFault.TooLong)
         → (input : List ℕ) → R.remaining reader.old ≡ Some input → most_reads ≤ length input }
 {
+    run_strict_kept(rt, alloc, setup, &NoKeeper, reader, writer)
+}
+
+/// Runs a script strictly, as `run_strict` does. The keeper keeps each entry before the reply to it is written.
+pub fn run_strict_kept<H: Wait, K: Keeps, R: Read, W: Write>(
+    rt: &H,
+    alloc: Global,
+    setup: Setup,
+    keeper: &K,
+    reader: &mut R,
+    writer: &mut W,
+) -> Result<StrictRun, RunFault>
+    // Where no fault is answered: what was written, what ended the run, and the entries, are those of a strict run.
+    ensures transcript { IfOk result (λ run. IfSome (R.remaining reader.old) (λ input.
+        Writes (W.contents writer.old) (W.contents writer.new)
+        (λ text. RunsStrictly setup input text run.stop run.history.entries))) }
+    // Whatever the reader and the writer tell: the entries are a legal history of the setup's tree, and each has a
+    // spelling.
+    ensures legal { IfOk result (λ run. IsLegal (start setup.rules setup.nodes) run.history.entries) }
+    ensures entries { IfOk result (λ run. All IsEntry run.history.entries) }
+    // With a fault, what was written is a beginning of such a text.
+    ensures beginning { OnErr result (IfSome (R.remaining reader.old) (λ input.
+        Writes (W.contents writer.old) (W.contents writer.new) (BeginsStrictly setup input))) }
+    ensures fault { IfErr result (λ fault. MayEnd setup fault) }
+    // Each read gives a byte at least.
+    ensures long { result ≡ Err (RunFault.Session SessionFault.TooLong)
+        → (input : List ℕ) → R.remaining reader.old ≡ Some input → most_reads ≤ length input }
+{
     let mut ends = Pair {
         reader,
         writer,
@@ -174,5 +216,5 @@ pub fn run_strict<H: Wait, R: Read, W: Write>(
         is_input_broken: false,
         is_output_broken: false,
     };
-    run_strict_over(rt, alloc, setup, &mut ends)
+    run_strict_over(rt, alloc, setup, keeper, &mut ends)
 }

@@ -120,11 +120,11 @@ returns-in-Err-Stopped-clause-beginning g c =
 pub returns-in-Err-Stopped-clause-may : goal.returns-in-Err-Stopped-clause-may
 returns-in-Err-Stopped-clause-may g c =
     let e = at_last c.args.setup g.N.Shape.rules g.N.Shape.limit c.in-Some.shared.party c.open.new.self.party
-    c.close.result.entries
+    c.close_kept.result.entries
     (λ t. Opens c.args.setup stopped) (λ s t. t ≡ s) c.requires.rules c.requires.limit c.in-Some.ensures
     (subst (λ (shut : Shut). Leads g.N.Shape.rules c.args.setup.nodes g.N.Shape.limit c.in-Some.shared.party
     c.open.new.self.party (λ s t. s ≡ fresh c.args.setup → Opens c.args.setup (opening_at shut t)))
     c.in-Err-Stopped.field-0-is (c.in-Err-Stopped.ensures.err c.args.setup.nodes))
-    (closes_here g.N.Shape.rules c.args.setup.nodes g.N.Shape.limit c.open.new.self.party c.close.result.entries
-    (c.close.ensures.closed c.args.setup.nodes c.requires.slots)) in
+    (closes_here g.N.Shape.rules c.args.setup.nodes g.N.Shape.limit c.open.new.self.party c.close_kept.result.entries
+    (c.close_kept.ensures.closed c.args.setup.nodes c.requires.slots)) in
     e.2

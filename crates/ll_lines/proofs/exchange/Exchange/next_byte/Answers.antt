@@ -1,6 +1,5 @@
 use Rattle.std.proofs.Common.{◌≡◌, ◌∙◌, ◌+◌, ◌++◌, [], ap, refl, sym, drop, take}
 use Rattle.ll_lines.proofs.LeftToRead.{next_of, none_after}
-use Rattle.ll_lines.proofs.Telling.{told_kept}
 use Rattle.ll_lines.proofs.exchange.Exchange.next_byte.Goals as goal
 
 pub returns-in-Some-clause-byte : goal.returns-in-Some-clause-byte
@@ -17,12 +16,6 @@ returns-in-Some-clause-byte g c left is =
         ended = λ e. l.ended (sym (ap (λ r. r.is_ended) c.self.view_is) ∙ e);
       },
     )
-
-pub returns-in-Some-clause-tells : goal.returns-in-Some-clause-tells
-returns-in-Some-clause-tells g c first text told =
-    told_kept c.fill.new.self.waiting c.self.inside.waiting.items (g.E.Ends.devices c.fill.new.ends).contents
-    (g.E.Ends.devices c.fill.new.ends).contents (ap (λ r. r.waiting) c.self.view_is) refl first text
-    (c.in_ok-fill.ensures.tells first text told)
 
 pub returns-in-None-clause-byte : goal.returns-in-None-clause-byte
 returns-in-None-clause-byte g c left is =

@@ -1,62 +1,17 @@
-use Rattle.std.proofs.Common.{◌<◌, ◌∙◌, inr, arith}
-use Rattle.ll_lines.specs.Cutting.{IsLeft, most_left}
 use Rattle.ll_lines.proofs.Advance.{on_err}
-use Rattle.ll_lines.proofs.Cuts.{byte_more, byte_last, no_byte}
-use Rattle.ll_lines.proofs.LeftToRead.{counts_more, counts_still}
-use Rattle.ll_lines.proofs.Telling.{byte_owes, calls_more}
+use Rattle.ll_lines.proofs.Telling.{kept_front, on_ok, told_kept}
 use Rattle.ll_lines.proofs.exchange.Exchange.read_line.Goals as goal
 
-pub returns-then-byte-eq10-clause-line : goal.returns-then-byte-eq10-clause-line
-returns-then-byte-eq10-clause-line g c left is =
-    byte_last _ (IsLeft c.next_byte.new.self (g.E.Ends.devices c.next_byte.new.ends).remaining) _
-    c.in_ok-byte.ensures.byte
-    c.loop-byte.line _ left c.in-Some.byte c.in-Some.is c.if-byte-eq10.true c.in-Ok.ensures
-    (c.loop-byte.invariant.line left is)
-
-pub loop-byte-preserved : goal.loop-byte-preserved
-loop-byte-preserved g c =
+pub returns-clause-tells : goal.returns-clause-tells
+returns-clause-tells g c =
     let d = g.E.Ends.devices in
-    let i = c.loop-byte.invariant in
-    let taken : most_left c.next_byte.new.self < most_left c.loop-byte.self =
-    rw c.in-Some.is at c.in_ok-byte.ensures.fewer in
-    let sooner : most_left c.next_byte.new.self < most_left c.args.self.now = omega (arith, taken, i.fewer) in record {
-      ready = byte_owes c.next_byte.new.self (d c.next_byte.new.ends) c.in-Some.byte c.if-byte-eq10.false
-          (rw c.in-Some.is at c.in_ok-byte.ensures.ready);
-      line = λ left is. byte_more _ (IsLeft c.next_byte.new.self (d c.next_byte.new.ends).remaining) _
-          c.in_ok-byte.ensures.byte c.loop-byte.line _ left c.in-Some.byte c.in-Some.is c.if-byte-eq10.false
-          c.in-Ok.ensures (i.line left is);
-      some = inr sooner;
-      fewer = omega (arith, sooner);
-      tells = λ first text told. c.in_ok-byte.ensures.tells first text (i.tells first text told);
-      counted = counts_more c.args.self.now c.loop-byte.self c.next_byte.new.self _ _ _ i.counted
-          c.in_ok-byte.ensures.counted;
-      calls = calls_more c.args.self.now c.loop-byte.self c.next_byte.new.self (d c.args.ends.now)
-          (d c.loop-byte.ends) (d c.next_byte.new.ends) i.calls c.in_ok-byte.ensures.calls;
-      same = c.in_ok-byte.ensures.same ∙ i.same;
-    }
+    on_ok c.cut_line.result (λ first text told. told_kept c.fall_silent.new.self.waiting c.cut_line.new.self.waiting
+    (d c.fall_silent.new.ends).contents (d c.cut_line.new.ends).contents c.cut_line.ensures.waiting
+    c.cut_line.ensures.contents first text (c.in_ok-fall_silent.ensures.tells first text told))
 
-pub returns-clause-line : goal.returns-clause-line
-returns-clause-line g c left is =
-    no_byte _ (IsLeft c.next_byte.new.self (g.E.Ends.devices c.next_byte.new.ends).remaining) _
-    c.in_ok-byte.ensures.byte
-    c.loop-byte.line c.loop-byte.line left c.is_empty.result c.in_default.is c.is_empty.ensures
-    (c.loop-byte.invariant.line left is)
-
-pub returns-in_err-byte-clause-front : goal.returns-in_err-byte-clause-front
-returns-in_err-byte-clause-front g c = on_err c.from_residual.result
-    (λ first text told. c.in_err-byte.ensures.front first text (c.loop-byte.invariant.tells first text told))
-
-pub returns-in_default-push-clause-front : goal.returns-in_default-push-clause-front
-returns-in_default-push-clause-front g c first text told =
-    c.starve.ensures.front first text (c.in_ok-byte.ensures.tells first text
-    (c.loop-byte.invariant.tells first text told))
-
-pub returns-in_default-push-clause-counted : goal.returns-in_default-push-clause-counted
-returns-in_default-push-clause-counted g c =
+pub returns-clause-front : goal.returns-clause-front
+returns-clause-front g c =
     let d = g.E.Ends.devices in
-    let counted = counts_more c.args.self.now c.loop-byte.self c.next_byte.new.self (d c.args.ends.now).remaining
-    (d c.loop-byte.ends).remaining (d c.next_byte.new.ends).remaining c.loop-byte.invariant.counted
-    c.in_ok-byte.ensures.counted in
-    counts_still c.args.self.now c.next_byte.new.self c.starve.new.self (d c.args.ends.now).remaining
-    (d c.next_byte.new.ends).remaining (d c.starve.new.ends).remaining counted c.starve.ensures.remaining
-    c.starve.ensures.reads
+    on_err c.cut_line.result (λ first text told. kept_front c.fall_silent.new.self.waiting
+    (d c.fall_silent.new.ends).contents (d c.cut_line.new.ends).contents c.cut_line.ensures.contents first text
+    (c.in_ok-fall_silent.ensures.tells first text told))

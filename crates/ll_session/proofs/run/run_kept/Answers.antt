@@ -1,6 +1,6 @@
 use Rattle.std.proofs.Common.{rules}
 use Rattle.ll_session.proofs.Endings.{of_err}
-use Rattle.ll_session.proofs.run.run_script.Goals as goal
+use Rattle.ll_session.proofs.run.run_kept.Goals as goal
 
 pub returns-clause-beginning : goal.returns-clause-beginning
 returns-clause-beginning g c =

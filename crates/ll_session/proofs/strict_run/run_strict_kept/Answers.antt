@@ -1,6 +1,6 @@
 use Rattle.std.proofs.Common.{rules}
 use Rattle.ll_session.proofs.StrictEndings.{began, ran}
-use Rattle.ll_session.proofs.strict_run.run_strict.Goals as goal
+use Rattle.ll_session.proofs.strict_run.run_strict_kept.Goals as goal
 
 pub returns-clause-transcript : goal.returns-clause-transcript
 returns-clause-transcript g c =

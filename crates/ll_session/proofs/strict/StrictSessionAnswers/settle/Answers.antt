@@ -1,0 +1,19 @@
+use Rattle.std.proofs.Common.{List, subst, sym, ◌∙◌}
+use Rattle.ll_client.specs.Entries.{Knows}
+use Rattle.ll_session.specs.Strict.{TellsStrictlyBeside}
+use Rattle.ll_session.proofs.strict.StrictSessionAnswers.settle.Goals as goal
+use Rattle.ll_talk.specs.Talk.{Goes, nowhere}
+
+pub returns-clause-tells : goal.returns-clause-tells
+returns-clause-tells g c a piece line told = (
+  subst (λ (ks : List Knows). TellsStrictlyBeside g.N.Shape.limit a.session.before (a.session.party, a.end) piece line
+      (ks, c.args.self.now.end)) (sym c.keep.ensures.party) told.0,
+  c.keep.ensures.before ∙ told.1,
+  told.2,
+)
+
+pub returns-clause-goes : goal.returns-clause-goes
+returns-clause-goes g c = (
+  subst (Goes g.N.Shape.limit c.args.self.now.session.party) (sym c.keep.ensures.party) nowhere,
+  c.keep.ensures.before,
+)

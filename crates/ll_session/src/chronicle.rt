@@ -1,0 +1,185 @@
+//! A history's file, written while the history grows.
+
+ghost use Rattle.std.specs.Prelude.{◌≡◌, OnErr, OnOk, false, true, string_bytes};
+ghost use Rattle.std.specs.Io.KnownBytes.{Appends};
+ghost use Rattle.ll_wire.specs.Writing.{AppendsFront};
+ghost use Rattle.ll_session.specs.Keeping.{AreKept, kept_of};
+
+use crate::keeper::{Keeps, Kept};
+use crate::page::Page;
+use ll_client::Shape;
+use ll_ends::{Broken, Pair, write_out};
+use ll_talk::{Gate, Party, Tree};
+use std::alloc::Global;
+use std::io::{Write, empty};
+use std::sync::{Mutex, Wait};
+
+/// A device to which the lines of entries are written, page after page.
+#[derive(Drop)]
+pub struct Pages<W> {
+    pub writer: W,
+    pub page: Page,
+    pub is_broken: bool,
+}
+
+/// A device to which a history's entries are written as they are made, each in its line. It is shared by all who make
+/// entries. It isn't called again once it has failed, nor once memory was wanted for a line.
+#[derive(Drop)]
+pub struct Chronicle<W> {
+    pages: Mutex<Pages<W>>,
+}
+
+// Writes the whole text. No failure is tried again.
+fn write_text<W: Write>(writer: &mut W, text: &str) -> Result<(), Broken>
+    ensures ok { OnOk result (Appends (W.contents writer.old) (W.contents writer.new) text.now) }
+    ensures err { OnErr result (AppendsFront (W.contents writer.old) (W.contents writer.new) text.now) }
+{
+    let mut nothing = empty();
+    let mut ends = Pair {
+        reader: &mut nothing,
+        writer,
+        reads: 0,
+        owed: 0,
+        is_answering: false,
+        is_input_broken: false,
+        is_output_broken: false,
+    };
+    write_out(&mut ends, text.as_bytes())
+}
+
+impl<W: Write> Pages<W> {
+    ghost use Rattle.std.specs.Prelude.{List, ℕ, IsTrue, ◌<◌, ◌≤◌, length};
+    ghost use Rattle.ll_seq.specs.declared.reply.Entry.{Entry};
+    ghost use Rattle.ll_talk.specs.Talk.{seen_by};
+    ghost use Rattle.ll_session.specs.Keeping.{Turns};
+
+    // How far the history is kept.
+    fn kept(&self) -> Kept
+        ensures { result ≡ kept_of self.now }
+    {
+        if self.is_broken {
+            return Kept::Nowhere;
+        }
+        Kept::UpTo(self.page.first)
+    }
+
+    // Writes the page. What is counted as written rises only where all of it was.
+    fn write_page(&mut self)
+        requires { self.old.is_broken ≡ false }
+        ensures ok { self.new.is_broken ≡ false → Appends (W.contents self.old.writer) (W.contents self.new.writer)
+            (string_bytes self.old.page.text) }
+        ensures first { self.new.is_broken ≡ false → self.new.page.first ≡ self.old.page.next }
+        ensures err { self.new.is_broken ≡ true → AppendsFront (W.contents self.old.writer)
+            (W.contents self.new.writer) (string_bytes self.old.page.text) }
+        ensures stays { self.new.is_broken ≡ true → self.new.page.first ≡ self.old.page.first }
+        ensures total { self.new.page.total ≡ self.old.page.total }
+    {
+        match write_text(&mut self.writer, self.page.text.as_str()) {
+            Ok(()) => self.page.first = self.page.next,
+            Err(_) => self.is_broken = true,
+        }
+    }
+
+    // Reads the next page of the tree's history, and writes it. Whether it was the last, or can't be written.
+    fn turn<N: Shape, R: Wait, G: Gate<N>>(
+        &mut self,
+        rt: &R,
+        tree: &Tree<N, G>,
+        party: &mut Party<N>,
+    ) -> bool
+        requires whole { self.old.is_broken ≡ false }
+        requires some { 0 < length party.old }
+        ensures turns { (history : List Entry) × (seen_by party.old ≤ length history)
+            × Turns W.contents self.old history self.new }
+        ensures kept { IsTrue result → AreKept (kept_of self.new) party.old }
+        ensures whole { result ≡ false → self.new.is_broken ≡ false }
+        ensures same { party.new ≡ party.old }
+    {
+        party.read_history(rt, tree, &mut self.page);
+        if self.page.is_starved {
+            self.is_broken = true;
+            return true;
+        }
+        self.write_page();
+        if self.page.first < self.page.total {
+            return self.is_broken;
+        }
+        true
+    }
+
+    // Writes all entries that one of these clients knows of, page after page.
+    fn write_up<N: Shape, R: Wait, G: Gate<N>>(
+        &mut self,
+        rt: &R,
+        tree: &Tree<N, G>,
+        party: &mut Party<N>,
+    )
+        ensures kept { AreKept (kept_of self.new) party.old }
+        ensures same { party.new ≡ party.old }
+    {
+        if self.is_broken {
+            return;
+        }
+        if party.len() == 0 {
+            return;
+        }
+        for _ in rt.forever() {
+            if self.turn(rt, tree, party) {
+                return;
+            }
+        }
+        unreachable!()
+    }
+
+    // The same. How far the history is kept then.
+    fn keep<N: Shape, R: Wait, G: Gate<N>>(
+        &mut self,
+        rt: &R,
+        tree: &Tree<N, G>,
+        party: &mut Party<N>,
+    ) -> Kept
+        ensures kept { AreKept result party.old }
+        ensures is { result ≡ kept_of self.new }
+        ensures same { party.new ≡ party.old }
+    {
+        self.write_up(rt, tree, party);
+        self.kept()
+    }
+}
+
+impl<W: Write> Chronicle<W> {
+    /// A chronicle without entries. Its header is written already.
+    pub fn new(alloc: Global, writer: W) -> Chronicle<W> {
+        Chronicle {
+            pages: Mutex::new(Pages {
+                writer,
+                page: Page::new(alloc),
+                is_broken: false,
+            }),
+        }
+    }
+
+    /// The device, and whether it failed, or memory was wanted.
+    pub fn into_parts(self) -> (W, bool) {
+        let Chronicle { pages } = self;
+        let Pages {
+            writer,
+            is_broken,
+            ..
+        } = pages.into_inner();
+        (writer, is_broken)
+    }
+}
+
+impl<W: Write> Keeps for Chronicle<W> {
+    fn keep<N: Shape, R: Wait, G: Gate<N>>(
+        &self,
+        rt: &R,
+        tree: &Tree<N, G>,
+        party: &mut Party<N>,
+    ) -> Kept {
+        let mut guard = self.pages.lock(rt);
+        let pages = &mut *guard;
+        pages.keep(rt, tree, party)
+    }
+}
