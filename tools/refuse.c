@@ -7,15 +7,22 @@
    accept            connections that come: the one that is refused is closed
    socket, option, bind, listen, thread
                      what makes a socket, sets an option of one, binds one, listens at one, or starts a thread
+   open, sync, rename, remove
+                     what opens or makes a file, has the disk take it, renames it, or removes it
 
    A read or a reception then gives, and a write or a sending takes, 40 bytes at most. The file REFUSE_TOLD has the
-   number of these calls so far, as an unsigned long; it stays right however the program ends. */
+   number of these calls so far, as an unsigned long; it stays right however the program ends.
+   REFUSE_ERROR is the error's number, if it isn't to be the usual one; REFUSE_BY is a signal that ends the program in
+   place of an error. */
 #define _GNU_SOURCE
 #include <dlfcn.h>
 #include <errno.h>
 #include <fcntl.h>
 #include <pthread.h>
+#include <signal.h>
+#include <stdarg.h>
 #include <stdatomic.h>
+#include <stdio.h>
 #include <stdlib.h>
 #include <string.h>
 #include <sys/mman.h>
@@ -28,8 +35,14 @@
 static atomic_ulong alone;
 static atomic_ulong *asked = &alone;
 static unsigned long which;
+static int instead, by;
 /* Nothing is counted before the program itself begins. */
 static const char *meant = "";
+
+static int told_number(const char *name) {
+    const char *number = getenv(name);
+    return number ? atoi(number) : 0;
+}
 
 __attribute__((constructor)) static void begin(void) {
     const char *number = getenv("REFUSE"), *path = getenv("REFUSE_TOLD"), *what = getenv("REFUSE_WHAT");
@@ -40,6 +53,8 @@ __attribute__((constructor)) static void begin(void) {
     }
     if (file >= 0) close(file);
     which = number ? strtoul(number, NULL, 10) : 0;
+    instead = told_number("REFUSE_ERROR");
+    by = told_number("REFUSE_BY");
     meant = what ? what : "memory";
 }
 
@@ -47,10 +62,17 @@ static int is_meant(const char *what) { return strcmp(meant, what) == 0; }
 
 static int is_refused(void) { return atomic_fetch_add(asked, 1) + 1 == which; }
 
+/* Refuses this call by the error, or by what is wanted in its stead. */
+static int refuse(int error) {
+    if (by) kill(getpid(), by), pause();
+    errno = instead ? instead : error;
+    return -1;
+}
+
 /* Whether this call is the one; then errno is set so. */
 static int fails(const char *what, int error) {
     if (!is_meant(what) || !is_refused()) return 0;
-    errno = error;
+    refuse(error);
     return 1;
 }
 
@@ -84,16 +106,14 @@ ssize_t read(int file, void *bytes, size_t count) {
     NEXT(read);
     if (!is_transfer(file, "read", "recv")) return next(file, bytes, count);
     if (!is_refused()) return next(file, bytes, piece(count));
-    errno = is_meant("read") ? EIO : ECONNRESET;
-    return -1;
+    return refuse(is_meant("read") ? EIO : ECONNRESET);
 }
 
 ssize_t write(int file, const void *bytes, size_t count) {
     NEXT(write);
     if (!is_transfer(file, "write", "send")) return next(file, bytes, count);
     if (!is_refused()) return next(file, bytes, piece(count));
-    errno = is_meant("write") ? EIO : EPIPE;
-    return -1;
+    return refuse(is_meant("write") ? EIO : EPIPE);
 }
 
 ssize_t recv(int file, void *bytes, size_t count, int flags) {
@@ -142,4 +162,28 @@ int listen(int file, int most) {
 int pthread_create(pthread_t *thread, const pthread_attr_t *how, void *(*run)(void *), void *with) {
     NEXT(pthread_create);
     return fails("thread", EAGAIN) ? EAGAIN : next(thread, how, run, with);
+}
+
+int open(const char *path, int flags, ...) {
+    NEXT(open);
+    va_list more;
+    va_start(more, flags);
+    mode_t mode = flags & (O_CREAT | O_TMPFILE) ? va_arg(more, mode_t) : 0;
+    va_end(more);
+    return fails("open", EACCES) ? -1 : next(path, flags, mode);
+}
+
+int fsync(int file) {
+    NEXT(fsync);
+    return fails("sync", EIO) ? -1 : next(file);
+}
+
+int rename(const char *from, const char *to) {
+    NEXT(rename);
+    return fails("rename", EACCES) ? -1 : next(from, to);
+}
+
+int unlink(const char *path) {
+    NEXT(unlink);
+    return fails("remove", EACCES) ? -1 : next(path);
 }

@@ -26,8 +26,8 @@ class Refusing:
         compiler = ["cc", "-shared", "-fPIC", "-O1", "-o", self.library, TOP / "tools/refuse.c", "-ldl"]
         subprocess.run(compiler, check=True)
 
-    def env(self, what, which):
-        more = {"LD_PRELOAD": str(self.library), "REFUSE_WHAT": what}
+    def env(self, what, which, error=0):
+        more = {"LD_PRELOAD": str(self.library), "REFUSE_WHAT": what, "REFUSE_ERROR": str(error)}
         return {**os.environ, **more, "REFUSE": str(which), "REFUSE_TOLD": str(self.told)}
 
     def count(self):
@@ -155,10 +155,15 @@ class Serving:
         self.at_once = connections if are_together else 1
         self.options = {"workers": self.at_once, "connections": connections, "save": self.saved, **options}
 
-    def run(self, what, which=0):
-        """How it ends where the call of this kind and number is refused."""
+    def drafts(self):
+        return sorted(self.saved.parent.glob(f"{self.saved.name}.part*"))
+
+    def run(self, what, which=0, error=0):
+        """How it ends where the call of this kind and number is refused, by this error if it isn't the usual one."""
+        for it in self.drafts():
+            it.unlink()
         self.saved.unlink(missing_ok=True)
-        env = self.refusing.env(what, which)
+        env = self.refusing.env(what, which, error)
         with Server(self.program, env=env, longest=LONGEST, **self.options) as server:
             speak = lambda number: talk(server.port, self.way, [line for line, _ in self.lines(number)])
             with ThreadPoolExecutor(self.at_once) as pool:

@@ -30,12 +30,13 @@ class Server:
     """The program, serving on a port that was free. What it starts is of its process group. Where seconds are told, it
     is killed after so many."""
 
-    def __init__(self, program, port=None, env=None, longest=None, **options):
+    def __init__(self, program, port=None, env=None, longest=None, preexec_fn=None, **options):
         self.port = port or free_port()
         words = [program, "serve", f"--port={self.port}"]
         words += [f"--{name}" if value is True else f"--{name}={value}" for name, value in options.items()]
         pipes = {"stdin": subprocess.DEVNULL, "stdout": subprocess.PIPE, "stderr": subprocess.PIPE}
-        self.child = subprocess.Popen(words, **pipes, text=True, start_new_session=True, env=env)
+        how = {"text": True, "start_new_session": True, "env": env, "preexec_fn": preexec_fn}
+        self.child = subprocess.Popen(words, **pipes, **how)
         self.watch = threading.Timer(longest, self.child.kill) if longest else None
         if self.watch:
             self.watch.start()

@@ -1,103 +1,123 @@
 //! Saved histories and pictures: new files.
 
-ghost use Rattle.std.specs.Prelude.{◌≡◌, ℕ, List, Option, None, IfOk};
-ghost use Rattle.ll_files.specs.Sources.{Starts};
+ghost use Rattle.std.specs.Prelude.{None};
 
-use std::fs::File;
+use crate::draft::Draft;
+use ll_ends::Destination;
+use std::alloc::Global;
 use std::io;
-use std::io::Write;
-use std::marker::Model;
+use std::io::{Error, Write};
+use std::rt::HostRuntime;
 
-/// Where files are made.
-pub trait Places {
-    type Output: Write + Drop;
-
-    /// What stands in the file of a name as it is made, before anything is written, where that is known.
-    ghost blanks: { Self → List ℕ → Option (List ℕ) };
-
-    /// Makes the file of this name, or empties it where it is there.
-    fn make(&self, name: &str) -> io::Result<Self::Output>
-        ensures { IfOk result (λ output. Starts (blanks self.now name.now) (Self.Output.contents output)) };
-}
-
-// What stands in a file, no contract says.
-impl Places for HostRuntime {
-    type Output = File;
-
-    ghost blanks = { λ runtime name. None };
-
-    fn make(&self, name: &str) -> io::Result<File> {
-        File::create(self, name)
-    }
-}
-
-/// A file that its first write makes, or empties where it is there.
+/// The file of a name, which is made, or replaced where it is there.
 #[derive(Drop)]
-pub struct NewFile<'a, P: Places> {
-    places: &'a P,
+pub struct NewFile<'a> {
+    rt: &'a HostRuntime,
     name: &'a str,
-    output: Option<P::Output>,
-    trouble: Option<io::Error>,
+    what: &'a str,
+    is_telling: bool,
+    record: Option<String>,
+    trouble: Option<Error>,
 }
 
-// What stands in the file of this name, where that is known. Before the first write that is what it is made with.
-impl<'a, P: Places> Model for NewFile<'a, P> {
-    ghost use Rattle.std.specs.Prelude.{ℕ, List, Option};
-    ghost use Rattle.std.specs.Option.{option_map_or};
-
-    ghost Value = { Option (List ℕ) };
-
-    ghost view = { λ file. option_map_or P.Output.contents file.output (P.blanks file.places.now file.name.now) };
-}
-
-impl<'a, P: Places> NewFile<'a, P> {
-    pub fn new(places: &'a P, name: &'a str) -> Self
-        ensures { result ≡ P.blanks places.now name.now }
-    {
+impl<'a> NewFile<'a> {
+    /// Makes nothing yet. What stands in the file is to be this, as a history. Where somebody waits, it is told at once
+    /// on standard error that there is no record.
+    pub fn new(rt: &'a HostRuntime, name: &'a str, what: &'a str, is_telling: bool) -> NewFile<'a> {
         NewFile {
-            places,
+            rt,
             name,
-            output: None,
+            what,
+            is_telling,
+            record: None,
             trouble: None,
         }
     }
 
+    /// Returns the file's name.
     pub fn name(&self) -> &'a str {
         self.name
     }
 
-    /// What the device told where the newest write failed, or the making before it.
-    pub fn trouble(&self) -> Option<io::Error> {
+    /// Returns what stands in the file.
+    pub fn what(&self) -> &'a str {
+        self.what
+    }
+
+    /// Returns the path of the record that stays beside it, if one does.
+    pub fn record_path(&self) -> Option<&str> {
+        match &self.record {
+            Some(path) => Some(path.as_str()),
+            None => None,
+        }
+    }
+
+    /// Returns what the system told where the file couldn't be made, written or replaced.
+    pub fn trouble(&self) -> Option<Error> {
         self.trouble
+    }
+
+    // Tells that nothing is kept before the end.
+    fn tell(&self, error: Error) {
+        if self.is_telling {
+            let name = self.name;
+            let _ = eprintln!(self.rt; "no record is kept beside {name}: {error}");
+        }
     }
 }
 
-impl<P: Places> Write for NewFile<'_, P> {
-    ghost contents = { λ file. file };
+// Where this draft stands, unless memory is wanted for that.
+fn path_of(alloc: Global, made: &Option<Draft<'_>>) -> Option<String> {
+    match made {
+        Some(draft) => String::from_str(alloc, draft.path()?).ok(),
+        None => None,
+    }
+}
 
-    fn write(&mut self, buf: &[u8]) -> io::Result<usize> {
-        let told = match &mut self.output {
-            Some(output) => output.write(buf),
-            None => match self.places.make(self.name) {
-                Ok(mut output) => {
-                    let first = output.write(buf);
-                    self.output = Some(output);
-                    first
-                }
-                Err(error) => Err(error),
-            },
-        };
-        self.trouble = match &told {
-            Ok(_) => None,
-            Err(error) => Some(*error),
-        };
-        told
+// What stands in a file, no contract says.
+impl<'a> Destination for NewFile<'a> {
+    type Draft = Draft<'a>;
+
+    ghost contents = { λ file. None };
+
+    ghost blank = { λ file. None };
+
+    fn draft(&mut self) -> io::Result<Draft<'a>> {
+        let made = Draft::new(self.rt, self.name);
+        if let Err(error) = &made {
+            self.trouble = Some(*error);
+        }
+        made
     }
 
-    fn flush(&mut self) -> io::Result<()> {
-        match &mut self.output {
-            Some(output) => output.flush(),
-            None => Ok(()),
+    fn record(&mut self, head: &[u8]) -> Option<Draft<'a>> {
+        match Draft::record(self.rt, self.name, head) {
+            Ok(made) => {
+                self.record = path_of(self.rt.alloc(), &made);
+                made
+            }
+            Err(error) => {
+                self.tell(error);
+                None
+            }
+        }
+    }
+
+    fn put(&mut self, draft: Draft<'a>) -> io::Result<()> {
+        let put = draft.put();
+        if let Err(error) = &put {
+            draft.remove();
+            self.trouble = Some(*error);
+        }
+        put
+    }
+
+    fn remove(&mut self, draft: Draft<'a>) {
+        draft.remove();
+        if draft.is_record() {
+            self.record = None;
+        } else if let Some(error) = draft.trouble() {
+            self.trouble = Some(error);
         }
     }
 }

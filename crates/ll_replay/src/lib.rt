@@ -4,5 +4,6 @@
 mod schedules;
 
 pub use schedules::{
-    draw_over, draw_schedule, explain_schedule, perform_over, perform_schedule, setup_by, window_by,
+    draw_in, draw_over, draw_schedule, explain_schedule, perform_over, perform_schedule, setup_by,
+    window_by,
 };

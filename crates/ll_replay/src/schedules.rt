@@ -18,7 +18,7 @@ ghost use Rattle.ll_wire.specs.Pieces.{pieces};
 ghost use Rattle.ll_wire.specs.Writing.{AppendsFront};
 
 use ll_drawing::{Window, draw, explain};
-use ll_ends::{Ends, Pair, write_out};
+use ll_ends::{Destination, Ends, Pair, write_out};
 use ll_options::ScheduleOptions;
 use ll_rights::Abi;
 use ll_runs::Failure;
@@ -162,6 +162,33 @@ pub fn draw_schedule<W: Write>(
         is_output_broken: false,
     };
     draw_over(alloc, setup, window, schedule, &mut ends)
+}
+
+/// Draws what these lines of a schedule ask for, and has the picture alone stand in the destination. With a failure,
+/// what stood there stays.
+pub fn draw_in<D: Destination>(
+    alloc: Global,
+    setup: WorldSetup,
+    window: Window,
+    schedule: &[u8],
+    destination: &mut D,
+) -> Result<(), Failure>
+    ensures drawn { OnOk result ((text : List ℕ) × IsPicture (drawn_of window (length (pieces schedule.now))) text
+        × Appends (D.blank destination.old) (D.contents destination.new) text) }
+    ensures kept { OnErr result (D.contents destination.new ≡ D.contents destination.old) }
+    ensures failure { IfErr result IsOfSaving }
+{
+    let Ok(mut draft) = destination.draft() else {
+        return Err(Failure::File);
+    };
+    if let Err(failure) = draw_schedule(alloc, setup, window, schedule, &mut draft) {
+        destination.remove(draft);
+        return Err(failure);
+    }
+    match destination.put(draft) {
+        Ok(()) => Ok(()),
+        Err(_) => Err(Failure::File),
+    }
 }
 
 /// Why the steps of a schedule that weren't made couldn't be made, a line each, and which walks are under way at the

@@ -67,39 +67,40 @@ set_by_plan options text told plan (Ok setup) known some is nodes history by =
     go (Some file) e = (plan, is, by)
 
 -- no file is named to save in
-pub not_saved : (options : RunOptions) (setup : Setup) (entries : List Entry) (contents : Option (List ℕ))
-    → is_some options.save ≡ false → IsSaved (order_in options).save setup entries contents contents
-not_saved options setup entries contents none = go options.save none
+pub not_saved : (options : RunOptions) (setup : Setup) (entries : List Entry) (blank old new : Option (List ℕ))
+    → is_some options.save ≡ false → new ≡ old → IsSaved (order_in options).save setup entries blank old new
+not_saved options setup entries blank old new none same = go options.save none
   where
     go : (file : Option (Bor (List ℕ))) → is_some file ≡ false
-        → IsSaved (option_map (λ (t : Bor (List ℕ)). t.now) file) setup entries contents contents
-    go None e = refl
+        → IsSaved (option_map (λ (t : Bor (List ℕ)). t.now) file) setup entries blank old new
+    go None e = same
     go (Some file) e = absurd cc
 
 -- one is
-pub is_saved : (options : RunOptions) (setup : Setup) (entries : List Entry) (old new : Option (List ℕ)) (h : Header)
-    → is_some options.save ≡ true → h ≡ header_of setup → Appends old new (saved_text h entries)
-    → IsSaved (order_in options).save setup entries old new
-is_saved options setup entries old new h some is saved = go options.save some
+pub is_saved : (options : RunOptions) (setup : Setup) (entries : List Entry) (blank old new : Option (List ℕ))
+    (h : Header) → is_some options.save ≡ true → h ≡ header_of setup → Appends blank new (saved_text h entries)
+    → IsSaved (order_in options).save setup entries blank old new
+is_saved options setup entries blank old new h some is saved = go options.save some
   where
     go : (file : Option (Bor (List ℕ))) → is_some file ≡ true
-        → IsSaved (option_map (λ (t : Bor (List ℕ)). t.now) file) setup entries old new
+        → IsSaved (option_map (λ (t : Bor (List ℕ)). t.now) file) setup entries blank old new
     go None e = absurd cc
-    go (Some file) e = subst (λ (x : Header). Appends old new (saved_text x entries)) is saved
+    go (Some file) e = subst (λ (x : Header). Appends blank new (saved_text x entries)) is saved
 
 -- a run whose history was to be saved, by what became of that
 pub saved_run : {T E : Type 0} (r : Result T E) (options : RunOptions) (policy script script' : Option (List ℕ))
-    (out out' old new : Option (List ℕ)) (setup : Setup) (entries : List Entry) (h : Header)
+    (out out' blank old new : Option (List ℕ)) (setup : Setup) (entries : List Entry) (h : Header)
     → ((text : List ℕ) × IfSome policy (λ told. text ≡ told) × IsSetup (order_in options) text setup)
     → IsLegal (start setup.rules setup.nodes) entries
     → IfSome script (λ input. (left : List ℕ) × (script' ≡ Some left)
     × Writes out out' (λ written. Runs setup input left written entries))
-    → is_some options.save ≡ true → h ≡ header_of setup → OnOk r (Appends old new (saved_text h entries))
+    → is_some options.save ≡ true → h ≡ header_of setup → OnOk r (Appends blank new (saved_text h entries))
     → OnOk r ((text : List ℕ) × IfSome policy (λ told. text ≡ told)
-    × IsDone (order_in options) text script script' out out' old new)
-saved_run (Ok value) options policy script script' out out' old new setup entries h s legal ran some is saved =
-    (s.0, s.1, (setup, entries, s.2, legal, ran, is_saved options setup entries old new h some is saved))
-saved_run (Err fault) options policy script script' out out' old new setup entries h s legal ran some is saved = tt
+    × IsDone (order_in options) text script script' out out' blank old new)
+saved_run (Ok value) options policy script script' out out' blank old new setup entries h s legal ran some is saved =
+    (s.0, s.1, (setup, entries, s.2, legal, ran, is_saved options setup entries blank old new h some is saved))
+saved_run (Err fault) options policy script script' out out' blank old new setup entries h s legal ran some is saved =
+    tt
 
 -- the text gives no policy
 pub not_given : (order : RunOrder) (text : List ℕ) (fault : PolicyFault) → IsUtf8 text

@@ -1,6 +1,6 @@
 -- Strict runs, and what is concluded from them.
-use Rattle.std.proofs.Common.{◌≡◌, List, ℕ, Option, Result, Ok, Err, inl, inr}
-use Rattle.std.specs.Prelude.{IfErr, IfOk, IfSome}
+use Rattle.std.proofs.Common.{◌≡◌, List, ℕ, Option, inl, inr}
+use Rattle.std.specs.Prelude.{IfSome}
 use Rattle.ll_lines.specs.Transcript.{Writes}
 use Rattle.ll_lines.specs.declared.fault.SessionFault.TheVariants as fault
 use Rattle.ll_options.specs.Options.{RunOrder}
@@ -16,29 +16,19 @@ use Rattle.ll_runs.specs.declared.failure.Failure.{Failure}
 use Rattle.ll_runs.specs.declared.failure.Failure.TheVariants.{NoMemory}
 use Rattle.ll_runs.specs.Policy.{IsConcluded, IsSaved, IsSetup, IsStrictlyDone, MayFail}
 
-module _ (r : Result Conclusion Failure) (order : RunOrder) (policy : Option (List ℕ)) (setup : Setup)
+module _ (order : RunOrder) (policy : Option (List ℕ)) (setup : Setup)
     (set : (text : List ℕ) × IfSome policy (λ told. text ≡ told) × IsSetup order text setup) where
   -- a run that is concluded from what ended it
-  pub strictly_done : (script out out' old new : Option (List ℕ)) (entries : List Entry) (stop : Option Stop)
-      → IsLegal (start setup.rules setup.nodes) entries
+  pub strictly_done : (end : Conclusion) (script out out' blank old new : Option (List ℕ)) (entries : List Entry)
+      (stop : Option Stop) → IsLegal (start setup.rules setup.nodes) entries
       → IfSome script (λ input. Writes out out' (λ written. RunsStrictly setup input written stop entries))
-      → IsSaved order.save setup entries old new → IfOk r (IsConcluded order.script stop)
-      → IfOk r (λ end. (text : List ℕ) × IfSome policy (λ told. text ≡ told)
-      × IsStrictlyDone order text end script out out' old new)
-  strictly_done script out out' old new entries stop legal ran saved ends = go r ends
-    where
-      go : (x : Result Conclusion Failure) → IfOk x (IsConcluded order.script stop)
-          → IfOk x (λ end. (text : List ℕ) × IfSome policy (λ told. text ≡ told)
-          × IsStrictlyDone order text end script out out' old new)
-      go (Ok end) told = (set.0, set.1, (setup, entries, stop, set.2, legal, ran, saved, told))
-      go (Err failure) told = tt
+      → IsSaved order.save setup entries blank old new → IsConcluded order.script stop end
+      → (text : List ℕ) × IfSome policy (λ told. text ≡ told)
+      × IsStrictlyDone order text end script out out' blank old new
+  strictly_done end script out out' blank old new entries stop legal ran saved told =
+      (set.0, set.1, (setup, entries, stop, set.2, legal, ran, saved, told))
 
   -- no memory is to be had for what is told of it
-  pub untold : IfErr r (λ failure. failure ≡ NoMemory)
-      → IfErr r (λ failure. (text : List ℕ) × IfSome policy (λ told. text ≡ told) × MayFail order text failure)
-  untold none = go r none
-    where
-      go : (x : Result Conclusion Failure) → IfErr x (λ failure. failure ≡ NoMemory)
-          → IfErr x (λ failure. (text : List ℕ) × IfSome policy (λ told. text ≡ told) × MayFail order text failure)
-      go (Ok end) e = tt
-      go (Err failure) e = (set.0, set.1, inr (inl (setup, set.2, Session fault.NoMemory, tt, e)))
+  pub untold : (failure : Failure) → failure ≡ NoMemory
+      → (text : List ℕ) × IfSome policy (λ told. text ≡ told) × MayFail order text failure
+  untold failure none = (set.0, set.1, inr (inl (setup, set.2, Session fault.NoMemory, tt, none)))

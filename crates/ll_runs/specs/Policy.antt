@@ -74,20 +74,21 @@ Lacks order text Socket = ⊥
 abbrev pub header_of : Setup → Header
 header_of setup = record { version = Three setup.rules.abi; nodes = setup.nodes }
 
--- what comes into a file: a run's history under the header of that run, where a file is named, and else nothing
-abbrev pub IsSaved : Option (List ℕ) → Setup → List Entry → (old new : Option (List ℕ)) → Type 0
-IsSaved None setup entries old new = new ≡ old
-IsSaved (Some name) setup entries old new = Appends old new (saved_text (header_of setup) entries)
+-- what stands in a file: where it is named, a run's history under the header of that run, written into what was blank;
+-- and else what stood there
+abbrev pub IsSaved : Option (List ℕ) → Setup → List Entry → (blank old new : Option (List ℕ)) → Type 0
+IsSaved None setup entries blank old new = new ≡ old
+IsSaved (Some name) setup entries blank old new = Appends blank new (saved_text (header_of setup) entries)
 
 -- A run of the setup that is wanted, where the policy's file has this text: what was read of the script and written,
 -- and what is saved, are of one history, which is legal in the setup's tree
-abbrev pub IsDone : RunOrder → List ℕ → (script script' out out' file file' : Option (List ℕ)) → Type 0
-IsDone order text script script' out out' file file' =
+abbrev pub IsDone : RunOrder → List ℕ → (script script' out out' blank file file' : Option (List ℕ)) → Type 0
+IsDone order text script script' out out' blank file file' =
     (setup : Setup) × (entries : List Entry) × IsSetup order text setup
     × IsLegal (start setup.rules setup.nodes) entries
     × IfSome script (λ input. (left : List ℕ) × (script' ≡ Some left)
     × Writes out out' (λ written. Runs setup input left written entries))
-    × IsSaved order.save setup entries file file'
+    × IsSaved order.save setup entries blank file file'
 
 -- what the program concludes from what ended a strict run of the script with this name, if anything did
 abbrev pub IsConcluded : List ℕ → Option Stop → Conclusion → Type 0
@@ -98,18 +99,20 @@ IsConcluded script (Some stop) (Judged verdict) = ⊥
 IsConcluded script (Some stop) (Checked end) = ⊥
 
 -- the same of a strict run, which is concluded by what ended it
-abbrev pub IsStrictlyDone : RunOrder → List ℕ → Conclusion → (script out out' file file' : Option (List ℕ)) → Type 0
-IsStrictlyDone order text end script out out' file file' =
+abbrev pub IsStrictlyDone : RunOrder → List ℕ → Conclusion → (script out out' blank file file' : Option (List ℕ))
+    → Type 0
+IsStrictlyDone order text end script out out' blank file file' =
     (setup : Setup) × (entries : List Entry) × (stop : Option Stop) × IsSetup order text setup
     × IsLegal (start setup.rules setup.nodes) entries
     × IfSome script (λ input. Writes out out' (λ written. RunsStrictly setup input written stop entries))
-    × IsSaved order.save setup entries file file' × IsConcluded order.script stop end
+    × IsSaved order.save setup entries blank file file' × IsConcluded order.script stop end
 
 -- a run that isn't strict is done, and a strict one is concluded so
-abbrev pub IsRun : RunOrder → List ℕ → Conclusion → (script script' out out' file file' : Option (List ℕ)) → Type 0
-IsRun order text end script script' out out' file file' =
-    ((order.strict ≡ false) × (end ≡ Done) × IsDone order text script script' out out' file file')
-    ⊎ ((order.strict ≡ true) × IsStrictlyDone order text end script out out' file file')
+abbrev pub IsRun : RunOrder → List ℕ → Conclusion → (script script' out out' blank file file' : Option (List ℕ))
+    → Type 0
+IsRun order text end script script' out out' blank file file' =
+    ((order.strict ≡ false) × (end ≡ Done) × IsDone order text script script' out out' blank file file')
+    ⊎ ((order.strict ≡ true) × IsStrictlyDone order text end script out out' blank file file')
 
 -- Why nothing is run to its end and saved: a policy is named, and there is no setup by it, or a fault ends the run of
 -- the setup there is, or a history that is to be saved can't be

@@ -1,9 +1,11 @@
 //! Checks of files, as the program makes them.
 
-ghost use Rattle.std.specs.Prelude.{◌≡◌, ◌≢◌, ◌≤◌, IfOk, OnOk, Ok};
+ghost use Rattle.std.specs.Prelude.{◌≡◌, ◌≢◌, ◌≤◌, IfOk, IsTrue, Ok};
+ghost use Rattle.std.specs.List.{AllZip, list_any};
+ghost use Rattle.ll_check.specs.Checks.{is_test, meaning_of};
 ghost use Rattle.ll_rights.specs.declared.limits.TheConstants.{HISTORY_ENTRIES};
 ghost use Rattle.std.specs.Io.KnownBytes.{Keeps};
-ghost use Rattle.ll_runs.specs.Check.{AreTold};
+ghost use Rattle.ll_runs.specs.Check.{AreTested, AreTold, HaveTests, IsReadAs};
 ghost use Rattle.ll_runs.specs.declared.checks.Checked as checked;
 
 use crate::failure::Failure;
@@ -22,9 +24,9 @@ use std::sync::Wait;
 /// How a check ends.
 #[derive(Clone, Copy, Debug, PartialEq, Eq)]
 pub enum Checked {
-    /// Each test passes.
+    /// Each file has a test, and each test passes.
     Passed,
-    /// A test fails, or a profile is refused.
+    /// A test fails, a profile is refused, or a file has no test.
     Failed,
     /// A line of a file says nothing, so nothing is run.
     BadLine,
@@ -39,7 +41,7 @@ struct BadFile {
 
 // What all files say, up to the first that can't be read.
 fn read_all<'a>(alloc: Global, texts: &'a [Vec<u8>]) -> Result<Vec<Checks<'a>>, BadFile>
-    ensures { OnOk result (AreTold texts.entry.now) }
+    ensures { IfOk result (λ all. AllZip IsReadAs texts.entry.now all.items) }
 {
     let mut all = Vec::new(alloc);
     let mut file: usize = 0;
@@ -178,6 +180,42 @@ fn push_total(report: &mut Vec<u8>, alloc: Global, total: Tally) -> Result<(), A
     report.extend_from_slice(b" failed\n")
 }
 
+// Whether this file has a test, which is told where it has none.
+fn has_test<E: Write>(name: &str, checks: &Checks<'_>, err: &mut E) -> bool
+    ensures { result ≡ list_any (λ line. is_test (meaning_of line)) checks.now.lines.items }
+{
+    let has_test = checks.has_test();
+    if !has_test {
+        let _ = writeln!(err, "no test in {name}");
+    }
+    has_test
+}
+
+// Whether each file has a test. Which have none is told.
+fn have_tests<E: Write>(options: &CheckOptions, all: &[Checks<'_>], err: &mut E) -> bool
+    ensures { IsTrue result → HaveTests all.now }
+{
+    let mut have_tests = true;
+    let mut file: usize = 0;
+    for checks in all {
+        if !has_test(name_of(options, file), checks, err) {
+            have_tests = false;
+        }
+        file = file.saturating_add(1);
+    }
+    have_tests
+}
+
+// Tells that a policy is asked for and none of its profiles.
+fn tell_no_profile<E: Write>(options: &CheckOptions, err: &mut E) {
+    if options.policy.is_some() && options.profile.is_none() {
+        let _ = writeln!(
+            err,
+            "landtree: no profile is chosen, so no layer denies anything"
+        );
+    }
+}
+
 fn check_and_tell<R: Wait, W: Write, N: Notes>(
     rt: &R,
     alloc: Global,
@@ -202,6 +240,28 @@ fn check_and_tell<R: Wait, W: Write, N: Notes>(
     } else {
         Ok(Checked::Failed)
     }
+}
+
+// Checks what was read of all files, and tells which have no test.
+fn check_read<R: Wait, W: Write, E: Write, N: Notes>(
+    rt: &R,
+    alloc: Global,
+    options: &CheckOptions,
+    policy: &[u8],
+    all: &[Checks<'_>],
+    out: &mut W,
+    err: &mut E,
+    notes: &mut N,
+) -> Result<Checked, Failure>
+    ensures never { IfOk result (λ end. end ≢ checked.Checked.BadLine) }
+    ensures tested { result ≡ Ok checked.Checked.Passed → HaveTests all.now }
+{
+    tell_no_profile(options, err);
+    if have_tests(options, all, err) {
+        return check_and_tell(rt, alloc, options, policy, all, out, notes);
+    }
+    check_and_tell(rt, alloc, options, policy, all, out, notes)?;
+    Ok(Checked::Failed)
 }
 
 // Tells where a file's line says nothing, and what was expected there.
@@ -235,8 +295,8 @@ fn tell_bad<E: Write>(
 }
 
 /// Checks these files' texts, each over a tree of its own, and writes the report. All are read before anything is run:
-/// where a line says nothing, that is told, and nothing else is done. Notes that are wanted are told of the tests that
-/// are shown and fail by a denial.
+/// where a line says nothing, that is told, and nothing else is done. So is a file without a test told, and a policy of
+/// which no profile is chosen. Notes that are wanted are told of the tests that are shown and fail by a denial.
 pub fn check<R: Wait, W: Write, E: Write, N: Notes>(
     rt: &R,
     alloc: Global,
@@ -248,10 +308,11 @@ pub fn check<R: Wait, W: Write, E: Write, N: Notes>(
     notes: &mut N,
 ) -> Result<Checked, Failure>
     ensures whole { IfOk result (λ end. end ≢ checked.Checked.BadLine → AreTold texts.now) }
+    ensures tested { result ≡ Ok checked.Checked.Passed → AreTested texts.now }
     ensures nothing { result ≡ Ok checked.Checked.BadLine → Keeps (W.contents out.old) (W.contents out.new) }
 {
     match read_all(alloc, texts) {
-        Ok(all) => check_and_tell(rt, alloc, options, policy, all.as_slice(), out, notes),
+        Ok(all) => check_read(rt, alloc, options, policy, all.as_slice(), out, err, notes),
         Err(
             BadFile {
                 fault: CheckFault::NoMemory,

@@ -17,7 +17,7 @@ pub use conclusion::Conclusion;
 pub use ending::concluded;
 pub use failure::Failure;
 pub use policy::{policy_of, setup_of};
-pub use program::{audit, header_of, run, save_history};
+pub use program::{Recorded, audit, begin_record, header_of, run, save_history};
 pub use shown::Shown;
 pub use stopped::Stopped;
 pub use text::read_text;

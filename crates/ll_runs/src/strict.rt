@@ -1,6 +1,6 @@
 //! Strict runs, as the program makes them.
 
-ghost use Rattle.std.specs.Prelude.{◌≡◌, ◌≤◌, ℕ, List, true, OnOk, IfOk, IfErr, IfSome, is_some};
+ghost use Rattle.std.specs.Prelude.{◌≡◌, ◌≤◌, ℕ, List, true, OnErr, OnOk, IfOk, IfErr, IfSome, is_some};
 ghost use Rattle.std.specs.List.{All};
 ghost use Rattle.ll_rights.specs.declared.limits.TheConstants.{TREE_NODES};
 ghost use Rattle.ll_lines.specs.Transcript.{Writes};
@@ -19,57 +19,85 @@ ghost use Rattle.ll_runs.specs.Policy.{IsConcluded, IsSaved, IsStrictlyDone, May
 use crate::conclusion::Conclusion;
 use crate::failure::Failure;
 use crate::policy::setup_of;
-use crate::program::{header_of, save_history};
+use crate::program::{Recorded, begin_record, header_of, save_history};
 use crate::stopped::Stopped;
+use ll_ends::Destination;
 use ll_options::RunOptions;
-use ll_seq::History;
-use ll_session::{Setup, Stop, StrictRun, run_strict};
+use ll_session::{Chronicle, Setup, Stop, StrictRun, run_strict, run_strict_kept};
 use ll_wire::Header;
 use std::alloc::Global;
 use std::io::{Read, Write};
 use std::sync::Wait;
 
-// A strict run of a script, over a tree that is set up so.
-fn perform<H: Wait, R: Read, W: Write>(
+// A strict run of whose history a record was kept, if one was; and what ended it, if anything did.
+#[derive(Drop)]
+struct StrictlyRecorded<D> {
+    run: Recorded<D>,
+    stop: Option<Stop>,
+}
+
+// A strict run of a script, over a tree that is set up so, of whose history a record is kept meanwhile.
+fn perform<H: Wait, D: Write + Drop, R: Read, W: Write>(
     rt: &H,
     alloc: Global,
     setup: Setup,
+    record: Option<D>,
     script: &mut R,
     out: &mut W,
-) -> Result<StrictRun, Failure>
-    ensures transcript { IfOk result (λ run. IfSome (R.remaining script.old) (λ input.
+) -> Result<StrictlyRecorded<D>, Failure>
+    ensures transcript { IfOk result (λ it. IfSome (R.remaining script.old) (λ input.
         Writes (W.contents out.old) (W.contents out.new)
-        (λ text. RunsStrictly setup input text run.stop run.history.entries))) }
-    ensures legal { IfOk result (λ run. IsLegal (start setup.rules setup.nodes) run.history.entries) }
-    ensures entries { IfOk result (λ run. All IsEntry run.history.entries) }
+        (λ text. RunsStrictly setup input text it.stop it.run.history.entries))) }
+    ensures legal { IfOk result (λ it. IsLegal (start setup.rules setup.nodes) it.run.history.entries) }
+    ensures entries { IfOk result (λ it. All IsEntry it.run.history.entries) }
     ensures failure { IfErr result (λ failure. (fault : RunFault)
         × MayEnd setup fault × (failure ≡ failure_of fault)) }
 {
-    match run_strict(rt, alloc, setup, script, out) {
-        Ok(run) => Ok(run),
+    let Some(draft) = record else {
+        return match run_strict(rt, alloc, setup, script, out) {
+            Ok(StrictRun { history, stop }) => Ok(StrictlyRecorded {
+                run: Recorded {
+                    history,
+                    record: None,
+                },
+                stop,
+            }),
+            Err(fault) => Err(Failure::of_run(fault)),
+        };
+    };
+    let chronicle = Chronicle::new(alloc, draft);
+    match run_strict_kept(rt, alloc, setup, &chronicle, script, out) {
+        Ok(StrictRun { history, stop }) => Ok(StrictlyRecorded {
+            run: Recorded {
+                history,
+                record: Some(chronicle.into_parts().0),
+            },
+            stop,
+        }),
         Err(fault) => Err(Failure::of_run(fault)),
     }
 }
 
 // Saves a history where a file is named for it.
-fn save_where_named<F: Write>(
+fn save_where_named<F: Destination>(
     alloc: Global,
     options: &RunOptions,
     header: Header,
-    history: &History,
+    run: Recorded<F::Draft>,
     file: &mut F,
 ) -> Result<(), Failure>
     requires some { 1 ≤ header.nodes }
     requires most { header.nodes ≤ TREE_NODES }
-    requires entries { All IsEntry history.now.entries }
+    requires entries { All IsEntry run.history.entries }
     ensures saved { (setup : Setup) → header ≡ header_of setup → OnOk result (IsSaved (order_in options.now).save setup
-        history.now.entries (F.contents file.old) (F.contents file.new)) }
+        run.history.entries (F.blank file.old) (F.contents file.old) (F.contents file.new)) }
+    ensures kept { OnErr result (F.contents file.new ≡ F.contents file.old) }
     ensures failure { IfErr result (λ failure. (is_some (order_in options.now).save ≡ true) × IsOfSaving failure) }
 {
     if options.save.is_none() {
         return Ok(());
     }
-    save_history(alloc, header, history, file)
+    save_history(alloc, header, run, file)
 }
 
 // What the program concludes from what ended the run of this script.
@@ -88,7 +116,7 @@ fn conclude(alloc: Global, script: &str, stop: Option<Stop>) -> Result<Conclusio
 
 /// Runs a script strictly as the options ask for it, and saves the history where they name a file for it, also where
 /// the run ends early.
-pub fn run_strictly<H: Wait, P: Read, R: Read, W: Write, F: Write>(
+pub fn run_strictly<H: Wait, P: Read, R: Read, W: Write, F: Destination>(
     rt: &H,
     alloc: Global,
     options: &RunOptions,
@@ -99,7 +127,9 @@ pub fn run_strictly<H: Wait, P: Read, R: Read, W: Write, F: Write>(
 ) -> Result<Conclusion, Failure>
     ensures done { IfOk result (λ end. (text : List ℕ) × IfSome (P.remaining policy.old) (λ told. text ≡ told)
         × IsStrictlyDone (order_in options.now) text end (R.remaining script.old)
-        (W.contents out.old) (W.contents out.new) (F.contents file.old) (F.contents file.new)) }
+        (W.contents out.old) (W.contents out.new)
+        (F.blank file.old) (F.contents file.old) (F.contents file.new)) }
+    ensures kept { OnErr result (F.contents file.new ≡ F.contents file.old) }
     ensures failure { IfErr result (λ failure. (text : List ℕ) × IfSome (P.remaining policy.old) (λ told. text ≡ told)
         × MayFail (order_in options.now) text failure) }
 {
@@ -107,13 +137,19 @@ pub fn run_strictly<H: Wait, P: Read, R: Read, W: Write, F: Write>(
         Ok(setup) => setup,
         Err(failure) => return Err(failure),
     };
+    let record = begin_record(alloc, header_of(&setup), options.save, file);
     let header = header_of(&setup);
-    let StrictRun { history, stop } = match perform(rt, alloc, setup, script, out) {
-        Ok(run) => run,
+    let it = match perform(rt, alloc, setup, record, script, out) {
+        Ok(it) => it,
         Err(failure) => return Err(failure),
     };
-    match save_where_named(alloc, options, header, &history, file) {
-        Ok(()) => conclude(alloc, options.script, stop),
+    let StrictlyRecorded { run, stop } = it;
+    let end = match conclude(alloc, options.script, stop) {
+        Ok(end) => end,
+        Err(failure) => return Err(failure),
+    };
+    match save_where_named(alloc, options, header, run, file) {
+        Ok(()) => Ok(end),
         Err(failure) => Err(failure),
     }
 }

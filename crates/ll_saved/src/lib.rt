@@ -14,5 +14,5 @@ pub use auditing::{FileAuditFault, run_audit, run_audit_over};
 pub use judging::judge;
 pub use progress::{Progress, Untold};
 pub use reading::{ReadFault, Saved};
-pub use saving::{SaveFault, save, save_over};
+pub use saving::{SaveFault, record_in, save, save_in, save_over};
 pub use verdict::Verdict;

@@ -1,19 +1,21 @@
 //! Histories, saved.
 
 ghost use Rattle.std.specs.Prelude.{◌≡◌, ◌<◌, ◌≤◌, ◌++◌, ℕ, List, true, false, length, IfErr, OnOk, OnErr};
-ghost use Rattle.std.specs.Prelude.{string_bytes};
+ghost use Rattle.std.specs.Prelude.{string_bytes, IfSome};
 ghost use Rattle.std.specs.List.{All};
 ghost use Rattle.std.specs.Io.KnownBytes.{Appends};
 ghost use Rattle.ll_rights.specs.declared.limits.TheConstants.{TREE_NODES};
-ghost use Rattle.ll_wire.specs.Entries.{IsEntry, entry_line};
+ghost use Rattle.ll_wire.specs.Entries.{IsEntry, entry_line, header_tokens};
+ghost use Rattle.ll_wire.specs.Grammar.{line_of};
 ghost use Rattle.ll_saved.specs.Faults.{BlamesSave};
 ghost use Rattle.ll_saved.specs.Saved.{saved_text};
 ghost use Rattle.ll_wire.specs.Writing.{AppendsFront};
 
-use ll_ends::{Broken, Ends, Pair, write_out};
+use ll_ends::{Broken, Destination, Ends, Pair, write_out};
 use ll_seq::Entry;
 use ll_wire::{Header, entry_text, header_text};
 use std::alloc::{AllocError, Global};
+use std::io;
 use std::io::{Write, empty};
 use thiserror::Error;
 
@@ -27,6 +29,16 @@ pub enum SaveFault {
     Write,
     #[error("no memory for the history's text")]
     NoMemory,
+}
+
+impl SaveFault {
+    // Returns what keeps a draft from being made, or put in its place.
+    fn of(error: &io::Error) -> SaveFault {
+        match error.kind() {
+            io::ErrorKind::OutOfMemory => SaveFault::NoMemory,
+            _ => SaveFault::Write,
+        }
+    }
 }
 
 // The line of an entry comes after the text.
@@ -126,4 +138,52 @@ pub fn save<W: Write>(
         is_output_broken: false,
     };
     save_over(alloc, header, entries, &mut ends)
+}
+
+/// Saves a history: its header and a line for each entry are all that stands in the destination then. With a fault,
+/// what stood there stays.
+pub fn save_in<D: Destination>(
+    alloc: Global,
+    header: Header,
+    entries: &[Entry],
+    destination: &mut D,
+) -> Result<(), SaveFault>
+    requires some { 1 ≤ header.nodes }
+    requires most { header.nodes ≤ TREE_NODES }
+    requires entries { All IsEntry entries.now }
+    ensures ok { OnOk result
+        (Appends (D.blank destination.old) (D.contents destination.new) (saved_text header entries.now)) }
+    ensures err { OnErr result (D.contents destination.new ≡ D.contents destination.old) }
+{
+    let mut draft = match destination.draft() {
+        Ok(draft) => draft,
+        Err(error) => return Err(SaveFault::of(&error)),
+    };
+    if let Err(fault) = save(alloc, header, entries, &mut draft) {
+        destination.remove(draft);
+        return Err(fault);
+    }
+    match destination.put(draft) {
+        Ok(()) => Ok(()),
+        Err(error) => Err(SaveFault::of(&error)),
+    }
+}
+
+/// Makes the draft of a history that grows as it is made: so far its header. None where there is none.
+pub fn record_in<D: Destination>(
+    alloc: Global,
+    header: Header,
+    destination: &mut D,
+) -> Option<D::Draft>
+    requires some { 1 ≤ header.nodes }
+    requires most { header.nodes ≤ TREE_NODES }
+    ensures begun { IfSome result (λ draft.
+        Appends (D.blank destination.old) (D.Draft.contents draft) (line_of (header_tokens header))) }
+    ensures same { D.contents destination.new ≡ D.contents destination.old }
+    ensures again { D.blank destination.new ≡ D.blank destination.old }
+{
+    match header_text(alloc, header) {
+        Ok(head) => destination.record(head.as_str().as_bytes()),
+        Err(_) => None,
+    }
 }

@@ -1,7 +1,8 @@
-use Rattle.std.proofs.Common.{drop}
-use Rattle.ll_runs.specs.Check.{AreTold}
+use Rattle.std.proofs.Common.{take}
+use Rattle.std.specs.List.{AllZip}
+use Rattle.ll_runs.specs.Check.{IsReadAs}
 use Rattle.ll_runs.proofs.checks.read_all.Given as goal
 
--- if the texts that are left are told, all are
+-- what is read so far
 abbrev pub invariant-loop-text : goal.invariant-loop-text
-invariant-loop-text l = AreTold (drop l.text-index l.texts) → AreTold l.texts
+invariant-loop-text l = AllZip IsReadAs (take l.text-index l.texts) l.all.items

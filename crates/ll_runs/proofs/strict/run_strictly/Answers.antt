@@ -1,5 +1,6 @@
-use Rattle.std.proofs.Common.{inl, inr}
+use Rattle.std.proofs.Common.{List, Option, inl, inr, subst, ℕ, ◌≡◌, ◌∙◌}
 use Rattle.ll_options.specs.Options.{order_in}
+use Rattle.ll_runs.specs.Policy.{IsSaved}
 use Rattle.ll_runs.proofs.Stopping.{strictly_done, untold}
 use Rattle.ll_runs.proofs.strict.run_strictly.Goals as goal
 
@@ -9,17 +10,26 @@ returns-in-Err-perform-clause-failure g c =
     let h = c.in-Err-perform.ensures.failure in
     (s.0, s.1, inr (inl (c.in-Ok.setup, s.2, h.0, h.1, h.2)))
 
+pub returns-in-Err-conclude-clause-failure : goal.returns-in-Err-conclude-clause-failure
+returns-in-Err-conclude-clause-failure g c =
+    untold (order_in c.args.options.now) (g.P.Read.remaining c.args.policy.now) c.in-Ok.setup c.in-Ok.ensures.setup
+    c.in-Err-conclude.failure c.in-Err-conclude.ensures.failure
+
 pub returns-in-Ok-save_where_named-clause-done : goal.returns-in-Ok-save_where_named-clause-done
 returns-in-Ok-save_where_named-clause-done g c =
     let p = c.in-Ok-perform in
-    strictly_done c.conclude.result (order_in c.args.options.now) (g.P.Read.remaining c.args.policy.now) c.in-Ok.setup
-    c.in-Ok.ensures.setup (g.R.Read.remaining c.args.script.now) (g.W.Write.contents c.args.out.now)
-    (g.W.Write.contents c.perform.new.out) (g.F.Write.contents c.args.file.now)
-    (g.F.Write.contents c.save_where_named.new.file) p.run'.history.entries p.run'.stop p.ensures.legal
-    p.ensures.transcript
-    (c.in-Ok-save_where_named.ensures.saved c.in-Ok.setup c.header_of-header.ensures.header) c.conclude.ensures.end
-
-pub returns-in-Ok-save_where_named-clause-failure : goal.returns-in-Ok-save_where_named-clause-failure
-returns-in-Ok-save_where_named-clause-failure g c =
-    untold c.conclude.result (order_in c.args.options.now) (g.P.Read.remaining c.args.policy.now) c.in-Ok.setup
-    c.in-Ok.ensures.setup c.conclude.ensures.failure
+    let order = order_in c.args.options.now in
+    let new = g.F.Destination.contents c.save_where_named.new.file in
+    let entries = p.it.run.history.entries in
+    let saved = c.in-Ok-save_where_named.ensures.saved c.in-Ok.setup c.header_of-header.ensures.header in
+    strictly_done order (g.P.Read.remaining c.args.policy.now) c.in-Ok.setup
+    c.in-Ok.ensures.setup c.in-Ok-conclude.end (g.R.Read.remaining c.args.script.now)
+    (g.W.Write.contents c.args.out.now) (g.W.Write.contents c.perform.new.out) (g.F.Destination.blank c.args.file.now)
+    (g.F.Destination.contents c.args.file.now) new entries
+    p.it.stop p.ensures.legal p.ensures.transcript
+    (subst (λ (b : Option (List ℕ)).
+    IsSaved order.save c.in-Ok.setup entries b (g.F.Destination.contents c.args.file.now) new)
+    c.begin_record-record.ensures.again
+    (subst (λ (old : Option (List ℕ)). IsSaved order.save c.in-Ok.setup entries
+    (g.F.Destination.blank c.begin_record-record.new.file) old new) c.begin_record-record.ensures.same saved))
+    c.in-Ok-conclude.ensures.end
