@@ -1,5 +1,5 @@
 -- Files of checks: what their lines say, and when a test passes. own
-use Rattle.std.specs.Prelude.{◌≡◌, ℕ, ◌+◌, ◌==◌, ◌||◌, ◌⊎◌, Bool, false, not, List, [], ◌∷◌, ◌++◌}
+use Rattle.std.specs.Prelude.{◌≡◌, ℕ, ◌+◌, ◌==◌, ◌||◌, ◌⊎◌, Bool, true, false, not, List, [], ◌∷◌, ◌++◌}
 use Rattle.std.specs.Prelude.{length, slice_get, take, drop, Option, Some, None, codes, if◌then◌else◌}
 use Rattle.std.specs.List.{All, AllZip, count_by, flat_map}
 use Rattle.ll_seq.specs.declared.call.Call.{Call}
@@ -31,6 +31,10 @@ want_of (wanted.Beginning words) = beginning words.now
 abbrev pub meaning_of : CheckLine → Meaning
 meaning_of Silent = silent
 meaning_of (Test command wanted) = test command.now (want_of wanted)
+
+abbrev pub is_test : Meaning → Bool
+is_test silent = false
+is_test (test command want) = true
 
 -- ---- how it is spelled
 

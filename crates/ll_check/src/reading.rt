@@ -1,9 +1,9 @@
 //! Files of checks, read.
 
 ghost use Rattle.std.specs.Prelude.{◌≡◌, ◌+◌, ◌++◌, ◌∷◌, [], ℕ, map, length, IfOk, IfErr, OnOk};
-ghost use Rattle.std.specs.List.{AllZip};
+ghost use Rattle.std.specs.List.{AllZip, list_any};
 ghost use Rattle.ll_wire.specs.Pieces.{pieces};
-ghost use Rattle.ll_check.specs.Checks.{IsFirstBad, Meaning, SpellsLine, meaning_of};
+ghost use Rattle.ll_check.specs.Checks.{IsFirstBad, Meaning, SpellsLine, is_test, meaning_of};
 ghost use Rattle.ll_check.specs.declared.reading.CheckFault.{CheckFault};
 
 use crate::line::CheckLine;
@@ -74,5 +74,12 @@ impl<'a> Checks<'a> {
             rest = more;
         }
         Ok(Checks { lines })
+    }
+
+    /// Returns whether one of the lines is a test.
+    pub fn has_test(&self) -> bool
+        ensures { result ≡ list_any (λ line. is_test (meaning_of line)) self.now.lines.items }
+    {
+        self.lines.iter().any(|line| line.is_test())
     }
 }

@@ -9,6 +9,7 @@ use crate::told::{ending_in, outcome_words, refusal_words};
 use crate::waits::{Manner, Scenery, Trial, manner_of};
 use ll_journal::Station;
 use ll_picture::{Column, Row, Scene, Wait};
+use ll_print::shown;
 use ll_seq::Call;
 use ll_steps::{Report, World};
 use ll_wire::{ScheduleLine, read_schedule_line};
@@ -77,8 +78,8 @@ fn row_of(client: u64) -> usize {
 }
 
 // What is shown of a line.
-fn shown(alloc: Global, line: &[u8]) -> Result<String, AllocError> {
-    String::from_utf8_lossy(alloc, line.strip_suffix(b"\n").unwrap_or(line))
+fn line_shown(alloc: Global, line: &[u8]) -> Result<String, AllocError> {
+    shown(alloc, line.strip_suffix(b"\n").unwrap_or(line))
 }
 
 // The column of a line, of what came of it and of its client's row.
@@ -394,7 +395,7 @@ impl Replay {
 
     /// Makes what a line of the schedule asks for. The line's column.
     pub fn take_line(&mut self, line: &[u8]) -> Result<Column, AllocError> {
-        let text = shown(self.alloc, line)?;
+        let text = line_shown(self.alloc, line)?;
         let made = self.make_line(line, call_in(text.as_str()));
         self.line = self.line.saturating_add(1);
         column_of(text, made)

@@ -1,10 +1,15 @@
 //! The lines behind a fault line.
 
+ghost use Rattle.std.specs.Prelude.{IfOk, string_bytes};
+ghost use Rattle.std.specs.List.{All};
+ghost use Rattle.ll_hints.specs.Told.{IsTold};
+
 use crate::misfits::Misfit;
 use crate::opening::refused_text;
 use ll_check::{Blame, DeniedTest, LinesOf, Notes, explain};
-use ll_files::{Late, NewFile, Places, Sources};
+use ll_files::{Late, NewFile, Sources};
 use ll_policy::{Policy, first_fault};
+use ll_print::{escaped, shown};
 use ll_reason::explain_entry;
 use ll_rights::Errno;
 use ll_session::Setup;
@@ -12,9 +17,6 @@ use ll_wire::{Header, read_command};
 use std::alloc::{AllocError, Global};
 use std::fmt::Display;
 use std::io::Write;
-
-/// Longer lines of a file aren't shown.
-const LONGEST: usize = 1024;
 
 /// How the line begins that tells why an entry may not stand.
 const MAY_NOT: &str = "may not stand: ";
@@ -34,8 +36,29 @@ fn line_at(text: &[u8], number: usize) -> &[u8] {
     &[]
 }
 
+// A line of hints, two spaces further in, as a terminal may get it.
+fn line_of(alloc: Global, line: &[u8]) -> Result<String, AllocError>
+    ensures { IfOk result (λ text. All IsTold (string_bytes text)) }
+{
+    let escaped = escaped(alloc, line)?;
+    let mut text = String::from_str(alloc, "  ")?;
+    text.push_str(escaped.as_str())?;
+    text.push_str("\n")?;
+    Ok(text)
+}
+
+// This line comes last.
+fn push_line(alloc: Global, text: &mut String, line: &[u8]) -> Result<(), AllocError>
+    requires { All IsTold (string_bytes text.old) }
+    ensures { All IsTold (string_bytes text.new) }
+{
+    let line = line_of(alloc, line)?;
+    text.push_str(line.as_str())
+}
+
 /// What is told behind the fault line, each line two spaces further in. Where memory is wanted for a line, it is left
-/// out. No contract says what is told: it helps whoever typed the command.
+/// out. No contract says what is told: it helps whoever typed the command. Whatever it is, a terminal gets printed
+/// characters of ASCII and line feeds.
 #[derive(Drop)]
 pub struct Hints {
     alloc: Global,
@@ -44,6 +67,7 @@ pub struct Hints {
     text: String,
     /// How many tests were told of that fail by a denial.
     denials: usize,
+    ghost only_told: { All IsTold (string_bytes text) },
 }
 
 impl Hints {
@@ -87,18 +111,34 @@ impl Hints {
     fn push(&mut self, told: &str) -> Result<(), AllocError> {
         for line in told.lines() {
             if !line.is_empty() {
-                self.text.push_str("  ")?;
-                self.text.push_str(line)?;
-                self.text.push_str("\n")?;
+                push_line(self.alloc, &mut self.text, line.as_bytes())?;
             }
         }
         Ok(())
     }
 
+    // So do these, of which only the two ends are shown where one is long.
+    fn push_shown(&mut self, told: &str) -> Result<(), AllocError> {
+        for line in told.lines() {
+            let line = shown(self.alloc, line.as_bytes())?;
+            self.push(line.as_str())?;
+        }
+        Ok(())
+    }
+
+    // So do these, of which the first stands behind this name.
+    fn push_named(&mut self, name: &str, told: &str) -> Result<(), AllocError> {
+        let (first, rest) = told.split_once('\n').unwrap_or((told, ""));
+        let first = shown(self.alloc, first.as_bytes())?;
+        let named = format!(in self.alloc; "{name}: {first}")?;
+        self.push(named.as_str())?;
+        self.push_shown(rest)
+    }
+
     /// What this says, line by line.
     pub fn add<T: Display>(&mut self, told: &T) {
         if let Ok(told) = format!(in self.alloc; "{told}") {
-            let _ = self.push(told.as_str());
+            let _ = self.push_shown(told.as_str());
         }
     }
 
@@ -123,12 +163,17 @@ impl Hints {
         }
     }
 
-    /// Which file couldn't be written, what for, and why.
-    pub fn of_output<P: Places>(&mut self, what: &str, output: &NewFile<'_, P>) {
+    /// Which file couldn't be written, what for, and why; and where the record of it stays.
+    pub fn of_output(&mut self, output: &NewFile<'_>) {
+        if let Some(path) = output.record_path()
+            && let Ok(told) = format!(in self.alloc; "what was answered stays in {path}")
+        {
+            let _ = self.push(told.as_str());
+        }
         let Some(error) = output.trouble() else {
             return;
         };
-        let name = output.name();
+        let (what, name) = (output.what(), output.name());
         if let Ok(told) = format!(in self.alloc; "cannot write the {what} {name}: {error}") {
             let _ = self.push(told.as_str());
         }
@@ -140,19 +185,14 @@ impl Hints {
             self.add(&"the policy's bytes are no UTF-8");
             return;
         };
-        if let Ok(Some(blamed)) = first_fault(self.alloc, text)
-            && let Ok(told) = format!(in self.alloc; "{name}: {blamed}")
-        {
-            let _ = self.push(told.as_str());
+        if let Ok(Some(blamed)) = first_fault(self.alloc, text) {
+            let _ = self.push_named(name, blamed.as_str());
         }
     }
 
     /// The line of this number, from 1, of the file's text.
     pub fn of_line(&mut self, name: &str, text: &[u8], number: usize) {
-        let Ok(line) = str::from_utf8(line_at(text, number)) else {
-            return;
-        };
-        if line.len() <= LONGEST
+        if let Ok(line) = shown(self.alloc, line_at(text, number))
             && let Ok(told) = format!(in self.alloc; "{name}:{number}: {line}")
         {
             let _ = self.push(told.as_str());
@@ -221,7 +261,7 @@ impl Hints {
         if let Ok(why) = str::from_utf8(why)
             && let Some(line) = why.lines().find(|line| line.starts_with(MAY_NOT))
         {
-            let _ = self.push(line);
+            let _ = self.push_shown(line);
         }
         if let Ok(told) = format!(in self.alloc; "`landtree why {name} {entry}` tells more") {
             let _ = self.push(told.as_str());
@@ -261,10 +301,8 @@ impl Hints {
     /// Which call is refused where a tree is opened by this policy, and the reply to it: one that makes the policy's
     /// nodes, or one of the profile that is wanted.
     pub fn of_opening(&mut self, policy: &str, profile: Option<&str>, setup: &Setup) {
-        if let Ok(Some(refused)) = refused_text(self.alloc, setup, profile.unwrap_or(""))
-            && let Ok(told) = format!(in self.alloc; "{policy}: {refused}")
-        {
-            let _ = self.push(told.as_str());
+        if let Ok(Some(refused)) = refused_text(self.alloc, setup, profile.unwrap_or("")) {
+            let _ = self.push_named(policy, refused.as_str());
         }
     }
 
@@ -293,9 +331,10 @@ impl Notes for Hints {
         };
         let line = test.line;
         if let Ok(Some(text)) = explain_entry(self.alloc, header, test.entries, test.number)
-            && let Ok(told) = format!(in self.alloc; "{file}:{line}: {command}\n{text}")
+            && let Ok(place) = format!(in self.alloc; "{file}:{line}")
+            && let Ok(told) = format!(in self.alloc; "{command}\n{text}")
         {
-            let _ = self.push(told.as_str());
+            let _ = self.push_named(place.as_str(), told.as_str());
         }
     }
 }
