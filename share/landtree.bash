@@ -27,7 +27,7 @@ _landtree() {
         mapfile -t COMPREPLY < <(compgen -d -- "$word")
         return
         ;;
-    --nodes | --history | --from | --to | --profile | --port | --workers | --connections | --idle) return ;;
+    --nodes | --history | --from | --to | --profile | --port | --workers | --connections | --idle | --room) return ;;
     esac
     case ${COMP_WORDS[1]} in
     run) options="--nodes --abi --history --policy --profile --save --strict --explain --help" ;;
@@ -37,7 +37,7 @@ _landtree() {
     why) options="--policy --profile --nodes --explain --help" ;;
     check) options="--nodes --abi --policy --profile --quiet --verbose --explain --help" ;;
     serve)
-        options="--port --workers --connections --idle --log --nodes --abi --history --policy --profile --save --explain --help"
+        options="--port --workers --connections --idle --room --log --nodes --abi --history --policy --profile --save --explain --help"
         ;;
     export)
         options="--policy --profile --as --root --also --follow --deny --exact --best-effort --checked --explain --help"

@@ -317,7 +317,7 @@ def worked(status):
 
 # Runs whose fault lies in words that `Landtree.run` never writes, or in a script that is no standard input.
 BEYOND_OPTIONS = [f"words-{it}" for it in ("history-no-number", "nodes-no-number", "nodes-told-twice")]
-BEYOND_OPTIONS += ["words-script-not-there", "save-over-the-script"]
+BEYOND_OPTIONS += ["words-script-not-there", "save-over-the-script", "save-over-the-script-by-another-name"]
 
 # Runs whose profile asks for too much, so that a call of the opening is refused and no line is read.
 REFUSED_OPENINGS = ["policy-profile-call-refused", "policy-257-rules", "policy-seventeen-layers"]

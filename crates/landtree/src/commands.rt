@@ -19,13 +19,13 @@ ghost use Rattle.ll_wire.specs.Pieces.{pieces};
 use ll_asking::tell_why;
 use ll_explain::tell_rights;
 use ll_export::{export, export_checked};
-use ll_files::{Kept, Late, NewFile, Sources, named};
+use ll_files::{Clash, Device, Kept, Late, NewFile, Purpose, Sources, named};
 use ll_hints::{Hints, Misfit};
 use ll_options::{
     CheckOptions, ExportOptions, Question, RightsOptions, RunOptions, ScheduleOptions,
     ServeOptions, WhyOptions,
 };
-use ll_replay::{draw_schedule, explain_schedule, perform_schedule, setup_by, window_by};
+use ll_replay::{draw_in, explain_schedule, perform_schedule, setup_by, window_by};
 use ll_rights::limits::TREE_NODES;
 use ll_runs::{Checked, Conclusion, Failure, Shown, audit, check, read_text, run};
 use ll_saved::Verdict;
@@ -33,6 +33,25 @@ use ll_serving::{Binds, Log, serve};
 use std::io::{IsTerminal, Read};
 use std::sync::Wait;
 use std::thread::Threads;
+
+// The file of this name for a history, if one is named.
+fn history_file<'a>(rt: &'a HostRuntime, name: Option<&'a str>, is_telling: bool) -> NewFile<'a> {
+    NewFile::new(rt, name.unwrap_or(""), "history", is_telling)
+}
+
+// What a command writes to while it runs.
+const OUTPUT: Purpose<'static> = Purpose {
+    what: "output",
+    device: Device::StandardOutput,
+};
+
+fn policy_of<'a>(name: Option<&'a str>) -> Option<Purpose<'a>> {
+    let device = Device::File(name?);
+    Some(Purpose {
+        what: "policy",
+        device,
+    })
+}
 
 // Sets up the run that is wanted, runs the script, and saves the history, if a file is named.
 fn run_script<S: Sources + Wait>(
@@ -48,7 +67,7 @@ fn run_script<S: Sources + Wait>(
 {
     let mut policy = Late::new(sources, Some(options.policy.unwrap_or("")));
     let mut script = Late::new(sources, named(options.script));
-    let mut file = NewFile::new(rt, options.save.unwrap_or(""));
+    let mut file = history_file(rt, options.save, hints.are_wanted());
     let ended = run(
         sources,
         rt.alloc(),
@@ -60,7 +79,7 @@ fn run_script<S: Sources + Wait>(
     );
     hints.of_input("policy", &policy);
     hints.of_input("script", &script);
-    hints.of_output("history", &file);
+    hints.of_output(&file);
     // No script is read where a call of the opening is refused by the only reply.
     if ended.is_ok() && !script.is_open() {
         hints.want_opening();
@@ -82,6 +101,15 @@ pub fn run_options<S: Sources + Wait>(
     if !options.fit() {
         hints.of_misfit(Misfit::of_run(options));
         return Err(Failure::CommandLine);
+    }
+    let script = Purpose {
+        what: "script",
+        device: Device::input(named(options.script)),
+    };
+    let used = [Some(script), policy_of(options.policy), Some(OUTPUT)];
+    if let Some(clash) = Clash::find(rt, "history", options.save, &used) {
+        hints.add(&clash);
+        return Err(Failure::File);
     }
     run_script(rt, sources, options, hints)
 }
@@ -158,10 +186,10 @@ fn perform_and_draw<R: Read>(
     let text = read_text(rt.alloc(), schedule)?;
     let mut lines = text.as_slice();
     perform_schedule(rt.alloc(), setup_by(options), &mut lines, &mut rt.stdout())?;
-    let mut file = NewFile::new(rt, path);
+    let mut file = NewFile::new(rt, path, "picture", false);
     let (setup, window) = (setup_by(options), window_by(options));
-    let drawn = draw_schedule(rt.alloc(), setup, window, text.as_slice(), &mut file);
-    hints.of_output("picture", &file);
+    let drawn = draw_in(rt.alloc(), setup, window, text.as_slice(), &mut file);
+    hints.of_output(&file);
     if hints.are_wanted() {
         hint_at_steps(rt, options, text.as_slice(), hints);
     }
@@ -199,6 +227,19 @@ pub fn schedule_options<S: Sources>(
     if !options.fit() {
         hints.of_misfit(Misfit::of_schedule(options));
         return Err(Failure::CommandLine);
+    }
+    let schedule = Purpose {
+        what: "schedule",
+        device: Device::input(named(options.file)),
+    };
+    if let Some(clash) = Clash::find(
+        rt,
+        "picture",
+        options.picture,
+        &[Some(schedule), Some(OUTPUT)],
+    ) {
+        hints.add(&clash);
+        return Err(Failure::File);
     }
     perform_file(rt, sources, options, hints)?;
     Ok(Conclusion::Done)
@@ -452,7 +493,8 @@ fn serve_port<S: Sources + Threads + Wait + Sync, B: Binds>(
 {
     let log = Log::new(sources, options, rt.stderr(), rt.stderr().is_terminal());
     let mut policy = Late::new(sources, Some(options.policy.unwrap_or("")));
-    let mut file = NewFile::new(rt, options.save.unwrap_or(""));
+    let is_telling = options.log || hints.are_wanted();
+    let mut file = history_file(rt, options.save, is_telling);
     let ended = serve(
         sources,
         rt.alloc(),
@@ -464,7 +506,7 @@ fn serve_port<S: Sources + Threads + Wait + Sync, B: Binds>(
         &mut file,
     );
     hints.of_input("policy", &policy);
-    hints.of_output("history", &file);
+    hints.of_output(&file);
     ended
 }
 
@@ -482,6 +524,11 @@ pub fn serve_options<S: Sources + Threads + Wait + Sync, B: Binds>(
     if !options.fit() {
         hints.of_misfit(Misfit::of_serve(options));
         return Err(Failure::CommandLine);
+    }
+    let used = [policy_of(options.policy), Some(OUTPUT)];
+    if let Some(clash) = Clash::find(rt, "history", options.save, &used) {
+        hints.add(&clash);
+        return Err(Failure::File);
     }
     match serve_port(rt, sources, ports, options, hints) {
         Ok(()) => {

@@ -23,7 +23,7 @@ use commands::{
     serve_options, why_options,
 };
 use hinting::{Doubt, hint_behind};
-use ll_files::Sources;
+use ll_files::{Sources, Standard};
 use ll_hints::{Hints, are_wanted, without_wish};
 use ll_options::Options;
 use ll_runs::{Conclusion, Failure, concluded};
@@ -197,8 +197,11 @@ fn run_program<S: Sources + Threads + Wait + Sync, B: Binds>(
 }
 
 fn main(rt: HostRuntime) -> ExitCode {
+    let Ok(_standard) = Standard::hold(&rt) else {
+        return concluded(&rt, Err(Failure::File));
+    };
     let mut hints = Hints::new(rt.alloc());
-    let status = match run_program(&rt, &rt, &Loopback { net: &rt }, &mut hints) {
+    let status = match run_program(&rt, &rt, &Loopback { rt: &rt }, &mut hints) {
         Ok(status) => status,
         Err(failure) => concluded(&rt, Err(failure)),
     };

@@ -19,6 +19,7 @@ use Rattle.clap.specs.declared.parser.matches.ValueSource.TheVariants.{CommandLi
 use Rattle.clap.specs.declared.builder.value_parser.Reading.{Reading}
 use Rattle.clap.specs.declared.builder.value_parser.Reading.TheVariants.{AsWritten}
 use Rattle.ll_options.specs.Options.{abi, audit, check, connection_numbers, connections, export, file, files}
+use Rattle.ll_options.specs.Options.{room, room_megabytes}
 use Rattle.ll_options.specs.Options.{flag, history, history_numbers, idle, needed, node_numbers, nodes, paths, port}
 use Rattle.ll_options.specs.Options.{ports, rights, run, schedule, script, serve, valued, why, worker_numbers, workers}
 use Rattle.ll_options.specs.Options.{line_number, line_numbers, repeated, words}
@@ -33,7 +34,8 @@ IsRead option id v how = bytes_eq id option.0 ≡ true → (accepts false option
 -- the options whose numbers are there wherever clap finds no fault
 abbrev pub numbered : List (Text × ValueParser)
 numbered = (codes "nodes", node_numbers) ∷ (codes "history", history_numbers) ∷ (codes "port", ports)
-    ∷ (codes "workers", worker_numbers) ∷ (codes "connections", connection_numbers) ∷ []
+    ∷ (codes "workers", worker_numbers) ∷ (codes "connections", connection_numbers)
+    ∷ (codes "room", room_megabytes) ∷ []
 
 -- of each of them, a value that its parser accepts
 abbrev pub AreRead : Text → Text → Reading → Type 0
@@ -138,8 +140,8 @@ check_built = with_built check.top
 
 abbrev pub serve_built : Shape
 serve_built = with_built serve.top
-    (filled port ∷ filled workers ∷ filled connections ∷ filled idle ∷ filled (flag (codes "log")) ∷ filled nodes
-    ∷ filled abi ∷ filled (valued (codes "policy")) ∷ filled (valued (codes "profile")) ∷ filled history
+    (filled port ∷ filled workers ∷ filled connections ∷ filled idle ∷ filled room ∷ filled (flag (codes "log"))
+    ∷ filled nodes ∷ filled abi ∷ filled (valued (codes "policy")) ∷ filled (valued (codes "profile")) ∷ filled history
     ∷ filled (valued (codes "save")) ∷ help_built ∷ [])
 
 abbrev pub export_built : Shape
@@ -226,7 +228,10 @@ nodes_read v is = (
   λ same. (is, refl),
   (
     λ same. no_option same,
-    (λ same. no_option same, (λ same. no_option same, (λ same. no_option same, tt))),
+    (
+      λ same. no_option same,
+      (λ same. no_option same, (λ same. no_option same, (λ same. no_option same, tt))),
+    ),
   ),
 )
 
@@ -235,7 +240,10 @@ history_read v is = (
   λ same. no_option same,
   (
     λ same. (is, refl),
-    (λ same. no_option same, (λ same. no_option same, (λ same. no_option same, tt))),
+    (
+      λ same. no_option same,
+      (λ same. no_option same, (λ same. no_option same, (λ same. no_option same, tt))),
+    ),
   ),
 )
 
@@ -244,7 +252,10 @@ port_read v is = (
   λ same. no_option same,
   (
     λ same. no_option same,
-    (λ same. (is, refl), (λ same. no_option same, (λ same. no_option same, tt))),
+    (
+      λ same. (is, refl),
+      (λ same. no_option same, (λ same. no_option same, (λ same. no_option same, tt))),
+    ),
   ),
 )
 
@@ -253,7 +264,10 @@ workers_read v is = (
   λ same. no_option same,
   (
     λ same. no_option same,
-    (λ same. no_option same, (λ same. (is, refl), (λ same. no_option same, tt))),
+    (
+      λ same. no_option same,
+      (λ same. (is, refl), (λ same. no_option same, (λ same. no_option same, tt))),
+    ),
   ),
 )
 
@@ -263,7 +277,22 @@ connections_read v is = (
   λ same. no_option same,
   (
     λ same. no_option same,
-    (λ same. no_option same, (λ same. no_option same, (λ same. (is, refl), tt))),
+    (
+      λ same. no_option same,
+      (λ same. no_option same, (λ same. (is, refl), (λ same. no_option same, tt))),
+    ),
+  ),
+)
+
+pub room_read : (v : Text) → accepts false room_megabytes v ≡ true → AreRead (codes "room") v AsWritten
+room_read v is = (
+  λ same. no_option same,
+  (
+    λ same. no_option same,
+    (
+      λ same. no_option same,
+      (λ same. no_option same, (λ same. no_option same, (λ same. (is, refl), tt))),
+    ),
   ),
 )
 
@@ -281,6 +310,9 @@ workers_keep = number_keeps (codes "workers") 1 32 (codes "4" ∷ []) false work
 
 connections_keep : Keeps Good (filled connections)
 connections_keep = number_keeps (codes "connections") 1 62 (codes "1" ∷ []) false connections_read
+
+room_keeps : Keeps Good (filled room)
+room_keeps = number_keeps (codes "room") 1 65536 (codes "64" ∷ []) false room_read
 
 abi_keeps : Keeps Good (filled abi)
 abi_keeps = option_keeps (codes "abi") abi.parser [] false refl
@@ -390,16 +422,19 @@ serve_keeps p a e = found_there (Keeps Good) p serve_built.rules a (
       (
         idle_keeps,
         (
-          flag_keeps (codes "log") refl,
+          room_keeps,
           (
-            nodes_keep,
+            flag_keeps (codes "log") refl,
             (
-              abi_keeps,
+              nodes_keep,
               (
-                valued_keeps (codes "policy") refl,
+                abi_keeps,
                 (
-                  valued_keeps (codes "profile") refl,
-                  (history_keeps, (valued_keeps (codes "save") refl, (help_keeps, tt))),
+                  valued_keeps (codes "policy") refl,
+                  (
+                    valued_keeps (codes "profile") refl,
+                    (history_keeps, (valued_keeps (codes "save") refl, (help_keeps, tt))),
+                  ),
                 ),
               ),
             ),

@@ -142,15 +142,16 @@ together_checked paths n level policy profile quiet verbose =
     }) n) paths
 
 -- the same of a serving
-abbrev pub together_served : (at threads all n most idle level : Option ℕ) → Bool
+abbrev pub together_served : (at threads all megabytes n most idle level : Option ℕ) → Bool
     → (policy profile save : Option Text) → Option ServeOrder
-together_served at threads all n most idle level log policy profile save =
-    option_and_then (λ p. option_and_then (λ w. option_and_then (λ c. option_and_then (λ k.
+together_served at threads all megabytes n most idle level log policy profile save =
+    option_and_then (λ p. option_and_then (λ w. option_and_then (λ c. option_and_then (λ r. option_and_then (λ k.
     option_map (λ m. record {
       port = p;
       workers = w;
       connections = c;
       idle = idle;
+      room = r;
       log = log;
       nodes = k;
       level = level;
@@ -158,7 +159,7 @@ together_served at threads all n most idle level log policy profile save =
       policy = policy;
       profile = profile;
       save = save;
-    }) most) n) all) threads) at
+    }) most) n) megabytes) all) threads) at
 
 -- the same of an export
 abbrev pub together_exported : Option Text → Option Text → Option Form → Option Text → List Text → Bool → Option Denied
@@ -202,10 +203,11 @@ pub whole_check : (p : Option (List Text)) (n l : Option ℕ) (q r : Option Text
     → is_some (together_checked p n l q r s t) ≡ true
 whole_check p n l q r s t paths nodes e f = rw (e, f) refl
 
-pub whole_serve : (p w c n m i l : Option ℕ) (log : Bool) (q r s : Option Text) (at threads all nodes most : ℕ)
-    → p ≡ Some at → w ≡ Some threads → c ≡ Some all → n ≡ Some nodes → m ≡ Some most
-    → is_some (together_served p w c n m i l log q r s) ≡ true
-whole_serve p w c n m i l log q r s at threads all nodes most e f g h j = rw (e, f, g, h, j) refl
+pub whole_serve : (p w c b n m i l : Option ℕ) (log : Bool) (q r s : Option Text)
+    (at threads all room nodes most : ℕ)
+    → p ≡ Some at → w ≡ Some threads → c ≡ Some all → b ≡ Some room → n ≡ Some nodes → m ≡ Some most
+    → is_some (together_served p w c b n m i l log q r s) ≡ true
+whole_serve p w c b n m i l log q r s at threads all room nodes most e f g k h j = rw (e, f, g, k, h, j) refl
 
 pub whole_export : (p q : Option Text) (form : Option Form) (root : Option Text) (told : List Text) (follow : Bool)
     (deny : Option Denied) (exact effort : Bool) (files : List Text) (file name : Text) → p ≡ Some file → q ≡ Some name

@@ -21,6 +21,7 @@ use Rattle.clap.specs.declared.builder.value_parser.Reading.{Reading}
 use Rattle.clap.specs.declared.builder.value_parser.Reading.TheVariants.{AsWritten}
 use Rattle.ll_options.specs.Options.{check_order, connection_numbers, export_order, history_numbers, landtree}
 use Rattle.ll_options.specs.Options.{node_numbers, number_in, number_of, ordered, ordered_by, ports, rights_order}
+use Rattle.ll_options.specs.Options.{room_megabytes}
 use Rattle.ll_options.specs.Options.{run_order, schedule_order, serve_order, to_audit, to_check, to_export, to_rights}
 use Rattle.ll_options.specs.Options.{to_run, to_schedule, to_serve, to_why, why_order, worker_numbers}
 use Rattle.ll_options.proofs.Entered.{built_enters}
@@ -29,7 +30,7 @@ use Rattle.ll_options.proofs.Numbers.{whole_why}
 use Rattle.ll_options.proofs.Defaults.{EndsIn, ends_in}
 use Rattle.ll_options.proofs.BuiltRows.{AreRead, Good, GoodRow, IsOther, IsRead, audit_built, audit_keeps, check_built}
 use Rattle.ll_options.proofs.BuiltRows.{check_keeps, connections_read, export_built, export_keeps, history_read}
-use Rattle.ll_options.proofs.BuiltRows.{nodes_read, others, rights_built, rights_keep, run_built, run_keeps}
+use Rattle.ll_options.proofs.BuiltRows.{nodes_read, others, rights_built, rights_keep, room_read, run_built, run_keeps}
 use Rattle.ll_options.proofs.BuiltRows.{schedule_built, schedule_keeps, serve_built, serve_keeps, why_built}
 use Rattle.ll_options.proofs.BuiltRows.{why_keeps, workers_read}
 
@@ -122,6 +123,10 @@ module _ (rows : List Row) (good : Good rows) where
       → (n : ℕ) × (number_of (codes "connections") connection_numbers rows ≡ Some n)
   connections_of = number_there (codes "connections") connection_numbers (λ id v how read. read.1.1.1.1.0)
 
+  room_of : has_row (codes "room") rows ≡ true
+      → (n : ℕ) × (number_of (codes "room") room_megabytes rows ≡ Some n)
+  room_of = number_there (codes "room") room_megabytes (λ id v how read. read.1.1.1.1.1.0)
+
 -- a required argument is given
 given : (b others : Bool) → cond (not b || others) (MissingRequiredArgument ∷ []) [] ≡ [] → b ≡ true
 given true others e = refl
@@ -197,8 +202,11 @@ serve_ends = ends_in serve_built serve_keeps (
       (
         tt,
         (
-          flag_default (codes "log") refl,
-          (nodes_default, (tt, (tt, (tt, (history_default, (tt, (tt, tt))))))),
+          room_read (codes "64") refl,
+          (
+            flag_default (codes "log") refl,
+            (nodes_default, (tt, (tt, (tt, (history_default, (tt, (tt, tt))))))),
+          ),
         ),
       ),
     ),
@@ -290,9 +298,10 @@ serve_wanted rest e =
     let at = port_of rows ends.0 (given (is_given (codes "port") rows) _ ends.2) in
     let threads = workers_of rows ends.0 (ends.1.1.0 tt) in
     let all = connections_of rows ends.0 (ends.1.1.1.0 tt) in
-    let n = nodes_of rows ends.0 (ends.1.1.1.1.1.1.0 tt) in
-    let most = history_of rows ends.0 (ends.1.1.1.1.1.1.1.1.1.1.0 tt) in
-    whole_serve _ _ _ _ _ _ _ _ _ _ _ at.0 threads.0 all.0 n.0 most.0 at.1 threads.1 all.1 n.1 most.1
+    let room = room_of rows ends.0 (ends.1.1.1.1.1.0 tt) in
+    let n = nodes_of rows ends.0 (ends.1.1.1.1.1.1.1.0 tt) in
+    let most = history_of rows ends.0 (ends.1.1.1.1.1.1.1.1.1.1.1.0 tt) in
+    whole_serve _ _ _ _ _ _ _ _ _ _ _ _ at.0 threads.0 all.0 room.0 n.0 most.0 at.1 threads.1 all.1 room.1 n.1 most.1
 
 export_wanted : (rest : List Text) → level_fault export_built [] nothing_held rest false [] ≡ []
     → is_some (export_order (rows_after export_built.rules [] rest)) ≡ true

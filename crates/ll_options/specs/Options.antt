@@ -8,8 +8,7 @@ use Rattle.std.specs.Str.Parse.{digits_value, without_leading_plus}
 use Rattle.clap.specs.declared.error.kind.ErrorKind.TheVariants.{DisplayHelp, DisplayVersion}
 use Rattle.clap.specs.declared.builder.action.ArgAction.TheVariants.{Append, SetTrue}
 use Rattle.clap.specs.Words.{App, IsAmong, Kinds, Row, Rule, Text, all_of, first_of, new_app, new_rule, one_of}
-use Rattle.clap.specs.Words.{subcommand_of}
-use Rattle.clap.specs.Words.{with_rule, with_subcommand}
+use Rattle.clap.specs.Words.{subcommand_of, with_rule, with_subcommand}
 use Rattle.clap.specs.Lexer.{usize_max}
 use Rattle.clap.specs.Simple.{on_top}
 use Rattle.clap.specs.ValueTests.{accepts}
@@ -145,10 +144,18 @@ idle_seconds = Unsigned 1 3600
 abbrev pub idle : Rule
 idle = record (valued (codes "idle")) { parser = Some idle_seconds }
 
+-- from 1 to 65,536
+abbrev pub room_megabytes : ValueParser
+room_megabytes = Unsigned 1 65536
+
+-- how many megabytes a connection's lines and replies may take: 64 where the words don't say
+abbrev pub room : Rule
+room = record (valued (codes "room")) { parser = Some room_megabytes; defaults = codes "64" ∷ [] }
+
 abbrev pub serve : App
 serve = fold with_rule (new_app (codes "serve"))
-    (port ∷ workers ∷ connections ∷ idle ∷ flag (codes "log") ∷ nodes ∷ abi ∷ valued (codes "policy")
-    ∷ valued (codes "profile") ∷ history ∷ valued (codes "save") ∷ [])
+    (port ∷ workers ∷ connections ∷ idle ∷ room ∷ flag (codes "log") ∷ nodes ∷ abi
+    ∷ valued (codes "policy") ∷ valued (codes "profile") ∷ history ∷ valued (codes "save") ∷ [])
 
 -- an option with a value, with each use one more
 abbrev pub repeated : Text → Rule
@@ -217,6 +224,7 @@ pub record ServeOrder : Type 0 where
   pub workers : ℕ
   pub connections : ℕ
   pub idle : Option ℕ
+  pub room : ℕ
   pub log : Bool
   pub nodes : ℕ
   pub level : Option ℕ
@@ -310,6 +318,7 @@ served_in o =
       workers = o.workers;
       connections = o.connections;
       idle = o.idle;
+      room = o.room;
       log = o.log;
       nodes = o.nodes;
       level = o.level;
@@ -421,12 +430,13 @@ check_order rows =
 
 abbrev pub serve_order : List Row → Option ServeOrder
 serve_order rows =
-    option_and_then (λ at. option_and_then (λ threads. option_and_then (λ all. option_and_then (λ n.
-    option_map (λ most. record {
+    option_and_then (λ at. option_and_then (λ threads. option_and_then (λ all. option_and_then (λ megabytes.
+    option_and_then (λ n. option_map (λ most. record {
       port = at;
       workers = threads;
       connections = all;
       idle = number_of (codes "idle") idle_seconds rows;
+      room = megabytes;
       log = is_set (codes "log") rows;
       nodes = n;
       level = number_of (codes "abi") levels rows;
@@ -437,6 +447,7 @@ serve_order rows =
     })
     (number_of (codes "history") history_numbers rows))
     (number_of (codes "nodes") node_numbers rows))
+    (number_of (codes "room") room_megabytes rows))
     (number_of (codes "connections") connection_numbers rows))
     (number_of (codes "workers") worker_numbers rows))
     (number_of (codes "port") ports rows)

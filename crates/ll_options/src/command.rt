@@ -7,11 +7,11 @@ ghost use Rattle.clap.specs.Words.{App, app_of, new_app, new_rule, rule_of, with
 ghost use Rattle.clap.specs.declared.builder.command.Command.TheViews.{out-Command as fields_of};
 ghost use Rattle.clap.specs.declared.builder.value_parser.ValueParser.TheVariants.{Unsigned};
 ghost use Rattle.ll_options.specs.Options.{abi, audit, check, connections, export, flag, history};
-ghost use Rattle.ll_options.specs.Options.{idle, landtree, line_number, nodes, port, repeated, rights, run};
+ghost use Rattle.ll_options.specs.Options.{idle, landtree, line_number, nodes, port, repeated, rights, room, run};
 ghost use Rattle.ll_options.specs.Options.{schedule, serve, valued, why, workers};
 
 use crate::options::LINES;
-use crate::serve::{CONNECTIONS, IDLE_SECONDS, PORTS, WORKERS};
+use crate::serve::{CONNECTIONS, IDLE_SECONDS, PORTS, ROOM_MEGABYTES, WORKERS};
 use clap::{Arg, ArgAction, Command, value_parser};
 use ll_rights::limits::{HISTORY_ENTRIES, TREE_NODES};
 use std::alloc::{AllocError, Global};
@@ -368,6 +368,20 @@ fn idle_option<'a>(alloc: Global) -> Arg<'a>
     )
 }
 
+fn room_option<'a>(alloc: Global) -> Arg<'a>
+    ensures rule { rule_of result ≡ room }
+    ensures local { result.global ≡ false }
+{
+    numbered(
+        alloc,
+        "room",
+        "MB",
+        ROOM_MEGABYTES,
+        "How many megabytes a connection's lines and replies may take",
+    )
+    .default_value("64")
+}
+
 fn serve_command<'a>(alloc: Global) -> Result<Command<'a>, AllocError>
     ensures app { IfOk result (λ command. app_of command ≡ serve) }
     ensures local { IfOk result (λ command. (fields_of command).has_globals ≡ false) }
@@ -377,6 +391,7 @@ fn serve_command<'a>(alloc: Global) -> Result<Command<'a>, AllocError>
         workers_option(alloc),
         connections_option(alloc),
         idle_option(alloc),
+        room_option(alloc),
         flag(alloc, "log", "Each connection and its end, a line"),
         nodes_option(alloc),
         abi_option(

@@ -23,16 +23,21 @@ pub(crate) const CONNECTIONS: usize = 62;
 /// How many seconds a connection may at most be allowed to wait.
 pub(crate) const IDLE_SECONDS: u64 = 3600;
 
+/// How many megabytes of room a connection may at most have.
+pub(crate) const ROOM_MEGABYTES: u64 = 65_536;
+
 /// The serving that is wanted: its port; how many connections are served in all, and how many at a time; after how many
-/// seconds without a byte one is given up, if ever; whether a log tells of each; how many nodes may live in the tree
-/// that they share; the tree's level, or the file of its policy and the profile that each connection's first client
-/// has; how many entries its history may have, and the file in which this is saved, if any.
+/// seconds without a byte one is given up, if ever; how many megabytes its lines and replies may take; whether a log
+/// tells of each; how many nodes may live in the tree that they share; the tree's level, or the file of its policy and
+/// the profile that each connection's first client has; how many entries its history may have, and the file in which
+/// this is saved, if any.
 #[derive(Drop)]
 pub struct ServeOptions<'a> {
     pub port: u16,
     pub workers: usize,
     pub connections: usize,
     pub idle: Option<u64>,
+    pub room: u64,
     pub log: bool,
     pub nodes: usize,
     pub level: Option<Abi>,
@@ -46,6 +51,8 @@ pub struct ServeOptions<'a> {
     ghost some_connections: { 1 ≤ connections },
     ghost most_connections: { connections ≤ 62 },
     ghost idle_within: { IfSome idle (λ seconds. (1 ≤ seconds) × (seconds ≤ 3600)) } by { Prim.hlevel props },
+    ghost some_room: { 1 ≤ room },
+    ghost most_room: { room ≤ 65536 },
     ghost some: { 1 ≤ nodes },
     ghost most: { nodes ≤ TREE_NODES },
     ghost some_entries: { 1 ≤ history },
@@ -65,6 +72,7 @@ impl<'a> ServeOptions<'a> {
         let workers = number_of(serve, "workers", 1, WORKERS as u64)?;
         let connections = number_of(serve, "connections", 1, CONNECTIONS as u64)?;
         let idle = number_of(serve, "idle", 1, IDLE_SECONDS);
+        let room = number_of(serve, "room", 1, ROOM_MEGABYTES)?;
         let log = CheckOptions::is_set(serve, "log");
         let nodes = number_of(serve, "nodes", 1, TREE_NODES as u64)?;
         let level = RunOptions::level_of(serve);
@@ -77,6 +85,7 @@ impl<'a> ServeOptions<'a> {
             workers: workers as usize,
             connections: connections as usize,
             idle,
+            room,
             log,
             nodes: nodes as usize,
             level,

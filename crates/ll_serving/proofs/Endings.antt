@@ -1,6 +1,6 @@
 -- How serving ends: well, or by a failure.
 use Rattle.std.specs.Prelude.{◌≡◌, ℕ, List, Option, None, Some, IfSome, OnOk, Result, Ok, Err, is_some, option_map}
-use Rattle.std.specs.Prelude.{false, refl, true}
+use Rattle.std.specs.Prelude.{IfErr, OnErr, false, refl, true}
 use Rattle.std.specs.Borrow.{Bor}
 use Rattle.std.specs.Io.KnownBytes.{Appends}
 use Rattle.std.proofs.Common.{ap, inl, inr, subst, sym, ◌∙◌}
@@ -26,18 +26,18 @@ named None = refl
 named (Some t) = refl
 
 -- no file is named
-not_saved : (setup : Setup) (entries : List Entry) (save : Option (Bor (List ℕ))) (file : Option (List ℕ))
-    → is_some save ≡ false → IsSaved (bytes_of save) setup entries file file
-not_saved setup entries None file none = refl
-not_saved setup entries (Some name) file none = absurd (cc none)
+not_saved : (setup : Setup) (entries : List Entry) (save : Option (Bor (List ℕ))) (blank file : Option (List ℕ))
+    → is_some save ≡ false → IsSaved (bytes_of save) setup entries blank file file
+not_saved setup entries None blank file none = refl
+not_saved setup entries (Some name) blank file none = absurd (cc none)
 
 -- one is
-is_saved : (setup : Setup) (entries : List Entry) (save : Option (Bor (List ℕ))) (file file' : Option (List ℕ))
-    (h : Header) → is_some save ≡ true → h ≡ header_of setup → Appends file file' (saved_text h entries)
-    → IsSaved (bytes_of save) setup entries file file'
-is_saved setup entries None file file' h some is saved = absurd (cc some)
-is_saved setup entries (Some name) file file' h some is saved =
-    subst (λ (x : Header). Appends file file' (saved_text x entries)) is saved
+is_saved : (setup : Setup) (entries : List Entry) (save : Option (Bor (List ℕ))) (blank file file' : Option (List ℕ))
+    (h : Header) → is_some save ≡ true → h ≡ header_of setup → Appends blank file' (saved_text h entries)
+    → IsSaved (bytes_of save) setup entries blank file file'
+is_saved setup entries None blank file file' h some is saved = absurd (cc some)
+is_saved setup entries (Some name) blank file file' h some is saved =
+    subst (λ (x : Header). Appends blank file' (saved_text x entries)) is saved
 
 -- ---- by the options, and the text that the policy's file tells
 
@@ -69,18 +69,22 @@ module _ (options : ServeOptions) (run : RunOptions) (is : order_in run ≡ run_
     is_set : IsSetup (run_of order) set.0 setup
     is_set = subst (λ (o : RunOrder). IsSetup o set.0 setup) is set.2
 
-    pub unserved : (out out' file : Option (List ℕ)) (failure : Failure)
-        → MayStop setup options.port out out' failure → Told (λ text. MayFail order text out out' file file failure)
-    unserved out out' file failure stops = (set.0, set.1, inr (inl (setup, is_set, stops, refl)))
+    pub unserved : (out out' file file' : Option (List ℕ)) (failure : Failure)
+        → MayStop setup options.port out out' failure → file' ≡ file
+        → Told (λ text. MayFail order text out out' file file' failure)
+    unserved out out' file file' failure stops same = (set.0, set.1, inr (inl (setup, is_set, stops, same)))
 
     module _ (out out' file file' : Option (List ℕ)) (told : Appends out out' (listening options.port)) where
-      pub unsaved : (failure : Failure) → is_some options.save ≡ true → IsOfSaving failure
-          → Told (λ text. MayFail order text out out' file file' failure)
-      unsaved failure some saving =
-          (set.0, set.1, inr (inr (named options.save ∙ some, saving, setup, is_set, told)))
+      pub unsaved : {T : Type 0} (r : Result T Failure) → is_some options.save ≡ true → IfErr r IsOfSaving
+          → OnErr r (file' ≡ file)
+          → IfErr r (λ failure. Told (λ text. MayFail order text out out' file file' failure))
+      unsaved (Ok value) some saving same = tt
+      unsaved (Err failure) some saving same =
+          (set.0, set.1, inr (inr (named options.save ∙ some, saving, setup, is_set, told, same)))
 
-      module _ (entries : List Entry) (served : IsServed setup entries) where
-        pub done : is_some options.save ≡ false → file' ≡ file → Told (λ text. IsDone order text out out' file file')
+      module _ (blank : Option (List ℕ)) (entries : List Entry) (served : IsServed setup entries) where
+        pub done : is_some options.save ≡ false → file' ≡ file
+            → Told (λ text. IsDone order text out out' blank file file')
         done none same = (
           set.0,
           set.1,
@@ -90,14 +94,14 @@ module _ (options : ServeOptions) (run : RunOptions) (is : order_in run ≡ run_
             is_set,
             served,
             told,
-            subst (λ (f : Option (List ℕ)). IsSaved (bytes_of options.save) setup entries file f) (sym same)
-                (not_saved setup entries options.save file none),
+            subst (λ (f : Option (List ℕ)). IsSaved (bytes_of options.save) setup entries blank file f) (sym same)
+                (not_saved setup entries options.save blank file none),
           ),
         )
 
         pub saved : {T E : Type 0} (r : Result T E) (h : Header) → is_some options.save ≡ true → h ≡ header_of setup
-            → OnOk r (Appends file file' (saved_text h entries))
-            → OnOk r (Told (λ text. IsDone order text out out' file file'))
+            → OnOk r (Appends blank file' (saved_text h entries))
+            → OnOk r (Told (λ text. IsDone order text out out' blank file file'))
         saved (Ok value) h some header it = (
           set.0,
           set.1,
@@ -107,7 +111,7 @@ module _ (options : ServeOptions) (run : RunOptions) (is : order_in run ≡ run_
             is_set,
             served,
             told,
-            is_saved setup entries options.save file file' h some header it,
+            is_saved setup entries options.save blank file file' h some header it,
           ),
         )
         saved (Err fault) h some header it = tt

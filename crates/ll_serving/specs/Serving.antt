@@ -52,10 +52,10 @@ IsServed setup entries =
 
 -- Streams were served on the tree that is wanted, where the policy's file has this text: the port was told, and nothing
 -- else; and the history is saved, where a file is named
-abbrev pub IsDone : ServeOrder → List ℕ → (out out' file file' : Option (List ℕ)) → Type 0
-IsDone order text out out' file file' =
+abbrev pub IsDone : ServeOrder → List ℕ → (out out' blank file file' : Option (List ℕ)) → Type 0
+IsDone order text out out' blank file file' =
     (setup : Setup) × (entries : List Entry) × IsSetup (run_of order) text setup × IsServed setup entries
-    × Appends out out' (listening order.port) × IsSaved order.save setup entries file file'
+    × Appends out out' (listening order.port) × IsSaved order.save setup entries blank file file'
 
 -- the loader's calls may all be made on the fresh tree, if there is one
 abbrev pub MayLoad : Setup → Type 0
@@ -73,14 +73,14 @@ MayStop setup port out out' File = ⊥
 MayStop setup port out out' NoMemory = (out' ≡ out) ⊎ Appends out out' (listening port)
 
 -- Why streams aren't served to the end and the history saved: a policy is named, and there is no setup by it; or the
--- tree of that setup isn't served on; or the history that is to be saved can't be. Nothing is saved before
+-- tree of that setup isn't served on; or the history that is to be saved can't be. What stood in the file stays
 abbrev pub MayFail : ServeOrder → List ℕ → (out out' file file' : Option (List ℕ)) → Failure → Type 0
 MayFail order text out out' file file' failure =
     ((is_some order.policy ≡ true) × Lacks (run_of order) text failure × (out' ≡ out) × (file' ≡ file))
     ⊎ ((setup : Setup) × IsSetup (run_of order) text setup × MayStop setup order.port out out' failure
     × (file' ≡ file))
     ⊎ ((is_some order.save ≡ true) × IsOfSaving failure × (setup : Setup) × IsSetup (run_of order) text setup
-    × Appends out out' (listening order.port))
+    × Appends out out' (listening order.port) × (file' ≡ file))
 
 -- ---- Support of the functions below `serve`
 

@@ -12,18 +12,18 @@ ghost use Rattle.ll_wire.specs.Entries.{IsEntry};
 ghost use Rattle.ll_serving.specs.Serving.{IsServed, MayStop, listening};
 
 use crate::closing::close;
-use crate::counting::Counting;
+use crate::door::Door;
 use crate::listening::listen;
 use crate::loading::{entry_count, knows_only};
 use crate::log::Log;
-use crate::port::Binds;
+use crate::port::{Binds, Listens};
 use ll_calls::Tree;
 use ll_client::{Account, Client, Shape};
 use ll_options::ServeOptions;
 use ll_runs::Failure;
 use ll_seq::{Call, History};
-use ll_serve::{Accepts, Host, gather, serve_on};
-use ll_session::Setup;
+use ll_serve::{Host, gather, serve_on};
+use ll_session::{Keeps, Setup};
 use ll_talk::Party;
 use ll_tie::Blank;
 use ll_walk::NoGate;
@@ -62,7 +62,8 @@ fn fresh<N: Shape>(
 fn serve_all<
     N: Shape + Send + Sync,
     H: Threads + Wait + Sync,
-    L: Accepts + Sync + Drop,
+    L: Listens + Send + Sync + Drop,
+    K: Keeps + Sync,
     E: Write + Send,
 >(
     rt: &H,
@@ -71,6 +72,7 @@ fn serve_all<
     clients: Vec<Client<N>>,
     profile: &[Call],
     listener: L,
+    keeper: &K,
     options: &ServeOptions,
     log: &Log<'_, H, E>,
 ) -> Result<History, Failure>
@@ -85,14 +87,15 @@ fn serve_all<
     let host = Host {
         tree: &tree,
         limit: options.history as u64,
+        keeper,
         profile,
     };
-    let listener = Counting { listener };
+    let door = Door::new(rt, alloc, listener, options, log);
     let served = serve_on(
         rt,
         alloc,
         &host,
-        &listener,
+        &door,
         log,
         options.workers,
         options.connections,
@@ -107,13 +110,21 @@ fn serve_all<
 }
 
 // The same as `host_on`, over a tree that this blank is of.
-fn host_in<N: Shape + Send + Sync, H: Threads + Wait + Sync, B: Binds, W: Write, E: Write + Send>(
+fn host_in<
+    N: Shape + Send + Sync,
+    H: Threads + Wait + Sync,
+    B: Binds,
+    K: Keeps + Sync,
+    W: Write,
+    E: Write + Send,
+>(
     rt: &H,
     alloc: Global,
     blank: Blank<Account>,
     setup: Setup,
     options: &ServeOptions,
     net: &B,
+    keeper: &K,
     out: &mut W,
     log: &Log<'_, H, E>,
 ) -> Result<History, Failure>
@@ -142,7 +153,9 @@ fn host_in<N: Shape + Send + Sync, H: Threads + Wait + Sync, B: Binds, W: Write,
             let clients = party.into_clients();
             knows_only(rt, clients.as_slice(), entries);
             let profile = profile.as_slice();
-            serve_all(rt, alloc, tree, clients, profile, listener, options, log)
+            serve_all(
+                rt, alloc, tree, clients, profile, listener, keeper, options, log,
+            )
         }
         Err(failure) => {
             drop(close(rt, tree, party.into_clients()));
@@ -153,12 +166,19 @@ fn host_in<N: Shape + Send + Sync, H: Threads + Wait + Sync, B: Binds, W: Write,
 
 /// Serves the streams that come from the port that the options name, on a tree that is set up so. What is left is its
 /// history.
-pub(crate) fn host_on<H: Threads + Wait + Sync, B: Binds, W: Write, E: Write + Send>(
+pub(crate) fn host_on<
+    H: Threads + Wait + Sync,
+    B: Binds,
+    K: Keeps + Sync,
+    W: Write,
+    E: Write + Send,
+>(
     rt: &H,
     alloc: Global,
     setup: Setup,
     options: &ServeOptions,
     net: &B,
+    keeper: &K,
     out: &mut W,
     log: &Log<'_, H, E>,
 ) -> Result<History, Failure>
@@ -170,7 +190,9 @@ pub(crate) fn host_on<H: Threads + Wait + Sync, B: Binds, W: Write, E: Write + S
         (MayStop setup options.now.port (W.contents out.old) (W.contents out.new)) }
 {
     match Blank::new(alloc) {
-        Ok(blank) => host_in::<Brand, H, B, W, E>(rt, alloc, blank, setup, options, net, out, log),
+        Ok(blank) => host_in::<Brand, H, B, K, W, E>(
+            rt, alloc, blank, setup, options, net, keeper, out, log,
+        ),
         Err(_) => Err(Failure::NoMemory),
     }
 }

@@ -3,13 +3,16 @@
 
 mod closing;
 mod counting;
+mod door;
 mod hosting;
 mod listening;
 mod loading;
 mod log;
 mod port;
 mod program;
+mod room;
+mod trouble;
 
 pub use log::Log;
-pub use port::{Binds, Loopback, Port};
+pub use port::{Binds, Listens, Loopback, Missed, Port};
 pub use program::serve;

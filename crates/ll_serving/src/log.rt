@@ -1,9 +1,13 @@
 //! What is told of connections on standard error.
 
-use crate::counting::{Counted, Tally};
+use crate::counting::{Counted, Heard, Tally, refusal_of, trouble_of};
+use crate::trouble::Troubled;
 use ll_client::Shape;
+use ll_lines::SessionFault;
 use ll_options::ServeOptions;
 use ll_serve::{Served, Stream, Watches};
+use std::fmt::Display;
+use std::io;
 use std::io::Write;
 use std::sync::{Mutex, Wait};
 
@@ -22,6 +26,8 @@ enum Telling {
 struct Desk<E> {
     err: E,
     telling: Telling,
+    // How many seconds a connection may wait for its peer.
+    idle: u64,
     open: u64,
     connections: u64,
     clients: u64,
@@ -45,25 +51,53 @@ impl<E: Write> Desk<E> {
         self.tell_open();
     }
 
-    fn went<N: Shape, R, W>(&mut self, number: u64, tally: Tally, served: &Served<N, R, W>) {
-        let clients = served.clients.len() as u64;
-        self.open = self.open.saturating_sub(1);
-        self.clients = self.clients.saturating_add(clients);
-        self.tally = self.tally.plus(tally);
+    // Tells of a connection with so many clients, and how it has ended.
+    fn tell_end<D: Display>(&mut self, number: u64, clients: u64, tally: Tally, end: &D) {
         if self.telling == Telling::Lines {
             let Tally { lines, denials, .. } = tally;
-            let _ = match &served.ended {
-                Ok(()) => writeln!(
-                    self.err,
-                    "connection {number} went: {clients} clients, {lines} lines, {denials} denied, at its end"
-                ),
-                Err(fault) => writeln!(
-                    self.err,
-                    "connection {number} went: {clients} clients, {lines} lines, {denials} denied, {fault}"
-                ),
-            };
+            let _ = writeln!(
+                self.err,
+                "connection {number} went: {clients} clients, {lines} lines, {denials} denied, {end}"
+            );
         }
+    }
+
+    fn tell_ended<N: Shape, R, W>(
+        &mut self,
+        stream: &Stream<Heard<R>, Counted<W>>,
+        served: &Served<N, Heard<R>, Counted<W>>,
+    ) {
+        let clients = served.clients.len() as u64;
+        let (number, tally) = (stream.number, stream.writer.tally());
+        let refusal = refusal_of(&stream.reader, &stream.writer).map(str::from_utf8);
+        match (&served.ended, refusal) {
+            (Ok(()), Some(Ok(reply))) => self.tell_end(number, clients, tally, &reply),
+            (Ok(()), _) => self.tell_end(number, clients, tally, &"at its end"),
+            (Err(SessionFault::Read | SessionFault::Write), _)
+                if let Some(trouble) = trouble_of(&stream.reader, &stream.writer) => {
+                let idle = self.idle;
+                self.tell_end(number, clients, tally, &Troubled { trouble, idle });
+            }
+            (Err(fault), _) => self.tell_end(number, clients, tally, fault),
+        }
+    }
+
+    fn went<N: Shape, R, W>(
+        &mut self,
+        stream: &Stream<Heard<R>, Counted<W>>,
+        served: &Served<N, Heard<R>, Counted<W>>,
+    ) {
+        self.open = self.open.saturating_sub(1);
+        self.clients = self.clients.saturating_add(served.clients.len() as u64);
+        self.tally = self.tally.plus(stream.writer.tally());
+        self.tell_ended(stream, served);
         self.tell_open();
+    }
+
+    fn missed(&mut self, error: &io::Error) {
+        if self.telling == Telling::Lines {
+            let _ = writeln!(self.err, "no connection: {error}");
+        }
     }
 
     fn end(&mut self) {
@@ -100,6 +134,7 @@ impl<'a, H: Wait, E: Write> Log<'a, H, E> {
         let desk = Mutex::new(Desk {
             err,
             telling,
+            idle: options.idle.unwrap_or(0),
             open: 0,
             connections: 0,
             clients: 0,
@@ -108,19 +143,27 @@ impl<'a, H: Wait, E: Write> Log<'a, H, E> {
         Log { rt, desk }
     }
 
+    /// One couldn't be accepted.
+    pub(crate) fn missed(&self, error: &io::Error) {
+        self.desk.lock(self.rt).missed(error);
+    }
+
     /// No more connections come.
     pub(crate) fn end(&self) {
         self.desk.lock(self.rt).end();
     }
 }
 
-impl<H: Wait, E: Write, R, W> Watches<R, Counted<W>> for Log<'_, H, E> {
-    fn came(&self, stream: &Stream<R, Counted<W>>) {
+impl<H: Wait, E: Write, R, W> Watches<Heard<R>, Counted<W>> for Log<'_, H, E> {
+    fn came(&self, stream: &Stream<Heard<R>, Counted<W>>) {
         self.desk.lock(self.rt).came(stream.number);
     }
 
-    fn went<N: Shape>(&self, stream: &Stream<R, Counted<W>>, served: &Served<N, R, Counted<W>>) {
-        let mut desk = self.desk.lock(self.rt);
-        desk.went(stream.number, stream.writer.tally, served);
+    fn went<N: Shape>(
+        &self,
+        stream: &Stream<Heard<R>, Counted<W>>,
+        served: &Served<N, Heard<R>, Counted<W>>,
+    ) {
+        self.desk.lock(self.rt).went(stream, served);
     }
 }

@@ -14,6 +14,7 @@ use ll_client::{Account, Client, Locked, Shape};
 use ll_rights::{Abi, Kind};
 use ll_seq::Rules;
 use ll_serve::{Host, Served, Stream, Watches, add_all, gather, hand_over, serve_streams};
+use ll_session::NoKeeper;
 use ll_tie::Blank;
 use ll_walk::Gate;
 use std::alloc::Global;
@@ -215,6 +216,7 @@ fn serve_both<N: Shape + Send + Sync, R: Threads + Wait + Sync>(
     let host = Host {
         tree,
         limit: 100,
+        keeper: &NoKeeper,
         profile: &[],
     };
     let watch = Reader {

@@ -12,13 +12,14 @@ returns-clause-app c =
     (ap₂ ◌∷◌ c.workers_option.ensures.rule
     (ap₂ ◌∷◌ c.connections_option.ensures.rule
     (ap₂ ◌∷◌ c.idle_option.ensures.rule
+    (ap₂ ◌∷◌ c.room_option.ensures.rule
     (ap₂ ◌∷◌ c.flag.ensures.rule
     (ap₂ ◌∷◌ c.nodes_option.ensures.rule
     (ap₂ ◌∷◌ c.abi_option.ensures.rule
     (ap₂ ◌∷◌ c.policy_option.ensures.rule
     (ap₂ ◌∷◌ c.profile_option.ensures.rule
     (ap₂ ◌∷◌ c.history_option.ensures.rule
-    (ap₂ ◌∷◌ c.save_option.ensures.rule refl)))))))))))
+    (ap₂ ◌∷◌ c.save_option.ensures.rule refl))))))))))))
     c.command_of.ensures.app
 
 pub command_of-requires : goal.command_of-requires
@@ -32,18 +33,21 @@ command_of-requires c =
           (
             c.idle_option.ensures.local,
             (
-              c.flag.ensures.local,
+              c.room_option.ensures.local,
               (
-                c.nodes_option.ensures.local,
+                c.flag.ensures.local,
                 (
-                  c.abi_option.ensures.local,
+                  c.nodes_option.ensures.local,
                   (
-                    c.policy_option.ensures.local,
+                    c.abi_option.ensures.local,
                     (
-                      c.profile_option.ensures.local,
+                      c.policy_option.ensures.local,
                       (
-                        c.history_option.ensures.local,
-                        (c.save_option.ensures.local, tt),
+                        c.profile_option.ensures.local,
+                        (
+                          c.history_option.ensures.local,
+                          (c.save_option.ensures.local, tt),
+                        ),
                       ),
                     ),
                   ),
