@@ -1,7 +1,7 @@
 //! What each command does, over the files that its words name.
 
 ghost use Rattle.std.specs.Prelude.{◌≡◌, ℕ, true, false, List, Option, None, Some, Err, IfErr, IfOk, IfSome};
-ghost use Rattle.ll_files.specs.Sources.{named, text_in};
+ghost use Rattle.ll_runs.specs.Sources.{named, text_in};
 ghost use Rattle.ll_options.specs.Options.{checked_in, exported_in, fits, fits_check, fits_export, fits_schedule};
 ghost use Rattle.ll_options.specs.Options.{is_checked};
 ghost use Rattle.ll_options.specs.Options.{fits_why};
@@ -9,27 +9,30 @@ ghost use Rattle.ll_options.specs.Options.{fits_serve, order_in, rights_in, sche
 ghost use Rattle.ll_runs.specs.Failure.{EndsAudit, EndsCheck, EndsExport, EndsRights, EndsRun, EndsSchedule};
 ghost use Rattle.ll_runs.specs.Failure.{EndsServe, IsOfDevices, IsOfExport, IsRunEnd};
 ghost use Rattle.ll_runs.specs.Policy.{MayFail};
-ghost use Rattle.ll_explain.specs.Rights as rights;
-ghost use Rattle.ll_export.specs.Export as exports;
-ghost use Rattle.ll_asking.specs.Why.{EndsWhy};
-ghost use Rattle.ll_serving.specs.Serving as serving;
-ghost use Rattle.ll_saved.specs.Saved.{Judges};
+ghost use Rattle.ll_commands.specs.Rights as rights;
+ghost use Rattle.ll_commands.specs.Export as exports;
+ghost use Rattle.ll_commands.specs.Why.{EndsWhy};
+ghost use Rattle.ll_commands.specs.Serving as serving;
+ghost use Rattle.ll_audit.specs.Saved.{Judges};
 ghost use Rattle.ll_wire.specs.Pieces.{pieces};
 
-use ll_asking::tell_why;
-use ll_explain::tell_rights;
-use ll_export::{export, export_checked};
-use ll_files::{Clash, Device, Kept, Late, NewFile, Purpose, Sources, named};
-use ll_hints::{Hints, Misfit};
+use crate::hints::Hints;
+use crate::misfits::Misfit;
+use ll_audit::Verdict;
+use ll_check::check;
+use ll_commands::{
+    Binds, Log, draw_in, explain_schedule, export, export_checked, perform_schedule, serve,
+    setup_by, tell_rights, tell_why, window_by,
+};
 use ll_options::{
     CheckOptions, ExportOptions, Question, RightsOptions, RunOptions, ScheduleOptions,
     ServeOptions, WhyOptions,
 };
-use ll_replay::{draw_in, explain_schedule, perform_schedule, setup_by, window_by};
 use ll_rights::limits::TREE_NODES;
-use ll_runs::{Checked, Conclusion, Failure, Shown, audit, check, read_text, run};
-use ll_saved::Verdict;
-use ll_serving::{Binds, Log, serve};
+use ll_runs::{
+    Checked, Clash, Conclusion, Device, Failure, Kept, Late, NewFile, Purpose, Shown, Sources,
+    audit, named, read_text, run,
+};
 use std::io::{IsTerminal, Read};
 use std::sync::Wait;
 use std::thread::Threads;

@@ -3,17 +3,15 @@
 ghost use Rattle.std.specs.Prelude.{◌≤◌};
 ghost use Rattle.ll_rights.specs.declared.limits.TheConstants.{TREE_NODES};
 
-use ll_asking::tell_why;
-use ll_export::flaw_of;
-use ll_files::{Late, Sources, named};
-use ll_hints::Hints;
+use crate::hints::Hints;
+use ll_audit::Verdict;
+use ll_commands::{flaw_of, tell_why};
 use ll_options::{
     CheckOptions, ExportOptions, Options, Question, RightsOptions, RunOptions, ServeOptions,
     WhyOptions,
 };
 use ll_rights::limits::{HISTORY_ENTRIES, TREE_NODES};
-use ll_runs::{Conclusion, Failure, Stopped, read_text, setup_of};
-use ll_saved::Verdict;
+use ll_runs::{Conclusion, Failure, Late, Sources, Stopped, named, read_text, setup_of};
 use std::alloc::{AllocError, Global};
 use std::fs;
 

@@ -4,17 +4,21 @@
 
 mod commands;
 mod hinting;
+mod hints;
+mod misfits;
+mod opening;
+mod wanted;
 
 ghost use Rattle.std.specs.Prelude.{◌≡◌, ◌⊎◌, true, false, [], map, Some, None, Err};
 ghost use Rattle.std.specs.Prelude.{IfErr, IfNone, IfSome, OnOk};
 ghost use Rattle.clap.specs.Words.{Text, fault_of, kind_of};
-ghost use Rattle.ll_files.specs.Sources.{named};
+ghost use Rattle.ll_runs.specs.Sources.{named};
 ghost use Rattle.ll_options.specs.Options.{CheckOrder, EndsWell, ExportOrder, RightsOrder, RunOrder, ScheduleOrder};
 ghost use Rattle.ll_options.specs.Options.{is_checked};
 ghost use Rattle.ll_options.specs.Options.{ServeOrder, fits, fits_check, fits_export, fits_schedule, fits_serve};
 ghost use Rattle.ll_options.specs.Options.{landtree, ordered_by, ordered_in, to_audit, to_check, to_export, to_rights};
 ghost use Rattle.ll_options.specs.Options.{WhyOrder, fits_why, to_run, to_schedule, to_serve, to_why};
-ghost use Rattle.ll_asking.specs.Why.{EndsWhy};
+ghost use Rattle.ll_commands.specs.Why.{EndsWhy};
 ghost use Rattle.ll_runs.specs.Failure.{EndsAudit, EndsCheck, EndsExport, EndsRights, EndsRun, EndsSchedule};
 ghost use Rattle.ll_runs.specs.Failure.{EndsServe, failure_by};
 
@@ -23,16 +27,16 @@ use commands::{
     serve_options, why_options,
 };
 use hinting::{Doubt, hint_behind};
-use ll_files::{Sources, Standard};
-use ll_hints::{Hints, are_wanted, without_wish};
+use hints::Hints;
+use ll_commands::{Binds, Loopback};
 use ll_options::Options;
-use ll_runs::{Conclusion, Failure, concluded};
-use ll_serving::{Binds, Loopback};
+use ll_runs::{Conclusion, Failure, Sources, Standard, concluded};
 use std::io::IsTerminal;
 use std::process::ExitCode;
 use std::sync::Wait;
 use std::thread::Threads;
 use std::{env, io};
+use wanted::{are_wanted, without_wish};
 
 fn words_of(rt: &HostRuntime, hints: &mut Hints) -> Result<Vec<String>, Failure> {
     match env::args(rt) {

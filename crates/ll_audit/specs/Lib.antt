@@ -1,1 +1,3 @@
 pub mod Audit
+pub mod Faults
+pub mod Saved

@@ -1,8 +1,16 @@
 //! Audits: whether the entries of a history are the calls of one tree, one after the other, each with its reply.
 #![tactic(auto)]
 
+mod auditing;
 mod entry;
 mod fault;
+mod following;
+mod judging;
+mod lines;
+mod progress;
+mod reading;
+mod saving;
+mod verdict;
 
 ghost use Rattle.std.specs.Prelude.{◌≡◌, ◌<◌, ◌≤◌, ◌+◌, ◌^◌, ◌++◌, ℕ, List, length, OnOk, IfErr};
 ghost use Rattle.ll_laws.specs.NoGain.{GainsNothing};
@@ -58,3 +66,10 @@ pub fn audit(alloc: Global, rules: Rules, nodes: usize, history: &History) -> Re
     };
     follow(&mut tree, history.entries())
 }
+
+pub use auditing::{FileAuditFault, run_audit, run_audit_over};
+pub use judging::judge;
+pub use progress::{Progress, Untold};
+pub use reading::{ReadFault, Saved};
+pub use saving::{SaveFault, record_in, save, save_in, save_over};
+pub use verdict::Verdict;

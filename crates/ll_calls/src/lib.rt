@@ -9,8 +9,7 @@ mod refused;
 mod tree;
 
 // What a caller needs besides, of the crates below.
-pub use ll_client::{Account, Client, ReadsHistory, Shape};
-pub use ll_tie::Blank;
+pub use ll_client::{Account, Blank, Client, ReadsHistory, Shape};
 pub use ll_walk::{Gate, NoGate};
 pub use refused::Refused;
 pub use tree::Tree;

@@ -16,12 +16,11 @@ ghost use Rattle.ll_client.specs.Replies.{success};
 ghost use Rattle.ll_calls.specs.Opening.{MayOpen};
 ghost use Rattle.ll_calls.specs.Typed.{FitsMade};
 
-use ll_client::{Account, Client, ReadsHistory, Shape};
+use ll_client::{Account, Blank, Client, ReadsHistory, Shape};
 use ll_journal::Made;
 use ll_rights::Errno;
 use ll_rights::limits::{HISTORY_ENTRIES, TREE_NODES};
 use ll_seq::{Call, History, Rules};
-use ll_tie::Blank;
 use ll_walk::{Gate, Table};
 use std::alloc::Global;
 use std::sync::Wait;

@@ -5,3 +5,4 @@ pub mod Fronts
 pub mod Scripts
 pub mod Tests
 pub mod Told
+mod Texts

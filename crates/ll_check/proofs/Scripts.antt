@@ -5,7 +5,7 @@ use Rattle.std.specs.List.{onto_first}
 use Rattle.std.specs.declared.vec.Vec.{Vec}
 use Rattle.std.specs.declared.alloc.Global.{Global}
 use Rattle.ll_seq.specs.declared.reply.Entry.{Entry}
-use Rattle.ll_lines.specs.Transcript.{Transcript}
+use Rattle.ll_wire.specs.Transcript.{Transcript}
 use Rattle.ll_wire.specs.Pieces.{pieces}
 use Rattle.ll_session.specs.declared.setup.Setup.{Setup}
 use Rattle.ll_session.specs.Session.{Session}

@@ -1,2 +1,3 @@
 pub mod Checks
 pub mod Report
+pub mod Tested

@@ -4,7 +4,7 @@ use Rattle.ll_seq.specs.declared.reply.Entry.{Entry}
 use Rattle.ll_seq.specs.declared.reply.Reply.{Reply}
 use Rattle.ll_wire.specs.Grammar.{reply_line}
 use Rattle.ll_wire.specs.Pieces.{pieces}
-use Rattle.ll_lines.specs.Transcript.{Transcript}
+use Rattle.ll_wire.specs.Transcript.{Transcript}
 use Rattle.ll_session.specs.declared.setup.Setup.{Setup}
 use Rattle.ll_session.specs.Session.{Session}
 use Rattle.ll_session.specs.Session as session

@@ -10,9 +10,9 @@ use crate::judging::{Detail, Tally, judge};
 use crate::line::CheckLine;
 use crate::refusing::push_refusal;
 use crate::running::{Made, make};
-use ll_lines::SessionFault;
 use ll_seq::History;
 use ll_session::{RunFault, Setup};
+use ll_wire::SessionFault;
 use std::alloc::{AllocError, Global};
 use std::sync::Wait;
 

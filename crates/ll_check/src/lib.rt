@@ -2,6 +2,7 @@
 #![tactic(auto)]
 
 mod checking;
+mod checks;
 mod denied;
 mod explaining;
 mod judging;
@@ -14,6 +15,7 @@ mod running;
 mod wanted;
 
 pub use checking::{CheckedFile, check_file};
+pub use checks::check;
 pub use denied::{DeniedTest, Notes, tell_denied};
 pub use explaining::{Blame, LinesOf, explain};
 pub use judging::{Detail, Tally};

@@ -8,9 +8,9 @@ ghost use Rattle.ll_check.specs.Checks.{meaning_of, script_line, script_of};
 ghost use Rattle.ll_check.specs.Report.{Makes};
 
 use crate::line::CheckLine;
-use ll_lines::SessionFault;
 use ll_seq::History;
 use ll_session::{RunFault, Setup, run_script};
+use ll_wire::SessionFault;
 use std::alloc::{AllocError, Global};
 use std::sync::Wait;
 

@@ -11,7 +11,7 @@ use Rattle.std.proofs.lemmas.Bool.{ne_eqb, eq-eqb}
 use Rattle.ll_rights.specs.Map.{Map, get, has, len, remove}
 use Rattle.ll_rights.proofs.Maps.{get-remove_other}
 use Rattle.ll_rights.proofs.Sizes.{one_goes}
-use Rattle.ll_inodes.specs.InodeTable.{AreDistinct, NotIn}
+use Rattle.ll_node.specs.InodeTable.{AreDistinct, NotIn}
 use Rattle.ll_laws.proofs.Gain.{no_gain}
 use Rattle.ll_laws.proofs.Withholding.{bytes_are_withheld}
 use Rattle.ll_seq.specs.History.{IsLegal}
@@ -19,8 +19,8 @@ use Rattle.ll_seq.specs.State.{start}
 use Rattle.ll_seq.specs.declared.reply.Entry.{Entry}
 use Rattle.ll_seq.specs.declared.rules.Rules.{Rules}
 use Rattle.ll_seq.proofs.Histories.{legal_early}
-use Rattle.ll_worlds.specs.Walk.{is_in}
-use Rattle.ll_worlds.specs.World.{shown}
+use Rattle.ll_laws.specs.Walk.{is_in}
+use Rattle.ll_laws.specs.World.{shown}
 use Rattle.ll_journal.specs.Book.{Book}
 use Rattle.ll_client.specs.declared.account.Account.{Account}
 use Rattle.ll_client.specs.Closed.{AreClients, IsClosed, numbers_of}

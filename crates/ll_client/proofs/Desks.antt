@@ -12,12 +12,12 @@ use Rattle.ll_seq.specs.declared.rules.Rules.{Rules}
 use Rattle.ll_seq.specs.declared.reply.Entry.{Entry}
 use Rattle.ll_seq.specs.declared.reply.Reply.{Reply}
 use Rattle.ll_seq.specs.declared.reply.Reply.TheVariants as replies
-use Rattle.ll_worlds.specs.declared.step.Step.{Step}
-use Rattle.ll_worlds.specs.declared.step.Step.TheVariants.{Begin}
-use Rattle.ll_worlds.specs.World.{World, Outcome, NotNow, Begun, Stands, Forked, Restarted, Replied, Joined}
-use Rattle.ll_worlds.specs.World.{reply_to, advance}
-use Rattle.ll_worlds.specs.Sound.{IsSound}
-use Rattle.ll_worlds.proofs.SoundSteps.{sound_kept}
+use Rattle.ll_laws.specs.declared.step.Step.{Step}
+use Rattle.ll_laws.specs.declared.step.Step.TheVariants.{Begin}
+use Rattle.ll_laws.specs.World.{World, Outcome, NotNow, Begun, Stands, Forked, Restarted, Replied, Joined}
+use Rattle.ll_laws.specs.World.{reply_to, advance}
+use Rattle.ll_laws.specs.Sound.{IsSound}
+use Rattle.ll_laws.proofs.SoundSteps.{sound_kept}
 use Rattle.ll_journal.specs.Book.{Book, Spares}
 use Rattle.ll_journal.specs.Steps.{Does}
 use Rattle.ll_journal.specs.declared.progress.Progress as told
@@ -28,8 +28,8 @@ use Rattle.ll_client.specs.declared.account.Starved.{Starved}
 use Rattle.ll_client.specs.Entries.{AreAccounts, IsDesk, doing_of, knows, numbered, part_from, part_of}
 use Rattle.ll_client.proofs.Accounts.{Moved}
 use Rattle.ll_client.proofs.Orders.{InOrder, OnlyJoins, in_order_after}
-use Rattle.ll_worlds.proofs.Growth.{still_within}
-use Rattle.ll_worlds.proofs.StepGrowth.{Grown, Went, client_in, doing_after, entry_of, went}
+use Rattle.ll_laws.proofs.Growth.{still_within}
+use Rattle.ll_laws.proofs.StepGrowth.{Grown, Went, client_in, doing_after, entry_of, went}
 use Rattle.ll_client.proofs.Walked.{clients_none, clients_one}
 
 -- ---- parts of a history that is one entry longer

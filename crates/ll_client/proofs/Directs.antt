@@ -4,23 +4,23 @@ use Rattle.std.specs.Prelude.{OnErr}
 use Rattle.std.specs.Prelude.{Bool, true, false, refl, unwrap_or, if◌then◌else◌, ◌&&◌, ◌||◌, not, is_none}
 use Rattle.std.proofs.Common.{sym, subst, ap, ◌∙◌, arith, inl, inr}
 use Rattle.ll_seq.specs.Memory.{MayStarve, takes_memory}
-use Rattle.ll_answer.specs.Passed.{has_path}
+use Rattle.ll_seq.specs.Passed.{has_path}
 use Rattle.ll_rights.specs.Map.{insert}
 use Rattle.ll_seq.specs.Step.{client_of}
 use Rattle.ll_seq.specs.declared.call.Call.{Call}
 use Rattle.ll_seq.specs.declared.reply.Reply.{Reply}
 use Rattle.ll_laws.proofs.Chains.{same_Some}
-use Rattle.ll_worlds.specs.declared.step.Step.{Step}
-use Rattle.ll_worlds.specs.declared.step.Step.TheVariants.{Begin, Join}
-use Rattle.ll_worlds.specs.Walk.{Above}
-use Rattle.ll_worlds.proofs.Tests.{both}
+use Rattle.ll_laws.specs.declared.step.Step.{Step}
+use Rattle.ll_laws.specs.declared.step.Step.TheVariants.{Begin, Join}
+use Rattle.ll_laws.specs.Walk.{Above}
+use Rattle.ll_laws.proofs.Tests.{both}
 use Rattle.ll_journal.proofs.Begun.{names_one}
-use Rattle.ll_worlds.specs.World as world
+use Rattle.ll_laws.specs.World as world
 use Rattle.ll_seq.specs.Call.{targets}
 use Rattle.ll_seq.specs.Stages.{early_refusals}
-use Rattle.ll_worlds.specs.World.{World, advance, has_any, is_idle, is_walked, shown}
-use Rattle.ll_worlds.specs.World.{takes_gate}
-use Rattle.ll_worlds.specs.Sound.{IsSound}
+use Rattle.ll_laws.specs.World.{World, advance, has_any, is_idle, is_walked, shown}
+use Rattle.ll_laws.specs.World.{takes_gate}
+use Rattle.ll_laws.specs.Sound.{IsSound}
 use Rattle.ll_journal.specs.Book.{Book}
 use Rattle.ll_journal.specs.Direct.{Answers}
 use Rattle.ll_journal.specs.Starving.{Starves}
@@ -33,8 +33,8 @@ use Rattle.ll_client.specs.Gains.{Gains}
 use Rattle.ll_client.specs.Hands.{seen_made, starved_if, starves_made}
 use Rattle.ll_client.specs.Replies.{Fits, success}
 use Rattle.ll_client.proofs.Accounts.{IsClient}
-use Rattle.ll_worlds.proofs.StepGrowth.{Grown, Went, asked, by_client, called_is, client_in, doing_after, entry_of}
-use Rattle.ll_worlds.proofs.StepGrowth.{went}
+use Rattle.ll_laws.proofs.StepGrowth.{Grown, Went, asked, by_client, called_is, client_in, doing_after, entry_of}
+use Rattle.ll_laws.proofs.StepGrowth.{went}
 use Rattle.ll_client.proofs.Desks.{Steps, stepped, stood}
 use Rattle.ll_client.proofs.Leavings.{full_grown, full_is, low_full, room_grown, told_one}
 

@@ -13,14 +13,14 @@ use Rattle.ll_seq.specs.declared.call.Call.{Call}
 use Rattle.ll_seq.specs.declared.reply.Reply.{Reply}
 use Rattle.ll_seq.specs.declared.reply.Reply.TheVariants.{Refused}
 use Rattle.ll_seq.specs.Memory.{takes_memory}
-use Rattle.ll_worlds.specs.declared.step.Step.{Step}
-use Rattle.ll_worlds.specs.declared.step.Step.TheVariants as steps
-use Rattle.ll_worlds.specs.Walk.{Walk}
-use Rattle.ll_worlds.specs.World as world
-use Rattle.ll_worlds.specs.World.{World, advance, is_full, restart, shown, without_walk, next_number}
-use Rattle.ll_worlds.specs.Sound.{IsSound}
-use Rattle.ll_worlds.proofs.Shapes.{restarted}
-use Rattle.ll_worlds.proofs.SoundSteps.{sound_ended}
+use Rattle.ll_laws.specs.declared.step.Step.{Step}
+use Rattle.ll_laws.specs.declared.step.Step.TheVariants as steps
+use Rattle.ll_laws.specs.Walk.{Walk}
+use Rattle.ll_laws.specs.World as world
+use Rattle.ll_laws.specs.World.{World, advance, is_full, restart, shown, without_walk, next_number}
+use Rattle.ll_laws.specs.Sound.{IsSound}
+use Rattle.ll_laws.proofs.Shapes.{restarted}
+use Rattle.ll_laws.proofs.SoundSteps.{sound_ended}
 use Rattle.ll_journal.specs.Book.{Book}
 use Rattle.ll_journal.specs.Steps.{Does}
 use Rattle.ll_journal.specs.Starving.{Starves}
@@ -43,7 +43,7 @@ use Rattle.ll_client.specs.Replies.{Fits, success}
 use Rattle.ll_client.proofs.Replies.{step_fits}
 use Rattle.ll_client.proofs.Accounts.{IsClient, Moved}
 use Rattle.ll_client.proofs.Orders.{InOrder}
-use Rattle.ll_worlds.proofs.StepGrowth.{Grown, Went, asked, client_in, doing_after, entry_of, never_full, gone, went}
+use Rattle.ll_laws.proofs.StepGrowth.{Grown, Went, asked, client_in, doing_after, entry_of, never_full, gone, went}
 use Rattle.ll_client.proofs.Desks.{Steps, does_goes, knows_same, part_mine, stepped, stood}
 
 -- ---- what the journal tells

@@ -12,10 +12,10 @@ use Rattle.ll_rights.specs.Map.{Map, empty, checked, get, insert, remove, entrie
 use Rattle.ll_rights.proofs.Maps.{get-empty}
 use Rattle.ll_seq.specs.declared.rules.Rules.{Rules}
 use Rattle.ll_seq.specs.State.{root}
-use Rattle.ll_held.specs.Lent.{vacant, filled}
-use Rattle.ll_worlds.specs.World.{new_world}
-use Rattle.ll_worlds.specs.Sound.{IsSound}
-use Rattle.ll_worlds.proofs.SoundSteps.{sound_start}
+use Rattle.ll_node.specs.Lent.{vacant, filled}
+use Rattle.ll_laws.specs.World.{new_world}
+use Rattle.ll_laws.specs.Sound.{IsSound}
+use Rattle.ll_laws.proofs.SoundSteps.{sound_start}
 use Rattle.ll_journal.specs.Book.{Book, new_book, slot_of, held_of}
 use Rattle.ll_client.specs.declared.account.Account.{Account}
 use Rattle.ll_client.specs.Entries.{AreAccounts, AreInOrder, IsDesk}

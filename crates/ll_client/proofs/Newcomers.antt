@@ -29,14 +29,14 @@ use Rattle.ll_seq.specs.Step.{step, client_of}
 use Rattle.ll_seq.specs.History.{IsLegal, MayStand, after, fresh_of, is_connect, state_after}
 use Rattle.ll_seq.proofs.Consequences.{step-clients_stay, step-spawned}
 use Rattle.ll_laws.proofs.Chains.{same_Some}
-use Rattle.ll_worlds.specs.declared.step.Step.{Step}
-use Rattle.ll_worlds.specs.declared.step.Step.TheVariants.{ClientStep, Join}
-use Rattle.ll_worlds.specs.Walk.{Walk}
-use Rattle.ll_worlds.specs.World as world
-use Rattle.ll_worlds.specs.World.{World, Outcome, advance, answered, is_alone, is_full, is_idle, next_number}
-use Rattle.ll_worlds.specs.World.{reply_to, shown}
-use Rattle.ll_worlds.specs.Walks.{AreValid}
-use Rattle.ll_worlds.proofs.OneCall.{unused}
+use Rattle.ll_laws.specs.declared.step.Step.{Step}
+use Rattle.ll_laws.specs.declared.step.Step.TheVariants.{ClientStep, Join}
+use Rattle.ll_laws.specs.Walk.{Walk}
+use Rattle.ll_laws.specs.World as world
+use Rattle.ll_laws.specs.World.{World, Outcome, advance, answered, is_alone, is_full, is_idle, next_number}
+use Rattle.ll_laws.specs.World.{reply_to, shown}
+use Rattle.ll_laws.specs.Walks.{AreValid}
+use Rattle.ll_laws.proofs.OneCall.{unused}
 use Rattle.ll_journal.specs.Book.{Book}
 use Rattle.ll_journal.specs.Direct.{Answers}
 use Rattle.ll_journal.specs.declared.direct.Made.{Made}
@@ -55,9 +55,9 @@ use Rattle.ll_client.specs.Gains.{Gains}
 use Rattle.ll_client.proofs.Accounts.{IsClient}
 use Rattle.ll_client.proofs.Directs.{IsDirect, direct_gains, direct_steps}
 use Rattle.ll_client.proofs.Desks.{Steps, part_mine, part_other, stepped}
-use Rattle.ll_worlds.proofs.StepGrowth.{Grown, Went, entry_of, went}
+use Rattle.ll_laws.proofs.StepGrowth.{Grown, Went, entry_of, went}
 use Rattle.ll_client.proofs.Walked.{shown_one}
-use Rattle.ll_worlds.proofs.Shapes.{with_entry}
+use Rattle.ll_laws.proofs.Shapes.{with_entry}
 
 -- ---- who connects is there then, and isn't one too many
 

@@ -15,16 +15,16 @@ use Rattle.ll_seq.specs.declared.rules.Rules.{Rules}
 use Rattle.ll_seq.specs.History.{state_after}
 use Rattle.ll_seq.specs.State.{State, start}
 use Rattle.ll_seq.specs.Step.{client_of, step}
-use Rattle.ll_worlds.specs.declared.step.Step.{Step}
-use Rattle.ll_worlds.specs.declared.step.Step.TheVariants as steps
-use Rattle.ll_worlds.specs.Sound.{AreNumbered}
-use Rattle.ll_worlds.specs.Walk.{Walk}
-use Rattle.ll_worlds.specs.Walks.{AreValid}
-use Rattle.ll_worlds.specs.World as world
-use Rattle.ll_worlds.specs.World.{World, Outcome, advance, answered, is_alone, is_on_descriptor, next_number, reply_to}
-use Rattle.ll_worlds.specs.World.{shown}
-use Rattle.ll_worlds.proofs.OneCall.{other_client, step_clients}
-use Rattle.ll_worlds.proofs.StepGrowth.{Grown, Went, asked, client_in, doing_of, entry_of}
+use Rattle.ll_laws.specs.declared.step.Step.{Step}
+use Rattle.ll_laws.specs.declared.step.Step.TheVariants as steps
+use Rattle.ll_laws.specs.Sound.{AreNumbered}
+use Rattle.ll_laws.specs.Walk.{Walk}
+use Rattle.ll_laws.specs.Walks.{AreValid}
+use Rattle.ll_laws.specs.World as world
+use Rattle.ll_laws.specs.World.{World, Outcome, advance, answered, is_alone, is_on_descriptor, next_number, reply_to}
+use Rattle.ll_laws.specs.World.{shown}
+use Rattle.ll_laws.proofs.OneCall.{other_client, step_clients}
+use Rattle.ll_laws.proofs.StepGrowth.{Grown, Went, asked, client_in, doing_of, entry_of}
 use Rattle.ll_client.specs.Entries.{AreInOrder}
 use Rattle.ll_client.proofs.Walked.{shown_one}
 

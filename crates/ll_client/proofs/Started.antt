@@ -2,10 +2,10 @@
 use Rattle.std.specs.Prelude.{◌≡◌, ℕ, ◌≤◌, List, length, Option, Some, Ok, refl}
 use Rattle.std.proofs.Common.{ap, arith}
 use Rattle.ll_seq.specs.declared.call.Call.{Call}
-use Rattle.ll_worlds.specs.declared.step.Step.TheVariants.{Begin, ClientStep}
-use Rattle.ll_worlds.specs.World as world
-use Rattle.ll_worlds.specs.World.{World}
-use Rattle.ll_worlds.specs.Sound.{IsSound}
+use Rattle.ll_laws.specs.declared.step.Step.TheVariants.{Begin, ClientStep}
+use Rattle.ll_laws.specs.World as world
+use Rattle.ll_laws.specs.World.{World}
+use Rattle.ll_laws.specs.Sound.{IsSound}
 use Rattle.ll_journal.specs.Book.{Book}
 use Rattle.ll_journal.specs.Starts.{Starts}
 use Rattle.ll_journal.specs.declared.start.Start.{Start}

@@ -8,9 +8,9 @@ use Rattle.ll_seq.specs.declared.reply.Reply.{Reply}
 use Rattle.ll_seq.specs.State.{State}
 use Rattle.ll_seq.specs.Step.{step}
 use Rattle.ll_seq.proofs.Consequences.{step-clients_stay}
-use Rattle.ll_worlds.specs.World.{World, next_number, reply_to, shown}
+use Rattle.ll_laws.specs.World.{World, next_number, reply_to, shown}
 use Rattle.ll_journal.proofs.Shown.{shown_answered}
-use Rattle.ll_worlds.proofs.StepGrowth.{Grown, entry_of}
+use Rattle.ll_laws.proofs.StepGrowth.{Grown, entry_of}
 
 shown_same : (w v : World) → v.rules ≡ w.rules → v.room ≡ w.room → v.history ≡ w.history → shown v ≡ shown w
 shown_same w v rules room history = λ i. shown (record w { rules = rules i; room = room i; history = history i })

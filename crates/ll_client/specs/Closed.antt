@@ -8,8 +8,8 @@ use Rattle.ll_seq.specs.History.{IsLegal, state_after}
 use Rattle.ll_seq.specs.State.{start}
 use Rattle.ll_seq.specs.declared.rules.Rules.{Rules}
 use Rattle.ll_seq.specs.declared.reply.Entry.{Entry}
-use Rattle.ll_inodes.specs.InodeTable.{AreDistinct}
-use Rattle.ll_worlds.specs.Walk.{is_in}
+use Rattle.ll_node.specs.InodeTable.{AreDistinct}
+use Rattle.ll_laws.specs.Walk.{is_in}
 use Rattle.ll_client.specs.Entries.{AreInOrder, IsStarved, Knows, part_from}
 
 abbrev pub numbers_of : List Knows → List ℕ

@@ -5,7 +5,7 @@ use Rattle.ll_rights.specs.declared.errno.Errno.{Errno}
 use Rattle.ll_rights.specs.declared.errno.Errno.TheVariants.{EMFILE, HistoryFull, NoMemory}
 use Rattle.ll_seq.specs.declared.call.Call.{Call}
 use Rattle.ll_seq.specs.declared.reply.Reply.TheVariants.{Refused, Spawned}
-use Rattle.ll_answer.specs.Passed.{has_path}
+use Rattle.ll_seq.specs.Passed.{has_path}
 use Rattle.ll_journal.specs.Book.{Book, slot_of}
 use Rattle.ll_journal.specs.declared.direct.Made.{Made}
 use Rattle.ll_journal.specs.declared.direct.Made.TheVariants as made

@@ -3,9 +3,9 @@ use Rattle.std.specs.Prelude.{◌≡◌, ℕ, ◌<◌, ◌≤◌, List, [], ◌�
 use Rattle.ll_seq.specs.declared.call.Call.{Call}
 use Rattle.ll_seq.specs.declared.reply.Reply.{Reply}
 use Rattle.ll_seq.specs.Memory.{takes_memory}
-use Rattle.ll_worlds.specs.World as world
-use Rattle.ll_worlds.specs.World.{advance}
-use Rattle.ll_worlds.specs.declared.step.Step.TheVariants as steps
+use Rattle.ll_laws.specs.World as world
+use Rattle.ll_laws.specs.World.{advance}
+use Rattle.ll_laws.specs.declared.step.Step.TheVariants as steps
 use Rattle.ll_journal.specs.Book.{Book}
 use Rattle.ll_journal.specs.declared.direct.Made.{Made}
 use Rattle.ll_journal.specs.declared.direct.Made.TheVariants as made

@@ -11,12 +11,12 @@ use Rattle.ll_rights.specs.Map.{Map, get, has}
 use Rattle.ll_seq.specs.declared.call.Call.{Call}
 use Rattle.ll_seq.specs.declared.reply.Reply.{Reply}
 use Rattle.ll_seq.specs.declared.reply.Reply.TheVariants as replies
-use Rattle.ll_worlds.specs.World.{World, shown}
+use Rattle.ll_laws.specs.World.{World, shown}
 use Rattle.ll_journal.specs.Book.{Book}
 use Rattle.ll_seq.specs.State.{root}
-use Rattle.ll_held.specs.declared.held.Held.{Held}
-use Rattle.ll_held.specs.Lent.{filled, vacant}
-use Rattle.ll_inodes.specs.InodeTable.{NotIn}
+use Rattle.ll_node.specs.declared.held.Held.{Held}
+use Rattle.ll_node.specs.Lent.{filled, vacant}
+use Rattle.ll_node.specs.InodeTable.{NotIn}
 use Rattle.ll_journal.specs.declared.direct.Made.{Made}
 use Rattle.ll_journal.specs.declared.direct.Made.TheVariants as made
 use Rattle.ll_journal.specs.declared.start.Start.{Start}

@@ -1,6 +1,9 @@
-pub mod Entries
 pub mod Closed
-pub mod Hands
-pub mod Gains
-pub mod Replies
 pub mod Coming
+pub mod Entries
+pub mod Gains
+pub mod Hands
+pub mod PassViews
+pub mod Replies
+pub mod TieRule
+pub mod Views

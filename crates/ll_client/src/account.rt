@@ -1,6 +1,6 @@
 //! What the tie shows.
 
-use ll_held::Held;
+use ll_node::Held;
 use ll_seq::{Call, Reply};
 use std::collections::LinkedList;
 

@@ -3,8 +3,8 @@
 ghost use Rattle.std.specs.Prelude.{◌≡◌, ◌≢◌, true, map, length, IfOk, IfErr, OnErr};
 ghost use Rattle.std.specs.List.{AllByRecursion};
 ghost use Rattle.ll_rights.specs.Map.{has, len};
-ghost use Rattle.ll_inodes.specs.InodeTable.{AreDistinct};
-ghost use Rattle.ll_worlds.specs.World.{shown};
+ghost use Rattle.ll_node.specs.InodeTable.{AreDistinct};
+ghost use Rattle.ll_laws.specs.World.{shown};
 ghost use Rattle.ll_client.specs.Closed.{AreClients, numbers_of};
 ghost use Rattle.ll_client.specs.Entries.{AreAccounts, Knows};
 ghost use Rattle.ll_client.specs.Hands.{HoldsPartIn};
@@ -16,9 +16,9 @@ use crate::hand::take_client;
 use crate::rider::Rider;
 use crate::shape::Shape;
 use crate::want::take_wants;
+use crate::{Keeper, Tie};
 use ll_journal::Journal;
 use ll_seq::History;
-use ll_tie::{Keeper, Tie};
 
 /// Takes back the passes of all these clients.
 fn settle<N: Shape>(

@@ -1,9 +1,9 @@
 //! What lies behind the journal's lock.
 
+use crate::Keeper;
 use crate::account::Account;
 use crate::shape::Shape;
 use ll_journal::Journal;
-use ll_tie::Keeper;
 use std::alloc::Global;
 use std::marker::Model;
 
@@ -35,7 +35,7 @@ impl<N: Shape> Desk<N> {
     ghost use Rattle.ll_rights.specs.declared.limits.TheConstants.{TREE_CLIENTS};
     ghost use Rattle.ll_seq.specs.History.{IsLegal};
     ghost use Rattle.ll_seq.specs.State.{start};
-    ghost use Rattle.ll_worlds.specs.Walks.{AreApart, AreFew, AreValid, GateIsHeld};
+    ghost use Rattle.ll_laws.specs.Walks.{AreApart, AreFew, AreValid, GateIsHeld};
     ghost use Rattle.ll_client.specs.Entries.{AreInOrder};
     ghost use Rattle.ll_journal.specs.SlotTree.{HoldTree, accounts_of};
 

@@ -4,8 +4,8 @@ ghost use Rattle.std.specs.Prelude.{◌≡◌, ◌≢◌, ℕ, ◌≤◌, [], �
 ghost use Rattle.ll_rights.specs.declared.limits.TheConstants.{TREE_CLIENTS};
 ghost use Rattle.ll_journal.specs.Book.{Book, Spares, slot_of};
 ghost use Rattle.ll_journal.specs.Direct.{Answers, ComesBack, LeavesSlot, LeavesSlots, TakesMemory};
-ghost use Rattle.ll_worlds.specs.World.{NotNow, advance};
-ghost use Rattle.ll_worlds.specs.declared.step.Step.TheVariants.{ClientStep, FdCommit};
+ghost use Rattle.ll_laws.specs.World.{NotNow, advance};
+ghost use Rattle.ll_laws.specs.declared.step.Step.TheVariants.{ClientStep, FdCommit};
 ghost use Rattle.ll_client.specs.Entries.{AreAccounts, starved_in, wants_entry};
 ghost use Rattle.ll_client.specs.Hands.{OnlyWants, seen_made, starved_if, starves_made};
 
@@ -16,10 +16,10 @@ use crate::locked::Locked;
 use crate::rider::Rider;
 use crate::shape::Shape;
 use crate::want::note_want;
-use ll_held::Held;
+use crate::{Keeper, Pass, Tie};
 use ll_journal::{Journal, Made, Unmade};
+use ll_node::Held;
 use ll_seq::Call;
-use ll_tie::{Keeper, Pass, Tie};
 
 /// The last entry that the client knows of, where the history is so long.
 pub(crate) fn seen_alone(made: &Result<Made, Call>, seen: u64, entries: u64) -> u64

@@ -3,16 +3,16 @@
 ghost use Rattle.std.specs.Prelude.{◌≡◌, ◌≢◌, ℕ, ◌<◌, ◌≤◌, ◌+◌, ◌*◌, Some, None, length, true};
 ghost use Rattle.ll_rights.specs.declared.limits.TheConstants.{TREE_CLIENTS, TREE_NODES};
 ghost use Rattle.ll_rights.specs.Map.{get, has};
-ghost use Rattle.ll_worlds.specs.World.{shown};
+ghost use Rattle.ll_laws.specs.World.{shown};
 ghost use Rattle.ll_journal.specs.Book.{slot_of};
 ghost use Rattle.ll_client.specs.Entries.{AreAccounts, client_entry, doing_in, doing_of, part_in, part_of, slot_entry};
 ghost use Rattle.ll_client.specs.Hands.{ClientGoes, SlotComes, SlotGoes};
 
 use crate::account::Account;
 use crate::shape::Shape;
-use ll_held::Held;
+use crate::{Keeper, Pass, Tie};
 use ll_journal::Journal;
-use ll_tie::{Keeper, Pass, Tie};
+use ll_node::Held;
 
 /// What a client's account is picked from.
 #[derive(Drop)]

@@ -16,9 +16,9 @@ use crate::hand::give_client;
 use crate::rider::Rider;
 use crate::shape::Shape;
 use crate::want::give_wants;
+use crate::{Keeper, Tie};
 use ll_journal::Journal;
 use ll_rights::Errno;
-use ll_tie::{Keeper, Tie};
 
 /// A client that has just come, with the first pass of its number.
 pub(crate) fn newcomer<N: Shape>(
@@ -50,8 +50,8 @@ pub(crate) fn newcomer<N: Shape>(
 impl<N: Shape> Desk<N> {
     ghost use Rattle.ll_journal.specs.Book.{Spares};
     ghost use Rattle.ll_journal.specs.Direct.{TakesSpare};
-    ghost use Rattle.ll_worlds.specs.World.{World, Joined, Replied, advance, next_number};
-    ghost use Rattle.ll_worlds.specs.declared.step.Step.TheVariants.{Join};
+    ghost use Rattle.ll_laws.specs.World.{World, Joined, Replied, advance, next_number};
+    ghost use Rattle.ll_laws.specs.declared.step.Step.TheVariants.{Join};
 
     /// A new client, which gets the next number. Its one entry is that of its connect, the last of all. Errors:
     /// HistoryFull, EMFILE where as many clients were made as a tree may have, NoMemory.

@@ -2,8 +2,8 @@
 
 ghost use Rattle.std.specs.Prelude.{◌≡◌, ℕ, ◌≤◌, [], ◌∷◌, Some, length, map};
 ghost use Rattle.ll_rights.specs.declared.limits.TheConstants.{TREE_CLIENTS};
-ghost use Rattle.ll_inodes.specs.InodeTable.{AreDistinct};
-ghost use Rattle.ll_held.specs.Lent as contents;
+ghost use Rattle.ll_node.specs.InodeTable.{AreDistinct};
+ghost use Rattle.ll_node.specs.Lent as contents;
 ghost use Rattle.ll_journal.specs.Book.{Book, Spares, slot_of};
 ghost use Rattle.ll_journal.specs.WalkEnds.{MayTakeMemory};
 ghost use Rattle.ll_client.specs.Gains.{Goes, IsAstray, Leaves, LeavesRest};
@@ -18,11 +18,10 @@ use crate::locked::Locked;
 use crate::rider::Rider;
 use crate::shape::Shape;
 use crate::want::note_want;
-use ll_held::Held;
+use crate::{Keeper, Pass, Tie};
 use ll_journal::Journal;
-use ll_node::Slot;
+use ll_node::{Held, Slot};
 use ll_rights::Kind;
-use ll_tie::{Keeper, Pass, Tie};
 use std::alloc::Global;
 use std::mem;
 

@@ -2,10 +2,10 @@
 
 ghost use Rattle.std.specs.Prelude.{◌≡◌};
 
+use crate::Pass;
 use crate::account::Account;
 use crate::shape::Shape;
-use ll_held::Held;
-use ll_tie::Pass;
+use ll_node::Held;
 use std::marker::Model;
 
 /// What lies in the slot of a number, and the pass that shows this as the slot's account.

@@ -3,8 +3,9 @@
 ghost use Rattle.std.specs.Prelude.{◌≡◌, ◌<◌, ◌≤◌, ℕ, length, None, Some, IfSome, IfNone};
 ghost use Rattle.ll_seq.specs.State.{root};
 ghost use Rattle.ll_seq.specs.declared.client.Descriptor as descriptor;
-ghost use Rattle.ll_worlds.specs.Walk.{Leg};
+ghost use Rattle.ll_laws.specs.Walk.{Leg};
 
+use crate::Tie;
 use crate::account::Account;
 use crate::desk::Desk;
 use crate::hand::{put_slot, take_slot};
@@ -12,7 +13,6 @@ use crate::locked::Locked;
 use crate::rider::Rider;
 use crate::shape::Shape;
 use ll_journal::{Next, Station};
-use ll_tie::Tie;
 
 impl<N: Shape> Desk<N> {
     ghost use Rattle.ll_journal.specs.Book.{inode_in, slot_of};

@@ -2,6 +2,7 @@
 
 ghost use Rattle.std.specs.Prelude.{◌≡◌, ◌≤◌, length, max};
 
+use crate::Tie;
 use crate::account::Account;
 use crate::client::Client;
 use crate::desk::Desk;
@@ -9,7 +10,6 @@ use crate::hand::{give_client, take_client};
 use crate::reader::ReadsHistory;
 use crate::rider::Rider;
 use crate::shape::Shape;
-use ll_tie::Tie;
 
 impl<N: Shape> Desk<N> {
     /// The client knows from now on of all entries up to this one.

@@ -5,6 +5,7 @@ ghost use Rattle.ll_rights.specs.Map.{get};
 ghost use Rattle.ll_seq.specs.declared.call.Call.{Call};
 ghost use Rattle.ll_journal.specs.Onward.{Names, is_past_fork};
 
+use crate::Tie;
 use crate::account::Account;
 use crate::desk::Desk;
 use crate::hand::{give_client, put_slot, take_client, take_slot};
@@ -12,12 +13,11 @@ use crate::locked::Locked;
 use crate::rider::Rider;
 use crate::shape::Shape;
 use ll_journal::{Onward, Progress};
-use ll_tie::Tie;
 
 impl<N: Shape> Desk<N> {
     ghost use Rattle.ll_journal.specs.Book.{Spares, slot_of};
     ghost use Rattle.ll_journal.specs.Steps.{Does, GoesDown, IsAstrayBelow, IsNext};
-    ghost use Rattle.ll_worlds.specs.declared.step.Step.TheVariants.{Descend};
+    ghost use Rattle.ll_laws.specs.declared.step.Step.TheVariants.{Descend};
 
     /// The directory to which the client's walk would go down from the one in this slot. None where it wouldn't, where
     /// it is past its fork, or where it doesn't stand here. Passes are taken back for the look, and given out again as

@@ -12,13 +12,12 @@ use crate::account::Account;
 use crate::desk::Desk;
 use crate::locked::Locked;
 use crate::shape::Shape;
-use ll_held::Held;
+use crate::{Blank, Keeper, Tie};
 use ll_journal::Journal;
-use ll_node::Slot;
+use ll_node::{Held, Slot};
 use ll_rights::Kind;
 use ll_rights::limits::TREE_CLIENTS;
 use ll_seq::{ROOT, Rules};
-use ll_tie::{Blank, Keeper, Tie};
 use std::alloc::{AllocError, Global};
 
 /// A tree that nobody uses yet.

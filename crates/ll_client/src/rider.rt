@@ -2,9 +2,9 @@
 
 ghost use Rattle.std.specs.Prelude.{◌≡◌};
 
+use crate::Pass;
 use crate::account::Account;
 use crate::shape::Shape;
-use ll_tie::Pass;
 use std::marker::Model;
 
 /// A client's number, the number of the last entry that it knows of, and the passes of its account and of its wants.

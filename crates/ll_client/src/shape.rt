@@ -1,6 +1,6 @@
 //! Which tree it is.
 
-use ll_tie::Naming;
+use crate::Naming;
 use std::marker::Brand;
 
 /// Which tree it is: its table of passes, how many slots it has, how many entries its history may have, and the rules

@@ -15,10 +15,10 @@ use crate::direct::{seen_alone, step_alone};
 use crate::hand::{give_client, take_client};
 use crate::join::newcomer;
 use crate::shape::Shape;
+use crate::{Keeper, Tie};
 use ll_journal::{Journal, Made};
 use ll_rights::Errno;
 use ll_seq::{Call, Reply};
-use ll_tie::{Keeper, Tie};
 
 /// The child's number.
 fn child_in(reply: Reply) -> Result<u64, Errno>
@@ -70,7 +70,7 @@ fn child<N: Shape>(
 impl<N: Shape> Desk<N> {
     ghost use Rattle.ll_journal.specs.Book.{Spares};
     ghost use Rattle.ll_journal.specs.Direct.{Answers, LeavesSlots};
-    ghost use Rattle.ll_worlds.specs.declared.step.Step.TheVariants.{ClientStep};
+    ghost use Rattle.ll_laws.specs.declared.step.Step.TheVariants.{ClientStep};
     ghost use Rattle.ll_client.specs.Gains.{Gains, Told};
 
     /// The client spawns a child: a client of its own, that has no entry yet and knows of all entries up to the spawn.

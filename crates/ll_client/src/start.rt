@@ -14,9 +14,9 @@ use crate::hand::{give_client, take_client};
 use crate::rider::Rider;
 use crate::shape::Shape;
 use crate::want::note_want;
+use crate::{Keeper, Pass, Tie};
 use ll_journal::{Journal, Made, Start};
 use ll_seq::Call;
-use ll_tie::{Keeper, Pass, Tie};
 
 /// The last entry that the client knows of, where the history is so long.
 fn seen_after_start(start: &Start, seen: u64, entries: u64) -> u64

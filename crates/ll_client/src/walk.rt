@@ -3,6 +3,7 @@
 
 ghost use Rattle.std.specs.Prelude.{◌≡◌, ◌≢◌, ℕ, [], ◌∷◌, Some, IfErr, OnOk, OnErr};
 
+use crate::Tie;
 use crate::account::Account;
 use crate::desk::Desk;
 use crate::hand::{give_client, put_slot, take_client, take_slot};
@@ -11,13 +12,12 @@ use crate::rider::Rider;
 use crate::shape::Shape;
 use ll_journal::Progress;
 use ll_seq::Call;
-use ll_tie::Tie;
 
 impl<N: Shape> Desk<N> {
     ghost use Rattle.ll_journal.specs.Book.{Spares, slot_of};
     ghost use Rattle.ll_journal.specs.Steps.{Does, IsAstrayAtTop, IsAstrayBelow};
-    ghost use Rattle.ll_worlds.specs.World.{Begun, NotNow, advance};
-    ghost use Rattle.ll_worlds.specs.declared.step.Step.TheVariants.{Begin, Descend, Fork};
+    ghost use Rattle.ll_laws.specs.World.{Begun, NotNow, advance};
+    ghost use Rattle.ll_laws.specs.declared.step.Step.TheVariants.{Begin, Descend, Fork};
 
     /// The client's call sets out, or comes back where it may not. Takes no memory.
     pub fn begin(

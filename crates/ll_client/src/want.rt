@@ -3,7 +3,7 @@
 ghost use Rattle.std.specs.Prelude.{◌≡◌, ◌≢◌, ℕ, ◌≤◌, ◌+◌, ◌*◌, [], Some, None, true, if◌then◌else◌, List};
 ghost use Rattle.ll_rights.specs.declared.limits.TheConstants.{TREE_CLIENTS};
 ghost use Rattle.ll_rights.specs.Map.{get, has, remove};
-ghost use Rattle.ll_worlds.specs.World.{shown};
+ghost use Rattle.ll_laws.specs.World.{shown};
 ghost use Rattle.ll_journal.specs.Book.{Book};
 ghost use Rattle.ll_client.specs.declared.account.Starved.{Starved};
 ghost use Rattle.ll_client.specs.Entries.{AreAccounts, AreStarved, starved_in, wants_entry};
@@ -11,8 +11,8 @@ ghost use Rattle.ll_client.specs.Hands.{OnlyWants};
 
 use crate::account::Account;
 use crate::shape::Shape;
+use crate::{Keeper, Pass, Tie};
 use ll_journal::Journal;
-use ll_tie::{Keeper, Pass, Tie};
 
 /// Gives out the first pass of a client's wants: for none of its calls memory ran out.
 pub(crate) fn give_wants<N: Shape>(

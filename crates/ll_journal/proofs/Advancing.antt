@@ -10,13 +10,13 @@ use Rattle.ll_seq.specs.declared.call.Call.{Call}
 use Rattle.ll_seq.specs.declared.call.Call.TheVariants.{Connect}
 use Rattle.ll_seq.specs.declared.reply.Reply.{Reply}
 use Rattle.ll_seq.specs.declared.reply.Reply.TheVariants.{Done, Refused}
-use Rattle.ll_worlds.specs.Walk.{Walk, turn, further, at_ends, is_above}
-use Rattle.ll_worlds.specs.World.{World, Outcome, NotNow, Replied, Joined, advance, shown, domain_of, next_number}
-use Rattle.ll_worlds.specs.World.{reply_to, without_walk, is_full, is_idle, is_marked_by_other, last_nodes, may_commit}
-use Rattle.ll_worlds.specs.World.{enter, stand, descend, commit, joined, direct, moved_by}
-use Rattle.ll_worlds.specs.declared.step.Step.TheVariants.{Join, Descend, Commit}
-use Rattle.ll_worlds.proofs.Shapes.{committed, leg_is_blocked, replied, walking, with_entry, with_stale}
-use Rattle.ll_worlds.proofs.Turns.{ended}
+use Rattle.ll_laws.specs.Walk.{Walk, turn, further, at_ends, is_above}
+use Rattle.ll_laws.specs.World.{World, Outcome, NotNow, Replied, Joined, advance, shown, domain_of, next_number}
+use Rattle.ll_laws.specs.World.{reply_to, without_walk, is_full, is_idle, is_marked_by_other, last_nodes, may_commit}
+use Rattle.ll_laws.specs.World.{enter, stand, descend, commit, joined, direct, moved_by}
+use Rattle.ll_laws.specs.declared.step.Step.TheVariants.{Join, Descend, Commit}
+use Rattle.ll_laws.proofs.Shapes.{committed, leg_is_blocked, replied, walking, with_entry, with_stale}
+use Rattle.ll_laws.proofs.Turns.{ended}
 
 -- ---- a client without a walk
 

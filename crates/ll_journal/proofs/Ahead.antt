@@ -12,7 +12,7 @@ use Rattle.ll_path.specs.Place.{IsPlace}
 use Rattle.ll_path.specs.declared.place.Place.{Place}
 use Rattle.ll_path.proofs.CommonNames.{spelled_len}
 use Rattle.ll_path.proofs.NameLemmas.{same_name-from_equal}
-use Rattle.ll_worlds.proofs.Ways.{common_left}
+use Rattle.ll_laws.proofs.Ways.{common_left}
 use Rattle.ll_journal.specs.declared.leg.Ahead.{Ahead}
 use Rattle.ll_journal.specs.Seated.{IsAhead, name_on, none_left}
 

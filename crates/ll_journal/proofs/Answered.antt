@@ -15,17 +15,17 @@ use Rattle.ll_seq.specs.Effects.{with_client}
 use Rattle.ll_seq.specs.Facts.{AreKept}
 use Rattle.ll_seq.specs.History.{Log}
 use Rattle.ll_seq.proofs.OpensKept.{kept_connect}
-use Rattle.ll_worlds.specs.World.{World, Joined, advance, shown, is_full, next_number, reply_to}
-use Rattle.ll_worlds.specs.declared.step.Step.TheVariants.{Join}
-use Rattle.ll_worlds.specs.Sound.{IsSound}
-use Rattle.ll_worlds.proofs.Shapes.{with_entry}
-use Rattle.ll_worlds.proofs.OneCall.{unused}
+use Rattle.ll_laws.specs.World.{World, Joined, advance, shown, is_full, next_number, reply_to}
+use Rattle.ll_laws.specs.declared.step.Step.TheVariants.{Join}
+use Rattle.ll_laws.specs.Sound.{IsSound}
+use Rattle.ll_laws.proofs.Shapes.{with_entry}
+use Rattle.ll_laws.proofs.OneCall.{unused}
 use Rattle.ll_journal.specs.declared.journal.Journal.TheInside.{Inside}
-use Rattle.ll_held.specs.declared.held.Held.{Held}
+use Rattle.ll_node.specs.declared.held.Held.{Held}
 use Rattle.ll_journal.specs.Book.{Seat, Book, Spares, inode_in, held_of, mark_of}
 use Rattle.ll_journal.specs.Direct.{TakesSpare}
 use Rattle.ll_journal.specs.Kept.{AreSeated, IsKept, walks_from, world_of, book_of, spares_of}
-use Rattle.ll_inodes.specs.InodeTable.{Table, IsTable}
+use Rattle.ll_node.specs.InodeTable.{Table, IsTable}
 use Rattle.ll_journal.proofs.Advancing.{join_done}
 use Rattle.ll_journal.proofs.NewClients.{clients_len, seated_more, walks_more, spares_more}
 use Rattle.ll_journal.proofs.ClientTables.{table_more}
@@ -33,7 +33,7 @@ use Rattle.ll_journal.proofs.HeldAfter.{held_answered}
 use Rattle.ll_journal.proofs.LentSlots.{slot_kept}
 use Rattle.ll_journal.proofs.OwnAnswers.{connect_done}
 use Rattle.ll_journal.proofs.Shown.{shown_answered}
-use Rattle.ll_changes.proofs.SlotAccounts.{content_of}
+use Rattle.ll_node.proofs.SlotAccounts.{content_of}
 use Rattle.ll_journal.proofs.Starting.{sound_after}
 
 -- ---- accounts

@@ -11,27 +11,27 @@ use Rattle.ll_rights.specs.Map.{get}
 use Rattle.ll_path.specs.Path.{Path}
 use Rattle.ll_decide.specs.Masks.{AreMasks}
 use Rattle.ll_laws.proofs.Chains.{same_Some}
-use Rattle.ll_answer.specs.Found.{AreFacts}
-use Rattle.ll_answer.specs.Passed.{has_path}
-use Rattle.ll_answer.specs.declared.found.Found.{Found}
-use Rattle.ll_answer.specs.declared.found.Spot.{Spot}
-use Rattle.ll_changes.specs.Enacting.{Scene, InHand, IsGiven}
-use Rattle.ll_held.specs.declared.held.Held.{Held}
-use Rattle.ll_inodes.specs.InodeTable.{AreDistinct}
+use Rattle.ll_seq.specs.Found.{AreFacts}
+use Rattle.ll_seq.specs.Passed.{has_path}
+use Rattle.ll_seq.specs.declared.found.Found.{Found}
+use Rattle.ll_seq.specs.declared.found.Spot.{Spot}
+use Rattle.ll_node.specs.Enacting.{Scene, InHand, IsGiven}
+use Rattle.ll_node.specs.declared.held.Held.{Held}
+use Rattle.ll_node.specs.InodeTable.{AreDistinct}
 use Rattle.ll_seq.specs.declared.call.Call.{Call}
 use Rattle.ll_seq.specs.declared.call.Call.TheVariants.{Spawn}
 use Rattle.ll_seq.specs.declared.client.ClientRecord.{ClientRecord}
 use Rattle.ll_seq.specs.Call.{first_path, second_path, targets}
 use Rattle.ll_seq.specs.State.{State, kind_of, new_client}
 use Rattle.ll_seq.specs.Step.{client_of}
-use Rattle.ll_worlds.specs.Commits.{first_end, second_end}
-use Rattle.ll_worlds.specs.Walk.{Walk, Leg, Position, Above, Down, Split, is_in, marks}
-use Rattle.ll_worlds.specs.World.{World, domain_of, has_any, is_full, is_walked, shown, without_walk}
+use Rattle.ll_laws.specs.Commits.{first_end, second_end}
+use Rattle.ll_laws.specs.Walk.{Walk, Leg, Position, Above, Down, Split, is_in, marks}
+use Rattle.ll_laws.specs.World.{World, domain_of, has_any, is_full, is_walked, shown, without_walk}
 use Rattle.ll_seq.specs.Stages.{early_refusals}
 use Rattle.ll_seq.proofs.Parted.{or_left, or_right}
-use Rattle.ll_worlds.proofs.SoundSteps.{marked_below}
-use Rattle.ll_worlds.proofs.StepGrowth.{gone}
-use Rattle.ll_worlds.proofs.Tests.{both, is_nil, not_true}
+use Rattle.ll_laws.proofs.SoundSteps.{marked_below}
+use Rattle.ll_laws.proofs.StepGrowth.{gone}
+use Rattle.ll_laws.proofs.Tests.{both, is_nil, not_true}
 use Rattle.ll_journal.specs.declared.journal.Journal.TheInside.{Inside}
 use Rattle.ll_journal.specs.Book.{Seat, Book, inode_in, has_mark, slot_of}
 use Rattle.ll_journal.specs.Decidings.{IsEndAt}

@@ -22,15 +22,15 @@ use Rattle.ll_seq.proofs.CutChains.{named-child}
 use Rattle.ll_laws.proofs.Chains.{same_Some}
 use Rattle.ll_laws.proofs.Unrefused.{parent_last}
 use Rattle.ll_laws.proofs.Trees.{IsTree}
-use Rattle.ll_worlds.specs.Walk.{Walk, Leg, Position, Above, Down, Split, rights_where, turn, at_ends}
-use Rattle.ll_worlds.specs.World.{World, shown, domain_of, reply_to, last_node, last_nodes}
-use Rattle.ll_worlds.specs.Walks.{IsRight, AreRight}
-use Rattle.ll_worlds.specs.Sound.{IsSound}
-use Rattle.ll_worlds.specs.Commits.{HasEnded, first_end, second_end}
-use Rattle.ll_worlds.proofs.EndsReached.{ends_reached, blocked_refused}
-use Rattle.ll_worlds.proofs.SoundSteps.{holds_of}
-use Rattle.ll_changes.specs.Accounts.{names_map}
-use Rattle.ll_changes.proofs.NameMaps.{get-names_map}
+use Rattle.ll_laws.specs.Walk.{Walk, Leg, Position, Above, Down, Split, rights_where, turn, at_ends}
+use Rattle.ll_laws.specs.World.{World, shown, domain_of, reply_to, last_node, last_nodes}
+use Rattle.ll_laws.specs.Walks.{IsRight, AreRight}
+use Rattle.ll_laws.specs.Sound.{IsSound}
+use Rattle.ll_laws.specs.Commits.{HasEnded, first_end, second_end}
+use Rattle.ll_laws.proofs.EndsReached.{ends_reached, blocked_refused}
+use Rattle.ll_laws.proofs.SoundSteps.{holds_of}
+use Rattle.ll_node.specs.Accounts.{names_map}
+use Rattle.ll_node.proofs.NameMaps.{get-names_map}
 
 -- the leg is in the directory where the path's last name stands, or would
 pub record IsEnd (s : State) (domain : List Layer) (path : Path) (leg : Leg) : Type 0 where

@@ -16,11 +16,11 @@ use Rattle.ll_seq.specs.declared.call.Call.TheVariants.{Make, Open, Read, Write,
 use Rattle.ll_seq.specs.declared.call.Call.TheVariants.{Stat, Exec, Unlink, Rmdir, Rename, RenameNoreplace, Exchange}
 use Rattle.ll_seq.specs.declared.call.Call.TheVariants.{Link, Ruleset, Allow, Confine, Spawn, Connect}
 use Rattle.ll_seq.specs.Call.{targets}
-use Rattle.ll_answer.specs.Passed.{has_path}
-use Rattle.ll_worlds.specs.Walk.{Walk}
-use Rattle.ll_worlds.specs.World.{has_any, is_walked}
+use Rattle.ll_seq.specs.Passed.{has_path}
+use Rattle.ll_laws.specs.Walk.{Walk}
+use Rattle.ll_laws.specs.World.{has_any, is_walked}
 use Rattle.ll_seq.specs.Stages.{early_refusals}
-use Rattle.ll_inodes.proofs.SlotLists.{set_same, set_other}
+use Rattle.ll_node.proofs.SlotLists.{set_same, set_other}
 use Rattle.ll_journal.specs.Book.{Seat}
 use Rattle.ll_journal.specs.Kept.{walks_from, seat_at}
 

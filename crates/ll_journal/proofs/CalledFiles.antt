@@ -14,12 +14,12 @@ use Rattle.ll_seq.specs.declared.reply.Reply.{Reply}
 use Rattle.ll_seq.specs.declared.reply.Reply.TheVariants as replies
 use Rattle.ll_seq.specs.State.{new_client}
 use Rattle.ll_seq.specs.Step.{client_of}
-use Rattle.ll_worlds.specs.Walk.{Walk}
-use Rattle.ll_worlds.specs.World.{World, NotNow, Replied, advance, shown, descriptor_of, is_idle, is_full}
-use Rattle.ll_worlds.specs.World.{is_on_descriptor, reply_to}
-use Rattle.ll_worlds.specs.declared.step.Step.TheVariants.{FdCommit}
-use Rattle.ll_worlds.proofs.Shapes.{with_entry}
-use Rattle.ll_held.specs.declared.held.Held.{Held}
+use Rattle.ll_laws.specs.Walk.{Walk}
+use Rattle.ll_laws.specs.World.{World, NotNow, Replied, advance, shown, descriptor_of, is_idle, is_full}
+use Rattle.ll_laws.specs.World.{is_on_descriptor, reply_to}
+use Rattle.ll_laws.specs.declared.step.Step.TheVariants.{FdCommit}
+use Rattle.ll_laws.proofs.Shapes.{with_entry}
+use Rattle.ll_node.specs.declared.held.Held.{Held}
 use Rattle.ll_journal.specs.declared.files.BytesCall.TheVariants as onto
 use Rattle.ll_journal.specs.declared.files.FileCall.{FileCall}
 use Rattle.ll_journal.specs.declared.files.FileCall.TheVariants as files

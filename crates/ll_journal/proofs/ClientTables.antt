@@ -7,10 +7,10 @@ use Rattle.ll_seq.specs.declared.client.ClientRecord.{ClientRecord}
 use Rattle.ll_seq.specs.State.{State}
 use Rattle.ll_seq.specs.Effects.{with_client}
 use Rattle.ll_seq.specs.Facts.{AreKept}
-use Rattle.ll_inodes.specs.InodeTable.{Table, IsTable, IsVacant, AreDistinct}
+use Rattle.ll_node.specs.InodeTable.{Table, IsTable, IsVacant, AreDistinct}
 use Rattle.ll_journal.specs.Book.{Seat}
 use Rattle.ll_journal.specs.Kept.{spares_of}
-use Rattle.ll_inodes.proofs.SlotLists.{all_more, all_less}
+use Rattle.ll_node.proofs.SlotLists.{all_more, all_less}
 use Rattle.ll_journal.proofs.NewClients.{distinct_moved}
 
 module _ (s : State) (number : ℕ) (c : ClientRecord) (spares : List ℕ) (t : Table) (is : IsTable s spares t) where

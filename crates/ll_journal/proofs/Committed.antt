@@ -7,12 +7,12 @@ use Rattle.std.proofs.lemmas.Bool.{eqb-true, eq-eqb}
 use Rattle.std.proofs.lemmas.List.{length-map, length-set}
 use Rattle.ll_rights.specs.declared.limits.TheConstants.{HISTORY_ENTRIES, TREE_CLIENTS}
 use Rattle.ll_rights.specs.Map.{get, has}
-use Rattle.ll_changes.specs.Accounts.{account, accounts, names_map}
-use Rattle.ll_held.specs.declared.held.Held.{Held}
-use Rattle.ll_held.specs.Lent.{vacant}
-use Rattle.ll_inodes.specs.InodeTable.{IsTable, without_inode}
-use Rattle.ll_changes.specs.Enacting.{Scene, LeavesTable}
-use Rattle.ll_changes.proofs.GivenSlots.{put_again}
+use Rattle.ll_node.specs.Accounts.{account, accounts, names_map}
+use Rattle.ll_node.specs.declared.held.Held.{Held}
+use Rattle.ll_node.specs.Lent.{vacant}
+use Rattle.ll_node.specs.InodeTable.{IsTable, without_inode}
+use Rattle.ll_node.specs.Enacting.{Scene, LeavesTable}
+use Rattle.ll_node.proofs.GivenSlots.{put_again}
 use Rattle.ll_seq.specs.declared.client.ClientRecord.{ClientRecord}
 use Rattle.ll_seq.specs.declared.reply.Reply.{Reply}
 use Rattle.ll_seq.specs.Call.{targets}
@@ -20,18 +20,18 @@ use Rattle.ll_seq.specs.History.{Log}
 use Rattle.ll_seq.specs.State.{State, bytes_of, kind_of, start}
 use Rattle.ll_seq.specs.Tree.{kind_or_file}
 use Rattle.ll_seq.specs.Step.{step}
-use Rattle.ll_worlds.specs.Walk.{Walk}
-use Rattle.ll_worlds.specs.World.{World, Replied, advance, shown, is_full, may_commit, moved_by, map_values}
-use Rattle.ll_worlds.specs.World.{next_number, overtaken, reply_to, without_walk, has_any}
-use Rattle.ll_worlds.specs.declared.step.Step.TheVariants.{Commit}
-use Rattle.ll_worlds.specs.Sound.{IsSound}
-use Rattle.ll_worlds.proofs.Shapes.{with_entry, with_stale}
+use Rattle.ll_laws.specs.Walk.{Walk}
+use Rattle.ll_laws.specs.World.{World, Replied, advance, shown, is_full, may_commit, moved_by, map_values}
+use Rattle.ll_laws.specs.World.{next_number, overtaken, reply_to, without_walk, has_any}
+use Rattle.ll_laws.specs.declared.step.Step.TheVariants.{Commit}
+use Rattle.ll_laws.specs.Sound.{IsSound}
+use Rattle.ll_laws.proofs.Shapes.{with_entry, with_stale}
 use Rattle.ll_journal.specs.declared.journal.Journal.TheInside.{Inside}
 use Rattle.ll_journal.specs.Book.{Seat, Book, Spares, mark_of, has_mark, slot_of}
 use Rattle.ll_journal.specs.WalkEnds.{LeavesFree, TakesName, would_make}
 use Rattle.ll_journal.specs.Kept.{IsKept, AreSeated, seat_at, world_of, book_of, walks_from, spares_of}
 use Rattle.ll_journal.specs.Performed.{IsPerformed, at_seat}
-use Rattle.ll_inodes.proofs.SlotLists.{set_same, set_other}
+use Rattle.ll_node.proofs.SlotLists.{set_same, set_other}
 use Rattle.ll_journal.proofs.Ended.{commit_equation}
 use Rattle.ll_journal.proofs.MarkOf.{are_clients, has_mark_stale, mark_same}
 use Rattle.ll_journal.proofs.MadeNodes.{has_let_go, would_have_made}

@@ -10,11 +10,11 @@ use Rattle.ll_decide.specs.Masks.{AreMasks}
 use Rattle.ll_seq.specs.declared.node.Node.{Node}
 use Rattle.ll_seq.specs.State.{State, kind_of}
 use Rattle.ll_seq.specs.Tree.{named, ancestors}
-use Rattle.ll_inodes.specs.InodeTable.{IsTable, Table}
-use Rattle.ll_answer.proofs.LongerPaths.{chain_last}
-use Rattle.ll_answer.specs.declared.found.Spot.{Spot}
-use Rattle.ll_worlds.specs.Walk.{Walk}
-use Rattle.ll_worlds.specs.World.{overtaken}
+use Rattle.ll_node.specs.InodeTable.{IsTable, Table}
+use Rattle.ll_seq.proofs.LongerPaths.{chain_last}
+use Rattle.ll_seq.specs.declared.found.Spot.{Spot}
+use Rattle.ll_laws.specs.Walk.{Walk}
+use Rattle.ll_laws.specs.World.{overtaken}
 use Rattle.ll_journal.specs.Book as book
 use Rattle.ll_journal.specs.Decidings.{IsEndAt, moved_list}
 use Rattle.ll_journal.specs.declared.decide_end.Moved.{Moved}

@@ -17,26 +17,26 @@ use Rattle.ll_seq.specs.declared.facts.Fact.{Fact}
 use Rattle.ll_seq.specs.State.{Name, State, child, kind_of}
 use Rattle.ll_seq.specs.Tree.{kind_or_file}
 use Rattle.ll_laws.proofs.Chains.{same_Some}
-use Rattle.ll_answer.proofs.Counted.{kind_counted}
-use Rattle.ll_worlds.specs.Walk.{Walk, Leg, Position, Above, Down, Split, marks, legs, is_above, turn, with_turn}
-use Rattle.ll_worlds.specs.Walk.{further, further_by, leg_below}
-use Rattle.ll_worlds.specs.Walks.{IsRight, AreRight}
-use Rattle.ll_worlds.specs.World as world
-use Rattle.ll_worlds.specs.World.{World, Outcome, Stands, advance, shown, domain_of, descend, stand, enter, is_marked}
-use Rattle.ll_worlds.specs.declared.step.Step.TheVariants.{Descend}
-use Rattle.ll_worlds.specs.Sound.{IsSound}
-use Rattle.ll_worlds.proofs.Shapes.{if_directory, stood}
-use Rattle.ll_held.specs.declared.held.Held.{Held}
+use Rattle.ll_seq.proofs.Counted.{kind_counted}
+use Rattle.ll_laws.specs.Walk.{Walk, Leg, Position, Above, Down, Split, marks, legs, is_above, turn, with_turn}
+use Rattle.ll_laws.specs.Walk.{further, further_by, leg_below}
+use Rattle.ll_laws.specs.Walks.{IsRight, AreRight}
+use Rattle.ll_laws.specs.World as world
+use Rattle.ll_laws.specs.World.{World, Outcome, Stands, advance, shown, domain_of, descend, stand, enter, is_marked}
+use Rattle.ll_laws.specs.declared.step.Step.TheVariants.{Descend}
+use Rattle.ll_laws.specs.Sound.{IsSound}
+use Rattle.ll_laws.proofs.Shapes.{if_directory, stood}
+use Rattle.ll_node.specs.declared.held.Held.{Held}
 use Rattle.ll_journal.specs.declared.journal.Journal.TheInside.{Inside}
 use Rattle.ll_journal.specs.declared.check_step.StepCheck.{StepCheck}
 use Rattle.ll_journal.specs.declared.check_step.StepCheck.TheVariants.{NotNow, Astray, Go}
 use Rattle.ll_journal.specs.Book.{Seat, Book, Spares, inode_in, slot_of, has_mark, mark_of}
-use Rattle.ll_changes.specs.Accounts.{names_map}
+use Rattle.ll_node.specs.Accounts.{names_map}
 use Rattle.ll_journal.specs.Kept.{IsKept, world_of, book_of}
 use Rattle.ll_journal.specs.Checks.{check_descend, look_from, check_next, check_into, is_directory}
 use Rattle.ll_journal.specs.Seated.{gone_down, lower, next_in}
 use Rattle.ll_journal.specs.Steps.{IsAstrayBelow, is_going, leg_in_turn}
-use Rattle.ll_changes.proofs.NameMaps.{get-names_map}
+use Rattle.ll_node.proofs.NameMaps.{get-names_map}
 use Rattle.ll_journal.proofs.MarkOf.{AreClients, are_clients, has_mark_of, mark_put, mark_put_gone, turn_leaves}
 use Rattle.ll_journal.proofs.LentAfter.{inode_is, held_is, unmarked_is, lent_after, spares_moved, one_slot}
 use Rattle.ll_journal.proofs.Starting.{changed_world, sound_after}

@@ -9,8 +9,8 @@ use Rattle.std.proofs.lemmas.Option.{slice_get_within}
 use Rattle.ll_rights.specs.declared.kind.Kind.TheVariants.{Dir}
 use Rattle.ll_rights.specs.Map.{get, len}
 use Rattle.ll_path.specs.Path.{is_root}
-use Rattle.ll_answer.specs.Near.{may_make, nodes_of}
-use Rattle.ll_answer.specs.declared.found.Found.{Found}
+use Rattle.ll_seq.specs.Near.{may_make, nodes_of}
+use Rattle.ll_seq.specs.declared.found.Found.{Found}
 use Rattle.ll_seq.specs.declared.call.Call.{Call}
 use Rattle.ll_seq.specs.Call.{second_path}
 use Rattle.ll_seq.specs.State.{State, root, start}
@@ -19,12 +19,12 @@ use Rattle.ll_laws.proofs.Chains.{same_Some}
 use Rattle.ll_laws.proofs.Gain.{after_tree, start_tree}
 use Rattle.ll_laws.proofs.Granted.{kind_known}
 use Rattle.ll_laws.proofs.Trees.{IsTree}
-use Rattle.ll_inodes.specs.InodeTable.{IsVacant}
-use Rattle.ll_worlds.specs.Commits.{second_end}
-use Rattle.ll_worlds.specs.Walk.{Walk, Leg, Position, Above, Down, Split, at_ends, is_in, marks, turn}
-use Rattle.ll_worlds.specs.World.{World, domain_of, shown}
-use Rattle.ll_worlds.proofs.Tests.{both}
-use Rattle.ll_held.specs.declared.held.Held.{Held}
+use Rattle.ll_node.specs.InodeTable.{IsVacant}
+use Rattle.ll_laws.specs.Commits.{second_end}
+use Rattle.ll_laws.specs.Walk.{Walk, Leg, Position, Above, Down, Split, at_ends, is_in, marks, turn}
+use Rattle.ll_laws.specs.World.{World, domain_of, shown}
+use Rattle.ll_laws.proofs.Tests.{both}
+use Rattle.ll_node.specs.declared.held.Held.{Held}
 use Rattle.ll_journal.specs.declared.journal.Journal.TheInside.{Inside}
 use Rattle.ll_journal.specs.Book.{Book, Seat, has_mark, held_of, inode_in, slot_of}
 use Rattle.ll_journal.specs.Kept.{IsKept, book_of, spares_of, world_of}
@@ -34,7 +34,7 @@ use Rattle.ll_journal.specs.Steps.{IsInTurn}
 use Rattle.ll_journal.specs.WalkEnds.{AreEnough, IsNeeded, nodes_at_end, spare_of}
 use Rattle.ll_journal.proofs.AtEnds.{IsEnd, second_is_end}
 use Rattle.ll_journal.proofs.Descending.{living_one, living_placed, turn_stands}
-use Rattle.ll_inodes.proofs.SlotLists.{all_more}
+use Rattle.ll_node.proofs.SlotLists.{all_more}
 use Rattle.ll_journal.proofs.Gathering.{Gathers, gathers_slot, lent_already}
 use Rattle.ll_journal.proofs.LastSpots.{IsThere, first_last, last_first, makes_last, there_last}
 use Rattle.ll_journal.proofs.LentSlots.{slot_holds}

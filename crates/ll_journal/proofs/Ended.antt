@@ -13,20 +13,20 @@ use Rattle.ll_rights.proofs.Maps.{get-remove_other, same_map}
 use Rattle.ll_seq.specs.declared.call.Call.{Call}
 use Rattle.ll_seq.specs.declared.reply.Reply.{Reply}
 use Rattle.ll_seq.specs.declared.reply.Reply.TheVariants.{Refused}
-use Rattle.ll_worlds.specs.Walk.{Walk, at_ends}
-use Rattle.ll_worlds.specs.World.{World, Replied, advance, is_full, may_commit, moved_by, reply_to, shown}
-use Rattle.ll_worlds.specs.World.{without_walk}
-use Rattle.ll_worlds.specs.declared.step.Step.TheVariants.{Commit}
-use Rattle.ll_worlds.proofs.Shapes.{with_entry, with_stale}
-use Rattle.ll_worlds.proofs.SoundSteps.{with_stale_none}
-use Rattle.ll_worlds.proofs.StepGrowth.{gone}
+use Rattle.ll_laws.specs.Walk.{Walk, at_ends}
+use Rattle.ll_laws.specs.World.{World, Replied, advance, is_full, may_commit, moved_by, reply_to, shown}
+use Rattle.ll_laws.specs.World.{without_walk}
+use Rattle.ll_laws.specs.declared.step.Step.TheVariants.{Commit}
+use Rattle.ll_laws.proofs.Shapes.{with_entry, with_stale}
+use Rattle.ll_laws.proofs.SoundSteps.{with_stale_none}
+use Rattle.ll_laws.proofs.StepGrowth.{gone}
 use Rattle.ll_journal.specs.declared.stage.Stage.{Stage}
 use Rattle.ll_journal.specs.declared.seat.Seat.TheInside.{Inside}
 use Rattle.ll_journal.specs.Book as book
 use Rattle.ll_journal.specs.Kept.{seat_at, walks_from}
 use Rattle.ll_journal.specs.Seated.{is_at_ends, position_at, seat_of}
 use Rattle.ll_journal.proofs.Advancing.{commit_full, commit_replies}
-use Rattle.ll_inodes.proofs.SlotLists.{set_same, set_other}
+use Rattle.ll_node.proofs.SlotLists.{set_same, set_other}
 use Rattle.ll_journal.proofs.Begun.{walk_at}
 
 -- ---- whether its branches are at their ends

@@ -5,17 +5,17 @@ use Rattle.std.specs.Ordering.{nat_cmp}
 use Rattle.std.proofs.Common.{sym, subst, ap, ◌∙◌}
 use Rattle.std.proofs.lemmas.Bool.{eqb-true, eq-eqb}
 use Rattle.ll_rights.specs.Map.{Map, get, remove}
-use Rattle.ll_held.specs.Lent.{vacant, unmarked}
-use Rattle.ll_inodes.specs.InodeTable.{NotIn}
-use Rattle.ll_worlds.specs.Walk.{Walk, is_in, marks}
-use Rattle.ll_worlds.specs.World.{World, domain_of, without_walk, released}
+use Rattle.ll_node.specs.Lent.{vacant, unmarked}
+use Rattle.ll_node.specs.InodeTable.{NotIn}
+use Rattle.ll_laws.specs.Walk.{Walk, is_in, marks}
+use Rattle.ll_laws.specs.World.{World, domain_of, without_walk, released}
 use Rattle.ll_seq.specs.declared.call.Call.TheVariants.{Spawn}
 use Rattle.ll_seq.specs.declared.client.ClientRecord.{ClientRecord}
 use Rattle.ll_seq.specs.State.{new_client}
 use Rattle.ll_journal.proofs.Stepping.{there}
 use Rattle.ll_journal.proofs.ClientTables.{many_spares}
-use Rattle.ll_worlds.specs.Sound.{IsSound}
-use Rattle.ll_worlds.proofs.SoundSteps.{sound_ended, with_stale_none}
+use Rattle.ll_laws.specs.Sound.{IsSound}
+use Rattle.ll_laws.proofs.SoundSteps.{sound_ended, with_stale_none}
 use Rattle.ll_journal.specs.declared.journal.Journal.TheInside.{Inside}
 use Rattle.ll_journal.specs.Book.{Seat, Book, Spares, inode_in, slot_of, held_of, mark_of, has_mark}
 use Rattle.ll_journal.specs.WalkEnds.{is_lent}

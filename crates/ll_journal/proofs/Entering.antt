@@ -10,15 +10,15 @@ use Rattle.ll_node.specs.Slot.{Slot}
 use Rattle.ll_seq.specs.State.{root, new_client}
 use Rattle.ll_seq.specs.declared.client.ClientRecord.{ClientRecord}
 use Rattle.ll_laws.proofs.Chains.{same_Some}
-use Rattle.ll_worlds.specs.Walk.{Walk, Position, Above, Down, Split, marks, is_above, first_leg, trunk_path, further}
-use Rattle.ll_worlds.specs.Walk.{turn}
-use Rattle.ll_worlds.specs.World as world
-use Rattle.ll_worlds.specs.World.{World, Outcome, Stands, advance, shown, domain_of, descend, is_marked}
-use Rattle.ll_worlds.specs.declared.step.Step.TheVariants.{Descend}
-use Rattle.ll_worlds.specs.Sound.{IsSound}
-use Rattle.ll_worlds.proofs.Shapes as shapes
-use Rattle.ll_worlds.proofs.Shapes.{may_hold}
-use Rattle.ll_held.specs.declared.held.Held.{Held}
+use Rattle.ll_laws.specs.Walk.{Walk, Position, Above, Down, Split, marks, is_above, first_leg, trunk_path, further}
+use Rattle.ll_laws.specs.Walk.{turn}
+use Rattle.ll_laws.specs.World as world
+use Rattle.ll_laws.specs.World.{World, Outcome, Stands, advance, shown, domain_of, descend, is_marked}
+use Rattle.ll_laws.specs.declared.step.Step.TheVariants.{Descend}
+use Rattle.ll_laws.specs.Sound.{IsSound}
+use Rattle.ll_laws.proofs.Shapes as shapes
+use Rattle.ll_laws.proofs.Shapes.{may_hold}
+use Rattle.ll_node.specs.declared.held.Held.{Held}
 use Rattle.ll_journal.specs.declared.journal.Journal.TheInside.{Inside}
 use Rattle.ll_journal.specs.declared.check_step.StepCheck.TheVariants.{NotNow, Astray, Go}
 use Rattle.ll_journal.specs.Book.{Seat, Book, Spares, inode_in, slot_of, mark_of}

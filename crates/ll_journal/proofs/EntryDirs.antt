@@ -36,9 +36,9 @@ use Rattle.ll_seq.proofs.DentryOrder.{dentry_total, dentry_exact}
 use Rattle.ll_laws.proofs.Trees.{IsTree, root_dir}
 use Rattle.ll_laws.proofs.Unrefused.{nil_left, nil_right, not_refused, neither, walked, inode_is, last_child}
 use Rattle.ll_laws.proofs.Gain.{done_of, Passes, passes, start_tree, kept_tree}
-use Rattle.ll_worlds.specs.World.{World, shown}
-use Rattle.ll_worlds.proofs.Undisturbed.{let_go_entries, with_bytes_entries, not_empty}
-use Rattle.ll_changes.proofs.Living.{bytes_kind, let_go_kind, make_kind_other}
+use Rattle.ll_laws.specs.World.{World, shown}
+use Rattle.ll_laws.proofs.Undisturbed.{let_go_entries, with_bytes_entries, not_empty}
+use Rattle.ll_node.proofs.Living.{bytes_kind, let_go_kind, make_kind_other}
 use Rattle.ll_journal.proofs.OpenFiles.{AreFiles, OpensFiles, end_known, own_files, start_files, step_files}
 
 abbrev pub HasNode : State → ℕ → Type 0

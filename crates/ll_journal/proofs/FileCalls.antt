@@ -35,7 +35,7 @@ use Rattle.ll_node.specs.Refusals.{write_refusals, len_refusals}
 use Rattle.ll_node.specs.Slot as slots
 use Rattle.ll_laws.proofs.ClientChanges.{inode_at_is}
 use Rattle.ll_laws.proofs.Gain.{done_of}
-use Rattle.ll_worlds.specs.World.{descriptor_of, is_on_descriptor}
+use Rattle.ll_laws.specs.World.{descriptor_of, is_on_descriptor}
 use Rattle.ll_journal.specs.Files.{ComesOn, IsFreeOn, on_file}
 use Rattle.ll_journal.specs.declared.files.BytesCall.TheVariants as onto
 use Rattle.ll_journal.specs.declared.files.FileCall.{FileCall}

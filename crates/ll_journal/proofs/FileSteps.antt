@@ -19,15 +19,15 @@ use Rattle.ll_seq.specs.Memory.{takes_memory}
 use Rattle.ll_seq.specs.State.{State, kind_of}
 use Rattle.ll_seq.specs.Step.{step, refusals, client_of}
 use Rattle.ll_seq.specs.Effects.{let_go, lives, with_bytes, with_client}
-use Rattle.ll_changes.proofs.Living.{let_go_gone, let_go_next}
-use Rattle.ll_changes.proofs.SlotAccounts.{content_of, bytes_put, bytes_other, let_go_other, let_go_living}
-use Rattle.ll_worlds.specs.World.{World, NotNow, Replied, advance, shown, is_full, next_number, reply_to}
-use Rattle.ll_worlds.specs.declared.step.Step.TheVariants.{FdCommit}
-use Rattle.ll_worlds.specs.Sound.{IsSound}
-use Rattle.ll_worlds.proofs.Shapes.{with_entry}
-use Rattle.ll_held.specs.declared.held.Held.{Held}
-use Rattle.ll_held.specs.Lent.{vacant}
-use Rattle.ll_inodes.specs.InodeTable.{Table, IsTable, NotIn, without_inode}
+use Rattle.ll_node.proofs.Living.{let_go_gone, let_go_next}
+use Rattle.ll_node.proofs.SlotAccounts.{content_of, bytes_put, bytes_other, let_go_other, let_go_living}
+use Rattle.ll_laws.specs.World.{World, NotNow, Replied, advance, shown, is_full, next_number, reply_to}
+use Rattle.ll_laws.specs.declared.step.Step.TheVariants.{FdCommit}
+use Rattle.ll_laws.specs.Sound.{IsSound}
+use Rattle.ll_laws.proofs.Shapes.{with_entry}
+use Rattle.ll_node.specs.declared.held.Held.{Held}
+use Rattle.ll_node.specs.Lent.{vacant}
+use Rattle.ll_node.specs.InodeTable.{Table, IsTable, NotIn, without_inode}
 use Rattle.ll_journal.specs.declared.direct.Made.{Made}
 use Rattle.ll_journal.specs.declared.direct.Made.TheVariants as answers
 use Rattle.ll_journal.specs.declared.files.BytesCall.{BytesCall}

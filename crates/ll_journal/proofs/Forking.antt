@@ -3,11 +3,11 @@ use Rattle.std.specs.Prelude.{◌≡◌, ℕ, suc, Bool, true, false, cond, not,
 use Rattle.std.specs.Prelude.{option_map, option_and_then, unwrap_or, slice_get, refl}
 use Rattle.std.specs.Option.{option_map_or}
 use Rattle.std.proofs.Common.{sym, subst, ap, ◌∙◌}
-use Rattle.ll_worlds.specs.Walk.{Walk, Position, forked}
-use Rattle.ll_worlds.specs.World as world
-use Rattle.ll_worlds.specs.World.{World, Outcome, Forked, advance, fork, with_walk}
-use Rattle.ll_worlds.specs.declared.step.Step.TheVariants.{Fork}
-use Rattle.ll_worlds.specs.Sound.{IsSound}
+use Rattle.ll_laws.specs.Walk.{Walk, Position, forked}
+use Rattle.ll_laws.specs.World as world
+use Rattle.ll_laws.specs.World.{World, Outcome, Forked, advance, fork, with_walk}
+use Rattle.ll_laws.specs.declared.step.Step.TheVariants.{Fork}
+use Rattle.ll_laws.specs.Sound.{IsSound}
 use Rattle.ll_journal.specs.declared.journal.Journal.TheInside.{Inside}
 use Rattle.ll_journal.specs.Book.{Seat, Book, Spares, inode_in}
 use Rattle.ll_journal.specs.Kept.{IsKept, world_of, book_of}

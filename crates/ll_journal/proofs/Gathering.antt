@@ -10,9 +10,9 @@ use Rattle.std.proofs.lemmas.List.{length-append}
 use Rattle.std.proofs.lemmas.Option.{slice_get_within}
 use Rattle.ll_rights.specs.Map.{Map, get}
 use Rattle.ll_seq.proofs.Parted.{or_left, or_right}
-use Rattle.ll_inodes.specs.InodeTable.{ArePlaced, AreDistinct, NotIn}
-use Rattle.ll_worlds.specs.Walk.{Leg, Position, Above, Down, Split, is_in, legs}
-use Rattle.ll_inodes.proofs.SlotLists.{all_more}
+use Rattle.ll_node.specs.InodeTable.{ArePlaced, AreDistinct, NotIn}
+use Rattle.ll_laws.specs.Walk.{Leg, Position, Above, Down, Split, is_in, legs}
+use Rattle.ll_node.proofs.SlotLists.{all_more}
 use Rattle.ll_journal.specs.Book.{Book, inode_in}
 use Rattle.ll_journal.specs.Needs.{with_slot, with_slot_of, with_slots_of}
 use Rattle.ll_journal.specs.WalkEnds.{is_lent}

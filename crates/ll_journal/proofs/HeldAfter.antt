@@ -3,13 +3,13 @@ use Rattle.std.specs.Prelude.{◌≡◌, ℕ, refl}
 use Rattle.std.proofs.Common.{ap}
 use Rattle.ll_seq.specs.declared.call.Call.{Call}
 use Rattle.ll_seq.specs.Step.{step}
-use Rattle.ll_worlds.specs.World.{World, shown, next_number, reply_to}
+use Rattle.ll_laws.specs.World.{World, shown, next_number, reply_to}
 use Rattle.ll_journal.specs.Book.{mark_of, held_of}
-use Rattle.ll_worlds.specs.Sound.{IsSound}
-use Rattle.ll_worlds.proofs.Shapes.{with_entry}
+use Rattle.ll_laws.specs.Sound.{IsSound}
+use Rattle.ll_laws.proofs.Shapes.{with_entry}
 use Rattle.ll_journal.proofs.Shown.{shown_reply}
 use Rattle.ll_journal.proofs.MarkOf.{AreClients, are_clients, mark_same}
-use Rattle.ll_changes.proofs.SlotAccounts.{content_of}
+use Rattle.ll_node.proofs.SlotAccounts.{content_of}
 
 known : (w : World) → IsSound w → AreClients w
 known w sound = are_clients w sound

@@ -17,7 +17,7 @@ use Rattle.ll_seq.specs.Memory.{holds_memory}
 use Rattle.ll_seq.specs.Stages.{number_refusals, relation_refusals, stages, text_refusals, walk_refusals}
 use Rattle.ll_seq.specs.State.{State, new_client}
 use Rattle.ll_seq.specs.Step.{client_of, first_or, refusals, step}
-use Rattle.ll_answer.specs.Lean.{spares_memory}
+use Rattle.ll_seq.specs.Lean.{spares_memory}
 use Rattle.ll_laws.proofs.Gain.{done_of}
 use Rattle.ll_journal.proofs.Shown.{step_done}
 

@@ -9,8 +9,8 @@ use Rattle.ll_rights.specs.declared.kind.Kind.TheVariants.{Dir}
 use Rattle.ll_rights.specs.Map.{get}
 use Rattle.ll_path.specs.Path.{Path, is_root}
 use Rattle.ll_path.specs.declared.target.Target.{Target}
-use Rattle.ll_answer.specs.declared.found.Spot.{Spot}
-use Rattle.ll_answer.specs.declared.found.There.{There}
+use Rattle.ll_seq.specs.declared.found.Spot.{Spot}
+use Rattle.ll_seq.specs.declared.found.There.{There}
 use Rattle.ll_seq.specs.declared.call.Call.{Call}
 use Rattle.ll_seq.specs.Call.{first_of, first_path, path_of, second_of, second_path, targets}
 use Rattle.ll_seq.specs.State.{State, start}
@@ -19,11 +19,11 @@ use Rattle.ll_laws.proofs.Gain.{after_tree, start_tree}
 use Rattle.ll_laws.proofs.Granted.{kind_known}
 use Rattle.ll_laws.proofs.Trees.{IsTree}
 use Rattle.ll_laws.proofs.Chains.{same_Some}
-use Rattle.ll_worlds.specs.Commits.{first_end, second_end}
-use Rattle.ll_worlds.specs.Walk.{Walk, Leg, at_ends, is_in}
-use Rattle.ll_worlds.specs.World.{World, domain_of, is_marked_by_other, last_node, last_nodes, shown}
-use Rattle.ll_worlds.proofs.Tests.{both}
-use Rattle.ll_held.specs.declared.held.Held.{Held}
+use Rattle.ll_laws.specs.Commits.{first_end, second_end}
+use Rattle.ll_laws.specs.Walk.{Walk, Leg, at_ends, is_in}
+use Rattle.ll_laws.specs.World.{World, domain_of, is_marked_by_other, last_node, last_nodes, shown}
+use Rattle.ll_laws.proofs.Tests.{both}
+use Rattle.ll_node.specs.declared.held.Held.{Held}
 use Rattle.ll_journal.specs.declared.journal.Journal.TheInside.{Inside}
 use Rattle.ll_journal.specs.Book.{Book, Seat, held_of, inode_in, slot_of}
 use Rattle.ll_journal.specs.Kept.{IsKept, book_of, world_of}

@@ -11,9 +11,9 @@ use Rattle.ll_rules.specs.Layer.{Layer}
 use Rattle.ll_seq.specs.Call.{first_path}
 use Rattle.ll_seq.specs.State.{Name, State}
 use Rattle.ll_laws.proofs.Chains.{same_Some}
-use Rattle.ll_worlds.specs.Walk.{Leg, Walk, further_by, turn}
-use Rattle.ll_worlds.specs.World.{domain_of, shown}
-use Rattle.ll_held.specs.declared.held.Held.{Held}
+use Rattle.ll_laws.specs.Walk.{Leg, Walk, further_by, turn}
+use Rattle.ll_laws.specs.World.{domain_of, shown}
+use Rattle.ll_node.specs.declared.held.Held.{Held}
 use Rattle.ll_journal.specs.declared.journal.Journal.TheInside.{Inside}
 use Rattle.ll_journal.specs.Book.{Seat}
 use Rattle.ll_journal.specs.Kept.{IsKept, book_of, world_of}

@@ -2,9 +2,9 @@
 use Rattle.std.specs.Prelude.{◌≡◌, ℕ, Bool, refl}
 use Rattle.std.specs.Ordering.{nat_cmp}
 use Rattle.ll_rights.specs.Map.{Map}
-use Rattle.ll_answer.specs.Near.{may_make, nodes_of}
-use Rattle.ll_answer.specs.declared.found.Found.{Found}
-use Rattle.ll_held.specs.declared.held.Held.{Held}
+use Rattle.ll_seq.specs.Near.{may_make, nodes_of}
+use Rattle.ll_seq.specs.declared.found.Found.{Found}
+use Rattle.ll_node.specs.declared.held.Held.{Held}
 use Rattle.ll_seq.specs.declared.call.Call.{Call}
 use Rattle.ll_seq.specs.declared.call.Call.TheVariants.{Make, Open, Read, Write, Ftruncate, Close, Truncate, ReadDir}
 use Rattle.ll_seq.specs.declared.call.Call.TheVariants.{Stat, Exec, Unlink, Rmdir, Rename, RenameNoreplace, Exchange}

@@ -24,17 +24,17 @@ use Rattle.ll_seq.specs.Tree.{named}
 use Rattle.ll_seq.proofs.Parted.{or_right}
 use Rattle.ll_laws.proofs.Granted.{kind_known}
 use Rattle.ll_laws.proofs.Trees.{IsTree}
-use Rattle.ll_answer.proofs.Counted.{spot_counted}
-use Rattle.ll_answer.specs.Found.{IsSpot, there_in}
-use Rattle.ll_answer.specs.Near.{inode_at, nodes_of, may_make}
-use Rattle.ll_answer.specs.declared.found.Found.{Found}
-use Rattle.ll_answer.specs.declared.found.Spot.{Spot}
-use Rattle.ll_answer.specs.declared.found.There.{There}
-use Rattle.ll_worlds.specs.Walk.{Leg, is_in}
-use Rattle.ll_worlds.specs.World.{last_node, last_nodes}
-use Rattle.ll_worlds.proofs.Tests.{itself_in}
-use Rattle.ll_held.specs.declared.held.Held.{Held}
-use Rattle.ll_changes.specs.Accounts.{names_map}
+use Rattle.ll_seq.proofs.Counted.{spot_counted}
+use Rattle.ll_seq.specs.Found.{IsSpot, there_in}
+use Rattle.ll_seq.specs.Near.{inode_at, nodes_of, may_make}
+use Rattle.ll_seq.specs.declared.found.Found.{Found}
+use Rattle.ll_seq.specs.declared.found.Spot.{Spot}
+use Rattle.ll_seq.specs.declared.found.There.{There}
+use Rattle.ll_laws.specs.Walk.{Leg, is_in}
+use Rattle.ll_laws.specs.World.{last_node, last_nodes}
+use Rattle.ll_laws.proofs.Tests.{itself_in}
+use Rattle.ll_node.specs.declared.held.Held.{Held}
+use Rattle.ll_node.specs.Accounts.{names_map}
 use Rattle.ll_journal.specs.WalkEnds.{nodes_at_end, would_make}
 use Rattle.ll_journal.specs.Checks.{found_at, is_marked_at, is_marked_there, last_in, spot_at}
 use Rattle.ll_journal.proofs.AtEnds.{IsEnd, any_last, end_look_up}

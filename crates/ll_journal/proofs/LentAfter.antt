@@ -9,14 +9,14 @@ use Rattle.ll_node.specs.Slot.{Slot}
 use Rattle.ll_seq.specs.State.{bytes_of}
 use Rattle.ll_seq.specs.Tree.{kind_or_file}
 use Rattle.ll_laws.proofs.Chains.{same_Some}
-use Rattle.ll_worlds.specs.Walk.{Walk, marks}
-use Rattle.ll_worlds.specs.World.{World, shown, is_marked}
-use Rattle.ll_held.specs.declared.held.Held.{Held}
+use Rattle.ll_laws.specs.Walk.{Walk, marks}
+use Rattle.ll_laws.specs.World.{World, shown, is_marked}
+use Rattle.ll_node.specs.declared.held.Held.{Held}
 use Rattle.ll_journal.specs.Book.{Book, Spares, inode_in, slot_of, held_of, mark_of, has_mark}
-use Rattle.ll_changes.specs.Accounts.{names_map}
-use Rattle.ll_inodes.specs.InodeTable.{NotIn}
-use Rattle.ll_held.specs.Lent.{vacant}
-use Rattle.ll_inodes.specs.InodeTable.{ArePlaced}
+use Rattle.ll_node.specs.Accounts.{names_map}
+use Rattle.ll_node.specs.InodeTable.{NotIn}
+use Rattle.ll_node.specs.Lent.{vacant}
+use Rattle.ll_node.specs.InodeTable.{ArePlaced}
 use Rattle.ll_journal.proofs.MarkOf.{AreClients, is_marked_is, mark_put_same}
 
 -- ---- what is lent

@@ -10,12 +10,12 @@ use Rattle.ll_rules.specs.Layer.{Layer}
 use Rattle.ll_seq.specs.State.{State, kind_of}
 use Rattle.ll_seq.proofs.Parted.{or_split, or_left, or_right}
 use Rattle.ll_laws.proofs.Chains.{same_Some}
-use Rattle.ll_worlds.specs.Walk.{Walk, Leg, Position, Above, Down, Split, legs, marks}
-use Rattle.ll_worlds.specs.Walks.{IsRight, AreRight}
-use Rattle.ll_worlds.specs.World.{World, shown, domain_of}
-use Rattle.ll_worlds.proofs.Tests.{both, or_false}
-use Rattle.ll_held.specs.declared.held.Held.{Held}
-use Rattle.ll_held.specs.Lent.{Misses}
+use Rattle.ll_laws.specs.Walk.{Walk, Leg, Position, Above, Down, Split, legs, marks}
+use Rattle.ll_laws.specs.Walks.{IsRight, AreRight}
+use Rattle.ll_laws.specs.World.{World, shown, domain_of}
+use Rattle.ll_laws.proofs.Tests.{both, or_false}
+use Rattle.ll_node.specs.declared.held.Held.{Held}
+use Rattle.ll_node.specs.Lent.{Misses}
 use Rattle.ll_journal.specs.declared.journal.Journal.TheInside.{Inside}
 use Rattle.ll_journal.specs.Book.{Seat, Book, inode_in, slot_of, held_of}
 use Rattle.ll_journal.specs.Kept.{IsKept, world_of, book_of}

@@ -7,10 +7,10 @@ use Rattle.std.proofs.lemmas.Bool.{eqb-true, eq-eqb}
 use Rattle.ll_rights.specs.Map.{Map}
 use Rattle.ll_laws.proofs.Chains.{same_Some}
 use Rattle.ll_journal.specs.Book.{Book, Spares, inode_in, slot_of, held_of}
-use Rattle.ll_inodes.specs.InodeTable.{NotIn}
-use Rattle.ll_held.specs.Lent.{vacant}
-use Rattle.ll_inodes.specs.InodeTable.{ArePlaced}
-use Rattle.ll_worlds.proofs.Tests.{or_false}
+use Rattle.ll_node.specs.InodeTable.{NotIn}
+use Rattle.ll_node.specs.Lent.{vacant}
+use Rattle.ll_node.specs.InodeTable.{ArePlaced}
+use Rattle.ll_laws.proofs.Tests.{or_false}
 
 module _ (b : Book) (k : ℕ) where
   -- of a slot where an inode lies

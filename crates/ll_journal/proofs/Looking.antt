@@ -7,9 +7,9 @@ use Rattle.std.proofs.lemmas.Bool.{eqb-true, eq-eqb}
 use Rattle.ll_rights.specs.Map.{get}
 use Rattle.ll_seq.specs.State.{child}
 use Rattle.ll_laws.proofs.Chains.{same_Some}
-use Rattle.ll_worlds.specs.Walk.{Walk, Leg, turn, further, further_by, leg_below}
-use Rattle.ll_worlds.specs.World.{World, shown, domain_of}
-use Rattle.ll_held.specs.declared.held.Held.{Held}
+use Rattle.ll_laws.specs.Walk.{Walk, Leg, turn, further, further_by, leg_below}
+use Rattle.ll_laws.specs.World.{World, shown, domain_of}
+use Rattle.ll_node.specs.declared.held.Held.{Held}
 use Rattle.ll_journal.specs.declared.journal.Journal.TheInside.{Inside}
 use Rattle.ll_journal.specs.Book.{Seat, inode_in, slot_of}
 use Rattle.ll_journal.specs.Kept.{IsKept, seat_at, world_of, book_of}

@@ -21,11 +21,11 @@ use Rattle.ll_seq.specs.Tree.{named, inode_of}
 use Rattle.ll_seq.specs.Effects.{with_bytes, with_client, with_node, with_moved, with_opened, emptied, dentry_of}
 use Rattle.ll_seq.specs.Effects.{overwritten, inode_at, let_go, renamed}
 use Rattle.ll_seq.specs.Step.{step, refusals, first_or, client_of}
-use Rattle.ll_inodes.specs.InodeTable.{Table, IsTable}
-use Rattle.ll_inodes.proofs.SlotLists.{same_or_not}
+use Rattle.ll_node.specs.InodeTable.{Table, IsTable}
+use Rattle.ll_node.proofs.SlotLists.{same_or_not}
 use Rattle.ll_laws.proofs.Gain.{done_of}
-use Rattle.ll_changes.proofs.Living.{bytes_kind, bytes_next, let_go_next, make_kind, make_kind_other}
-use Rattle.ll_worlds.specs.World.{has_any}
+use Rattle.ll_node.proofs.Living.{bytes_kind, bytes_next, let_go_next, make_kind, make_kind_other}
+use Rattle.ll_laws.specs.World.{has_any}
 use Rattle.ll_journal.specs.WalkEnds.{TakesName, would_make}
 
 renamed_next : (s : State) (old new : Dentry) (inode : ℕ) (o : Option ℕ) → (renamed s old new inode o).next ≡ s.next

@@ -16,15 +16,15 @@ use Rattle.ll_seq.specs.Call.{first_path, second_path}
 use Rattle.ll_seq.proofs.Parted.{or_split}
 use Rattle.ll_seq.proofs.DentryRows.{found_of_row}
 use Rattle.ll_laws.proofs.Chains.{same_Some}
-use Rattle.ll_worlds.specs.Walk.{Walk, Leg, Position, Above, Down, Split, has_two_paths, toward, turn, with_turn}
-use Rattle.ll_worlds.specs.Walk.{forked, marks, legs}
-use Rattle.ll_worlds.specs.World.{World, next_number, map_values, overtaken, is_marked}
+use Rattle.ll_laws.specs.Walk.{Walk, Leg, Position, Above, Down, Split, has_two_paths, toward, turn, with_turn}
+use Rattle.ll_laws.specs.Walk.{forked, marks, legs}
+use Rattle.ll_laws.specs.World.{World, next_number, map_values, overtaken, is_marked}
 use Rattle.ll_journal.specs.Book.{has_mark, marked_below, mark_of}
-use Rattle.ll_worlds.specs.Walks.{AreApart}
-use Rattle.ll_worlds.specs.Sound.{IsSound}
-use Rattle.ll_worlds.proofs.Shapes.{with_stale}
-use Rattle.ll_worlds.proofs.WalkMaps.{found, get-map_values}
-use Rattle.ll_worlds.proofs.Tests.{or_false}
+use Rattle.ll_laws.specs.Walks.{AreApart}
+use Rattle.ll_laws.specs.Sound.{IsSound}
+use Rattle.ll_laws.proofs.Shapes.{with_stale}
+use Rattle.ll_laws.proofs.WalkMaps.{found, get-map_values}
+use Rattle.ll_laws.proofs.Tests.{or_false}
 
 -- ---- who has a mark
 

@@ -11,13 +11,13 @@ use Rattle.ll_rights.proofs.Maps.{get-empty, get-insert_same, get-insert_other, 
 use Rattle.ll_seq.specs.declared.client.ClientRecord.{ClientRecord}
 use Rattle.ll_seq.specs.State.{State}
 use Rattle.ll_seq.specs.Effects.{with_client}
-use Rattle.ll_worlds.specs.Walk.{Walk}
+use Rattle.ll_laws.specs.Walk.{Walk}
 use Rattle.ll_journal.specs.Book.{Seat}
-use Rattle.ll_inodes.specs.InodeTable.{NotIn}
+use Rattle.ll_node.specs.InodeTable.{NotIn}
 use Rattle.ll_journal.specs.Kept.{AreSeated, seat_at, walks_from}
-use Rattle.ll_inodes.specs.InodeTable.{AreDistinct}
+use Rattle.ll_node.specs.InodeTable.{AreDistinct}
 use Rattle.ll_rights.proofs.Sizes.{len-empty, len-insert, same_len}
-use Rattle.ll_inodes.proofs.SlotLists.{in_neither, not_in_both}
+use Rattle.ll_node.proofs.SlotLists.{in_neither, not_in_both}
 
 -- ---- as many clients as seats
 

@@ -10,9 +10,9 @@ use Rattle.ll_rules.specs.Layer.{Layer}
 use Rattle.ll_seq.specs.declared.call.Call.{Call}
 use Rattle.ll_seq.specs.State.{Name, State}
 use Rattle.ll_laws.proofs.Chains.{same_Some}
-use Rattle.ll_worlds.specs.Walk.{Walk, Leg, Position, Above, Down, Split, at_ends, directory_under, further, further_by}
-use Rattle.ll_worlds.specs.Walk.{has_two_paths, is_blocked, leg_below, turn}
-use Rattle.ll_worlds.specs.World.{domain_of, shown}
+use Rattle.ll_laws.specs.Walk.{Walk, Leg, Position, Above, Down, Split, at_ends, directory_under, further, further_by}
+use Rattle.ll_laws.specs.Walk.{has_two_paths, is_blocked, leg_below, turn}
+use Rattle.ll_laws.specs.World.{domain_of, shown}
 use Rattle.ll_journal.specs.declared.station.Station.{Station}
 use Rattle.ll_journal.specs.declared.station.Station.TheVariants as station
 use Rattle.ll_journal.specs.Book.{Book}

@@ -10,12 +10,12 @@ use Rattle.ll_seq.specs.declared.rules.Rules.{Rules}
 use Rattle.ll_seq.specs.State.{start}
 use Rattle.ll_seq.specs.History.{state_after}
 use Rattle.ll_journal.specs.declared.journal.Journal.TheInside.{Inside}
-use Rattle.ll_worlds.specs.World.{new_world, shown}
-use Rattle.ll_worlds.specs.Sound.{IsSound}
-use Rattle.ll_worlds.proofs.SoundSteps.{sound_start}
+use Rattle.ll_laws.specs.World.{new_world, shown}
+use Rattle.ll_laws.specs.Sound.{IsSound}
+use Rattle.ll_laws.proofs.SoundSteps.{sound_start}
 use Rattle.ll_journal.specs.Book.{Seat}
 use Rattle.ll_journal.specs.Kept.{seat_at, AreSeated, IsKept, walks_from, world_of, spares_of}
-use Rattle.ll_inodes.specs.InodeTable.{IsTable}
+use Rattle.ll_node.specs.InodeTable.{IsTable}
 
 nobody_there : (number : ℕ) → option_map (λ (seat : Seat). seat.client) (seat_at [] number) ≡ None
 nobody_there zero = refl

@@ -16,10 +16,10 @@ use Rattle.ll_rights.proofs.Maps.{same_map}
 use Rattle.ll_laws.proofs.Chains.{same_Some}
 use Rattle.ll_seq.specs.declared.call.Call.{Call}
 use Rattle.ll_seq.specs.State.{State}
-use Rattle.ll_worlds.specs.Walk.{Walk, marks, passes}
-use Rattle.ll_worlds.specs.World.{World, is_marked_by_other, map_values, overtaken}
-use Rattle.ll_worlds.proofs.Tests as tests
-use Rattle.ll_worlds.proofs.WalkMaps.{found, get-map_values}
+use Rattle.ll_laws.specs.Walk.{Walk, marks, passes}
+use Rattle.ll_laws.specs.World.{World, is_marked_by_other, map_values, overtaken}
+use Rattle.ll_laws.proofs.Tests as tests
+use Rattle.ll_laws.proofs.WalkMaps.{found, get-map_values}
 use Rattle.ll_journal.specs.declared.stage.Stage.{Stage}
 use Rattle.ll_journal.specs.declared.stage.Stage.TheVariants.{Above, Down, Split}
 use Rattle.ll_journal.specs.declared.seat.Seat.TheInside.{Inside}

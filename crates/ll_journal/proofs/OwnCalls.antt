@@ -7,7 +7,7 @@ use Rattle.ll_seq.specs.declared.call.Call.{Call}
 use Rattle.ll_seq.specs.declared.client.ClientRecord.{ClientRecord}
 use Rattle.ll_seq.specs.Call.{targets}
 use Rattle.ll_seq.specs.History.{is_connect}
-use Rattle.ll_worlds.specs.World.{has_any, is_on_descriptor, is_alone}
+use Rattle.ll_laws.specs.World.{has_any, is_on_descriptor, is_alone}
 use Rattle.ll_seq.specs.Stages.{early_refusals}
 use Rattle.ll_journal.specs.declared.alone.Own.{Own}
 use Rattle.ll_journal.specs.declared.alone.Own.TheVariants.{OnRecord}

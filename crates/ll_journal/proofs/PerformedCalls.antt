@@ -25,25 +25,25 @@ use Rattle.ll_seq.specs.Memory.{holds_memory}
 use Rattle.ll_seq.specs.Step.{client_of, first_or, refusals, step}
 use Rattle.ll_seq.specs.Tree.{named, ancestors}
 use Rattle.ll_laws.proofs.Unrefused.{nil_left, nil_right, nil_map, not_refused}
-use Rattle.ll_answer.specs.declared.changes.Answer.{Answer}
-use Rattle.ll_answer.specs.declared.changes.Answer.TheVariants.{Done, Opened, Status, Names}
-use Rattle.ll_answer.specs.declared.changes.At.{At}
-use Rattle.ll_answer.specs.declared.changes.Change.{Change}
-use Rattle.ll_answer.specs.declared.changes.Change.TheVariants.{Nothing, Make, Take, Name, Move, Replace, Exchange}
-use Rattle.ll_answer.specs.declared.changes.Change.TheVariants.{Resize, Open, Allow}
-use Rattle.ll_answer.specs.declared.changes.Effect.{Effect}
-use Rattle.ll_answer.specs.declared.changes.Opening.{Opening}
-use Rattle.ll_answer.specs.declared.found.Found.{Found}
-use Rattle.ll_answer.specs.declared.found.There.{There}
-use Rattle.ll_answer.specs.Decided.{IsDone, IsRefused}
-use Rattle.ll_answer.specs.Effect.{CanOpen, Fits, Holds, after, told}
-use Rattle.ll_answer.specs.Found.{there_in}
-use Rattle.ll_answer.specs.Lean.{spares_memory}
-use Rattle.ll_answer.specs.Near.{AreNear, IsNear, changed_inodes, inode_at, nodes_of, opened_inode, told_inodes}
-use Rattle.ll_changes.specs.Enacting.{Scene, InHand, Covers, Enacts, MayEnact}
-use Rattle.ll_changes.proofs.GivenSlots.{given_tree, held_there, kind_there, made_idle, some_there}
-use Rattle.ll_changes.proofs.StayingSlots.{directory_some, named_some}
-use Rattle.ll_worlds.specs.Walk.{is_in}
+use Rattle.ll_seq.specs.declared.changes.Answer.{Answer}
+use Rattle.ll_seq.specs.declared.changes.Answer.TheVariants.{Done, Opened, Status, Names}
+use Rattle.ll_seq.specs.declared.changes.At.{At}
+use Rattle.ll_seq.specs.declared.changes.Change.{Change}
+use Rattle.ll_seq.specs.declared.changes.Change.TheVariants.{Nothing, Make, Take, Name, Move, Replace, Exchange}
+use Rattle.ll_seq.specs.declared.changes.Change.TheVariants.{Resize, Open, Allow}
+use Rattle.ll_seq.specs.declared.changes.Effect.{Effect}
+use Rattle.ll_seq.specs.declared.changes.Opening.{Opening}
+use Rattle.ll_seq.specs.declared.found.Found.{Found}
+use Rattle.ll_seq.specs.declared.found.There.{There}
+use Rattle.ll_seq.specs.Decided.{IsDone, IsRefused}
+use Rattle.ll_seq.specs.Effect.{CanOpen, Fits, Holds, after, told}
+use Rattle.ll_seq.specs.Found.{there_in}
+use Rattle.ll_seq.specs.Lean.{spares_memory}
+use Rattle.ll_seq.specs.Near.{AreNear, IsNear, changed_inodes, inode_at, nodes_of, opened_inode, told_inodes}
+use Rattle.ll_node.specs.Enacting.{Scene, InHand, Covers, Enacts, MayEnact}
+use Rattle.ll_node.proofs.GivenSlots.{given_tree, held_there, kind_there, made_idle, some_there}
+use Rattle.ll_node.proofs.StayingSlots.{directory_some, named_some}
+use Rattle.ll_laws.specs.Walk.{is_in}
 use Rattle.ll_journal.specs.declared.seat.Ended.{Ended}
 use Rattle.ll_journal.specs.Performed.{IsAtEnd, IsPerformed, lies_in}
 use Rattle.ll_journal.proofs.HeldReplies.{held_free, held_takes}

@@ -3,9 +3,9 @@ use Rattle.std.specs.Prelude.{◌≡◌, ◌<◌, ℕ, zero, suc, Bool, true, fa
 use Rattle.std.specs.Prelude.{None, option_map, slice_get, slice_set, refl}
 use Rattle.std.proofs.Common.{sym, subst, ap, ◌∙◌, arith, inl}
 use Rattle.ll_rights.specs.declared.errno.Errno.{Errno}
-use Rattle.ll_changes.proofs.GivenSlots.{client_stays}
-use Rattle.ll_held.specs.declared.held.Held.{Held}
-use Rattle.ll_inodes.specs.InodeTable.{IsTable}
+use Rattle.ll_node.proofs.GivenSlots.{client_stays}
+use Rattle.ll_node.specs.declared.held.Held.{Held}
+use Rattle.ll_node.specs.InodeTable.{IsTable}
 use Rattle.ll_laws.proofs.Gain.{done_of}
 use Rattle.ll_seq.specs.declared.call.Call.{Call}
 use Rattle.ll_seq.specs.declared.call.Call.TheVariants as calls
@@ -15,8 +15,8 @@ use Rattle.ll_seq.specs.declared.reply.Reply.TheVariants.{Refused}
 use Rattle.ll_seq.specs.History.{Log}
 use Rattle.ll_seq.specs.State.{State}
 use Rattle.ll_seq.specs.Step.{step, client_of, first_or, refusals}
-use Rattle.ll_worlds.specs.Walk.{Walk}
-use Rattle.ll_worlds.specs.World.{World, is_full, next_number, overtaken, reply_to, shown, without_walk}
+use Rattle.ll_laws.specs.Walk.{Walk}
+use Rattle.ll_laws.specs.World.{World, is_full, next_number, overtaken, reply_to, shown, without_walk}
 use Rattle.ll_journal.specs.declared.journal.Journal.TheInside.{Inside}
 use Rattle.ll_journal.specs.Book.{Seat, Spares, slot_of}
 use Rattle.ll_journal.specs.declared.progress.Ending.TheVariants.{Replied}

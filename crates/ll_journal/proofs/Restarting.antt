@@ -5,25 +5,25 @@ use Rattle.std.specs.Option.{option_map_or}
 use Rattle.std.proofs.Common.{sym, subst, ap, ◌∙◌}
 use Rattle.std.proofs.lemmas.Bool.{eqb-true, eq-eqb}
 use Rattle.ll_rights.specs.Map.{insert}
-use Rattle.ll_worlds.specs.Walk.{Walk, Above, is_in, marks}
-use Rattle.ll_worlds.specs.World as world
-use Rattle.ll_worlds.specs.World.{World, Outcome, Restarted, advance, restart}
-use Rattle.ll_worlds.specs.declared.step.Step.TheVariants.{Restart}
-use Rattle.ll_worlds.specs.Sound.{IsSound}
-use Rattle.ll_worlds.proofs.Shapes.{restarted}
-use Rattle.ll_held.specs.declared.held.Held.{Held}
+use Rattle.ll_laws.specs.Walk.{Walk, Above, is_in, marks}
+use Rattle.ll_laws.specs.World as world
+use Rattle.ll_laws.specs.World.{World, Outcome, Restarted, advance, restart}
+use Rattle.ll_laws.specs.declared.step.Step.TheVariants.{Restart}
+use Rattle.ll_laws.specs.Sound.{IsSound}
+use Rattle.ll_laws.proofs.Shapes.{restarted}
+use Rattle.ll_node.specs.declared.held.Held.{Held}
 use Rattle.ll_journal.specs.declared.journal.Journal.TheInside.{Inside}
 use Rattle.ll_journal.specs.declared.check_step.StepCheck.{StepCheck}
 use Rattle.ll_journal.specs.declared.check_step.StepCheck.TheVariants.{NotNow, Astray, Go}
 use Rattle.ll_journal.specs.Book.{Seat, Book, Spares, inode_in, slot_of, held_of, has_mark, mark_of}
-use Rattle.ll_inodes.specs.InodeTable.{NotIn}
-use Rattle.ll_held.specs.Lent.{vacant}
+use Rattle.ll_node.specs.InodeTable.{NotIn}
+use Rattle.ll_node.specs.Lent.{vacant}
 use Rattle.ll_journal.specs.Kept.{IsKept, world_of, book_of}
 use Rattle.ll_journal.specs.Checks.{is_all_lent, check_restart}
 use Rattle.ll_journal.specs.WalkEnds.{is_lent}
 use Rattle.ll_journal.specs.Seated.{again}
 use Rattle.ll_journal.specs.Steps.{IsAstrayAt}
-use Rattle.ll_held.specs.Lent.{unmarked}
+use Rattle.ll_node.specs.Lent.{unmarked}
 use Rattle.ll_journal.proofs.MarkOf.{AreClients, are_clients, has_mark_of, mark_is, mark_found, mark_put_gone}
 use Rattle.ll_journal.proofs.MarkOf.{mark_put_same}
 use Rattle.ll_journal.proofs.LentAfter.{spares_moved, one_slot}

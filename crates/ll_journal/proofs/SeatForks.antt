@@ -8,9 +8,9 @@ use Rattle.ll_decide.specs.Masks.{AreMasks}
 use Rattle.ll_path.specs.Path.{Path, parent, is_root}
 use Rattle.ll_seq.specs.declared.call.Call.{Call}
 use Rattle.ll_seq.specs.Call.{first_path, second_path}
-use Rattle.ll_worlds.specs.Walk.{Leg, Position, Down, Split, Walk, trunk_path}
-use Rattle.ll_worlds.specs.Walk.{has_two_paths, forked, toward}
-use Rattle.ll_worlds.proofs.Ways.{common_left, common_right}
+use Rattle.ll_laws.specs.Walk.{Leg, Position, Down, Split, Walk, trunk_path}
+use Rattle.ll_laws.specs.Walk.{has_two_paths, forked, toward}
+use Rattle.ll_laws.proofs.Ways.{common_left, common_right}
 use Rattle.ll_path.specs.Place.{IsPlace}
 use Rattle.ll_journal.specs.declared.leg.Ahead.{Ahead}
 use Rattle.ll_journal.specs.declared.leg.Leg as kept

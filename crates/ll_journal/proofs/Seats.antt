@@ -10,9 +10,9 @@ use Rattle.ll_path.specs.Path.{Path, parent, is_root}
 use Rattle.ll_seq.specs.declared.call.Call.{Call}
 use Rattle.ll_seq.specs.Call.{first_path, second_path}
 use Rattle.ll_seq.specs.State.{Name, root}
-use Rattle.ll_worlds.specs.Walk.{Leg, Position, Down, Split, Walk, trunk_path, first_leg, masks_below, turn, with_turn}
-use Rattle.ll_worlds.proofs.CarriedMasks.{masks_above, masks_down}
-use Rattle.ll_worlds.proofs.Ways.{common_left}
+use Rattle.ll_laws.specs.Walk.{Leg, Position, Down, Split, Walk, trunk_path, first_leg, masks_below, turn, with_turn}
+use Rattle.ll_laws.proofs.CarriedMasks.{masks_above, masks_down}
+use Rattle.ll_laws.proofs.Ways.{common_left}
 use Rattle.ll_path.specs.Place.{IsPlace}
 use Rattle.ll_journal.specs.declared.leg.Leg as kept
 use Rattle.ll_journal.specs.declared.stage.Stage.{Stage}

@@ -11,12 +11,12 @@ use Rattle.ll_seq.specs.declared.client.ClientRecord.{ClientRecord}
 use Rattle.ll_seq.specs.Call.{targets}
 use Rattle.ll_seq.specs.History.{is_connect}
 use Rattle.ll_seq.specs.Step.{client_of}
-use Rattle.ll_worlds.specs.World.{World, Outcome, Begun, NotNow, advance, has_any, is_alone, is_idle, is_on_descriptor}
-use Rattle.ll_worlds.specs.World.{is_walked, shown}
+use Rattle.ll_laws.specs.World.{World, Outcome, Begun, NotNow, advance, has_any, is_alone, is_idle, is_on_descriptor}
+use Rattle.ll_laws.specs.World.{is_walked, shown}
 use Rattle.ll_seq.specs.Stages.{early_refusals}
-use Rattle.ll_worlds.specs.declared.step.Step.TheVariants.{Begin, ClientStep}
-use Rattle.ll_worlds.proofs.Shapes.{begun, replied}
-use Rattle.ll_worlds.proofs.Tests.{both}
+use Rattle.ll_laws.specs.declared.step.Step.TheVariants.{Begin, ClientStep}
+use Rattle.ll_laws.proofs.Shapes.{begun, replied}
+use Rattle.ll_laws.proofs.Tests.{both}
 use Rattle.ll_journal.specs.declared.journal.Journal.TheInside.{Inside}
 use Rattle.ll_journal.specs.Book.{Book, Seat}
 use Rattle.ll_journal.specs.Kept.{IsKept, book_of, world_of}

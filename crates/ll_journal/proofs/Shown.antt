@@ -8,9 +8,9 @@ use Rattle.ll_seq.specs.Step.{step, refusals, first_or, client_of}
 use Rattle.ll_seq.specs.History.{fresh_of}
 use Rattle.ll_seq.proofs.Histories.{after_push}
 use Rattle.ll_laws.proofs.Gain.{done_of}
-use Rattle.ll_worlds.specs.World.{World, shown, next_number, reply_to}
-use Rattle.ll_worlds.proofs.Shapes.{with_entry}
-use Rattle.ll_worlds.proofs.OneCall.{step_again}
+use Rattle.ll_laws.specs.World.{World, shown, next_number, reply_to}
+use Rattle.ll_laws.proofs.Shapes.{with_entry}
+use Rattle.ll_laws.proofs.OneCall.{step_again}
 
 -- with any reply
 pub shown_entry : (w : World) (number : ℕ) (call : Call) (reply : Reply)

@@ -27,13 +27,13 @@ use Rattle.ll_seq.specs.declared.node.Node.{Node}
 use Rattle.ll_seq.specs.State.{Name, State, dentry, dentry_cmp, child, bytes_of, start}
 use Rattle.ll_seq.specs.Tree.{kind_or_file}
 use Rattle.ll_seq.proofs.DentryOrder.{dentry_total, dentry_exact}
-use Rattle.ll_held.specs.declared.held.Held.{Held}
-use Rattle.ll_held.specs.Lent.{vacant}
-use Rattle.ll_inodes.specs.InodeTable.{ArePlaced, AreDistinct, NotIn}
-use Rattle.ll_changes.specs.Accounts.{names_map}
-use Rattle.ll_changes.proofs.Accounted.{lent_apart}
-use Rattle.ll_changes.proofs.NameMaps.{get-names_map}
-use Rattle.ll_worlds.specs.World.{World, shown}
+use Rattle.ll_node.specs.declared.held.Held.{Held}
+use Rattle.ll_node.specs.Lent.{vacant}
+use Rattle.ll_node.specs.InodeTable.{ArePlaced, AreDistinct, NotIn}
+use Rattle.ll_node.specs.Accounts.{names_map}
+use Rattle.ll_node.proofs.Accounted.{lent_apart}
+use Rattle.ll_node.proofs.NameMaps.{get-names_map}
+use Rattle.ll_laws.specs.World.{World, shown}
 use Rattle.ll_journal.specs.declared.journal.Journal.TheInside.{Inside}
 use Rattle.ll_journal.specs.Book.{Book, held_of, mark_of, slot_of}
 use Rattle.ll_journal.specs.Kept.{IsKept, book_of, world_of}

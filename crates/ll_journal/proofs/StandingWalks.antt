@@ -9,8 +9,8 @@ use Rattle.ll_rights.specs.Map.{get}
 use Rattle.ll_seq.specs.State.{kind_of, root, start}
 use Rattle.ll_laws.proofs.Chains.{same_Some}
 use Rattle.ll_laws.proofs.Gain.{after_tree, start_tree}
-use Rattle.ll_worlds.specs.Walk.{Walk, Leg, legs, marks, turn}
-use Rattle.ll_worlds.specs.World.{World, shown}
+use Rattle.ll_laws.specs.Walk.{Walk, Leg, legs, marks, turn}
+use Rattle.ll_laws.specs.World.{World, shown}
 use Rattle.ll_journal.specs.declared.journal.Journal.TheInside.{Inside}
 use Rattle.ll_journal.specs.Book.{Seat, has_mark, inode_in}
 use Rattle.ll_journal.specs.Kept.{IsKept, book_of, seat_at, world_of}

@@ -18,19 +18,19 @@ use Rattle.ll_seq.specs.Tree.{kind_or_file}
 use Rattle.ll_seq.specs.History.{Log, state_after}
 use Rattle.ll_journal.specs.declared.journal.Journal.TheInside.{Inside}
 use Rattle.ll_seq.specs.Step.{client_of}
-use Rattle.ll_worlds.specs.Walk.{Walk, Above, marks}
-use Rattle.ll_worlds.specs.World.{World, Outcome, Begun, NotNow, advance, is_idle, is_walked, takes_gate, shown}
-use Rattle.ll_worlds.specs.World.{next_number}
-use Rattle.ll_worlds.specs.declared.step.Step.{Step}
-use Rattle.ll_worlds.specs.declared.step.Step.TheVariants.{Begin}
-use Rattle.ll_worlds.specs.Sound.{IsSound}
-use Rattle.ll_worlds.proofs.Shapes.{begun}
-use Rattle.ll_worlds.proofs.SoundSteps.{sound_kept}
+use Rattle.ll_laws.specs.Walk.{Walk, Above, marks}
+use Rattle.ll_laws.specs.World.{World, Outcome, Begun, NotNow, advance, is_idle, is_walked, takes_gate, shown}
+use Rattle.ll_laws.specs.World.{next_number}
+use Rattle.ll_laws.specs.declared.step.Step.{Step}
+use Rattle.ll_laws.specs.declared.step.Step.TheVariants.{Begin}
+use Rattle.ll_laws.specs.Sound.{IsSound}
+use Rattle.ll_laws.proofs.Shapes.{begun}
+use Rattle.ll_laws.proofs.SoundSteps.{sound_kept}
 use Rattle.ll_journal.specs.Book.{Seat, Book, Spares, inode_in, slot_of, has_mark, marked_below}
-use Rattle.ll_changes.specs.Accounts.{names_map}
-use Rattle.ll_held.specs.Lent.{vacant}
+use Rattle.ll_node.specs.Accounts.{names_map}
+use Rattle.ll_node.specs.Lent.{vacant}
 use Rattle.ll_journal.specs.Kept.{AreSeated, IsKept, seat_at, walks_from, world_of, book_of, spares_of}
-use Rattle.ll_inodes.specs.InodeTable.{Table, IsTable}
+use Rattle.ll_node.specs.InodeTable.{Table, IsTable}
 use Rattle.std.proofs.lemmas.List.{length-set}
 use Rattle.std.proofs.lemmas.Option.{slice_get-get_or}
 use Rattle.ll_journal.proofs.Begun.{walk_at, walks_put}

@@ -7,7 +7,7 @@ use Rattle.ll_rights.specs.declared.errno.Errno.{Errno}
 use Rattle.ll_rights.specs.declared.errno.Errno.TheVariants.{NoMemory}
 use Rattle.ll_rights.specs.Errno.{refuse}
 use Rattle.ll_rights.specs.Map.{get}
-use Rattle.ll_answer.specs.Lean.{spares_memory}
+use Rattle.ll_seq.specs.Lean.{spares_memory}
 use Rattle.ll_seq.specs.declared.call.Call.{Call}
 use Rattle.ll_seq.specs.declared.call.Call.TheVariants.{Make, Open, Read, Write, Ftruncate, Close, Truncate, ReadDir}
 use Rattle.ll_seq.specs.declared.call.Call.TheVariants.{Stat, Exec, Unlink, Rmdir, Rename, RenameNoreplace, Exchange}
@@ -20,11 +20,11 @@ use Rattle.ll_seq.specs.State.{State}
 use Rattle.ll_seq.specs.Step.{step, refusals, client_of}
 use Rattle.ll_laws.proofs.Chains.{same_Some}
 use Rattle.ll_laws.proofs.Gain.{done_of}
-use Rattle.ll_worlds.specs.declared.step.Step.{Step}
-use Rattle.ll_worlds.specs.declared.step.Step.TheVariants.{Commit}
-use Rattle.ll_worlds.specs.Walk.{Walk}
-use Rattle.ll_worlds.specs.World.{World, Outcome, Replied, advance, called, is_full, is_walked, next_number, reply_to}
-use Rattle.ll_worlds.specs.World.{shown}
+use Rattle.ll_laws.specs.declared.step.Step.{Step}
+use Rattle.ll_laws.specs.declared.step.Step.TheVariants.{Commit}
+use Rattle.ll_laws.specs.Walk.{Walk}
+use Rattle.ll_laws.specs.World.{World, Outcome, Replied, advance, called, is_full, is_walked, next_number, reply_to}
+use Rattle.ll_laws.specs.World.{shown}
 use Rattle.ll_journal.specs.declared.files.BytesCall.{BytesCall}
 use Rattle.ll_journal.specs.declared.files.BytesCall.TheVariants as onto
 use Rattle.ll_journal.specs.declared.files.FileCall.{FileCall}

@@ -25,13 +25,13 @@ use Rattle.ll_seq.specs.Effects.{with_client, child_of}
 use Rattle.ll_seq.specs.Facts.{AreKept}
 use Rattle.ll_seq.specs.History.{Log}
 use Rattle.ll_seq.proofs.OpensKept.{kept_client}
-use Rattle.ll_worlds.specs.Walk.{Walk}
-use Rattle.ll_worlds.specs.World.{World, NotNow, Replied, advance, shown, is_idle, is_alone, is_full, next_number}
-use Rattle.ll_worlds.specs.World.{reply_to}
-use Rattle.ll_worlds.specs.declared.step.Step.TheVariants.{ClientStep}
-use Rattle.ll_worlds.specs.Sound.{IsSound}
-use Rattle.ll_worlds.proofs.Shapes.{with_entry}
-use Rattle.ll_worlds.proofs.OneCall.{unused}
+use Rattle.ll_laws.specs.Walk.{Walk}
+use Rattle.ll_laws.specs.World.{World, NotNow, Replied, advance, shown, is_idle, is_alone, is_full, next_number}
+use Rattle.ll_laws.specs.World.{reply_to}
+use Rattle.ll_laws.specs.declared.step.Step.TheVariants.{ClientStep}
+use Rattle.ll_laws.specs.Sound.{IsSound}
+use Rattle.ll_laws.proofs.Shapes.{with_entry}
+use Rattle.ll_laws.proofs.OneCall.{unused}
 use Rattle.ll_journal.specs.declared.alone.Own.{Own}
 use Rattle.ll_journal.specs.declared.alone.Own.TheVariants as owns
 use Rattle.ll_journal.specs.declared.alone.RecordCall.{RecordCall}
@@ -43,17 +43,17 @@ use Rattle.ll_journal.specs.Book.{Seat, Book, Spares}
 use Rattle.ll_journal.specs.Direct.{Answers, LeavesSlots, TakesMemory}
 use Rattle.ll_journal.specs.Starving.{Starves}
 use Rattle.ll_journal.specs.Kept.{AreSeated, IsKept, seat_at, walks_from, world_of, book_of, spares_of}
-use Rattle.ll_inodes.specs.InodeTable.{Table, IsTable}
+use Rattle.ll_node.specs.InodeTable.{Table, IsTable}
 use Rattle.ll_journal.specs.Own.{Asks, IsOwn, Comes, IsFreeOwn, Spawns, SpawnTells}
 use Rattle.ll_journal.proofs.Advancing.{direct_not_now, direct_full, direct_replies}
 use Rattle.ll_journal.proofs.Answered.{spares_answered, world_is, kept_answered, world_more, kept_more, takes_spare}
 use Rattle.ll_journal.proofs.Answered.{few_clients, many_clients}
-use Rattle.ll_inodes.proofs.SlotLists.{set_same, set_other}
+use Rattle.ll_node.proofs.SlotLists.{set_same, set_other}
 use Rattle.ll_journal.proofs.Begun.{walk_at}
 use Rattle.ll_journal.proofs.NewClients.{clients_len}
 use Rattle.ll_journal.proofs.OwnAnswers.{early_not_free, spawn_free, spawn_refused, spawned}
 use Rattle.ll_journal.proofs.Ruled.{rules_stay}
-use Rattle.ll_changes.proofs.SlotAccounts.{content_of}
+use Rattle.ll_node.proofs.SlotAccounts.{content_of}
 use Rattle.ll_journal.proofs.Starved.{alone_takes, starves_by}
 use Rattle.ll_journal.proofs.Starting.{sound_after, spares_kept}
 use Rattle.ll_journal.proofs.ClientTables.{table_client}

@@ -3,8 +3,8 @@ use Rattle.std.specs.Prelude.{◌≡◌, ℕ, suc, true, List, map, nat_le, Opti
 use Rattle.std.proofs.Common.{sym, subst, inl, inr}
 use Rattle.ll_rights.specs.Map.{len}
 use Rattle.ll_seq.specs.State.{Name}
-use Rattle.ll_worlds.specs.World.{shown, is_marked_by_other}
-use Rattle.ll_held.specs.declared.held.Held.{Held}
+use Rattle.ll_laws.specs.World.{shown, is_marked_by_other}
+use Rattle.ll_node.specs.declared.held.Held.{Held}
 use Rattle.ll_journal.specs.declared.journal.Journal.TheInside.{Inside}
 use Rattle.ll_journal.specs.CommitCheck.{CommitCheck}
 use Rattle.ll_journal.specs.Book.{Seat, slot_of}

@@ -5,11 +5,11 @@ use Rattle.std.proofs.Common.{ap, ◌∙◌, inl}
 use Rattle.ll_rights.specs.Map.{Map, get}
 use Rattle.ll_rights.specs.declared.errno.Errno.{Errno}
 use Rattle.ll_laws.proofs.Chains.{same_Some}
-use Rattle.ll_answer.specs.declared.found.Found.{Found}
+use Rattle.ll_seq.specs.declared.found.Found.{Found}
 use Rattle.ll_seq.specs.declared.call.Call.{Call}
 use Rattle.ll_seq.specs.declared.facts.Fact.{Fact}
 use Rattle.ll_seq.specs.State.{Name}
-use Rattle.ll_held.specs.declared.held.Held.{Held}
+use Rattle.ll_node.specs.declared.held.Held.{Held}
 use Rattle.ll_journal.specs.CommitCheck.{CommitCheck}
 use Rattle.ll_journal.specs.Checks.{StopsBefore, StopsBetween, stop_by, check_there, found_at, blocked_at}
 

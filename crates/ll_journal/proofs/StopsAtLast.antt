@@ -18,17 +18,17 @@ use Rattle.ll_seq.proofs.Parted.{or_left, or_right}
 use Rattle.ll_laws.proofs.Chains.{same_Some}
 use Rattle.ll_laws.proofs.Gain.{start_tree, after_tree}
 use Rattle.ll_laws.proofs.Trees.{IsTree}
-use Rattle.ll_answer.specs.Found.{AreFacts, IsSpot}
-use Rattle.ll_answer.specs.Near.{nodes_of, may_make}
-use Rattle.ll_answer.specs.declared.found.Found.{Found}
-use Rattle.ll_worlds.specs.Walk.{Walk, Leg, Position, Above, Down, Split, at_ends, is_blocked, is_in, marks, turn}
-use Rattle.ll_worlds.specs.World.{World, shown, domain_of, is_marked_by_other, last_nodes, may_commit}
-use Rattle.ll_worlds.specs.Commits.{first_end, second_end}
-use Rattle.ll_worlds.proofs.Shapes.{leg_is_blocked}
-use Rattle.ll_worlds.proofs.Tests.{both, second}
-use Rattle.ll_changes.specs.Accounts.{names_map}
-use Rattle.ll_held.specs.declared.held.Held.{Held}
-use Rattle.ll_held.specs.Lent.{Misses}
+use Rattle.ll_seq.specs.Found.{AreFacts, IsSpot}
+use Rattle.ll_seq.specs.Near.{nodes_of, may_make}
+use Rattle.ll_seq.specs.declared.found.Found.{Found}
+use Rattle.ll_laws.specs.Walk.{Walk, Leg, Position, Above, Down, Split, at_ends, is_blocked, is_in, marks, turn}
+use Rattle.ll_laws.specs.World.{World, shown, domain_of, is_marked_by_other, last_nodes, may_commit}
+use Rattle.ll_laws.specs.Commits.{first_end, second_end}
+use Rattle.ll_laws.proofs.Shapes.{leg_is_blocked}
+use Rattle.ll_laws.proofs.Tests.{both, second}
+use Rattle.ll_node.specs.Accounts.{names_map}
+use Rattle.ll_node.specs.declared.held.Held.{Held}
+use Rattle.ll_node.specs.Lent.{Misses}
 use Rattle.ll_journal.specs.declared.journal.Journal.TheInside.{Inside}
 use Rattle.ll_journal.specs.CommitCheck.{CommitCheck}
 use Rattle.ll_journal.specs.CommitCheck as stops

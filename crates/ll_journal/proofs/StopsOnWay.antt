@@ -14,17 +14,17 @@ use Rattle.ll_seq.specs.declared.call.Call.{Call}
 use Rattle.ll_seq.specs.Stages.{no_directory, kind_of_child}
 use Rattle.ll_seq.specs.State.{Name, State, kind_of}
 use Rattle.ll_laws.proofs.Chains.{same_Some}
-use Rattle.ll_answer.proofs.Counted.{kind_counted}
-use Rattle.ll_worlds.specs.Walk.{Walk, Leg, Position, Above, Down, Split, at_ends, has_two_paths, is_blocked, marks}
-use Rattle.ll_worlds.specs.Walk.{turn}
-use Rattle.ll_worlds.specs.World as world
-use Rattle.ll_worlds.specs.World.{World, advance, shown}
-use Rattle.ll_worlds.specs.declared.step.Step.TheVariants.{Commit}
-use Rattle.ll_worlds.proofs.Shapes.{if_directory, leg_is_blocked}
-use Rattle.ll_worlds.proofs.Tests.{not_true}
-use Rattle.ll_changes.specs.Accounts.{names_map}
-use Rattle.ll_changes.proofs.NameMaps.{get-names_map}
-use Rattle.ll_held.specs.declared.held.Held.{Held}
+use Rattle.ll_seq.proofs.Counted.{kind_counted}
+use Rattle.ll_laws.specs.Walk.{Walk, Leg, Position, Above, Down, Split, at_ends, has_two_paths, is_blocked, marks}
+use Rattle.ll_laws.specs.Walk.{turn}
+use Rattle.ll_laws.specs.World as world
+use Rattle.ll_laws.specs.World.{World, advance, shown}
+use Rattle.ll_laws.specs.declared.step.Step.TheVariants.{Commit}
+use Rattle.ll_laws.proofs.Shapes.{if_directory, leg_is_blocked}
+use Rattle.ll_laws.proofs.Tests.{not_true}
+use Rattle.ll_node.specs.Accounts.{names_map}
+use Rattle.ll_node.proofs.NameMaps.{get-names_map}
+use Rattle.ll_node.specs.declared.held.Held.{Held}
 use Rattle.ll_journal.specs.declared.journal.Journal.TheInside.{Inside}
 use Rattle.ll_journal.specs.CommitCheck.{CommitCheck}
 use Rattle.ll_journal.specs.CommitCheck as stops

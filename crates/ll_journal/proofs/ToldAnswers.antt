@@ -6,11 +6,11 @@ use Rattle.std.proofs.Common.{sym, subst, ap, ◌∙◌}
 use Rattle.std.proofs.lemmas.Bool.{eqb-true}
 use Rattle.ll_rights.specs.Map.{has}
 use Rattle.ll_seq.specs.State.{State}
-use Rattle.ll_held.specs.declared.held.Held.{Held}
-use Rattle.ll_held.specs.Lent.{Misses}
-use Rattle.ll_inodes.specs.InodeTable.{IsTable, Table}
-use Rattle.ll_changes.specs.Accounts.{account, accounts}
-use Rattle.ll_changes.proofs.Accounted.{account_held, account_inode, all_lent}
+use Rattle.ll_node.specs.declared.held.Held.{Held}
+use Rattle.ll_node.specs.Lent.{Misses}
+use Rattle.ll_node.specs.InodeTable.{IsTable, Table}
+use Rattle.ll_node.specs.Accounts.{account, accounts}
+use Rattle.ll_node.proofs.Accounted.{account_held, account_inode, all_lent}
 use Rattle.ll_journal.specs.Decidings.{HasContent, Lends}
 use Rattle.ll_journal.proofs.LentSlots.{got_of_index}
 

@@ -9,12 +9,12 @@ use Rattle.ll_seq.specs.declared.client.ClientRecord.{ClientRecord}
 use Rattle.ll_seq.specs.declared.rules.Rules.{Rules}
 use Rattle.ll_seq.specs.State.{bytes_of, root}
 use Rattle.ll_seq.specs.Tree.{kind_or_file}
-use Rattle.ll_changes.specs.Accounts.{names_map}
-use Rattle.ll_held.specs.declared.held.Held.{Held}
-use Rattle.ll_held.specs.Lent.{vacant}
-use Rattle.ll_inodes.specs.InodeTable.{NotIn}
-use Rattle.ll_worlds.specs.Walk.{Walk, marks}
-use Rattle.ll_worlds.specs.World.{World, new_world, next_number, shown}
+use Rattle.ll_node.specs.Accounts.{names_map}
+use Rattle.ll_node.specs.declared.held.Held.{Held}
+use Rattle.ll_node.specs.Lent.{vacant}
+use Rattle.ll_node.specs.InodeTable.{NotIn}
+use Rattle.ll_laws.specs.Walk.{Walk, marks}
+use Rattle.ll_laws.specs.World.{World, new_world, next_number, shown}
 
 -- A client: its record, the slot that is kept for what it makes, and its walk if one is under way
 pub record Seat : Type 0 where

@@ -9,18 +9,18 @@ use Rattle.ll_rights.specs.Kind.{is_dir}
 use Rattle.ll_rights.specs.Map.{Map, get}
 use Rattle.ll_seq.specs.declared.facts.Fact.{Fact}
 use Rattle.ll_path.specs.Path.{Path, is_root, last_name}
-use Rattle.ll_answer.specs.Found.{spot_by}
-use Rattle.ll_answer.specs.Near.{nodes_of, may_make}
-use Rattle.ll_answer.specs.declared.found.Found.{Found}
-use Rattle.ll_answer.specs.declared.found.Spot.{Spot}
-use Rattle.ll_answer.specs.declared.found.There.{There}
-use Rattle.ll_held.specs.Lent.{Misses}
+use Rattle.ll_seq.specs.Found.{spot_by}
+use Rattle.ll_seq.specs.Near.{nodes_of, may_make}
+use Rattle.ll_seq.specs.declared.found.Found.{Found}
+use Rattle.ll_seq.specs.declared.found.Spot.{Spot}
+use Rattle.ll_seq.specs.declared.found.There.{There}
+use Rattle.ll_node.specs.Lent.{Misses}
 use Rattle.ll_seq.specs.declared.call.Call.{Call}
 use Rattle.ll_seq.specs.Call.{first_path, second_path}
 use Rattle.ll_seq.specs.Stages.{no_directory}
 use Rattle.ll_seq.specs.State.{Name, root}
-use Rattle.ll_worlds.specs.Walk.{Walk, Leg, has_two_paths, is_in, legs, is_above}
-use Rattle.ll_held.specs.declared.held.Held.{Held}
+use Rattle.ll_laws.specs.Walk.{Walk, Leg, has_two_paths, is_in, legs, is_above}
+use Rattle.ll_node.specs.declared.held.Held.{Held}
 use Rattle.ll_journal.specs.declared.check_step.StepCheck.{StepCheck}
 use Rattle.ll_journal.specs.declared.check_step.StepCheck.TheVariants.{NotNow, Astray, Go}
 use Rattle.ll_journal.specs.CommitCheck.{CommitCheck}

@@ -1,6 +1,6 @@
 -- Why a commit isn't made, or what it finds. No public contract cites it. own
 use Rattle.ll_rights.specs.declared.errno.Errno.{Errno}
-use Rattle.ll_answer.specs.declared.found.Found.{Found}
+use Rattle.ll_seq.specs.declared.found.Found.{Found}
 use Rattle.ll_journal.specs.declared.check_commit.Stop.{Stop}
 use Rattle.ll_journal.specs.declared.check_commit.Stop.TheVariants as code
 

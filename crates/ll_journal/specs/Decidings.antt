@@ -8,10 +8,10 @@ use Rattle.ll_rules.specs.Layer.{Layer}
 use Rattle.ll_decide.specs.Masks.{AreMasks}
 use Rattle.ll_seq.specs.State.{State, kind_of, bytes_of}
 use Rattle.ll_seq.specs.Tree.{named, ancestors}
-use Rattle.ll_held.specs.declared.held.Held.{Held}
-use Rattle.ll_held.specs.Lent.{Misses}
-use Rattle.ll_changes.specs.Accounts.{names_map}
-use Rattle.ll_answer.specs.declared.found.Spot.{Spot}
+use Rattle.ll_node.specs.declared.held.Held.{Held}
+use Rattle.ll_node.specs.Lent.{Misses}
+use Rattle.ll_node.specs.Accounts.{names_map}
+use Rattle.ll_seq.specs.declared.found.Spot.{Spot}
 use Rattle.ll_journal.specs.declared.decide_end.Moved.{Moved}
 
 -- a walk has ended in the directory where the path's last name stands, or would, with these masks

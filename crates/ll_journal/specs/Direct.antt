@@ -9,11 +9,11 @@ use Rattle.ll_seq.specs.declared.client.ClientRecord.{ClientRecord}
 use Rattle.ll_seq.specs.declared.client.Descriptor.{Descriptor}
 use Rattle.ll_seq.specs.declared.reply.Reply.TheVariants.{Refused}
 use Rattle.ll_seq.specs.State.{kind_of}
-use Rattle.ll_worlds.specs.World as world
-use Rattle.ll_worlds.specs.declared.step.Step.TheVariants as steps
-use Rattle.ll_worlds.specs.World.{World, advance, shown, descriptor_of, is_full}
-use Rattle.ll_worlds.specs.declared.step.Step.{Step}
-use Rattle.ll_inodes.specs.InodeTable.{without_inode}
+use Rattle.ll_laws.specs.World as world
+use Rattle.ll_laws.specs.declared.step.Step.TheVariants as steps
+use Rattle.ll_laws.specs.World.{World, advance, shown, descriptor_of, is_full}
+use Rattle.ll_laws.specs.declared.step.Step.{Step}
+use Rattle.ll_node.specs.InodeTable.{without_inode}
 use Rattle.ll_journal.specs.declared.direct.Made.{Made}
 use Rattle.ll_journal.specs.declared.direct.Made.TheVariants as answer
 use Rattle.ll_journal.specs.declared.open_file.Unmade.{Unmade}

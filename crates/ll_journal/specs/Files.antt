@@ -10,10 +10,10 @@ use Rattle.ll_seq.specs.declared.reply.Reply.TheVariants.{Done}
 use Rattle.ll_seq.specs.Effects.{let_go, lives, with_bytes, with_client}
 use Rattle.ll_seq.specs.State.{State, bytes_of}
 use Rattle.ll_seq.specs.Step.{step, refusals, client_of}
-use Rattle.ll_held.specs.declared.held.Held.{Held}
-use Rattle.ll_held.specs.Lent.{vacant}
-use Rattle.ll_inodes.specs.InodeTable.{Table, IsTable, without_inode}
-use Rattle.ll_worlds.specs.World.{descriptor_of}
+use Rattle.ll_node.specs.declared.held.Held.{Held}
+use Rattle.ll_node.specs.Lent.{vacant}
+use Rattle.ll_node.specs.InodeTable.{Table, IsTable, without_inode}
+use Rattle.ll_laws.specs.World.{descriptor_of}
 use Rattle.ll_journal.specs.Book.{Seat}
 use Rattle.ll_journal.specs.declared.files.BytesCall.{BytesCall}
 use Rattle.ll_journal.specs.declared.files.BytesCall.TheVariants.{Read, Write, Resize}

@@ -5,15 +5,15 @@ use Rattle.std.specs.List.{list_any}
 use Rattle.std.specs.Ordering.{nat_cmp}
 use Rattle.ll_rights.specs.Map.{Map, get}
 use Rattle.ll_path.specs.Path.{Path}
-use Rattle.ll_answer.specs.declared.found.Spot.{Spot}
-use Rattle.ll_answer.specs.declared.found.There.{There}
+use Rattle.ll_seq.specs.declared.found.Spot.{Spot}
+use Rattle.ll_seq.specs.declared.found.There.{There}
 use Rattle.ll_seq.specs.declared.call.Call.{Call}
 use Rattle.ll_seq.specs.declared.facts.Fact.{Fact}
 use Rattle.ll_seq.specs.Call.{first_path, second_path}
-use Rattle.ll_held.specs.declared.held.Held.{Held}
-use Rattle.ll_worlds.specs.Walk.{Walk, Leg, at_ends, is_in}
-use Rattle.ll_worlds.specs.World.{World, is_marked_by_other, last_node, last_nodes, shown}
-use Rattle.ll_worlds.specs.Commits.{first_end, second_end}
+use Rattle.ll_node.specs.declared.held.Held.{Held}
+use Rattle.ll_laws.specs.Walk.{Walk, Leg, at_ends, is_in}
+use Rattle.ll_laws.specs.World.{World, is_marked_by_other, last_node, last_nodes, shown}
+use Rattle.ll_laws.specs.Commits.{first_end, second_end}
 use Rattle.ll_journal.specs.Book.{Book, inode_in}
 use Rattle.ll_journal.specs.Checks.{is_marked_at, spot_at}
 

@@ -5,12 +5,12 @@ use Rattle.std.specs.Option.{option_map_or}
 use Rattle.std.specs.Ordering.{nat_cmp}
 use Rattle.ll_rights.specs.declared.limits.TheConstants.{HISTORY_ENTRIES, TREE_CLIENTS}
 use Rattle.ll_rights.specs.Map.{Map, empty, get, insert}
-use Rattle.ll_inodes.specs.InodeTable.{IsTable}
+use Rattle.ll_node.specs.InodeTable.{IsTable}
 use Rattle.ll_seq.specs.State.{State}
 use Rattle.ll_journal.specs.declared.journal.Journal.TheInside.{Inside}
-use Rattle.ll_worlds.specs.Walk.{Walk}
-use Rattle.ll_worlds.specs.World.{World, shown}
-use Rattle.ll_worlds.specs.Sound.{IsSound}
+use Rattle.ll_laws.specs.Walk.{Walk}
+use Rattle.ll_laws.specs.World.{World, shown}
+use Rattle.ll_laws.specs.Sound.{IsSound}
 use Rattle.ll_journal.specs.Book.{Seat, Book}
 
 -- the walks that are under way; the first seat is that of the client of this number

@@ -3,11 +3,11 @@ use Rattle.std.specs.Prelude.{◌≡◌, ℕ, true, List, [], ◌∷◌, ◌++�
 use Rattle.std.specs.Option.{option_map_or}
 use Rattle.std.specs.Ordering.{nat_cmp}
 use Rattle.ll_rights.specs.Map.{Map, get}
-use Rattle.ll_answer.specs.Near.{nodes_of, may_make}
-use Rattle.ll_answer.specs.declared.found.Found.{Found}
+use Rattle.ll_seq.specs.Near.{nodes_of, may_make}
+use Rattle.ll_seq.specs.declared.found.Found.{Found}
 use Rattle.ll_seq.specs.declared.call.Call.{Call}
-use Rattle.ll_worlds.specs.Walk.{Walk, Leg, at_ends, is_in, legs}
-use Rattle.ll_worlds.specs.World.{shown}
+use Rattle.ll_laws.specs.Walk.{Walk, Leg, at_ends, is_in, legs}
+use Rattle.ll_laws.specs.World.{shown}
 use Rattle.ll_journal.specs.Book.{Seat, Book, inode_in}
 use Rattle.ll_journal.specs.WalkEnds.{IsNeeded, nodes_at_end, would_make, spare_of}
 

@@ -3,9 +3,9 @@ use Rattle.std.specs.Prelude.{◌≡◌, ◌⊎◌, ℕ, ◌<◌, ◌≤◌, tru
 use Rattle.std.specs.List.{AllByRecursion}
 use Rattle.ll_rights.specs.Map.{get}
 use Rattle.ll_seq.specs.State.{root}
-use Rattle.ll_inodes.specs.InodeTable.{AreDistinct}
-use Rattle.ll_worlds.specs.Walk.{Walk, Leg, at_ends, is_blocked, turn}
-use Rattle.ll_worlds.specs.World.{shown}
+use Rattle.ll_node.specs.InodeTable.{AreDistinct}
+use Rattle.ll_laws.specs.Walk.{Walk, Leg, at_ends, is_blocked, turn}
+use Rattle.ll_laws.specs.World.{shown}
 use Rattle.ll_journal.specs.declared.next.Next.{Next}
 use Rattle.ll_journal.specs.declared.next.Next.TheVariants as next
 use Rattle.ll_journal.specs.declared.station.Station.TheVariants as station

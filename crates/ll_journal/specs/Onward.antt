@@ -5,8 +5,8 @@ use Rattle.ll_rights.specs.Map.{get}
 use Rattle.ll_seq.specs.declared.call.Call.{Call}
 use Rattle.ll_seq.specs.Call.{first_path}
 use Rattle.ll_seq.specs.State.{Name}
-use Rattle.ll_worlds.specs.Walk.{Position, Split, Walk}
-use Rattle.ll_held.specs.declared.held.Held.{Held}
+use Rattle.ll_laws.specs.Walk.{Position, Split, Walk}
+use Rattle.ll_node.specs.declared.held.Held.{Held}
 
 -- The name at this depth of the call's first path stands for the inode in the directory that lies here
 abbrev pub Names : Call → Held → ℕ → ℕ → Type 0

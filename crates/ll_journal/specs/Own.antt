@@ -12,10 +12,10 @@ use Rattle.ll_seq.specs.declared.reply.Reply.TheVariants as replies
 use Rattle.ll_seq.specs.State.{State}
 use Rattle.ll_seq.specs.Effects.{with_client, child_of}
 use Rattle.ll_seq.specs.Facts.{AreKept}
-use Rattle.ll_inodes.specs.InodeTable.{Table}
+use Rattle.ll_node.specs.InodeTable.{Table}
 use Rattle.ll_seq.specs.declared.rules.Rules.{Rules}
 use Rattle.ll_seq.specs.Step.{step, refusals}
-use Rattle.ll_worlds.specs.World.{is_alone}
+use Rattle.ll_laws.specs.World.{is_alone}
 use Rattle.ll_seq.specs.Stages.{early_refusals}
 use Rattle.ll_journal.specs.Book.{Seat}
 use Rattle.ll_journal.specs.declared.alone.Own.{Own}

@@ -1,14 +1,14 @@
 -- A call at its walk's ends: what is given for it, and what comes of it. No public contract cites it. own
 use Rattle.std.specs.Prelude.{◌≡◌, ◌≢◌, ℕ, true, ◌==◌, List, [], Some, slice_index_or}
 use Rattle.std.specs.List.{list_any}
-use Rattle.ll_answer.specs.Found.{AreFacts}
-use Rattle.ll_answer.specs.Near.{nodes_of, may_make}
-use Rattle.ll_answer.specs.Passed.{has_path}
-use Rattle.ll_answer.specs.declared.found.Found.{Found}
-use Rattle.ll_changes.specs.Enacting.{Scene, InHand, IsGiven, IsMade, in_hand}
+use Rattle.ll_seq.specs.Found.{AreFacts}
+use Rattle.ll_seq.specs.Near.{nodes_of, may_make}
+use Rattle.ll_seq.specs.Passed.{has_path}
+use Rattle.ll_seq.specs.declared.found.Found.{Found}
+use Rattle.ll_node.specs.Enacting.{Scene, InHand, IsGiven, IsMade, in_hand}
 use Rattle.ll_decide.specs.Masks.{AreMasks}
-use Rattle.ll_held.specs.declared.held.Held.{Held}
-use Rattle.ll_inodes.specs.InodeTable.{Table}
+use Rattle.ll_node.specs.declared.held.Held.{Held}
+use Rattle.ll_node.specs.InodeTable.{Table}
 use Rattle.ll_rules.specs.Layer.{Layer}
 use Rattle.ll_seq.specs.declared.call.Call.{Call}
 use Rattle.ll_seq.specs.declared.reply.Reply.{Reply}
@@ -16,8 +16,8 @@ use Rattle.ll_seq.specs.Call.{first_path, second_path}
 use Rattle.ll_seq.specs.State.{State}
 use Rattle.ll_seq.specs.Step.{step, refusals, client_of}
 use Rattle.ll_seq.specs.Stages.{early_refusals}
-use Rattle.ll_worlds.specs.Commits.{first_end, second_end}
-use Rattle.ll_worlds.specs.Walk.{Leg, Walk, is_in}
+use Rattle.ll_laws.specs.Commits.{first_end, second_end}
+use Rattle.ll_laws.specs.Walk.{Leg, Walk, is_in}
 use Rattle.ll_journal.specs.declared.seat.Ended.{Ended}
 use Rattle.ll_journal.specs.Book.{Seat}
 use Rattle.ll_journal.specs.Decidings.{IsEndAt}

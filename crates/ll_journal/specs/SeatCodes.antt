@@ -13,8 +13,8 @@ use Rattle.ll_seq.specs.declared.reply.Entry.{Entry}
 use Rattle.ll_seq.specs.contracts.reply.Entry as entry
 use Rattle.ll_seq.specs.declared.rules.Rules.{Rules}
 use Rattle.ll_seq.specs.StateCodes.{coded_rules}
-use Rattle.ll_worlds.specs.Walk.{Leg, Mask, Position, Above, Down, Split, Walk, legs}
-use Rattle.ll_worlds.specs.World.{World}
+use Rattle.ll_laws.specs.Walk.{Leg, Mask, Position, Above, Down, Split, Walk, legs}
+use Rattle.ll_laws.specs.World.{World}
 use Rattle.ll_journal.specs.Book.{Seat, Book}
 
 abbrev pub coded_path : Coded Path

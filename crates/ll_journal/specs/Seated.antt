@@ -12,9 +12,9 @@ use Rattle.ll_rules.specs.Layer.{Layer, grants_on}
 use Rattle.ll_seq.specs.declared.call.Call.{Call}
 use Rattle.ll_seq.specs.Call.{first_path, second_path}
 use Rattle.ll_seq.specs.State.{Name}
-use Rattle.ll_worlds.specs.Walk.{Leg, Position, Above, Down, Split, Mask, Walk, rights_where, trunk_path, leg_below}
-use Rattle.ll_worlds.specs.Walk.{turn, with_turn, at_ends, first_leg, forked}
-use Rattle.ll_worlds.specs.Commits.{first_end, second_end}
+use Rattle.ll_laws.specs.Walk.{Leg, Position, Above, Down, Split, Mask, Walk, rights_where, trunk_path, leg_below}
+use Rattle.ll_laws.specs.Walk.{turn, with_turn, at_ends, first_leg, forked}
+use Rattle.ll_laws.specs.Commits.{first_end, second_end}
 use Rattle.ll_journal.specs.declared.leg.Ahead.{Ahead}
 use Rattle.ll_journal.specs.declared.leg.Leg as kept
 use Rattle.ll_journal.specs.declared.leg.Legs.{Legs}

@@ -10,9 +10,9 @@ use Rattle.ll_seq.specs.declared.dentries.Dentry.{Dentry}
 use Rattle.ll_seq.specs.declared.node.Node.{Node}
 use Rattle.ll_seq.specs.declared.rules.Rules.{Rules}
 use Rattle.ll_seq.specs.State.{Name, State, dentry}
-use Rattle.ll_held.specs.declared.held.Held.{Held}
-use Rattle.ll_held.specs.Lent.{AreApart}
-use Rattle.ll_worlds.specs.World.{World, shown}
+use Rattle.ll_node.specs.declared.held.Held.{Held}
+use Rattle.ll_node.specs.Lent.{AreApart}
+use Rattle.ll_laws.specs.World.{World, shown}
 use Rattle.ll_journal.specs.Book.{Book, slot_of}
 
 -- of each slot what has to lie in it, in their order

@@ -1,8 +1,8 @@
 -- What becomes of a call that its client makes. own
 use Rattle.std.specs.Prelude.{◌≡◌, ℕ}
 use Rattle.ll_seq.specs.declared.call.Call.{Call}
-use Rattle.ll_worlds.specs.World.{Begun, NotNow, advance}
-use Rattle.ll_worlds.specs.declared.step.Step.TheVariants.{Begin, ClientStep}
+use Rattle.ll_laws.specs.World.{Begun, NotNow, advance}
+use Rattle.ll_laws.specs.declared.step.Step.TheVariants.{Begin, ClientStep}
 use Rattle.ll_journal.specs.declared.start.Start.{Start}
 use Rattle.ll_journal.specs.declared.start.Start.TheVariants as start
 use Rattle.ll_journal.specs.Book.{Book}

@@ -4,8 +4,8 @@ use Rattle.ll_seq.specs.declared.call.Call.{Call}
 use Rattle.ll_seq.specs.declared.reply.Reply.{Reply}
 use Rattle.ll_seq.specs.declared.reply.Reply.TheVariants.{Refused, Denied}
 use Rattle.ll_seq.specs.Memory.{MayStarve}
-use Rattle.ll_worlds.specs.World.{World, Outcome, Replied, Joined, advance, called, is_full, shown}
-use Rattle.ll_worlds.specs.declared.step.Step.{Step}
+use Rattle.ll_laws.specs.World.{World, Outcome, Replied, Joined, advance, called, is_full, shown}
+use Rattle.ll_laws.specs.declared.step.Step.{Step}
 
 -- the call is refused, or denied
 abbrev pub is_refusal : Reply → Bool

@@ -4,8 +4,8 @@ use Rattle.std.specs.Option.{option_map_or}
 use Rattle.ll_rights.specs.Map.{get}
 use Rattle.ll_path.specs.Path.{is_root}
 use Rattle.ll_seq.specs.declared.call.Call.{Call}
-use Rattle.ll_worlds.specs.Walk.{Walk, Position, Above, Down, Split, has_two_paths}
-use Rattle.ll_worlds.specs.World.{World}
+use Rattle.ll_laws.specs.Walk.{Walk, Position, Above, Down, Split, has_two_paths}
+use Rattle.ll_laws.specs.World.{World}
 use Rattle.ll_journal.specs.declared.station.Station.{Station}
 use Rattle.ll_journal.specs.declared.station.Station.TheVariants as station
 

@@ -3,10 +3,10 @@ use Rattle.std.specs.Prelude.{◌≡◌, ◌≢◌, ℕ, Bool, true, false, not,
 use Rattle.std.specs.Option.{option_map_or}
 use Rattle.ll_rights.specs.Map.{get}
 use Rattle.ll_seq.specs.State.{root}
-use Rattle.ll_worlds.specs.Walk.{Walk, Leg, is_in, further, turn, marks, is_above}
-use Rattle.ll_worlds.specs.World as world
-use Rattle.ll_worlds.specs.World.{World, advance, shown, domain_of}
-use Rattle.ll_worlds.specs.declared.step.Step.{Step}
+use Rattle.ll_laws.specs.Walk.{Walk, Leg, is_in, further, turn, marks, is_above}
+use Rattle.ll_laws.specs.World as world
+use Rattle.ll_laws.specs.World.{World, advance, shown, domain_of}
+use Rattle.ll_laws.specs.declared.step.Step.{Step}
 use Rattle.ll_journal.specs.declared.progress.Progress.{Progress}
 use Rattle.ll_journal.specs.declared.progress.Progress.TheVariants as progress
 use Rattle.ll_journal.specs.Book.{Book, inode_in}

@@ -4,19 +4,19 @@ use Rattle.ll_rights.specs.declared.errno.Errno.{Errno}
 use Rattle.ll_rights.specs.declared.kind.Kind.TheVariants.{Dir}
 use Rattle.ll_rights.specs.Map.{get}
 use Rattle.ll_path.specs.Path.{Path, parent}
-use Rattle.ll_answer.specs.Found.{AreFacts}
-use Rattle.ll_answer.specs.Near.{nodes_of, may_make}
-use Rattle.ll_answer.specs.declared.found.Found.{Found}
-use Rattle.ll_answer.specs.declared.found.Spot.{Spot}
+use Rattle.ll_seq.specs.Found.{AreFacts}
+use Rattle.ll_seq.specs.Near.{nodes_of, may_make}
+use Rattle.ll_seq.specs.declared.found.Found.{Found}
+use Rattle.ll_seq.specs.declared.found.Spot.{Spot}
 use Rattle.ll_seq.specs.declared.reply.Reply.TheVariants.{Refused}
 use Rattle.ll_seq.specs.Call.{first_path, second_path}
 use Rattle.ll_seq.specs.State.{State, kind_of}
 use Rattle.ll_seq.specs.Tree.{named, ancestors}
-use Rattle.ll_worlds.specs.Commits.{first_end, second_end}
-use Rattle.ll_worlds.specs.Walk.{Walk, Leg, is_in, marks}
-use Rattle.ll_worlds.specs.World as world
-use Rattle.ll_worlds.specs.World.{advance, shown, may_commit, reply_to}
-use Rattle.ll_worlds.specs.declared.step.Step.TheVariants.{Commit}
+use Rattle.ll_laws.specs.Commits.{first_end, second_end}
+use Rattle.ll_laws.specs.Walk.{Walk, Leg, is_in, marks}
+use Rattle.ll_laws.specs.World as world
+use Rattle.ll_laws.specs.World.{advance, shown, may_commit, reply_to}
+use Rattle.ll_laws.specs.declared.step.Step.TheVariants.{Commit}
 use Rattle.ll_journal.specs.CommitCheck.{CommitCheck}
 use Rattle.ll_journal.specs.CommitCheck as stops
 use Rattle.ll_journal.specs.Book.{Book}

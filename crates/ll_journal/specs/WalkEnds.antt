@@ -11,10 +11,10 @@ use Rattle.ll_seq.specs.Call.{path_of}
 use Rattle.ll_seq.specs.Memory.{takes_memory}
 use Rattle.ll_seq.specs.State.{State}
 use Rattle.ll_seq.specs.Tree.{named}
-use Rattle.ll_worlds.specs.Walk.{Walk, at_ends, is_in, marks}
-use Rattle.ll_worlds.specs.World as world
-use Rattle.ll_worlds.specs.World.{World, advance, shown, is_full, last_node, without_walk}
-use Rattle.ll_worlds.specs.declared.step.Step.TheVariants.{Commit}
+use Rattle.ll_laws.specs.Walk.{Walk, at_ends, is_in, marks}
+use Rattle.ll_laws.specs.World as world
+use Rattle.ll_laws.specs.World.{World, advance, shown, is_full, last_node, without_walk}
+use Rattle.ll_laws.specs.declared.step.Step.TheVariants.{Commit}
 use Rattle.ll_journal.specs.declared.progress.Ending.{Ending}
 use Rattle.ll_journal.specs.declared.progress.Ending.TheVariants as ending
 use Rattle.ll_journal.specs.Book.{Book, inode_in}

@@ -2,15 +2,14 @@
 
 ghost use Rattle.std.specs.Prelude.{◌≡◌, ◌≢◌, ◌<◌, None, Some, slice_get, IfOk, OnErr, option_map, if◌then◌else◌};
 ghost use Rattle.ll_rights.specs.Map.{has};
-ghost use Rattle.ll_worlds.specs.World as world;
+ghost use Rattle.ll_laws.specs.World as world;
 ghost use Rattle.ll_seq.specs.Stages.{early_refusals};
 ghost use Rattle.ll_seq.specs.declared.reply.Reply.TheVariants as replies;
 ghost use Rattle.ll_journal.specs.Own.{IsOwn, Comes, IsFreeOwn};
 
 use crate::pair::ReplyPair;
-use ll_answer::refused_early;
 use ll_rights::{Abi, Access, Errno};
-use ll_seq::{Call, ClientRecord, Reply};
+use ll_seq::{Call, ClientRecord, Reply, refused_early};
 use std::alloc::{AllocError, Global};
 
 /// A call on the client's record.

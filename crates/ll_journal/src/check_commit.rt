@@ -2,16 +2,16 @@
 
 ghost use Rattle.std.specs.Prelude.{◌≡◌, ◌==◌, ◌||◌, ◌&&◌, ℕ, Bool, List, true, not, nat_le, slice_index_or};
 ghost use Rattle.std.specs.List.{list_all};
-ghost use Rattle.ll_answer.specs.Near as near;
-ghost use Rattle.ll_answer.specs.declared.found.Found.{Found};
-ghost use Rattle.ll_inodes.specs.InodeTable.{IsTable};
+ghost use Rattle.ll_seq.specs.Near as near;
+ghost use Rattle.ll_seq.specs.declared.found.Found.{Found};
+ghost use Rattle.ll_node.specs.InodeTable.{IsTable};
 ghost use Rattle.ll_path.specs.Path as paths;
 ghost use Rattle.ll_path.specs.Path.{Path};
 ghost use Rattle.ll_rights.specs.Map.{len};
 ghost use Rattle.ll_seq.specs.Call.{first_path, path_of, second_path};
 ghost use Rattle.ll_seq.specs.State.{State};
-ghost use Rattle.ll_worlds.specs.Walk.{is_in};
-ghost use Rattle.ll_worlds.specs.World as world;
+ghost use Rattle.ll_laws.specs.Walk.{is_in};
+ghost use Rattle.ll_laws.specs.World as world;
 ghost use Rattle.ll_journal.specs.Kept.{walks_from};
 ghost use Rattle.ll_journal.specs.Checks as checks;
 ghost use Rattle.ll_journal.specs.CommitCheck.{check_of};
@@ -21,12 +21,10 @@ use crate::find_ends::{blocked, find_end, find_ends};
 use crate::seat::Seat;
 use crate::standing::{is_in, is_lent};
 use crate::way::has_two_paths;
-use ll_answer::{Found, Spot, Targets, targets_of};
-use ll_held::{Held, find};
-use ll_inodes::Inodes;
+use ll_node::{Held, Inodes, find};
 use ll_path::Target;
 use ll_rights::Errno;
-use ll_seq::Call;
+use ll_seq::{Call, Found, Spot, Targets, targets_of};
 
 /// Why a commit isn't made, or that it may be.
 #[derive(Clone, Copy)]

@@ -10,8 +10,7 @@ ghost use Rattle.ll_journal.specs.Seated.{call_in, next_in};
 
 use crate::onward::Onward;
 use crate::seat::Seat;
-use ll_held::Held;
-use ll_inodes::Inodes;
+use ll_node::{Held, Inodes};
 use ll_seq::{Call, ROOT};
 
 /// What is found: the step may be made; or not now; or it is lent other slots than it names.

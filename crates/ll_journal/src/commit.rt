@@ -2,7 +2,7 @@
 
 ghost use Rattle.std.specs.Prelude.{◌≡◌, ◌≢◌, ◌<◌, ℕ, List, suc, true, length, map, Some};
 ghost use Rattle.ll_rights.specs.Map.{get};
-ghost use Rattle.ll_worlds.specs.Walk as walks;
+ghost use Rattle.ll_laws.specs.Walk as walks;
 
 use crate::check_commit::{NOTHING, Sight, Stop, check_commit};
 use crate::decide_end::{moved_by, overtake_moved};
@@ -10,16 +10,15 @@ use crate::ending::released;
 use crate::journal::{Journal, place_of};
 use crate::progress::Ending;
 use crate::seat::Ended;
-use ll_answer::Found;
-use ll_held::{Held, unmark};
+use ll_node::{Held, unmark};
 use ll_rights::Errno;
-use ll_seq::{Entry, Reply};
+use ll_seq::{Entry, Found, Reply};
 
 impl Journal {
-    ghost use Rattle.ll_worlds.specs.World.{domain_of, without_walk};
+    ghost use Rattle.ll_laws.specs.World.{domain_of, without_walk};
     ghost use Rattle.ll_journal.specs.Book.{Spares, slot_of};
     ghost use Rattle.ll_journal.specs.Performed.{EndsAs};
-    ghost use Rattle.ll_inodes.specs.InodeTable.{AreDistinct};
+    ghost use Rattle.ll_node.specs.InodeTable.{AreDistinct};
     ghost use Rattle.ll_journal.specs.WalkEnds.{Ends, IsAstrayAtEnd, LeavesFree, MayTakeMemory, is_lent};
     ghost use Rattle.ll_journal.specs.CommitCheck.{check_of};
     ghost use Rattle.ll_journal.specs.Stopped.{IsBlockedEnd, IsReachedEnd, IsStop};

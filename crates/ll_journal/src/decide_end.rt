@@ -15,29 +15,28 @@ ghost use Rattle.ll_seq.specs.Stages.{early_refusals};
 ghost use Rattle.ll_seq.specs.State.{State, bytes_of, kind_of, name_count, names_in};
 ghost use Rattle.ll_seq.specs.Step.{client_of};
 ghost use Rattle.ll_seq.specs.Tree.{ancestors, inode_of, kind_or_file, named};
-ghost use Rattle.ll_answer.specs.Decided.{IsDone, IsRefused};
-ghost use Rattle.ll_answer.specs.Effect.{told};
-ghost use Rattle.ll_answer.specs.Found.{AreFacts, Stands};
-ghost use Rattle.ll_answer.specs.Lean.{is_short};
-ghost use Rattle.ll_answer.specs.Near.{IsNear, told_inodes};
-ghost use Rattle.ll_answer.specs.Passed.{has_path};
-ghost use Rattle.ll_changes.specs.Accounts.{accounts};
-ghost use Rattle.ll_inodes.specs.InodeTable.{IsTable};
-ghost use Rattle.ll_worlds.specs.World as world;
+ghost use Rattle.ll_seq.specs.Decided.{IsDone, IsRefused};
+ghost use Rattle.ll_seq.specs.Effect.{told};
+ghost use Rattle.ll_seq.specs.Found.{AreFacts, Stands};
+ghost use Rattle.ll_seq.specs.Lean.{is_short};
+ghost use Rattle.ll_seq.specs.Near.{IsNear, told_inodes};
+ghost use Rattle.ll_seq.specs.Passed.{has_path};
+ghost use Rattle.ll_node.specs.Accounts.{accounts};
+ghost use Rattle.ll_node.specs.InodeTable.{IsTable};
+ghost use Rattle.ll_laws.specs.World as world;
 ghost use Rattle.ll_journal.specs.Book as book;
 ghost use Rattle.ll_journal.specs.Decidings.{HasContent, IsEndAt, Lends, moved_list};
 
 use crate::ending::overtake;
 use crate::seat::{Ended, Seat};
-use ll_answer::{
-    Answer, Effect, Found, Spot, Targets, decide_passed, granted_at, status, targets_of,
-};
 use ll_decide::{Granted, Masks};
-use ll_held::{Held, find};
-use ll_inodes::Inodes;
+use ll_node::{Held, Inodes, find};
 use ll_path::Target;
 use ll_rules::Domain;
-use ll_seq::{Call, ClientRecord, Listing, Reply};
+use ll_seq::{
+    Answer, Call, ClientRecord, Effect, Found, Listing, Reply, Spot, Targets, decide_passed,
+    granted_at, status_of, targets_of,
+};
 use std::alloc::{AllocError, Global};
 
 /// What is granted on the path that the word spells, by what is granted on its parent.
@@ -187,7 +186,7 @@ pub(crate) fn tell(
         Answer::Opened(number) => Ok(Reply::Opened(number)),
         Answer::Status(inode, kind) => {
             let size = size_of_lent(lent, inode);
-            Ok(Reply::Found(status(table.facts(), inode, kind, size)))
+            Ok(Reply::Found(status_of(table.facts(), inode, kind, size)))
         }
         Answer::Names(inode) => Ok(Reply::Listed(names_of_lent(lent, inode, alloc)?)),
     }

@@ -2,8 +2,8 @@
 
 ghost use Rattle.std.specs.Prelude.{◌≡◌, ◌≢◌, ℕ, ◌+◌, ◌<◌, [], ◌∷◌, ◌++◌, None, length, Ok, Err, IfOk, IfErr, OnOk};
 ghost use Rattle.std.specs.Prelude.{OnErr};
-ghost use Rattle.ll_worlds.specs.World as world;
-ghost use Rattle.ll_worlds.specs.declared.step.Step.TheVariants as steps;
+ghost use Rattle.ll_laws.specs.World as world;
+ghost use Rattle.ll_laws.specs.declared.step.Step.TheVariants as steps;
 ghost use Rattle.ll_seq.specs.declared.reply.Reply.TheVariants as replies;
 ghost use Rattle.ll_journal.specs.Own.{Spawns, SpawnTells};
 ghost use Rattle.ll_rights.specs.declared.limits.TheConstants.{TREE_CLIENTS};
@@ -12,7 +12,7 @@ use crate::alone::Own;
 use crate::journal::{Journal, place_of};
 use crate::pair::ReplyPair;
 use crate::seat::Seat;
-use ll_inodes::Inodes;
+use ll_node::Inodes;
 use ll_rights::Errno;
 use ll_rights::limits::TREE_CLIENTS;
 use ll_seq::{Call, ClientRecord, Entry, History, Reply, Rules};

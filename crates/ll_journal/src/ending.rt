@@ -1,7 +1,7 @@
 //! What a commit does to the walks of all clients.
 
 ghost use Rattle.std.specs.Prelude.{◌≡◌, map, option_map};
-ghost use Rattle.ll_worlds.specs.World as world;
+ghost use Rattle.ll_laws.specs.World as world;
 ghost use Rattle.ll_journal.specs.Book as book;
 ghost use Rattle.ll_journal.specs.Kept.{walks_from};
 

@@ -4,16 +4,14 @@ ghost use Rattle.std.specs.Prelude.{◌≡◌, ℕ, List, [], None, false, nat_l
 ghost use Rattle.ll_rights.specs.Map.{len};
 ghost use Rattle.ll_seq.specs.Call.{first_path, path_of, second_path};
 ghost use Rattle.ll_seq.specs.State.{State};
-ghost use Rattle.ll_inodes.specs.InodeTable.{IsTable};
-ghost use Rattle.ll_worlds.specs.Walk.{has_two_paths};
+ghost use Rattle.ll_node.specs.InodeTable.{IsTable};
+ghost use Rattle.ll_laws.specs.Walk.{has_two_paths};
 ghost use Rattle.ll_journal.specs.Checks.{blocked_at, found_at, last_in, spot_at};
 
-use ll_answer::{Found, Spot, Targets, no_directory, targets_of};
-use ll_held::Held;
-use ll_inodes::Inodes;
+use ll_node::{Held, Inodes};
 use ll_path::Target;
 use ll_rights::Errno;
-use ll_seq::{Call, ROOT};
+use ll_seq::{Call, Found, ROOT, Spot, Targets, no_directory, targets_of};
 
 /// What the word's last name stands for in the directory.
 #[inline(always)]

@@ -3,7 +3,7 @@
 ghost use Rattle.std.specs.Prelude.{◌≡◌, ◌<◌, ◌&&◌, length, IfSome, IfNone};
 ghost use Rattle.ll_path.specs.Path as paths;
 ghost use Rattle.ll_path.specs.Path.{Path};
-ghost use Rattle.ll_worlds.specs.World as world;
+ghost use Rattle.ll_laws.specs.World as world;
 ghost use Rattle.ll_journal.specs.Checks.{goes_on};
 ghost use Rattle.ll_journal.specs.InWay as in_way;
 ghost use Rattle.ll_journal.specs.Kept.{walks_from};
@@ -13,10 +13,8 @@ use crate::check_commit::{are_roots, is_marked_at};
 use crate::find_ends::spots;
 use crate::journal::{Journal, place_of};
 use crate::seat::Seat;
-use ll_answer::Spot;
-use ll_held::Held;
-use ll_inodes::Inodes;
-use ll_seq::Call;
+use ll_node::{Held, Inodes};
+use ll_seq::{Call, Spot};
 
 /// Whether its walk goes on, and is at its ends.
 fn has_come(seat: &Seat) -> bool

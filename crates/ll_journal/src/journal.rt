@@ -6,8 +6,8 @@ ghost use Rattle.ll_rights.specs.declared.limits.TheConstants.{HISTORY_ENTRIES, 
 ghost use Rattle.std.specs.Option.{option_map_or};
 ghost use Rattle.ll_seq.specs.Call.{targets};
 ghost use Rattle.ll_seq.specs.State.{root};
-ghost use Rattle.ll_worlds.specs.Walk.{Walk, forked, marks};
-ghost use Rattle.ll_worlds.specs.World.{has_any};
+ghost use Rattle.ll_laws.specs.Walk.{Walk, forked, marks};
+ghost use Rattle.ll_laws.specs.World.{has_any};
 ghost use Rattle.ll_journal.specs.Checks.{goes_on};
 ghost use Rattle.ll_journal.specs.Kept.{seat_at};
 
@@ -16,8 +16,7 @@ use crate::progress::Progress;
 use crate::seat::Seat;
 use crate::station::Station;
 use crate::walked::{is_free, names_path, next_gate};
-use ll_held::{Held, unmark};
-use ll_inodes::Inodes;
+use ll_node::{Held, Inodes, unmark};
 use ll_rights::limits::TREE_CLIENTS;
 use ll_seq::{Call, History, ROOT, Rules};
 use std::alloc::{AllocError, Global};
@@ -110,8 +109,8 @@ impl Journal {
     ghost use Rattle.ll_journal.specs.Book.{Spares, new_book, slot_of};
     ghost use Rattle.ll_journal.specs.Stations.{station_in};
     ghost use Rattle.ll_journal.specs.Steps.{Does, GoesDown, IsAstrayAt, IsAstrayAtTop, IsAstrayBelow, IsNext};
-    ghost use Rattle.ll_worlds.specs.World.{Begun, NotNow, Stands, advance};
-    ghost use Rattle.ll_worlds.specs.declared.step.Step.TheVariants.{Begin, ClientStep, Descend, Fork, Restart};
+    ghost use Rattle.ll_laws.specs.World.{Begun, NotNow, Stands, advance};
+    ghost use Rattle.ll_laws.specs.declared.step.Step.TheVariants.{Begin, ClientStep, Descend, Fork, Restart};
 
     /// A tree of the root alone, in which so many nodes may live, without a client. Room is reserved for so many
     /// entries of the history.

@@ -3,7 +3,7 @@
 use crate::journal::Journal;
 
 impl Journal {
-    ghost use Rattle.ll_worlds.specs.Sound.{IsSound};
+    ghost use Rattle.ll_laws.specs.Sound.{IsSound};
     ghost use Rattle.ll_journal.specs.SlotTree.{HoldTree, accounts_of};
 
     /// What has to lie in the slots is the tree, all of it, and the world is sound. Takes no memory.

@@ -4,7 +4,7 @@ ghost use Rattle.std.specs.Prelude.{◌≡◌, ◌<◌, ◌≤◌, ℕ, length, 
 ghost use Rattle.std.specs.List.{AllByRecursion};
 ghost use Rattle.ll_rights.specs.Map.{get};
 ghost use Rattle.ll_seq.specs.State.{root};
-ghost use Rattle.ll_worlds.specs.Walk.{Leg, Walk};
+ghost use Rattle.ll_laws.specs.Walk.{Leg, Walk};
 ghost use Rattle.ll_journal.specs.Checks.{found_last};
 ghost use Rattle.ll_journal.specs.Needs as needs;
 
@@ -12,10 +12,8 @@ use crate::check_commit::{may_make_at, node_at};
 use crate::find_ends::last_spot;
 use crate::journal::{Journal, place_of};
 use crate::slots::Slots;
-use ll_answer::Spot;
-use ll_held::Held;
-use ll_inodes::Inodes;
-use ll_seq::{Call, ROOT};
+use ll_node::{Held, Inodes};
+use ll_seq::{Call, ROOT, Spot};
 
 /// The slot, besides those of directories, that the call may need where its walk ends: its one path or its second has
 /// its last name here.
@@ -29,7 +27,7 @@ fn slot_besides(table: &Inodes, spare: u64, call: &Call, last: &Spot) -> Option<
 }
 
 impl Journal {
-    ghost use Rattle.ll_inodes.specs.InodeTable.{AreDistinct};
+    ghost use Rattle.ll_node.specs.InodeTable.{AreDistinct};
     ghost use Rattle.ll_journal.specs.Book.{has_mark, inode_in, slot_of};
     ghost use Rattle.ll_journal.specs.Needs.{IsBesides};
     ghost use Rattle.ll_journal.specs.Steps.{IsInTurn, leg_in_turn};

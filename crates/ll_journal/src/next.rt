@@ -5,7 +5,7 @@ ghost use Rattle.std.specs.Prelude.{◌≡◌};
 use crate::journal::Journal;
 use crate::slots::Slots;
 use crate::station::Station;
-use ll_held::Held;
+use ll_node::Held;
 
 /// The step of a client's walk that comes next, with the slots that it needs.
 #[derive(Drop)]

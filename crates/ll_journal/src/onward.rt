@@ -2,12 +2,12 @@
 
 ghost use Rattle.std.specs.Prelude.{◌≡◌, ◌<◌, ℕ, [], ◌∷◌, length, true, Some, IfSome, IfNone};
 ghost use Rattle.ll_rights.specs.Map.{get};
-ghost use Rattle.ll_worlds.specs.Walk.{Walk};
+ghost use Rattle.ll_laws.specs.Walk.{Walk};
 
 use crate::check_step::{StepCheck, check_onward, directory_below};
 use crate::journal::{Journal, place_of};
 use crate::progress::Progress;
-use ll_held::Held;
+use ll_node::Held;
 
 /// The directory to which a walk would go down: its slot and inode, and at which name of its call's first path it
 /// stands.
@@ -22,7 +22,7 @@ impl Journal {
     ghost use Rattle.ll_journal.specs.Book.{Spares, slot_of};
     ghost use Rattle.ll_journal.specs.Onward.{Names, is_past_fork};
     ghost use Rattle.ll_journal.specs.Steps.{Does, GoesDown, IsAstrayBelow, IsNext};
-    ghost use Rattle.ll_worlds.specs.declared.step.Step.TheVariants.{Descend};
+    ghost use Rattle.ll_laws.specs.declared.step.Step.TheVariants.{Descend};
 
     /// The directory to which the client's walk would go down from this one. None where it wouldn't, where it is past
     /// its fork, or where it doesn't stand here.

@@ -12,8 +12,7 @@ use crate::files::{FileCall, answer, file_call};
 use crate::journal::{Journal, place_of};
 use crate::pair::ReplyPair;
 use crate::seat::Seat;
-use ll_held::Held;
-use ll_inodes::Inodes;
+use ll_node::{Held, Inodes};
 use ll_seq::{Call, Descriptor, Reply};
 use std::alloc::{AllocError, Global};
 
@@ -81,7 +80,7 @@ fn serve(
 }
 
 impl Journal {
-    ghost use Rattle.ll_worlds.specs.declared.step.Step.TheVariants as steps;
+    ghost use Rattle.ll_laws.specs.declared.step.Step.TheVariants as steps;
     ghost use Rattle.ll_journal.specs.Book.{Spares, inode_in, slot_of};
     ghost use Rattle.ll_journal.specs.Direct.{Answers, ComesBack, IsOpen, LeavesSlot};
 

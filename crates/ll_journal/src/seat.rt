@@ -3,16 +3,16 @@
 ghost use Rattle.std.specs.Prelude.{◌≡◌, ◌⊎◌, ℕ, List, Option, is_ok, ◌&&◌, ◌==◌, ◌≤◌, not, false, true, None, Some};
 ghost use Rattle.std.specs.Prelude.{is_none, is_some, IfOk, OnErr, IfSome, IfNone, IsSome, option_map, slice_get};
 ghost use Rattle.std.specs.Option.{option_map_or};
-ghost use Rattle.ll_answer.specs.Lean.{spares_memory};
+ghost use Rattle.ll_seq.specs.Lean.{spares_memory};
 ghost use Rattle.ll_decide.specs.Masks.{AreMasks};
 ghost use Rattle.ll_rights.specs.Map.{remove};
 ghost use Rattle.ll_seq.specs.Call as calls;
 ghost use Rattle.ll_seq.specs.Effects.{child_of};
-ghost use Rattle.ll_worlds.specs.Commits.{first_end, second_end};
-ghost use Rattle.ll_worlds.specs.Walk as walks;
-ghost use Rattle.ll_worlds.specs.World.{is_alone, is_walked, overtaken};
+ghost use Rattle.ll_laws.specs.Commits.{first_end, second_end};
+ghost use Rattle.ll_laws.specs.Walk as walks;
+ghost use Rattle.ll_laws.specs.World.{is_alone, is_walked, overtaken};
 ghost use Rattle.ll_journal.specs.Stations.{station_of};
-ghost use Rattle.ll_changes.specs.Enacting.{Scene};
+ghost use Rattle.ll_node.specs.Enacting.{Scene};
 ghost use Rattle.ll_journal.specs.Performed.{EndsAs, IsAtEnd, IsFreeAtEnd, Performs, at_seat};
 
 use crate::alone::{Own, RecordCall, answer, own_call};
@@ -25,13 +25,10 @@ use crate::walked::walks;
 use crate::way::{
     first_path, has_two_paths, know_ways, next_name, second_path, trunk_len, way_len,
 };
-use ll_answer::Found;
-use ll_changes::enact;
 use ll_decide::Masks;
-use ll_held::Held;
-use ll_inodes::Inodes;
+use ll_node::{Held, Inodes, enact};
 use ll_rights::Abi;
-use ll_seq::{Call, ClientRecord, Descriptor, NumberMap, Rules};
+use ll_seq::{Call, ClientRecord, Descriptor, Found, NumberMap, Rules};
 use std::alloc::{AllocError, Global};
 use std::marker::Model;
 

@@ -4,7 +4,7 @@ ghost use Rattle.std.specs.Prelude.{◌≡◌, ℕ, ◌+◌, ◌<◌, ◌≤◌,
 ghost use Rattle.ll_journal.specs.Needs.{with_slot, with_slot_of};
 
 use crate::standing::is_in;
-use ll_inodes::Inodes;
+use ll_node::Inodes;
 use std::marker::Model;
 
 /// The most slots that a step needs: those of three directories, and one more.

@@ -3,15 +3,14 @@
 ghost use Rattle.std.specs.Prelude.{◌≡◌, false};
 ghost use Rattle.std.specs.List.{list_any};
 ghost use Rattle.std.specs.Option.{option_map_or};
-ghost use Rattle.ll_worlds.specs.Walk as walks;
+ghost use Rattle.ll_laws.specs.Walk as walks;
 ghost use Rattle.ll_journal.specs.Checks as checks;
 ghost use Rattle.ll_journal.specs.Needs.{slots_in};
 
 use crate::seat::Seat;
 use crate::slots::Slots;
 use crate::stage::{Stage, Turn, turn_of};
-use ll_held::Held;
-use ll_inodes::Inodes;
+use ll_node::{Held, Inodes};
 
 pub(crate) fn is_in(inodes: &[u64], inode: u64) -> bool
     ensures { result ≡ walks.is_in inodes.now inode }

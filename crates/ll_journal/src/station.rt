@@ -1,7 +1,7 @@
 //! Where a walk is.
 
 ghost use Rattle.std.specs.Prelude.{◌≡◌, if◌then◌else◌};
-ghost use Rattle.ll_worlds.specs.Walk as walks;
+ghost use Rattle.ll_laws.specs.Walk as walks;
 
 use crate::way::has_two_paths;
 use ll_seq::Call;

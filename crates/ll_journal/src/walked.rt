@@ -2,10 +2,9 @@
 
 ghost use Rattle.std.specs.Prelude.{◌≡◌, ◌||◌, not, Some, is_none, if◌then◌else◌};
 ghost use Rattle.ll_seq.specs.Call.{targets};
-ghost use Rattle.ll_worlds.specs.World as world;
+ghost use Rattle.ll_laws.specs.World as world;
 
-use ll_answer::{Targets, refused_early, targets_of};
-use ll_seq::{Call, ClientRecord};
+use ll_seq::{Call, ClientRecord, Targets, refused_early, targets_of};
 
 /// Whether it may move directories.
 fn takes_gate(call: &Call) -> bool

@@ -5,13 +5,12 @@ ghost use Rattle.ll_path.specs.Path.{common, parent};
 ghost use Rattle.ll_path.specs.Place.{IsPlace};
 ghost use Rattle.ll_rights.specs.declared.limits.TheConstants.{PATH_NAMES};
 ghost use Rattle.ll_seq.specs.Call as calls;
-ghost use Rattle.ll_worlds.specs.Walk as walks;
+ghost use Rattle.ll_laws.specs.Walk as walks;
 ghost use Rattle.ll_journal.specs.Seated.{AreShort, name_on, names_in};
 
 use crate::leg::Ahead;
-use ll_answer::{Targets, targets_of};
 use ll_path::{Path, Place, Target};
-use ll_seq::Call;
+use ll_seq::{Call, Targets, targets_of};
 
 /// The path that the word spells, if it spells one.
 fn spelled(target: &Target) -> Option<&Path>

@@ -1,2 +1,8 @@
+pub mod Commits
+pub mod Growing
 pub mod NoGain
+pub mod Sound
+pub mod Walk
+pub mod Walks
 pub mod Withheld
+pub mod World

@@ -1,17 +1,14 @@
 //! Laws about the definitions of the sequential tree, which hold of all its legal histories.
 #![tactic(auto)]
 
-ghost use Rattle.ll_laws.specs.NoGain.{NoGain};
-ghost use Rattle.ll_laws.specs.Withheld.{BytesAreWithheld};
+mod alone;
+mod shared;
+mod step;
 
-/// While each move (rename, rename_noreplace, exchange, link) is made under a layer, no inode that has a name gets, by
-/// any name, a right of the layer that means something for its kind.
-pub fn reach_never_grows()
-    ensures { NoGain }
-{}
-
-/// While each move is made under a layer, a client under it, or spawned from there, reads and changes no bytes of a
-/// file that no such client has open, but by a right of the layer.
-pub fn bytes_stay_withheld()
-    ensures { BytesAreWithheld }
-{}
+pub use alone::{bytes_stay_withheld, reach_never_grows};
+pub use shared::{
+    blocked_are_refused, ends_are_reached, gate_holder_is_never_stale, history_grows,
+    history_is_legal, marks_are_apart, sound_worlds_are_legal, starts_are_few,
+    steps_keep_worlds_sound, steps_lead_on, walks_are_valid, worlds_never_gain, worlds_withhold,
+};
+pub use step::Step;

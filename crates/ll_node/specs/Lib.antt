@@ -1,5 +1,10 @@
-pub mod SlotCodes
+pub mod Accounts
+pub mod Enacting
 pub mod Held
+pub mod InodeTable
+pub mod Lent
 pub mod Refusals
 pub mod Rows
 pub mod Slot
+pub mod SlotCodes
+pub mod TableCodes

@@ -8,6 +8,19 @@
 #![tactic(auto)]
 
 mod directory;
+mod enacting;
+mod held;
+mod lent;
+mod making;
+mod moving;
 mod slot;
+mod table;
+mod taking;
 
+pub use enacting::enact;
+pub use held::Held;
+pub use lent::{
+    clear, fill, find, move_name, name, replace_name, set_len, take_name, unmark, vacate,
+};
 pub use slot::Slot;
+pub use table::Inodes;

@@ -2,13 +2,25 @@
 #![tactic(auto)]
 
 mod canvas;
+mod course;
+mod drawing;
 mod head;
 mod legend;
+mod lines;
 mod picture;
+mod replay;
 mod scene;
+mod seat;
+mod shadow;
 mod sheet;
 mod style;
+mod told;
 mod track;
+mod unmet;
+mod waits;
+mod window;
 
+pub use drawing::{draw, explain};
 pub use picture::picture_of;
 pub use scene::{Branch, Column, Ending, Event, Moment, Obstacle, Row, Scene, Spot, Wait};
+pub use window::Window;

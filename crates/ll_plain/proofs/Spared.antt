@@ -4,9 +4,9 @@ use Rattle.ll_seq.specs.declared.call.Call.{Call}
 use Rattle.ll_seq.specs.declared.call.Call.TheVariants.{Make, Open, Read, Write, Ftruncate, Close, Truncate, ReadDir}
 use Rattle.ll_seq.specs.declared.call.Call.TheVariants.{Stat, Exec, Unlink, Rmdir, Rename, RenameNoreplace, Exchange}
 use Rattle.ll_seq.specs.declared.call.Call.TheVariants.{Link, Ruleset, Allow, Confine, Spawn, Connect}
-use Rattle.ll_answer.specs.Lean.{spares_memory}
+use Rattle.ll_seq.specs.Lean.{spares_memory}
 use Rattle.ll_seq.specs.Memory.{takes_memory}
-use Rattle.ll_answer.specs.Passed.{has_path}
+use Rattle.ll_seq.specs.Passed.{has_path}
 
 spared : (call : Call) → has_path call ≡ true → takes_memory call ≡ false → spares_memory call ≡ true
 spared (Make k t) path none = absurd cc

@@ -25,7 +25,7 @@ use Rattle.ll_seq.specs.Effects.{with_bytes, with_node, with_name, without_name,
 use Rattle.ll_seq.specs.Facts.{AreKept, IsUnused}
 use Rattle.ll_seq.specs.declared.facts.Fact.{Fact}
 use Rattle.ll_seq.specs.declared.rules.Rules.{Rules}
-use Rattle.ll_answer.specs.Effect.{IsDirectory}
+use Rattle.ll_seq.specs.Effect.{IsDirectory}
 use Rattle.ll_plain.specs.Tables.{HasNodes, IsTied}
 use Rattle.ll_plain.proofs.Written.{bytes_changed}
 use Rattle.ll_seq.proofs.Counts.{bit, opens_is, links-new, links-over, links-less}

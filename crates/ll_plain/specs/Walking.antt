@@ -8,7 +8,7 @@ use Rattle.ll_seq.specs.Tree.{named, ancestors}
 use Rattle.ll_seq.specs.Stages.{in_the_way}
 use Rattle.ll_plain.specs.declared.walk.Walk.{Walk}
 use Rattle.ll_plain.specs.declared.walk.PathWalk.{PathWalk}
-use Rattle.ll_answer.specs.Found.{IsSpot}
+use Rattle.ll_seq.specs.Found.{IsSpot}
 
 -- the walk along these names: where it ends, what is in the way first, and what each layer grants there
 pub record IsWalk (s : State) (domain : List Layer) (names : Path) (walk : Walk) : Type 0 where

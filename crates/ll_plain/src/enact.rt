@@ -6,20 +6,19 @@ ghost use Rattle.ll_seq.specs.Effects.{status_of, with_client};
 ghost use Rattle.ll_seq.specs.Reach.{HasName};
 ghost use Rattle.ll_seq.specs.Stages.{lowest_free};
 ghost use Rattle.ll_seq.specs.Step.{client_of};
-ghost use Rattle.ll_answer.specs.Effect.{Fits, FitsRule, HasRoom, after, told, with_opening, with_rule_of};
-ghost use Rattle.ll_answer.specs.Lean.{adds_nothing, is_short};
+ghost use Rattle.ll_seq.specs.Effect.{Fits, FitsRule, HasRoom, after, told, with_opening, with_rule_of};
+ghost use Rattle.ll_seq.specs.Lean.{adds_nothing, is_short};
 
 use crate::Plain;
-use ll_answer::{Answer, Change, Opening, Rule, status};
 use ll_rights::Kind;
-use ll_seq::{Reply, Status};
+use ll_seq::{Answer, Change, Opening, Reply, Rule, Status, status_of};
 use std::alloc::AllocError;
 
 impl Plain {
     fn status(&self, inode: u64, kind: Kind) -> Status
         ensures { result ≡ status_of self.now inode kind }
     {
-        status(&self.facts, inode, kind, self.size(inode) as u64)
+        status_of(&self.facts, inode, kind, self.size(inode) as u64)
     }
 
     /// The reply that tells the answer of the tree as it is.

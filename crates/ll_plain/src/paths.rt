@@ -3,7 +3,7 @@
 ghost use Rattle.std.specs.Prelude.{◌≡◌, ◌<◌, ◌-◌, ◌^◌, true};
 ghost use Rattle.ll_rights.specs.Map.{has};
 ghost use Rattle.ll_plain.specs.Outcomes.{Comes};
-ghost use Rattle.ll_answer.specs.Passed.{has_path};
+ghost use Rattle.ll_seq.specs.Passed.{has_path};
 
 use crate::Plain;
 use ll_rights::Errno;

@@ -4,18 +4,17 @@ ghost use Rattle.std.specs.Prelude.{◌≡◌, ℕ, true, nat_le, MatchOption, M
 ghost use Rattle.ll_rights.specs.Map.{has, len};
 ghost use Rattle.ll_seq.specs.Call.{first_path, path_of, second_path};
 ghost use Rattle.ll_seq.specs.Step.{client_of};
-ghost use Rattle.ll_answer.specs.Decided.{IsDone, IsRefused};
-ghost use Rattle.ll_answer.specs.Found.{AreFacts};
-ghost use Rattle.ll_answer.specs.Passed.{has_path};
+ghost use Rattle.ll_seq.specs.Decided.{IsDone, IsRefused};
+ghost use Rattle.ll_seq.specs.Found.{AreFacts};
+ghost use Rattle.ll_seq.specs.Passed.{has_path};
 ghost use Rattle.ll_plain.specs.Walking.{IsPathWalk};
 
 use crate::Plain;
 use crate::walk::PathWalk;
-use ll_answer::{Effect, Found, Targets, decide, targets_of};
 use ll_decide::Granted;
 use ll_path::Target;
 use ll_rules::Domain;
-use ll_seq::{Call, ClientRecord, Reply};
+use ll_seq::{Call, ClientRecord, Effect, Found, Reply, Targets, decide, targets_of};
 
 impl Plain {
     /// The walk along what the word spells. A word that is no path stands for the root here.

@@ -2,19 +2,18 @@
 
 ghost use Rattle.std.specs.Prelude.{◌≡◌, ◌∷◌, ◌++◌, [], length, option_and_then, slice_get};
 ghost use Rattle.ll_path.specs.Path.{Path, parent};
-ghost use Rattle.ll_answer.specs.Found.{IsSpot};
+ghost use Rattle.ll_seq.specs.Found.{IsSpot};
 ghost use Rattle.ll_seq.specs.State.{child, root};
 ghost use Rattle.ll_seq.specs.Stages as stages;
 ghost use Rattle.ll_seq.specs.Tree.{directory_of, named};
 ghost use Rattle.ll_plain.specs.Walking.{IsWalk, IsPathWalk};
 
 use crate::Plain;
-use ll_answer::{Spot, first, granted_at, no_directory};
 use ll_decide::Masks;
 use ll_path::{Names, Path};
 use ll_rights::Errno;
 use ll_rules::Domain;
-use ll_seq::ROOT;
+use ll_seq::{ROOT, Spot, first, granted_at, no_directory};
 
 /// Where a walk along some names stands.
 #[derive(Drop)]

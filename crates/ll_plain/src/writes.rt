@@ -8,13 +8,12 @@ ghost use Rattle.ll_seq.specs.Effects.{let_go, overwritten, resized, with_bytes,
 ghost use Rattle.ll_seq.specs.Effects.{with_node, without_name};
 ghost use Rattle.ll_seq.specs.Stages.{lowest_free};
 ghost use Rattle.ll_seq.specs.Step.{client_of};
-ghost use Rattle.ll_answer.specs.Effect.{FitsExchange, FitsMove, FitsName, FitsReplace, HasRoom, dentry_at};
+ghost use Rattle.ll_seq.specs.Effect.{FitsExchange, FitsMove, FitsName, FitsReplace, HasRoom, dentry_at};
 
 use crate::Plain;
-use ll_answer::At;
 use ll_path::Name;
 use ll_rights::Kind;
-use ll_seq::{Content, Descriptor, Node, NumberMap};
+use ll_seq::{At, Content, Descriptor, Node, NumberMap};
 use std::alloc::AllocError;
 
 /// Forgets the node that lost a name or a descriptor, if it goes.

@@ -18,11 +18,11 @@ use Rattle.ll_options.specs.Options.{RunOrder, order_in}
 use Rattle.ll_policy.specs.Plan.{Plan, IsPlanOf}
 use Rattle.ll_runs.specs.Policy.{ByLevel, ByPlan, IsDone, IsSaved, IsSetBy, IsSetup, Lacks, header_of}
 use Rattle.ll_session.specs.Run.{Runs}
-use Rattle.ll_lines.specs.Transcript.{Writes}
+use Rattle.ll_wire.specs.Transcript.{Writes}
 use Rattle.ll_seq.specs.History.{IsLegal}
 use Rattle.ll_seq.specs.State.{start}
 use Rattle.ll_seq.specs.declared.reply.Entry.{Entry}
-use Rattle.ll_saved.specs.Saved.{saved_text}
+use Rattle.ll_audit.specs.Saved.{saved_text}
 use Rattle.ll_wire.specs.declared.header.Header.{Header}
 
 -- some text that it tells, if it tells any

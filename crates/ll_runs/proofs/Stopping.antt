@@ -1,8 +1,8 @@
 -- Strict runs, and what is concluded from them.
 use Rattle.std.proofs.Common.{◌≡◌, List, ℕ, Option, inl, inr}
 use Rattle.std.specs.Prelude.{IfSome}
-use Rattle.ll_lines.specs.Transcript.{Writes}
-use Rattle.ll_lines.specs.declared.fault.SessionFault.TheVariants as fault
+use Rattle.ll_wire.specs.Transcript.{Writes}
+use Rattle.ll_wire.specs.declared.fault.SessionFault.TheVariants as fault
 use Rattle.ll_options.specs.Options.{RunOrder}
 use Rattle.ll_seq.specs.History.{IsLegal}
 use Rattle.ll_seq.specs.State.{start}

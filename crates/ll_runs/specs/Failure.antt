@@ -10,14 +10,14 @@ use Rattle.ll_session.specs.declared.fault.RunFault.{RunFault}
 use Rattle.ll_session.specs.declared.fault.RunFault.TheVariants as run
 use Rattle.ll_session.specs.declared.stop.Stop.{Stop}
 use Rattle.ll_session.specs.declared.stop.Stop.TheVariants.{AtLine, AtOpening}
-use Rattle.ll_lines.specs.declared.fault.SessionFault.{SessionFault}
-use Rattle.ll_lines.specs.declared.fault.SessionFault.TheVariants as session
-use Rattle.ll_saved.specs.declared.auditing.FileAuditFault.{FileAuditFault}
-use Rattle.ll_saved.specs.declared.auditing.FileAuditFault.TheVariants as audit
-use Rattle.ll_saved.specs.declared.saving.SaveFault.{SaveFault}
-use Rattle.ll_saved.specs.declared.saving.SaveFault.TheVariants as saving
-use Rattle.ll_saved.specs.declared.verdict.Verdict.TheVariants.{Legal, Illegal, BadLine}
-use Rattle.ll_saved.specs.Saved.{Judges}
+use Rattle.ll_wire.specs.declared.fault.SessionFault.{SessionFault}
+use Rattle.ll_wire.specs.declared.fault.SessionFault.TheVariants as session
+use Rattle.ll_audit.specs.declared.auditing.FileAuditFault.{FileAuditFault}
+use Rattle.ll_audit.specs.declared.auditing.FileAuditFault.TheVariants as audit
+use Rattle.ll_audit.specs.declared.saving.SaveFault.{SaveFault}
+use Rattle.ll_audit.specs.declared.saving.SaveFault.TheVariants as saving
+use Rattle.ll_audit.specs.declared.verdict.Verdict.TheVariants.{Legal, Illegal, BadLine}
+use Rattle.ll_audit.specs.Saved.{Judges}
 use Rattle.ll_wire.specs.Grammar.{reply_line}
 use Rattle.ll_wire.specs.Pieces.{pieces}
 use Rattle.ll_options.specs.Options.{RunOrder}
@@ -26,7 +26,7 @@ use Rattle.ll_runs.specs.declared.failure.Failure.TheVariants.{CommandLine, Poli
 use Rattle.ll_runs.specs.declared.failure.Failure.TheVariants.{NoMemory}
 use Rattle.ll_runs.specs.declared.conclusion.Conclusion.{Conclusion}
 use Rattle.ll_runs.specs.declared.conclusion.Conclusion.TheVariants.{Checked, Done, Judged, Stopped}
-use Rattle.ll_runs.specs.declared.checks.Checked.TheVariants as checked
+use Rattle.ll_runs.specs.declared.checked.Checked.TheVariants as checked
 
 abbrev pub failure_in_session : SessionFault → Failure
 failure_in_session session.Read = File

@@ -1,3 +1,3 @@
-pub mod Check
 pub mod Failure
 pub mod Policy
+pub mod Sources

@@ -25,8 +25,8 @@ use Rattle.ll_wire.specs.declared.header.Header.{Header}
 use Rattle.ll_wire.specs.declared.header.Version.TheVariants.{Three}
 use Rattle.ll_session.specs.Run.{MayEnd, Runs}
 use Rattle.ll_session.specs.Strict.{RunsStrictly}
-use Rattle.ll_lines.specs.Transcript.{Writes}
-use Rattle.ll_saved.specs.Saved.{saved_text}
+use Rattle.ll_wire.specs.Transcript.{Writes}
+use Rattle.ll_audit.specs.Saved.{saved_text}
 use Rattle.ll_options.specs.Options.{RunOrder}
 
 -- the calls of the profile that is wanted, none where none is. There is no answer where the plan hasn't that profile

@@ -3,9 +3,9 @@
 ghost use Rattle.std.specs.Prelude.{◌≡◌};
 ghost use Rattle.ll_runs.specs.Failure.{status_by};
 
-use crate::checks::Checked;
+use crate::checked::Checked;
 use crate::stopped::Stopped;
-use ll_saved::Verdict;
+use ll_audit::Verdict;
 
 #[derive(Debug, Drop)]
 pub enum Conclusion {

@@ -6,10 +6,10 @@ ghost use Rattle.ll_runs.specs.Failure.{failure_at, failure_by, failure_by_savin
 ghost use Rattle.ll_runs.specs.Failure.{failure_of, line_of, status_of};
 
 use clap::error::ErrorKind;
-use ll_lines::SessionFault;
+use ll_audit::{FileAuditFault, SaveFault};
 use ll_policy::PolicyFault;
-use ll_saved::{FileAuditFault, SaveFault};
 use ll_session::RunFault;
+use ll_wire::SessionFault;
 use std::fmt;
 use std::fmt::Display;
 

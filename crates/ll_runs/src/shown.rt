@@ -1,6 +1,6 @@
 //! Progress, for people.
 
-use ll_saved::Progress;
+use ll_audit::Progress;
 use std::io::Write;
 
 /// From so many entries on progress is shown.

@@ -13,14 +13,14 @@ use Rattle.ll_seq.specs.declared.reply.Reply.TheVariants.{Done, Refused}
 use Rattle.ll_seq.specs.declared.rules.Rules.{Rules}
 use Rattle.ll_plain.specs.Refusal.{is_refusal}
 use Rattle.ll_client.specs.Entries.{Knows}
-use Rattle.ll_talk.specs.Between.{Leads, between}
-use Rattle.ll_talk.specs.Session.{Session, Called, Connects, following, joined, starved}
-use Rattle.ll_talk.specs.Talk.{AsksFor}
-use Rattle.ll_talk.proofs.Growths.{then_grows}
-use Rattle.ll_talk.proofs.Leading.{nothing_leads, so_leads, then_leads}
-use Rattle.ll_talk.proofs.Leadings.{ask_so}
-use Rattle.ll_talk.proofs.Lists.{asks_for_count}
-use Rattle.ll_talk.proofs.Seen.{count_numbers}
+use Rattle.ll_session.specs.Between.{Leads, between}
+use Rattle.ll_session.specs.PartySession.{Session, Called, Connects, following, joined, starved}
+use Rattle.ll_session.specs.Talk.{AsksFor}
+use Rattle.ll_session.proofs.Growths.{then_grows}
+use Rattle.ll_session.proofs.Leading.{nothing_leads, so_leads, then_leads}
+use Rattle.ll_session.proofs.Leadings.{ask_so}
+use Rattle.ll_session.proofs.Lists.{asks_for_count}
+use Rattle.ll_session.proofs.Seen.{count_numbers}
 use Rattle.ll_session.specs.Beside.{MakesBeside, StopsBeside}
 use Rattle.ll_session.specs.declared.opening.Refusal.{Refusal}
 use Rattle.ll_session.specs.declared.opening.Refusal.TheVariants.{AtCall, AtConnect}

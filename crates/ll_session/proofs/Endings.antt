@@ -4,7 +4,7 @@ use Rattle.std.proofs.Common.{Result, Ok, Err, ◌<◌, arith, length}
 use Rattle.std.specs.Prelude.{IfErr, IfSome, OnErr, OnOk, IsErrAnd}
 use Rattle.std.specs.Io.KnownBytes.{Appends}
 use Rattle.ll_client.specs.Entries.{Knows}
-use Rattle.ll_ends.specs.Devices.{Devices}
+use Rattle.ll_wire.specs.Devices.{Devices}
 use Rattle.ll_wire.specs.Grammar.{reply_line}
 use Rattle.ll_wire.specs.Pieces.{pieces}
 use Rattle.ll_rights.specs.declared.errno.Errno.TheVariants as errno
@@ -15,15 +15,15 @@ use Rattle.ll_seq.specs.declared.rules.Rules.{Rules}
 use Rattle.ll_session.specs.declared.fault.RunFault.{RunFault}
 use Rattle.ll_session.specs.declared.fault.RunFault.TheVariants.{Opening, Session}
 use Rattle.ll_session.specs.declared.setup.Setup.{Setup}
-use Rattle.ll_lines.specs.Reached.{AnswersAll, StartsAll}
-use Rattle.ll_lines.specs.Transcript.{Transcript, Writes}
-use Rattle.ll_lines.specs.declared.fault.SessionFault.{SessionFault}
-use Rattle.ll_lines.specs.declared.fault.SessionFault.TheVariants.{Read, Write, NoMemory, TooLong}
-use Rattle.ll_talk.specs.Between.{Leads, between}
-use Rattle.ll_talk.specs.Session as at
-use Rattle.ll_talk.specs.Talk.{Goes}
-use Rattle.ll_talk.proofs.Leading.{nothing_leads, so_leads, then_leads}
-use Rattle.ll_talk.proofs.Leadings.{goes_so}
+use Rattle.ll_wire.specs.Reached.{AnswersAll, StartsAll}
+use Rattle.ll_wire.specs.Transcript.{Transcript, Writes}
+use Rattle.ll_wire.specs.declared.fault.SessionFault.{SessionFault}
+use Rattle.ll_wire.specs.declared.fault.SessionFault.TheVariants.{Read, Write, NoMemory, TooLong}
+use Rattle.ll_session.specs.Between.{Leads, between}
+use Rattle.ll_session.specs.PartySession as at
+use Rattle.ll_session.specs.Talk.{Goes}
+use Rattle.ll_session.proofs.Leading.{nothing_leads, so_leads, then_leads}
+use Rattle.ll_session.proofs.Leadings.{goes_so}
 use Rattle.ll_session.specs.Beside.{TellsBeside}
 use Rattle.ll_session.specs.Session.{Answers, Tells}
 use Rattle.ll_session.specs.Opening.{begun, fresh, refused, Opens}

@@ -23,16 +23,16 @@ use Rattle.ll_seq.specs.Step.{step, first_or, refusals, client_of}
 use Rattle.ll_seq.proofs.Consequences.{step-clients_stay, step-spawned}
 use Rattle.ll_seq.proofs.Histories.{after_push, legal_append}
 use Rattle.ll_wire.specs.Grammar.{IsCall}
-use Rattle.ll_talk.proofs.Comers.{connected_there}
+use Rattle.ll_session.proofs.Comers.{connected_there}
 use Rattle.ll_session.specs.declared.setup.Setup.{Setup}
-use Rattle.ll_talk.specs.Session.{following, joined}
+use Rattle.ll_session.specs.PartySession.{following, joined}
 use Rattle.ll_session.specs.Opening.{Comes, Loads, Makes, Opens, Stops, begun, fresh, made, refused}
 use Rattle.ll_session.specs.Opening.{unconnected, unmade}
 use Rattle.ll_session.specs.Run.{RunsLegally}
-use Rattle.ll_lines.specs.Transcript.{Transcript}
-use Rattle.ll_talk.specs.Session.{Session, Called, answered, full, starved}
+use Rattle.ll_wire.specs.Transcript.{Transcript}
+use Rattle.ll_session.specs.PartySession.{Session, Called, answered, full, starved}
 use Rattle.ll_session.specs.Session.{AreOthers, Answers, Tells, calls, unread}
-use Rattle.ll_talk.specs.Session.{brought}
+use Rattle.ll_session.specs.PartySession.{brought}
 use Rattle.ll_session.specs.Session.{bad}
 
 -- these clients are there

@@ -8,8 +8,8 @@ use Rattle.std.proofs.lemmas.List.{append-nil, length-append}
 use Rattle.std.proofs.lemmas.Grind.{flat_map-append}
 use Rattle.ll_client.specs.Entries.{Knows}
 use Rattle.ll_seq.specs.declared.reply.Entry.{Entry}
-use Rattle.ll_talk.specs.Talk.{seen_by}
-use Rattle.ll_talk.proofs.Points.{one_taken}
+use Rattle.ll_session.specs.Talk.{seen_by}
+use Rattle.ll_session.proofs.Points.{one_taken}
 use Rattle.ll_wire.specs.Entries.{entry_line}
 use Rattle.ll_session.specs.Keeping.{AreKept, AreLines, Fills, Turns, kept_of}
 use Rattle.ll_session.specs.declared.chronicle.Pages.{Pages}

@@ -6,22 +6,22 @@ use Rattle.std.specs.Prelude.{IfOk, IfSome, OnErr}
 use Rattle.std.specs.Io.KnownBytes.{Appends}
 use Rattle.std.proofs.lemmas.List.{append-nil}
 use Rattle.ll_client.specs.Entries.{Knows}
-use Rattle.ll_ends.specs.Devices.{Devices}
-use Rattle.ll_lines.specs.Reached.{AnswersAll, AnswersFirst, StartsAll}
-use Rattle.ll_lines.specs.Transcript.{Transcript, Writes}
-use Rattle.ll_lines.specs.declared.fault.SessionFault.{SessionFault}
-use Rattle.ll_lines.specs.declared.fault.SessionFault.TheVariants.{Read, Write, NoMemory, TooLong}
+use Rattle.ll_wire.specs.Devices.{Devices}
+use Rattle.ll_wire.specs.Reached.{AnswersAll, AnswersFirst, StartsAll}
+use Rattle.ll_wire.specs.Transcript.{Transcript, Writes}
+use Rattle.ll_wire.specs.declared.fault.SessionFault.{SessionFault}
+use Rattle.ll_wire.specs.declared.fault.SessionFault.TheVariants.{Read, Write, NoMemory, TooLong}
 use Rattle.ll_rights.specs.declared.errno.Errno.TheVariants as errno
 use Rattle.ll_seq.specs.declared.call.Call.{Call}
 use Rattle.ll_seq.specs.declared.reply.Entry.{Entry}
 use Rattle.ll_seq.specs.declared.reply.Reply.{Reply}
 use Rattle.ll_seq.specs.declared.reply.Reply.TheVariants.{Refused}
 use Rattle.ll_seq.specs.declared.rules.Rules.{Rules}
-use Rattle.ll_talk.specs.Between.{Leads, between}
-use Rattle.ll_talk.specs.Session as at
-use Rattle.ll_talk.specs.Talk.{Goes}
-use Rattle.ll_talk.proofs.Leading.{nothing_leads, so_leads, then_leads}
-use Rattle.ll_talk.proofs.Leadings.{goes_so}
+use Rattle.ll_session.specs.Between.{Leads, between}
+use Rattle.ll_session.specs.PartySession as at
+use Rattle.ll_session.specs.Talk.{Goes}
+use Rattle.ll_session.proofs.Leading.{nothing_leads, so_leads, then_leads}
+use Rattle.ll_session.proofs.Leadings.{goes_so}
 use Rattle.ll_wire.specs.Grammar.{SpellsCommand, reply_line}
 use Rattle.ll_wire.specs.Pieces.{pieces}
 use Rattle.ll_wire.proofs.WrittenText.{appends-none}

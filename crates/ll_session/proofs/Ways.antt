@@ -7,11 +7,11 @@ use Rattle.ll_seq.specs.declared.reply.Reply.{Reply}
 use Rattle.ll_seq.specs.declared.rules.Rules.{Rules}
 use Rattle.ll_client.specs.Closed.{IsClosed, numbers_of}
 use Rattle.ll_client.specs.Entries.{Knows}
-use Rattle.ll_talk.specs.Between.{IsSettled, Leads, between}
-use Rattle.ll_talk.specs.Session.{Session, Called}
-use Rattle.ll_talk.proofs.Edges.{points}
-use Rattle.ll_talk.proofs.Growths.{stays_so}
-use Rattle.ll_talk.proofs.Leading.{at_closing, so_leads, then_leads}
+use Rattle.ll_session.specs.Between.{IsSettled, Leads, between}
+use Rattle.ll_session.specs.PartySession.{Session, Called}
+use Rattle.ll_session.proofs.Edges.{points}
+use Rattle.ll_session.proofs.Growths.{stays_so}
+use Rattle.ll_session.proofs.Leading.{at_closing, so_leads, then_leads}
 use Rattle.ll_session.specs.declared.setup.Setup.{Setup}
 use Rattle.ll_session.specs.Opening.{fresh}
 use Rattle.ll_session.specs.Progress.{Closes}

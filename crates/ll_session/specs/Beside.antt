@@ -7,7 +7,7 @@ use Rattle.ll_seq.specs.declared.reply.Reply.{Reply}
 use Rattle.ll_seq.specs.declared.reply.Reply.TheVariants.{Refused, Spawned}
 use Rattle.ll_plain.specs.Refusal.{is_refusal}
 use Rattle.ll_client.specs.Entries.{Knows}
-use Rattle.ll_talk.specs.Talk.{AsksFor, Looks, seen_by}
+use Rattle.ll_session.specs.Talk.{AsksFor, Looks, seen_by}
 use Rattle.ll_wire.specs.Grammar.{SpellsCommand, reply_line}
 use Rattle.ll_wire.specs.Reads.{holds_text}
 

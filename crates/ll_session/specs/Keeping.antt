@@ -5,7 +5,7 @@ use Rattle.std.specs.List.{flat_map}
 use Rattle.std.specs.Io.KnownBytes.{Appends}
 use Rattle.ll_seq.specs.declared.reply.Entry.{Entry}
 use Rattle.ll_client.specs.Entries.{Knows}
-use Rattle.ll_talk.specs.Talk.{seen_by}
+use Rattle.ll_session.specs.Talk.{seen_by}
 use Rattle.ll_wire.specs.Entries.{entry_line}
 use Rattle.ll_session.specs.declared.chronicle.Pages.{Pages}
 use Rattle.ll_session.specs.declared.keeper.Kept.{Kept}

@@ -1,8 +1,15 @@
 pub mod Beside
+pub mod Between
+pub mod Growth
 pub mod Keeping
+pub mod Laws
 pub mod Opening
+pub mod PartySession
 pub mod Progress
+pub mod Rooms
 pub mod Run
 pub mod Session
 pub mod Strict
 pub mod StrictProgress
+pub mod Talk
+pub mod Visit

@@ -7,7 +7,7 @@ use Rattle.ll_seq.specs.declared.reply.Reply.{Reply}
 use Rattle.ll_seq.specs.declared.reply.Reply.TheVariants.{Done}
 use Rattle.ll_seq.specs.State.{start}
 use Rattle.ll_plain.specs.Refusal.{is_refusal}
-use Rattle.ll_talk.specs.Session.{Session, Called, Connects, following, joined}
+use Rattle.ll_session.specs.PartySession.{Session, Called, Connects, following, joined}
 use Rattle.ll_session.specs.declared.setup.Setup.{Setup}
 
 -- a fresh tree, to which nobody has connected

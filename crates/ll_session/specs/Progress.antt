@@ -11,15 +11,15 @@ use Rattle.ll_seq.specs.declared.reply.Reply.TheVariants as replies
 use Rattle.ll_seq.specs.declared.rules.Rules.{Rules}
 use Rattle.ll_client.specs.Closed.{IsClosed}
 use Rattle.ll_client.specs.Entries.{Knows}
-use Rattle.ll_ends.specs.Devices.{Devices}
-use Rattle.ll_lines.specs.Reached.{AnswersAll, StartsAll}
-use Rattle.ll_lines.specs.declared.fault.SessionFault.{SessionFault}
-use Rattle.ll_lines.specs.declared.fault.SessionFault.TheVariants as fault
+use Rattle.ll_wire.specs.Devices.{Devices}
+use Rattle.ll_wire.specs.Reached.{AnswersAll, StartsAll}
+use Rattle.ll_wire.specs.declared.fault.SessionFault.{SessionFault}
+use Rattle.ll_wire.specs.declared.fault.SessionFault.TheVariants as fault
 use Rattle.ll_wire.specs.Writing.{AppendsFront}
-use Rattle.ll_talk.specs.Between.{Leads}
-use Rattle.ll_talk.specs.Session.{Session}
-use Rattle.ll_talk.specs.Talk.{Goes, Looks, nowhere, seen_by}
-use Rattle.ll_talk.proofs.Leadings.{goes_on}
+use Rattle.ll_session.specs.Between.{Leads}
+use Rattle.ll_session.specs.PartySession.{Session}
+use Rattle.ll_session.specs.Talk.{Goes, Looks, nowhere, seen_by}
+use Rattle.ll_session.proofs.Leadings.{goes_on}
 use Rattle.ll_session.specs.declared.opening.Refusal.{Refusal}
 use Rattle.ll_session.specs.declared.opening.Refusal.TheVariants.{AtCall, AtConnect}
 use Rattle.ll_session.specs.declared.opening.Shut.{Shut}

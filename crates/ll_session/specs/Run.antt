@@ -4,16 +4,16 @@ use Rattle.ll_seq.specs.declared.reply.Entry.{Entry}
 use Rattle.ll_seq.specs.declared.reply.Reply.{Reply}
 use Rattle.ll_seq.specs.State.{start}
 use Rattle.ll_seq.specs.History.{IsLegal, state_after}
-use Rattle.ll_ends.specs.Devices.{Devices, IsWhole}
+use Rattle.ll_wire.specs.Devices.{Devices, IsWhole}
 use Rattle.ll_wire.specs.Grammar.{reply_line}
 use Rattle.ll_wire.specs.Pieces.{pieces}
 use Rattle.ll_session.specs.declared.fault.RunFault.{RunFault}
 use Rattle.ll_session.specs.declared.fault.RunFault.TheVariants as run
 use Rattle.ll_session.specs.declared.setup.Setup.{Setup}
-use Rattle.ll_lines.specs.Reached.{Blames}
-use Rattle.ll_lines.specs.Transcript.{Transcript}
-use Rattle.ll_lines.specs.declared.fault.SessionFault.TheVariants as fault
-use Rattle.ll_talk.specs.Session.{Session}
+use Rattle.ll_wire.specs.Reached.{Blames}
+use Rattle.ll_wire.specs.Transcript.{Transcript}
+use Rattle.ll_wire.specs.declared.fault.SessionFault.TheVariants as fault
+use Rattle.ll_session.specs.PartySession.{Session}
 use Rattle.ll_session.specs.Session.{Tells}
 use Rattle.ll_session.specs.Opening.{Opens, begun, refused, stopped}
 

@@ -7,7 +7,7 @@ use Rattle.ll_seq.specs.declared.call.Call.{Call}
 use Rattle.ll_seq.specs.declared.reply.Reply.{Reply}
 use Rattle.ll_seq.specs.declared.reply.Reply.TheVariants.{Refused, Spawned}
 use Rattle.ll_seq.specs.History.{is_connect}
-pub use Rattle.ll_talk.specs.Session.{Session, Called}
+pub use Rattle.ll_session.specs.PartySession.{Session, Called}
 use Rattle.ll_wire.specs.Grammar.{SpellsCommand, reply_line}
 use Rattle.ll_wire.specs.Reads.{holds_text}
 

@@ -10,9 +10,9 @@ use Rattle.ll_seq.specs.declared.reply.Entry.{Entry}
 use Rattle.ll_seq.specs.declared.reply.Reply.{Reply}
 use Rattle.ll_seq.specs.declared.reply.Reply.TheVariants.{Refused}
 use Rattle.ll_client.specs.Entries.{Knows}
-use Rattle.ll_lines.specs.Transcript.{Transcript}
+use Rattle.ll_wire.specs.Transcript.{Transcript}
 use Rattle.ll_plain.specs.Refusal.{is_refusal}
-use Rattle.ll_talk.specs.Session.{Session}
+use Rattle.ll_session.specs.PartySession.{Session}
 use Rattle.ll_wire.specs.Grammar.{SpellsCommand, reply_line}
 use Rattle.ll_wire.specs.Pieces.{pieces}
 use Rattle.ll_session.specs.Beside.{AnswersBeside}

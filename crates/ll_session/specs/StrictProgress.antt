@@ -2,11 +2,11 @@
 use Rattle.std.specs.Prelude.{◌≡◌, ◌==◌, ◌||◌, ℕ, Bool, false, List, [], ◌∷◌, ◌++◌, length, Option, Some, None, codes}
 use Rattle.std.specs.Prelude.{bytes_eq}
 use Rattle.std.specs.Io.KnownBytes.{Appends}
-use Rattle.ll_ends.specs.Devices.{Devices}
-use Rattle.ll_lines.specs.Reached.{AnswersAll, StartsAll}
-use Rattle.ll_lines.specs.Transcript.{Transcript}
+use Rattle.ll_wire.specs.Devices.{Devices}
+use Rattle.ll_wire.specs.Reached.{AnswersAll, StartsAll}
+use Rattle.ll_wire.specs.Transcript.{Transcript}
 use Rattle.ll_seq.specs.declared.reply.Reply.{Reply}
-use Rattle.ll_talk.specs.Session.{Session}
+use Rattle.ll_session.specs.PartySession.{Session}
 use Rattle.ll_wire.specs.Pieces.{pieces}
 use Rattle.ll_session.specs.Progress.{without}
 use Rattle.ll_session.specs.Strict.{TellsStrictly}

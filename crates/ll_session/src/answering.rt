@@ -2,23 +2,21 @@
 
 ghost use Rattle.std.specs.Prelude.{◌≡◌, ◌<◌, ◌≤◌, ◌+◌, ◌-◌, ◌^◌, ◌↔◌, ℕ, List, IsTrue, Some, Err, IfErr, OnErr, OnOk};
 ghost use Rattle.std.specs.Prelude.{false, length};
-ghost use Rattle.ll_ends.specs.Devices.{IsWhole};
-ghost use Rattle.ll_lines.specs.Reached.{AnswersAll, Blames, StartsAll};
-ghost use Rattle.ll_lines.specs.Transcript.{most_reads};
-ghost use Rattle.ll_lines.specs.declared.fault.SessionFault.{SessionFault};
+ghost use Rattle.ll_wire.specs.Devices.{IsWhole};
+ghost use Rattle.ll_wire.specs.Reached.{AnswersAll, Blames, StartsAll};
+ghost use Rattle.ll_wire.specs.Transcript.{most_reads};
+ghost use Rattle.ll_wire.specs.declared.fault.SessionFault.{SessionFault};
 ghost use Rattle.ll_rights.specs.declared.errno.Errno.{Errno};
-ghost use Rattle.ll_talk.specs.Talk.{Goes};
+ghost use Rattle.ll_session.specs.Talk.{Goes};
 ghost use Rattle.ll_session.specs.Beside.{TellsBeside, placed};
 
 use crate::keeper::{Keeps, Kept};
 use crate::output::reply_line;
+use crate::{Gate, Party, Tree};
 use ll_client::Shape;
-use ll_ends::Ends;
-use ll_lines::{Answers, Line, SessionFault, answer_lines};
 use ll_rights::Errno;
 use ll_seq::Reply;
-use ll_talk::{Gate, Party, Tree};
-use ll_wire::read_command;
+use ll_wire::{Answers, Ends, Line, SessionFault, answer_lines, read_command};
 use std::alloc::{AllocError, Global};
 use std::sync::Wait;
 
@@ -54,7 +52,7 @@ fn placed(clients: u64, reply: Reply) -> Reply
 }
 
 impl<'a, N: Shape, R: Wait, G: Gate<N>, K: Keeps> OpenSession<'a, N, R, G, K> {
-    ghost use Rattle.ll_lines.specs.Cutting.{Holds};
+    ghost use Rattle.ll_wire.specs.Cutting.{Holds};
     ghost use Rattle.ll_session.specs.Beside.{AnswersBeside};
     ghost use Rattle.ll_session.specs.Keeping.{AreKept};
     ghost use Rattle.ll_session.specs.Progress.{IsUnread};

@@ -2,7 +2,7 @@
 
 ghost use Rattle.std.specs.Prelude.{◌≡◌, ◌≢◌, ◌==◌, ◌∷◌, [], ◌++◌, ℕ, List, IfSome, IfNone, false, true};
 ghost use Rattle.std.specs.List.{slice_split};
-ghost use Rattle.ll_lines.specs.Cutting.{Holds};
+ghost use Rattle.ll_wire.specs.Cutting.{Holds};
 ghost use Rattle.ll_rights.specs.declared.errno.Errno.{Errno};
 ghost use Rattle.ll_seq.specs.declared.call.Call.{Call};
 ghost use Rattle.ll_seq.specs.declared.reply.Reply.{Reply};
@@ -10,9 +10,9 @@ ghost use Rattle.ll_wire.specs.Grammar.{SpellsCommand, call_tokens, client_token
 ghost use Rattle.ll_session.specs.Strict.{is_end, is_of_layers};
 ghost use Rattle.ll_session.specs.StrictProgress.{is_at, names_layers};
 
-use ll_lines::Line;
 use ll_rights::Errno;
 use ll_seq::Reply;
+use ll_wire::Line;
 
 // The first token, and what stands behind the space after it.
 fn first_of(text: &str) -> Option<(&str, &str)>

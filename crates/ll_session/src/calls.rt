@@ -5,9 +5,9 @@ ghost use Rattle.ll_plain.specs.Refusal.{is_refusal};
 ghost use Rattle.ll_session.specs.Beside.{MakesBeside, StopsBeside};
 ghost use Rattle.ll_session.specs.Session.{AreOthers};
 
+use crate::{Gate, Party, Tree};
 use ll_client::Shape;
 use ll_seq::{Call, Reply};
-use ll_talk::{Gate, Party, Tree};
 use std::sync::Wait;
 
 // Whether the call is refused, or denied.

@@ -7,9 +7,9 @@ ghost use Rattle.ll_session.specs.Keeping.{AreKept, kept_of};
 
 use crate::keeper::{Keeps, Kept};
 use crate::page::Page;
+use crate::{Gate, Party, Tree};
 use ll_client::Shape;
-use ll_ends::{Broken, Pair, write_out};
-use ll_talk::{Gate, Party, Tree};
+use ll_wire::{Broken, Pair, write_out};
 use std::alloc::Global;
 use std::io::{Write, empty};
 use std::sync::{Mutex, Wait};
@@ -50,7 +50,7 @@ fn write_text<W: Write>(writer: &mut W, text: &str) -> Result<(), Broken>
 impl<W: Write> Pages<W> {
     ghost use Rattle.std.specs.Prelude.{List, ℕ, IsTrue, ◌<◌, ◌≤◌, length};
     ghost use Rattle.ll_seq.specs.declared.reply.Entry.{Entry};
-    ghost use Rattle.ll_talk.specs.Talk.{seen_by};
+    ghost use Rattle.ll_session.specs.Talk.{seen_by};
     ghost use Rattle.ll_session.specs.Keeping.{Turns};
 
     // How far the history is kept.

@@ -2,7 +2,7 @@
 
 ghost use Rattle.std.specs.Prelude.{◌≡◌};
 
-use ll_lines::SessionFault;
+use ll_wire::SessionFault;
 use thiserror::Error;
 
 /// Why a run ends without its whole transcript.

@@ -3,8 +3,8 @@
 ghost use Rattle.std.specs.Prelude.{◌≡◌};
 ghost use Rattle.ll_session.specs.Keeping.{AreKept};
 
+use crate::{Gate, Party, Tree};
 use ll_client::Shape;
-use ll_talk::{Gate, Party, Tree};
 use std::sync::Wait;
 
 /// How far a history is kept.

@@ -43,7 +43,7 @@ pub enum Shut {
 }
 
 impl<N: Shape> Shared<N> {
-    ghost use Rattle.ll_talk.specs.Between.{Leads};
+    ghost use Rattle.ll_session.specs.Between.{Leads};
     ghost use Rattle.ll_session.specs.Session.{AreOthers};
     ghost use Rattle.ll_session.specs.Opening.{Comes, Loads, Opens, begun, fresh, made};
     ghost use Rattle.ll_session.specs.Progress.{coming_at, opening_at, without};

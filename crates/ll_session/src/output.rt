@@ -2,21 +2,19 @@
 
 ghost use Rattle.std.specs.Prelude.{◌≡◌, IfErr, IfOk, OnOk, string_bytes};
 ghost use Rattle.std.specs.Io.KnownBytes.{Appends};
-ghost use Rattle.ll_ends.specs.Devices.{IsWhole};
-ghost use Rattle.ll_lines.specs.Reached.{Blames};
+ghost use Rattle.ll_wire.specs.Devices.{IsWhole};
+ghost use Rattle.ll_wire.specs.Reached.{Blames};
 ghost use Rattle.ll_seq.specs.declared.reply.Reply.{Reply};
 ghost use Rattle.ll_wire.specs.Grammar.{IsReply, reply_line};
 ghost use Rattle.ll_session.specs.Keeping.{AreKept};
 ghost use Rattle.ll_session.specs.Progress.{IsOfRefusal};
 
+use crate::Party;
 use crate::keeper::Kept;
 use ll_client::Shape;
-use ll_ends::Ends;
-use ll_lines::{SessionFault, write_line};
 use ll_rights::Errno;
 use ll_seq::Reply;
-use ll_talk::Party;
-use ll_wire::{is_entered, line_text, reply_text};
+use ll_wire::{Ends, SessionFault, is_entered, line_text, reply_text, write_line};
 use std::alloc::{AllocError, Global};
 
 // The line of a refusal.

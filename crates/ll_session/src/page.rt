@@ -3,9 +3,9 @@
 ghost use Rattle.std.specs.Prelude.{◌≡◌, ◌++◌, OnOk, string_bytes};
 ghost use Rattle.ll_wire.specs.Entries.{IsEntry, entry_line};
 
+use crate::ReadsHistory;
 use crate::entries::is_entry;
 use ll_seq::Entry;
-use ll_talk::ReadsHistory;
 use ll_wire::entry_text;
 use std::alloc::{AllocError, Global};
 

@@ -6,10 +6,9 @@ ghost use Rattle.ll_rights.specs.declared.limits.TheConstants.{TREE_CLIENTS};
 use crate::entries::are_entries;
 use crate::keeper::Keeps;
 use crate::setup::Setup;
-use ll_client::{Account, Shape};
+use crate::{NoGate, Party, Tree};
+use ll_client::{Account, Blank, Shape};
 use ll_seq::History;
-use ll_talk::{NoGate, Party, Tree};
-use ll_tie::Blank;
 use std::alloc::Global;
 use std::sync::Wait;
 

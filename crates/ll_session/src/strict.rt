@@ -2,12 +2,12 @@
 
 ghost use Rattle.std.specs.Prelude.{◌≡◌, ◌<◌, ◌≤◌, ◌+◌, ◌^◌, ℕ, List, Option, None, Some, Err, IfErr, IfOk, OnErr};
 ghost use Rattle.std.specs.Prelude.{length};
-ghost use Rattle.ll_ends.specs.Devices.{IsWhole};
-ghost use Rattle.ll_lines.specs.Reached.{Blames, StartsAll};
-ghost use Rattle.ll_lines.specs.Transcript.{most_reads};
-ghost use Rattle.ll_lines.specs.declared.fault.SessionFault.{SessionFault};
+ghost use Rattle.ll_wire.specs.Devices.{IsWhole};
+ghost use Rattle.ll_wire.specs.Reached.{Blames, StartsAll};
+ghost use Rattle.ll_wire.specs.Transcript.{most_reads};
+ghost use Rattle.ll_wire.specs.declared.fault.SessionFault.{SessionFault};
 ghost use Rattle.ll_seq.specs.declared.reply.Reply.{Reply};
-ghost use Rattle.ll_talk.specs.Talk.{Goes};
+ghost use Rattle.ll_session.specs.Talk.{Goes};
 ghost use Rattle.ll_session.specs.Strict.{TellsStrictlyBeside};
 ghost use Rattle.ll_session.specs.StrictProgress.{AnswersTo, stop_at};
 
@@ -16,11 +16,10 @@ use crate::asking::is_end;
 use crate::keeper::Keeps;
 use crate::output::reply_line;
 use crate::stop::Stop;
+use crate::{NoGate, Party};
 use ll_client::Shape;
-use ll_ends::Ends;
-use ll_lines::{Answers, Line, SessionFault, answer_lines};
 use ll_seq::Reply;
-use ll_talk::{NoGate, Party};
+use ll_wire::{Answers, Ends, Line, SessionFault, answer_lines};
 use std::alloc::{AllocError, Global};
 use std::sync::Wait;
 

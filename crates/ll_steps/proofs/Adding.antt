@@ -14,17 +14,17 @@ use Rattle.ll_seq.specs.declared.reply.Reply.TheVariants.{Done, Refused}
 use Rattle.ll_seq.specs.State.{start}
 use Rattle.ll_seq.specs.History.{IsLegal}
 use Rattle.ll_seq.proofs.Histories.{legal_early}
-use Rattle.ll_worlds.specs.declared.step.Step.{Step}
-use Rattle.ll_worlds.specs.declared.step.Step.TheVariants.{Join, Begin, Descend, Fork, Commit, Restart, FdCommit}
-use Rattle.ll_worlds.specs.declared.step.Step.TheVariants.{ClientStep}
-use Rattle.ll_worlds.specs.Sound.{IsSound}
-use Rattle.ll_worlds.specs.World as world
-use Rattle.ll_worlds.specs.World.{World, advance, is_full, shown, next_number}
+use Rattle.ll_laws.specs.declared.step.Step.{Step}
+use Rattle.ll_laws.specs.declared.step.Step.TheVariants.{Join, Begin, Descend, Fork, Commit, Restart, FdCommit}
+use Rattle.ll_laws.specs.declared.step.Step.TheVariants.{ClientStep}
+use Rattle.ll_laws.specs.Sound.{IsSound}
+use Rattle.ll_laws.specs.World as world
+use Rattle.ll_laws.specs.World.{World, advance, is_full, shown, next_number}
 use Rattle.ll_steps.specs.declared.report.Report.{Report}
 use Rattle.ll_steps.specs.declared.report.Report.TheVariants as report
 use Rattle.ll_steps.specs.Makes.{Makes, Adds, IsUntold, starved}
 use Rattle.ll_steps.specs.Headline.{Grows, IsLawful, IsHeadline, Runs}
-use Rattle.ll_worlds.proofs.StepGrowth.{Grown, Went, by_client, called_is, client_in, entry_of, never_full, went}
+use Rattle.ll_laws.proofs.StepGrowth.{Grown, Went, by_client, called_is, client_in, entry_of, never_full, went}
 
 last_of_more : (es : List Entry) (e : Entry) → slice_get (es ++ e ∷ []) (length es) ≡ Some e
 last_of_more [] e = refl

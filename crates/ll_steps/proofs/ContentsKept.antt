@@ -10,14 +10,14 @@ use Rattle.ll_rights.specs.declared.limits.TheConstants.{TREE_CLIENTS}
 use Rattle.ll_rights.specs.Map.{empty, checked, get, insert, remove, entries, from_sorted}
 use Rattle.ll_seq.specs.declared.rules.Rules.{Rules}
 use Rattle.ll_seq.specs.State.{root}
-use Rattle.ll_held.specs.declared.held.Held.{Held}
-use Rattle.ll_held.specs.Lent.{vacant, filled}
+use Rattle.ll_node.specs.declared.held.Held.{Held}
+use Rattle.ll_node.specs.Lent.{vacant, filled}
 use Rattle.ll_seq.specs.declared.call.Call.{Call}
-use Rattle.ll_worlds.specs.declared.step.Step.{Step}
-use Rattle.ll_worlds.specs.declared.step.Step.TheVariants.{Begin}
-use Rattle.ll_worlds.specs.Sound.{IsSound}
-use Rattle.ll_worlds.specs.World.{World, Outcome, NotNow, Begun, Stands, Forked, Restarted, new_world, advance}
-use Rattle.ll_worlds.proofs.SoundSteps.{sound_start, sound_kept}
+use Rattle.ll_laws.specs.declared.step.Step.{Step}
+use Rattle.ll_laws.specs.declared.step.Step.TheVariants.{Begin}
+use Rattle.ll_laws.specs.Sound.{IsSound}
+use Rattle.ll_laws.specs.World.{World, Outcome, NotNow, Begun, Stands, Forked, Restarted, new_world, advance}
+use Rattle.ll_laws.proofs.SoundSteps.{sound_start, sound_kept}
 use Rattle.ll_journal.specs.Book.{Book, Spares, new_book, slot_of, held_of}
 use Rattle.ll_journal.specs.Steps.{Does}
 use Rattle.ll_journal.specs.declared.progress.Progress as told
@@ -25,7 +25,7 @@ use Rattle.ll_journal.specs.declared.progress.Progress.TheVariants as tells
 use Rattle.ll_journal.specs.SlotTree.{accounts_of}
 use Rattle.ll_steps.specs.Contents.{held_at, told_as, IsKept}
 use Rattle.ll_steps.specs.Makes.{Makes}
-use Rattle.ll_worlds.proofs.Growth.{still_within}
+use Rattle.ll_laws.proofs.Growth.{still_within}
 
 -- ---- of a new tree
 

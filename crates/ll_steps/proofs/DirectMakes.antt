@@ -7,7 +7,7 @@ use Rattle.ll_laws.proofs.Chains.{same_Some}
 use Rattle.ll_rights.specs.declared.errno.Errno.{Errno}
 use Rattle.ll_rights.specs.declared.errno.Errno.TheVariants.{HistoryFull, NoMemory}
 use Rattle.ll_rights.specs.Map.{get, has}
-use Rattle.ll_held.specs.declared.held.Held.{Held}
+use Rattle.ll_node.specs.declared.held.Held.{Held}
 use Rattle.ll_seq.specs.declared.call.Call.{Call}
 use Rattle.ll_seq.specs.declared.call.Call.TheVariants as call
 use Rattle.ll_seq.specs.declared.client.ClientRecord.{ClientRecord}
@@ -16,14 +16,14 @@ use Rattle.ll_seq.specs.declared.reply.Reply.TheVariants.{Refused}
 use Rattle.ll_seq.specs.State.{new_client}
 use Rattle.ll_seq.specs.Step.{client_of}
 use Rattle.ll_seq.proofs.Results.{wants_memory}
-use Rattle.ll_worlds.specs.declared.step.Step.{Step}
-use Rattle.ll_worlds.specs.declared.step.Step.TheVariants.{Join, Begin, FdCommit, ClientStep}
-use Rattle.ll_worlds.specs.Sound.{IsSound}
-use Rattle.ll_worlds.specs.World as world
-use Rattle.ll_worlds.specs.World.{World, advance, shown, is_full, is_idle, is_on_descriptor, descriptor_of, next_number}
-use Rattle.ll_worlds.proofs.Shapes.{replied}
-use Rattle.ll_worlds.proofs.StepGrowth.{Went, went}
-use Rattle.ll_worlds.proofs.Tests.{both}
+use Rattle.ll_laws.specs.declared.step.Step.{Step}
+use Rattle.ll_laws.specs.declared.step.Step.TheVariants.{Join, Begin, FdCommit, ClientStep}
+use Rattle.ll_laws.specs.Sound.{IsSound}
+use Rattle.ll_laws.specs.World as world
+use Rattle.ll_laws.specs.World.{World, advance, shown, is_full, is_idle, is_on_descriptor, descriptor_of, next_number}
+use Rattle.ll_laws.proofs.Shapes.{replied}
+use Rattle.ll_laws.proofs.StepGrowth.{Went, went}
+use Rattle.ll_laws.proofs.Tests.{both}
 use Rattle.ll_journal.specs.Book.{Book, Spares, inode_in, slot_of}
 use Rattle.ll_journal.specs.Direct.{Answers, ComesBack, IsOpen}
 use Rattle.ll_journal.specs.Starving.{Starves, is_refusal, succeeds}

@@ -6,10 +6,10 @@ use Rattle.std.proofs.Common.{sym, ap, subst, ◌∙◌, inl, inr, arith}
 use Rattle.std.proofs.Math.Seq.{set-append_left}
 use Rattle.std.proofs.lemmas.List.{get_or-set_same, get_or_default, get_or_append_left, get_or-append-add, length-set}
 use Rattle.std.proofs.lemmas.List.{set-append_right}
-use Rattle.ll_held.specs.declared.held.Held.{Held}
-use Rattle.ll_held.specs.Lent.{vacant}
-use Rattle.ll_inodes.specs.InodeTable.{NotIn}
-use Rattle.ll_inodes.proofs.SlotLists.{same_or_not}
+use Rattle.ll_node.specs.declared.held.Held.{Held}
+use Rattle.ll_node.specs.Lent.{vacant}
+use Rattle.ll_node.specs.InodeTable.{NotIn}
+use Rattle.ll_node.proofs.SlotLists.{same_or_not}
 use Rattle.ll_journal.specs.Book.{Book, Spares, slot_of}
 use Rattle.ll_journal.specs.SlotTree.{accounts_of}
 use Rattle.ll_steps.specs.Contents.{held_at}

@@ -1,9 +1,11 @@
-pub mod Trading
-pub mod ContentsKept
 pub mod Adding
-pub mod LentContents
+pub mod ContentsKept
 pub mod DirectMakes
-pub mod WalkMakes
+pub mod LentContents
 pub mod Nearing
-pub mod StepKinds
 pub mod NextSteps
+pub mod Reading
+pub mod StepKinds
+pub mod Trading
+pub mod WalkMakes
+pub mod Wholes

@@ -15,13 +15,13 @@ use Rattle.ll_seq.specs.Call.{first_path, second_path}
 use Rattle.ll_seq.specs.State.{State, Name, root}
 use Rattle.ll_rules.specs.Layer.{Layer}
 use Rattle.ll_laws.proofs.Chains.{same_Some}
-use Rattle.ll_worlds.specs.declared.step.Step.TheVariants.{Descend, Fork, Restart}
-use Rattle.ll_worlds.specs.Walk.{Walk, Leg, Position, Above, Down, Split, further, further_by, turn, with_turn, forked}
-use Rattle.ll_worlds.specs.Walk.{is_above, has_two_paths, toward, directory_under, leg_below, trunk_path, first_leg}
-use Rattle.ll_worlds.specs.Walks.{AreFew}
-use Rattle.ll_worlds.specs.World.{World, Outcome, NotNow, Begun, Stands, Forked, Restarted, Replied, Joined, shown}
-use Rattle.ll_worlds.specs.World.{domain_of, is_marked, with_walk, enter, stand, descend, fork, restart, advance}
-use Rattle.ll_worlds.proofs.Shapes.{entered, may_hold, restarted, stood, walking}
+use Rattle.ll_laws.specs.declared.step.Step.TheVariants.{Descend, Fork, Restart}
+use Rattle.ll_laws.specs.Walk.{Walk, Leg, Position, Above, Down, Split, further, further_by, turn, with_turn, forked}
+use Rattle.ll_laws.specs.Walk.{is_above, has_two_paths, toward, directory_under, leg_below, trunk_path, first_leg}
+use Rattle.ll_laws.specs.Walks.{AreFew}
+use Rattle.ll_laws.specs.World.{World, Outcome, NotNow, Begun, Stands, Forked, Restarted, Replied, Joined, shown}
+use Rattle.ll_laws.specs.World.{domain_of, is_marked, with_walk, enter, stand, descend, fork, restart, advance}
+use Rattle.ll_laws.proofs.Shapes.{entered, may_hold, restarted, stood, walking}
 use Rattle.ll_steps.specs.Left.{most_steps, way_left, walk_left, steps_left}
 
 here : (m : Map nat_cmp Walk) (number : ℕ) (walk : Walk) → get (insert m number walk) number ≡ Some walk

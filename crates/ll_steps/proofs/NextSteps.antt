@@ -10,14 +10,14 @@ use Rattle.ll_seq.specs.declared.call.Call.{Call}
 use Rattle.ll_seq.specs.Call.{first_path, second_path}
 use Rattle.ll_seq.specs.State.{Name, State}
 use Rattle.ll_laws.proofs.Chains.{same_Some}
-use Rattle.ll_worlds.specs.declared.step.Step.TheVariants.{Commit, Descend, Fork, Restart}
-use Rattle.ll_worlds.specs.Walk.{Walk, Leg, Position, Above, Down, Split, at_ends, directory_under, forked, further}
-use Rattle.ll_worlds.specs.Walk.{further_by, has_two_paths, is_blocked, leg_below, toward, turn}
-use Rattle.ll_worlds.specs.Walks.{AreFew}
-use Rattle.ll_worlds.specs.World as world
-use Rattle.ll_worlds.specs.World.{World, domain_of, fork, restart, shown, stand, with_walk}
-use Rattle.ll_worlds.proofs.Shapes.{leg_is_blocked, restarted}
-use Rattle.ll_worlds.proofs.Tests.{both, not_true}
+use Rattle.ll_laws.specs.declared.step.Step.TheVariants.{Commit, Descend, Fork, Restart}
+use Rattle.ll_laws.specs.Walk.{Walk, Leg, Position, Above, Down, Split, at_ends, directory_under, forked, further}
+use Rattle.ll_laws.specs.Walk.{further_by, has_two_paths, is_blocked, leg_below, toward, turn}
+use Rattle.ll_laws.specs.Walks.{AreFew}
+use Rattle.ll_laws.specs.World as world
+use Rattle.ll_laws.specs.World.{World, domain_of, fork, restart, shown, stand, with_walk}
+use Rattle.ll_laws.proofs.Shapes.{leg_is_blocked, restarted}
+use Rattle.ll_laws.proofs.Tests.{both, not_true}
 use Rattle.ll_journal.specs.Book.{Book}
 use Rattle.ll_journal.specs.NextStep.{IsAtStop}
 use Rattle.ll_journal.specs.Stations.{station_at, station_in, station_of}

@@ -5,13 +5,13 @@ use Rattle.std.proofs.Common.{sym, ap, subst, ◌∙◌, inl, inr}
 use Rattle.ll_rights.specs.Map.{get}
 use Rattle.ll_seq.specs.declared.call.Call.{Call}
 use Rattle.ll_seq.specs.State.{root}
-use Rattle.ll_worlds.specs.declared.step.Step.{Step}
-use Rattle.ll_worlds.specs.declared.step.Step.TheVariants.{Begin, Descend, Fork, Restart, FdCommit, ClientStep}
-use Rattle.ll_worlds.specs.Walk.{Walk, Leg, Position, further, turn, forked, is_above}
-use Rattle.ll_worlds.specs.World as world
-use Rattle.ll_worlds.specs.World.{World, shown, domain_of, is_marked, with_walk, enter, stand, descend, fork, restart}
-use Rattle.ll_worlds.specs.World.{advance}
-use Rattle.ll_worlds.proofs.Shapes.{entered, may_hold, restarted, stood, walking}
+use Rattle.ll_laws.specs.declared.step.Step.{Step}
+use Rattle.ll_laws.specs.declared.step.Step.TheVariants.{Begin, Descend, Fork, Restart, FdCommit, ClientStep}
+use Rattle.ll_laws.specs.Walk.{Walk, Leg, Position, further, turn, forked, is_above}
+use Rattle.ll_laws.specs.World as world
+use Rattle.ll_laws.specs.World.{World, shown, domain_of, is_marked, with_walk, enter, stand, descend, fork, restart}
+use Rattle.ll_laws.specs.World.{advance}
+use Rattle.ll_laws.proofs.Shapes.{entered, may_hold, restarted, stood, walking}
 use Rattle.ll_steps.specs.declared.report.Report.{Report}
 use Rattle.ll_steps.specs.declared.report.Report.TheVariants as report
 use Rattle.ll_steps.specs.Calling.{Waits, Leads, Calls, walks}

@@ -7,25 +7,25 @@ use Rattle.std.proofs.Common.{sym, ap, subst, ◌∙◌, inl, inr}
 use Rattle.std.proofs.lemmas.Bool.{eq-eqb}
 use Rattle.ll_laws.proofs.Chains.{same_Some}
 use Rattle.ll_rights.specs.declared.errno.Errno.TheVariants.{HistoryFull}
-use Rattle.ll_held.specs.declared.held.Held.{Held}
-use Rattle.ll_inodes.specs.InodeTable.{NotIn}
+use Rattle.ll_node.specs.declared.held.Held.{Held}
+use Rattle.ll_node.specs.InodeTable.{NotIn}
 use Rattle.ll_rights.specs.Map.{get}
 use Rattle.ll_path.specs.Path.{is_root}
 use Rattle.ll_seq.specs.declared.call.Call.{Call}
 use Rattle.ll_seq.specs.declared.reply.Reply.TheVariants.{Refused}
 use Rattle.ll_seq.specs.State.{root}
 use Rattle.ll_seq.proofs.Parted.{or_left, or_right}
-use Rattle.ll_worlds.specs.declared.step.Step.{Step}
-use Rattle.ll_worlds.specs.declared.step.Step.TheVariants.{Descend, Commit}
-use Rattle.ll_worlds.specs.Walk.{Walk, Leg, Position, Above, Down, Split, further, turn, legs, marks, is_above, at_ends}
-use Rattle.ll_worlds.specs.Walk.{has_two_paths}
-use Rattle.ll_worlds.specs.World.{World, Outcome, NotNow, Stands, Replied, advance, shown, is_marked_by_other}
-use Rattle.ll_worlds.specs.World.{last_nodes, domain_of, is_marked, stand, enter, descend}
-use Rattle.ll_worlds.proofs.Tests.{not_true}
-use Rattle.ll_worlds.proofs.SoundSteps.{sound_ended}
-use Rattle.ll_worlds.proofs.WalkMaps.{found}
-use Rattle.ll_worlds.specs.Sound.{IsSound}
-use Rattle.ll_worlds.proofs.Shapes.{leg_is_blocked, stood}
+use Rattle.ll_laws.specs.declared.step.Step.{Step}
+use Rattle.ll_laws.specs.declared.step.Step.TheVariants.{Descend, Commit}
+use Rattle.ll_laws.specs.Walk.{Walk, Leg, Position, Above, Down, Split, further, turn, legs, marks, is_above, at_ends}
+use Rattle.ll_laws.specs.Walk.{has_two_paths}
+use Rattle.ll_laws.specs.World.{World, Outcome, NotNow, Stands, Replied, advance, shown, is_marked_by_other}
+use Rattle.ll_laws.specs.World.{last_nodes, domain_of, is_marked, stand, enter, descend}
+use Rattle.ll_laws.proofs.Tests.{not_true}
+use Rattle.ll_laws.proofs.SoundSteps.{sound_ended}
+use Rattle.ll_laws.proofs.WalkMaps.{found}
+use Rattle.ll_laws.specs.Sound.{IsSound}
+use Rattle.ll_laws.proofs.Shapes.{leg_is_blocked, stood}
 use Rattle.ll_journal.specs.Book.{Book, Spares, inode_in, slot_of, has_mark}
 use Rattle.ll_journal.specs.Steps.{Does, GoesDown, IsNext, IsInTurn, IsAstrayAt, IsAstrayAtTop}
 use Rattle.ll_journal.specs.Steps.{is_at_top, leg_in_turn}

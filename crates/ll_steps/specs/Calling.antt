@@ -1,10 +1,10 @@
 -- What comes of all steps of a call, which are made one after the other. own
 use Rattle.std.specs.Prelude.{◌≡◌, ◌≢◌, ◌⊎◌, ℕ}
 use Rattle.ll_seq.specs.declared.call.Call.{Call}
-use Rattle.ll_worlds.specs.declared.step.Step.{Step}
-use Rattle.ll_worlds.specs.declared.step.Step.TheVariants.{Begin, Descend, Fork, Commit, Restart, FdCommit, ClientStep}
-use Rattle.ll_worlds.specs.World as world
-use Rattle.ll_worlds.specs.World.{World, advance}
+use Rattle.ll_laws.specs.declared.step.Step.{Step}
+use Rattle.ll_laws.specs.declared.step.Step.TheVariants.{Begin, Descend, Fork, Commit, Restart, FdCommit, ClientStep}
+use Rattle.ll_laws.specs.World as world
+use Rattle.ll_laws.specs.World.{World, advance}
 use Rattle.ll_steps.specs.declared.report.Report.{Report}
 use Rattle.ll_steps.specs.declared.report.Report.TheVariants as report
 use Rattle.ll_steps.specs.Makes.{Makes}

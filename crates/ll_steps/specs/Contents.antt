@@ -1,10 +1,10 @@
 -- What lies in the slots, and how it is tied to the journal. No public contract cites it. own
 use Rattle.std.specs.Prelude.{◌≡◌, ℕ, ◌≤◌, List, length, slice_index_or}
-use Rattle.ll_held.specs.declared.held.Held.{Held}
-use Rattle.ll_held.specs.Lent.{vacant}
+use Rattle.ll_node.specs.declared.held.Held.{Held}
+use Rattle.ll_node.specs.Lent.{vacant}
 use Rattle.ll_journal.specs.Book.{Book}
 use Rattle.ll_journal.specs.SlotTree.{accounts_of}
-use Rattle.ll_worlds.specs.Sound.{IsSound}
+use Rattle.ll_laws.specs.Sound.{IsSound}
 use Rattle.ll_journal.specs.declared.progress.Progress as journal
 use Rattle.ll_journal.specs.declared.progress.Progress.TheVariants as told
 use Rattle.ll_journal.specs.declared.progress.Ending.{Ending}

@@ -5,10 +5,10 @@ use Rattle.ll_laws.specs.Withheld.{Withholds}
 use Rattle.ll_seq.specs.declared.reply.Entry.{Entry}
 use Rattle.ll_seq.specs.State.{start}
 use Rattle.ll_seq.specs.History.{IsLegal}
-use Rattle.ll_worlds.specs.declared.step.Step.{Step}
-use Rattle.ll_worlds.specs.World.{World}
-use Rattle.ll_worlds.specs.Growing.{Came}
-use Rattle.ll_worlds.specs.Walks.{AreValid, AreApart, AreFew, GateIsHeld}
+use Rattle.ll_laws.specs.declared.step.Step.{Step}
+use Rattle.ll_laws.specs.World.{World}
+use Rattle.ll_laws.specs.Growing.{Came}
+use Rattle.ll_laws.specs.Walks.{AreValid, AreApart, AreFew, GateIsHeld}
 use Rattle.ll_steps.specs.declared.report.Report.{Report}
 use Rattle.ll_steps.specs.Makes.{Makes, Adds}
 

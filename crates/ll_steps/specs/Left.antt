@@ -5,9 +5,9 @@ use Rattle.ll_rights.specs.Map.{get}
 use Rattle.ll_path.specs.Path.{parent}
 use Rattle.ll_seq.specs.declared.call.Call.{Call}
 use Rattle.ll_seq.specs.Call.{first_path, second_path}
-use Rattle.ll_worlds.specs.Walk.{Walk, Position, Above, Down, Split, trunk_path}
-use Rattle.ll_worlds.specs.World.{World}
-use Rattle.ll_worlds.specs.declared.step.Step.TheVariants.{Commit}
+use Rattle.ll_laws.specs.Walk.{Walk, Position, Above, Down, Split, trunk_path}
+use Rattle.ll_laws.specs.World.{World}
+use Rattle.ll_laws.specs.declared.step.Step.TheVariants.{Commit}
 use Rattle.ll_steps.specs.Calling.{GoesOn, Leads, Waits}
 use Rattle.ll_steps.specs.declared.report.Report.{Report}
 

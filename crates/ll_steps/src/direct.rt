@@ -2,7 +2,7 @@
 
 ghost use Rattle.std.specs.Prelude.{◌≡◌, ◌≢◌, IfSome, IfNone, IfOk, IfErr, OnErr};
 ghost use Rattle.ll_steps.specs.Contents.{answered_as};
-ghost use Rattle.ll_worlds.specs.World as world;
+ghost use Rattle.ll_laws.specs.World as world;
 
 use crate::report::Report;
 use crate::world::World;
@@ -34,7 +34,7 @@ pub(crate) fn descriptor_of(call: &Call) -> Option<u64>
 }
 
 impl World {
-    ghost use Rattle.ll_worlds.specs.declared.step.Step.TheVariants as steps;
+    ghost use Rattle.ll_laws.specs.declared.step.Step.TheVariants as steps;
     ghost use Rattle.ll_steps.specs.Calling.{Calls, Waits};
     ghost use Rattle.ll_steps.specs.Makes.{Makes};
 

@@ -12,8 +12,8 @@ use crate::report::Report;
 use crate::slots::Hands;
 use crate::walk::{commit_with, descend_between, enter_at, fork_in, restart_with};
 use crate::world::World;
-use ll_held::Held;
 use ll_journal::{Journal, Next};
+use ll_node::Held;
 use ll_seq::Call;
 
 /// The slot of the directory where the leg in turn of the client's walk stands, or the root's where none stands.

@@ -5,12 +5,11 @@ ghost use Rattle.std.specs.List.{AllByRecursion};
 ghost use Rattle.ll_rights.specs.declared.limits.TheConstants.{TREE_CLIENTS, TREE_NODES};
 ghost use Rattle.ll_rights.specs.declared.kind.Kind.TheVariants.{Dir};
 ghost use Rattle.ll_seq.specs.State.{root};
-ghost use Rattle.ll_held.specs.Lent as lent;
-ghost use Rattle.ll_inodes.specs.InodeTable.{AreDistinct, NotIn};
+ghost use Rattle.ll_node.specs.Lent as lent;
+ghost use Rattle.ll_node.specs.InodeTable.{AreDistinct, NotIn};
 ghost use Rattle.ll_steps.specs.Contents.{held_at};
 
-use ll_held::Held;
-use ll_node::Slot;
+use ll_node::{Held, Slot};
 use ll_rights::Kind;
 use ll_rights::limits::TREE_CLIENTS;
 use ll_seq::ROOT;

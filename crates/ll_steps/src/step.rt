@@ -6,8 +6,8 @@ ghost use Rattle.ll_steps.specs.Makes.{Makes};
 
 use crate::report::Report;
 use crate::world::World;
+use ll_laws::Step;
 use ll_seq::Call;
-use ll_worlds::Step;
 use std::alloc::AllocError;
 
 /// Of a call that came back.

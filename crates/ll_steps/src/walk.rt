@@ -3,12 +3,12 @@
 ghost use Rattle.std.specs.Prelude.{◌≡◌, ◌≢◌, ℕ, ◌<◌, ◌≤◌, true, false, Some, IfOk, IfErr, OnErr, length};
 ghost use Rattle.std.specs.List.{AllByRecursion};
 ghost use Rattle.ll_rights.specs.Map.{get};
-ghost use Rattle.ll_inodes.specs.InodeTable.{AreDistinct};
-ghost use Rattle.ll_worlds.specs.Walk as walks;
+ghost use Rattle.ll_node.specs.InodeTable.{AreDistinct};
+ghost use Rattle.ll_laws.specs.Walk as walks;
 ghost use Rattle.ll_seq.specs.State.{root};
 ghost use Rattle.ll_journal.specs.Book.{has_mark, inode_in};
 ghost use Rattle.ll_journal.specs.WalkEnds.{AreEnough, is_lent};
-ghost use Rattle.ll_worlds.specs.declared.step.Step.TheVariants as steps;
+ghost use Rattle.ll_laws.specs.declared.step.Step.TheVariants as steps;
 ghost use Rattle.ll_steps.specs.Contents.{IsKept, ended_as, told_as};
 ghost use Rattle.ll_journal.specs.Steps.{IsNext, is_at_top};
 ghost use Rattle.ll_steps.specs.Makes.{Makes};
@@ -16,8 +16,8 @@ ghost use Rattle.ll_steps.specs.Makes.{Makes};
 use crate::report::Report;
 use crate::slots::{Hands, trade};
 use crate::world::World;
-use ll_held::Held;
 use ll_journal::{Ending, Journal, Progress, Station};
+use ll_node::Held;
 use ll_rights::Errno;
 use ll_seq::Call;
 

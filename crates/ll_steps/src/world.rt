@@ -4,8 +4,8 @@ ghost use Rattle.std.specs.Prelude.{◌≡◌, ◌≤◌, IfOk};
 ghost use Rattle.ll_rights.specs.declared.limits.TheConstants.{HISTORY_ENTRIES, TREE_NODES};
 
 use crate::slots::{Hands, new_hands, new_slots};
-use ll_held::Held;
 use ll_journal::{Journal, Station};
+use ll_node::Held;
 use ll_seq::{History, Rules};
 use std::alloc::{AllocError, Global};
 use std::marker::Model;
@@ -20,7 +20,7 @@ pub struct World {
 }
 
 impl Model for World {
-    ghost use Rattle.ll_worlds.specs.World as world;
+    ghost use Rattle.ll_laws.specs.World as world;
     ghost use Rattle.ll_journal.specs.SeatCodes.{coded_world};
 
     ghost Value = { world.World };
@@ -36,7 +36,7 @@ impl Model for World {
 
 impl World {
     ghost use Rattle.ll_rights.specs.Map.{len};
-    ghost use Rattle.ll_worlds.specs.World.{new_world, shown};
+    ghost use Rattle.ll_laws.specs.World.{new_world, shown};
     ghost use Rattle.ll_journal.specs.Stations.{station_in};
 
     /// A tree of the root alone, in which so many nodes may live, without a client. Room is taken for so many entries

@@ -3,11 +3,12 @@
 ghost use Rattle.std.specs.Prelude.{◌≡◌, true};
 
 use crate::calls::target;
-use ll_client::{Account, Client, Desk, Leaving, Left, Locked, Opened, Rider, Shape, open};
+use ll_client::{
+    Account, Blank, Client, Desk, Leaving, Left, Locked, Opened, Rider, Shape, Tie, open,
+};
 use ll_journal::{Next, Progress};
 use ll_rights::{Abi, Kind};
 use ll_seq::{Call, ROOT, Reply, Rules};
-use ll_tie::{Blank, Tie};
 use std::alloc::Global;
 use std::marker::Brand;
 

@@ -1,6 +1,6 @@
 //! Documents of policies: the faults that they are told, and the calls that they stand for.
 
-use ll_export::{Confinement, json_text};
+use ll_commands::{Confinement, json_text};
 use ll_options::{Denied, ExportOptions, Form};
 use ll_policy::{Policy, PolicyFault};
 use ll_rights::{Access, Kind};

@@ -1,11 +1,11 @@
 //! Replies that hold bytes or names: memory for the history's and for the caller's is found, and for a copy of them.
 
 use crate::calls::target;
+use ll_laws::Step;
 use ll_path::Data;
 use ll_rights::Abi;
 use ll_seq::{AccessMode, Call, Creation, Mode, Reply, Rules};
 use ll_steps::{Report, World};
-use ll_worlds::Step;
 use std::alloc::{AllocError, Global};
 
 const RULES: Rules = Rules {

@@ -3,9 +3,8 @@
 ghost use Rattle.std.specs.Prelude.{◌≡◌};
 
 use crate::fuse::{Sink, Source};
-use ll_audit::audit;
+use ll_audit::{FileAuditFault, SaveFault, Untold, Verdict, audit, run_audit, save};
 use ll_rights::Abi;
-use ll_saved::{FileAuditFault, SaveFault, Untold, Verdict, run_audit, save};
 use ll_seq::{Call, Entry, History, Reply, Rules};
 use ll_wire::{Header, Version};
 use std::alloc::Global;

@@ -4,10 +4,10 @@
 //! small functions, each slow thing once, since that is quick to prove.
 
 use crate::fuse::{Sink, Source, Stuck};
-use ll_lines::SessionFault;
 use ll_rights::Abi;
 use ll_seq::{History, Rules};
 use ll_session::{RunFault, Setup, run_script};
+use ll_wire::SessionFault;
 use std::alloc::Global;
 use std::sync::Wait;
 

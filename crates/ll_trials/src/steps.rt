@@ -6,11 +6,11 @@
 ghost use Rattle.std.specs.Prelude.{◌≤◌};
 ghost use Rattle.ll_rights.specs.declared.limits.TheConstants.{HISTORY_ENTRIES};
 
+use ll_laws::Step;
 use ll_rights::Abi;
 use ll_seq::{Entry, Reply, Rules};
 use ll_steps::{Report, World};
 use ll_wire::{ScheduleLine, line_text, read_schedule_line, reply_text_behind};
-use ll_worlds::Step;
 use std::alloc::{AllocError, Global};
 use std::test::Fail;
 

@@ -3,7 +3,7 @@
 ghost use Rattle.std.specs.Prelude.{◌≡◌, None, Some};
 ghost use Rattle.ll_rights.specs.Map.{get, insert};
 
-use ll_tie::{Blank, Keeper, Naming, Pass, Tie};
+use ll_client::{Blank, Keeper, Naming, Pass, Tie};
 use std::marker::Brand;
 
 /// A pass that shows the value under the number.

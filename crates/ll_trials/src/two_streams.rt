@@ -10,12 +10,12 @@ use crate::watched::{TrialEnd, end_of_trial};
 use crossbeam_channel::unbounded;
 use ll_audit::audit;
 use ll_calls::Tree;
-use ll_client::{Account, Client, Locked, Shape};
+use ll_client::{Account, Blank, Client, Locked, Shape};
 use ll_rights::{Abi, Kind};
 use ll_seq::Rules;
-use ll_serve::{Host, Served, Stream, Watches, add_all, gather, hand_over, serve_streams};
-use ll_session::NoKeeper;
-use ll_tie::Blank;
+use ll_session::{
+    Host, NoKeeper, Served, Stream, Watches, add_all, gather, hand_over, serve_streams,
+};
 use ll_walk::Gate;
 use std::alloc::Global;
 use std::io;

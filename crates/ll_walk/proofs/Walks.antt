@@ -1,7 +1,7 @@
 -- A client along its walk.
 use Rattle.std.proofs.Common.{◌≡◌, ℕ, Option, Some, None, ap, sym, ◌∙◌, subst, refl}
 use Rattle.std.specs.Prelude.{true, [], ◌∷◌, ◌++◌}
-use Rattle.ll_answer.specs.Passed.{has_path}
+use Rattle.ll_seq.specs.Passed.{has_path}
 use Rattle.ll_seq.specs.Memory.{takes_memory}
 use Rattle.ll_seq.specs.declared.call.Call.{Call}
 use Rattle.ll_journal.specs.declared.direct.Made.{Made}

@@ -2,7 +2,7 @@
 use Rattle.std.specs.Prelude.{◌≡◌, ◌⊎◌, ℕ, ◌<◌, List, map, Option, Some, None, ⊤, true}
 use Rattle.std.specs.List.{AllByRecursion}
 use Rattle.ll_rights.specs.Map.{get}
-use Rattle.ll_answer.specs.Passed.{has_path}
+use Rattle.ll_seq.specs.Passed.{has_path}
 use Rattle.ll_seq.specs.declared.call.Call.{Call}
 use Rattle.ll_journal.specs.declared.direct.Made.{Made}
 use Rattle.ll_journal.specs.declared.progress.Progress.{Progress}

@@ -5,8 +5,8 @@ ghost use Rattle.std.specs.Sync.Mutex.{mutex_guard_value};
 ghost use Rattle.ll_seq.specs.declared.call.Call.TheVariants as calls;
 ghost use Rattle.ll_seq.specs.declared.reply.Reply.TheVariants as replies;
 ghost use Rattle.ll_seq.specs.declared.client.Descriptor as descriptor;
-ghost use Rattle.ll_worlds.specs.World.{Joined, Replied, World, advance, next_number};
-ghost use Rattle.ll_worlds.specs.declared.step.Step.TheVariants.{ClientStep, FdCommit, Join};
+ghost use Rattle.ll_laws.specs.World.{Joined, Replied, World, advance, next_number};
+ghost use Rattle.ll_laws.specs.declared.step.Step.TheVariants.{ClientStep, FdCommit, Join};
 ghost use Rattle.ll_journal.specs.Book.{Book, inode_in};
 ghost use Rattle.ll_journal.specs.Direct.{Answers, ComesBack, IsOpen};
 ghost use Rattle.ll_journal.specs.Starts.{Starts};
@@ -16,11 +16,10 @@ ghost use Rattle.ll_client.specs.Gains.{Gains, Told};
 ghost use Rattle.ll_walk.specs.Sections.{Shows};
 
 use crate::section::Section;
-use ll_client::{Account, Client, Locked, Rider, Shape};
+use ll_client::{Account, Client, Locked, Rider, Shape, Tie};
 use ll_journal::{Made, Start, Unmade};
 use ll_rights::Errno;
 use ll_seq::Call;
-use ll_tie::Tie;
 
 impl<'a, N: Shape> Section<'a, N> {
     /// What becomes of the client's call: it is made, or its walk is under way, or it comes back.

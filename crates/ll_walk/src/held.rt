@@ -5,8 +5,7 @@ ghost use Rattle.std.specs.List.{AllByRecursion};
 ghost use Rattle.ll_client.specs.Gains.{Goes};
 
 use crate::section::Section;
-use ll_client::{Account, Leaving, Left, Locked, Rider, Shape};
-use ll_tie::Tie;
+use ll_client::{Account, Leaving, Left, Locked, Rider, Shape, Tie};
 use std::sync::MutexGuard;
 
 /// A slot that is held, if it is.

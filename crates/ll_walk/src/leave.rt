@@ -7,8 +7,7 @@ ghost use Rattle.ll_client.specs.Gains.{Goes, IsAstray, Leaves};
 ghost use Rattle.ll_walk.specs.Sections.{Shows};
 
 use crate::section::Section;
-use ll_client::{Account, Leaving, Left, Locked, Rider, Shape};
-use ll_tie::Tie;
+use ll_client::{Account, Leaving, Left, Locked, Rider, Shape, Tie};
 
 impl<'a, N: Shape> Section<'a, N> {
     /// The client's walk is left, with one slot.

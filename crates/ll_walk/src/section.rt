@@ -8,17 +8,16 @@ ghost use Rattle.ll_journal.specs.InWay.{IsFreeFrom, IsInWay};
 ghost use Rattle.ll_journal.specs.NextStep.{ComesNext};
 ghost use Rattle.ll_journal.specs.Onward.{Names};
 ghost use Rattle.ll_journal.specs.Steps.{Does};
-ghost use Rattle.ll_worlds.specs.declared.step.Step.TheVariants.{Descend, Fork};
+ghost use Rattle.ll_laws.specs.declared.step.Step.TheVariants.{Descend, Fork};
 ghost use Rattle.ll_walk.specs.Sections.{AreThere, IsComing, IsView, IsViewAfter, IsViewFrom, Sees, SeesAfter, Shows};
 ghost use Rattle.ll_seq.specs.declared.call.Call.{Call};
 ghost use Rattle.ll_seq.specs.History.{IsLegal};
 ghost use Rattle.ll_seq.specs.State.{start};
-ghost use Rattle.ll_worlds.specs.Walks.{AreApart, AreFew, AreValid, GateIsHeld};
+ghost use Rattle.ll_laws.specs.Walks.{AreApart, AreFew, AreValid, GateIsHeld};
 ghost use Rattle.ll_journal.specs.SlotTree.{HoldTree, accounts_of};
 
-use ll_client::{Account, Client, Desk, Locked, ReadsHistory, Rider, Shape};
+use ll_client::{Account, Client, Desk, Locked, ReadsHistory, Rider, Shape, Tie};
 use ll_journal::{Next, Onward, Progress, Station};
-use ll_tie::Tie;
 use std::sync::MutexGuard;
 
 /// What is seen of a walk past its fork: where it is, and which step comes next.

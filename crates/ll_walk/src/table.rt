@@ -8,9 +8,8 @@ ghost use Rattle.ll_rights.specs.declared.limits.TheConstants.{HISTORY_ENTRIES, 
 
 use crate::gate::Gate;
 use crate::section::Section;
-use ll_client::{Account, Client, Desk, Locked, Opened, Shape, close, open};
+use ll_client::{Account, Blank, Client, Desk, Locked, Opened, Shape, Tie, close, open};
 use ll_seq::{History, Rules};
-use ll_tie::{Blank, Tie};
 use std::alloc::{AllocError, Global};
 use std::hint::spin_loop;
 use std::sync::atomic::{AtomicU64, Ordering};

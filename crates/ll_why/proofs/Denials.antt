@@ -18,7 +18,7 @@ use Rattle.ll_decide.specs.Search.{of_layer, of_right}
 use Rattle.ll_decide.specs.Verdict.{Ask, Move, denials, gains, lacks, places, rights_without_refer, verdict, when}
 use Rattle.ll_decide.proofs.Sets.{below_all, below_others, below_refer}
 use Rattle.ll_seq.proofs.StepParts.{none_first}
-use Rattle.ll_answer.proofs.Walked.{one_free, other_free}
+use Rattle.ll_seq.proofs.Walked.{one_free, other_free}
 use Rattle.ll_why.specs.Places.{denies}
 
 each : {A : Type 0} (P Q : A → Type 0) (xs : List A) → ((x : A) → P x → Q x) → AllByRecursion P xs

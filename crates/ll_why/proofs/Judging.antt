@@ -21,9 +21,9 @@ use Rattle.ll_seq.specs.declared.client.ClientRecord.{ClientRecord}
 use Rattle.ll_seq.specs.declared.reply.Reply.{Reply}
 use Rattle.ll_seq.specs.declared.reply.Reply.TheVariants.{Refused, Denied}
 use Rattle.ll_seq.proofs.StepParts.{afterwards, denied, none_refused, refused_late, comes_to}
-use Rattle.ll_answer.proofs.Asking.{verdict_same}
-use Rattle.ll_answer.specs.Demanded.{AreDemands, chains}
-use Rattle.ll_answer.specs.Passed.{before_policy}
+use Rattle.ll_seq.proofs.Asking.{verdict_same}
+use Rattle.ll_seq.specs.Demanded.{AreDemands, chains}
+use Rattle.ll_seq.specs.Passed.{before_policy}
 use Rattle.ll_why.specs.Reasons.{IsJudgedSo, IsNotDenied, kept_number}
 
 -- what the layers judge

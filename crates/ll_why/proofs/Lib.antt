@@ -1,7 +1,11 @@
-pub mod Sets
-pub mod Judging
-pub mod Denials
-pub mod Ruling
 pub mod Choosing
-pub mod Leasts
 pub mod Clearing
+pub mod Denials
+pub mod Growing
+pub mod Judging
+pub mod Leasts
+pub mod Names
+pub mod Numbered
+pub mod Openings
+pub mod Ruling
+pub mod Sets

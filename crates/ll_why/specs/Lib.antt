@@ -1,6 +1,11 @@
 pub mod Chains
 pub mod Changes
+pub mod Entries
+pub mod Explained
 pub mod Grants
+pub mod Names
+pub mod Opening
 pub mod Places
 pub mod Reasons
 pub mod Rights
+pub mod Told

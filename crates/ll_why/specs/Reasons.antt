@@ -16,9 +16,9 @@ use Rattle.ll_seq.specs.declared.call.Call.TheVariants.{Ftruncate}
 use Rattle.ll_seq.specs.declared.client.ClientRecord.{ClientRecord}
 use Rattle.ll_seq.specs.declared.reply.Reply.TheVariants as reply
 use Rattle.ll_seq.specs.State.{State}
-use Rattle.ll_answer.specs.Decided.{IsRefused}
-use Rattle.ll_answer.specs.Demanded.{AreDemands, chains}
-use Rattle.ll_answer.specs.Passed.{before_policy}
+use Rattle.ll_seq.specs.Decided.{IsRefused}
+use Rattle.ll_seq.specs.Demanded.{AreDemands, chains}
+use Rattle.ll_seq.specs.Passed.{before_policy}
 use Rattle.ll_why.specs.Grants.{AreGrants}
 use Rattle.ll_why.specs.declared.asks.Asks.{Asks}
 use Rattle.ll_why.specs.declared.grants.Grants.{Grants}

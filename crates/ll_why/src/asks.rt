@@ -1,15 +1,14 @@
 //! What a call asks of each layer, and where.
 
 ghost use Rattle.std.specs.Prelude.{IfOk};
-ghost use Rattle.ll_answer.specs.Passed.{Passed};
+ghost use Rattle.ll_seq.specs.Passed.{Passed};
 ghost use Rattle.ll_seq.specs.declared.client.ClientRecord as record_of;
 ghost use Rattle.ll_why.specs.Reasons.{AreAsked};
 
 use crate::chain::PathChains;
-use ll_answer::{Found, demands_of};
 use ll_decide::Demands;
 use ll_plain::Plain;
-use ll_seq::Call;
+use ll_seq::{Call, Found, demands_of};
 use std::alloc::{AllocError, Global};
 
 /// What a call asks of each layer, and the inodes of its two paths, which are one where it has only one.

@@ -7,10 +7,9 @@ ghost use Rattle.ll_seq.specs.State.{State};
 ghost use Rattle.ll_seq.specs.Call.{first_path, path_of, second_path};
 ghost use Rattle.ll_why.specs.Chains.{AreChains, IsChain};
 
-use ll_answer::{Targets, targets_of};
 use ll_path::{Names, Path, Target};
 use ll_plain::Plain;
-use ll_seq::{Call, ROOT};
+use ll_seq::{Call, ROOT, Targets, targets_of};
 use std::alloc::{AllocError, Global};
 
 /// The inodes of a path, from the root on, as far as its names lead.

@@ -1,7 +1,7 @@
 //! Why a client's call is denied, or isn't.
 
 ghost use Rattle.std.specs.Prelude.{◌≡◌, ℕ, None, IfOk, slice_get};
-ghost use Rattle.ll_answer.specs.Passed.{Passed};
+ghost use Rattle.ll_seq.specs.Passed.{Passed};
 ghost use Rattle.ll_seq.specs.Asked.{call_denials};
 ghost use Rattle.ll_seq.specs.State.{State};
 ghost use Rattle.ll_seq.specs.Step.{client_of};
@@ -10,11 +10,10 @@ ghost use Rattle.ll_why.specs.Reasons.{IsAnswered, IsReason, IsWhy, kept_number}
 
 use crate::asks::Asks;
 use crate::reason::{Reason, denial_of, layer_reasons};
-use ll_answer::{Found, refused_early, refused_found};
 use ll_decide::{Cause, Denial, Place};
 use ll_plain::Plain;
 use ll_rights::{Errno, Right};
-use ll_seq::{Call, ClientRecord};
+use ll_seq::{Call, ClientRecord, Found, refused_early, refused_found};
 use std::alloc::{AllocError, Global};
 
 /// Why a client's call is denied, or isn't.

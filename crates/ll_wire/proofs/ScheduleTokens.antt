@@ -11,8 +11,8 @@ use Rattle.std.proofs.lemmas.Fmt.{decimal_injective}
 use Rattle.ll_rights.specs.declared.errno.Errno.{Errno}
 use Rattle.ll_seq.specs.declared.call.Call.{Call}
 use Rattle.ll_seq.specs.declared.call.Call.TheVariants.{Spawn}
-use Rattle.ll_worlds.specs.declared.step.Step.TheVariants.{Join, Begin, Descend, Fork, Commit, Restart, FdCommit}
-use Rattle.ll_worlds.specs.declared.step.Step.TheVariants.{ClientStep}
+use Rattle.ll_laws.specs.declared.step.Step.TheVariants.{Join, Begin, Descend, Fork, Commit, Restart, FdCommit}
+use Rattle.ll_laws.specs.declared.step.Step.TheVariants.{ClientStep}
 use Rattle.ll_wire.specs.Grammar.{call_tokens, IsCall, IsClient}
 use Rattle.ll_wire.specs.Parts.{ReadsCall, SpellsCall, SpellsClient}
 use Rattle.ll_wire.specs.Reads.{ReadsBy, holds_text}

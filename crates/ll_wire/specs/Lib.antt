@@ -1,9 +1,15 @@
+pub mod Cutting
+pub mod Devices
 pub mod Entries
 pub mod EntryParts
 pub mod Grammar
 pub mod Parts
-pub mod Reads
 pub mod Pieces
-pub mod Writing
+pub mod Reached
+pub mod Reads
 pub mod ScheduleLines
 pub mod ScheduleParts
+pub mod Settling
+pub mod Terminal
+pub mod Transcript
+pub mod Writing

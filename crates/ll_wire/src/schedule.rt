@@ -7,9 +7,9 @@ ghost use Rattle.ll_wire.specs.ScheduleParts.{SpellsLineTokens, SpellsBehind};
 
 use crate::read::{LINE_LIMIT, call_of};
 use crate::token::{body_of, named_client, tokens_of};
+use ll_laws::Step;
 use ll_rights::Errno;
 use ll_seq::Call;
-use ll_worlds::Step;
 use std::alloc::Global;
 
 /// What a line of a schedule asks for.

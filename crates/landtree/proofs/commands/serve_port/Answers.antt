@@ -1,9 +1,9 @@
 use Rattle.std.proofs.Common.{◌≡◌, ◌∙◌, ℕ, List, Option, None, Some, Bor, IfErr, IfSome, Result, Ok, Err, subst, ap}
 use Rattle.std.specs.Prelude.{option_map, unwrap_or}
-use Rattle.ll_files.specs.Sources.{text_in}
+use Rattle.ll_runs.specs.Sources.{text_in}
 use Rattle.ll_options.specs.Options.{ServeOrder, served_in}
 use Rattle.ll_runs.specs.declared.failure.Failure.{Failure}
-use Rattle.ll_serving.specs.Serving as serving
+use Rattle.ll_commands.specs.Serving as serving
 use Rattle.landtree.proofs.commands.serve_port.Goals as goal
 
 -- What is read of the policy's file is its text, if one is named

@@ -1,7 +1,7 @@
 use Rattle.std.proofs.Common.{◌≡◌, true, length, Some, refl, sym, subst, ◌∙◌}
 use Rattle.ll_seq.specs.declared.call.Call.{Call}
 use Rattle.ll_journal.specs.Book.{Book}
-use Rattle.ll_worlds.specs.declared.step.Step.TheVariants.{ClientStep}
+use Rattle.ll_laws.specs.declared.step.Step.TheVariants.{ClientStep}
 use Rattle.ll_client.specs.Entries.{AreAccounts, starved_in}
 use Rattle.ll_client.specs.Hands.{starved_if}
 use Rattle.ll_client.proofs.Starving.{GoOn, result_starves}

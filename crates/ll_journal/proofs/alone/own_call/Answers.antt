@@ -2,7 +2,7 @@ use Rattle.std.proofs.Common.{ap}
 use Rattle.ll_seq.specs.declared.call.Call.{Call}
 use Rattle.ll_seq.specs.Call.{targets}
 use Rattle.ll_seq.specs.History.{is_connect}
-use Rattle.ll_worlds.specs.World.{has_any, is_on_descriptor}
+use Rattle.ll_laws.specs.World.{has_any, is_on_descriptor}
 use Rattle.ll_journal.proofs.OwnCalls.{by_path}
 use Rattle.ll_journal.proofs.alone.own_call.Goals as goal
 

@@ -1,6 +1,6 @@
 use Rattle.std.proofs.Common.{rules, ℕ, nat_le, sym, subst, ◌∙◌, inr}
 use Rattle.ll_rights.specs.Map.{len}
-use Rattle.ll_worlds.specs.World as world
+use Rattle.ll_laws.specs.World as world
 use Rattle.ll_journal.specs.Checks.{StopsBetween}
 use Rattle.ll_journal.specs.CommitCheck.{check_of}
 use Rattle.ll_journal.proofs.check_commit.check_at_ends.Goals as goal

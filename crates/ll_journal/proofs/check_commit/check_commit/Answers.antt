@@ -1,7 +1,7 @@
 use Rattle.std.proofs.Common.{rules, ◌≡◌, nat_le, Option, None, sym, subst, ◌∙◌, inr}
 use Rattle.ll_rights.specs.Map.{len}
 use Rattle.ll_seq.specs.State.{Name}
-use Rattle.ll_worlds.specs.World as world
+use Rattle.ll_laws.specs.World as world
 use Rattle.ll_journal.specs.Checks.{StopsBy}
 use Rattle.ll_journal.specs.CommitCheck.{check_of}
 use Rattle.ll_journal.specs.Seated.{next_in}

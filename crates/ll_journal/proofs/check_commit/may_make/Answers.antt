@@ -1,6 +1,6 @@
 use Rattle.std.proofs.Common.{ap, ◌∙◌}
-use Rattle.ll_answer.specs.Near as near
-use Rattle.ll_answer.specs.declared.found.Spot.{Spot}
+use Rattle.ll_seq.specs.Near as near
+use Rattle.ll_seq.specs.declared.found.Spot.{Spot}
 use Rattle.ll_journal.specs.Checks.{found_last}
 use Rattle.ll_journal.proofs.LastNodes.{same_made}
 use Rattle.ll_journal.proofs.check_commit.may_make.Goals as goal

@@ -1,8 +1,8 @@
 use Rattle.std.specs.Prelude.{ℕ, List, slice_index_or}
 use Rattle.std.specs.List.{list_all}
 use Rattle.std.proofs.Common.{ap, sym, ◌∙◌}
-use Rattle.ll_answer.specs.Near.{nodes_of}
-use Rattle.ll_answer.specs.declared.found.Spot.{Spot}
+use Rattle.ll_seq.specs.Near.{nodes_of}
+use Rattle.ll_seq.specs.declared.found.Spot.{Spot}
 use Rattle.ll_journal.specs.Checks.{found_last}
 use Rattle.ll_journal.proofs.LastNodes.{same_nodes}
 use Rattle.ll_journal.proofs.check_commit.other_node.Goals as goal

@@ -2,7 +2,7 @@ use Rattle.std.specs.Prelude.{◌≡◌, ℕ, List, map, IfOk}
 use Rattle.std.proofs.Common.{subst, ap, ◌∙◌}
 use Rattle.ll_rights.specs.Map.{entries}
 use Rattle.ll_node.specs.Slot.{NameMap}
-use Rattle.ll_changes.proofs.NameMaps.{names-names_map}
+use Rattle.ll_node.proofs.NameMaps.{names-names_map}
 use Rattle.ll_journal.proofs.decide_end.names_of_lent.Goals as goal
 
 pub returns-in-None : goal.returns-in-None

@@ -2,8 +2,8 @@ use Rattle.std.specs.Prelude.{is_some}
 use Rattle.std.proofs.Common.{ap, subst, sym, ◌∙◌}
 use Rattle.ll_seq.specs.Facts.{AreKept}
 use Rattle.ll_seq.specs.declared.reply.Reply.TheVariants as reply
-use Rattle.ll_answer.specs.Effect.{told}
-use Rattle.ll_answer.specs.Near.{told_inodes}
+use Rattle.ll_seq.specs.Effect.{told}
+use Rattle.ll_seq.specs.Near.{told_inodes}
 use Rattle.ll_journal.proofs.ToldAnswers.{lent_told}
 use Rattle.ll_journal.proofs.decide_end.tell.Goals as goal
 

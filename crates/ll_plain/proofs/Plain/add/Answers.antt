@@ -6,7 +6,7 @@ use Rattle.ll_seq.specs.declared.dentries.Dentry.{Dentry}
 use Rattle.ll_seq.specs.State.{State, dentry}
 use Rattle.ll_seq.specs.Stages.{is_crowded}
 use Rattle.ll_seq.proofs.OrderedTables.{remove-insert}
-use Rattle.ll_answer.specs.Effect.{IsDirectory, dentry_at}
+use Rattle.ll_seq.specs.Effect.{IsDirectory, dentry_at}
 use Rattle.ll_plain.specs.Tables.{IsTied}
 use Rattle.ll_plain.specs.contracts.Plain.{the_view}
 use Rattle.ll_plain.proofs.Tied.{directory_there, name_back, nodes_node}

@@ -5,7 +5,7 @@ use Rattle.ll_seq.specs.State.{State, dentry}
 use Rattle.ll_seq.specs.Reach.{HasName}
 use Rattle.ll_seq.specs.Stages.{has_many_names, is_crowded}
 use Rattle.ll_seq.specs.Effects.{with_name}
-use Rattle.ll_answer.specs.Effect.{IsDirectory, dentry_at}
+use Rattle.ll_seq.specs.Effect.{IsDirectory, dentry_at}
 use Rattle.ll_plain.specs.Tables.{IsTied}
 use Rattle.ll_plain.specs.contracts.Plain.{the_view}
 use Rattle.ll_plain.proofs.Tied.{directory_there, named_there, nodes_name}

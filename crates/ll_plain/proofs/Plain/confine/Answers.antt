@@ -6,7 +6,7 @@ use Rattle.ll_seq.specs.declared.call.Call.TheVariants.{Confine}
 use Rattle.ll_seq.specs.Step.{client_of}
 use Rattle.ll_plain.proofs.Clients.{got_client, kept, client_changed}
 use Rattle.ll_plain.proofs.Records.{refused_if, not_refused, no_denials, number_below}
-use Rattle.ll_answer.proofs.Walked.{first_kept}
+use Rattle.ll_seq.proofs.Walked.{first_kept}
 use Rattle.ll_plain.proofs.StepParts.{refused_before, does, fails, both_free}
 use Rattle.ll_plain.specs.contracts.Plain.{the_view}
 use Rattle.ll_plain.proofs.Tied.{tied_client}

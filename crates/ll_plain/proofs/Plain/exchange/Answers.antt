@@ -4,7 +4,7 @@ use Rattle.ll_seq.specs.declared.dentries.Dentry.{Dentry}
 use Rattle.ll_seq.specs.State.{State}
 use Rattle.ll_seq.specs.Effects.{with_name}
 use Rattle.ll_seq.proofs.FactsKept.{kept_exchange}
-use Rattle.ll_answer.specs.Effect.{dentry_at}
+use Rattle.ll_seq.specs.Effect.{dentry_at}
 use Rattle.ll_plain.specs.Tables.{IsTied}
 use Rattle.ll_plain.specs.contracts.Plain.{the_view}
 use Rattle.ll_plain.proofs.Moved.{exchanged_names}

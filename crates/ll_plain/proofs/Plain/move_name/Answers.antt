@@ -4,7 +4,7 @@ use Rattle.ll_seq.specs.declared.dentries.Dentry.{Dentry}
 use Rattle.ll_seq.specs.State.{State, dentry}
 use Rattle.ll_seq.specs.Stages.{is_crowded}
 use Rattle.ll_seq.specs.Effects.{with_moved}
-use Rattle.ll_answer.specs.Effect.{IsDirectory, dentry_at}
+use Rattle.ll_seq.specs.Effect.{IsDirectory, dentry_at}
 use Rattle.ll_plain.specs.Tables.{IsTied}
 use Rattle.ll_plain.specs.contracts.Plain.{the_view}
 use Rattle.ll_plain.proofs.Moved.{moved_name}

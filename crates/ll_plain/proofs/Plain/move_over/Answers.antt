@@ -6,7 +6,7 @@ use Rattle.ll_seq.specs.State.{State}
 use Rattle.ll_seq.specs.Facts.{AreKept}
 use Rattle.ll_seq.specs.Effects.{let_go, lives, with_moved}
 use Rattle.ll_seq.proofs.FactsKept.{unlike}
-use Rattle.ll_answer.specs.Effect.{IsDirectory, dentry_at}
+use Rattle.ll_seq.specs.Effect.{IsDirectory, dentry_at}
 use Rattle.ll_plain.specs.Tables.{IsTied}
 use Rattle.ll_plain.specs.contracts.Plain.{the_view}
 use Rattle.ll_plain.proofs.Moved.{moved_over}

@@ -9,7 +9,7 @@ use Rattle.ll_seq.specs.declared.dentries.Dentry.{Dentry}
 use Rattle.ll_seq.specs.State.{State, empty_node}
 use Rattle.ll_seq.specs.Effects.{with_node}
 use Rattle.ll_seq.proofs.DentryOrder.{dentry_total, dentry_exact}
-use Rattle.ll_answer.specs.Effect.{dentry_at}
+use Rattle.ll_seq.specs.Effect.{dentry_at}
 use Rattle.ll_plain.specs.contracts.Plain.{the_view}
 use Rattle.ll_plain.proofs.Tied.{as_before}
 use Rattle.ll_plain.proofs.Plain.open_new.Goals as goal

@@ -1,7 +1,7 @@
 use Rattle.std.proofs.Common.{sym, subst}
 use Rattle.ll_seq.specs.State.{State}
-use Rattle.ll_answer.proofs.Counted.{spot_counted}
-use Rattle.ll_answer.specs.Found.{IsSpot}
+use Rattle.ll_seq.proofs.Counted.{spot_counted}
+use Rattle.ll_seq.specs.Found.{IsSpot}
 use Rattle.ll_plain.specs.Tables.{IsTied}
 use Rattle.ll_plain.proofs.Tied.{named_kind}
 use Rattle.ll_plain.proofs.Plain.spot.Goals as goal

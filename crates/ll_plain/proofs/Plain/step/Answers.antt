@@ -5,7 +5,7 @@ use Rattle.ll_decide.specs.Masks.{AreMasks}
 use Rattle.ll_seq.specs.State.{child, root}
 use Rattle.ll_seq.specs.Tree.{named, ancestors}
 use Rattle.ll_seq.specs.Stages.{in_the_way, no_directory, kind_of_child}
-use Rattle.ll_answer.proofs.LongerPaths.{alone, beneath, block, end_push, chain_push, way_push}
+use Rattle.ll_seq.proofs.LongerPaths.{alone, beneath, block, end_push, chain_push, way_push}
 use Rattle.ll_plain.proofs.Plain.step.Goals as goal
 
 pub returns-in_default : goal.returns-in_default

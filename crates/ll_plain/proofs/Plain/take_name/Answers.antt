@@ -3,7 +3,7 @@ use Rattle.ll_rights.specs.Map.{get, remove}
 use Rattle.ll_seq.specs.declared.dentries.Dentry.{Dentry}
 use Rattle.ll_seq.specs.State.{State}
 use Rattle.ll_seq.specs.Effects.{without_name}
-use Rattle.ll_answer.specs.Effect.{dentry_at}
+use Rattle.ll_seq.specs.Effect.{dentry_at}
 use Rattle.ll_plain.specs.Tables.{IsTied}
 use Rattle.ll_plain.specs.contracts.Plain.{the_view}
 use Rattle.ll_plain.proofs.Tied.{nodes_taken, nodes_let_go, left_so}

@@ -5,7 +5,7 @@ use Rattle.ll_path.specs.Path.{parent}
 use Rattle.ll_seq.specs.State.{root}
 use Rattle.ll_seq.specs.Tree.{named, ancestors, inode_of, directory_of}
 use Rattle.ll_seq.specs.Stages.{in_the_way}
-use Rattle.ll_answer.proofs.LongerPaths.{alone, beneath, end_push, chain_push}
+use Rattle.ll_seq.proofs.LongerPaths.{alone, beneath, end_push, chain_push}
 use Rattle.ll_plain.proofs.Plain.walk_path.Goals as goal
 
 pub returns : goal.returns

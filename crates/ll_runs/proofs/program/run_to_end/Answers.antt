@@ -1,7 +1,7 @@
 use Rattle.std.proofs.Common.{List, Option, inl, inr, subst, ℕ, ◌≡◌}
 use Rattle.std.specs.Prelude.{OnErr, OnOk}
 use Rattle.std.specs.Io.KnownBytes.{Appends}
-use Rattle.ll_saved.specs.Saved.{saved_text}
+use Rattle.ll_audit.specs.Saved.{saved_text}
 use Rattle.ll_runs.proofs.Known.{not_saved, saved_run}
 use Rattle.ll_runs.proofs.program.run_to_end.Goals as goal
 

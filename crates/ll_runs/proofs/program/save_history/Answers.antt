@@ -1,7 +1,7 @@
 use Rattle.std.proofs.Common.{List, Option, subst, sym, ℕ}
 use Rattle.std.specs.Io.KnownBytes.{Appends}
 use Rattle.ll_seq.specs.declared.reply.Entry.{Entry}
-use Rattle.ll_saved.specs.Saved.{saved_text}
+use Rattle.ll_audit.specs.Saved.{saved_text}
 use Rattle.ll_runs.proofs.program.save_history.Goals as goal
 
 pub returns-in-Ok-clause-saved : goal.returns-in-Ok-clause-saved

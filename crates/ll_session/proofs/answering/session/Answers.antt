@@ -1,7 +1,7 @@
 use Rattle.std.proofs.Common.{List, refl, subst, sym}
 use Rattle.std.proofs.lemmas.Result.{on_ok_weaker, on_err_weaker}
 use Rattle.ll_client.specs.Entries.{Knows}
-use Rattle.ll_lines.specs.Reached.{AnswersAll, StartsAll}
+use Rattle.ll_wire.specs.Reached.{AnswersAll, StartsAll}
 use Rattle.ll_session.specs.Beside.{TellsBeside}
 use Rattle.ll_session.specs.declared.answering.OpenSession.{OpenSession}
 use Rattle.ll_session.proofs.Endings.{answers_all, starts_all}

@@ -4,7 +4,7 @@ use Rattle.std.proofs.lemmas.List.{take_all}
 use Rattle.std.proofs.lemmas.List.Elements.{All-nil, All-push}
 use Rattle.std.proofs.lemmas.Option.{slice_get_read}
 use Rattle.ll_seq.specs.History.{state_after}
-use Rattle.ll_talk.proofs.Points.{may_stand, one_taken}
+use Rattle.ll_session.proofs.Points.{may_stand, one_taken}
 use Rattle.ll_wire.specs.Entries.{IsEntry}
 use Rattle.ll_session.proofs.entries.are_entries.Goals as goal
 

@@ -1,9 +1,9 @@
 use Rattle.std.proofs.Common.{inl, refl, subst, ◌≡◌}
-use Rattle.ll_lines.specs.declared.fault.SessionFault.TheVariants.{NoMemory}
+use Rattle.ll_wire.specs.declared.fault.SessionFault.TheVariants.{NoMemory}
 use Rattle.ll_seq.specs.History.{IsLegal}
 use Rattle.ll_seq.specs.State.{start}
 use Rattle.ll_seq.specs.declared.rules.Rules.{Rules}
-use Rattle.ll_talk.specs.Between.{Leads}
+use Rattle.ll_session.specs.Between.{Leads}
 use Rattle.ll_session.specs.declared.fault.RunFault.TheVariants.{Opening, Session}
 use Rattle.ll_session.specs.declared.opening.Shut.{Shut}
 use Rattle.ll_session.specs.Opening.{Opens, begun, fresh, refused, stopped}

@@ -1,5 +1,5 @@
 use Rattle.std.proofs.Common.{inl, refl}
-use Rattle.ll_lines.specs.declared.fault.SessionFault.TheVariants.{NoMemory}
+use Rattle.ll_wire.specs.declared.fault.SessionFault.TheVariants.{NoMemory}
 use Rattle.ll_session.specs.declared.fault.RunFault.TheVariants.{Session}
 use Rattle.ll_session.proofs.Endings.{nothing_done}
 use Rattle.ll_session.proofs.run.run_over.Goals as goal

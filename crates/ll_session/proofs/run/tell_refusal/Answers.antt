@@ -1,6 +1,6 @@
 use Rattle.std.proofs.Common.{subst, sym}
 use Rattle.ll_client.specs.Closed.{IsClosed}
-use Rattle.ll_lines.proofs.Advance.{on_err}
+use Rattle.ll_wire.proofs.Advance.{on_err}
 use Rattle.ll_session.specs.Keeping.{AreKept}
 use Rattle.ll_session.proofs.run.tell_refusal.Goals as goal
 

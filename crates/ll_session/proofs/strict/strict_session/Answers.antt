@@ -1,6 +1,6 @@
 use Rattle.std.proofs.Common.{List, None, Option, refl, subst, sym}
 use Rattle.ll_client.specs.Entries.{Knows}
-use Rattle.ll_lines.specs.Reached.{StartsAll}
+use Rattle.ll_wire.specs.Reached.{StartsAll}
 use Rattle.ll_session.specs.Strict.{TellsStrictlyBeside}
 use Rattle.ll_session.specs.StrictProgress.{AnswersTo, stop_at}
 use Rattle.ll_session.specs.declared.stop.Stop.{Stop}

@@ -1,9 +1,9 @@
 use Rattle.std.proofs.Common.{subst, ◌≡◌}
-use Rattle.ll_lines.proofs.Advance.{on_err}
+use Rattle.ll_wire.proofs.Advance.{on_err}
 use Rattle.ll_seq.specs.History.{IsLegal}
 use Rattle.ll_seq.specs.State.{start}
 use Rattle.ll_seq.specs.declared.rules.Rules.{Rules}
-use Rattle.ll_talk.specs.Between.{Leads}
+use Rattle.ll_session.specs.Between.{Leads}
 use Rattle.ll_session.specs.declared.opening.Shut.{Shut}
 use Rattle.ll_session.specs.Opening.{Opens, begun, fresh, refused, stopped}
 use Rattle.ll_session.specs.Progress.{opening_at, without}

@@ -1,11 +1,11 @@
 use Rattle.std.specs.Prelude.{◌≡◌, ◌<◌, List, length, refl}
 use Rattle.std.proofs.Common.{rules, subst, sym, ◌∙◌}
 use Rattle.std.proofs.lemmas.List.{get_or_default}
-use Rattle.ll_held.specs.Lent.{vacant}
-use Rattle.ll_held.specs.declared.held.Held.{Held}
+use Rattle.ll_node.specs.Lent.{vacant}
+use Rattle.ll_node.specs.declared.held.Held.{Held}
 use Rattle.ll_journal.specs.Book.{Book}
-use Rattle.ll_worlds.specs.declared.step.Step.{Step}
-use Rattle.ll_worlds.specs.declared.step.Step.TheVariants.{Descend, Fork, Restart}
+use Rattle.ll_laws.specs.declared.step.Step.{Step}
+use Rattle.ll_laws.specs.declared.step.Step.TheVariants.{Descend, Fork, Restart}
 use Rattle.ll_steps.specs.Contents.{IsKept}
 use Rattle.ll_steps.specs.Makes.{Makes}
 use Rattle.ll_steps.specs.declared.report.Report.{Report}

@@ -1,7 +1,7 @@
 use Rattle.std.proofs.Common.{◌≡◌, ℕ, ◌≤◌, ◌+◌, ◌-◌, List, ◌∷◌, ◌++◌, [], replicate, ap, arith, ◌∙◌}
 use Rattle.std.proofs.lemmas.List.{replicate_more}
-use Rattle.ll_held.specs.declared.held.Held.{Held}
-use Rattle.ll_held.specs.Lent.{vacant}
+use Rattle.ll_node.specs.declared.held.Held.{Held}
+use Rattle.ll_node.specs.Lent.{vacant}
 use Rattle.ll_steps.proofs.slots.new_slots.Goals as goal
 
 one_more : (slots : List Held) (first : Held) (count : ℕ) → 1 ≤ count → slots ≡ first ∷ replicate (count - 1) vacant

@@ -1,5 +1,5 @@
 use Rattle.std.proofs.Common.{arith, ◌∙◌}
-use Rattle.ll_worlds.specs.declared.step.Step.TheVariants.{Descend}
+use Rattle.ll_laws.specs.declared.step.Step.TheVariants.{Descend}
 use Rattle.ll_steps.proofs.ContentsKept.{account_at}
 use Rattle.ll_steps.proofs.LentContents.{in_front, in_back, put_two, spares_turned, within_accounts}
 use Rattle.ll_steps.proofs.WalkMakes.{told_keeps}

@@ -1,7 +1,7 @@
 use Rattle.std.proofs.Common.{◌∙◌}
 use Rattle.std.proofs.lemmas.List.{get_or_default}
-use Rattle.ll_held.specs.Lent.{vacant}
-use Rattle.ll_worlds.specs.declared.step.Step.TheVariants.{Descend}
+use Rattle.ll_node.specs.Lent.{vacant}
+use Rattle.ll_laws.specs.declared.step.Step.TheVariants.{Descend}
 use Rattle.ll_steps.proofs.ContentsKept.{account_at}
 use Rattle.ll_steps.proofs.LentContents.{put_one, within_accounts}
 use Rattle.ll_steps.proofs.WalkMakes.{near_top, told_keeps}

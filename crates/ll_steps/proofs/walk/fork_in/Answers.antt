@@ -1,4 +1,4 @@
-use Rattle.ll_worlds.specs.declared.step.Step.TheVariants.{Fork}
+use Rattle.ll_laws.specs.declared.step.Step.TheVariants.{Fork}
 use Rattle.ll_steps.proofs.ContentsKept.{fork_keeps}
 use Rattle.ll_steps.proofs.walk.fork_in.Goals as goal
 

@@ -1,6 +1,6 @@
 use Rattle.std.proofs.Common.{◌<◌, sym, subst, ◌∙◌}
 use Rattle.std.specs.List.{AllByRecursion}
-use Rattle.ll_worlds.specs.declared.step.Step.TheVariants.{Restart}
+use Rattle.ll_laws.specs.declared.step.Step.TheVariants.{Restart}
 use Rattle.ll_steps.proofs.LentContents.{lent_in}
 use Rattle.ll_steps.proofs.WalkMakes.{near_start, told_keeps, traded}
 use Rattle.ll_steps.proofs.walk.restart_with.Goals as goal

@@ -1,6 +1,6 @@
 use Rattle.std.proofs.Common.{◌≡◌, Ok, Err, codes, refl, rules}
 use Rattle.std.specs.Result.{MatchResult}
-use Rattle.ll_worlds.specs.declared.step.Step.TheVariants.{Begin, FdCommit, ClientStep}
+use Rattle.ll_laws.specs.declared.step.Step.TheVariants.{Begin, FdCommit, ClientStep}
 use Rattle.ll_wire.specs.declared.schedule.ScheduleLine.TheVariants as lines
 use Rattle.ll_wire.proofs.FirstTokens.{parted}
 use Rattle.ll_wire.proofs.ScheduleTokens.{called_reads}

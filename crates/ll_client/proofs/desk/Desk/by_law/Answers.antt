@@ -1,7 +1,7 @@
 use Rattle.std.proofs.Common.{◌≡◌, ◌≤◌, length, subst}
 use Rattle.ll_seq.specs.History.{IsLegal}
 use Rattle.ll_seq.specs.State.{start}
-use Rattle.ll_worlds.specs.Walks.{AreApart, AreFew, AreValid, GateIsHeld}
+use Rattle.ll_laws.specs.Walks.{AreApart, AreFew, AreValid, GateIsHeld}
 use Rattle.ll_journal.specs.Book.{Book}
 use Rattle.ll_journal.specs.SlotTree.{HoldTree, accounts_of}
 use Rattle.ll_client.specs.Entries.{AreInOrder}

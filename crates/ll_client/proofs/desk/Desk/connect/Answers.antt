@@ -1,6 +1,6 @@
 use Rattle.std.proofs.Common.{◌≡◌, [], length, Err, ap, ◌∙◌, subst}
-use Rattle.ll_worlds.specs.World.{World, Joined, advance, next_number}
-use Rattle.ll_worlds.specs.declared.step.Step.TheVariants.{Join}
+use Rattle.ll_laws.specs.World.{World, Joined, advance, next_number}
+use Rattle.ll_laws.specs.declared.step.Step.TheVariants.{Join}
 use Rattle.ll_journal.specs.Book.{Book}
 use Rattle.ll_client.proofs.Accounts.{accounts_kept}
 use Rattle.ll_client.proofs.Desks.{desk_kept}

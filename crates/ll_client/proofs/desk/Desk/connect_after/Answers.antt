@@ -2,8 +2,8 @@ use Rattle.std.proofs.Common.{◌≡◌, IfErr, subst}
 use Rattle.ll_rights.specs.declared.errno.Errno.{Errno}
 use Rattle.ll_rights.specs.declared.errno.Errno.TheVariants.{NoMemory}
 use Rattle.ll_journal.specs.Book.{Book}
-use Rattle.ll_worlds.specs.World.{World, Joined, advance, next_number}
-use Rattle.ll_worlds.specs.declared.step.Step.TheVariants.{Join}
+use Rattle.ll_laws.specs.World.{World, Joined, advance, next_number}
+use Rattle.ll_laws.specs.declared.step.Step.TheVariants.{Join}
 use Rattle.ll_client.proofs.desk.Desk.connect_after.Goals as goal
 
 pub returns-clause-starved : goal.returns-clause-starved

@@ -1,7 +1,7 @@
 use Rattle.std.proofs.Common.{◌∷◌, [], ap, refl, sym, subst, ◌∙◌}
 use Rattle.std.specs.Prelude.{option_map}
-use Rattle.ll_worlds.specs.Walk.{Walk}
-use Rattle.ll_worlds.specs.declared.step.Step.TheVariants.{Descend}
+use Rattle.ll_laws.specs.Walk.{Walk}
+use Rattle.ll_laws.specs.declared.step.Step.TheVariants.{Descend}
 use Rattle.ll_journal.specs.Onward.{Names}
 use Rattle.ll_client.specs.Entries.{Kept, Knows, doing_in, knows, part_in, starved_in}
 use Rattle.ll_client.proofs.Accounts.{accounts_kept}

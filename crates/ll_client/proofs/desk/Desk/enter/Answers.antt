@@ -1,5 +1,5 @@
 use Rattle.std.proofs.Common.{◌∷◌, [], refl, ◌∙◌}
-use Rattle.ll_worlds.specs.declared.step.Step.TheVariants.{Descend}
+use Rattle.ll_laws.specs.declared.step.Step.TheVariants.{Descend}
 use Rattle.ll_client.specs.Entries.{doing_in, knows, part_in, starved_in}
 use Rattle.ll_client.proofs.Accounts.{accounts_kept}
 use Rattle.ll_client.proofs.Desks.{desk_kept, does_goes, knows_same}

@@ -1,7 +1,7 @@
 use Rattle.std.proofs.Common.{◌≡◌, ◌≤◌, ◌∷◌, [], length, List, refl, sym, ap, ◌∙◌, subst}
 use Rattle.std.specs.Prelude.{IfOk, OnErr}
 use Rattle.ll_seq.specs.declared.reply.Entry.{Entry}
-use Rattle.ll_worlds.specs.declared.step.Step.TheVariants.{FdCommit}
+use Rattle.ll_laws.specs.declared.step.Step.TheVariants.{FdCommit}
 use Rattle.ll_journal.proofs.Starved.{when_err}
 use Rattle.ll_client.specs.Entries.{Knows, doing_in, knows, part_in, starved_in}
 use Rattle.ll_client.specs.Gains.{Gains}

@@ -4,7 +4,7 @@ use Rattle.ll_rights.specs.declared.errno.Errno.{Errno}
 use Rattle.ll_seq.specs.declared.call.Call.TheVariants as calls
 use Rattle.ll_seq.specs.declared.reply.Entry.{Entry}
 use Rattle.ll_seq.specs.declared.reply.Reply.TheVariants as replies
-use Rattle.ll_worlds.specs.declared.step.Step.TheVariants.{ClientStep}
+use Rattle.ll_laws.specs.declared.step.Step.TheVariants.{ClientStep}
 use Rattle.ll_journal.specs.Book.{Book}
 use Rattle.ll_journal.specs.Direct.{Answers}
 use Rattle.ll_client.specs.Coming.{HasNoPlace, childless, spawn_made}

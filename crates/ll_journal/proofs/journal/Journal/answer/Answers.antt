@@ -2,8 +2,8 @@ use Rattle.std.specs.Prelude.{◌≡◌, ℕ, false, true, slice_set, refl, [], 
 use Rattle.std.specs.Vec.{with_item}
 use Rattle.std.proofs.Common.{◌<◌, length, rules, ap, sym, subst, ◌∙◌, inl}
 use Rattle.std.proofs.lemmas.Bool.{leb-false}
-use Rattle.ll_answer.specs.Found.{AreFacts}
-use Rattle.ll_answer.specs.Lean.{spares_memory}
+use Rattle.ll_seq.specs.Found.{AreFacts}
+use Rattle.ll_seq.specs.Lean.{spares_memory}
 use Rattle.ll_seq.specs.declared.call.Call.{Call}
 use Rattle.ll_seq.specs.declared.reply.Reply.{Reply}
 use Rattle.ll_seq.specs.declared.reply.Reply.TheVariants.{Refused}
@@ -11,11 +11,11 @@ use Rattle.ll_rights.specs.declared.errno.Errno.TheVariants.{HistoryFull}
 use Rattle.ll_seq.specs.Memory.{takes_memory}
 use Rattle.ll_seq.specs.State.{State}
 use Rattle.ll_seq.specs.Step.{refusals, client_of}
-use Rattle.ll_worlds.specs.Sound.{IsSound}
-use Rattle.ll_worlds.specs.Walk.{Walk}
-use Rattle.ll_worlds.specs.World.{World, Replied, advance, is_full, moved_by, shown}
-use Rattle.ll_worlds.specs.declared.step.Step.TheVariants.{Commit}
-use Rattle.ll_worlds.proofs.Tests.{or_false}
+use Rattle.ll_laws.specs.Sound.{IsSound}
+use Rattle.ll_laws.specs.Walk.{Walk}
+use Rattle.ll_laws.specs.World.{World, Replied, advance, is_full, moved_by, shown}
+use Rattle.ll_laws.specs.declared.step.Step.TheVariants.{Commit}
+use Rattle.ll_laws.proofs.Tests.{or_false}
 use Rattle.ll_journal.specs.declared.journal.Journal.TheInside.{Inside}
 use Rattle.ll_journal.specs.Book.{Book, Spares, slot_of}
 use Rattle.ll_journal.specs.WalkEnds.{LeavesFree}

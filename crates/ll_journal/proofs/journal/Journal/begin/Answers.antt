@@ -2,10 +2,10 @@ use Rattle.std.proofs.Common.{sym, subst}
 use Rattle.std.specs.Option.{option_map_or}
 use Rattle.ll_journal.specs.Book.{Book, Seat}
 use Rattle.ll_journal.specs.Kept.{seat_at, world_of}
-use Rattle.ll_worlds.specs.World.{NotNow, advance}
-use Rattle.ll_worlds.specs.declared.step.Step.TheVariants.{Begin}
+use Rattle.ll_laws.specs.World.{NotNow, advance}
+use Rattle.ll_laws.specs.declared.step.Step.TheVariants.{Begin}
 use Rattle.std.proofs.Common.{ap, ◌∙◌, ◌≡◌, false, refl}
-use Rattle.ll_worlds.specs.declared.step.Step.TheVariants.{ClientStep}
+use Rattle.ll_laws.specs.declared.step.Step.TheVariants.{ClientStep}
 use Rattle.ll_journal.proofs.SettingOut.{walks_not_alone}
 use Rattle.ll_journal.proofs.Starting.{at_place, may, not_here, turned_down}
 use Rattle.ll_journal.proofs.journal.Journal.begin.Goals as goal

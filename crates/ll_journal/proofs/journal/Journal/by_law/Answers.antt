@@ -1,5 +1,5 @@
 use Rattle.std.proofs.Common.{subst}
-use Rattle.ll_worlds.specs.Sound.{IsSound}
+use Rattle.ll_laws.specs.Sound.{IsSound}
 use Rattle.ll_journal.specs.Book.{Book}
 use Rattle.ll_journal.specs.SlotTree.{HoldTree, accounts_of}
 use Rattle.ll_journal.proofs.SlotTrees.{hold_tree}

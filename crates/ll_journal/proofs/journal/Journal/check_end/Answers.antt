@@ -1,5 +1,5 @@
 use Rattle.std.proofs.Common.{map, ap, refl, sym, subst, ◌∙◌}
-use Rattle.ll_worlds.specs.World.{shown}
+use Rattle.ll_laws.specs.World.{shown}
 use Rattle.ll_journal.specs.Book.{Book, slot_of}
 use Rattle.ll_journal.specs.Kept.{spares_of, walks_from, world_of}
 use Rattle.ll_journal.specs.CommitCheck.{check_of}

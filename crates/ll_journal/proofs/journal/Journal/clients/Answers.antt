@@ -1,6 +1,6 @@
 use Rattle.std.proofs.Common.{◌≡◌, sym, subst, ◌∙◌}
 use Rattle.ll_rights.specs.Map.{len}
-use Rattle.ll_worlds.specs.World.{shown}
+use Rattle.ll_laws.specs.World.{shown}
 use Rattle.ll_journal.specs.Book.{Book}
 use Rattle.ll_journal.specs.Kept.{world_of}
 use Rattle.ll_journal.proofs.NewClients.{clients_len}

@@ -1,6 +1,6 @@
 use Rattle.std.proofs.Common.{◌≡◌, ◌<◌, length, ap, refl, sym, subst, ◌∙◌, inl}
-use Rattle.ll_worlds.specs.World.{NotNow, advance}
-use Rattle.ll_worlds.specs.declared.step.Step.TheVariants.{Commit}
+use Rattle.ll_laws.specs.World.{NotNow, advance}
+use Rattle.ll_laws.specs.declared.step.Step.TheVariants.{Commit}
 use Rattle.ll_journal.specs.Book.{Book}
 use Rattle.ll_journal.specs.Kept.{seat_at, world_of}
 use Rattle.ll_journal.proofs.Advancing.{commit_none}

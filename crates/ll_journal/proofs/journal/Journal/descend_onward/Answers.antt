@@ -1,10 +1,10 @@
 use Rattle.std.proofs.Common.{◌≡◌, ◌<◌, Option, Some, None, ℕ, length, true, ap, sym, subst, ◌∙◌}
 use Rattle.std.specs.Prelude.{is_none, option_and_then, unwrap_or}
 use Rattle.ll_rights.specs.Map.{get}
-use Rattle.ll_worlds.specs.Walk.{Walk}
-use Rattle.ll_worlds.specs.World.{NotNow, advance}
-use Rattle.ll_worlds.specs.declared.step.Step.TheVariants.{Descend}
-use Rattle.ll_worlds.specs.World as world
+use Rattle.ll_laws.specs.Walk.{Walk}
+use Rattle.ll_laws.specs.World.{NotNow, advance}
+use Rattle.ll_laws.specs.declared.step.Step.TheVariants.{Descend}
+use Rattle.ll_laws.specs.World as world
 use Rattle.ll_journal.specs.Book.{Book, slot_of}
 use Rattle.ll_journal.specs.Kept.{seat_at, world_of}
 use Rattle.ll_journal.specs.Onward.{Names}

@@ -2,9 +2,9 @@ use Rattle.std.proofs.Common.{◌≡◌, ◌<◌, Option, Some, None, List, ℕ,
 use Rattle.std.proofs.Common.{◌∙◌, inl, inr}
 use Rattle.std.specs.Prelude.{cond, is_none, is_some, option_and_then, unwrap_or}
 use Rattle.std.proofs.lemmas.Option.{slice_get_cases}
-use Rattle.ll_worlds.specs.World.{NotNow, advance}
-use Rattle.ll_worlds.specs.declared.step.Step.TheVariants.{Descend}
-use Rattle.ll_worlds.specs.World as world
+use Rattle.ll_laws.specs.World.{NotNow, advance}
+use Rattle.ll_laws.specs.declared.step.Step.TheVariants.{Descend}
+use Rattle.ll_laws.specs.World as world
 use Rattle.ll_journal.specs.declared.check_step.StepCheck.TheVariants as checks
 use Rattle.ll_journal.specs.Book.{Book, Seat}
 use Rattle.ll_journal.specs.Kept.{book_of, seat_at, world_of}

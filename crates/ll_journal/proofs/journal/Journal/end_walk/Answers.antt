@@ -1,10 +1,10 @@
 use Rattle.std.proofs.Common.{rules, ◌≡◌, ◌<◌, ℕ, List, Some, length, map, ap, refl, sym, subst, ◌∙◌, true}
 use Rattle.std.specs.Prelude.{slice_get, slice_set}
 use Rattle.ll_rights.specs.Map.{get}
-use Rattle.ll_held.specs.Lent.{unmarked}
+use Rattle.ll_node.specs.Lent.{unmarked}
 use Rattle.ll_rules.specs.Layer.{Layer}
-use Rattle.ll_worlds.specs.Walk as walks
-use Rattle.ll_worlds.specs.World.{domain_of, without_walk}
+use Rattle.ll_laws.specs.Walk as walks
+use Rattle.ll_laws.specs.World.{domain_of, without_walk}
 use Rattle.ll_journal.specs.Book.{Book, Seat, slot_of}
 use Rattle.ll_journal.specs.Performed.{EndsAs}
 use Rattle.ll_journal.specs.WalkEnds.{is_lent}

@@ -1,11 +1,11 @@
 use Rattle.std.proofs.Common.{◌≡◌, ap, sym, subst, ◌∙◌, refl}
 use Rattle.std.specs.Prelude.{option_and_then, unwrap_or, cond, ◌==◌, false, Some, ◌∷◌, []}
 use Rattle.std.specs.Option.{option_map_or}
-use Rattle.ll_worlds.specs.Walk.{Walk}
+use Rattle.ll_laws.specs.Walk.{Walk}
 use Rattle.ll_journal.specs.Checks.{check_enter}
-use Rattle.ll_worlds.specs.World.{Stands, NotNow, advance}
-use Rattle.ll_worlds.specs.declared.step.Step.TheVariants.{Descend}
-use Rattle.ll_worlds.specs.World as world
+use Rattle.ll_laws.specs.World.{Stands, NotNow, advance}
+use Rattle.ll_laws.specs.declared.step.Step.TheVariants.{Descend}
+use Rattle.ll_laws.specs.World as world
 use Rattle.ll_node.specs.Slot.{Slot}
 use Rattle.ll_journal.specs.Book.{Book, Seat, slot_of}
 use Rattle.ll_journal.specs.Kept.{seat_at, world_of}

@@ -1,8 +1,8 @@
 use Rattle.std.proofs.Common.{◌≡◌, [], ap, sym, subst, ◌∙◌, refl}
 use Rattle.std.specs.Prelude.{option_and_then, unwrap_or, ◌&&◌}
-use Rattle.ll_worlds.specs.World.{Forked, NotNow, advance}
-use Rattle.ll_worlds.specs.declared.step.Step.TheVariants.{Fork}
-use Rattle.ll_worlds.specs.World as world
+use Rattle.ll_laws.specs.World.{Forked, NotNow, advance}
+use Rattle.ll_laws.specs.declared.step.Step.TheVariants.{Fork}
+use Rattle.ll_laws.specs.World as world
 use Rattle.ll_journal.specs.Book.{Book, Seat}
 use Rattle.ll_journal.specs.Kept.{seat_at, world_of}
 use Rattle.ll_journal.specs.Checks.{goes_on}

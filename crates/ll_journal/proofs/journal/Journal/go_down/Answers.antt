@@ -1,6 +1,6 @@
 use Rattle.std.proofs.Common.{◌≡◌, ◌<◌, [], ◌∷◌, length, ap, refl, subst, rules}
-use Rattle.ll_worlds.specs.World.{Stands, advance}
-use Rattle.ll_worlds.specs.declared.step.Step.TheVariants.{Descend}
+use Rattle.ll_laws.specs.World.{Stands, advance}
+use Rattle.ll_laws.specs.declared.step.Step.TheVariants.{Descend}
 use Rattle.ll_journal.specs.Book.{Book, Seat}
 use Rattle.ll_journal.specs.Kept.{book_of}
 use Rattle.ll_journal.proofs.EndedWalks.{place_within}

@@ -1,6 +1,6 @@
 use Rattle.std.proofs.Common.{◌≡◌, ◌<◌, length, ap, sym, subst, ◌∙◌, true, None, Some, inl, inr}
 use Rattle.ll_rights.specs.Map.{get}
-use Rattle.ll_worlds.specs.Walk.{Walk}
+use Rattle.ll_laws.specs.Walk.{Walk}
 use Rattle.ll_journal.specs.Book.{Book, slot_of}
 use Rattle.ll_journal.specs.Kept.{seat_at}
 use Rattle.ll_journal.specs.Onward.{Names, is_past_fork}

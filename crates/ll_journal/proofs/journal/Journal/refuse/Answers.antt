@@ -3,7 +3,7 @@ use Rattle.std.proofs.lemmas.Bool.{leb-false}
 use Rattle.ll_rights.specs.declared.errno.Errno.TheVariants.{HistoryFull}
 use Rattle.ll_rights.specs.Map.{get}
 use Rattle.ll_seq.specs.declared.reply.Reply.TheVariants.{Refused}
-use Rattle.ll_worlds.specs.World.{World, Replied, is_full, without_walk}
+use Rattle.ll_laws.specs.World.{World, Replied, is_full, without_walk}
 use Rattle.ll_journal.specs.declared.progress.Ending.TheVariants as ending
 use Rattle.ll_journal.specs.Book.{Book, Spares, slot_of}
 use Rattle.ll_journal.specs.WalkEnds.{Ends}

@@ -1,8 +1,8 @@
 use Rattle.std.proofs.Common.{◌≡◌, map, ap, sym, subst, ◌∙◌, refl, Some}
 use Rattle.std.specs.Prelude.{option_and_then, unwrap_or, slice_get}
-use Rattle.ll_worlds.specs.World.{Restarted, NotNow, advance}
-use Rattle.ll_worlds.specs.declared.step.Step.TheVariants.{Restart}
-use Rattle.ll_worlds.specs.World as world
+use Rattle.ll_laws.specs.World.{Restarted, NotNow, advance}
+use Rattle.ll_laws.specs.declared.step.Step.TheVariants.{Restart}
+use Rattle.ll_laws.specs.World as world
 use Rattle.ll_journal.specs.Book.{Book, Seat, slot_of}
 use Rattle.ll_journal.specs.Kept.{book_of, seat_at, world_of}
 use Rattle.ll_journal.specs.Checks.{check_restart}

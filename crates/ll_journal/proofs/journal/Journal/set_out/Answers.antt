@@ -2,8 +2,8 @@ use Rattle.std.proofs.Common.{◌≡◌, [], false, refl, ap, sym, subst, ◌∙
 use Rattle.std.specs.Option.{option_map_or}
 use Rattle.ll_journal.specs.Book.{Book, Seat}
 use Rattle.ll_journal.specs.Kept.{seat_at, world_of}
-use Rattle.ll_worlds.specs.World.{Begun, NotNow, advance}
-use Rattle.ll_worlds.specs.declared.step.Step.TheVariants.{Begin}
+use Rattle.ll_laws.specs.World.{Begun, NotNow, advance}
+use Rattle.ll_laws.specs.declared.step.Step.TheVariants.{Begin}
 use Rattle.ll_journal.proofs.Starting.{at_place, may, not_here, turned_down, idle_before, world_begun, sets_out}
 use Rattle.ll_journal.proofs.Starting.{slots_kept, kept_by, over_begun, over_spares, sound_after, rest_kept}
 use Rattle.ll_journal.proofs.Starting.{changed_world}

@@ -5,11 +5,11 @@ use Rattle.std.proofs.Common.{ap, sym, subst, ◌∙◌}
 use Rattle.ll_rights.specs.Map.{get, len}
 use Rattle.ll_seq.specs.declared.call.Call.{Call}
 use Rattle.ll_laws.proofs.Chains.{same_Some}
-use Rattle.ll_worlds.specs.Walk.{Walk, at_ends}
-use Rattle.ll_worlds.specs.World.{shown}
+use Rattle.ll_laws.specs.Walk.{Walk, at_ends}
+use Rattle.ll_laws.specs.World.{shown}
 use Rattle.ll_journal.specs.Book.{Book, slot_of}
 use Rattle.ll_journal.specs.Kept.{seat_at, world_of}
-use Rattle.ll_answer.specs.declared.found.Spot.{Spot}
+use Rattle.ll_seq.specs.declared.found.Spot.{Spot}
 use Rattle.ll_journal.specs.Checks.{found_at, found_last}
 use Rattle.ll_journal.proofs.LastNodes.{same_besides}
 use Rattle.ll_journal.specs.Needs.{IsBesides}

@@ -1,6 +1,6 @@
 use Rattle.std.specs.Prelude.{◌≡◌, ◌<◌, length, Some, None, IfSome, IfNone}
 use Rattle.std.proofs.Common.{ap, sym, subst, ◌∙◌}
-use Rattle.ll_worlds.specs.Walk.{Leg}
+use Rattle.ll_laws.specs.Walk.{Leg}
 use Rattle.ll_journal.specs.Book.{Book, inode_in}
 use Rattle.ll_journal.specs.Kept.{seat_at}
 use Rattle.ll_journal.specs.Steps.{leg_in_turn}

@@ -1,7 +1,7 @@
 use Rattle.std.proofs.Common.{◌≡◌, ap, sym, subst, ◌∙◌, true, false, is_some, length, option_map}
 use Rattle.ll_path.specs.Path.{parent}
 use Rattle.std.specs.Option.{option_map_or}
-use Rattle.ll_worlds.specs.Walk.{Walk, forked}
+use Rattle.ll_laws.specs.Walk.{Walk, forked}
 use Rattle.ll_journal.specs.Book as book
 use Rattle.ll_journal.specs.Seated.{split}
 use Rattle.ll_journal.proofs.SeatForks.{trunk_short, fits_split, split_is}

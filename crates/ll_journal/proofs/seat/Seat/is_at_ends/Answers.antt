@@ -1,7 +1,7 @@
 use Rattle.std.proofs.Common.{ap, drop, not, sym, ◌&&◌, ◌∙◌}
 use Rattle.ll_path.specs.Path.{is_root, parent}
 use Rattle.ll_seq.specs.Call.{first_path, second_path}
-use Rattle.ll_worlds.specs.Walk.{trunk_path}
+use Rattle.ll_laws.specs.Walk.{trunk_path}
 use Rattle.ll_journal.specs.declared.stage.Stage.TheVariants as stage
 use Rattle.ll_journal.specs.Seated.{depth_of, is_at_ends}
 use Rattle.ll_journal.proofs.Ahead.{ended}

@@ -1,6 +1,6 @@
 use Rattle.std.proofs.Common.{ap, sym, ◌∙◌, false, is_some}
 use Rattle.std.specs.Option.{option_map_or}
-use Rattle.ll_worlds.specs.Walk.{Walk, forked}
+use Rattle.ll_laws.specs.Walk.{Walk, forked}
 use Rattle.ll_journal.specs.Book as book
 use Rattle.ll_journal.proofs.SeatForks.{may_fork_is}
 use Rattle.ll_journal.proofs.seat.Seat.may_fork.Goals as goal

@@ -1,10 +1,10 @@
 use Rattle.std.specs.Prelude.{◌≡◌, ℕ, List, IfOk, OnErr}
 use Rattle.std.proofs.Common.{sym, subst, ◌∙◌}
-use Rattle.ll_answer.specs.Decided.{IsRefused}
-use Rattle.ll_answer.specs.declared.found.Found.{Found}
-use Rattle.ll_changes.specs.Enacting.{Scene, in_hand}
-use Rattle.ll_held.specs.declared.held.Held.{Held}
-use Rattle.ll_inodes.specs.InodeTable.{Table}
+use Rattle.ll_seq.specs.Decided.{IsRefused}
+use Rattle.ll_seq.specs.declared.found.Found.{Found}
+use Rattle.ll_node.specs.Enacting.{Scene, in_hand}
+use Rattle.ll_node.specs.declared.held.Held.{Held}
+use Rattle.ll_node.specs.InodeTable.{Table}
 use Rattle.ll_seq.proofs.Results.{if_ok}
 use Rattle.ll_seq.specs.declared.reply.Reply.{Reply}
 use Rattle.ll_journal.specs.declared.seat.Ended.{Ended}

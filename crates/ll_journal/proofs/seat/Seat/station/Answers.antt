@@ -1,7 +1,7 @@
 use Rattle.std.proofs.Common.{cond, ap, sym, ◌∙◌}
 use Rattle.ll_path.specs.Path.{parent}
 use Rattle.ll_seq.specs.Call.{first_path, second_path}
-use Rattle.ll_worlds.specs.Walk.{has_two_paths, trunk_path}
+use Rattle.ll_laws.specs.Walk.{has_two_paths, trunk_path}
 use Rattle.ll_journal.specs.declared.station.Station.TheVariants as station
 use Rattle.ll_journal.specs.declared.stage.Stage.TheVariants as stage
 use Rattle.ll_journal.specs.Book as book

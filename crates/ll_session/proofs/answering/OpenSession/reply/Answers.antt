@@ -1,7 +1,7 @@
 use Rattle.std.proofs.Common.{arith, subst, sym}
 use Rattle.ll_seq.specs.declared.reply.Reply.{Reply}
 use Rattle.ll_session.specs.Beside.{AnswersBeside}
-use Rattle.ll_talk.specs.Talk.{asks, nowhere}
+use Rattle.ll_session.specs.Talk.{asks, nowhere}
 use Rattle.ll_session.proofs.Replies.{called_there, not_read, too_long, unread_goes}
 use Rattle.ll_session.proofs.answering.OpenSession.reply.Goals as goal
 

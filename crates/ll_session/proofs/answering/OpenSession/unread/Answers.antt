@@ -1,6 +1,6 @@
 use Rattle.std.proofs.Common.{◌<◌, ◌≤◌, sym, true≢false, ◌∙◌, inl, inr, refl}
-use Rattle.ll_talk.proofs.Leadings.{not_full}
-use Rattle.ll_talk.specs.Talk.{seen_by}
+use Rattle.ll_session.proofs.Leadings.{not_full}
+use Rattle.ll_session.specs.Talk.{seen_by}
 use Rattle.ll_session.proofs.answering.OpenSession.unread.Goals as goal
 
 pub returns-else-wants_memory-clause-told : goal.returns-else-wants_memory-clause-told

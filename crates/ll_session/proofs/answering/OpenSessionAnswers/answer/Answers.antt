@@ -1,6 +1,6 @@
 use Rattle.std.proofs.Common.{refl}
 use Rattle.std.proofs.lemmas.Result.{IfOk-weaker}
-use Rattle.ll_lines.proofs.Advance.{on_err}
+use Rattle.ll_wire.proofs.Advance.{on_err}
 use Rattle.ll_wire.specs.Grammar.{reply_line}
 use Rattle.ll_session.proofs.answering.OpenSessionAnswers.answer.Goals as goal
 

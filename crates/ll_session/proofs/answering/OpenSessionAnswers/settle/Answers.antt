@@ -2,7 +2,7 @@ use Rattle.std.proofs.Common.{List, subst, sym, ◌∙◌}
 use Rattle.ll_client.specs.Entries.{Knows}
 use Rattle.ll_session.specs.Beside.{TellsBeside}
 use Rattle.ll_session.proofs.answering.OpenSessionAnswers.settle.Goals as goal
-use Rattle.ll_talk.specs.Talk.{Goes, nowhere}
+use Rattle.ll_session.specs.Talk.{Goes, nowhere}
 
 pub returns-clause-tells : goal.returns-clause-tells
 returns-clause-tells g c a piece line told = (

@@ -2,7 +2,7 @@ use Rattle.std.proofs.Common.{ap, length, refl, sym, take, ◌+◌, ◌∙◌}
 use Rattle.std.specs.Prelude.{slice_get}
 use Rattle.std.proofs.lemmas.Option.{slice_get_read}
 use Rattle.ll_seq.specs.History.{state_after}
-use Rattle.ll_talk.proofs.Points.{may_stand}
+use Rattle.ll_session.proofs.Points.{may_stand}
 use Rattle.ll_session.proofs.page.PageReadsHistory.read.Goals as goal
 
 pub loop-index-init : goal.loop-index-init

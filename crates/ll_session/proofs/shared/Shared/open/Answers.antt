@@ -1,6 +1,6 @@
 use Rattle.std.proofs.Common.{◌≡◌, subst, sym}
 use Rattle.ll_seq.specs.declared.reply.Reply.{Reply}
-use Rattle.ll_talk.specs.Between.{Leads}
+use Rattle.ll_session.specs.Between.{Leads}
 use Rattle.ll_session.specs.Opening.{Opens, fresh, refused}
 use Rattle.ll_session.proofs.Coming.{loader_stops, no_loader, no_session, opens}
 use Rattle.ll_session.proofs.shared.Shared.open.Goals as goal

@@ -1,6 +1,6 @@
 use Rattle.std.proofs.Common.{true, false, refl, sym, ◌∙◌}
 use Rattle.std.proofs.lemmas.Result.{IfOk-weaker}
-use Rattle.ll_lines.proofs.Advance.{on_err}
+use Rattle.ll_wire.proofs.Advance.{on_err}
 use Rattle.ll_wire.specs.Grammar.{reply_line}
 use Rattle.ll_session.proofs.StrictEndings.{answered}
 use Rattle.ll_session.proofs.strict.StrictSessionAnswers.answer.Goals as goal

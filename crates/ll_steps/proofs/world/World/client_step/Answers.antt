@@ -1,8 +1,8 @@
 use Rattle.std.proofs.Common.{List, length, Result, IfOk, refl, ap, sym, subst, ◌∙◌}
 use Rattle.ll_seq.specs.declared.call.Call.{Call}
 use Rattle.ll_seq.specs.declared.reply.Entry.{Entry}
-use Rattle.ll_worlds.specs.World.{World}
-use Rattle.ll_worlds.specs.declared.step.Step.TheVariants.{ClientStep}
+use Rattle.ll_laws.specs.World.{World}
+use Rattle.ll_laws.specs.declared.step.Step.TheVariants.{ClientStep}
 use Rattle.ll_steps.specs.Contents.{answered_as}
 use Rattle.ll_steps.specs.Makes.{Makes}
 use Rattle.ll_steps.specs.declared.report.Report.{Report}

@@ -1,6 +1,6 @@
 use Rattle.std.proofs.Common.{rules, ◌≡◌, ◌<◌, length, subst}
-use Rattle.ll_worlds.specs.World.{World, NotNow, advance}
-use Rattle.ll_worlds.specs.declared.step.Step.TheVariants.{Descend}
+use Rattle.ll_laws.specs.World.{World, NotNow, advance}
+use Rattle.ll_laws.specs.declared.step.Step.TheVariants.{Descend}
 use Rattle.ll_steps.proofs.LentContents.{bound_of, bound_again, at_index}
 use Rattle.ll_steps.proofs.WalkMakes.{no_further}
 use Rattle.ll_steps.proofs.world.World.descend.Goals as goal

@@ -1,6 +1,6 @@
 use Rattle.std.proofs.Common.{Err, ap, sym, subst}
-use Rattle.ll_worlds.specs.World.{World}
-use Rattle.ll_worlds.specs.declared.step.Step.TheVariants.{Join}
+use Rattle.ll_laws.specs.World.{World}
+use Rattle.ll_laws.specs.declared.step.Step.TheVariants.{Join}
 use Rattle.ll_steps.specs.Makes.{Makes}
 use Rattle.ll_steps.specs.declared.report.Report.{Report}
 use Rattle.ll_steps.proofs.DirectMakes.{join_keeps, join_makes}

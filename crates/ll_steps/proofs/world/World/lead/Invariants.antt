@@ -1,4 +1,4 @@
-use Rattle.ll_worlds.specs.World.{World}
+use Rattle.ll_laws.specs.World.{World}
 use Rattle.ll_steps.specs.Calling.{Leads}
 use Rattle.ll_steps.specs.Left.{steps_left}
 use Rattle.ll_steps.specs.declared.report.Report.{Report}

@@ -1,5 +1,5 @@
 use Rattle.std.proofs.Common.{subst}
-use Rattle.ll_worlds.specs.Walks.{AreValid}
+use Rattle.ll_laws.specs.Walks.{AreValid}
 use Rattle.ll_journal.specs.Book.{Book}
 use Rattle.ll_walk.proofs.section.Section.by_law.Goals as goal
 

@@ -1,6 +1,6 @@
 use Rattle.std.proofs.Common.{◌∙◌, ap}
 use Rattle.ll_journal.specs.Steps.{Does}
-use Rattle.ll_worlds.specs.declared.step.Step.TheVariants.{Descend}
+use Rattle.ll_laws.specs.declared.step.Step.TheVariants.{Descend}
 use Rattle.ll_walk.specs.Sections.{Sees}
 use Rattle.ll_client.specs.Entries.{Kept, Knows}
 use Rattle.ll_walk.proofs.Looks.{sees_as}

@@ -1,6 +1,6 @@
 use Rattle.std.proofs.lemmas.Result.{IfOk-weaker}
 use Rattle.ll_journal.specs.Direct.{Answers}
-use Rattle.ll_worlds.specs.declared.step.Step.TheVariants.{FdCommit}
+use Rattle.ll_laws.specs.declared.step.Step.TheVariants.{FdCommit}
 use Rattle.ll_walk.proofs.Shown.{shows_1, stepped, turns}
 use Rattle.ll_walk.proofs.section.Section.fd_commit.Goals as goal
 

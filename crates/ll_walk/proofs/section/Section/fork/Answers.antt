@@ -1,6 +1,6 @@
 use Rattle.std.proofs.Common.{ap, refl}
 use Rattle.ll_journal.specs.Steps.{Does}
-use Rattle.ll_worlds.specs.declared.step.Step.TheVariants.{Fork}
+use Rattle.ll_laws.specs.declared.step.Step.TheVariants.{Fork}
 use Rattle.ll_client.specs.Entries.{Knows}
 use Rattle.ll_walk.specs.Sections.{IsView}
 use Rattle.ll_walk.proofs.Looks.{view_as}

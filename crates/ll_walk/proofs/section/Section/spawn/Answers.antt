@@ -1,6 +1,6 @@
 use Rattle.ll_seq.specs.declared.call.Call.TheVariants as calls
 use Rattle.ll_seq.specs.declared.reply.Reply.TheVariants as replies
-use Rattle.ll_worlds.specs.declared.step.Step.TheVariants.{ClientStep}
+use Rattle.ll_laws.specs.declared.step.Step.TheVariants.{ClientStep}
 use Rattle.ll_journal.specs.declared.direct.Made.TheVariants as made
 use Rattle.ll_journal.specs.Direct.{Answers}
 use Rattle.ll_client.specs.Coming.{childless}

@@ -5,7 +5,7 @@ use Rattle.std.proofs.lemmas.List.{append-nil}
 use Rattle.ll_path.specs.Path.{Path}
 use Rattle.ll_seq.specs.State.{root}
 use Rattle.ll_seq.specs.Tree.{named, ancestors}
-use Rattle.ll_answer.proofs.LongerPaths.{alone, beneath, end_push, chain_push}
+use Rattle.ll_seq.proofs.LongerPaths.{alone, beneath, end_push, chain_push}
 use Rattle.ll_why.specs.declared.chain.Chain.{Chain}
 use Rattle.ll_why.specs.Chains.{IsChain}
 use Rattle.ll_why.proofs.Sets.{both_ok}

@@ -1,6 +1,0 @@
-use Rattle.std.proofs.Common.{◌∙◌, sym}
-use Rattle.ll_answer.proofs.Walked.{after_none}
-use Rattle.ll_answer.proofs.refusals.first.Goals as goal
-
-pub returns-in-None : goal.returns-in-None
-returns-in-None c ones others one other = after_none ones others c.args.other (sym one ∙ c.in-None.is) other

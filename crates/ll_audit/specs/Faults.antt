@@ -1,0 +1,22 @@
+-- Which device failed, where a file of a history can't be read or written. own
+use Rattle.std.specs.Prelude.{◌≡◌, ℕ, ◌+◌, ◌^◌, ◌≤◌, true, false}
+use Rattle.ll_wire.specs.Devices.{Devices, IsWhole}
+use Rattle.ll_audit.specs.declared.auditing.FileAuditFault.{FileAuditFault}
+use Rattle.ll_audit.specs.declared.auditing.FileAuditFault.TheVariants as audit
+use Rattle.ll_audit.specs.declared.saving.SaveFault.{SaveFault}
+use Rattle.ll_audit.specs.declared.saving.SaveFault.TheVariants as saves
+
+-- these devices are left by a call that ends so, to which whole ones were given
+abbrev pub BlamesAudit : FileAuditFault → Devices → Type 0
+BlamesAudit audit.Read d = (d.is_input_broken ≡ true) × (d.is_output_broken ≡ false)
+BlamesAudit audit.Write d = (d.is_output_broken ≡ true) × (d.is_input_broken ≡ false)
+BlamesAudit audit.NoMemory d = IsWhole d
+
+abbrev pub BlamesSave : SaveFault → Devices → Type 0
+BlamesSave saves.Write d = d.is_output_broken ≡ true
+BlamesSave saves.NoMemory d = d.is_output_broken ≡ false
+
+-- a file is read whose lines aren't answered, by so many reads at most that gave bytes
+abbrev pub IsReading : Devices → ℕ → Type 0
+IsReading d most =
+    IsWhole d × (d.is_answering ≡ false) × (d.owed ≡ 0) × (d.reads ≤ 2 ^ 62 + most)

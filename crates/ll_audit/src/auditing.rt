@@ -1,0 +1,181 @@
+//! Files of histories, audited: read, judged, and told.
+
+ghost use Rattle.std.specs.Prelude.{◌≡◌, ◌≢◌, ◌<◌, ◌++◌, ℕ, List, true, false, length, IfSome, IfOk, IfErr, OnOk, Ok};
+ghost use Rattle.std.specs.Prelude.{Err};
+ghost use Rattle.std.specs.Io.KnownBytes.{Appends, Consumes, IsAtEnd, Keeps};
+ghost use Rattle.ll_wire.specs.Devices.{IsWhole};
+ghost use Rattle.ll_wire.specs.Pieces.{pieces};
+ghost use Rattle.ll_audit.specs.Faults.{BlamesAudit, IsReading};
+ghost use Rattle.ll_audit.specs.Saved.{Judges, verdict_line};
+ghost use Rattle.ll_wire.specs.Writing.{AppendsFront};
+ghost use Rattle.ll_audit.specs.declared.verdict.Verdict as verdicts;
+
+use crate::judging::judge;
+use crate::progress::Progress;
+use crate::verdict::Verdict;
+use ll_wire::{Ends, Pair, write_out};
+use std::alloc::{AllocError, Global};
+use std::io::{Read, Write};
+use thiserror::Error;
+
+/// Why an audit gives no answer.
+#[derive(Clone, Copy, Debug, PartialEq, Eq, Error)]
+pub enum FileAuditFault {
+    #[error("the history can't be read")]
+    Read,
+    #[error("the answer can't be written")]
+    Write,
+    #[error("no memory for the audit")]
+    NoMemory,
+}
+
+/// How many bytes a read asks for.
+const BLOCK: usize = 65_536;
+
+// Reads on, behind the bytes that were read. Whether there may be more.
+fn read_more<E: Ends>(
+    ends: &mut E,
+    chunk: &mut [u8],
+    bytes: &mut Vec<u8>,
+) -> Result<bool, FileAuditFault>
+    requires ready { IsReading (E.devices ends.old) (length bytes.old.items) }
+    requires chunk { 0 < length chunk.old }
+    ensures ready { OnOk result (IsReading (E.devices ends.new) (length bytes.new.items)) }
+    ensures some { result ≡ Ok true → length bytes.old.items < length bytes.new.items }
+    ensures end { result ≡ Ok false → IsAtEnd (E.devices ends.new).remaining }
+    ensures gained { OnOk result ((gained : List ℕ) × (bytes.new.items ≡ bytes.old.items ++ gained)
+        × Consumes (E.devices ends.old).remaining (E.devices ends.new).remaining gained) }
+    ensures contents { (E.devices ends.new).contents ≡ (E.devices ends.old).contents }
+    ensures fault { IfErr result (λ fault. BlamesAudit fault (E.devices ends.new)) }
+    ensures reading { IfErr result (λ fault. fault ≢ FileAuditFault.Write) }
+    ensures same { E.names ends.new ≡ E.names ends.old }
+{
+    match ends.read(chunk) {
+        Ok(0) => Ok(false),
+        Ok(count) => match bytes.extend_from_slice(&chunk[..count]) {
+            Ok(()) => Ok(true),
+            Err(_) => Err(FileAuditFault::NoMemory),
+        },
+        Err(_) => Err(FileAuditFault::Read),
+    }
+}
+
+// Room for a read.
+fn new_chunk(alloc: Global) -> Result<Vec<u8>, AllocError>
+    ensures { IfOk result (λ chunk. 0 < length chunk.items) }
+{
+    Vec::from_elem(alloc, 0u8, BLOCK)
+}
+
+// The whole file.
+fn read_file<E: Ends>(alloc: Global, ends: &mut E) -> Result<Vec<u8>, FileAuditFault>
+    requires { IsReading (E.devices ends.old) 0 }
+    ensures bytes { IfOk result (λ bytes. IfSome (E.devices ends.old).remaining (λ told. bytes.items ≡ told)) }
+    ensures end { OnOk result (IsAtEnd (E.devices ends.new).remaining) }
+    ensures contents { (E.devices ends.new).contents ≡ (E.devices ends.old).contents }
+    ensures whole { OnOk result (IsWhole (E.devices ends.new)) }
+    ensures fault { IfErr result (λ fault. BlamesAudit fault (E.devices ends.new)) }
+    ensures reading { IfErr result (λ fault. fault ≢ FileAuditFault.Write) }
+    ensures same { E.names ends.new ≡ E.names ends.old }
+{
+    let mut bytes = Vec::new(alloc);
+    let Ok(mut chunk) = new_chunk(alloc) else {
+        return Err(FileAuditFault::NoMemory);
+    };
+    while read_more(ends, &mut chunk, &mut bytes)? {}
+    Ok(bytes)
+}
+
+// Writes the verdict's line.
+fn write_verdict<E: Ends>(
+    alloc: Global,
+    verdict: Verdict,
+    ends: &mut E,
+) -> Result<(), FileAuditFault>
+    requires { IsWhole (E.devices ends.old) }
+    ensures ok { OnOk result (Appends (E.devices ends.old).contents (E.devices ends.new).contents
+        (verdict_line verdict)) }
+    ensures remaining { (E.devices ends.new).remaining ≡ (E.devices ends.old).remaining }
+    ensures silent { IfErr result (λ failure. failure ≢ FileAuditFault.Write
+        → (E.devices ends.new).contents ≡ (E.devices ends.old).contents) }
+    ensures begun { result ≡ Err FileAuditFault.Write
+        → AppendsFront (E.devices ends.old).contents (E.devices ends.new).contents (verdict_line verdict) }
+    ensures fault { IfErr result (λ fault. BlamesAudit fault (E.devices ends.new)) }
+    ensures same { E.names ends.new ≡ E.names ends.old }
+{
+    let Ok(line) = verdict.text(alloc) else {
+        return Err(FileAuditFault::NoMemory);
+    };
+    match write_out(ends, line.as_str().as_bytes()) {
+        Ok(()) => Ok(()),
+        Err(_) => Err(FileAuditFault::Write),
+    }
+}
+
+/// Reads a history's file to its end, judges it, and writes the answer's line, over two devices that count their
+/// failures. One that failed isn't called again.
+pub fn run_audit_over<E: Ends, P: Progress>(
+    alloc: Global,
+    ends: &mut E,
+    progress: &mut P,
+) -> Result<Verdict, FileAuditFault>
+    requires { IsReading (E.devices ends.old) 0 }
+    ensures end { OnOk result (IsAtEnd (E.devices ends.new).remaining) }
+    ensures verdict { IfOk result (λ verdict.
+        IfSome (E.devices ends.old).remaining (λ bytes. Judges (pieces bytes) verdict)) }
+    ensures answer { IfOk result (λ verdict.
+        Appends (E.devices ends.old).contents (E.devices ends.new).contents (verdict_line verdict)) }
+    // Only a failed write leaves anything written: a beginning of the answer.
+    ensures silent { IfErr result (λ failure. failure ≢ FileAuditFault.Write
+        → (E.devices ends.new).contents ≡ (E.devices ends.old).contents) }
+    ensures begun { result ≡ Err FileAuditFault.Write → (verdict : verdicts.Verdict)
+        × IfSome (E.devices ends.old).remaining (λ bytes. Judges (pieces bytes) verdict)
+        × AppendsFront (E.devices ends.old).contents (E.devices ends.new).contents (verdict_line verdict) }
+    // A device is blamed only where it failed in this call, and neither is where memory is wanted.
+    ensures fault { IfErr result (λ fault. BlamesAudit fault (E.devices ends.new)) }
+    ensures same { E.names ends.new ≡ E.names ends.old }
+{
+    let bytes = match read_file(alloc, ends) {
+        Ok(bytes) => bytes,
+        Err(failure) => return Err(failure),
+    };
+    let Ok(verdict) = judge(alloc, bytes.as_slice(), progress) else {
+        return Err(FileAuditFault::NoMemory);
+    };
+    match write_verdict(alloc, verdict, ends) {
+        Ok(()) => Ok(verdict),
+        Err(failure) => Err(failure),
+    }
+}
+
+/// Reads a history's file to its end, judges it, and writes the answer's line.
+pub fn run_audit<R: Read, W: Write, P: Progress>(
+    alloc: Global,
+    reader: &mut R,
+    writer: &mut W,
+    progress: &mut P,
+) -> Result<Verdict, FileAuditFault>
+    ensures end { OnOk result (IsAtEnd (R.remaining reader.new)) }
+    ensures verdict { IfOk result (λ verdict.
+        IfSome (R.remaining reader.old) (λ bytes. Judges (pieces bytes) verdict)) }
+    ensures answer { IfOk result (λ verdict.
+        Appends (W.contents writer.old) (W.contents writer.new) (verdict_line verdict)) }
+
+    // Only a failed write leaves anything written: a beginning of the answer.
+    ensures silent { IfErr result (λ failure. failure ≢ FileAuditFault.Write
+        → Keeps (W.contents writer.old) (W.contents writer.new)) }
+    ensures begun { result ≡ Err FileAuditFault.Write → (verdict : verdicts.Verdict)
+        × IfSome (R.remaining reader.old) (λ bytes. Judges (pieces bytes) verdict)
+        × AppendsFront (W.contents writer.old) (W.contents writer.new) (verdict_line verdict) }
+{
+    let mut ends = Pair {
+        reader,
+        writer,
+        reads: 0,
+        owed: 0,
+        is_answering: false,
+        is_input_broken: false,
+        is_output_broken: false,
+    };
+    run_audit_over(alloc, &mut ends, progress)
+}

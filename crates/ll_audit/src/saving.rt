@@ -1,0 +1,188 @@
+//! Histories, saved.
+
+ghost use Rattle.std.specs.Prelude.{◌≡◌, ◌<◌, ◌≤◌, ◌++◌, ℕ, List, true, false, length, IfErr, OnOk, OnErr};
+ghost use Rattle.std.specs.Prelude.{string_bytes, IfSome};
+ghost use Rattle.std.specs.List.{All};
+ghost use Rattle.std.specs.Io.KnownBytes.{Appends};
+ghost use Rattle.ll_rights.specs.declared.limits.TheConstants.{TREE_NODES};
+ghost use Rattle.ll_wire.specs.Entries.{IsEntry, entry_line, header_tokens};
+ghost use Rattle.ll_wire.specs.Grammar.{line_of};
+ghost use Rattle.ll_audit.specs.Faults.{BlamesSave};
+ghost use Rattle.ll_audit.specs.Saved.{saved_text};
+ghost use Rattle.ll_wire.specs.Writing.{AppendsFront};
+
+use ll_seq::Entry;
+use ll_wire::{Broken, Destination, Ends, Header, Pair, entry_text, header_text, write_out};
+use std::alloc::{AllocError, Global};
+use std::io;
+use std::io::{Write, empty};
+use thiserror::Error;
+
+/// At how many bytes or more the text that waits is written.
+const BLOCK: usize = 65_536;
+
+/// Why a history isn't saved.
+#[derive(Clone, Copy, Debug, PartialEq, Eq, Error)]
+pub enum SaveFault {
+    #[error("the history can't be written")]
+    Write,
+    #[error("no memory for the history's text")]
+    NoMemory,
+}
+
+impl SaveFault {
+    // Returns what keeps a draft from being made, or put in its place.
+    fn of(error: &io::Error) -> SaveFault {
+        match error.kind() {
+            io::ErrorKind::OutOfMemory => SaveFault::NoMemory,
+            _ => SaveFault::Write,
+        }
+    }
+}
+
+// The line of an entry comes after the text.
+fn push_entry(alloc: Global, entry: &Entry, text: &mut String) -> Result<(), AllocError>
+    requires { IsEntry entry.now }
+    ensures { OnOk result (string_bytes text.new ≡ string_bytes text.old ++ entry_line entry.now) }
+{
+    let line = entry_text(alloc, entry)?;
+    text.push_str(line.as_str())
+}
+
+// Writes the text where it is long, and leaves it empty then.
+fn write_block<E: Ends>(text: &mut String, ends: &mut E) -> Result<(), Broken>
+    requires { (E.devices ends.old).is_output_broken ≡ false }
+    ensures ok { OnOk result ((front : List ℕ) × (string_bytes text.old ≡ front ++ string_bytes text.new)
+        × Appends (E.devices ends.old).contents (E.devices ends.new).contents front) }
+    ensures short { OnOk result (length (string_bytes text.new) < 65536) }
+    ensures whole { OnOk result ((E.devices ends.new).is_output_broken ≡ false) }
+    ensures err { OnErr result (AppendsFront (E.devices ends.old).contents (E.devices ends.new).contents
+        (string_bytes text.old)) }
+    ensures broken { OnErr result ((E.devices ends.new).is_output_broken ≡ true) }
+    ensures same { E.names ends.new ≡ E.names ends.old }
+{
+    if text.len() < BLOCK {
+        return Ok(());
+    }
+    match write_out(ends, text.as_str().as_bytes()) {
+        Ok(()) => {
+            text.clear();
+            Ok(())
+        }
+        Err(broken) => Err(broken),
+    }
+}
+
+/// Writes a history's file to a device that counts its failures. One that failed isn't called again.
+pub fn save_over<E: Ends>(
+    alloc: Global,
+    header: Header,
+    entries: &[Entry],
+    ends: &mut E,
+) -> Result<(), SaveFault>
+    requires some { 1 ≤ header.nodes }
+    requires most { header.nodes ≤ TREE_NODES }
+    requires entries { All IsEntry entries.now }
+    requires whole { (E.devices ends.old).is_output_broken ≡ false }
+    ensures ok { OnOk result (Appends (E.devices ends.old).contents (E.devices ends.new).contents
+        (saved_text header entries.now)) }
+    // With a fault, what was written is a beginning of that text.
+    ensures err { OnErr result (AppendsFront (E.devices ends.old).contents (E.devices ends.new).contents
+        (saved_text header entries.now)) }
+    // The device is blamed only where it failed in this call.
+    ensures fault { IfErr result (λ fault. BlamesSave fault (E.devices ends.new)) }
+    ensures same { E.names ends.new ≡ E.names ends.old }
+{
+    let Ok(mut text) = header_text(alloc, header) else {
+        return Err(SaveFault::NoMemory);
+    };
+    for entry in entries {
+        let Ok(()) = push_entry(alloc, entry, &mut text) else {
+            return Err(SaveFault::NoMemory);
+        };
+        let Ok(()) = write_block(&mut text, ends) else {
+            return Err(SaveFault::Write);
+        };
+    }
+    match write_out(ends, text.as_str().as_bytes()) {
+        Ok(()) => Ok(()),
+        Err(_) => Err(SaveFault::Write),
+    }
+}
+
+/// Writes a history's file: its header, and a line for each entry.
+pub fn save<W: Write>(
+    alloc: Global,
+    header: Header,
+    entries: &[Entry],
+    writer: &mut W,
+) -> Result<(), SaveFault>
+    requires some { 1 ≤ header.nodes }
+    requires most { header.nodes ≤ TREE_NODES }
+    requires entries { All IsEntry entries.now }
+    ensures ok { OnOk result
+        (Appends (W.contents writer.old) (W.contents writer.new) (saved_text header entries.now)) }
+    // With a fault, what was written is a beginning of that text.
+    ensures err { OnErr result
+        (AppendsFront (W.contents writer.old) (W.contents writer.new) (saved_text header entries.now)) }
+{
+    let mut nothing = empty();
+    let mut ends = Pair {
+        reader: &mut nothing,
+        writer,
+        reads: 0,
+        owed: 0,
+        is_answering: false,
+        is_input_broken: false,
+        is_output_broken: false,
+    };
+    save_over(alloc, header, entries, &mut ends)
+}
+
+/// Saves a history: its header and a line for each entry are all that stands in the destination then. With a fault,
+/// what stood there stays.
+pub fn save_in<D: Destination>(
+    alloc: Global,
+    header: Header,
+    entries: &[Entry],
+    destination: &mut D,
+) -> Result<(), SaveFault>
+    requires some { 1 ≤ header.nodes }
+    requires most { header.nodes ≤ TREE_NODES }
+    requires entries { All IsEntry entries.now }
+    ensures ok { OnOk result
+        (Appends (D.blank destination.old) (D.contents destination.new) (saved_text header entries.now)) }
+    ensures err { OnErr result (D.contents destination.new ≡ D.contents destination.old) }
+{
+    let mut draft = match destination.draft() {
+        Ok(draft) => draft,
+        Err(error) => return Err(SaveFault::of(&error)),
+    };
+    if let Err(fault) = save(alloc, header, entries, &mut draft) {
+        destination.remove(draft);
+        return Err(fault);
+    }
+    match destination.put(draft) {
+        Ok(()) => Ok(()),
+        Err(error) => Err(SaveFault::of(&error)),
+    }
+}
+
+/// Makes the draft of a history that grows as it is made: so far its header. None where there is none.
+pub fn record_in<D: Destination>(
+    alloc: Global,
+    header: Header,
+    destination: &mut D,
+) -> Option<D::Draft>
+    requires some { 1 ≤ header.nodes }
+    requires most { header.nodes ≤ TREE_NODES }
+    ensures begun { IfSome result (λ draft.
+        Appends (D.blank destination.old) (D.Draft.contents draft) (line_of (header_tokens header))) }
+    ensures same { D.contents destination.new ≡ D.contents destination.old }
+    ensures again { D.blank destination.new ≡ D.blank destination.old }
+{
+    match header_text(alloc, header) {
+        Ok(head) => destination.record(head.as_str().as_bytes()),
+        Err(_) => None,
+    }
+}

@@ -1,0 +1,51 @@
+//! The table's rule, and what its steps tell.
+
+use crate::view::View;
+use atomic_table::{Join, Play, Split, TableRule};
+use std::marker::Brand;
+
+/// Each entry that is shown is the keeper's, and no two seats show one of the same number.
+pub struct Tied;
+
+impl<D> TableRule<(), View<D>, ()> for Tied {
+    ghost use Rattle.ll_rights.specs.Map.{empty};
+    ghost use Rattle.ll_client.specs.Views.{keeper};
+    ghost use Rattle.ll_client.specs.TieRule.{IsTied};
+
+    ghost holds = { λ about state. IsTied state.views };
+
+    ghost first = { λ about. keeper empty };
+}
+
+/// The keeper compares the entry that it was given to show with its own, which then goes.
+pub struct TakesBack;
+
+impl<D> Play<(), View<D>> for TakesBack {
+    ghost use Rattle.ll_client.specs.TieRule.{TakesEntry};
+
+    ghost then = { λ step before found after. TakesEntry before after };
+}
+
+/// What a step tells where the proof of its caller picks it.
+impl<D> Play<(), View<D>> for Brand {
+    ghost then = { λ step before found after. Unit {0} };
+}
+
+/// One seat gets the entry that the other one shows.
+pub struct OneEntry;
+
+impl<D> Join<View<D>> for OneEntry {
+    ghost use Rattle.ll_client.specs.Views.{joined, spent};
+
+    ghost both = { joined };
+
+    ghost spent = { spent };
+}
+
+impl<D> Split<View<D>> for OneEntry {
+    ghost use Rattle.ll_client.specs.Views.{without_entry, only_entry};
+
+    ghost left = { without_entry };
+
+    ghost right = { only_entry };
+}

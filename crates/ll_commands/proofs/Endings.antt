@@ -1,0 +1,117 @@
+-- How serving ends: well, or by a failure.
+use Rattle.std.specs.Prelude.{◌≡◌, ℕ, List, Option, None, Some, IfSome, OnOk, Result, Ok, Err, is_some, option_map}
+use Rattle.std.specs.Prelude.{IfErr, OnErr, false, refl, true}
+use Rattle.std.specs.Borrow.{Bor}
+use Rattle.std.specs.Io.KnownBytes.{Appends}
+use Rattle.std.proofs.Common.{ap, inl, inr, subst, sym, ◌∙◌}
+use Rattle.ll_options.specs.Options.{RunOrder, ServeOrder, order_in, served_in}
+use Rattle.ll_options.specs.declared.options.RunOptions.{RunOptions}
+use Rattle.ll_options.specs.declared.serve.ServeOptions.{ServeOptions}
+use Rattle.ll_runs.specs.Failure.{IsOfSaving}
+use Rattle.ll_runs.specs.Policy.{IsSaved, IsSetup, Lacks, header_of}
+use Rattle.ll_runs.specs.declared.failure.Failure.{Failure}
+use Rattle.ll_audit.specs.Saved.{saved_text}
+use Rattle.ll_seq.specs.declared.reply.Entry.{Entry}
+use Rattle.ll_session.specs.declared.setup.Setup.{Setup}
+use Rattle.ll_wire.specs.declared.header.Header.{Header}
+use Rattle.ll_commands.specs.Serving.{IsDone, IsServed, MayFail, MayStop, listening, run_of}
+
+-- ---- the names of files
+
+abbrev bytes_of : Option (Bor (List ℕ)) → Option (List ℕ)
+bytes_of name = option_map (λ (t : Bor (List ℕ)). t.now) name
+
+named : (name : Option (Bor (List ℕ))) → is_some (bytes_of name) ≡ is_some name
+named None = refl
+named (Some t) = refl
+
+-- no file is named
+not_saved : (setup : Setup) (entries : List Entry) (save : Option (Bor (List ℕ))) (blank file : Option (List ℕ))
+    → is_some save ≡ false → IsSaved (bytes_of save) setup entries blank file file
+not_saved setup entries None blank file none = refl
+not_saved setup entries (Some name) blank file none = absurd (cc none)
+
+-- one is
+is_saved : (setup : Setup) (entries : List Entry) (save : Option (Bor (List ℕ))) (blank file file' : Option (List ℕ))
+    (h : Header) → is_some save ≡ true → h ≡ header_of setup → Appends blank file' (saved_text h entries)
+    → IsSaved (bytes_of save) setup entries blank file file'
+is_saved setup entries None blank file file' h some is saved = absurd (cc some)
+is_saved setup entries (Some name) blank file file' h some is saved =
+    subst (λ (x : Header). Appends blank file' (saved_text x entries)) is saved
+
+-- ---- by the options, and the text that the policy's file tells
+
+module _ (options : ServeOptions) (run : RunOptions) (is : order_in run ≡ run_of (served_in options))
+    (policy : Option (List ℕ)) where
+  abbrev Told : (List ℕ → Type 0) → Type 0
+  Told Holds = (text : List ℕ) × IfSome policy (λ told. text ≡ told) × Holds text
+
+  abbrev order : ServeOrder
+  order = served_in options
+
+  pub unset : (out file : Option (List ℕ)) (failure : Failure) → is_some run.policy ≡ true
+      → Told (λ text. Lacks (order_in run) text failure)
+      → Told (λ text. MayFail order text out out file file failure)
+  unset out file failure some lacks =
+      let policy_is : is_some order.policy ≡ true =
+      sym (ap (λ (o : RunOrder). is_some o.policy) is) ∙ named run.policy ∙ some in (
+        lacks.0,
+        lacks.1,
+        inl (
+          policy_is,
+          subst (λ (o : RunOrder). Lacks o lacks.0 failure) is lacks.2,
+          refl,
+          refl,
+        ),
+      )
+
+  module _ (setup : Setup) (set : Told (λ text. IsSetup (order_in run) text setup)) where
+    is_set : IsSetup (run_of order) set.0 setup
+    is_set = subst (λ (o : RunOrder). IsSetup o set.0 setup) is set.2
+
+    pub unserved : (out out' file file' : Option (List ℕ)) (failure : Failure)
+        → MayStop setup options.port out out' failure → file' ≡ file
+        → Told (λ text. MayFail order text out out' file file' failure)
+    unserved out out' file file' failure stops same = (set.0, set.1, inr (inl (setup, is_set, stops, same)))
+
+    module _ (out out' file file' : Option (List ℕ)) (told : Appends out out' (listening options.port)) where
+      pub unsaved : {T : Type 0} (r : Result T Failure) → is_some options.save ≡ true → IfErr r IsOfSaving
+          → OnErr r (file' ≡ file)
+          → IfErr r (λ failure. Told (λ text. MayFail order text out out' file file' failure))
+      unsaved (Ok value) some saving same = tt
+      unsaved (Err failure) some saving same =
+          (set.0, set.1, inr (inr (named options.save ∙ some, saving, setup, is_set, told, same)))
+
+      module _ (blank : Option (List ℕ)) (entries : List Entry) (served : IsServed setup entries) where
+        pub done : is_some options.save ≡ false → file' ≡ file
+            → Told (λ text. IsDone order text out out' blank file file')
+        done none same = (
+          set.0,
+          set.1,
+          (
+            setup,
+            entries,
+            is_set,
+            served,
+            told,
+            subst (λ (f : Option (List ℕ)). IsSaved (bytes_of options.save) setup entries blank file f) (sym same)
+                (not_saved setup entries options.save blank file none),
+          ),
+        )
+
+        pub saved : {T E : Type 0} (r : Result T E) (h : Header) → is_some options.save ≡ true → h ≡ header_of setup
+            → OnOk r (Appends blank file' (saved_text h entries))
+            → OnOk r (Told (λ text. IsDone order text out out' blank file file'))
+        saved (Ok value) h some header it = (
+          set.0,
+          set.1,
+          (
+            setup,
+            entries,
+            is_set,
+            served,
+            told,
+            is_saved setup entries options.save blank file file' h some header it,
+          ),
+        )
+        saved (Err fault) h some header it = tt

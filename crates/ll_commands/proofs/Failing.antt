@@ -1,0 +1,51 @@
+-- Why nothing is told.
+use Rattle.std.specs.Prelude.{◌≡◌, ◌⊎◌, ℕ, List, refl}
+use Rattle.std.proofs.Common.{inl, inr}
+use Rattle.ll_seq.specs.declared.call.Call.{Call}
+use Rattle.ll_options.specs.Options.{RunOrder}
+use Rattle.ll_runs.specs.Policy.{IsSetup}
+use Rattle.ll_runs.specs.declared.failure.Failure.{Failure}
+use Rattle.ll_runs.specs.declared.failure.Failure.TheVariants.{CommandLine, Policy, Opening, File, Output, Socket}
+use Rattle.ll_runs.specs.declared.failure.Failure.TheVariants.{NoMemory}
+use Rattle.ll_session.specs.declared.setup.Setup.{Setup}
+use Rattle.ll_commands.specs.Opening.{FailsSo, IsStopped}
+use Rattle.ll_commands.specs.Why.{CommandFails, EntryFails, IsCommand}
+
+module _ (run : RunOrder) (word file : List ℕ) where
+  pub by_word : (f : Failure) → (f ≡ CommandLine) ⊎ (f ≡ NoMemory)
+      → (f ≡ CommandLine → (call : Call) → IsCommand word call → ⊥) → CommandFails run word file f
+  by_word CommandLine is none = inl (none refl)
+  by_word (Policy fault) (inl e) none = absurd (cc e)
+  by_word (Policy fault) (inr e) none = absurd (cc e)
+  by_word Opening (inl e) none = absurd (cc e)
+  by_word Opening (inr e) none = absurd (cc e)
+  by_word File is none = tt
+  by_word Output (inl e) none = absurd (cc e)
+  by_word Output (inr e) none = absurd (cc e)
+  by_word Socket (inl e) none = absurd (cc e)
+  by_word Socket (inr e) none = absurd (cc e)
+  by_word NoMemory is none = tt
+
+  pub by_opening : (setup : Setup) (f : Failure) → IsSetup run file setup → FailsSo (IsStopped setup) f
+      → CommandFails run word file f
+  by_opening setup CommandLine is fails = absurd fails
+  by_opening setup (Policy fault) is fails = absurd fails
+  by_opening setup Opening is fails = (setup, is, fails)
+  by_opening setup File is fails = tt
+  by_opening setup Output is fails = absurd fails
+  by_opening setup Socket is fails = absurd fails
+  by_opening setup NoMemory is fails = tt
+
+pub by_file : (number : ℕ) (file : List ℕ) (f : Failure) → (f ≡ File) ⊎ (f ≡ NoMemory) → EntryFails number file f
+by_file number file CommandLine (inl e) = absurd (cc e)
+by_file number file CommandLine (inr e) = absurd (cc e)
+by_file number file (Policy fault) (inl e) = absurd (cc e)
+by_file number file (Policy fault) (inr e) = absurd (cc e)
+by_file number file Opening (inl e) = absurd (cc e)
+by_file number file Opening (inr e) = absurd (cc e)
+by_file number file File is = tt
+by_file number file Output (inl e) = absurd (cc e)
+by_file number file Output (inr e) = absurd (cc e)
+by_file number file Socket (inl e) = absurd (cc e)
+by_file number file Socket (inr e) = absurd (cc e)
+by_file number file NoMemory is = tt

@@ -1,0 +1,11 @@
+pub mod Endings
+pub mod ExportFailing
+pub mod Failing
+pub mod First
+pub mod Growing
+pub mod Hosted
+pub mod Loadings
+pub mod Numbers
+pub mod Rows
+pub mod Stopping
+pub mod Texts

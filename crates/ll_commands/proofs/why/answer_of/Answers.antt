@@ -1,0 +1,27 @@
+use Rattle.std.proofs.Common.{Option, Some, ap, sym, subst, refl, inr, ◌∙◌}
+use Rattle.std.proofs.lemmas.Result.{IfErr-weaker}
+use Rattle.ll_options.specs.Options.{Asked, RunOrder, question_of}
+use Rattle.ll_options.specs.declared.why.Question.{Question}
+use Rattle.ll_runs.specs.declared.failure.Failure.TheVariants.{CommandLine}
+use Rattle.ll_commands.specs.Why.{CommandFails, Fails}
+use Rattle.ll_commands.proofs.Rows.{left}
+use Rattle.ll_commands.proofs.why.answer_of.Goals as goal
+
+pub returns-in-None-clause-failure : goal.returns-in-None-clause-failure
+returns-in-None-clause-failure g c =
+    let t = left (g.R.Read.remaining c.args.file.now) in
+    let nodes = c.args.options.now.nodes in
+    (t.0, t.1, inr (subst (λ (a : Option Asked). Fails nodes a t.0 CommandLine) c.in-None.ensures refl))
+
+pub returns-in-Some-Command-clause-failure : goal.returns-in-Some-Command-clause-failure
+returns-in-Some-Command-clause-failure g c =
+    let nodes = c.args.options.now.nodes in
+    let word = c.in-Some-Command.word.now in
+    let asked = sym (ap (λ (q : Question). Some (question_of q)) c.in-Some-Command.field-0-is)
+    ∙ c.in-Some-Command.ensures in
+    IfErr-weaker c.answer_of_command.result _ _ (λ failure h. (
+      h.0,
+      h.1,
+      inr (subst (λ (a : Option Asked). Fails nodes a h.0 failure) asked
+          (subst (λ (run : RunOrder). CommandFails run word h.0 failure) c.run_by.ensures h.2)),
+    )) c.answer_of_command.ensures.failure

@@ -1,0 +1,65 @@
+-- A profile of a policy, as a text for other programs. own
+use Rattle.std.specs.Prelude.{◌≡◌, ◌⊎◌, ⊤, ℕ, true, false, List, [], Some, None}
+use Rattle.std.specs.Str.{IsUtf8}
+use Rattle.toml.specs.Parse.{parse_document}
+use Rattle.ll_options.specs.declared.export.Form.{Form}
+use Rattle.ll_options.specs.declared.export.Form.TheVariants.{C, Json}
+use Rattle.ll_options.specs.Options.{ExportOrder, RunOrder, fits_export}
+use Rattle.ll_policy.specs.Faults.{document_faults}
+use Rattle.ll_policy.specs.KeptCalls.{calls_of_layers}
+use Rattle.ll_policy.specs.Plan.{Plan, IsPlanOf}
+use Rattle.ll_runs.specs.declared.failure.Failure.{Failure}
+use Rattle.ll_runs.specs.declared.failure.Failure.TheVariants.{CommandLine, Policy, Opening, File, Output, Socket}
+use Rattle.ll_runs.specs.declared.failure.Failure.TheVariants.{NoMemory}
+use Rattle.ll_runs.specs.declared.checked.Checked.{Checked}
+use Rattle.ll_runs.specs.declared.checked.Checked.TheVariants as checked
+use Rattle.ll_runs.specs.declared.conclusion.Conclusion.{Conclusion}
+use Rattle.ll_runs.specs.declared.conclusion.Conclusion.TheVariants.{Done}
+use Rattle.ll_runs.specs.declared.conclusion.Conclusion.TheVariants as conclusion
+use Rattle.ll_runs.specs.Policy.{Lacks, profile_of}
+use Rattle.ll_commands.specs.declared.confinement.Confinement.{Confinement}
+use Rattle.ll_commands.specs.Confinement.{is_enforceable}
+use Rattle.ll_commands.specs.Json.{json_text}
+use Rattle.ll_commands.specs.CProgram.{c_text}
+
+-- the layers in this form
+abbrev pub export_text : ExportOrder → Form → Confinement → List ℕ
+export_text order C c = c_text order c
+export_text order Json c = json_text order c
+
+-- these are the policy's level, the calls that make its nodes, and the layers of the profile, where the policy's file
+-- has this text, with which nothing is wrong
+pub record IsOfPolicy (name text : List ℕ) (c : Confinement) : Type 0 where
+  pub plan : Plan
+  pub utf8 : IsUtf8 text
+  pub right : document_faults (parse_document text) ≡ []
+  pub is : IsPlanOf (parse_document text) plan
+  pub abi : c.abi ≡ plan.abi
+  pub opening : c.opening.now ≡ plan.opening
+  pub calls : Some (calls_of_layers 0 c.layers.now) ≡ profile_of (Some name) plan
+
+-- The text that is wanted, where the policy's file has this text: of layers that can be enforced
+abbrev pub IsExport : ExportOrder → (text written : List ℕ) → Type 0
+IsExport order text written =
+    (form : Form) × (c : Confinement) × (order.form ≡ Some form) × (fits_export order ≡ true)
+    × IsOfPolicy order.profile text c × (is_enforceable c ≡ true) × (written ≡ export_text order form c)
+
+-- Why nothing is written: words that don't go together; a profile that a right policy hasn't, or whose layers can't be
+-- enforced; the first of what is wrong with the policy's text, as each run by it lacks it too; a file that can't be
+-- read or written; want of memory
+abbrev pub MayFail : ExportOrder → List ℕ → Failure → Type 0
+MayFail order text CommandLine =
+    (fits_export order ≡ false)
+    ⊎ ((plan : Plan) × IsPlanOf (parse_document text) plan × (profile_of (Some order.profile) plan ≡ None))
+    ⊎ ((c : Confinement) × IsOfPolicy order.profile text c × (is_enforceable c ≡ false))
+MayFail order text (Policy fault) = (run : RunOrder) → Lacks run text (Policy fault)
+MayFail order text Opening = ⊥
+MayFail order text File = ⊤
+MayFail order text Output = ⊤
+MayFail order text Socket = ⊥
+MayFail order text NoMemory = ⊤
+
+-- how an export ends whose checks end so, if nothing fails
+abbrev pub ended_by : Checked → Conclusion
+ended_by checked.Passed = Done
+ended_by end = conclusion.Checked end

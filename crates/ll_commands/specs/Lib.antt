@@ -1,0 +1,11 @@
+pub mod CProgram
+pub mod Confinement
+pub mod Export
+pub mod Json
+pub mod Loading
+pub mod Opening
+pub mod Rights
+pub mod Schedules
+pub mod Serving
+pub mod Table
+pub mod Why

@@ -1,0 +1,119 @@
+-- The rights of a policy's profile, told as a table. own
+use Rattle.std.specs.Prelude.{◌≡◌, ◌≢◌, ◌⊎◌, ⊤, ℕ, Bool, List, [], ◌∷◌, ◌++◌, map, codes, Option, Some, None}
+use Rattle.std.specs.Prelude.{false, option_to_list}
+use Rattle.std.specs.List.{flat_map}
+use Rattle.std.specs.Option.{option_map_or}
+use Rattle.clap.specs.Words.{Text}
+use Rattle.ll_path.specs.Path.{Path, path_of_text, path_refusals}
+use Rattle.ll_path.specs.Word.{IsWord}
+use Rattle.ll_path.specs.declared.target.Target.{Target}
+use Rattle.ll_path.specs.declared.target.Target.TheVariants.{Good, Bad}
+use Rattle.ll_rules.specs.Layer.{Layer}
+use Rattle.ll_seq.specs.declared.call.Call.{Call}
+use Rattle.ll_seq.specs.declared.call.Call.TheVariants.{Make, Open, Read, Write, Ftruncate, Close, Truncate, ReadDir}
+use Rattle.ll_seq.specs.declared.call.Call.TheVariants.{Stat, Exec, Unlink, Rmdir, Rename, RenameNoreplace, Exchange}
+use Rattle.ll_seq.specs.declared.call.Call.TheVariants.{Link, Ruleset, Allow, Confine, Spawn, Connect}
+use Rattle.ll_seq.specs.State.{State}
+use Rattle.ll_seq.specs.Step.{client_of}
+use Rattle.ll_options.specs.Options.{RightsOrder, RunOrder}
+use Rattle.ll_runs.specs.Policy.{IsSetup, Lacks}
+use Rattle.ll_runs.specs.declared.failure.Failure.{Failure}
+use Rattle.ll_runs.specs.declared.failure.Failure.TheVariants.{CommandLine, Policy, Opening, File, Output, Socket}
+use Rattle.ll_runs.specs.declared.failure.Failure.TheVariants.{NoMemory}
+use Rattle.ll_session.specs.declared.setup.Setup.{Setup}
+use Rattle.ll_why.specs.Rights.{AreRights}
+use Rattle.ll_why.specs.declared.rights.PathRights.{PathRights}
+use Rattle.ll_commands.specs.Opening.{Opens, IsStopped}
+use Rattle.ll_commands.specs.Table.{row_line}
+
+-- a line for each path, in order
+abbrev pub AreRows : State → List Layer → Bool → List Path → List ℕ → Type 0
+AreRows s domain layers [] text = text ≡ []
+AreRows s domain layers (path ∷ paths) text =
+    (told : PathRights) × (rest : List ℕ) × AreRights s domain path told × AreRows s domain layers paths rest
+    × (text ≡ row_line path told layers ++ rest)
+
+abbrev pub target_path : Target → Option Path
+target_path (Good path) = Some path
+target_path (Bad word) = None
+
+-- the path of the node that the call makes, if it makes one
+abbrev pub made_path : Call → Option Path
+made_path (Make kind target) = target_path target
+made_path (Open mode target) = None
+made_path (Read fd offset count) = None
+made_path (Write fd offset bytes) = None
+made_path (Ftruncate fd size) = None
+made_path (Close fd) = None
+made_path (Truncate target size) = None
+made_path (ReadDir target) = None
+made_path (Stat target) = None
+made_path (Exec target) = None
+made_path (Unlink target) = None
+made_path (Rmdir target) = None
+made_path (Rename old new) = None
+made_path (RenameNoreplace old new) = None
+made_path (Exchange old new) = None
+made_path (Link old new) = None
+made_path (Ruleset rights) = None
+made_path (Allow number target rights) = None
+made_path (Confine number) = None
+made_path Spawn = None
+made_path Connect = None
+
+abbrev pub made_paths : List Call → List Path
+made_paths = flat_map (λ call. option_to_list (made_path call))
+
+-- the paths that the words name, or where there is none those of the policy's nodes
+abbrev pub paths_told : List Text → Setup → List Path
+paths_told [] setup = option_map_or (λ calls. made_paths calls.items) setup.loader []
+paths_told (word ∷ words) setup = map path_of_text (word ∷ words)
+
+-- the run whose first client is the one that is asked about
+abbrev pub run_of : RightsOrder → RunOrder
+run_of order = record {
+  script = codes "-";
+  nodes = order.nodes;
+  level = None;
+  history = 1;
+  policy = Some order.policy;
+  profile = Some order.profile;
+  save = None;
+  strict = false;
+}
+
+-- The table of the profile's rights, where the policy's file has this text: those of its client when it has confined
+-- itself
+abbrev pub IsTable : RightsOrder → List ℕ → List ℕ → Type 0
+IsTable order text table =
+    (setup : Setup) × (client : ℕ) × (s : State) × IsSetup (run_of order) text setup × Opens setup client s
+    × AreRows s (client_of s client).domain order.layers (paths_told order.paths setup) table
+
+-- the word spells no path
+abbrev pub IsBadWord : Text → Type 0
+IsBadWord word = (IsWord word → ⊥) ⊎ (path_refusals word ≢ [])
+
+abbrev pub HasBadWord : List Text → Type 0
+HasBadWord [] = ⊥
+HasBadWord (word ∷ words) = IsBadWord word ⊎ HasBadWord words
+
+-- Why there is no table: a word spells no path; there is no setup; a call that the policy asks for is refused; it can't
+-- be written; want of memory
+abbrev pub MayFail : RightsOrder → List ℕ → Failure → Type 0
+MayFail order text CommandLine = HasBadWord order.paths ⊎ Lacks (run_of order) text CommandLine
+MayFail order text (Policy fault) = Lacks (run_of order) text (Policy fault)
+MayFail order text Opening = (setup : Setup) × IsSetup (run_of order) text setup × IsStopped setup
+MayFail order text File = ⊤
+MayFail order text Output = ⊤
+MayFail order text Socket = ⊥
+MayFail order text NoMemory = ⊤
+
+-- the paths of the words can't be told
+abbrev pub IsOfWords : Failure → Type 0
+IsOfWords CommandLine = ⊤
+IsOfWords NoMemory = ⊤
+IsOfWords failure = ⊥
+
+-- the text is behind what was there, and holds a line for each path
+abbrev pub AddsRows : State → List Layer → Bool → List Path → (old new : List ℕ) → Type 0
+AddsRows s domain layers paths old new = (rows : List ℕ) × AreRows s domain layers paths rows × (new ≡ old ++ rows)

@@ -1,0 +1,15 @@
+-- What the words of a schedule set up. own
+use Rattle.std.specs.Prelude.{◌≡◌, true, unwrap_or}
+use Rattle.ll_steps.specs.declared.setup.WorldSetup.{WorldSetup}
+use Rattle.ll_picture.specs.declared.window.Window.{Window}
+use Rattle.ll_options.specs.Options.{ScheduleOrder}
+
+-- The setup that is wanted
+pub record IsWorldSetup (order : ScheduleOrder) (setup : WorldSetup) : Type 0 where
+  pub rules : setup.rules ≡ record { abi = unwrap_or order.level 3; copies = true }
+  pub nodes : setup.nodes ≡ order.nodes
+  pub history : setup.history ≡ order.history
+
+-- The lines that are to be drawn: from the first on where no other is told
+abbrev pub window_of : ScheduleOrder → Window
+window_of order = record { from = unwrap_or order.from 1; to = order.to }

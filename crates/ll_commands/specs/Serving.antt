@@ -1,0 +1,96 @@
+-- Serving on a tree: what is written, what is saved, and how it may fail. own
+use Rattle.std.specs.Prelude.{◌≡◌, ◌⊎◌, ℕ, List, [], ◌∷◌, ◌++◌, Option, true, false, codes, decimal, is_some}
+use Rattle.std.specs.Io.KnownBytes.{Appends}
+use Rattle.std.specs.declared.alloc.Global.{Global}
+use Rattle.std.specs.declared.vec.Vec.{Vec}
+use Rattle.ll_client.specs.Closed.{IsClosed}
+use Rattle.ll_client.specs.Entries.{Knows}
+use Rattle.ll_options.specs.Options.{RunOrder, ServeOrder}
+use Rattle.ll_runs.specs.Failure.{IsOfSaving}
+use Rattle.ll_runs.specs.Policy.{IsSaved, IsSetup, Lacks}
+use Rattle.ll_runs.specs.declared.failure.Failure.{Failure}
+use Rattle.ll_runs.specs.declared.failure.Failure.TheVariants.{CommandLine, Policy, Opening, File, Output, Socket}
+use Rattle.ll_runs.specs.declared.failure.Failure.TheVariants.{NoMemory}
+use Rattle.ll_seq.specs.declared.call.Call.{Call}
+use Rattle.ll_seq.specs.declared.reply.Entry.{Entry}
+use Rattle.ll_commands.specs.Loading.{HasLoaded, WasStopped}
+use Rattle.ll_session.specs.Opening.{Loads, Opens, fresh, made, stopped}
+use Rattle.ll_session.specs.declared.setup.Setup.{Setup}
+use Rattle.ll_session.specs.PartySession.{Session}
+use Rattle.ll_wire.specs.Grammar.{line_of}
+use Rattle.ll_wire.specs.Writing.{AppendsFront}
+
+-- the line that tells the port
+abbrev pub listening : ℕ → List ℕ
+listening port = line_of (codes "listening" ∷ decimal port ∷ [])
+
+-- the run that sets up the same tree
+abbrev pub run_of : ServeOrder → RunOrder
+run_of order = record {
+  script = [];
+  nodes = order.nodes;
+  level = order.level;
+  history = order.history;
+  policy = order.policy;
+  profile = order.profile;
+  save = order.save;
+  strict = false;
+}
+
+-- the entries begin with those that the loader's calls have on a fresh tree, if there is a loader: none is refused
+abbrev pub BeginsLoaded : Setup → List Entry → Type 0
+BeginsLoaded setup entries =
+    (opened : Session) × (rest : List Entry) × Loads (fresh setup) setup.loader (made opened)
+    × (entries ≡ opened.entries ++ rest)
+
+-- Streams were served on the tree, which was closed with these entries: first those of the loader, if there is one. All
+-- its clients are the loader and others
+abbrev pub IsServed : Setup → List Entry → Type 0
+IsServed setup entries =
+    BeginsLoaded setup entries × (loaded others : List Knows) × HasLoaded setup.history setup.loader loaded
+    × IsClosed setup.rules setup.nodes setup.history entries (loaded ++ others)
+
+-- Streams were served on the tree that is wanted, where the policy's file has this text: the port was told, and nothing
+-- else; and the history is saved, where a file is named
+abbrev pub IsDone : ServeOrder → List ℕ → (out out' blank file file' : Option (List ℕ)) → Type 0
+IsDone order text out out' blank file file' =
+    (setup : Setup) × (entries : List Entry) × IsSetup (run_of order) text setup × IsServed setup entries
+    × Appends out out' (listening order.port) × IsSaved order.save setup entries blank file file'
+
+-- the loader's calls may all be made on the fresh tree, if there is one
+abbrev pub MayLoad : Setup → Type 0
+MayLoad setup = (loaded : Session) × Loads (fresh setup) setup.loader (made loaded)
+
+-- No streams are served on the tree of this setup by this failure: before a port is bound and told, the loader's calls
+-- are made. Memory may be wanted before that and after it
+abbrev pub MayStop : Setup → (port : ℕ) → (out out' : Option (List ℕ)) → Failure → Type 0
+MayStop setup port out out' CommandLine = ⊥
+MayStop setup port out out' (Policy fault) = ⊥
+MayStop setup port out out' Opening = Opens setup stopped × (out' ≡ out)
+MayStop setup port out out' Socket = MayLoad setup × (out' ≡ out)
+MayStop setup port out out' Output = MayLoad setup × AppendsFront out out' (listening port)
+MayStop setup port out out' File = ⊥
+MayStop setup port out out' NoMemory = (out' ≡ out) ⊎ Appends out out' (listening port)
+
+-- Why streams aren't served to the end and the history saved: a policy is named, and there is no setup by it; or the
+-- tree of that setup isn't served on; or the history that is to be saved can't be. What stood in the file stays
+abbrev pub MayFail : ServeOrder → List ℕ → (out out' file file' : Option (List ℕ)) → Failure → Type 0
+MayFail order text out out' file file' failure =
+    ((is_some order.policy ≡ true) × Lacks (run_of order) text failure × (out' ≡ out) × (file' ≡ file))
+    ⊎ ((setup : Setup) × IsSetup (run_of order) text setup × MayStop setup order.port out out' failure
+    × (file' ≡ file))
+    ⊎ ((is_some order.save ≡ true) × IsOfSaving failure × (setup : Setup) × IsSetup (run_of order) text setup
+    × Appends out out' (listening order.port) × (file' ≡ file))
+
+-- ---- Support of the functions below `serve`
+
+-- With this loader and these clients of the tree: no stream comes by this failure
+module _ (limit port : ℕ) (loader : Option (Vec Call Global)) (ks : List Knows) where
+  abbrev pub EndsEarly : (out out' : Option (List ℕ)) → Failure → Type 0
+  EndsEarly out out' CommandLine = ⊥
+  EndsEarly out out' (Policy fault) = ⊥
+  EndsEarly out out' Opening = WasStopped limit loader ks × (out' ≡ out)
+  EndsEarly out out' Socket = HasLoaded limit loader ks × (out' ≡ out)
+  EndsEarly out out' Output = HasLoaded limit loader ks × AppendsFront out out' (listening port)
+  EndsEarly out out' File = ⊥
+  EndsEarly out out' NoMemory = out' ≡ out

@@ -1,0 +1,151 @@
+-- What `why` tells, of an entry of a history or of a command. own
+use Rattle.std.specs.Prelude.{◌≡◌, ◌⊎◌, ⊤, ℕ, false, List, [], ◌∷◌, ◌++◌, codes, Option, Some, None, Result, Ok, Err}
+use Rattle.std.specs.Prelude.{string_bytes}
+use Rattle.clap.specs.Words.{Text}
+use Rattle.ll_rights.specs.Map.{has}
+use Rattle.ll_seq.specs.State.{State}
+use Rattle.ll_seq.specs.Step.{step}
+use Rattle.ll_seq.specs.declared.call.Call.{Call}
+use Rattle.ll_seq.specs.declared.reply.Reply.{Reply}
+use Rattle.ll_wire.specs.Grammar.{SpellsCommand, call_tokens, line_of, reply_tokens}
+use Rattle.ll_wire.specs.Pieces.{pieces}
+use Rattle.ll_audit.specs.Saved.{verdict_line}
+use Rattle.ll_audit.specs.declared.verdict.Verdict.TheVariants as verdict
+use Rattle.ll_options.specs.Options.{Asked, RunOrder, WhyOrder, asked_by, of_command, of_entry}
+use Rattle.ll_runs.specs.Policy.{IsSetup, Lacks}
+use Rattle.ll_runs.specs.declared.conclusion.Conclusion.{Conclusion}
+use Rattle.ll_runs.specs.declared.conclusion.Conclusion.TheVariants.{Checked, Done, Judged, Stopped}
+use Rattle.ll_runs.specs.declared.failure.Failure.{Failure}
+use Rattle.ll_runs.specs.declared.failure.Failure.TheVariants.{CommandLine, Policy, Opening, File, Output, Socket}
+use Rattle.ll_runs.specs.declared.failure.Failure.TheVariants.{NoMemory}
+use Rattle.ll_session.specs.declared.setup.Setup.{Setup}
+use Rattle.ll_commands.specs.Opening.{IsStopped, Opens}
+use Rattle.ll_why.specs.Entries.{IsHistoryWhy}
+use Rattle.ll_why.specs.Explained.{Explains}
+use Rattle.ll_why.specs.Told.{told_text}
+use Rattle.ll_why.specs.declared.explanation.Explanation.{Explanation}
+use Rattle.ll_why.specs.declared.history.HistoryWhy.TheVariants as history
+use Rattle.ll_commands.specs.declared.why.Answer.{Answer}
+use Rattle.ll_commands.specs.declared.why.Answer.TheVariants.{Told, BadLine}
+
+-- the command, what the tree answers, and what policy says of it
+abbrev pub command_text : Call → Reply → Explanation → List ℕ
+command_text call reply told =
+    line_of (call_tokens call) ++ line_of (codes "answered" ∷ reply_tokens reply) ++ told_text call told
+
+-- the text is of a call of this client's in this state, and of what its step answers
+pub record IsCallWhy (s : State) (client : ℕ) (call : Call) (text : List ℕ) : Type 0 where
+  pub told : Explanation
+  pub reply : Reply
+  pub explains : Explains s client call told
+  pub answered : (fresh : ℕ) × (has s.clients fresh ≡ false) × (reply ≡ (step s client call fresh).0)
+  pub is : text ≡ command_text call reply told
+
+-- the run whose first client makes the command
+abbrev pub run_by : (policy profile : Text) → ℕ → RunOrder
+run_by file name n = record {
+  script = codes "-";
+  nodes = n;
+  level = None;
+  history = 1;
+  policy = Some file;
+  profile = Some name;
+  save = None;
+  strict = false;
+}
+
+-- the word is a command's line, but for the line feed (10)
+abbrev pub IsCommand : Text → Call → Type 0
+IsCommand word call = SpellsCommand (word ++ 10 ∷ []) 1 call
+
+-- the text is of the command that the word spells, in a new tree by the policy with this text
+pub record IsCommandWhy (run : RunOrder) (policy word text : List ℕ) : Type 0 where
+  pub setup : Setup
+  pub client : ℕ
+  pub state : State
+  pub call : Call
+  pub is_setup : IsSetup run policy setup
+  pub opens : Opens setup client state
+  pub spells : IsCommand word call
+  pub is : IsCallWhy state client call text
+
+abbrev pub EntryAnswers : ℕ → List ℕ → Answer → Type 0
+EntryAnswers number file (Told text) = IsHistoryWhy (pieces file) number (history.Told text)
+EntryAnswers number file (BadLine line) = IsHistoryWhy (pieces file) number (history.BadLine line)
+
+abbrev pub CommandAnswers : RunOrder → (word file : List ℕ) → Answer → Type 0
+CommandAnswers run word file (Told text) = IsCommandWhy run file word (string_bytes text)
+CommandAnswers run word file (BadLine line) = ⊥
+
+-- what is answered, where the file of the history or the policy has this text
+abbrev pub Answers : ℕ → Option Asked → List ℕ → Answer → Type 0
+Answers nodes None file answer = ⊥
+Answers nodes (Some (of_entry name number)) file answer = EntryAnswers number file answer
+Answers nodes (Some (of_command policy profile word)) file answer =
+    CommandAnswers (run_by policy profile nodes) word file answer
+
+abbrev pub IsAnswer : WhyOrder → List ℕ → Answer → Type 0
+IsAnswer order file answer = Answers order.nodes (asked_by order) file answer
+
+abbrev pub answer_text : Answer → List ℕ
+answer_text (Told text) = string_bytes text
+answer_text (BadLine line) = verdict_line (verdict.BadLine line)
+
+-- what a bad line concludes is what an audit of it does
+abbrev pub conclusion_of : Answer → Conclusion
+conclusion_of (Told text) = Done
+conclusion_of (BadLine line) = Judged (verdict.BadLine line)
+
+-- so much is written, and so it is concluded
+abbrev pub IsToldSo : WhyOrder → List ℕ → Conclusion → List ℕ → Type 0
+IsToldSo order file conclusion written =
+    (answer : Answer) × IsAnswer order file answer × (written ≡ answer_text answer)
+    × (conclusion ≡ conclusion_of answer)
+
+-- why an entry isn't told of: the history has none of this number; its file can't be read; want of memory
+abbrev pub EntryFails : ℕ → List ℕ → Failure → Type 0
+EntryFails number file CommandLine = IsHistoryWhy (pieces file) number history.NoEntry
+EntryFails number file (Policy fault) = ⊥
+EntryFails number file Opening = ⊥
+EntryFails number file File = ⊤
+EntryFails number file Output = ⊥
+EntryFails number file Socket = ⊥
+EntryFails number file NoMemory = ⊤
+
+-- why a command isn't: the word spells none; there is no setup; a call that the policy asks for is refused; and as
+-- above
+abbrev pub CommandFails : RunOrder → (word file : List ℕ) → Failure → Type 0
+CommandFails run word file CommandLine =
+    ((call : Call) → IsCommand word call → ⊥) ⊎ Lacks run file CommandLine
+CommandFails run word file (Policy fault) = Lacks run file (Policy fault)
+CommandFails run word file Opening = (setup : Setup) × IsSetup run file setup × IsStopped setup
+CommandFails run word file File = ⊤
+CommandFails run word file Output = ⊥
+CommandFails run word file Socket = ⊥
+CommandFails run word file NoMemory = ⊤
+
+-- where nothing is asked, the words are wrong
+abbrev pub Fails : ℕ → Option Asked → List ℕ → Failure → Type 0
+Fails nodes None file failure = failure ≡ CommandLine
+Fails nodes (Some (of_entry name number)) file failure = EntryFails number file failure
+Fails nodes (Some (of_command policy profile word)) file failure =
+    CommandFails (run_by policy profile nodes) word file failure
+
+abbrev pub MayFail : WhyOrder → List ℕ → Failure → Type 0
+MayFail order file failure = (failure ≡ Output) ⊎ Fails order.nodes (asked_by order) file failure
+
+-- it is told, or the history's first bad line is; or why not: by any failure but a listener's
+abbrev pub EndsWhy : Result Conclusion Failure → Type 0
+EndsWhy (Ok Done) = ⊤
+EndsWhy (Ok (Stopped stopped)) = ⊥
+EndsWhy (Ok (Judged (verdict.Legal entries))) = ⊥
+EndsWhy (Ok (Judged (verdict.Illegal entry))) = ⊥
+EndsWhy (Ok (Judged (verdict.BadLine line))) = ⊤
+EndsWhy (Ok (Checked end)) = ⊥
+EndsWhy (Err CommandLine) = ⊤
+EndsWhy (Err (Policy fault)) = ⊤
+EndsWhy (Err Opening) = ⊤
+EndsWhy (Err File) = ⊤
+EndsWhy (Err Output) = ⊤
+EndsWhy (Err Socket) = ⊥
+EndsWhy (Err NoMemory) = ⊤

@@ -1,0 +1,124 @@
+//! Why a command does what it does, in a new tree of a policy.
+
+ghost use Rattle.std.specs.Prelude.{◌≡◌, ◌<◌, ◌-◌, ◌^◌, ◌++◌, ◌∷◌, ◌⊎◌, ◌↔◌, [], ℕ, true, false, IfErr, IfOk, IsTrue};
+ghost use Rattle.std.specs.Prelude.{IfSome, length, string_bytes};
+ghost use Rattle.ll_rights.specs.Map.{has};
+ghost use Rattle.ll_seq.specs.History.{is_connect};
+ghost use Rattle.ll_seq.specs.declared.call.Call as calls_of;
+ghost use Rattle.ll_seq.specs.State.{State};
+ghost use Rattle.ll_commands.specs.Opening.{FailsSo, IsStopped, Opens};
+ghost use Rattle.ll_commands.specs.Why.{IsCallWhy, IsCommand, command_text};
+
+use crate::open_tree;
+use ll_plain::Plain;
+use ll_rights::Errno;
+use ll_runs::Failure;
+use ll_seq::{Call, Reply};
+use ll_session::Setup;
+use ll_why::{Explanation, call_line, explain};
+use ll_wire::{read_command, reply_text_behind};
+use std::alloc::{AllocError, Global};
+
+fn wants_memory(reply: &Reply) -> bool
+    ensures { IsTrue result ↔ (reply.now ≡ Reply.Refused Errno.NoMemory) }
+{
+    matches!(reply, Reply::Refused(Errno::NoMemory))
+}
+
+// The line of a command.
+fn line_of(alloc: Global, word: &str) -> Result<String, AllocError>
+    ensures { IfOk result (λ line. string_bytes line ≡ word.now ++ 10 ∷ []) }
+{
+    let mut line = String::from_str(alloc, word)?;
+    line.push_str("\n")?;
+    Ok(line)
+}
+
+/// The call that the word spells.
+pub(crate) fn call_of(alloc: Global, word: &str) -> Result<Call, Failure>
+    ensures call { IfOk result (IsCommand word.now) }
+    ensures bad { IfErr result (λ failure. failure ≡ Failure.CommandLine
+        → (call : calls_of.Call) → IsCommand word.now call → ⊥) }
+    ensures failure { IfErr result (λ failure. (failure ≡ Failure.CommandLine) ⊎ (failure ≡ Failure.NoMemory)) }
+{
+    let Ok(line) = line_of(alloc, word) else {
+        return Err(Failure::NoMemory);
+    };
+    match read_command(alloc, line.as_str().as_bytes(), 1) {
+        Ok((_, call)) => Ok(call),
+        Err(Errno::BadLine) => Err(Failure::CommandLine),
+        Err(_) => Err(Failure::NoMemory),
+    }
+}
+
+// The command, what the tree answers, and what policy says of it.
+fn command_text(
+    alloc: Global,
+    call: &Call,
+    reply: &Reply,
+    told: &Explanation,
+) -> Result<String, AllocError>
+    ensures { IfOk result (λ text. string_bytes text ≡ command_text call.now reply.now told.now) }
+{
+    let mut text = call_line(alloc, call)?;
+    let answer = reply_text_behind(alloc, "answered", reply)?;
+    let why = told.text(alloc, call)?;
+    text.push_str(answer.as_str())?;
+    text.push_str(why.as_str())?;
+    Ok(text)
+}
+
+// What is told of the client's call in the tree, which is used up.
+fn call_why(alloc: Global, mut tree: Plain, client: u64, call: &Call) -> Result<String, AllocError>
+    requires caller { has tree.clients client ≡ true }
+    requires call { is_connect call.now ≡ false }
+    requires next { tree.next < 2 ^ 64 - 1 }
+    ensures { IfOk result (λ text. IsCallWhy tree client call.now (string_bytes text)) }
+{
+    let Some(caller) = tree.client(client) else {
+        unreachable!()
+    };
+    let told = explain(alloc, &tree, caller, call)?;
+    let fresh = tree.free_number();
+    let reply = tree.apply(client, call, fresh);
+    if wants_memory(&reply) {
+        return Err(AllocError);
+    }
+    command_text(alloc, call, &reply, &told)
+}
+
+// Does nothing: it tells only that no list in memory is longer.
+fn fits(calls: &[Call])
+    ensures { length calls.now < 2 ^ 62 }
+{
+    let _calls = calls;
+}
+
+// Does nothing: it tells the same of the loader's calls.
+fn loader_fits(loader: &Option<Vec<Call>>)
+    ensures { IfSome loader.now (λ calls. length calls.items < 2 ^ 62) }
+{
+    if let Some(calls) = loader {
+        fits(calls.as_slice());
+    }
+}
+
+/// What is told of the call in a new tree that is set up so.
+pub(crate) fn told_of_setup(alloc: Global, setup: &Setup, call: &Call) -> Result<String, Failure>
+    requires { is_connect call.now ≡ false }
+    ensures told { IfOk result (λ text. (client : ℕ) × (s : State) × Opens setup.now client s
+        × IsCallWhy s client call.now (string_bytes text)) }
+    ensures failure { IfErr result (FailsSo (IsStopped setup.now)) }
+{
+    let opened = match open_tree(alloc, setup) {
+        Ok(opened) => opened,
+        Err(failure) => return Err(failure),
+    };
+    let client = opened.client;
+    fits(setup.profile.as_slice());
+    loader_fits(&setup.loader);
+    match call_why(alloc, opened.tree, client, call) {
+        Ok(text) => Ok(text),
+        Err(_) => Err(Failure::NoMemory),
+    }
+}

@@ -1,0 +1,80 @@
+//! Where the workers of a serve get their streams.
+
+use crate::counting::{Counted, Heard, measured};
+use crate::log::Log;
+use crate::port::{Listens, Missed};
+use ll_options::ServeOptions;
+use ll_session::Accepts;
+use std::alloc::Global;
+use std::io::Write;
+use std::sync::atomic::{AtomicU64, Ordering};
+use std::sync::{RwLock, Wait};
+
+/// How often in a row a listener may fail before one stream less is awaited.
+const FAILURES: usize = 100;
+
+/// A listener, up to the last of the streams that are awaited. Then it is let go, so that nobody waits there in vain.
+#[derive(Drop)]
+pub(crate) struct Door<'a, H, L, E> {
+    rt: &'a H,
+    alloc: Global,
+    listener: RwLock<Option<L>>,
+    log: &'a Log<'a, H, E>,
+    room: u64,
+    awaited: AtomicU64,
+}
+
+impl<'a, H: Wait, L: Listens + Drop, E: Write> Door<'a, H, L, E> {
+    pub(crate) fn new(
+        rt: &'a H,
+        alloc: Global,
+        listener: L,
+        options: &ServeOptions,
+        log: &'a Log<'a, H, E>,
+    ) -> Self {
+        Door {
+            rt,
+            alloc,
+            listener: RwLock::new(Some(listener)),
+            log,
+            room: options.room,
+            awaited: AtomicU64::new(options.connections as u64),
+        }
+    }
+}
+
+impl<H: Wait, L: Listens + Drop, E: Write> Accepts for Door<'_, H, L, E> {
+    type In = Heard<L::In>;
+
+    type Out = Counted<L::Out>;
+
+    // One stream less is awaited where a stream fails, or the listener again and again.
+    fn accept(&self) -> Option<(Heard<L::In>, Counted<L::Out>)> {
+        let mut ends = None;
+        if let Some(listener) = self.listener.read(self.rt).as_ref() {
+            for failures in 0..FAILURES {
+                match listener.accept() {
+                    Ok(come) => {
+                        ends = Some(come);
+                        break;
+                    }
+                    Err(Missed::Stream(error)) => {
+                        self.log.missed(&error);
+                        break;
+                    }
+                    Err(Missed::Peer(error)) => {
+                        if failures == 0 {
+                            self.log.missed(&error);
+                        }
+                        listener.pause();
+                    }
+                }
+            }
+        }
+        if self.awaited.fetch_sub(1, Ordering::SeqCst) == 1 {
+            *self.listener.write(self.rt) = None;
+        }
+        let (reader, writer) = ends?;
+        measured(self.alloc, self.room, reader, writer).ok()
+    }
+}

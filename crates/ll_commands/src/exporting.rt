@@ -1,0 +1,177 @@
+//! A policy's profile, written as the options ask for it.
+
+ghost use Rattle.std.specs.Prelude.{◌≡◌, ◌≢◌, ◌⊎◌, ℕ, true, false, List, Err, IfOk, IfErr, IfSome, IsOk, OnOk};
+ghost use Rattle.std.specs.Prelude.{string_bytes};
+ghost use Rattle.std.specs.Io.KnownBytes.{Keeps};
+ghost use Rattle.ll_wire.specs.Transcript.{Writes};
+ghost use Rattle.ll_options.specs.Options.{exported_in};
+ghost use Rattle.ll_runs.specs.Failure.{EndsExport, IsOfExport};
+ghost use Rattle.ll_runs.specs.declared.checked.Checked as checks;
+ghost use Rattle.ll_wire.specs.Writing.{AppendsFront};
+ghost use Rattle.ll_commands.specs.Confinement.{is_enforceable};
+ghost use Rattle.ll_commands.specs.Export.{IsExport, MayFail, ended_by, export_text};
+
+use crate::c_program::c_text;
+use crate::confinement::{Confinement, FlawedProfile};
+use crate::json::json_text;
+use ll_options::{ExportOptions, Form};
+use ll_policy::Policy;
+use ll_runs::{Checked, Conclusion, Failure, policy_of, read_text};
+use ll_wire::write_whole;
+use std::alloc::{AllocError, Global};
+use std::io::{Read, Write};
+
+// The layers in this form.
+fn text_of(
+    alloc: Global,
+    options: &ExportOptions,
+    form: Form,
+    confinement: &Confinement,
+) -> Result<String, AllocError>
+    ensures { IfOk result (λ text. string_bytes text
+        ≡ export_text (exported_in options.now) form confinement.now) }
+{
+    match form {
+        Form::C => c_text(alloc, options, confinement),
+        Form::Json => json_text(alloc, options, confinement),
+    }
+}
+
+// The layers in the form that is wanted, if they can be enforced.
+fn checked_text(
+    alloc: Global,
+    options: &ExportOptions,
+    form: Form,
+    confinement: &Confinement,
+) -> Result<String, Failure>
+    ensures text { IfOk result (λ text. string_bytes text
+        ≡ export_text (exported_in options.now) form confinement.now) }
+    ensures sound { OnOk result (is_enforceable confinement.now ≡ true) }
+    ensures failure { IfErr result (λ failure. (failure ≡ Failure.NoMemory)
+        ⊎ ((failure ≡ Failure.CommandLine) × (is_enforceable confinement.now ≡ false))) }
+{
+    if confinement.flaw().is_some() {
+        return Err(Failure::CommandLine);
+    }
+    match text_of(alloc, options, form, confinement) {
+        Ok(text) => Ok(text),
+        Err(_) => Err(Failure::NoMemory),
+    }
+}
+
+/// Returns the text that the options ask for, by the policy in this file.
+pub fn exported<R: Read>(
+    alloc: Global,
+    options: &ExportOptions,
+    file: &mut R,
+) -> Result<String, Failure>
+    ensures export { IfOk result (λ written. (text : List ℕ) × IfSome (R.remaining file.old) (λ told. text ≡ told)
+        × IsExport (exported_in options.now) text (string_bytes written)) }
+    ensures failure { IfErr result (λ failure. (text : List ℕ) × IfSome (R.remaining file.old) (λ told. text ≡ told)
+        × MayFail (exported_in options.now) text failure) }
+    ensures output { IfErr result (λ failure. failure ≢ Failure.Output) }
+{
+    let Some(form) = options.form else {
+        return Err(Failure::CommandLine);
+    };
+    if !options.fit() {
+        return Err(Failure::CommandLine);
+    }
+    let text = match read_text(alloc, file) {
+        Ok(text) => text,
+        Err(failure) => return Err(failure),
+    };
+    let policy = match policy_of(alloc, text.as_slice()) {
+        Ok(policy) => policy,
+        Err(failure) => return Err(failure),
+    };
+    let Some(layers) = policy.layers(options.profile) else {
+        return Err(Failure::CommandLine);
+    };
+    let Ok(opening) = policy.opening(alloc) else {
+        return Err(Failure::NoMemory);
+    };
+    let confinement = Confinement {
+        abi: policy.abi(),
+        opening: opening.as_slice(),
+        layers,
+    };
+    match checked_text(alloc, options, form, &confinement) {
+        Ok(text) => Ok(text),
+        Err(failure) => Err(failure),
+    }
+}
+
+/// Returns why the profile of this name can't be exported, if the policy of this text has it and it can't.
+pub fn flaw_of<'a>(alloc: Global, text: &str, profile: &'a str) -> Option<FlawedProfile<'a>> {
+    let policy = Policy::from_text(alloc, text).ok()?;
+    let layers = policy.layers(profile)?;
+    let opening = policy.opening(alloc).ok()?;
+    let confinement = Confinement {
+        abi: policy.abi(),
+        opening: opening.as_slice(),
+        layers,
+    };
+    let flaw = confinement.flaw()?;
+    Some(FlawedProfile {
+        name: profile,
+        flaw,
+    })
+}
+
+/// Writes the text that the options ask for, by the policy in this file. Nothing is written before the whole text is
+/// there, and a beginning of it where the output fails.
+pub fn export<R: Read, W: Write>(
+    alloc: Global,
+    options: &ExportOptions,
+    file: &mut R,
+    out: &mut W,
+) -> Result<(), Failure>
+    ensures export { OnOk result ((text : List ℕ) × IfSome (R.remaining file.old) (λ told. text ≡ told)
+        × Writes (W.contents out.old) (W.contents out.new) (IsExport (exported_in options.now) text)) }
+    ensures failure { IfErr result (λ failure. (text : List ℕ) × IfSome (R.remaining file.old) (λ told. text ≡ told)
+        × MayFail (exported_in options.now) text failure) }
+    ensures alone { IfErr result IsOfExport }
+    ensures nothing { IfErr result (λ failure. failure ≢ Failure.Output
+        → Keeps (W.contents out.old) (W.contents out.new)) }
+    ensures broken { result ≡ Err Failure.Output → (text : List ℕ)
+        × IfSome (R.remaining file.old) (λ told. text ≡ told) × (written : List ℕ)
+        × IsExport (exported_in options.now) text written
+        × AppendsFront (W.contents out.old) (W.contents out.new) written }
+{
+    let text = match exported(alloc, options, file) {
+        Ok(text) => text,
+        Err(failure) => return Err(failure),
+    };
+    match write_whole(out, text.as_str()) {
+        Ok(()) => Ok(()),
+        Err(_) => Err(Failure::Output),
+    }
+}
+
+/// Writes as `export` does where the profile's checks passed. Else nothing is written, and the checks' end is returned.
+pub fn export_checked<R: Read, W: Write>(
+    alloc: Global,
+    checked: Checked,
+    options: &ExportOptions,
+    file: &mut R,
+    out: &mut W,
+) -> Result<Conclusion, Failure>
+    ensures end { IfOk result (λ end. end ≡ ended_by checked) }
+    ensures ends { EndsExport true result }
+    ensures other { checked ≢ checks.Checked.Passed → IsOk result }
+    ensures nothing { checked ≢ checks.Checked.Passed → Keeps (W.contents out.old) (W.contents out.new) }
+    ensures export { OnOk result (checked ≡ checks.Checked.Passed → (text : List ℕ)
+        × IfSome (R.remaining file.old) (λ told. text ≡ told)
+        × Writes (W.contents out.old) (W.contents out.new) (IsExport (exported_in options.now) text)) }
+    ensures failure { IfErr result (λ failure. (text : List ℕ) × IfSome (R.remaining file.old) (λ told. text ≡ told)
+        × MayFail (exported_in options.now) text failure) }
+{
+    if checked != Checked::Passed {
+        return Ok(Conclusion::Checked(checked));
+    }
+    match export(alloc, options, file, out) {
+        Ok(()) => Ok(Conclusion::Done),
+        Err(failure) => Err(failure),
+    }
+}

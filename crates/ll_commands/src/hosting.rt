@@ -1,0 +1,195 @@
+//! The tree that all streams are served on.
+
+ghost use Rattle.std.specs.Prelude.{◌≡◌, ◌≤◌, ◌+◌, ◌++◌, ℕ, List, [], IfErr, IfOk, OnOk, IfSome, map};
+ghost use Rattle.std.specs.Io.KnownBytes.{Appends};
+ghost use Rattle.std.specs.List.{All};
+ghost use Rattle.ll_client.specs.Closed.{IsClosed};
+ghost use Rattle.ll_client.specs.Entries.{Knows};
+ghost use Rattle.ll_runs.specs.declared.failure.Failure.{Failure};
+ghost use Rattle.ll_rights.specs.declared.limits.TheConstants.{TREE_CLIENTS};
+ghost use Rattle.ll_session.specs.Session.{AreOthers};
+ghost use Rattle.ll_wire.specs.Entries.{IsEntry};
+ghost use Rattle.ll_commands.specs.Serving.{IsServed, MayStop, listening};
+
+use crate::closing::close;
+use crate::door::Door;
+use crate::listening::listen;
+use crate::loading::{entry_count, knows_only};
+use crate::log::Log;
+use crate::port::{Binds, Listens};
+use ll_calls::Tree;
+use ll_client::{Account, Blank, Client, Shape};
+use ll_options::ServeOptions;
+use ll_runs::Failure;
+use ll_seq::{Call, History};
+use ll_session::{Host, Keeps, Party, Setup, gather, serve_on};
+use ll_walk::NoGate;
+use std::alloc::Global;
+use std::io::Write;
+use std::marker::Brand;
+use std::sync::Wait;
+use std::thread::Threads;
+
+// A fresh tree, and a party to which nobody has come yet. None where memory runs out.
+fn fresh<N: Shape>(
+    alloc: Global,
+    blank: Blank<Account>,
+    setup: &Setup,
+) -> Option<(Tree<N, NoGate>, Party<N>)>
+    requires named { blank ≡ N.table }
+    requires slots { N.slots ≡ setup.now.nodes + TREE_CLIENTS }
+    requires limit { N.limit ≡ setup.now.history }
+    requires rules { N.rules ≡ setup.now.rules }
+    ensures { IfSome result (λ made. made.1 ≡ []) }
+{
+    let tree = Tree::<N, NoGate>::open(
+        alloc,
+        blank,
+        setup.rules,
+        setup.nodes,
+        setup.history,
+        NoGate,
+    )
+    .ok()?;
+    let party = Party::<N>::new(alloc, setup.history as u64).ok()?;
+    Some((tree, party))
+}
+
+// Serves the streams that come from here, and closes the tree. Its history is left. Errors: NoMemory.
+fn serve_all<
+    N: Shape + Send + Sync,
+    H: Threads + Wait + Sync,
+    L: Listens + Send + Sync + Drop,
+    K: Keeps + Sync,
+    E: Write + Send,
+>(
+    rt: &H,
+    alloc: Global,
+    tree: Tree<N, NoGate>,
+    clients: Vec<Client<N>>,
+    profile: &[Call],
+    listener: L,
+    keeper: &K,
+    options: &ServeOptions,
+    log: &Log<'_, H, E>,
+) -> Result<History, Failure>
+    requires limit { N.limit ≡ options.now.history }
+    requires slots { TREE_CLIENTS ≤ N.slots }
+    requires calls { AreOthers profile.now }
+    ensures closed { IfOk result (λ history. (nodes : ℕ) → N.slots ≡ nodes + TREE_CLIENTS → (others : List Knows)
+        × IsClosed N.rules nodes N.limit history.entries (map (λ c. c.rider) clients.items ++ others)) }
+    ensures entries { IfOk result (λ history. All IsEntry history.entries) }
+    ensures err { IfErr result (λ failure. failure ≡ Failure.NoMemory) }
+{
+    let host = Host {
+        tree: &tree,
+        limit: options.history as u64,
+        keeper,
+        profile,
+    };
+    let door = Door::new(rt, alloc, listener, options, log);
+    let served = serve_on(
+        rt,
+        alloc,
+        &host,
+        &door,
+        log,
+        options.workers,
+        options.connections,
+    );
+    log.end();
+    let Ok(rooms) = served else {
+        return Err(Failure::NoMemory);
+    };
+    let mut clients = clients;
+    gather(rt, &mut clients, rooms);
+    Ok(close(rt, tree, clients))
+}
+
+// The same as `host_on`, over a tree that this blank is of.
+fn host_in<
+    N: Shape + Send + Sync,
+    H: Threads + Wait + Sync,
+    B: Binds,
+    K: Keeps + Sync,
+    W: Write,
+    E: Write + Send,
+>(
+    rt: &H,
+    alloc: Global,
+    blank: Blank<Account>,
+    setup: Setup,
+    options: &ServeOptions,
+    net: &B,
+    keeper: &K,
+    out: &mut W,
+    log: &Log<'_, H, E>,
+) -> Result<History, Failure>
+    requires named { blank ≡ N.table }
+    requires slots { N.slots ≡ setup.nodes + TREE_CLIENTS }
+    requires limit { N.limit ≡ setup.history }
+    requires rules { N.rules ≡ setup.rules }
+    requires same { setup.history ≡ options.now.history }
+    ensures served { IfOk result (λ history. IsServed setup history.entries) }
+    ensures told { OnOk result (Appends (W.contents out.old) (W.contents out.new) (listening options.now.port)) }
+    ensures entries { IfOk result (λ history. All IsEntry history.entries) }
+    ensures failure { IfErr result
+        (MayStop setup options.now.port (W.contents out.old) (W.contents out.new)) }
+{
+    let Some((tree, mut party)) = fresh::<N>(alloc, blank, &setup) else {
+        return Err(Failure::NoMemory);
+    };
+    let Setup {
+        loader,
+        profile,
+        ..
+    } = setup;
+    let entries = entry_count(&loader);
+    match listen(rt, alloc, &tree, &mut party, loader, options, net, out) {
+        Ok(listener) => {
+            let clients = party.into_clients();
+            knows_only(rt, clients.as_slice(), entries);
+            let profile = profile.as_slice();
+            serve_all(
+                rt, alloc, tree, clients, profile, listener, keeper, options, log,
+            )
+        }
+        Err(failure) => {
+            drop(close(rt, tree, party.into_clients()));
+            Err(failure)
+        }
+    }
+}
+
+/// Serves the streams that come from the port that the options name, on a tree that is set up so. What is left is its
+/// history.
+pub(crate) fn host_on<
+    H: Threads + Wait + Sync,
+    B: Binds,
+    K: Keeps + Sync,
+    W: Write,
+    E: Write + Send,
+>(
+    rt: &H,
+    alloc: Global,
+    setup: Setup,
+    options: &ServeOptions,
+    net: &B,
+    keeper: &K,
+    out: &mut W,
+    log: &Log<'_, H, E>,
+) -> Result<History, Failure>
+    requires { setup.history ≡ options.now.history }
+    ensures served { IfOk result (λ history. IsServed setup history.entries) }
+    ensures told { OnOk result (Appends (W.contents out.old) (W.contents out.new) (listening options.now.port)) }
+    ensures entries { IfOk result (λ history. All IsEntry history.entries) }
+    ensures failure { IfErr result
+        (MayStop setup options.now.port (W.contents out.old) (W.contents out.new)) }
+{
+    match Blank::new(alloc) {
+        Ok(blank) => host_in::<Brand, H, B, K, W, E>(
+            rt, alloc, blank, setup, options, net, keeper, out, log,
+        ),
+        Err(_) => Err(Failure::NoMemory),
+    }
+}

@@ -1,0 +1,42 @@
+//! The commands beside run, check and audit: serve, rights, why, schedule and export, as the program's words ask for them.
+#![tactic(auto)]
+
+mod c_program;
+mod closing;
+mod commands;
+mod confinement;
+mod counting;
+mod door;
+mod exporting;
+mod fixed;
+mod hosting;
+mod json;
+mod listening;
+mod loading;
+mod log;
+mod opening;
+mod port;
+mod rights;
+mod room;
+mod schedules;
+mod served;
+mod table;
+mod text;
+mod trouble;
+mod why;
+
+pub use c_program::c_text;
+pub use confinement::{Confinement, Flaw, FlawedProfile, LayerFlaw, RuleFlaw};
+pub use exporting::{export, export_checked, exported, flaw_of};
+pub use json::json_text;
+pub use log::Log;
+pub use opening::{Opened, open_tree};
+pub use port::{Binds, Listens, Loopback, Missed, Port};
+pub use rights::{rights_table, tell_rights};
+pub use schedules::{
+    draw_in, draw_over, draw_schedule, explain_schedule, perform_over, perform_schedule, setup_by,
+    window_by,
+};
+pub use served::serve;
+pub use table::row_text;
+pub use why::{Answer, answer_of, tell_why};

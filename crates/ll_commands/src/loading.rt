@@ -1,0 +1,90 @@
+//! The loader, which comes before all streams.
+
+ghost use Rattle.std.specs.Prelude.{◌≡◌, ◌⊎◌, ◌≤◌, [], ◌∷◌, ◌↔◌, IsTrue, IfErr, IfSome, OnOk};
+ghost use Rattle.std.specs.List.{All};
+ghost use Rattle.ll_client.specs.Entries.{Knows};
+ghost use Rattle.ll_runs.specs.declared.failure.Failure.{Failure};
+ghost use Rattle.ll_session.specs.Session.{AreOthers};
+ghost use Rattle.ll_commands.specs.Loading.{HasBegun, HasLoaded, WasStopped, entry_count};
+
+use ll_calls::Tree;
+use ll_client::{Client, Shape};
+use ll_runs::Failure;
+use ll_seq::Call;
+use ll_session::{Party, make_calls};
+use ll_walk::Gate;
+use std::sync::Wait;
+
+/// How many entries the loader has when it has made its calls.
+pub(crate) fn entry_count(loader: &Option<Vec<Call>>) -> usize
+    ensures { result ≤ entry_count loader.now }
+{
+    match loader {
+        Some(calls) => calls.len().saturating_add(1),
+        None => 0,
+    }
+}
+
+// Whether each of these clients knows of at most so many entries.
+fn know_at_most<N: Shape>(clients: &[Client<N>], entries: u64) -> bool
+    ensures { IsTrue result ↔ All (λ c. c.rider.seen ≤ entries) clients.now }
+{
+    clients.iter().all(|client| client.seen() <= entries)
+}
+
+/// Does nothing if these clients know of at most so many entries, as the loader does, since nobody else has come. Else
+/// waits forever.
+pub(crate) fn knows_only<N: Shape, H: Wait>(rt: &H, clients: &[Client<N>], entries: usize)
+    ensures { All (λ c. c.rider.seen ≤ entries) clients.now }
+{
+    if !know_at_most(clients, entries as u64) {
+        for _ in rt.forever() {}
+        unreachable!()
+    }
+}
+
+// The first client comes. A fresh tree has a place for it, so only memory may be wanted.
+fn come<N: Shape, H: Wait, G: Gate<N>>(
+    rt: &H,
+    tree: &Tree<N, G>,
+    party: &mut Party<N>,
+) -> Result<(), Failure>
+    requires { party.old ≡ [] }
+    ensures ok { OnOk result ((me : Knows) × HasBegun me × (party.new ≡ me ∷ [])) }
+    ensures err { IfErr result (λ failure. failure ≡ Failure.NoMemory) }
+{
+    match tree.connect(rt) {
+        Ok(client) => {
+            party.add(rt, client);
+            Ok(())
+        }
+        Err(_) => Err(Failure::NoMemory),
+    }
+}
+
+/// To a fresh tree the loader comes, if there is one, and makes its calls. Errors: NoMemory where it can't come, and
+/// Opening where one of its calls is refused.
+pub(crate) fn load<N: Shape, H: Wait, G: Gate<N>>(
+    rt: &H,
+    tree: &Tree<N, G>,
+    party: &mut Party<N>,
+    loader: Option<Vec<Call>>,
+) -> Result<(), Failure>
+    requires nobody { party.old ≡ [] }
+    requires calls { IfSome loader (λ calls. AreOthers calls.items) }
+    ensures ok { OnOk result (HasLoaded N.limit loader party.new) }
+    ensures err { IfErr result (λ failure. (failure ≡ Failure.NoMemory)
+        ⊎ ((failure ≡ Failure.Opening) × WasStopped N.limit loader party.new)) }
+{
+    let Some(calls) = loader else {
+        return Ok(());
+    };
+    come(rt, tree, party)?;
+    match make_calls(rt, tree, party, 0, calls) {
+        Ok(()) => Ok(()),
+        Err(reply) => {
+            drop(reply);
+            Err(Failure::Opening)
+        }
+    }
+}

@@ -1,0 +1,281 @@
+//! The rights of a policy's profile, told as a table.
+
+ghost use Rattle.std.specs.Prelude.{◌≡◌, ◌∷◌, ◌++◌, ℕ, List, [], IfOk, IfErr, IfSome, OnOk, map, option_map};
+ghost use Rattle.std.specs.Prelude.{string_bytes};
+ghost use Rattle.std.specs.Prelude.{None, option_to_list};
+ghost use Rattle.std.specs.Option.{option_map_or};
+ghost use Rattle.ll_wire.specs.Transcript.{Writes};
+ghost use Rattle.ll_options.specs.Options.{order_in, rights_in};
+ghost use Rattle.ll_path.specs.Path.{path_of_text};
+ghost use Rattle.ll_runs.specs.declared.failure.Failure.{Failure};
+ghost use Rattle.ll_seq.specs.Step.{client_of};
+ghost use Rattle.ll_commands.specs.Rights.{AddsRows, AreRows, HasBadWord, IsBadWord, IsOfWords, IsTable, MayFail};
+ghost use Rattle.ll_commands.specs.Rights.{made_path, made_paths, paths_told, run_of, target_path};
+
+use crate::opening::{Opened, open_tree};
+use crate::table::row_text;
+use ll_options::{RightsOptions, RunOptions};
+use ll_path::{Path, Target, Word};
+use ll_plain::Plain;
+use ll_rules::Domain;
+use ll_runs::{Failure, setup_of};
+use ll_seq::Call;
+use ll_session::Setup;
+use ll_why::rights_on;
+use ll_wire::write_whole;
+use std::alloc::{AllocError, Global};
+use std::io::{Read, Write};
+
+// The path that a word spells.
+fn path_of(alloc: Global, word: &str) -> Result<Path, Failure>
+    ensures path { IfOk result (λ path. path ≡ path_of_text word.now) }
+    ensures bad { IfErr result (λ failure. failure ≡ Failure.CommandLine → IsBadWord word.now) }
+    ensures failure { IfErr result IsOfWords }
+{
+    let Ok(text) = String::from_str(alloc, word) else {
+        return Err(Failure::NoMemory);
+    };
+    let word = match Word::new(text) {
+        Ok(word) => word,
+        Err(text) => {
+            drop(text);
+            return Err(Failure::CommandLine);
+        }
+    };
+    match Path::parse(word) {
+        Ok(path) => Ok(path),
+        Err((word, _)) => {
+            drop(word);
+            Err(Failure::CommandLine)
+        }
+    }
+}
+
+// The paths that the words spell.
+fn paths_of(alloc: Global, words: &[&str]) -> Result<Vec<Path>, Failure>
+    ensures paths { IfOk result (λ paths. paths.items ≡ map path_of_text (map (λ w. w.now) words.now)) }
+    ensures bad { IfErr result (λ failure. failure ≡ Failure.CommandLine → HasBadWord (map (λ w. w.now) words.now)) }
+    ensures failure { IfErr result IsOfWords }
+{
+    let mut paths = Vec::new(alloc);
+    for word in words {
+        let path = match path_of(alloc, word) {
+            Ok(path) => path,
+            Err(failure) => return Err(failure),
+        };
+        match push_path(&mut paths, path) {
+            Ok(()) => {}
+            Err(failure) => return Err(failure),
+        }
+    }
+    Ok(paths)
+}
+
+// The path comes behind the others.
+fn push_path(paths: &mut Vec<Path>, path: Path) -> Result<(), Failure>
+    ensures ok { OnOk result (paths.new.items ≡ paths.old.items ++ path ∷ []) }
+    ensures failure { IfErr result (λ failure. failure ≡ Failure.NoMemory) }
+{
+    match paths.push(path) {
+        Ok(()) => Ok(()),
+        Err(refused) => {
+            drop(refused);
+            Err(Failure::NoMemory)
+        }
+    }
+}
+
+fn target_path(target: &Target) -> Option<&Path>
+    ensures { option_map (λ p. p.now) result ≡ target_path target.now }
+{
+    match target {
+        Target::Good(path) => Some(path),
+        Target::Bad(_) => None,
+    }
+}
+
+// The path of the node that the call makes, if it makes one.
+fn made_path(call: &Call) -> Option<&Path>
+    ensures { option_map (λ p. p.now) result ≡ made_path call.now }
+{
+    match call {
+        Call::Make(_, target) => target_path(target),
+        _ => None,
+    }
+}
+
+// One path's line behind the others.
+fn push_row(
+    alloc: Global,
+    tree: &Plain,
+    domain: &Domain,
+    layers: bool,
+    path: &Path,
+    text: &mut String,
+) -> Result<(), AllocError>
+    ensures { OnOk result
+        (AddsRows tree.now domain.now layers (path.now ∷ []) (string_bytes text.old) (string_bytes text.new)) }
+{
+    let told = rights_on(alloc, tree, domain, path)?;
+    let row = row_text(alloc, path, &told, layers)?;
+    text.push_str(row.as_str())?;
+    Ok(())
+}
+
+// The line of the node that the call makes, if it makes one, behind the others.
+fn push_node(
+    alloc: Global,
+    tree: &Plain,
+    domain: &Domain,
+    layers: bool,
+    call: &Call,
+    text: &mut String,
+) -> Result<(), AllocError>
+    ensures { OnOk result (AddsRows tree.now domain.now layers (option_to_list (made_path call.now))
+        (string_bytes text.old) (string_bytes text.new)) }
+{
+    match made_path(call) {
+        Some(path) => push_row(alloc, tree, domain, layers, path, text),
+        None => Ok(()),
+    }
+}
+
+// The lines of these paths.
+fn rows_of_paths(
+    alloc: Global,
+    tree: &Plain,
+    domain: &Domain,
+    layers: bool,
+    paths: &[Path],
+) -> Result<String, AllocError>
+    ensures { IfOk result (λ text. AreRows tree.now domain.now layers paths.now (string_bytes text)) }
+{
+    let mut text = String::new(alloc);
+    for path in paths {
+        push_row(alloc, tree, domain, layers, path, &mut text)?;
+    }
+    Ok(text)
+}
+
+// The lines of the nodes that these calls make.
+fn rows_of_nodes(
+    alloc: Global,
+    tree: &Plain,
+    domain: &Domain,
+    layers: bool,
+    calls: &[Call],
+) -> Result<String, AllocError>
+    ensures { IfOk result (λ text. AreRows tree.now domain.now layers (made_paths calls.now) (string_bytes text)) }
+{
+    let mut text = String::new(alloc);
+    for call in calls {
+        push_node(alloc, tree, domain, layers, call, &mut text)?;
+    }
+    Ok(text)
+}
+
+// The lines of the nodes that the loader makes, if there is one.
+fn rows_of_loader(
+    alloc: Global,
+    tree: &Plain,
+    domain: &Domain,
+    layers: bool,
+    loader: &Option<Vec<Call>>,
+) -> Result<String, AllocError>
+    ensures { IfOk result (λ text. AreRows tree.now domain.now layers
+        (option_map_or (λ calls. made_paths calls.items) loader.now []) (string_bytes text)) }
+{
+    match loader {
+        Some(calls) => rows_of_nodes(alloc, tree, domain, layers, calls.as_slice()),
+        None => Ok(String::new(alloc)),
+    }
+}
+
+// The lines of the paths that are wanted, or where there is none of the policy's nodes.
+fn rows_told(
+    alloc: Global,
+    opened: &Opened,
+    setup: &Setup,
+    paths: &[Path],
+    layers: bool,
+) -> Result<String, AllocError>
+    ensures { IfOk result (λ text. (words : List (List ℕ)) → paths.now ≡ map path_of_text words
+        → AreRows opened.now.tree (client_of opened.now.tree opened.now.client).domain layers
+        (paths_told words setup.now) (string_bytes text)) }
+{
+    let Some(client) = opened.tree.client(opened.client) else {
+        unreachable!()
+    };
+    if paths.is_empty() {
+        rows_of_loader(alloc, &opened.tree, &client.domain, layers, &setup.loader)
+    } else {
+        rows_of_paths(alloc, &opened.tree, &client.domain, layers, paths)
+    }
+}
+
+// The run whose first client is the one that is asked about.
+fn run_of<'a>(options: &RightsOptions<'a>) -> RunOptions<'a>
+    ensures { order_in result ≡ run_of (rights_in options.now) }
+{
+    RunOptions {
+        script: "-",
+        nodes: options.nodes,
+        level: None,
+        history: 1,
+        policy: Some(options.policy),
+        profile: Some(options.profile),
+        save: None,
+        strict: false,
+    }
+}
+
+/// The table that the options ask for, by the policy in this file.
+pub fn rights_table<R: Read>(
+    alloc: Global,
+    options: &RightsOptions,
+    file: &mut R,
+) -> Result<String, Failure>
+    ensures table { IfOk result (λ table. (text : List ℕ) × IfSome (R.remaining file.old) (λ told. text ≡ told)
+        × IsTable (rights_in options.now) text (string_bytes table)) }
+    ensures failure { IfErr result (λ failure. (text : List ℕ) × IfSome (R.remaining file.old) (λ told. text ≡ told)
+        × MayFail (rights_in options.now) text failure) }
+{
+    let paths = match paths_of(alloc, options.paths.as_slice()) {
+        Ok(paths) => paths,
+        Err(failure) => return Err(failure),
+    };
+    let setup = match setup_of(alloc, &run_of(options), file) {
+        Ok(setup) => setup,
+        Err(failure) => return Err(failure),
+    };
+    let opened = match open_tree(alloc, &setup) {
+        Ok(opened) => opened,
+        Err(failure) => return Err(failure),
+    };
+    match rows_told(alloc, &opened, &setup, paths.as_slice(), options.layers) {
+        Ok(text) => Ok(text),
+        Err(_) => Err(Failure::NoMemory),
+    }
+}
+
+/// Tells the rights that the options ask for, by the policy in this file.
+pub fn tell_rights<R: Read, W: Write>(
+    alloc: Global,
+    options: &RightsOptions,
+    file: &mut R,
+    out: &mut W,
+) -> Result<(), Failure>
+    ensures table { OnOk result ((text : List ℕ) × IfSome (R.remaining file.old) (λ told. text ≡ told)
+        × Writes (W.contents out.old) (W.contents out.new) (IsTable (rights_in options.now) text)) }
+    ensures failure { IfErr result (λ failure. (text : List ℕ) × IfSome (R.remaining file.old) (λ told. text ≡ told)
+        × MayFail (rights_in options.now) text failure) }
+{
+    let table = match rights_table(alloc, options, file) {
+        Ok(table) => table,
+        Err(failure) => return Err(failure),
+    };
+    match write_whole(out, table.as_str()) {
+        Ok(()) => Ok(()),
+        Err(_) => Err(Failure::Output),
+    }
+}

@@ -1,0 +1,198 @@
+//! Schedules and their pictures, as the program makes them.
+
+ghost use Rattle.std.specs.Prelude.{◌≡◌, ◌≤◌, ◌^◌, ℕ, List, [], Err, length, OnOk, OnErr, IfErr, IfSome, Some, false};
+ghost use Rattle.std.specs.Prelude.{true};
+ghost use Rattle.std.specs.Io.KnownBytes.{Appends};
+ghost use Rattle.ll_picture.specs.Windows.{drawn_of};
+ghost use Rattle.ll_wire.specs.Devices.{IsWhole};
+ghost use Rattle.ll_wire.specs.Reached.{Blames};
+ghost use Rattle.ll_wire.specs.Transcript.{Writes};
+ghost use Rattle.ll_wire.specs.declared.fault.SessionFault.{SessionFault};
+ghost use Rattle.ll_options.specs.Options.{scheduled_in};
+ghost use Rattle.ll_picture.specs.Pictures.{IsPicture};
+ghost use Rattle.ll_commands.specs.Schedules.{IsWorldSetup, window_of};
+ghost use Rattle.ll_runs.specs.declared.failure.Failure.{Failure};
+ghost use Rattle.ll_runs.specs.Failure.{failure_in_session, IsOfDevices, IsOfSaving};
+ghost use Rattle.ll_steps.specs.Told.{IsBegun, IsTold};
+ghost use Rattle.ll_wire.specs.Pieces.{pieces};
+ghost use Rattle.ll_wire.specs.Writing.{AppendsFront};
+
+use ll_options::ScheduleOptions;
+use ll_picture::{Window, draw, explain};
+use ll_rights::Abi;
+use ll_runs::Failure;
+use ll_seq::Rules;
+use ll_steps::{WorldSetup, run_schedule};
+use ll_wire::{Destination, Ends, Pair, write_out};
+use std::alloc::Global;
+use std::io::{Read, Write, empty};
+
+/// What the options of a schedule ask for.
+pub fn setup_by(options: &ScheduleOptions) -> WorldSetup
+    ensures { IsWorldSetup (scheduled_in options.now) result }
+{
+    WorldSetup {
+        rules: Rules {
+            abi: options.level.unwrap_or(Abi::NEWEST),
+            copies: true,
+        },
+        nodes: options.nodes,
+        history: options.history,
+    }
+}
+
+/// Which lines of a schedule are to be drawn.
+pub fn window_by(options: &ScheduleOptions) -> Window
+    ensures { result ≡ window_of (scheduled_in options.now) }
+{
+    Window {
+        from: options.from.unwrap_or(1),
+        to: options.to,
+    }
+}
+
+/// Does what the lines of a schedule ask for, as `perform_schedule` does, over two devices that count their failures:
+/// each fault is told as what it is, of the device that failed in this call.
+pub fn perform_over<E: Ends>(alloc: Global, setup: WorldSetup, ends: &mut E) -> Result<(), Failure>
+    requires whole { IsWhole (E.devices ends.old) }
+    requires answered { (E.devices ends.old).owed ≡ 0 }
+    requires reads { (E.devices ends.old).reads ≤ 2 ^ 62 }
+    ensures transcript { OnOk result (IfSome (E.devices ends.old).remaining (λ input.
+        ((E.devices ends.new).remaining ≡ Some [])
+        × Writes (E.devices ends.old).contents (E.devices ends.new).contents (IsTold setup input))) }
+    ensures beginning { OnErr result (IfSome (E.devices ends.old).remaining (λ input.
+        Writes (E.devices ends.old).contents (E.devices ends.new).contents (IsBegun setup input))) }
+    ensures fault { IfErr result (λ failure. (fault : SessionFault)
+        × Blames fault (E.devices ends.old) (E.devices ends.new) × (failure ≡ failure_in_session fault)) }
+    ensures failure { IfErr result IsOfDevices }
+    ensures same { E.names ends.new ≡ E.names ends.old }
+{
+    match run_schedule(alloc, setup, ends) {
+        Ok(()) => Ok(()),
+        Err(fault) => Err(Failure::of_session(fault)),
+    }
+}
+
+/// Does what the lines of a schedule ask for, in a tree that is set up so.
+pub fn perform_schedule<R: Read, W: Write>(
+    alloc: Global,
+    setup: WorldSetup,
+    schedule: &mut R,
+    out: &mut W,
+) -> Result<(), Failure>
+    ensures transcript { OnOk result (IfSome (R.remaining schedule.old) (λ input.
+        (R.remaining schedule.new ≡ Some []) × Writes (W.contents out.old) (W.contents out.new) (IsTold setup input))) }
+    ensures beginning { OnErr result (IfSome (R.remaining schedule.old) (λ input.
+        Writes (W.contents out.old) (W.contents out.new) (IsBegun setup input))) }
+    ensures failure { IfErr result IsOfDevices }
+{
+    let mut ends = Pair {
+        reader: schedule,
+        writer: out,
+        reads: 0,
+        owed: 0,
+        is_answering: true,
+        is_input_broken: false,
+        is_output_broken: false,
+    };
+    perform_over(alloc, setup, &mut ends)
+}
+
+/// Draws these lines of a schedule, as `draw_schedule` does, to a device that counts its failures. A failed write isn't
+/// tried again.
+pub fn draw_over<E: Ends>(
+    alloc: Global,
+    setup: WorldSetup,
+    window: Window,
+    schedule: &[u8],
+    ends: &mut E,
+) -> Result<(), Failure>
+    requires { (E.devices ends.old).is_output_broken ≡ false }
+    ensures drawn { OnOk result ((text : List ℕ) × IsPicture (drawn_of window (length (pieces schedule.now))) text
+        × Appends (E.devices ends.old).contents (E.devices ends.new).contents text) }
+    ensures file { result ≡ Err Failure.File → (text : List ℕ)
+        × IsPicture (drawn_of window (length (pieces schedule.now))) text
+        × AppendsFront (E.devices ends.old).contents (E.devices ends.new).contents text }
+    ensures broken { result ≡ Err Failure.File → (E.devices ends.new).is_output_broken ≡ true }
+    ensures memory { result ≡ Err Failure.NoMemory → E.devices ends.new ≡ E.devices ends.old }
+    ensures failure { IfErr result IsOfSaving }
+    ensures same { E.names ends.new ≡ E.names ends.old }
+{
+    let Ok(picture) = draw(
+        alloc,
+        setup.rules,
+        setup.nodes,
+        setup.history,
+        window,
+        schedule,
+    ) else {
+        return Err(Failure::NoMemory);
+    };
+    match write_out(ends, picture.as_str().as_bytes()) {
+        Ok(()) => Ok(()),
+        Err(_) => Err(Failure::File),
+    }
+}
+
+/// Draws what these lines of a schedule ask for, in a tree that is set up so. Want of memory is told before anything is
+/// written.
+pub fn draw_schedule<W: Write>(
+    alloc: Global,
+    setup: WorldSetup,
+    window: Window,
+    schedule: &[u8],
+    file: &mut W,
+) -> Result<(), Failure>
+    ensures drawn { OnOk result ((text : List ℕ) × IsPicture (drawn_of window (length (pieces schedule.now))) text
+        × Appends (W.contents file.old) (W.contents file.new) text) }
+    ensures file { result ≡ Err Failure.File → (text : List ℕ)
+        × IsPicture (drawn_of window (length (pieces schedule.now))) text
+        × AppendsFront (W.contents file.old) (W.contents file.new) text }
+    ensures memory { result ≡ Err Failure.NoMemory → W.contents file.new ≡ W.contents file.old }
+    ensures failure { IfErr result IsOfSaving }
+{
+    let mut nothing = empty();
+    let mut ends = Pair {
+        reader: &mut nothing,
+        writer: file,
+        reads: 0,
+        owed: 0,
+        is_answering: false,
+        is_input_broken: false,
+        is_output_broken: false,
+    };
+    draw_over(alloc, setup, window, schedule, &mut ends)
+}
+
+/// Draws what these lines of a schedule ask for, and has the picture alone stand in the destination. With a failure,
+/// what stood there stays.
+pub fn draw_in<D: Destination>(
+    alloc: Global,
+    setup: WorldSetup,
+    window: Window,
+    schedule: &[u8],
+    destination: &mut D,
+) -> Result<(), Failure>
+    ensures drawn { OnOk result ((text : List ℕ) × IsPicture (drawn_of window (length (pieces schedule.now))) text
+        × Appends (D.blank destination.old) (D.contents destination.new) text) }
+    ensures kept { OnErr result (D.contents destination.new ≡ D.contents destination.old) }
+    ensures failure { IfErr result IsOfSaving }
+{
+    let Ok(mut draft) = destination.draft() else {
+        return Err(Failure::File);
+    };
+    if let Err(failure) = draw_schedule(alloc, setup, window, schedule, &mut draft) {
+        destination.remove(draft);
+        return Err(failure);
+    }
+    match destination.put(draft) {
+        Ok(()) => Ok(()),
+        Err(_) => Err(Failure::File),
+    }
+}
+
+/// Why the steps of a schedule that weren't made couldn't be made, a line each, and which walks are under way at the
+/// end. None for want of memory.
+pub fn explain_schedule(alloc: Global, setup: WorldSetup, schedule: &[u8]) -> Option<String> {
+    explain(alloc, setup.rules, setup.nodes, setup.history, schedule).ok()
+}

@@ -1,0 +1,160 @@
+//! What `why` tells.
+
+ghost use Rattle.std.specs.Prelude.{◌≡◌, ◌≤◌, ◌⊎◌, ℕ, List, IfErr, IfOk, IfSome, OnOk};
+ghost use Rattle.std.specs.Io.KnownBytes.{Appends};
+ghost use Rattle.ll_rights.specs.declared.limits.TheConstants.{TREE_NODES};
+ghost use Rattle.ll_wire.specs.Transcript.{Writes};
+ghost use Rattle.ll_options.specs.Options.{order_in, why_in};
+ghost use Rattle.ll_commands.specs.Why.{CommandAnswers, CommandFails, EndsWhy, EntryAnswers, EntryFails, IsAnswer};
+ghost use Rattle.ll_commands.specs.Why.{IsToldSo, MayFail, answer_text, conclusion_of, run_by};
+
+use crate::commands::{call_of, told_of_setup};
+use ll_audit::Verdict;
+use ll_options::{Question, RunOptions, WhyOptions};
+use ll_runs::{Conclusion, Failure, read_text, setup_of};
+use ll_why::{HistoryWhy, why_entry};
+use ll_wire::write_whole;
+use std::alloc::Global;
+use std::io::{Read, Write};
+
+/// What is answered.
+#[derive(Drop)]
+pub enum Answer {
+    /// Lines for people.
+    Told(String),
+    /// The history's first line that is of no form, counted from 1.
+    BadLine(usize),
+}
+
+// Of the history's entry of this number.
+fn answer_of_entry<R: Read>(alloc: Global, file: &mut R, number: u64) -> Result<Answer, Failure>
+    ensures told { IfOk result (λ answer. (text : List ℕ) × IfSome (R.remaining file.old) (λ told. text ≡ told)
+        × EntryAnswers number text answer) }
+    ensures failure { IfErr result (λ failure. (text : List ℕ) × IfSome (R.remaining file.old) (λ told. text ≡ told)
+        × EntryFails number text failure) }
+{
+    let bytes = match read_text(alloc, file) {
+        Ok(bytes) => bytes,
+        Err(failure) => return Err(failure),
+    };
+    match why_entry(alloc, bytes.as_slice(), number as usize) {
+        Ok(HistoryWhy::Told(text)) => Ok(Answer::Told(text)),
+        Ok(HistoryWhy::BadLine(line)) => Ok(Answer::BadLine(line)),
+        Ok(HistoryWhy::NoEntry) => Err(Failure::CommandLine),
+        Err(_) => Err(Failure::NoMemory),
+    }
+}
+
+// The run whose first client makes the command.
+fn run_by<'a>(policy: &'a str, profile: &'a str, nodes: usize) -> RunOptions<'a>
+    requires some { 1 ≤ nodes }
+    requires most { nodes ≤ TREE_NODES }
+    ensures { order_in result ≡ run_by policy.entry.now profile.entry.now nodes }
+{
+    RunOptions {
+        script: "-",
+        nodes,
+        level: None,
+        history: 1,
+        policy: Some(policy),
+        profile: Some(profile),
+        save: None,
+        strict: false,
+    }
+}
+
+// Of the command that the word spells, by this run's policy.
+fn answer_of_command<R: Read>(
+    alloc: Global,
+    run: &RunOptions,
+    word: &str,
+    file: &mut R,
+) -> Result<Answer, Failure>
+    ensures told { IfOk result (λ answer. (text : List ℕ) × IfSome (R.remaining file.old) (λ told. text ≡ told)
+        × CommandAnswers (order_in run.now) word.now text answer) }
+    ensures failure { IfErr result (λ failure. (text : List ℕ) × IfSome (R.remaining file.old) (λ told. text ≡ told)
+        × CommandFails (order_in run.now) word.now text failure) }
+{
+    let call = match call_of(alloc, word) {
+        Ok(call) => call,
+        Err(failure) => return Err(failure),
+    };
+    let setup = match setup_of(alloc, run, file) {
+        Ok(setup) => setup,
+        Err(failure) => return Err(failure),
+    };
+    match told_of_setup(alloc, &setup, &call) {
+        Ok(text) => Ok(Answer::Told(text)),
+        Err(failure) => Err(failure),
+    }
+}
+
+/// What the options ask for, of the history or by the policy in this file.
+pub fn answer_of<R: Read>(
+    alloc: Global,
+    options: &WhyOptions,
+    file: &mut R,
+) -> Result<Answer, Failure>
+    ensures told { IfOk result (λ answer. (text : List ℕ) × IfSome (R.remaining file.old) (λ told. text ≡ told)
+        × IsAnswer (why_in options.now) text answer) }
+    ensures failure { IfErr result (λ failure. (text : List ℕ) × IfSome (R.remaining file.old) (λ told. text ≡ told)
+        × MayFail (why_in options.now) text failure) }
+{
+    match options.question() {
+        None => Err(Failure::CommandLine),
+        Some(Question::Entry(_, number)) => answer_of_entry(alloc, file, number),
+        Some(Question::Command(policy, profile, word)) => {
+            answer_of_command(alloc, &run_by(policy, profile, options.nodes), word, file)
+        }
+    }
+}
+
+// The answer, written whole.
+fn write_answer<W: Write>(alloc: Global, answer: &Answer, out: &mut W) -> Result<(), Failure>
+    ensures ok { OnOk result (Appends (W.contents out.old) (W.contents out.new) (answer_text answer.now)) }
+    ensures failure { IfErr result (λ failure. (failure ≡ Failure.Output) ⊎ (failure ≡ Failure.NoMemory)) }
+{
+    let written = match answer {
+        Answer::Told(text) => write_whole(out, text.as_str()),
+        Answer::BadLine(line) => match Verdict::BadLine(*line).text(alloc) {
+            Ok(text) => write_whole(out, text.as_str()),
+            Err(_) => return Err(Failure::NoMemory),
+        },
+    };
+    match written {
+        Ok(()) => Ok(()),
+        Err(_) => Err(Failure::Output),
+    }
+}
+
+fn conclusion_of(answer: &Answer) -> Conclusion
+    ensures { result ≡ conclusion_of answer.now }
+{
+    match answer {
+        Answer::Told(_) => Conclusion::Done,
+        Answer::BadLine(line) => Conclusion::Judged(Verdict::BadLine(*line)),
+    }
+}
+
+/// Tells what the options ask for, of the history or by the policy in this file.
+pub fn tell_why<R: Read, W: Write>(
+    alloc: Global,
+    options: &WhyOptions,
+    file: &mut R,
+    out: &mut W,
+) -> Result<Conclusion, Failure>
+    ensures told { IfOk result (λ conclusion. (text : List ℕ) × IfSome (R.remaining file.old) (λ told. text ≡ told)
+        × Writes (W.contents out.old) (W.contents out.new) (IsToldSo (why_in options.now) text conclusion)) }
+    ensures failure { IfErr result (λ failure. (text : List ℕ) × IfSome (R.remaining file.old) (λ told. text ≡ told)
+        × MayFail (why_in options.now) text failure) }
+    ensures ends { EndsWhy result }
+{
+    let answer = match answer_of(alloc, options, file) {
+        Ok(answer) => answer,
+        Err(failure) => return Err(failure),
+    };
+    match write_answer(alloc, &answer, out) {
+        Ok(()) => Ok(conclusion_of(&answer)),
+        Err(failure) => Err(failure),
+    }
+}

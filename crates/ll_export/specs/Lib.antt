@@ -1,4 +1,0 @@
-pub mod Confinement
-pub mod Export
-pub mod Json
-pub mod Program

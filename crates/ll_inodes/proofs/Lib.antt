@@ -1,4 +1,0 @@
-pub mod SlotLists
-pub mod LivingNodes
-pub mod NewTables
-pub mod TableSteps

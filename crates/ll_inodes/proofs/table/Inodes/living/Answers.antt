@@ -1,9 +1,0 @@
-use Rattle.std.proofs.Common.{ap, ◌∙◌}
-use Rattle.ll_rights.specs.Map.{len}
-use Rattle.ll_inodes.specs.InodeTable.{Table}
-use Rattle.ll_inodes.proofs.LivingNodes.{facts_len}
-use Rattle.ll_inodes.proofs.table.Inodes.living.Goals as goal
-
-pub returns : goal.returns
-returns c s spares table =
-    c.len.ensures ∙ ap (λ (t : Table). len t.facts) c.self.view_is ∙ facts_len s c.args.self.now.facts table.facts

@@ -1,2 +1,0 @@
-pub mod InodeTable
-pub mod TableCodes

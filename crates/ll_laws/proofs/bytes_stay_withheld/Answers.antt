@@ -1,5 +1,0 @@
-use Rattle.ll_laws.proofs.Withholding.{bytes_are_withheld}
-use Rattle.ll_laws.proofs.bytes_stay_withheld.Goals as goal
-
-pub returns : goal.returns
-returns c = bytes_are_withheld

@@ -1,5 +1,0 @@
-use Rattle.ll_laws.proofs.Gain.{no_gain}
-use Rattle.ll_laws.proofs.reach_never_grows.Goals as goal
-
-pub returns : goal.returns
-returns c = no_gain

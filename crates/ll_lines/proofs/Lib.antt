@@ -1,4 +1,0 @@
-pub mod Advance
-pub mod Cuts
-pub mod LeftToRead
-pub mod Telling

@@ -1,4 +1,0 @@
-pub mod Cutting
-pub mod Reached
-pub mod Settling
-pub mod Transcript

@@ -1,0 +1,125 @@
+//! What lies behind a slot's lock.
+
+ghost use Rattle.std.specs.Prelude.{◌≡◌, [], true, false, IfErr, IsErr, IsOk, OnOk, OnErr};
+ghost use Rattle.ll_rights.specs.declared.errno.Errno.TheVariants.{NoMemory};
+ghost use Rattle.ll_rights.specs.Kind.{is_dir};
+ghost use Rattle.ll_rights.specs.Map.{insert};
+ghost use Rattle.ll_path.specs.Name.{IsName};
+ghost use Rattle.ll_seq.specs.Effects.{resized};
+ghost use Rattle.ll_node.specs.Slot.{renamed};
+ghost use Rattle.ll_node.specs.Refusals.{insert_refusals, missing, rename_refusals, len_refusals};
+ghost use Rattle.ll_node.specs.Lent.{unmarked, emptied_in, filled, named_in, unnamed_in, vacated};
+
+use crate::Slot;
+use ll_rights::{Errno, Kind};
+use std::alloc::{AllocError, Global};
+
+/// A slot's node, and its inode; 0 where the slot is vacant.
+#[derive(Drop)]
+pub struct Held {
+    pub inode: u64,
+    pub node: Slot,
+}
+
+/// Where the one error can be a want of memory.
+fn wants_memory(done: Result<(), Errno>) -> Result<(), AllocError>
+    requires { IfErr done (λ errno. errno ≡ NoMemory) }
+    ensures ok { OnOk result (IsOk done) }
+    ensures err { OnErr result (IsErr done) }
+{
+    match done {
+        Ok(()) => Ok(()),
+        Err(Errno::NoMemory) => Err(AllocError),
+        Err(_) => unreachable!(),
+    }
+}
+
+impl Held {
+    /// The client's mark goes, if it is here.
+    pub(crate) fn unmark(&mut self, client: u64)
+        ensures { self.new ≡ unmarked client self.old }
+    {
+        if self.node.mark() == Some(client) {
+            self.node.set_mark(None);
+        }
+    }
+
+    /// The directory gets a name that it doesn't have. Errors: no memory, and nothing has changed.
+    pub(crate) fn name(&mut self, name: &str, inode: u64) -> Result<(), AllocError>
+        requires directory { is_dir self.old.node.kind ≡ true }
+        requires name { IsName name.now }
+        requires takes { insert_refusals self.old.node.names name.now ≡ [] }
+        ensures ok { OnOk result (self.new
+            ≡ record self.old { node = record self.old.node { names = insert self.old.node.names name.now inode } }) }
+        ensures err { OnErr result (self.new ≡ self.old) }
+    {
+        wants_memory(self.node.insert(name, inode))
+    }
+
+    /// The directory's name comes to stand for another inode, if it lies here.
+    pub(crate) fn replace_name(&mut self, directory: u64, name: &str, inode: u64)
+        requires { self.old.inode ≡ directory → missing self.old.node.names name.now ≡ [] }
+        ensures { self.new ≡ named_in directory name.now inode self.old }
+    {
+        if self.inode == directory {
+            let _ = self.node.replace(name, inode);
+        }
+    }
+
+    /// The directory loses the name, if it lies here.
+    pub(crate) fn take_name(&mut self, directory: u64, name: &str)
+        ensures { self.new ≡ unnamed_in directory name.now self.old }
+    {
+        if self.inode == directory {
+            let _ = self.node.remove(name);
+        }
+    }
+
+    /// What has the old name gets the new one in its place. Errors: no memory, and nothing has changed.
+    pub(crate) fn rename(&mut self, old: &str, new: &str) -> Result<(), AllocError>
+        requires name { IsName new.now }
+        requires takes { rename_refusals self.old.node.names old.now new.now ≡ [] }
+        ensures ok { OnOk result (self.new
+            ≡ record self.old { node = record self.old.node { names = renamed self.old.node.names old.now new.now } }) }
+        ensures err { OnErr result (self.new ≡ self.old) }
+    {
+        wants_memory(self.node.rename(old, new))
+    }
+
+    /// The node's bytes are cut or filled to this length. Errors: no memory, and nothing has changed.
+    pub(crate) fn set_len(&mut self, size: u64) -> Result<(), AllocError>
+        requires file { is_dir self.old.node.kind ≡ false }
+        requires takes { len_refusals size ≡ [] }
+        ensures ok { OnOk result (self.new
+            ≡ record self.old { node = record self.old.node { bytes = resized self.old.node.bytes size } }) }
+        ensures err { OnErr result (self.new ≡ self.old) }
+    {
+        wants_memory(self.node.set_len(size))
+    }
+
+    /// The inode's node has no bytes, if it lies here.
+    pub(crate) fn clear(&mut self, inode: u64)
+        ensures { self.new ≡ emptied_in inode self.old }
+    {
+        if self.inode == inode {
+            self.node.clear();
+        }
+    }
+
+    /// Nothing lies here any more, if the inode did.
+    pub fn vacate(&mut self, alloc: Global, inode: u64)
+        ensures { self.new ≡ vacated inode self.old }
+    {
+        if self.inode == inode {
+            self.fill(alloc, 0, Kind::Reg);
+        }
+    }
+
+    /// A new node lies here.
+    pub(crate) fn fill(&mut self, alloc: Global, inode: u64, kind: Kind)
+        ensures { self.new ≡ filled inode kind }
+    {
+        self.inode = inode;
+        self.node = Slot::new(alloc, kind);
+    }
+}

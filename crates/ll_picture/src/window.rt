@@ -1,0 +1,24 @@
+//! Which lines of a schedule are drawn.
+
+ghost use Rattle.std.specs.Prelude.{◌≡◌};
+ghost use Rattle.ll_picture.specs.Windows.{has_line};
+
+/// The lines from one number to another, or where that isn't told to the last. They count from 1.
+#[derive(Clone, Copy, Debug, PartialEq, Eq)]
+pub struct Window {
+    pub from: u64,
+    pub to: Option<u64>,
+}
+
+impl Window {
+    /// Whether the line of this number is drawn.
+    pub fn has(self, number: u64) -> bool
+        ensures { result ≡ has_line self number }
+    {
+        self.from <= number
+            && match self.to {
+                Some(to) => number <= to,
+                None => true,
+            }
+    }
+}

@@ -1,4 +1,0 @@
-pub mod Growing
-pub mod Names
-pub mod Numbered
-pub mod Openings

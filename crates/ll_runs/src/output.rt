@@ -1,0 +1,123 @@
+//! Saved histories and pictures: new files.
+
+ghost use Rattle.std.specs.Prelude.{None};
+
+use crate::draft::Draft;
+use ll_wire::Destination;
+use std::alloc::Global;
+use std::io;
+use std::io::{Error, Write};
+use std::rt::HostRuntime;
+
+/// The file of a name, which is made, or replaced where it is there.
+#[derive(Drop)]
+pub struct NewFile<'a> {
+    rt: &'a HostRuntime,
+    name: &'a str,
+    what: &'a str,
+    is_telling: bool,
+    record: Option<String>,
+    trouble: Option<Error>,
+}
+
+impl<'a> NewFile<'a> {
+    /// Makes nothing yet. What stands in the file is to be this, as a history. Where somebody waits, it is told at once
+    /// on standard error that there is no record.
+    pub fn new(rt: &'a HostRuntime, name: &'a str, what: &'a str, is_telling: bool) -> NewFile<'a> {
+        NewFile {
+            rt,
+            name,
+            what,
+            is_telling,
+            record: None,
+            trouble: None,
+        }
+    }
+
+    /// Returns the file's name.
+    pub fn name(&self) -> &'a str {
+        self.name
+    }
+
+    /// Returns what stands in the file.
+    pub fn what(&self) -> &'a str {
+        self.what
+    }
+
+    /// Returns the path of the record that stays beside it, if one does.
+    pub fn record_path(&self) -> Option<&str> {
+        match &self.record {
+            Some(path) => Some(path.as_str()),
+            None => None,
+        }
+    }
+
+    /// Returns what the system told where the file couldn't be made, written or replaced.
+    pub fn trouble(&self) -> Option<Error> {
+        self.trouble
+    }
+
+    // Tells that nothing is kept before the end.
+    fn tell(&self, error: Error) {
+        if self.is_telling {
+            let name = self.name;
+            let _ = eprintln!(self.rt; "no record is kept beside {name}: {error}");
+        }
+    }
+}
+
+// Where this draft stands, unless memory is wanted for that.
+fn path_of(alloc: Global, made: &Option<Draft<'_>>) -> Option<String> {
+    match made {
+        Some(draft) => String::from_str(alloc, draft.path()?).ok(),
+        None => None,
+    }
+}
+
+// What stands in a file, no contract says.
+impl<'a> Destination for NewFile<'a> {
+    type Draft = Draft<'a>;
+
+    ghost contents = { λ file. None };
+
+    ghost blank = { λ file. None };
+
+    fn draft(&mut self) -> io::Result<Draft<'a>> {
+        let made = Draft::new(self.rt, self.name);
+        if let Err(error) = &made {
+            self.trouble = Some(*error);
+        }
+        made
+    }
+
+    fn record(&mut self, head: &[u8]) -> Option<Draft<'a>> {
+        match Draft::record(self.rt, self.name, head) {
+            Ok(made) => {
+                self.record = path_of(self.rt.alloc(), &made);
+                made
+            }
+            Err(error) => {
+                self.tell(error);
+                None
+            }
+        }
+    }
+
+    fn put(&mut self, draft: Draft<'a>) -> io::Result<()> {
+        let put = draft.put();
+        if let Err(error) = &put {
+            draft.remove();
+            self.trouble = Some(*error);
+        }
+        put
+    }
+
+    fn remove(&mut self, draft: Draft<'a>) {
+        draft.remove();
+        if draft.is_record() {
+            self.record = None;
+        } else if let Some(error) = draft.trouble() {
+            self.trouble = Some(error);
+        }
+    }
+}

@@ -1,8 +1,0 @@
-use Rattle.ll_saved.proofs.FileRead.{judged_file}
-use Rattle.ll_saved.proofs.auditing.run_audit_over.Goals as goal
-
-pub returns-in-Ok-write_verdict-clause-verdict : goal.returns-in-Ok-write_verdict-clause-verdict
-returns-in-Ok-write_verdict-clause-verdict g c =
-    judged_file (g.E.Ends.devices c.args.ends.now).remaining c.in-Ok.bytes.items c.as_slice.result.now
-    c.in-Ok-judge.verdict
-    c.in-Ok.ensures.bytes c.as_slice.ensures.value c.in-Ok-judge.ensures.verdict

@@ -1,0 +1,267 @@
+//! All clients of a shared tree, in one hand.
+
+ghost use Rattle.std.specs.Prelude.{◌≡◌, ℕ, ◌+◌, ◌∷◌, ◌++◌, ◌<◌, ◌≤◌, ◌↔◌, [], IsTrue, List, None, IfErr, IfOk};
+ghost use Rattle.std.specs.Prelude.{OnErr, OnOk, false, length, map};
+ghost use Rattle.ll_rights.specs.declared.limits.TheConstants.{TREE_CLIENTS};
+ghost use Rattle.ll_seq.specs.History.{IsLegal, is_connect};
+ghost use Rattle.ll_seq.specs.State.{start};
+ghost use Rattle.ll_seq.specs.declared.reply.Entry.{Entry};
+ghost use Rattle.ll_seq.specs.declared.call.Call.TheVariants as calls;
+ghost use Rattle.ll_seq.specs.declared.reply.Reply.TheVariants as replies;
+ghost use Rattle.ll_journal.specs.declared.direct.Made.{Made};
+ghost use Rattle.ll_client.specs.Closed.{IsClosed};
+ghost use Rattle.ll_client.specs.Coming.{HasNoPlace};
+ghost use Rattle.ll_client.specs.Entries.{knows, numbered};
+ghost use Rattle.ll_client.specs.Replies.{success};
+ghost use Rattle.ll_session.specs.Between.{Leads};
+ghost use Rattle.ll_session.specs.PartySession.{Session, Connects, joined};
+ghost use Rattle.ll_session.specs.Talk.{Asks, AsksFor, IsMet, Looks, reply_of, seen_by};
+
+use crate::clients::{close_all, meet_all, reply_to};
+use ll_calls::{Gate, ReadsHistory, Tree};
+use ll_client::{Client, Shape};
+use ll_rights::Errno;
+use ll_rights::limits::TREE_CLIENTS;
+use ll_seq::{Call, History, Reply};
+use std::alloc::{AllocError, Global};
+use std::marker::Model;
+use std::sync::Wait;
+
+/// All clients of one tree, in the order in which they came. They make their calls one after the other: each meets the
+/// others first, so that its entry stands after all of theirs.
+#[derive(Drop)]
+pub struct Party<N: Shape> {
+    clients: Vec<Client<N>>,
+    limit: u64,
+    /// The place of a client that knows of all entries that one of them knows of.
+    last: usize,
+    ghost limit_is: { limit ≡ N.limit },
+}
+
+impl<N: Shape> Model for Party<N> {
+    ghost use Rattle.std.specs.Prelude.{List, ◌≤◌, map};
+    ghost use Rattle.std.specs.Vec.{vec_capacity};
+    ghost use Rattle.ll_rights.specs.declared.limits.TheConstants.{TREE_CLIENTS};
+    ghost use Rattle.ll_client.specs.Entries.{Knows};
+    ghost use Rattle.ll_session.specs.Talk.{IsLast};
+
+    ghost Value = { List Knows };
+
+    ghost view = { λ p. map (λ c. c.rider) p.clients.items };
+
+    ghost invariant = { λ p. IsLast (map (λ c. c.rider) p.clients.items) p.last
+        × (TREE_CLIENTS ≤ vec_capacity p.clients) };
+}
+
+impl<N: Shape> Party<N> {
+    /// Nobody has come yet. The tree's history may have so many entries. Room is reserved for all clients that may
+    /// come.
+    pub fn new(alloc: Global, limit: u64) -> Result<Party<N>, AllocError>
+        requires { limit ≡ N.limit }
+        ensures { IfOk result (λ party. party ≡ []) }
+    {
+        let clients = Vec::with_capacity(alloc, TREE_CLIENTS)?;
+        Ok(Party {
+            clients,
+            limit,
+            last: 0,
+        })
+    }
+
+    /// How many clients have come.
+    pub fn len(&self) -> u64
+        ensures { result ≡ length self.now }
+    {
+        self.clients.len() as u64
+    }
+
+    /// The last client knows of all entries made so far, if somebody is there.
+    fn catch_up<R: Wait, G: Gate<N>>(&mut self, rt: &R, tree: &Tree<N, G>)
+        ensures looks { Looks self.old self.new }
+    {
+        if !self.clients.is_empty() {
+            tree.catch_up(rt, &mut self.clients[self.last]);
+        }
+    }
+
+    /// Has the reader read the history as it is at one point, at which all entries are there that one of them knows of.
+    pub fn read_history<R: Wait, G: Gate<N>, V: ReadsHistory>(
+        &mut self,
+        rt: &R,
+        tree: &Tree<N, G>,
+        reader: &mut V,
+    )
+        requires { 0 < length self.old }
+        ensures same { self.new ≡ self.old }
+        ensures read { (history : List Entry) × (seen_by self.old ≤ length history)
+            × V.reads reader.old history reader.new
+            × ((room : ℕ) → N.slots ≡ room + TREE_CLIENTS → IsLegal (start N.rules room) history) }
+    {
+        tree.read_history(rt, &mut self.clients[self.last], reader);
+    }
+
+    /// The number of the last entry that one of them knows of.
+    fn seen(&self) -> u64
+        ensures { result ≡ seen_by self.now }
+    {
+        if self.clients.is_empty() {
+            return 0;
+        }
+        self.clients[self.last].seen()
+    }
+
+    /// Whether the history is full, as one of the clients knows from now on.
+    pub fn is_full<R: Wait, G: Gate<N>>(&mut self, rt: &R, tree: &Tree<N, G>) -> bool
+        ensures looks { Looks self.old self.new }
+        ensures full { IsTrue result ↔ (N.limit ≤ seen_by self.new) }
+        ensures count { length self.new ≡ length self.old }
+    {
+        self.catch_up(rt, tree);
+        self.limit <= self.seen()
+    }
+
+    /// A new client, whose entry stands after all that one of them knows of. It isn't one of them yet.
+    fn connect<R: Wait, G: Gate<N>>(
+        &mut self,
+        rt: &R,
+        tree: &Tree<N, G>,
+    ) -> Result<Client<N>, Errno>
+        ensures client { IfOk result (λ client. client.rider
+            ≡ knows client.rider.number (numbered client.rider.seen calls.Connect replies.Done ∷ []) []
+            client.rider.seen None) }
+        ensures after { IfOk result (λ client. seen_by self.old < client.rider.seen) }
+        ensures errors { IfErr result HasNoPlace }
+        ensures same { self.new ≡ self.old }
+    {
+        if self.clients.is_empty() {
+            return tree.connect(rt);
+        }
+        tree.connect_after(rt, &mut self.clients[self.last])
+    }
+
+    /// A client that knows of all that one of them knows of comes last. There is room for as many as a tree may have;
+    /// no more come.
+    pub fn add<R: Wait>(&mut self, rt: &R, client: Client<N>)
+        requires { seen_by self.old ≤ client.rider.seen }
+        ensures { self.new ≡ self.old ++ client.rider ∷ [] }
+    {
+        if self.clients.len() >= TREE_CLIENTS {
+            for _ in rt.forever() {}
+            unreachable!()
+        }
+        self.last = self.clients.len();
+        self.clients.push_reserved(client);
+    }
+
+    /// The next client comes. Errors: HistoryFull, EMFILE where a tree may have no more, NoMemory.
+    pub fn join<R: Wait, G: Gate<N>>(&mut self, rt: &R, tree: &Tree<N, G>) -> Result<(), Errno>
+        ensures ok { OnOk result ((room : ℕ) → Leads N.rules room N.limit self.old self.new
+            (λ s t. (mid : Session) × Connects s replies.Done mid × (joined s mid ≡ t))) }
+        ensures err { IfErr result (λ errno. (room : ℕ) → Leads N.rules room N.limit self.old self.new
+            (λ s t. ((mid : Session) × Connects s (replies.Refused errno) mid) × (t ≡ s))) }
+        ensures errors { IfErr result HasNoPlace }
+        ensures came { OnOk result (length self.new ≡ length self.old + 1) }
+        ensures still { OnErr result (length self.new ≡ length self.old) }
+    {
+        for _ in rt.forever() {
+            if self.is_full(rt, tree) {
+                return Err(Errno::HistoryFull);
+            }
+            if self.len() >= TREE_CLIENTS as u64 {
+                return Err(Errno::EMFILE);
+            }
+            match self.connect(rt, tree) {
+                Ok(client) => {
+                    self.add(rt, client);
+                    return Ok(());
+                }
+                Err(Errno::NoMemory) => return Err(Errno::NoMemory),
+                Err(_) => {}
+            }
+        }
+        unreachable!()
+    }
+
+    /// The client at this place meets the last one, and so all of them.
+    fn meet<R: Wait, G: Gate<N>>(&mut self, rt: &R, tree: &Tree<N, G>, place: usize)
+        requires { place < length self.old }
+        ensures { IsMet self.old place self.new }
+    {
+        meet_all(rt, tree, &mut self.clients, self.last, place);
+    }
+
+    /// A call that brings no client, of the client at this place, which has met all of them.
+    fn call<R: Wait, G: Gate<N>>(
+        &mut self,
+        rt: &R,
+        tree: &Tree<N, G>,
+        place: usize,
+        call: Call,
+    ) -> Reply
+        requires place { place < length self.old }
+        requires call { is_connect call ≡ false }
+        requires childless { success call (replies.Spawned 0) ≡ false }
+        ensures { (it : Made) × Asks N.limit self.old place call it self.new × (result ≡ reply_of it) }
+    {
+        self.meet(rt, tree, place);
+        let made = tree.call(rt, &mut self.clients[place], call);
+        self.last = place;
+        reply_to(made)
+    }
+
+    /// The client at this place spawns a child, which comes last.
+    fn spawn<R: Wait, G: Gate<N>>(&mut self, rt: &R, tree: &Tree<N, G>, place: usize) -> Reply
+        requires place { place < length self.old }
+        ensures { AsksFor N.limit self.old place calls.Spawn result self.new }
+    {
+        self.meet(rt, tree, place);
+        let child = tree.spawn(rt, &mut self.clients[place]);
+        self.last = place;
+        match child {
+            Ok(child) => {
+                let number = child.rider.number();
+                self.add(rt, child);
+                Reply::Spawned(number)
+            }
+            Err(errno) => Reply::Refused(errno),
+        }
+    }
+
+    /// The call of the client at this place, from 0 on. A client that it spawns comes last.
+    pub fn ask<R: Wait, G: Gate<N>>(
+        &mut self,
+        rt: &R,
+        tree: &Tree<N, G>,
+        place: usize,
+        call: Call,
+    ) -> Reply
+        requires place { place < length self.old }
+        requires call { is_connect call ≡ false }
+        ensures asks { AsksFor N.limit self.old place call result self.new }
+        ensures count { length self.old ≤ length self.new }
+        ensures most { length self.new ≤ length self.old + 1 }
+    {
+        match call {
+            Call::Spawn => self.spawn(rt, tree, place),
+            call => self.call(rt, tree, place, call),
+        }
+    }
+
+    /// The clients, in the order in which they came.
+    pub fn into_clients(self) -> Vec<Client<N>>
+        ensures { map (λ c. c.rider) result.items ≡ self }
+    {
+        let Party { clients, .. } = self;
+        clients
+    }
+
+    /// The history of the tree, which has no clients but these.
+    pub fn close<R: Wait, G: Gate<N>>(self, rt: &R, tree: Tree<N, G>) -> History
+        ensures closed { (nodes : ℕ) → N.slots ≡ nodes + TREE_CLIENTS
+            → IsClosed N.rules nodes N.limit result.entries self }
+        ensures limit { result.limit ≡ N.limit }
+    {
+        let Party { clients, .. } = self;
+        close_all(rt, tree, clients)
+    }
+}

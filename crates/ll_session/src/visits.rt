@@ -1,0 +1,172 @@
+//! One stream's session.
+
+ghost use Rattle.std.specs.Prelude.{◌≡◌, ◌≤◌, ◌^◌, ℕ, List, [], ◌∷◌, Some, Err, IfErr, OnErr, OnOk, length, map};
+ghost use Rattle.std.specs.Io.KnownBytes.{Appends};
+ghost use Rattle.ll_wire.specs.Devices.{IsWhole};
+ghost use Rattle.ll_wire.specs.Reached.{Blames};
+ghost use Rattle.ll_wire.specs.Transcript.{most_reads};
+ghost use Rattle.ll_wire.specs.declared.fault.SessionFault.{SessionFault};
+ghost use Rattle.ll_session.specs.Progress.{IsOfRefusal};
+ghost use Rattle.ll_session.specs.Session.{AreOthers};
+ghost use Rattle.ll_wire.specs.Grammar.{reply_line};
+ghost use Rattle.ll_client.specs.Coming.{HasNoPlace};
+ghost use Rattle.ll_client.specs.Entries.{Knows};
+ghost use Rattle.ll_session.specs.Visit.{HasCome, StartsBy, Visits, WasServed};
+
+use crate::copies::copy_calls;
+use crate::host::Host;
+use crate::stream::{Served, Stream};
+use crate::{Gate, Keeps, Kept, OpenSession, Party, Tree, make_calls, session, tell_reply};
+use ll_client::{Client, Shape};
+use ll_rights::Errno;
+use ll_seq::{Call, Reply};
+use ll_wire::{Ends, Pair, SessionFault};
+use std::alloc::Global;
+use std::io::{Read, Write};
+use std::snapshot::Snapshot;
+use std::sync::Wait;
+
+// A client comes. Why it doesn't, where it is refused.
+fn come<N: Shape, H: Wait, G: Gate<N>>(
+    rt: &H,
+    tree: &Tree<N, G>,
+    party: &mut Party<N>,
+) -> Result<(), Errno>
+    requires { party.old ≡ [] }
+    ensures ok { OnOk result ((me : Knows) × HasCome me × (party.new ≡ me ∷ [])) }
+    ensures err { IfErr result HasNoPlace }
+    ensures none { OnErr result (party.new ≡ []) }
+{
+    match tree.connect(rt) {
+        Ok(client) => {
+            party.add(rt, client);
+            Ok(())
+        }
+        Err(errno) => Err(errno),
+    }
+}
+
+// Writes the line of the refusal that no session begins with, once the entries are kept of which its clients know.
+fn turn_away<N: Shape, H: Wait, G: Gate<N>, K: Keeps, E: Ends>(
+    rt: &H,
+    alloc: Global,
+    host: &Host<N, G, K>,
+    party: Party<N>,
+    reply: &Reply,
+    ends: &mut E,
+) -> (Vec<Client<N>>, Result<(), SessionFault>)
+    requires { IsWhole (E.devices ends.old) }
+    ensures clients { map (λ c. c.rider) result.0.items ≡ party }
+    ensures ok { OnOk result.1 (Appends (E.devices ends.old).contents (E.devices ends.new).contents
+        (reply_line reply.now)) }
+    ensures err { IfErr result.1 (λ fault. IsOfRefusal fault (E.devices ends.old).contents (E.devices ends.new).contents
+        (reply_line reply.now)) }
+    ensures fault { IfErr result.1 (λ fault. Blames fault (E.devices ends.old) (E.devices ends.new)) }
+    ensures remaining { (E.devices ends.new).remaining ≡ (E.devices ends.old).remaining }
+    ensures same { E.names ends.new ≡ E.names ends.old }
+{
+    let mut party = party;
+    let kept = host.keeper.keep(rt, host.tree, &mut party);
+    let told = tell_reply(alloc, reply, &party, kept, ends);
+    (party.into_clients(), told)
+}
+
+/// Serves one stream: a client comes, makes the calls of its profile, and answers each line that is read, beside
+/// whatever others call on the tree. Where its connect is refused, or one of those calls, the reply's line is all that
+/// is written, and nothing is read. Gives the clients that have come: this one, and those that it has spawned.
+pub fn visit<N: Shape, H: Wait, G: Gate<N>, K: Keeps, E: Ends>(
+    rt: &H,
+    alloc: Global,
+    host: &Host<N, G, K>,
+    profile: Vec<Call>,
+    ends: &mut E,
+) -> (Vec<Client<N>>, Result<(), SessionFault>)
+    requires calls { AreOthers profile.items }
+    requires whole { IsWhole (E.devices ends.old) }
+    requires answered { (E.devices ends.old).owed ≡ 0 }
+    requires reads { (E.devices ends.old).reads ≤ 2 ^ 62 }
+    // Without a fault all was read, and the transcript of it was written; or the client was refused, and the refusal
+    // was written.
+    ensures ok { OnOk result.1 (Visits N.limit profile.items (E.devices ends.old) (E.devices ends.new)
+        (map (λ c. c.rider) result.0.items)) }
+    // With one, a beginning of that, and the calls were made that were told.
+    ensures err { IfErr result.1 (λ fault. StartsBy N.limit profile.items fault (E.devices ends.old)
+        (E.devices ends.new) (map (λ c. c.rider) result.0.items)) }
+    ensures fault { IfErr result.1 (λ fault. Blames fault (E.devices ends.old) (E.devices ends.new)) }
+    // Each read gives a byte at least.
+    ensures long { result.1 ≡ Err SessionFault.TooLong
+        → (input : List ℕ) → (E.devices ends.old).remaining ≡ Some input → most_reads ≤ length input }
+    ensures same { E.names ends.new ≡ E.names ends.old }
+{
+    let Ok(mut party) = Party::<N>::new(alloc, host.limit) else {
+        drop(profile);
+        return (Vec::new(alloc), Err(SessionFault::NoMemory));
+    };
+    if let Err(errno) = come(rt, host.tree, &mut party) {
+        drop(profile);
+        return turn_away(rt, alloc, host, party, &Reply::Refused(errno), ends);
+    }
+    match make_calls(rt, host.tree, &mut party, 0, profile) {
+        Ok(()) => {
+            let open = OpenSession {
+                rt,
+                alloc,
+                tree: host.tree,
+                keeper: host.keeper,
+                party,
+                before: 0,
+                kept: Kept::UpTo(0),
+            };
+            let (party, ended) = session(open, ends);
+            (party.into_clients(), ended)
+        }
+        Err(reply) => turn_away(rt, alloc, host, party, &reply, ends),
+    }
+}
+
+// Serves one stream by these rules, and gives its clients and how it ended.
+fn serve_ends<N: Shape, G: Gate<N>, K: Keeps, H: Wait, R: Read, W: Write>(
+    rt: &H,
+    alloc: Global,
+    host: &Host<N, G, K>,
+    stream: &mut Stream<R, W>,
+) -> (Vec<Client<N>>, Result<(), SessionFault>)
+    ensures { WasServed N.limit host.now.profile.now R.remaining W.contents result.1 stream.old stream.new
+        (map (λ c. c.rider) result.0.items) }
+{
+    let Ok(profile) = copy_calls(alloc, host.profile) else {
+        return (Vec::new(alloc), Err(SessionFault::NoMemory));
+    };
+    let mut ends = Pair {
+        reader: &mut stream.reader,
+        writer: &mut stream.writer,
+        reads: 0,
+        owed: 0,
+        is_answering: true,
+        is_input_broken: false,
+        is_output_broken: false,
+    };
+    visit(rt, alloc, host, profile, &mut ends)
+}
+
+/// Serves one stream as `visit` does, and gives what is left of it.
+pub fn serve_stream<N: Shape, G: Gate<N>, K: Keeps, H: Wait, R: Read, W: Write>(
+    rt: &H,
+    alloc: Global,
+    host: &Host<N, G, K>,
+    stream: &mut Stream<R, W>,
+) -> Served<N, R, W>
+    ensures served { WasServed N.limit host.now.profile.now R.remaining W.contents result.ended
+        result.came.value result.went.value (map (λ c. c.rider) result.clients.items) }
+    ensures came { result.came.value ≡ stream.old }
+    ensures went { result.went.value ≡ stream.new }
+{
+    let came = Snapshot::of(&*stream);
+    let (clients, ended) = serve_ends(rt, alloc, host, stream);
+    Served {
+        clients,
+        ended,
+        came,
+        went: Snapshot::of(&*stream),
+    }
+}

@@ -1,0 +1,160 @@
+//! Threads that serve streams.
+
+ghost use Rattle.std.specs.Prelude.{◌≡◌, ◌<◌, ◌≤◌, IfOk, length, map};
+ghost use Rattle.std.specs.List.{All};
+ghost use Rattle.ll_session.specs.Rooms.{IsRoomFor};
+ghost use Rattle.ll_session.specs.Visit.{WasServed};
+
+use crate::host::Host;
+use crate::stream::{Served, Stream};
+use crate::visits::serve_stream;
+use crate::watching::Watches;
+use crate::{Gate, Keeps};
+use crossbeam_channel::Receiver;
+use ll_client::Shape;
+use std::alloc::{AllocError, Global};
+use std::io::{Read, Write};
+use std::sync::Wait;
+use std::thread::{self, Threads};
+
+/// Where workers take streams from.
+pub(crate) trait Takes<R, W> {
+    /// The next stream, once it has come. None where no more come.
+    fn take<H: Wait>(&self, rt: &H) -> Option<Stream<R, W>>;
+}
+
+// Those that are sent, until the channel is closed.
+impl<R: Drop, W: Drop> Takes<R, W> for Receiver<Stream<R, W>> {
+    fn take<H: Wait>(&self, rt: &H) -> Option<Stream<R, W>> {
+        self.recv(rt).ok()
+    }
+}
+
+// Room for what is left of so many streams, for each worker.
+fn rooms<N: Shape, R, W>(
+    alloc: Global,
+    workers: usize,
+    most: usize,
+) -> Result<Vec<Vec<Served<N, R, W>>>, AllocError>
+    ensures workers { IfOk result (λ rooms. length rooms.items ≡ workers) }
+    ensures room { IfOk result (λ rooms. All (IsRoomFor most) rooms.items) }
+{
+    let mut rooms = Vec::new(alloc);
+    for _ in 0..workers {
+        let room: Vec<Served<N, R, W>> = Vec::with_capacity(alloc, most)?;
+        if let Err(refused) = rooms.push(room) {
+            drop(refused);
+            return Err(AllocError);
+        }
+    }
+    Ok(rooms)
+}
+
+// Serves streams until no more come, or so many were served. What is left of each comes into the room.
+fn work<
+    N: Shape,
+    G: Gate<N>,
+    H: Wait,
+    R: Read + Drop,
+    W: Write + Drop,
+    S: Takes<R, W>,
+    V: Watches<R, W>,
+    K: Keeps,
+>(
+    rt: &H,
+    alloc: Global,
+    host: &Host<N, G, K>,
+    streams: &S,
+    watch: &V,
+    room: &mut Vec<Served<N, R, W>>,
+    most: usize,
+)
+    requires { IsRoomFor most room.old }
+    ensures most { length room.new.items ≤ most }
+    ensures served { All (λ it. WasServed N.limit host.now.profile.now R.remaining W.contents it.ended it.came.value
+        it.went.value (map (λ c. c.rider) it.clients.items)) room.new.items }
+{
+    for _ in 0..most {
+        let Some(mut stream) = streams.take(rt) else {
+            return;
+        };
+        watch.came(&stream);
+        let served = serve_stream(rt, alloc, host, &mut stream);
+        watch.went(&stream, &served);
+        room.push_reserved(served);
+    }
+}
+
+/// Threads take streams from where they come, each at most so many, and serve each by `serve_stream`. Where some of the
+/// threads can't be started the others serve.
+pub(crate) fn serve_from<
+    N: Shape + Send + Sync,
+    G: Gate<N> + Sync,
+    H: Threads + Wait + Sync,
+    R: Read + Send + Drop,
+    W: Write + Send + Drop,
+    S: Takes<R, W> + Sync,
+    V: Watches<R, W> + Sync,
+    K: Keeps + Sync,
+>(
+    rt: &H,
+    alloc: Global,
+    host: &Host<N, G, K>,
+    streams: &S,
+    watch: &V,
+    workers: usize,
+    most: usize,
+) -> Result<Vec<Vec<Served<N, R, W>>>, AllocError>
+    requires { 0 < workers }
+    ensures workers { IfOk result (λ rooms. length rooms.items ≡ workers) }
+    ensures most { IfOk result (λ rooms. All (λ room. length room.items ≤ most) rooms.items) }
+    // Each of these streams was served as `serve_stream` says of one.
+    ensures served { IfOk result (λ rooms. All (λ room. All (λ it. WasServed N.limit host.now.profile.now
+        R.remaining W.contents it.ended it.came.value it.went.value (map (λ c. c.rider) it.clients.items))
+        room.items) rooms.items) }
+{
+    let mut all = rooms(alloc, workers, most)?;
+    thread::for_each_mut(
+        rt,
+        all.as_mut_slice(),
+        workers,
+        &|_, room|
+            requires { IsRoomFor most room.now }
+            ensures most { length room.exit.now.items ≤ most }
+            ensures served { All (λ it. WasServed N.limit host.entry.now.profile.now R.remaining W.contents it.ended
+                it.came.value it.went.value (map (λ c. c.rider) it.clients.items)) room.exit.now.items }
+        { work(rt, alloc, host, streams, watch, room, most) },
+    );
+    Ok(all)
+}
+
+/// Threads take streams from the channel until it is closed, each at most so many, and serve each by `serve_stream`.
+/// Where some of the threads can't be started the others serve. What is left of each stream, worker by worker, as each
+/// took them. Errors: there is no memory for a list of that; no stream is taken then.
+pub fn serve_streams<
+    N: Shape + Send + Sync,
+    G: Gate<N> + Sync,
+    H: Threads + Wait + Sync,
+    R: Read + Send + Drop,
+    W: Write + Send + Drop,
+    V: Watches<R, W> + Sync,
+    K: Keeps + Sync,
+>(
+    rt: &H,
+    alloc: Global,
+    host: &Host<N, G, K>,
+    streams: Receiver<Stream<R, W>>,
+    watch: &V,
+    workers: usize,
+    most: usize,
+) -> Result<Vec<Vec<Served<N, R, W>>>, AllocError>
+    requires { 0 < workers }
+    ensures workers { IfOk result (λ rooms. length rooms.items ≡ workers) }
+    ensures most { IfOk result (λ rooms. All (λ room. length room.items ≤ most) rooms.items) }
+    // Each of these streams was served as `serve_stream` says of one.
+    ensures served { IfOk result (λ rooms. All (λ room. All (λ it. WasServed N.limit host.now.profile.now
+        R.remaining W.contents it.ended it.came.value it.went.value (map (λ c. c.rider) it.clients.items))
+        room.items) rooms.items) }
+{
+    serve_from(rt, alloc, host, &streams, watch, workers, most)
+}

@@ -1,0 +1,57 @@
+-- What comes of a line of a schedule, and the line that tells it. own
+use Rattle.std.specs.Prelude.{◌≡◌, ℕ, ◌≤◌, true, List, [], ◌∷◌, IfSome, Result, Ok, Err, codes, decimal, slice_get}
+use Rattle.std.specs.Option.{option_map_or}
+use Rattle.ll_rights.specs.declared.errno.Errno.{Errno}
+use Rattle.ll_rights.specs.declared.errno.Errno.TheVariants.{NoMemory, BadLine}
+use Rattle.ll_rights.specs.Map.{len}
+use Rattle.ll_seq.specs.declared.reply.Entry.{Entry}
+use Rattle.ll_seq.specs.declared.reply.Reply.TheVariants as reply
+use Rattle.ll_laws.specs.World.{World, shown}
+use Rattle.ll_steps.specs.declared.report.Report.{Report}
+use Rattle.ll_steps.specs.declared.report.Report.TheVariants.{NotNow, Begun, Stands, Forked, Restarted, Joined}
+use Rattle.ll_steps.specs.declared.report.Report.TheVariants.{Replied, Refused}
+use Rattle.ll_steps.specs.Makes.{Makes}
+use Rattle.ll_steps.specs.Calling.{Calls}
+use Rattle.ll_wire.specs.Grammar.{line_of, reply_tokens, reply_line}
+use Rattle.ll_wire.specs.ScheduleLines.{SpellsScheduleLine, client_in, line_holds_text}
+use Rattle.ll_wire.specs.declared.schedule.ScheduleLine.{ScheduleLine}
+use Rattle.ll_wire.specs.declared.schedule.ScheduleLine.TheVariants as lines
+
+-- A reply is told by the entry of the history that has it
+abbrev pub outcome_tokens : List Entry → Report → List (List ℕ)
+outcome_tokens history NotNow = codes "NotNow" ∷ []
+outcome_tokens history Begun = codes "begun" ∷ []
+outcome_tokens history (Stands inode) = codes "at" ∷ decimal inode ∷ []
+outcome_tokens history Forked = codes "forked" ∷ []
+outcome_tokens history Restarted = codes "restarted" ∷ []
+outcome_tokens history (Joined number) = codes "client" ∷ decimal number ∷ []
+outcome_tokens history (Replied k) =
+    codes "reply" ∷ option_map_or (λ (entry : Entry). reply_tokens entry.reply) (slice_get history k) []
+outcome_tokens history (Refused errno) = codes "reply" ∷ reply_tokens (reply.Refused errno)
+
+abbrev pub outcome_line : List Entry → Report → List ℕ
+outcome_line history outcome = line_of (outcome_tokens history outcome)
+
+-- the client that the line names, if it names one, has come: clients are numbered from 1 as they come
+abbrev pub HasCome : World → ScheduleLine → Type 0
+HasCome w value = IfSome (client_in value) (λ client. client ≤ len (shown w).clients)
+
+-- the step is made, or all steps of the call are
+abbrev pub Does : World → ScheduleLine → Report → World → Type 0
+Does w (lines.Step step) outcome w' = Makes w step outcome w'
+Does w (lines.Do client call) outcome w' = Calls w client call outcome w'
+
+-- A piece that spells what a client who has come may do gives the line of its outcome, or, where it holds a word or
+-- bytes, want of memory to read them. Every other piece gives `refused 23 BadLine`, and changes nothing
+pub data Tells (w : World) (piece : List ℕ) : List ℕ → World → Type 0 where
+  does : (value : ScheduleLine) (outcome : Report) (w' : World) → SpellsScheduleLine piece value → HasCome w value
+      → Does w value outcome w' → Tells w piece (outcome_line w'.history outcome) w'
+  unread : (value : ScheduleLine) → SpellsScheduleLine piece value → HasCome w value → line_holds_text value ≡ true
+      → Tells w piece (reply_line (reply.Refused NoMemory)) w
+  bad : ((value : ScheduleLine) → SpellsScheduleLine piece value → HasCome w value → ⊥)
+      → Tells w piece (reply_line (reply.Refused BadLine)) w
+
+-- the line of what is told of a piece: of its outcome, or why it was not read
+abbrev pub answer_line : List Entry → Result Report Errno → List ℕ
+answer_line history (Ok outcome) = outcome_line history outcome
+answer_line history (Err errno) = reply_line (reply.Refused errno)

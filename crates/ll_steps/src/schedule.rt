@@ -1,0 +1,83 @@
+//! A schedule under way.
+
+ghost use Rattle.std.specs.Prelude.{◌≡◌, ◌≢◌, ℕ, List, Err, IfErr, IfOk, OnErr, OnOk};
+ghost use Rattle.std.specs.Io.KnownBytes.{Appends};
+ghost use Rattle.ll_wire.specs.Cutting.{Holds};
+ghost use Rattle.ll_wire.specs.Devices.{IsWhole};
+ghost use Rattle.ll_wire.specs.Reached.{Blames};
+ghost use Rattle.ll_wire.specs.declared.fault.SessionFault.{SessionFault};
+ghost use Rattle.ll_wire.specs.Grammar.{IsReply};
+ghost use Rattle.ll_wire.specs.Writing.{AppendsFront};
+ghost use Rattle.ll_steps.specs.Tells.{Does, Tells, answer_line};
+ghost use Rattle.ll_steps.specs.Told.{last_line, opened};
+
+use crate::setup::WorldSetup;
+use crate::{Report, World};
+use ll_audit::Verdict;
+use ll_rights::Errno;
+use ll_wire::{Ends, Line, ScheduleLine, SessionFault, read_schedule_line, write_line};
+use std::alloc::{AllocError, Global};
+
+// Does what the line asks for.
+fn done(world: &mut World, line: ScheduleLine) -> Report
+    ensures { Does world.old line result world.new }
+{
+    match line {
+        ScheduleLine::Step(step) => world.step(step),
+        ScheduleLine::Do(client, call) => world.make(client, call),
+    }
+}
+
+/// The tree with its walks.
+#[derive(Drop)]
+pub struct Schedule {
+    pub alloc: Global,
+    pub world: World,
+}
+
+impl Schedule {
+    ghost use Rattle.ll_seq.specs.declared.reply.Reply.{Reply};
+
+    /// Before the first line.
+    pub fn open(alloc: Global, setup: WorldSetup) -> Result<Schedule, AllocError>
+        ensures { IfOk result (λ schedule. schedule.world ≡ opened setup) }
+    {
+        let world = World::new(alloc, setup.rules, setup.nodes, setup.history)?;
+        Ok(Schedule { alloc, world })
+    }
+
+    /// Does what the line spells, if it spells anything. What comes of it.
+    pub fn outcome(&mut self, line: &Line) -> Result<Report, Errno>
+        ensures tells { (piece : List ℕ) → Holds line.now piece
+            → Tells self.old.world piece (answer_line self.new.world.history result) self.new.world }
+        ensures spelled { IfErr result (λ errno. IsReply (Reply.Refused errno)) }
+    {
+        let Some(bytes) = line.bytes() else {
+            return Err(Errno::BadLine);
+        };
+        match read_schedule_line(self.alloc, bytes, self.world.clients()) {
+            Ok(line) => Ok(done(&mut self.world, line)),
+            Err(errno) => Err(errno),
+        }
+    }
+
+    /// Writes the last line: how many entries the history has.
+    pub fn finish<E: Ends>(&self, ends: &mut E) -> Result<(), SessionFault>
+        requires { IsWhole (E.devices ends.old) }
+        ensures ok { OnOk result (Appends (E.devices ends.old).contents (E.devices ends.new).contents
+            (last_line self.now.world)) }
+        ensures whole { OnOk result (IsWhole (E.devices ends.new)) }
+        ensures err { OnErr result (AppendsFront (E.devices ends.old).contents (E.devices ends.new).contents
+            (last_line self.now.world)) }
+        ensures fault { IfErr result (λ fault. Blames fault (E.devices ends.old) (E.devices ends.new)) }
+        ensures few { result ≢ Err SessionFault.TooLong }
+        ensures remaining { (E.devices ends.new).remaining ≡ (E.devices ends.old).remaining }
+        ensures same { E.names ends.new ≡ E.names ends.old }
+    {
+        let count = self.world.history().entries().len();
+        let Ok(text) = Verdict::Legal(count).text(self.alloc) else {
+            return Err(SessionFault::NoMemory);
+        };
+        write_line(ends, text.as_str())
+    }
+}

@@ -1,3 +1,0 @@
-pub mod TieCalls
-pub mod TieSteps
-pub mod TwoSeats

@@ -1,4 +1,0 @@
-use Rattle.ll_tie.proofs.tie.Tie.give_out.Given as goal
-
-abbrev pub ghost-show : goal.ghost-show
-ghost-show g a = (a.number, g.value)

@@ -1,6 +1,0 @@
-use Rattle.ll_tie.specs.TieRule.{GivesEntry}
-use Rattle.ll_tie.proofs.tie.Tie.show.Given as goal
-
--- the step gives the keeper this entry
-abbrev pub ghosts-load : goal.ghosts-load
-ghosts-load g a = record { then = λ step before found after. GivesEntry g.entry.0 g.entry.1 before after }

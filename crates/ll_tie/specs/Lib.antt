@@ -1,3 +1,0 @@
-pub mod PassViews
-pub mod TieRule
-pub mod Views

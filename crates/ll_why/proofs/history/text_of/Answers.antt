@@ -1,0 +1,47 @@
+use Rattle.std.proofs.Common.{ℕ, List, [], ◌++◌, ap, sym, subst, ◌∙◌, string_bytes}
+use Rattle.std.proofs.lemmas.List.{append-nil}
+use Rattle.std.proofs.lemmas.Result.{IfOk-weaker}
+use Rattle.ll_seq.specs.History.{MayStand}
+use Rattle.ll_seq.specs.State.{State}
+use Rattle.ll_audit.specs.Saved.{opened}
+use Rattle.ll_why.specs.Entries.{IsStanding, entry_text}
+use Rattle.ll_why.specs.Explained.{IsExplained}
+use Rattle.ll_why.proofs.Numbered.{here, stands, stands_not}
+use Rattle.ll_why.proofs.history.text_of.Goals as goal
+
+pub standing_at-requires-clause-yes : goal.standing_at-requires-clause-yes
+standing_at-requires-clause-yes c = λ is.
+    let e = c.index-entries-number.result in
+    subst (λ (z : State). MayStand z e) (sym c.in_ok-tree.ensures.tree)
+    (stands (opened c.args.header.now) c.args.entries.now c.args.number e c.requires.first c.requires.last
+    c.index-entries-number.is (c.requires.yes is))
+
+pub standing_at-requires-clause-no : goal.standing_at-requires-clause-no
+standing_at-requires-clause-no c = λ is may.
+    let e = c.index-entries-number.result in
+    stands_not (opened c.args.header.now) c.args.entries.now c.args.number e c.requires.first c.requires.last
+    c.index-entries-number.is c.requires.legal (c.requires.no is)
+    (subst (λ (z : State). MayStand z e) c.in_ok-tree.ensures.tree may)
+
+pub returns : goal.returns
+returns c =
+    let e = c.index-entries-number.result in
+    let standing = c.in_ok-standing.standing in
+    let told = c.in_ok-told.told in
+    let text = entry_text c.args.number e standing told in
+    let opening = c.as_str-2.result.now in
+    IfOk-weaker c.concat.result _ _ (λ whole is. record {
+      entry = e;
+      standing = standing;
+      told = told;
+      opening = string_bytes c.in_ok-opening.opening;
+      at = here (opened c.args.header.now) c.args.entries.now c.args.number e c.requires.first c.requires.last
+          c.index-entries-number.is;
+      stands = subst (λ (z : State). IsStanding z e standing) c.in_ok-tree.ensures.tree c.in_ok-standing.ensures;
+      explained = subst (λ (z : State). IsExplained z e.client e.call told) c.in_ok-tree.ensures.tree
+          c.in_ok-told.ensures;
+      opened = c.in_ok-opening.ensures;
+      is = is
+          ∙ ap (λ (l : List ℕ). l ++ (opening ++ [])) (c.as_str.ensures.value ∙ c.in_ok-text.ensures)
+          ∙ ap (λ (l : List ℕ). text ++ l) (append-nil opening ∙ c.as_str-2.ensures.value);
+    }) c.concat.ensures

@@ -1,0 +1,24 @@
+use Rattle.std.proofs.Common.{◌≡◌, length, ap, subst, ◌∙◌}
+use Rattle.std.proofs.lemmas.Result.{IfOk-weaker}
+use Rattle.ll_seq.specs.State.{State}
+use Rattle.ll_seq.specs.declared.call.Call.{Call}
+use Rattle.ll_seq.specs.declared.call.Call.TheVariants.{Truncate}
+use Rattle.ll_why.specs.Explained.{IsExplained}
+use Rattle.ll_why.specs.Opening.{opening_text}
+use Rattle.ll_why.proofs.opening.lines_of.Goals as goal
+
+pub returns : goal.returns
+returns c =
+    let o = c.args.opening.now in
+    let e = o.last.now in
+    let told = c.in_ok-told.told in
+    let truncate : c.in_ok-truncate.truncate ≡ Truncate o.target.now 0 = c.in_ok-truncate.ensures in
+    IfOk-weaker c.opening_text.result _ _ (λ text is. record {
+      target = o.target.now;
+      told = told;
+      opens = c.requires.target;
+      explained = subst (λ (z : State). IsExplained z e.client (Truncate o.target.now 0) told)
+          c.in_ok-tree.ensures.tree
+          (subst (λ (call : Call). IsExplained c.in_ok-tree.tree e.client call told) truncate c.in_ok-told.ensures);
+      is = is ∙ ap (λ (call : Call). opening_text (length o.upto.now) e call told) truncate;
+    }) c.opening_text.ensures

@@ -1,0 +1,79 @@
+-- What is told of an entry of a history. own
+use Rattle.std.specs.Prelude.{◌≡◌, ◌⊎◌, ℕ, ◌-◌, ◌≤◌, ◌<◌, true, false, not, List, [], ◌∷◌, ◌++◌, Option, Some, None}
+use Rattle.std.specs.Prelude.{codes, decimal, length, slice_get, string_bytes, take, if◌then◌else◌}
+use Rattle.std.specs.List.{concat}
+use Rattle.std.specs.Option.{option_map_or}
+use Rattle.ll_rights.specs.Map.{has}
+use Rattle.ll_seq.specs.History.{IsLegal, MayStand, is_connect, state_after}
+use Rattle.ll_seq.specs.State.{State}
+use Rattle.ll_seq.specs.Step.{step}
+use Rattle.ll_seq.specs.declared.reply.Entry.{Entry}
+use Rattle.ll_wire.specs.Grammar.{call_tokens, line_of, reply_tokens}
+use Rattle.ll_wire.specs.declared.header.Header.{Header}
+use Rattle.ll_audit.specs.Saved.{IsFirstBad, Tell, opened}
+use Rattle.ll_why.specs.Explained.{IsExplained}
+use Rattle.ll_why.specs.Opening.{IsOpeningText, opening_behind}
+use Rattle.ll_why.specs.Told.{told_text}
+use Rattle.ll_why.specs.declared.entry.Standing.{Standing}
+use Rattle.ll_why.specs.declared.entry.Standing.TheVariants.{Stands, NoCaller, Answers}
+use Rattle.ll_why.specs.declared.explanation.Explanation.{Explanation}
+use Rattle.ll_why.specs.declared.history.HistoryWhy.{HistoryWhy}
+use Rattle.ll_why.specs.declared.history.HistoryWhy.TheVariants.{Told, BadLine, NoEntry}
+
+-- The entry may stand where the tree is in this state. Or else it isn't its client's turn: a call needs one that is
+-- there, and a connect one that isn't. Or else what the tree answers there, with any number for a client that is
+-- spawned that no client has
+abbrev pub IsStanding : State → Entry → Standing → Type 0
+IsStanding s e Stands = MayStand s e
+IsStanding s e NoCaller = has s.clients e.client ≡ is_connect e.call
+IsStanding s e (Answers reply) =
+    (MayStand s e → ⊥) × (has s.clients e.client ≡ not (is_connect e.call))
+    × (fresh : ℕ) × (has s.clients fresh ≡ false) × (reply ≡ (step s e.client e.call fresh).0)
+
+abbrev pub standing_line : Entry → Standing → List ℕ
+standing_line e Stands = []
+standing_line e NoCaller =
+    if is_connect e.call then codes "may not stand: the client is there already\n"
+    else codes "may not stand: the client isn't there\n"
+standing_line e (Answers reply) = line_of (codes "may not stand: the tree answers" ∷ reply_tokens reply)
+
+-- its number, its client, its call and its reply, whether it may stand, and what policy says of the call
+abbrev pub entry_text : ℕ → Entry → Standing → Option Explanation → List ℕ
+entry_text number e standing told = concat (
+    codes "entry " ∷ decimal number ∷ codes ", client " ∷ decimal e.client ∷ codes ": "
+    ∷ line_of (call_tokens e.call) ∷ line_of (codes "answered" ∷ reply_tokens e.reply)
+    ∷ standing_line e standing ∷ option_map_or (told_text e.call) told [] ∷ [])
+
+-- the entries before it may stand, and it is the one of this number, or may not stand itself
+pub record IsToldOf (s : State) (entries : List Entry) (wanted number : ℕ) : Type 0 where
+  pub first : 1 ≤ number
+  pub last : number ≤ wanted
+  pub legal : IsLegal s (take (number - 1) entries)
+  pub one : (number ≡ wanted) ⊎ (IsLegal s (take number entries) → ⊥)
+
+-- the text tells of the entry of this number, in the state that the entries before it lead to; and of the opening of
+-- the descriptor that has kept what decides its call
+pub record IsTextOf (s : State) (entries : List Entry) (number : ℕ) (text : List ℕ) : Type 0 where
+  pub entry : Entry
+  pub standing : Standing
+  pub told : Option Explanation
+  pub opening : List ℕ
+  pub at : slice_get entries (number - 1) ≡ Some entry
+  pub stands : IsStanding (state_after s (take (number - 1) entries)) entry standing
+  pub explained : IsExplained (state_after s (take (number - 1) entries)) entry.client entry.call told
+  pub opened : IsOpeningText s (opening_behind (take (number - 1) entries) entry told) opening
+  pub is : text ≡ entry_text number entry standing told ++ opening
+
+-- of the entry that is wanted, or of the first before it that may not stand
+abbrev pub IsEntryWhy : State → List Entry → ℕ → List ℕ → Type 0
+IsEntryWhy s entries wanted text =
+    (number : ℕ) × IsToldOf s entries wanted number × IsTextOf s entries number text
+
+-- what is told of the entry of this number, from 1, of a saved history with these lines; or its first bad line; or that
+-- it has no such entry
+abbrev pub IsHistoryWhy : List (List ℕ) → ℕ → HistoryWhy → Type 0
+IsHistoryWhy lines wanted (Told text) =
+    (h : Header) × (es : List Entry) × Tell lines h es × IsEntryWhy (opened h) es wanted (string_bytes text)
+IsHistoryWhy lines wanted (BadLine line) = IsFirstBad lines line
+IsHistoryWhy lines wanted NoEntry =
+    (h : Header) × (es : List Entry) × Tell lines h es × ((wanted ≡ 0) ⊎ (length es < wanted))

@@ -1,0 +1,133 @@
+//! What is told of an entry of a history.
+
+ghost use Rattle.std.specs.Prelude.{◌≡◌, ◌<◌, ◌-◌, ◌^◌, ◌↔◌, [], IfOk, IsTrue, string_bytes};
+ghost use Rattle.std.specs.Option.{option_map_or};
+ghost use Rattle.ll_seq.specs.History.{MayStand, is_connect};
+ghost use Rattle.ll_why.specs.Entries.{IsStanding, entry_text, standing_line};
+ghost use Rattle.ll_why.specs.Explained.{IsExplained};
+ghost use Rattle.ll_why.specs.Told.{told_text};
+
+use crate::explanation::{Explanation, call_line, explain};
+use crate::text::concat;
+use ll_plain::Plain;
+use ll_rights::Errno;
+use ll_seq::{Call, Entry, Reply};
+use ll_wire::reply_text_behind;
+use std::alloc::{AllocError, Global};
+
+/// Whether an entry may stand where it does.
+#[derive(Drop)]
+pub enum Standing {
+    Stands,
+    /// Its client isn't there; or it is there, and the entry connects it.
+    NoCaller,
+    /// It may not: this is what the tree answers there.
+    Answers(Reply),
+}
+
+fn is_connect(call: &Call) -> bool
+    ensures { result ≡ is_connect call.now }
+{
+    matches!(call, Call::Connect)
+}
+
+fn wants_memory(reply: &Reply) -> bool
+    ensures { IsTrue result ↔ (reply.now ≡ Reply.Refused Errno.NoMemory) }
+{
+    matches!(reply, Reply::Refused(Errno::NoMemory))
+}
+
+/// Tells why an entry that may not stand in the tree's state may not. The tree is changed then.
+pub(crate) fn answer_at(tree: &mut Plain, entry: &Entry) -> Result<Standing, AllocError>
+    requires next { tree.old.next < 2 ^ 64 - 1 }
+    requires not { MayStand tree.old entry.now → ⊥ }
+    ensures { IfOk result (IsStanding tree.old entry.now) }
+{
+    if tree.has_client(entry.client) == is_connect(&entry.call) {
+        return Ok(Standing::NoCaller);
+    }
+    let fresh = tree.free_number();
+    let reply = tree.apply(entry.client, &entry.call, fresh);
+    if wants_memory(&reply) {
+        return Err(AllocError);
+    }
+    Ok(Standing::Answers(reply))
+}
+
+/// The client's call explained, where the client is there.
+pub(crate) fn explain_at(
+    alloc: Global,
+    tree: &Plain,
+    client: u64,
+    call: &Call,
+) -> Result<Option<Explanation>, AllocError>
+    ensures { IfOk result (IsExplained tree.now client call.now) }
+{
+    match tree.client(client) {
+        Some(caller) => Ok(Some(explain(alloc, tree, caller, call)?)),
+        None => Ok(None),
+    }
+}
+
+fn standing_line(alloc: Global, entry: &Entry, standing: &Standing) -> Result<String, AllocError>
+    ensures { IfOk result (λ text. string_bytes text ≡ standing_line entry.now standing.now) }
+{
+    match standing {
+        Standing::Stands => Ok(String::new(alloc)),
+        Standing::NoCaller => {
+            if is_connect(&entry.call) {
+                String::from_str(alloc, "may not stand: the client is there already\n")
+            } else {
+                String::from_str(alloc, "may not stand: the client isn't there\n")
+            }
+        }
+        Standing::Answers(reply) => {
+            reply_text_behind(alloc, "may not stand: the tree answers", reply)
+        }
+    }
+}
+
+/// What policy says of a call, where its client is there.
+pub(crate) fn told_lines(
+    alloc: Global,
+    call: &Call,
+    told: &Option<Explanation>,
+) -> Result<String, AllocError>
+    ensures { IfOk result (λ text. string_bytes text ≡ option_map_or (told_text call.now) told.now []) }
+{
+    match told {
+        Some(told) => told.text(alloc, call),
+        None => Ok(String::new(alloc)),
+    }
+}
+
+/// The entry of this number: its client, its call and its reply, whether it may stand, and what policy says of the
+/// call.
+pub(crate) fn entry_text(
+    alloc: Global,
+    number: usize,
+    entry: &Entry,
+    standing: &Standing,
+    told: &Option<Explanation>,
+) -> Result<String, AllocError>
+    ensures { IfOk result (λ text. string_bytes text ≡ entry_text number entry.now standing.now told.now) }
+{
+    let number = number.to_string(alloc)?;
+    let client = entry.client.to_string(alloc)?;
+    let call = call_line(alloc, &entry.call)?;
+    let reply = reply_text_behind(alloc, "answered", &entry.reply)?;
+    let stands = standing_line(alloc, entry, standing)?;
+    let why = told_lines(alloc, &entry.call, told)?;
+    let parts = [
+        "entry ",
+        number.as_str(),
+        ", client ",
+        client.as_str(),
+        ": ",
+        call.as_str(),
+        reply.as_str(),
+        stands.as_str(),
+        why.as_str(),
+    ];
+    concat(alloc, &parts)
+}

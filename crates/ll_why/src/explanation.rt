@@ -1,0 +1,83 @@
+//! Why a client's call is denied, or isn't, with the change that would let it through.
+
+ghost use Rattle.std.specs.Prelude.{◌≡◌, ℕ, IfOk, string_bytes};
+ghost use Rattle.ll_seq.specs.State.{State};
+ghost use Rattle.ll_seq.specs.Step.{client_of};
+ghost use Rattle.ll_seq.specs.declared.call.Call as call_of;
+ghost use Rattle.ll_seq.specs.declared.client.ClientRecord as record_of;
+ghost use Rattle.ll_wire.specs.Grammar.{call_tokens, line_of};
+ghost use Rattle.ll_why.specs.Reasons.{IsWhy};
+ghost use Rattle.ll_why.specs.Explained.{AreLeastFor, Explains};
+ghost use Rattle.ll_why.specs.Told.{told_text};
+
+use crate::layers::reason_lines;
+use crate::{LayerChange, Why, change_for, why_of};
+use ll_plain::Plain;
+use ll_rules::Domain;
+use ll_seq::{Call, ClientRecord};
+use ll_wire::{command_text, is_spelled};
+use std::alloc::{AllocError, Global};
+
+/// Why a client's call is denied, or isn't; and the least change that would let it through.
+#[derive(Drop)]
+pub struct Explanation {
+    pub why: Why,
+    /// What is added to each layer, the oldest first; nothing where no layer is asked.
+    pub changes: Vec<LayerChange>,
+}
+
+// The least changes that let the call through, where layers are asked.
+fn changes_for(alloc: Global, domain: &Domain, why: &Why) -> Result<Vec<LayerChange>, AllocError>
+    ensures { IfOk result (λ changes. (s : State) (c : record_of.ClientRecord) (call : call_of.Call)
+        → c.domain ≡ domain.now → IsWhy s c call why.now → AreLeastFor s c call why.now changes.items) }
+{
+    match why {
+        Why::Judged(reason) => {
+            let change = change_for(alloc, domain, &reason.asks)?;
+            Ok(change.layers)
+        }
+        Why::Refused(_) | Why::Kept(_) => Ok(Vec::new(alloc)),
+    }
+}
+
+/// Why the caller's call would be denied in the tree, or wouldn't.
+pub fn explain(
+    alloc: Global,
+    tree: &Plain,
+    caller: &ClientRecord,
+    call: &Call,
+) -> Result<Explanation, AllocError>
+    ensures { IfOk result (λ told. (n : ℕ) → client_of tree.now n ≡ caller.now
+        → Explains tree.now n call.now told) }
+{
+    let why = why_of(alloc, tree, caller, call)?;
+    let changes = changes_for(alloc, &caller.domain, &why)?;
+    Ok(Explanation { why, changes })
+}
+
+/// The call's line, without a client.
+pub fn call_line(alloc: Global, call: &Call) -> Result<String, AllocError>
+    ensures { IfOk result (λ text. string_bytes text ≡ line_of (call_tokens call.now)) }
+{
+    if let Call::Connect = call {
+        return String::from_str(alloc, "connect\n");
+    }
+    is_spelled(call);
+    command_text(alloc, 1, call)
+}
+
+impl Explanation {
+    /// Lines for people, of this call.
+    pub fn text(&self, alloc: Global, call: &Call) -> Result<String, AllocError>
+        ensures { IfOk result (λ text. string_bytes text ≡ told_text call.now self.now) }
+    {
+        match &self.why {
+            Why::Refused(_) => String::from_str(alloc, "  refused before any layer is asked\n"),
+            Why::Kept(_) => String::from_str(
+                alloc,
+                "  decided by what the descriptor keeps since its opening\n",
+            ),
+            Why::Judged(reason) => reason_lines(alloc, call, reason, self.changes.as_slice()),
+        }
+    }
+}

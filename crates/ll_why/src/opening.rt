@@ -1,0 +1,200 @@
+//! Which entry opened the descriptor that decides a call, and what policy says of a truncate there.
+
+ghost use Rattle.std.specs.Prelude.{◌≡◌, ◌≤◌, true, false, Some, IfNone, IfOk, IfSome, option_map, string_bytes};
+ghost use Rattle.std.specs.Prelude.{if◌then◌else◌};
+ghost use Rattle.ll_rights.specs.declared.limits.TheConstants.{TREE_NODES};
+ghost use Rattle.ll_audit.specs.Saved.{opened};
+ghost use Rattle.ll_why.specs.Opening.{IsOpeningText, TellsOpening, is_opened, is_spawned, kept_descriptor};
+ghost use Rattle.ll_why.specs.Opening.{opening_behind, opening_text, openings, opens, target_opened};
+
+use crate::Why;
+use crate::entry::{explain_at, told_lines};
+use crate::explanation::{Explanation, call_line};
+use crate::text::concat;
+use crate::tree::tree_after;
+use ll_path::{Target, Word};
+use ll_seq::{Call, Entry, Reply};
+use ll_wire::Header;
+use std::alloc::{AllocError, Global};
+
+/// The entry that opened a client's descriptor.
+#[derive(Clone, Copy)]
+struct Opening<'a> {
+    /// All entries up to this one, which is the last of them.
+    upto: &'a [Entry],
+    last: &'a Entry,
+    target: &'a Target,
+}
+
+// What the call opens.
+fn target_opened(call: &Call) -> Option<&Target>
+    ensures { option_map (λ t. t.now) result ≡ target_opened call.now }
+{
+    match call {
+        Call::Open(_, target) => Some(target),
+        _ => None,
+    }
+}
+
+fn is_opened(reply: &Reply, descriptor: u64) -> bool
+    ensures { result ≡ is_opened descriptor reply.now }
+{
+    matches!(reply, Reply::Opened(number) if *number == descriptor)
+}
+
+fn is_spawned(reply: &Reply, client: u64) -> bool
+    ensures { result ≡ is_spawned client reply.now }
+{
+    matches!(reply, Reply::Spawned(number) if *number == client)
+}
+
+// Whose descriptors the client has before the entry: its own, or those of the client that the entry spawns it by.
+fn holder_before(entry: &Entry, client: u64) -> u64
+    ensures { result ≡ (if is_spawned client entry.now.reply then entry.now.client else client) }
+{
+    if is_spawned(&entry.reply, client) {
+        entry.client
+    } else {
+        client
+    }
+}
+
+// What the entry opens as the client's descriptor of this number, if it does.
+fn opened_target(entry: &Entry, client: u64, descriptor: u64) -> Option<&Target>
+    ensures some { IfSome result (λ t. (opens client descriptor entry.now ≡ true)
+        × (target_opened entry.now.call ≡ Some t.now)) }
+    ensures none { IfNone result (opens client descriptor entry.now ≡ false) }
+{
+    if entry.client == client && is_opened(&entry.reply, descriptor) {
+        target_opened(&entry.call)
+    } else {
+        None
+    }
+}
+
+// Which of the entries opened the descriptor of this number that the client has behind them.
+fn opening_in<'a>(entries: &'a [Entry], client: u64, descriptor: u64) -> Option<Opening<'a>>
+    ensures opening { option_map (λ o. (o.upto.now, o.last.now)) result
+        ≡ openings entries.entry.now client descriptor }
+    ensures target { IfSome result (λ o. target_opened o.last.now.call ≡ Some o.target.now) }
+{
+    let mut rest = entries;
+    let mut holder = client;
+    while let Some((last, before)) = rest.split_last() {
+        if let Some(target) = opened_target(last, holder, descriptor) {
+            let upto = rest;
+            return Some(Opening { upto, last, target });
+        }
+        holder = holder_before(last, holder);
+        rest = before;
+    }
+    None
+}
+
+// The descriptor that has kept what decides the call, if one has.
+fn kept_descriptor(call: &Call, told: &Option<Explanation>) -> Option<u64>
+    ensures { result ≡ kept_descriptor call.now told.now }
+{
+    let Some(told) = told else {
+        return None;
+    };
+    match (call, &told.why) {
+        (Call::Ftruncate(number, _), Why::Kept(_)) => Some(*number),
+        _ => None,
+    }
+}
+
+// The opening of the descriptor that decides the entry's call, which follows these entries.
+fn opening_behind<'a>(
+    entries: &'a [Entry],
+    entry: &Entry,
+    told: &Option<Explanation>,
+) -> Option<Opening<'a>>
+    ensures opening { option_map (λ o. (o.upto.now, o.last.now)) result
+        ≡ opening_behind entries.entry.now entry.now told.now }
+    ensures target { IfSome result (λ o. target_opened o.last.now.call ≡ Some o.target.now) }
+{
+    match kept_descriptor(&entry.call, told) {
+        Some(descriptor) => opening_in(entries, entry.client, descriptor),
+        None => None,
+    }
+}
+
+// The same path, or the same word that spells none.
+fn copied(alloc: Global, target: &Target) -> Result<Target, AllocError>
+    ensures { IfOk result (λ copy. copy ≡ target.now) }
+{
+    let text = String::from_str(alloc, target.as_str())?;
+    match Word::new(text) {
+        Ok(word) => Ok(Target::read(word)),
+        Err(_) => unreachable!(),
+    }
+}
+
+fn truncate_of(alloc: Global, target: &Target) -> Result<Call, AllocError>
+    ensures { IfOk result (λ call. call ≡ Call.Truncate target.now 0) }
+{
+    let target = copied(alloc, target)?;
+    Ok(Call::Truncate(target, 0))
+}
+
+// The entry of this number, which opened a descriptor, and what policy says of a truncate there.
+fn opening_text(
+    alloc: Global,
+    number: usize,
+    entry: &Entry,
+    truncate: &Call,
+    told: &Option<Explanation>,
+) -> Result<String, AllocError>
+    ensures { IfOk result (λ text. string_bytes text ≡ opening_text number entry.now truncate.now told.now) }
+{
+    let number = number.to_string(alloc)?;
+    let client = entry.client.to_string(alloc)?;
+    let call = call_line(alloc, &entry.call)?;
+    let why = told_lines(alloc, truncate, told)?;
+    let parts = [
+        "opened by entry ",
+        number.as_str(),
+        ", client ",
+        client.as_str(),
+        ": ",
+        call.as_str(),
+        "a truncate there:\n",
+        why.as_str(),
+    ];
+    concat(alloc, &parts)
+}
+
+// What is told of an opening.
+fn lines_of(alloc: Global, header: &Header, opening: &Opening<'_>) -> Result<String, AllocError>
+    requires some { 1 ≤ header.now.nodes }
+    requires most { header.now.nodes ≤ TREE_NODES }
+    requires target { target_opened opening.now.last.now.call ≡ Some opening.now.target.now }
+    ensures { IfOk result (λ text. TellsOpening (opened header.now) opening.now.upto.now
+        opening.now.last.now (string_bytes text)) }
+{
+    let tree = tree_after(alloc, header, opening.upto)?;
+    let truncate = truncate_of(alloc, opening.target)?;
+    let told = explain_at(alloc, &tree, opening.last.client, &truncate)?;
+    opening_text(alloc, opening.upto.len(), opening.last, &truncate, &told)
+}
+
+/// What is told of the opening of the descriptor that decides the entry's call, which follows these entries; nothing
+/// where none does.
+pub(crate) fn opening_lines(
+    alloc: Global,
+    header: &Header,
+    entries: &[Entry],
+    entry: &Entry,
+    told: &Option<Explanation>,
+) -> Result<String, AllocError>
+    requires some { 1 ≤ header.now.nodes }
+    requires most { header.now.nodes ≤ TREE_NODES }
+    ensures { IfOk result (λ text. IsOpeningText (opened header.now)
+        (opening_behind entries.now entry.now told.now) (string_bytes text)) }
+{
+    match opening_behind(entries, entry, told) {
+        Some(opening) => lines_of(alloc, header, &opening),
+        None => Ok(String::new(alloc)),
+    }
+}

@@ -1,0 +1,175 @@
+//! What the rights of a call are asked on, as texts.
+
+ghost use Rattle.std.specs.Prelude.{◌≡◌, ◌++◌, [], IfOk, OnOk, option_map, string_bytes, take, unwrap_or};
+ghost use Rattle.ll_decide.specs.Demands.{place_on, set_on};
+ghost use Rattle.ll_path.specs.Path.{path_text};
+ghost use Rattle.ll_seq.specs.Call.{first_path, path_of, second_path};
+ghost use Rattle.ll_why.specs.Reasons.{chain_of};
+ghost use Rattle.ll_why.specs.Names.{parted};
+ghost use Rattle.ll_why.specs.Told.{asked_line, node_text, path_on, seat_text};
+
+use crate::Asks;
+use crate::text::{concat, rights_line};
+use ll_decide::{Demands, On, Place};
+use ll_path::{Path, Target};
+use ll_rights::Access;
+use ll_seq::{Call, Targets, targets_of};
+use std::alloc::{AllocError, Global};
+
+// The path that the word spells. A word that is no path stands for the root.
+fn spelled(target: &Target) -> Option<&Path>
+    ensures { unwrap_or (option_map (λ p. p.now) result) [] ≡ path_of target.now }
+{
+    match target {
+        Target::Good(path) => Some(path),
+        Target::Bad(_) => None,
+    }
+}
+
+// The call's first path, or the root.
+fn first_path(call: &Call) -> Option<&Path>
+    ensures { unwrap_or (option_map (λ p. p.now) result) [] ≡ first_path call.now }
+{
+    match targets_of(call) {
+        Targets::No => None,
+        Targets::One(target) => spelled(target),
+        Targets::Two(old, _) => spelled(old),
+    }
+}
+
+// The call's second path, which is the first where it has only one, or the root.
+fn second_path(call: &Call) -> Option<&Path>
+    ensures { unwrap_or (option_map (λ p. p.now) result) [] ≡ second_path call.now }
+{
+    match targets_of(call) {
+        Targets::No => None,
+        Targets::One(target) => spelled(target),
+        Targets::Two(_, new) => spelled(new),
+    }
+}
+
+// The path whose node it is, or directory; or the root.
+fn path_on(call: &Call, on: On) -> Option<&Path>
+    ensures { unwrap_or (option_map (λ p. p.now) result) [] ≡ path_on call.now on }
+{
+    match on {
+        On::Itself | On::Parent | On::Left => first_path(call),
+        On::Other | On::Entered => second_path(call),
+    }
+}
+
+// The inodes of the path of it.
+fn chain_on(asks: &Asks, on: On) -> &[u64]
+    ensures { result.now ≡ chain_of asks.now on }
+{
+    match on {
+        On::Itself => asks.first.itself.as_slice(),
+        On::Other => asks.second.itself.as_slice(),
+        On::Parent | On::Left => asks.first.parent.as_slice(),
+        On::Entered => asks.second.parent.as_slice(),
+    }
+}
+
+// The place that a denial tells of it.
+fn place_on(on: On) -> Place
+    ensures { result ≡ place_on on }
+{
+    match on {
+        On::Itself | On::Parent => Place::At,
+        On::Left => Place::Old,
+        On::Other | On::Entered => Place::New,
+    }
+}
+
+// The rights that are asked on it.
+fn set_on(demands: &Demands, on: On) -> Access
+    ensures { result.0 ≡ set_on demands.now on }
+{
+    match on {
+        On::Itself => demands.itself,
+        On::Other => demands.other,
+        On::Parent => demands.parent,
+        On::Left => demands.left,
+        On::Entered => demands.entered,
+    }
+}
+
+// The name comes behind the names before it, of which there are so many.
+fn push_name(text: &mut String, before: usize, name: &str) -> Result<(), AllocError>
+    ensures { OnOk result (string_bytes text.new ≡ string_bytes text.old ++ parted before name.now) }
+{
+    if before > 0 {
+        text.push_str("/")?;
+    }
+    text.push_str(name)
+}
+
+// The text of the node with so many of the path's names.
+fn names_text(alloc: Global, path: &Path, count: usize) -> Result<String, AllocError>
+    ensures { IfOk result (λ text. string_bytes text ≡ path_text (take count path.now)) }
+{
+    let mut text = String::from_str(alloc, "/")?;
+    let mut names = path.names();
+    for place in 0..count {
+        let Some(name) = names.next() else {
+            return Ok(text);
+        };
+        push_name(&mut text, place, name)?;
+    }
+    Ok(text)
+}
+
+/// The text of the node with so many of the names of this thing's path.
+pub(crate) fn upper_text(
+    alloc: Global,
+    call: &Call,
+    on: On,
+    count: usize,
+) -> Result<String, AllocError>
+    ensures { IfOk result (λ text. string_bytes text ≡ path_text (take count (path_on call.now on))) }
+{
+    match path_on(call, on) {
+        Some(path) => names_text(alloc, path, count),
+        None => String::from_str(alloc, "/"),
+    }
+}
+
+/// Where the inodes of this thing's path end.
+pub(crate) fn node_text(
+    alloc: Global,
+    call: &Call,
+    asks: &Asks,
+    on: On,
+) -> Result<String, AllocError>
+    ensures { IfOk result (λ text. string_bytes text ≡ node_text call.now asks.now on) }
+{
+    let count = chain_on(asks, on).len().saturating_sub(1);
+    upper_text(alloc, call, on, count)
+}
+
+/// The same, and the place that a denial tells of it.
+pub(crate) fn seat_text(
+    alloc: Global,
+    call: &Call,
+    asks: &Asks,
+    on: On,
+) -> Result<String, AllocError>
+    ensures { IfOk result (λ text. string_bytes text ≡ seat_text call.now asks.now on) }
+{
+    let node = node_text(alloc, call, asks, on)?;
+    concat(alloc, &[node.as_str(), " (", place_on(on).text(), ")"])
+}
+
+/// The rights that are asked on it, as a line.
+pub(crate) fn asked_line(
+    alloc: Global,
+    call: &Call,
+    asks: &Asks,
+    on: On,
+) -> Result<String, AllocError>
+    ensures { IfOk result (λ text. string_bytes text ≡ asked_line call.now asks.now on) }
+{
+    let seat = seat_text(alloc, call, asks, on)?;
+    let words = concat(alloc, &["asked on ", seat.as_str()])?;
+    rights_line(alloc, words.as_str(), set_on(&asks.demands, on))
+}

@@ -1,0 +1,39 @@
+//! Trees in which the entries of a history were made.
+
+ghost use Rattle.std.specs.Prelude.{◌≡◌, ◌<◌, ◌≤◌, ◌-◌, ◌^◌, IfOk};
+ghost use Rattle.ll_rights.specs.declared.limits.TheConstants.{TREE_NODES};
+ghost use Rattle.ll_seq.specs.History.{state_after};
+ghost use Rattle.ll_audit.specs.Saved.{opened};
+
+use ll_audit::follow;
+use ll_plain::Plain;
+use ll_seq::Entry;
+use ll_wire::Header;
+use std::alloc::{AllocError, Global};
+
+/// A tree as the header tells of it, when it was opened.
+pub(crate) fn open(alloc: Global, header: &Header) -> Result<Plain, AllocError>
+    requires some { 1 ≤ header.now.nodes }
+    requires most { header.now.nodes ≤ TREE_NODES }
+    ensures { IfOk result (λ tree. tree ≡ opened header.now) }
+{
+    Plain::new(alloc, header.version.rules(), header.nodes)
+}
+
+/// The tree behind these entries, where they are legal; where they aren't, memory is told to have run out.
+pub(crate) fn tree_after(
+    alloc: Global,
+    header: &Header,
+    entries: &[Entry],
+) -> Result<Plain, AllocError>
+    requires some { 1 ≤ header.now.nodes }
+    requires most { header.now.nodes ≤ TREE_NODES }
+    ensures tree { IfOk result (λ tree. tree ≡ state_after (opened header.now) entries.now) }
+    ensures next { IfOk result (λ tree. tree.next < 2 ^ 64 - 1) }
+{
+    let mut tree = open(alloc, header)?;
+    match follow(&mut tree, entries) {
+        Ok(()) => Ok(tree),
+        Err(_) => Err(AllocError),
+    }
+}

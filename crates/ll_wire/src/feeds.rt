@@ -1,0 +1,11 @@
+//! Line feeds.
+
+ghost use Rattle.std.specs.Prelude.{◌≡◌};
+ghost use Rattle.ll_wire.specs.Devices.{line_feeds};
+
+/// How many line feeds are among the bytes.
+pub fn count_feeds(bytes: &[u8]) -> usize
+    ensures { result ≡ line_feeds bytes.now }
+{
+    bytes.iter().filter(|b| **b == b'\n').count()
+}

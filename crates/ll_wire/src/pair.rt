@@ -1,0 +1,65 @@
+//! A reader and a writer as two devices.
+
+use crate::ends::{Broken, Ends};
+use crate::feeds::count_feeds;
+use crate::{read_steadily, write_steadily};
+use std::io::{Read, Write};
+
+/// A reader and a writer, and what is counted of them: how many reads gave bytes, and how many line feeds are owed, if
+/// line feeds are answered.
+#[derive(Drop)]
+pub struct Pair<'a, R, W> {
+    pub reader: &'a mut R,
+    pub writer: &'a mut W,
+    pub reads: u64,
+    pub owed: usize,
+    pub is_answering: bool,
+    pub is_input_broken: bool,
+    pub is_output_broken: bool,
+}
+
+impl<R: Read, W: Write> Ends for Pair<'_, R, W> {
+    ghost use Rattle.std.specs.Prelude.{[], ◌∷◌};
+
+    ghost devices = { λ p. record {
+      remaining = R.remaining p.reader.now;
+      contents = W.contents p.writer.now;
+      reads = p.reads;
+      owed = p.owed;
+      is_answering = p.is_answering;
+      is_input_broken = p.is_input_broken;
+      is_output_broken = p.is_output_broken;
+    } };
+
+    ghost names = { λ p. p.reader.ghost_name ∷ p.writer.ghost_name ∷ [] };
+
+    fn read(&mut self, buf: &mut [u8]) -> Result<usize, Broken> {
+        match read_steadily(self.reader, buf) {
+            Ok(0) => Ok(0),
+            Ok(count) => {
+                self.reads += 1;
+                if self.is_answering {
+                    self.owed = count_feeds(&buf[..count]);
+                }
+                Ok(count)
+            }
+            Err(_) => {
+                self.is_input_broken = true;
+                Err(Broken)
+            }
+        }
+    }
+
+    fn write(&mut self, bytes: &[u8]) -> Result<usize, Broken> {
+        match write_steadily(self.writer, bytes) {
+            Ok(count) if count > 0 || bytes.is_empty() => {
+                self.owed = self.owed.saturating_sub(count_feeds(&bytes[..count]));
+                Ok(count)
+            }
+            _ => {
+                self.is_output_broken = true;
+                Err(Broken)
+            }
+        }
+    }
+}

@@ -1,5 +1,0 @@
-use Rattle.ll_worlds.proofs.Marks.{marks_are_apart}
-use Rattle.ll_worlds.proofs.marks_are_apart.Goals as goal
-
-pub returns : goal.returns
-returns c = marks_are_apart

@@ -1,5 +1,0 @@
-use Rattle.ll_worlds.proofs.Growth.{steps_lead_on}
-use Rattle.ll_worlds.proofs.steps_lead_on.Goals as goal
-
-pub returns : goal.returns
-returns c = steps_lead_on

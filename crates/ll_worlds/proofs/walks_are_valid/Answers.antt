@@ -1,5 +1,0 @@
-use Rattle.ll_worlds.proofs.Worlds.{walks_are_valid}
-use Rattle.ll_worlds.proofs.walks_are_valid.Goals as goal
-
-pub returns : goal.returns
-returns c = walks_are_valid

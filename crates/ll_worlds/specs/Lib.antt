@@ -1,6 +1,0 @@
-pub mod Walk
-pub mod World
-pub mod Walks
-pub mod Commits
-pub mod Growing
-pub mod Sound
