@@ -1,5 +1,5 @@
-//! Calls at random. Each function makes one, and tells whether it has its entry: all have but those that found no
-//! memory or no room in the history.
+//! Random calls. Each function makes one and returns whether it has an entry: all do, unless memory or the history's
+//! room ran out.
 
 use crate::paths::{Aim, TOP, path, target, two_paths};
 use crate::random::Random;
@@ -12,25 +12,25 @@ use ll_walk::NoGate;
 use std::alloc::Global;
 use std::sync::Wait;
 
-/// One call of this many confines its client, so that few calls are denied.
+/// One call in this many confines its client. More would deny too many calls.
 const CONFINES: u64 = 2_000;
 
-/// Of a hundred calls so many are on one path, on two paths, and on descriptors; the others are for layers.
+/// Out of a hundred calls, how many are on one path, on two paths, and on descriptors. The others are for layers.
 const ONE_PATH: u64 = 52;
 
 const TWO_PATHS: u64 = 15;
 
 const DESCRIPTORS: u64 = 31;
 
-/// A client has seldom more descriptors than this, since as many are closed as are opened.
+/// A client rarely has more descriptors than this, since as many are closed as are opened.
 const MOST_OPEN: u64 = 24;
 
-/// What a layer grants on the root, so that calls go on under it.
+/// The rights that a layer allows on the root, so that calls still succeed under it.
 const MUCH: &str =
     "execute,write_file,read_file,read_dir,remove_dir,remove_file,make_dir,make_reg,make_fifo,\
     refer,truncate";
 
-/// What it grants on directories here and there.
+/// The rights that it also allows on some directories.
 const MORE: &str = "make_sym";
 
 fn has_entry<T: Drop>(answer: Result<T, Refused>) -> bool {
@@ -113,7 +113,7 @@ fn on_two_paths<N: Shape>(
     }
 }
 
-/// A byte or none, at random.
+/// One random byte, or none.
 fn data(alloc: Global, random: &mut Random) -> Option<Data> {
     let mut bytes = Vec::new(alloc);
     if random.below(4) != 0 {
@@ -141,7 +141,7 @@ fn on_descriptor<N: Shape>(
     }
 }
 
-/// A ruleset handles all rights, and its rules grant much.
+/// Makes a call for layers: a ruleset handles all rights, and its rules allow most.
 fn for_layers<N: Shape>(
     rt: &impl Wait,
     alloc: Global,
@@ -160,7 +160,7 @@ fn for_layers<N: Shape>(
     }
 }
 
-/// Makes the directories that the others lie in. Some may be there.
+/// Creates the directories that contain the others, unless they exist.
 pub fn makes_top<N: Shape>(
     rt: &impl Wait,
     alloc: Global,
@@ -178,7 +178,7 @@ pub fn makes_top<N: Shape>(
     true
 }
 
-/// Makes a call of the client's, any but a spawn.
+/// Makes any call of the client except a spawn.
 pub fn makes_any<N: Shape>(
     rt: &impl Wait,
     alloc: Global,

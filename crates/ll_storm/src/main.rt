@@ -1,28 +1,20 @@
-//! A storm in a tree that threads share: calls at random on forty paths, and the audit of their history.
+//! Storms a tree that threads share with random calls on forty paths, and audits their history.
 //!
 //!     ll_storm [THREADS [CALLS [SEED]]]
-//!     ll_storm pace THREADS DEPTH LAYERS CALLS (own|one)
-//!     ll_storm race [ROUNDS]
 //!
-//! Each of up to 32 threads makes so many calls, 900,000 in all at most. With words the program also prints how many
-//! calls of each kind were done. Where no call is answered for 40 seconds it ends with status 70. `pace` times calls of
-//! a fixed mix, and prints how many threads make in a second. `race` moves directories while a confined client opens
-//! files, and prints how its openings ended.
+//! Each of up to 32 threads makes this many calls, at most 900,000 in all. With arguments the program also prints how
+//! many calls of each kind succeeded. If no call gets its reply for 40 seconds, it exits with 70.
 #![tactic(auto)]
 
 mod calls;
 mod orders;
-mod pace;
 mod paths;
-mod race;
 mod random;
 mod storm;
 mod tally;
 mod watch;
 
-use orders::{Asked, Orders, Pace, asked_by};
-use pace::pace_of;
-use race::{Raced, Trial, race_of};
+use orders::{Orders, orders_by};
 use std::alloc::Global;
 use std::env;
 use std::process::ExitCode;
@@ -35,10 +27,10 @@ use watch::Watch;
 
 /// How long the program sleeps between two looks, in milliseconds.
 const LOOK: u64 = 20;
-/// After so many looks without an answered call one hangs: 40 seconds.
+/// After this many looks without a reply, a call hangs: 40 seconds.
 const LOOKS: u64 = 2_000;
 
-/// Looks on until all calls are answered. Whether they were: else none was for 40 seconds.
+/// Watches until all calls have their replies. Returns false if none got one for 40 seconds.
 fn looks_on(rt: &impl Clock, watch: &Watch) -> bool {
     let (mut answered, mut looks) = (0u64, 0u64);
     for _ in 0..u64::MAX {
@@ -59,12 +51,12 @@ fn looks_on(rt: &impl Clock, watch: &Watch) -> bool {
     false
 }
 
-fn asked_of(rt: &HostRuntime) -> Option<Asked> {
+fn orders_of(rt: &HostRuntime) -> Option<Orders> {
     let words = env::args(rt).ok()?.collect::<Vec<String>>(rt.alloc()).ok()?;
-    asked_by(words.get(1..)?)
+    orders_by(words.get(1..)?)
 }
 
-/// The status that the storm ends with, after a line that tells how it ended.
+/// Prints how the storm ended. Returns the exit status.
 fn told(rt: &impl Print, ended: Ended) -> u8 {
     let (line, status) = match ended {
         Ended::Legal => ("history legal", 0),
@@ -79,7 +71,7 @@ fn told(rt: &impl Print, ended: Ended) -> u8 {
     }
 }
 
-/// Starts the storm in a thread of its own, which isn't waited for where a call hangs.
+/// Starts the storm in a thread of its own, and doesn't wait for it if a call hangs.
 fn run<R: Runtime + Threads + Wait + Send + Sync + 'static>(
     rt: &R,
     alloc: Global,
@@ -96,43 +88,9 @@ fn run<R: Runtime + Threads + Wait + Send + Sync + 'static>(
     }
 }
 
-/// Times the calls, and prints how many were made a second.
-fn time<R: Runtime + Threads + Wait + Sync>(rt: &R, alloc: Global, pace: Pace) -> Option<u8> {
-    let rate = pace_of(rt, alloc, pace)?;
-    println!(rt; "{rate}").ok()?;
-    Some(0)
-}
-
-/// Prints what came of a trial: the rounds, and how often the path was let through, gave the private file, was denied
-/// and was missing. The status.
-fn tell_race(rt: &impl Print, name: &str, raced: Raced) -> Option<u8> {
-    let Raced {
-        rounds,
-        counts,
-        is_legal,
-    } = raced;
-    println!(rt;
-        "{name}: {rounds} rounds, {} through, {} private, {} denied, {} missing",
-        counts.through, counts.private, counts.denied, counts.missing
-    )
-    .ok()?;
-    if is_legal { Some(0) } else { Some(1) }
-}
-
-/// Makes each trial in a tree of its own. The status is 1 where a history isn't legal.
-fn race_all<R: Threads + Wait + Print + Sync>(rt: &R, alloc: Global, rounds: u64) -> Option<u8> {
-    let both = tell_race(rt, "both", race_of(rt, alloc, Trial::Both, rounds)?)?;
-    let granted = tell_race(rt, "granted", race_of(rt, alloc, Trial::Granted, rounds)?)?;
-    let withheld = tell_race(rt, "withheld", race_of(rt, alloc, Trial::Withheld, rounds)?)?;
-    let aside = tell_race(rt, "aside", race_of(rt, alloc, Trial::Aside, rounds)?)?;
-    Some(both.max(granted).max(withheld).max(aside))
-}
-
 fn main(rt: HostRuntime) -> ExitCode {
-    let status = match asked_of(&rt) {
-        Some(Asked::Storm(orders)) => run(&rt, rt.alloc(), orders),
-        Some(Asked::Pace(pace)) => time(&rt, rt.alloc(), pace),
-        Some(Asked::Race(rounds)) => race_all(&rt, rt.alloc(), rounds),
+    let status = match orders_of(&rt) {
+        Some(orders) => run(&rt, rt.alloc(), orders),
         None => {
             let _ = eprintln!(rt;
                 "ll_storm: wanted: [THREADS [CALLS [SEED]]], at most 900000 calls in all"

@@ -1,4 +1,4 @@
-//! The paths that calls collide on.
+//! The paths on which calls collide.
 
 ghost use Rattle.std.specs.Prelude.{◌<◌};
 
@@ -6,11 +6,11 @@ use crate::random::Random;
 use ll_path::{Target, Word};
 use std::alloc::Global;
 
-/// The directories that each thread makes first.
+/// The directories that each thread creates first.
 pub const TOP: [&str; 4] = ["/a", "/b", "/c", "/d"];
 
-/// The places in each of them, so that there are forty paths, at most six names deep: five meant for directories, then
-/// five meant for files.
+/// The places in each of them: five for directories, then five for files. That makes forty paths, at most six names
+/// deep.
 const PLACES: [&str; 10] = [
     "",
     "/a",
@@ -24,13 +24,13 @@ const PLACES: [&str; 10] = [
     "/a/a/a/a/f",
 ];
 
-/// One path of this many is drawn from all, whatever it is meant for.
+/// One path in this many is drawn from all, whatever it is for.
 const STRAYS: u64 = 48;
 
-/// So seldom both paths of a call are: a directory that is moved may come to lie where no path leads on.
+/// One pair in this many is drawn from all. It must be rare: a moved directory may end where no path leads on.
 const STRAY_PAIRS: u64 = 400;
 
-/// What a call wants to find under a path, or to make there.
+/// What a call expects under a path, or creates there.
 #[derive(Clone, Copy, PartialEq, Eq)]
 pub enum Aim {
     Directory,
@@ -38,14 +38,14 @@ pub enum Aim {
     Any,
 }
 
-/// What the text spells.
+/// The text as a path argument.
 pub fn target(alloc: Global, text: &str) -> Option<Target> {
     let text = String::from_str(alloc, text).ok()?;
     let word = Word::new(text).ok()?;
     Some(Target::read(word))
 }
 
-/// One of the places, more often one that isn't deep.
+/// Draws a place, more often one that isn't deep.
 fn place(random: &mut Random, aim: Aim) -> u64
     ensures { result < 10 }
 {
@@ -65,7 +65,7 @@ fn path_at(alloc: Global, top: u64, place: u64) -> Option<Target>
     target(alloc, text.as_str())
 }
 
-/// One of the forty, mostly one that is meant for this.
+/// Draws one of the forty paths, mostly one for this aim.
 pub fn path(alloc: Global, random: &mut Random, aim: Aim) -> Option<Target> {
     let aim = if random.below(STRAYS) == 0 {
         Aim::Any
@@ -76,7 +76,7 @@ pub fn path(alloc: Global, random: &mut Random, aim: Aim) -> Option<Target> {
     path_at(alloc, random.below(4), place)
 }
 
-/// Two of the forty: mostly both meant for files, or one place of a directory in both.
+/// Draws two of the forty paths: mostly both for files, or one place of a directory in both.
 pub fn two_paths(alloc: Global, random: &mut Random) -> Option<(Target, Target)> {
     let from = match random.below(STRAY_PAIRS) {
         0 => Aim::Any,

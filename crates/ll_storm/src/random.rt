@@ -1,22 +1,22 @@
-//! Random numbers that a seed determines.
+//! Random numbers from a seed.
 
 ghost use Rattle.std.specs.Prelude.{◌<◌};
 
-/// An xorshift generator: three shifts of 64 bits a number.
+/// An xorshift generator: three shifts of 64 bits for each number.
 #[derive(Drop)]
 pub struct Random {
     state: u64,
 }
 
 impl Random {
-    /// The numbers of a thread's own.
+    /// Returns the generator of a thread.
     pub fn new(seed: u64, thread: u64) -> Random {
         let state = seed.wrapping_mul(0x9e37_79b9_7f4a_7c15)
             ^ thread.wrapping_mul(0xbf58_476d_1ce4_e5b9);
         Random { state: state | 1 }
     }
 
-    /// A number below the limit.
+    /// Returns a number less than the limit.
     pub fn below(&mut self, limit: u64) -> u64
         requires { 0 < limit }
         ensures { result < limit }
@@ -29,7 +29,7 @@ impl Random {
         (state >> 11) % limit
     }
 
-    /// A number below the limit, the smaller one of two: so low ones come more often.
+    /// Returns the smaller of two numbers less than the limit, so low ones are more frequent.
     pub fn low(&mut self, limit: u64) -> u64
         requires { 0 < limit }
         ensures { result < limit }

@@ -1,4 +1,4 @@
-//! The storm: clients in threads of their own, then the tree's history, which is audited.
+//! The storm: clients in threads of their own, then the audit of the history.
 
 ghost use Rattle.std.specs.Prelude.{◌≡◌, ◌+◌, true};
 ghost use Rattle.ll_rights.specs.declared.limits.TheConstants.{TREE_CLIENTS};
@@ -28,24 +28,24 @@ const RULES: Rules = Rules {
 
 const NODES: usize = 1_024;
 
-/// One call of this many is a spawn, as long as the thread has one client, and clients meet as often.
+/// One call in this many is a spawn, while the thread has one client. Clients meet as often.
 const SPAWNS: u64 = 500;
 
-/// How a storm ends.
+/// The end of a storm.
 #[derive(Clone, Copy, Debug, PartialEq, Eq)]
 pub enum Ended {
-    /// All calls were answered and stand in a legal history.
+    /// All calls got their replies and are in a legal history.
     Legal,
     /// The history isn't legal.
     Illegal,
-    /// The history is legal, and has more or fewer entries than calls were answered.
+    /// The history is legal, but its entries aren't as many as the replies.
     Miscounted,
     /// The tree didn't close with all its clients.
     Open,
     NoMemory,
 }
 
-/// The first client spawns a child. Whether that has its entry.
+/// The first client spawns a child. Returns whether the spawn has an entry.
 fn spawns<N: Shape>(rt: &impl Wait, tree: &Tree<N, NoGate>, clients: &mut Vec<Client<N>>) -> bool {
     let Some(me) = clients.get_mut(0) else {
         return false;
@@ -56,7 +56,7 @@ fn spawns<N: Shape>(rt: &impl Wait, tree: &Tree<N, NoGate>, clients: &mut Vec<Cl
     }
 }
 
-/// The first and the last client of the thread meet.
+/// Lets the first and the last client of the thread meet.
 fn meet<N: Shape>(rt: &impl Wait, tree: &Tree<N, NoGate>, clients: &mut Vec<Client<N>>) -> bool {
     let Some(mut last) = clients.pop() else {
         return false;
@@ -91,7 +91,7 @@ fn makes_one<N: Shape>(
     }
 }
 
-/// The clients of a thread that has made all its calls.
+/// Runs one thread. Returns its clients after all calls.
 fn thread_clients<N: Shape>(
     rt: &impl Wait,
     alloc: Global,
@@ -116,7 +116,7 @@ fn thread_clients<N: Shape>(
     Some(clients)
 }
 
-/// All clients in one list.
+/// Puts all clients into one list.
 fn list<N: Shape>(alloc: Global, threads: Vec<Option<Vec<Client<N>>>>) -> Option<Vec<Client<N>>> {
     let mut all = Vec::new(alloc);
     for clients in threads {
@@ -182,7 +182,7 @@ fn storm<N: Shape + Send + Sync, R: Threads + Wait + Print + Sync>(
     }
 }
 
-/// How the storm that was ordered ends.
+/// Runs a storm. Returns how it ends.
 pub fn storm_of<R: Threads + Wait + Print + Sync>(
     rt: &R,
     alloc: Global,

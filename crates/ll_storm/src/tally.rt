@@ -1,8 +1,8 @@
-//! How many calls of each kind were made, and how many of them were done.
+//! Counts the calls of each kind, and how many succeeded.
 
 use ll_seq::{Call, History, Reply};
 
-/// The kinds of calls, but for connect.
+/// The kinds of calls except connect.
 const KINDS: [&str; 20] = [
     "make",
     "open",
@@ -53,10 +53,10 @@ fn kind_of(call: &Call) -> &'static str {
 }
 
 fn is_done(reply: &Reply) -> bool {
-    !matches!(reply, Reply::Refused(_) | Reply::Denied(_))
+    !reply.is_denial() && !matches!(reply, Reply::Refused(_))
 }
 
-/// How many calls of the kind the history has, and how many of them were neither refused nor denied.
+/// The calls of this kind in the history, and those that were neither refused nor denied.
 fn count(history: &History, kind: &str) -> (u64, u64) {
     let (mut made, mut done) = (0u64, 0u64);
     for entry in history.entries() {

@@ -1,8 +1,8 @@
-//! What a storm shows to who looks on.
+//! The progress of a storm, for its watcher.
 
 use std::sync::atomic::{AtomicU64, Ordering};
 
-/// How many calls were answered, and whether all were.
+/// The number of replies so far, and whether that is all.
 #[derive(Drop)]
 pub struct Watch {
     answered: AtomicU64,
