@@ -1,4 +1,4 @@
-//! Files of histories, audited: read, judged, and told.
+//! Audits files: reads a history, judges it, and writes the verdict.
 
 ghost use Rattle.std.specs.Prelude.{◌≡◌, ◌≢◌, ◌<◌, ◌++◌, ℕ, List, true, false, length, IfSome, IfOk, IfErr, OnOk, Ok};
 ghost use Rattle.std.specs.Prelude.{Err};
@@ -18,7 +18,7 @@ use std::alloc::{AllocError, Global};
 use std::io::{Read, Write};
 use thiserror::Error;
 
-/// Why an audit gives no answer.
+/// Why an audit has no verdict.
 #[derive(Clone, Copy, Debug, PartialEq, Eq, Error)]
 pub enum FileAuditFault {
     #[error("the history can't be read")]
@@ -29,10 +29,10 @@ pub enum FileAuditFault {
     NoMemory,
 }
 
-/// How many bytes a read asks for.
+/// The size of a read, in bytes.
 const BLOCK: usize = 65_536;
 
-// Reads on, behind the bytes that were read. Whether there may be more.
+// Reads on and appends to `bytes`. Returns whether there may be more.
 fn read_more<E: Ends>(
     ends: &mut E,
     chunk: &mut [u8],
@@ -60,14 +60,14 @@ fn read_more<E: Ends>(
     }
 }
 
-// Room for a read.
+// A buffer for one read.
 fn new_chunk(alloc: Global) -> Result<Vec<u8>, AllocError>
     ensures { IfOk result (λ chunk. 0 < length chunk.items) }
 {
     Vec::from_elem(alloc, 0u8, BLOCK)
 }
 
-// The whole file.
+// Reads the whole file.
 fn read_file<E: Ends>(alloc: Global, ends: &mut E) -> Result<Vec<u8>, FileAuditFault>
     requires { IsReading (E.devices ends.old) 0 }
     ensures bytes { IfOk result (λ bytes. IfSome (E.devices ends.old).remaining (λ told. bytes.items ≡ told)) }
@@ -112,8 +112,8 @@ fn write_verdict<E: Ends>(
     }
 }
 
-/// Reads a history's file to its end, judges it, and writes the answer's line, over two devices that count their
-/// failures. One that failed isn't called again.
+/// Reads a history file to its end, judges it, and writes the verdict's line. Doesn't use a device again after it
+/// failed.
 pub fn run_audit_over<E: Ends, P: Progress>(
     alloc: Global,
     ends: &mut E,
@@ -125,13 +125,13 @@ pub fn run_audit_over<E: Ends, P: Progress>(
         IfSome (E.devices ends.old).remaining (λ bytes. Judges (pieces bytes) verdict)) }
     ensures answer { IfOk result (λ verdict.
         Appends (E.devices ends.old).contents (E.devices ends.new).contents (verdict_line verdict)) }
-    // Only a failed write leaves anything written: a beginning of the answer.
+    // Only a failed write leaves anything written: a prefix of the verdict's line.
     ensures silent { IfErr result (λ failure. failure ≢ FileAuditFault.Write
         → (E.devices ends.new).contents ≡ (E.devices ends.old).contents) }
     ensures begun { result ≡ Err FileAuditFault.Write → (verdict : verdicts.Verdict)
         × IfSome (E.devices ends.old).remaining (λ bytes. Judges (pieces bytes) verdict)
         × AppendsFront (E.devices ends.old).contents (E.devices ends.new).contents (verdict_line verdict) }
-    // A device is blamed only where it failed in this call, and neither is where memory is wanted.
+    // A fault names a device only if it failed in this call, and none if memory ran out.
     ensures fault { IfErr result (λ fault. BlamesAudit fault (E.devices ends.new)) }
     ensures same { E.names ends.new ≡ E.names ends.old }
 {
@@ -148,7 +148,7 @@ pub fn run_audit_over<E: Ends, P: Progress>(
     }
 }
 
-/// Reads a history's file to its end, judges it, and writes the answer's line.
+/// Reads a history file to its end, judges it, and writes the verdict's line.
 pub fn run_audit<R: Read, W: Write, P: Progress>(
     alloc: Global,
     reader: &mut R,
@@ -161,7 +161,7 @@ pub fn run_audit<R: Read, W: Write, P: Progress>(
     ensures answer { IfOk result (λ verdict.
         Appends (W.contents writer.old) (W.contents writer.new) (verdict_line verdict)) }
 
-    // Only a failed write leaves anything written: a beginning of the answer.
+    // Only a failed write leaves anything written: a prefix of the verdict's line.
     ensures silent { IfErr result (λ failure. failure ≢ FileAuditFault.Write
         → Keeps (W.contents writer.old) (W.contents writer.new)) }
     ensures begun { result ≡ Err FileAuditFault.Write → (verdict : verdicts.Verdict)

@@ -1,4 +1,4 @@
-//! One entry after those before it.
+//! Checks one entry after those before it.
 
 ghost use Rattle.std.specs.Prelude.{◌≡◌, ◌<◌, ◌≤◌, ◌+◌, ◌-◌, ◌^◌, ◌↔◌, ℕ, true, IsTrue, IfOk, OnErr};
 ghost use Rattle.ll_rights.specs.Map.{has};
@@ -10,25 +10,13 @@ use ll_rights::Errno;
 use ll_seq::{Call, Entry, Reply};
 use std::alloc::AllocError;
 
-fn is_connect(call: &Call) -> bool
-    ensures { result ≡ is_connect call.now }
-{
-    matches!(call, Call::Connect)
-}
-
 fn is_done(reply: &Reply) -> bool
     ensures { IsTrue result ↔ (reply.now ≡ Reply.Done) }
 {
     matches!(reply, Reply::Done)
 }
 
-fn wants_memory(reply: &Reply) -> bool
-    ensures { IsTrue result ↔ (reply.now ≡ Reply.Refused Errno.NoMemory) }
-{
-    matches!(reply, Reply::Refused(Errno::NoMemory))
-}
-
-/// The number of whom the entry spawns: the one that its reply tells, or else one that no client has.
+/// The number for a spawned client: the one in the reply, or else one that no client has.
 fn fresh_number(tree: &Plain, reply: &Reply) -> u64
     ensures told { (number : ℕ) → reply.now ≡ Reply.Spawned number → result ≡ number }
     ensures free { has tree.now.clients result ≡ true → reply.now ≡ Reply.Spawned result }
@@ -39,7 +27,7 @@ fn fresh_number(tree: &Plain, reply: &Reply) -> u64
     }
 }
 
-/// Makes the entry's call, and tells whether the entry may stand here.
+/// Makes the entry's call. Returns whether the entry is legal here. Errors: memory ran out.
 pub(crate) fn may_stand(tree: &mut Plain, entry: &Entry) -> Result<bool, AllocError>
     requires { tree.old.next < 2 ^ 64 - 1 }
     ensures stands { IfOk result (λ stands. IsTrue stands ↔ MayStand tree.old entry.now) }
@@ -47,7 +35,7 @@ pub(crate) fn may_stand(tree: &mut Plain, entry: &Entry) -> Result<bool, AllocEr
     ensures numbers { tree.new.next ≤ tree.old.next + 1 }
     ensures starved { OnErr result (MayStarve tree.old entry.now.client entry.now.call) }
 {
-    let connects = is_connect(&entry.call);
+    let connects = entry.call.is_connect();
     if tree.has_client(entry.client) == connects {
         return Ok(false);
     }
@@ -59,7 +47,7 @@ pub(crate) fn may_stand(tree: &mut Plain, entry: &Entry) -> Result<bool, AllocEr
         return Ok(false);
     }
     let told = tree.apply(entry.client, &entry.call, fresh);
-    if wants_memory(&told) {
+    if told.wants_memory() {
         return Err(AllocError);
     }
     Ok(told.is(&entry.reply))

@@ -1,4 +1,4 @@
-//! Histories, followed while somebody is told how far.
+//! Follows histories and reports progress.
 
 ghost use Rattle.std.specs.Prelude.{◌≡◌, ◌<◌, ◌+◌, ◌^◌, ℕ, length, OnOk, IfErr};
 ghost use Rattle.ll_seq.specs.History.{IsLegal};
@@ -9,10 +9,10 @@ use crate::{AuditFault, follow};
 use ll_plain::Plain;
 use ll_seq::Entry;
 
-/// After so many entries progress is told.
+/// Progress is reported after this many entries.
 const STRIDE: usize = 10_000;
 
-/// Makes the entries' calls in a tree, up to the first whose reply isn't the tree's.
+/// Makes the entries' calls in a tree, up to the first whose reply isn't the tree's. Reports progress.
 pub fn follow_parts<P: Progress>(
     tree: &mut Plain,
     entries: &[Entry],

@@ -1,4 +1,4 @@
-//! Files of histories, judged.
+//! Judges history files.
 
 ghost use Rattle.std.specs.Prelude.{◌≡◌, ◌++◌, List, ℕ, IfOk, OnErr};
 ghost use Rattle.ll_seq.specs.declared.reply.Entry as entries;
@@ -15,7 +15,7 @@ use ll_plain::Plain;
 use std::alloc::{AllocError, Global};
 
 impl Saved {
-    // Makes the entries' calls in a tree of its own.
+    // Makes the entries' calls in a new tree.
     fn judged<P: Progress>(&self, alloc: Global, progress: &mut P) -> Result<Verdict, AllocError>
         ensures { IfOk result (λ verdict. (lines : List (List ℕ))
             → Tell lines self.now.header self.now.entries.items → Judges lines verdict) }
@@ -32,14 +32,14 @@ impl Saved {
     }
 }
 
-/// What an audit answers for a file's bytes.
+/// Returns the verdict on a file's bytes. Errors: memory ran out.
 pub fn judge<P: Progress>(
     alloc: Global,
     bytes: &[u8],
     progress: &mut P,
 ) -> Result<Verdict, AllocError>
     ensures verdict { IfOk result (λ verdict. Judges (pieces bytes.now) verdict) }
-    // Memory is wanted only for the tree that a header tells of, and for its entries.
+    // Memory runs out only for the tree that the header describes, and for its entries.
     ensures starved { OnErr result ((h : headers.Header) × (es : List entries.Entry)
         × (front back : List (List ℕ)) × (pieces bytes.now ≡ front ++ back) × Tell front h es) }
 {

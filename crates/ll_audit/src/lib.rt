@@ -1,4 +1,4 @@
-//! Audits: whether the entries of a history are the calls of one tree, one after the other, each with its reply.
+//! Audits: checks that the entries of a history are calls of one tree, made one after the other, each with its reply.
 #![tactic(auto)]
 
 mod auditing;
@@ -6,7 +6,6 @@ mod entry;
 mod fault;
 mod following;
 mod judging;
-mod lines;
 mod progress;
 mod reading;
 mod saving;
@@ -27,8 +26,8 @@ use ll_rights::limits::TREE_NODES;
 use ll_seq::{Entry, History, Rules};
 use std::alloc::Global;
 
-/// Makes the entries' calls in a tree, up to the first whose reply isn't the tree's. After a fault nothing is said of
-/// the tree: the faulty entry's call may have been made in it.
+/// Makes the entries' calls in a tree, up to the first whose reply isn't the tree's. After a fault the tree's state is
+/// unspecified: the faulty entry's call may have been made.
 pub fn follow(tree: &mut Plain, entries: &[Entry]) -> Result<(), AuditFault>
     requires { tree.old.next + length entries.now < 2 ^ 64 }
     ensures legal { OnOk result (IsLegal tree.old entries.now) }
@@ -47,7 +46,7 @@ pub fn follow(tree: &mut Plain, entries: &[Entry]) -> Result<(), AuditFault>
     Ok(())
 }
 
-/// Judges the history of a tree that has these rules and in which this many nodes may live.
+/// Judges the history of a tree with these rules and this limit of live nodes.
 pub fn audit(alloc: Global, rules: Rules, nodes: usize, history: &History) -> Result<(), AuditFault>
     requires some { 1 ≤ nodes }
     requires most { nodes ≤ TREE_NODES }
@@ -55,7 +54,7 @@ pub fn audit(alloc: Global, rules: Rules, nodes: usize, history: &History) -> Re
     ensures illegal { IfErr result (λ fault. (number : ℕ) → fault ≡ AuditFault.Illegal number
         → IsFirstIllegal (start rules nodes) history.now.entries number) }
 
-    // What the laws say of the history.
+    // What the laws guarantee for a legal history.
     ensures reach { OnOk result ((early late : List entries.Entry) → early ++ late ≡ history.now.entries
         → GainsNothing rules nodes early late) }
     ensures bytes { OnOk result ((early late : List entries.Entry) → early ++ late ≡ history.now.entries

@@ -1,12 +1,12 @@
-//! How far an audit has come.
+//! The progress of an audit.
 
-/// Who is told how far an audit has come.
+/// Receives the progress of an audit.
 pub trait Progress {
-    /// So many entries are found legal, of this many.
+    /// Called when `done` of `entries` entries are found legal.
     fn tell(&mut self, done: usize, entries: usize);
 }
 
-/// Tells nobody.
+/// Ignores all progress.
 #[derive(Clone, Copy, Debug)]
 pub struct Untold;
 

@@ -1,4 +1,4 @@
-//! Files of histories, read.
+//! Reads history files.
 
 ghost use Rattle.std.specs.Prelude.{◌≡◌, ◌≤◌, ◌+◌, ◌++◌, ◌∷◌, [], ℕ, List, length, IfOk, IfErr, OnOk};
 ghost use Rattle.ll_rights.specs.declared.limits.TheConstants.{TREE_NODES};
@@ -9,14 +9,13 @@ ghost use Rattle.ll_wire.specs.declared.header.Header as headers;
 ghost use Rattle.ll_audit.specs.Saved.{IsFirstBad, Tell};
 ghost use Rattle.ll_audit.specs.declared.reading.ReadFault.{ReadFault};
 
-use crate::lines::cut;
 use ll_rights::Errno;
 use ll_seq::Entry;
-use ll_wire::{Header, read_entry, read_header};
+use ll_wire::{Header, read_entry, read_header, split_line};
 use std::alloc::Global;
 use thiserror::Error;
 
-/// What a file tells.
+/// The contents of a history file.
 #[derive(Drop)]
 pub struct Saved {
     pub header: Header,
@@ -25,17 +24,17 @@ pub struct Saved {
     ghost most: { header.nodes ≤ TREE_NODES },
 }
 
-/// Why a file tells no history.
+/// Why a file holds no history.
 #[derive(Clone, Copy, Debug, PartialEq, Eq, Error)]
 pub enum ReadFault {
-    /// The first line that is of no form, counted from 1.
+    /// The first malformed line, counted from 1.
     #[error("bad line {0}")]
     BadLine(usize),
     #[error("no memory for the entries")]
     NoMemory,
 }
 
-// The entry of a file's line of this number.
+// Parses the entry in the line of this number.
 fn entry_of(alloc: Global, line: &[u8], number: usize) -> Result<Entry, ReadFault>
     ensures ok { IfOk result (λ e. SpellsEntry line.now e) }
     ensures bad { IfErr result (λ fault. (k : ℕ) → fault ≡ ReadFault.BadLine k
@@ -50,7 +49,7 @@ fn entry_of(alloc: Global, line: &[u8], number: usize) -> Result<Entry, ReadFaul
     }
 }
 
-// Reads the entry of a line, which comes after the others.
+// Parses a line and appends its entry.
 fn take(told: &mut Vec<Entry>, alloc: Global, line: &[u8]) -> Result<(), ReadFault>
     ensures ok { OnOk result ((e : entries.Entry) × SpellsEntry line.now e
         × (told.new.items ≡ told.old.items ++ e ∷ [])) }
@@ -70,11 +69,11 @@ fn take(told: &mut Vec<Entry>, alloc: Global, line: &[u8]) -> Result<(), ReadFau
 }
 
 impl Saved {
-    /// The history that a file's bytes tell.
+    /// Parses a file's bytes.
     pub fn read(alloc: Global, bytes: &[u8]) -> Result<Saved, ReadFault>
         ensures told { IfOk result (λ saved. Tell (pieces bytes.now) saved.header saved.entries.items) }
         ensures bad { IfErr result (λ fault. (k : ℕ) → fault ≡ ReadFault.BadLine k → IsFirstBad (pieces bytes.now) k) }
-        // Memory is wanted for entries alone.
+        // Memory runs out only for entries.
         ensures starved { IfErr result (λ fault. fault ≡ ReadFault.NoMemory
             → (h : headers.Header) × (es : List entries.Entry) × (front back : List (List ℕ))
             × (pieces bytes.now ≡ front ++ back) × Tell front h es × (1 ≤ length es)) }
@@ -82,13 +81,13 @@ impl Saved {
         if bytes.is_empty() {
             return Err(ReadFault::BadLine(1));
         }
-        let (first, mut rest) = cut(bytes);
+        let (first, mut rest) = split_line(bytes);
         let Some(header) = read_header(first) else {
             return Err(ReadFault::BadLine(1));
         };
         let mut entries = Vec::new(alloc);
         while !rest.is_empty() {
-            let (line, more) = cut(rest);
+            let (line, more) = split_line(rest);
             if let Err(fault) = take(&mut entries, alloc, line) {
                 return Err(fault);
             }

@@ -1,4 +1,4 @@
-//! Histories, saved.
+//! Saves histories.
 
 ghost use Rattle.std.specs.Prelude.{◌≡◌, ◌<◌, ◌≤◌, ◌++◌, ℕ, List, true, false, length, IfErr, OnOk, OnErr};
 ghost use Rattle.std.specs.Prelude.{string_bytes, IfSome};
@@ -18,7 +18,7 @@ use std::io;
 use std::io::{Write, empty};
 use thiserror::Error;
 
-/// At how many bytes or more the text that waits is written.
+/// The waiting text is written when it has this many bytes or more.
 const BLOCK: usize = 65_536;
 
 /// Why a history isn't saved.
@@ -31,7 +31,7 @@ pub enum SaveFault {
 }
 
 impl SaveFault {
-    // Returns what keeps a draft from being made, or put in its place.
+    // Classifies the error of creating a draft, or of replacing the file with it.
     fn of(error: &io::Error) -> SaveFault {
         match error.kind() {
             io::ErrorKind::OutOfMemory => SaveFault::NoMemory,
@@ -40,7 +40,7 @@ impl SaveFault {
     }
 }
 
-// The line of an entry comes after the text.
+// Appends the entry's line to the text.
 fn push_entry(alloc: Global, entry: &Entry, text: &mut String) -> Result<(), AllocError>
     requires { IsEntry entry.now }
     ensures { OnOk result (string_bytes text.new ≡ string_bytes text.old ++ entry_line entry.now) }
@@ -49,7 +49,7 @@ fn push_entry(alloc: Global, entry: &Entry, text: &mut String) -> Result<(), All
     text.push_str(line.as_str())
 }
 
-// Writes the text where it is long, and leaves it empty then.
+// Writes and empties the text if it is long.
 fn write_block<E: Ends>(text: &mut String, ends: &mut E) -> Result<(), Broken>
     requires { (E.devices ends.old).is_output_broken ≡ false }
     ensures ok { OnOk result ((front : List ℕ) × (string_bytes text.old ≡ front ++ string_bytes text.new)
@@ -73,7 +73,7 @@ fn write_block<E: Ends>(text: &mut String, ends: &mut E) -> Result<(), Broken>
     }
 }
 
-/// Writes a history's file to a device that counts its failures. One that failed isn't called again.
+/// Writes a history file. Doesn't use the device again after it failed.
 pub fn save_over<E: Ends>(
     alloc: Global,
     header: Header,
@@ -86,10 +86,10 @@ pub fn save_over<E: Ends>(
     requires whole { (E.devices ends.old).is_output_broken ≡ false }
     ensures ok { OnOk result (Appends (E.devices ends.old).contents (E.devices ends.new).contents
         (saved_text header entries.now)) }
-    // With a fault, what was written is a beginning of that text.
+    // After a fault, what was written is a prefix of that text.
     ensures err { OnErr result (AppendsFront (E.devices ends.old).contents (E.devices ends.new).contents
         (saved_text header entries.now)) }
-    // The device is blamed only where it failed in this call.
+    // A fault names the device only if it failed in this call.
     ensures fault { IfErr result (λ fault. BlamesSave fault (E.devices ends.new)) }
     ensures same { E.names ends.new ≡ E.names ends.old }
 {
@@ -110,7 +110,7 @@ pub fn save_over<E: Ends>(
     }
 }
 
-/// Writes a history's file: its header, and a line for each entry.
+/// Writes a history file: its header, and a line for each entry.
 pub fn save<W: Write>(
     alloc: Global,
     header: Header,
@@ -122,7 +122,7 @@ pub fn save<W: Write>(
     requires entries { All IsEntry entries.now }
     ensures ok { OnOk result
         (Appends (W.contents writer.old) (W.contents writer.new) (saved_text header entries.now)) }
-    // With a fault, what was written is a beginning of that text.
+    // After a fault, what was written is a prefix of that text.
     ensures err { OnErr result
         (AppendsFront (W.contents writer.old) (W.contents writer.new) (saved_text header entries.now)) }
 {
@@ -139,8 +139,8 @@ pub fn save<W: Write>(
     save_over(alloc, header, entries, &mut ends)
 }
 
-/// Saves a history: its header and a line for each entry are all that stands in the destination then. With a fault,
-/// what stood there stays.
+/// Replaces the destination with the history: its header, and a line for each entry. Errors: the destination is
+/// unchanged.
 pub fn save_in<D: Destination>(
     alloc: Global,
     header: Header,
@@ -168,7 +168,7 @@ pub fn save_in<D: Destination>(
     }
 }
 
-/// Makes the draft of a history that grows as it is made: so far its header. None where there is none.
+/// Creates the draft of a history that grows with every call, and writes its header. None if there is no draft.
 pub fn record_in<D: Destination>(
     alloc: Global,
     header: Header,

@@ -1,23 +1,23 @@
-//! What an audit answers.
+//! The verdict of an audit.
 
 ghost use Rattle.std.specs.Prelude.{◌≡◌, IfOk, string_bytes};
 ghost use Rattle.ll_audit.specs.Saved.{verdict_line};
 
 use std::alloc::{AllocError, Global};
 
-/// What an audit of a file answers. Entries and lines are counted from 1.
+/// The verdict of an audit of a file. Entries and lines are counted from 1.
 #[derive(Clone, Copy, Debug, PartialEq, Eq)]
 pub enum Verdict {
-    /// So many entries, all legal.
+    /// The number of entries, all legal.
     Legal(usize),
-    /// The entry that isn't what the tree answers there.
+    /// The first entry whose reply isn't the tree's.
     Illegal(usize),
-    /// The line that is of no form.
+    /// The first malformed line.
     BadLine(usize),
 }
 
 impl Verdict {
-    /// The line that tells it.
+    /// Returns the verdict's line. Errors: memory ran out.
     pub fn text(self, alloc: Global) -> Result<String, AllocError>
         ensures { IfOk result (λ text. string_bytes text ≡ verdict_line self) }
     {

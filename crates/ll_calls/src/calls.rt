@@ -16,7 +16,7 @@ use ll_walk::Gate;
 use std::sync::Wait;
 
 impl<N: Shape, G: Gate<N>> Tree<N, G> {
-    /// A new empty node of this kind. mkdir(2), mknod(2)
+    /// Creates an empty node of this kind. mkdir(2), mknod(2)
     pub fn make<R: Wait>(
         &self,
         rt: &R,
@@ -30,7 +30,7 @@ impl<N: Shape, G: Gate<N>> Tree<N, G> {
         done(self.call(rt, me, Call::Make(kind, target)))
     }
 
-    /// A descriptor of the file: the least number that is free, from 0 on. open(2)
+    /// Opens the file. Returns the lowest free descriptor. open(2)
     pub fn open_file<R: Wait>(
         &self,
         rt: &R,
@@ -43,7 +43,7 @@ impl<N: Shape, G: Gate<N>> Tree<N, G> {
         opened(self.call(rt, me, Call::Open(mode, target)))
     }
 
-    /// The file is cut to this many bytes, or filled with zeros to them. truncate(2)
+    /// Sets the length of the file, in bytes. New bytes are zeros. truncate(2)
     pub fn truncate<R: Wait>(
         &self,
         rt: &R,
@@ -57,7 +57,7 @@ impl<N: Shape, G: Gate<N>> Tree<N, G> {
         done(self.call(rt, me, Call::Truncate(target, size)))
     }
 
-    /// The names in the directory, rising by bytes. readdir(3)
+    /// Returns the names in the directory, sorted by bytes. readdir(3)
     pub fn read_dir<R: Wait>(
         &self,
         rt: &R,
@@ -69,7 +69,7 @@ impl<N: Shape, G: Gate<N>> Tree<N, G> {
         listed(self.call(rt, me, Call::ReadDir(target)))
     }
 
-    /// What the node is. Takes no memory. stat(2)
+    /// Returns the node's inode, kind, size in bytes and links. Takes no memory. stat(2)
     #[inline(always)]
     pub fn stat<R: Wait>(
         &self,
@@ -82,7 +82,7 @@ impl<N: Shape, G: Gate<N>> Tree<N, G> {
         found(self.call(rt, me, Call::Stat(target)))
     }
 
-    /// Whether the file may be executed. Takes no memory. execve(2)
+    /// Checks that the file may be executed. Takes no memory. execve(2)
     pub fn exec<R: Wait>(&self, rt: &R, me: &mut Client<N>, target: Target) -> Result<(), Refused>
         ensures { Gains N.limit (calls.Exec target) me.old.rider (made_as (λ nothing. replies.Done) result)
             me.new.rider }
@@ -90,7 +90,7 @@ impl<N: Shape, G: Gate<N>> Tree<N, G> {
         done(self.call(rt, me, Call::Exec(target)))
     }
 
-    /// The name of a node that is no directory goes. Takes no memory. unlink(2)
+    /// Removes a name of a node that isn't a directory. Takes no memory. unlink(2)
     pub fn unlink<R: Wait>(&self, rt: &R, me: &mut Client<N>, target: Target) -> Result<(), Refused>
         ensures { Gains N.limit (calls.Unlink target) me.old.rider (made_as (λ nothing. replies.Done) result)
             me.new.rider }
@@ -98,7 +98,7 @@ impl<N: Shape, G: Gate<N>> Tree<N, G> {
         done(self.call(rt, me, Call::Unlink(target)))
     }
 
-    /// The empty directory goes. Takes no memory. rmdir(2)
+    /// Removes an empty directory. Takes no memory. rmdir(2)
     pub fn rmdir<R: Wait>(&self, rt: &R, me: &mut Client<N>, target: Target) -> Result<(), Refused>
         ensures { Gains N.limit (calls.Rmdir target) me.old.rider (made_as (λ nothing. replies.Done) result)
             me.new.rider }
@@ -106,7 +106,7 @@ impl<N: Shape, G: Gate<N>> Tree<N, G> {
         done(self.call(rt, me, Call::Rmdir(target)))
     }
 
-    /// The node at the first path gets the second in the place of it. What the second named loses that name. rename(2)
+    /// Moves the node from the first path to the second. A node that had the second path loses that name. rename(2)
     pub fn rename<R: Wait>(
         &self,
         rt: &R,
@@ -120,7 +120,7 @@ impl<N: Shape, G: Gate<N>> Tree<N, G> {
         done(self.call(rt, me, Call::Rename(from, into)))
     }
 
-    /// The same, where the second path names nothing. rename(2), RENAME_NOREPLACE
+    /// Moves the node from the first path to the second, which must name nothing. rename(2), RENAME_NOREPLACE
     pub fn rename_noreplace<R: Wait>(
         &self,
         rt: &R,
@@ -134,7 +134,7 @@ impl<N: Shape, G: Gate<N>> Tree<N, G> {
         done(self.call(rt, me, Call::RenameNoreplace(from, into)))
     }
 
-    /// The nodes at the two paths change places. Takes no memory. rename(2), RENAME_EXCHANGE
+    /// Exchanges the nodes at the two paths. Takes no memory. rename(2), RENAME_EXCHANGE
     pub fn exchange<R: Wait>(
         &self,
         rt: &R,
@@ -148,7 +148,7 @@ impl<N: Shape, G: Gate<N>> Tree<N, G> {
         done(self.call(rt, me, Call::Exchange(from, into)))
     }
 
-    /// The node at the first path gets the second as a further name. link(2)
+    /// Gives the node at the first path the second path as a further name (hard link). link(2)
     pub fn link<R: Wait>(
         &self,
         rt: &R,

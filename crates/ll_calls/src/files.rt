@@ -15,7 +15,7 @@ use ll_walk::Gate;
 use std::sync::Wait;
 
 impl<N: Shape, G: Gate<N>> Tree<N, G> {
-    /// Bytes of the descriptor's file, from an offset on, at most so many. pread(2)
+    /// Reads at most `count` bytes of the descriptor's file from the offset on. pread(2)
     pub fn read<R: Wait>(
         &self,
         rt: &R,
@@ -30,7 +30,7 @@ impl<N: Shape, G: Gate<N>> Tree<N, G> {
         made::bytes(self.call(rt, me, Call::Read(number, offset, count)))
     }
 
-    /// The bytes come into the descriptor's file, from an offset on. How many they were. pwrite(2)
+    /// Writes the bytes into the descriptor's file from the offset on. Returns their number. pwrite(2)
     pub fn write<R: Wait>(
         &self,
         rt: &R,
@@ -45,7 +45,7 @@ impl<N: Shape, G: Gate<N>> Tree<N, G> {
         wrote(self.call(rt, me, Call::Write(number, offset, bytes)))
     }
 
-    /// The descriptor's file is cut to this many bytes, or filled with zeros to them. ftruncate(2)
+    /// Sets the length of the descriptor's file, in bytes. New bytes are zeros. ftruncate(2)
     pub fn ftruncate<R: Wait>(
         &self,
         rt: &R,
@@ -59,7 +59,7 @@ impl<N: Shape, G: Gate<N>> Tree<N, G> {
         done(self.call(rt, me, Call::Ftruncate(number, size)))
     }
 
-    /// The descriptor is free. Takes no memory. close(2)
+    /// Closes the descriptor. Takes no memory. close(2)
     pub fn close_file<R: Wait>(
         &self,
         rt: &R,

@@ -1,4 +1,4 @@
-//! Calls that confine their client.
+//! Calls with which a client confines itself.
 
 ghost use Rattle.ll_seq.specs.declared.call.Call.TheVariants as calls;
 ghost use Rattle.ll_seq.specs.declared.reply.Reply.TheVariants as replies;
@@ -16,7 +16,7 @@ use ll_walk::Gate;
 use std::sync::Wait;
 
 impl<N: Shape, G: Gate<N>> Tree<N, G> {
-    /// A new ruleset of the client's that handles these rights, and its number. landlock_create_ruleset(2)
+    /// Creates a ruleset that handles these rights. Returns its number. landlock_create_ruleset(2)
     pub fn ruleset<R: Wait>(
         &self,
         rt: &R,
@@ -28,7 +28,8 @@ impl<N: Shape, G: Gate<N>> Tree<N, G> {
         created(self.call(rt, me, Call::Ruleset(handled)))
     }
 
-    /// A rule of the ruleset: these rights on the node that the path names, and beneath it. landlock_add_rule(2)
+    /// Adds a rule to the ruleset: these rights on the node that the path names, and on everything below it.
+    /// landlock_add_rule(2)
     pub fn allow<R: Wait>(
         &self,
         rt: &R,
@@ -43,7 +44,7 @@ impl<N: Shape, G: Gate<N>> Tree<N, G> {
         done(self.call(rt, me, Call::Allow(number, target, rights)))
     }
 
-    /// The ruleset as it is now becomes the client's newest layer. landlock_restrict_self(2)
+    /// Enforces a copy of the ruleset as the client's newest layer. landlock_restrict_self(2)
     pub fn confine<R: Wait>(&self, rt: &R, me: &mut Client<N>, number: u64) -> Result<(), Refused>
         ensures { Gains N.limit (calls.Confine number) me.old.rider (made_as (λ nothing. replies.Done) result)
             me.new.rider }

@@ -1,4 +1,4 @@
-//! The tree that threads share, for whoever embeds it.
+//! The API of the shared tree, for programs that embed it.
 #![tactic(auto)]
 
 mod calls;
@@ -8,7 +8,7 @@ mod made;
 mod refused;
 mod tree;
 
-// What a caller needs besides, of the crates below.
+// Types of lower crates that a caller also needs.
 pub use ll_client::{Account, Blank, Client, ReadsHistory, Shape};
 pub use ll_walk::{Gate, NoGate};
 pub use refused::Refused;

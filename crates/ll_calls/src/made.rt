@@ -1,4 +1,4 @@
-//! What calls came to, by the type of their answers.
+//! The results of calls, by the type of their answers.
 
 ghost use Rattle.std.specs.Prelude.{◌≡◌, Bool, true, IfOk};
 ghost use Rattle.ll_seq.specs.declared.reply.Reply.{Reply};
@@ -12,7 +12,7 @@ use ll_path::Data;
 use ll_rights::Errno;
 use ll_seq::{Listing, Reply, Status};
 
-/// The reply of a call that did something, or why it did nothing.
+/// Returns the reply of a call that succeeded. Errors: why it did nothing.
 #[inline(always)]
 fn success(made: Made) -> Result<Reply, Refused>
     requires { (succeeds : Reply → Bool) × FitsMade succeeds made }

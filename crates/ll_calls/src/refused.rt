@@ -10,11 +10,11 @@ use std::fmt::{Display, Error, Formatter, Write};
 #[derive(Clone, Copy, Debug, PartialEq, Eq)]
 pub enum Refused {
     Errno(Errno),
-    /// A layer of the client's denies it.
+    /// A layer of the client denies it.
     Denied(Denial),
 }
 
-/// The path of a call that the place is, in words.
+/// The words for a call's path in a message.
 fn path_words(place: Place) -> &'static str {
     match place {
         Place::At => "the path",

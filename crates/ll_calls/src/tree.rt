@@ -1,4 +1,4 @@
-//! A tree that threads share.
+//! The tree that threads share.
 
 ghost use Rattle.std.specs.Prelude.{◌≡◌, ◌⊎◌, ℕ, ◌+◌, ◌<◌, ◌≤◌, ◌∷◌, [], List, None, false, OnOk, IfOk, IfErr, length};
 ghost use Rattle.std.specs.Prelude.{map, max};
@@ -26,16 +26,16 @@ use std::alloc::Global;
 use std::sync::Wait;
 use std::thread;
 
-/// A tree that threads share. Each call is answered as by a tree that makes the calls of all clients one after the
-/// other, each client's in its order.
+/// A tree shared by threads. It is linearizable: each call gets the reply of a sequential tree that makes all clients'
+/// calls one after the other, each client's in its own order.
 #[derive(Drop)]
 pub struct Tree<N: Shape, G: Gate<N>> {
     table: Table<N, G>,
 }
 
 impl<N: Shape, G: Gate<N>> Tree<N, G> {
-    /// A tree of the root alone, in which 1 to 4,096 nodes may live, and whose history may have 1 to 1,000,000 entries,
-    /// for which room is reserved. Errors: EINVAL outside these limits, NoMemory. Waits for nobody.
+    /// Opens a tree with only the root. `nodes` is the limit of live nodes, 1 to 4,096; `history` the limit of entries,
+    /// 1 to 1,000,000, for which room is reserved. Non-blocking. Errors: EINVAL outside these limits; NoMemory.
     pub fn open(
         alloc: Global,
         blank: Blank<Account>,
@@ -61,8 +61,8 @@ impl<N: Shape, G: Gate<N>> Tree<N, G> {
         }
     }
 
-    /// A new client. It knows of all entries up to its own. Errors: EMFILE where as many clients were made as a tree
-    /// may have, HistoryFull, NoMemory.
+    /// Adds a client. It knows of all entries up to its own. Errors: EMFILE if as many clients were made as a tree may
+    /// have; HistoryFull; NoMemory.
     pub fn connect<R: Wait>(&self, rt: &R) -> Result<Client<N>, Errno>
         ensures client { IfOk result (λ client. client.rider
             ≡ knows client.rider.number (numbered client.rider.seen calls.Connect replies.Done ∷ []) []
@@ -73,7 +73,7 @@ impl<N: Shape, G: Gate<N>> Tree<N, G> {
         self.table.connect(rt)
     }
 
-    /// A new client, whose entry stands after all entries that this one knows of. Errors: those of `connect`.
+    /// Adds a client whose entry comes after every entry that `me` knows of. Errors: those of `connect`.
     pub fn connect_after<R: Wait>(&self, rt: &R, me: &mut Client<N>) -> Result<Client<N>, Errno>
         ensures client { IfOk result (λ client. client.rider
             ≡ knows client.rider.number (numbered client.rider.seen calls.Connect replies.Done ∷ []) []
@@ -85,9 +85,8 @@ impl<N: Shape, G: Gate<N>> Tree<N, G> {
         self.table.connect_after(rt, me)
     }
 
-    /// The client spawns a child: a client of its own, under the same layers, that has no entry yet and knows of all
-    /// entries up to the spawn. Errors: EMFILE where as many clients were made as a tree may have, HistoryFull,
-    /// NoMemory.
+    /// Spawns a child of the client, under the same layers. The child has no entry yet, and knows of all entries up to
+    /// the spawn. Errors: EMFILE if as many clients were made as a tree may have; HistoryFull; NoMemory.
     pub fn spawn<R: Wait>(&self, rt: &R, me: &mut Client<N>) -> Result<Client<N>, Errno>
         ensures child { IfOk result (λ child.
             Told calls.Spawn (replies.Spawned child.rider.number) me.old.rider me.new.rider
@@ -99,7 +98,7 @@ impl<N: Shape, G: Gate<N>> Tree<N, G> {
         self.table.spawn(rt, me)
     }
 
-    /// Later calls of both stand after all entries of which one of them knew. It makes no entry, and takes no memory.
+    /// Orders later calls of both clients after every entry that either knows of. Adds no entry, and takes no memory.
     pub fn meet<R: Wait>(&self, rt: &R, one: &mut Client<N>, other: &mut Client<N>)
         ensures one { one.new.rider
             ≡ record one.old.rider { seen = max one.old.rider.seen other.old.rider.seen } }
@@ -109,7 +108,7 @@ impl<N: Shape, G: Gate<N>> Tree<N, G> {
         self.table.meet(rt, one, other);
     }
 
-    /// Later calls of the client stand after all entries made so far. It makes no entry, and takes no memory.
+    /// Orders the client's later calls after every entry made so far. Adds no entry, and takes no memory.
     pub fn catch_up<R: Wait>(&self, rt: &R, me: &mut Client<N>)
         ensures low { me.old.rider.seen ≤ me.new.rider.seen }
         ensures mine { me.new.rider ≡ record me.old.rider { seen = me.new.rider.seen } }
@@ -117,8 +116,8 @@ impl<N: Shape, G: Gate<N>> Tree<N, G> {
         self.table.catch_up(rt, me);
     }
 
-    /// Has the reader read the history as it is at one point, at which all entries are there that the client knows of.
-    /// It makes no entry.
+    /// Lets the reader read the history as it is at one point, with every entry that the client knows of. Adds no
+    /// entry.
     pub fn read_history<R: Wait, V: ReadsHistory>(&self, rt: &R, me: &mut Client<N>, reader: &mut V)
         ensures mine { me.new.rider ≡ me.old.rider }
         ensures read { (history : List Entry) × (me.old.rider.seen ≤ length history)
@@ -128,7 +127,7 @@ impl<N: Shape, G: Gate<N>> Tree<N, G> {
         self.table.read_history(rt, me, reader);
     }
 
-    /// The history, where the list holds all clients of the tree; else tree and list come back. Waits for nobody, and
+    /// Returns the history if the list holds all clients of the tree. Errors: the tree and the list. Non-blocking, and
     /// takes no memory.
     pub fn close(self, clients: Vec<Client<N>>) -> Result<History, (Tree<N, G>, Vec<Client<N>>)>
         ensures closed { IfOk result (λ history. (nodes : ℕ) → N.slots ≡ nodes + TREE_CLIENTS
@@ -143,12 +142,12 @@ impl<N: Shape, G: Gate<N>> Tree<N, G> {
         }
     }
 
-    /// The client's call, led to its reply. A call that brings a client has a function of its own: `connect`, or
-    /// `spawn`. (A call that comes back is made again.)
+    /// Makes the client's call and returns its result. Not for connect and spawn, which have functions of their own.
+    /// (A call that the table gives back is made again.)
     #[tactic(auto, using(crate::proofs::Typing::gains_fit))]
     pub fn call<R: Wait>(&self, rt: &R, me: &mut Client<N>, call: Call) -> Made
         requires other { is_connect call ≡ false }
-        // It isn't a spawn, whose success is a child.
+        // Not a spawn, which would succeed with a child.
         requires childless { success call (replies.Spawned 0) ≡ false }
         ensures gains { Gains N.limit call me.old.rider result me.new.rider }
         ensures fits { FitsMade (success call) result }

@@ -13,7 +13,7 @@ pub struct Client<N: Shape> {
 }
 
 impl<N: Shape> Client<N> {
-    /// The number of the last entry that it knows of.
+    /// Returns the number of the last entry that the client knows of.
     pub fn seen(&self) -> u64
         ensures { result ≡ self.now.rider.seen }
     {

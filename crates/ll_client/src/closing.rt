@@ -1,4 +1,4 @@
-//! A tree is closed.
+//! Closes a tree.
 
 ghost use Rattle.std.specs.Prelude.{◌≡◌, ◌≢◌, true, map, length, IfOk, IfErr, OnErr};
 ghost use Rattle.std.specs.List.{AllByRecursion};
@@ -46,8 +46,8 @@ fn settle<N: Shape>(
     }
 }
 
-/// The history, where the list has as many clients as the tree: then it has all of them, since no two clients of a tree
-/// have one number. Else desk and list come back.
+/// Returns the history if the list holds all clients of the tree. Errors: the desk and the list, if it doesn't. (No two
+/// clients of a tree have one number, so their count decides.)
 pub fn close<N: Shape>(
     tie: &Tie<N, Account>,
     desk: Desk<N>,

@@ -1,4 +1,4 @@
-//! What lies behind the journal's lock.
+//! What the journal's lock guards.
 
 use crate::Keeper;
 use crate::account::Account;
@@ -7,7 +7,7 @@ use ll_journal::Journal;
 use std::alloc::Global;
 use std::marker::Model;
 
-/// The journal, and the keeper of the accounts whose passes are out. Contracts see it as the journal.
+/// The journal, and the keeper of the passes that are out. Contracts see it as the journal.
 #[derive(Drop)]
 pub struct Desk<N: Shape> {
     pub(crate) alloc: Global,
@@ -39,7 +39,7 @@ impl<N: Shape> Desk<N> {
     ghost use Rattle.ll_client.specs.Entries.{AreInOrder};
     ghost use Rattle.ll_journal.specs.SlotTree.{HoldTree, accounts_of};
 
-    /// What holds of it, whatever was done before. Takes no memory.
+    /// Does nothing when it runs. Its contract: what holds of every desk, after any steps.
     pub fn by_law(&self)
         ensures legal { IsLegal (start self.now.world.rules self.now.world.room) self.now.world.history }
         ensures numbered { AreInOrder self.now.world.rules self.now.world.room self.now.world.history }

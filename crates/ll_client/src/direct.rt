@@ -21,7 +21,7 @@ use ll_journal::{Journal, Made, Unmade};
 use ll_node::Held;
 use ll_seq::Call;
 
-/// The last entry that the client knows of, where the history is so long.
+/// The client's last known entry after a call for itself alone. `entries` is the history's length.
 pub(crate) fn seen_alone(made: &Result<Made, Call>, seen: u64, entries: u64) -> u64
     ensures { result ≡ seen_made made.now seen entries }
 {
@@ -31,7 +31,7 @@ pub(crate) fn seen_alone(made: &Result<Made, Call>, seen: u64, entries: u64) -> 
     }
 }
 
-/// The same of a call on a descriptor.
+/// The client's last known entry after a call on a descriptor. `entries` is the history's length.
 fn seen_on_file(made: &Result<Made, Unmade>, seen: u64, entries: u64) -> u64
     ensures { result ≡ seen_made made.now seen entries }
 {
@@ -41,7 +41,7 @@ fn seen_on_file(made: &Result<Made, Unmade>, seen: u64, entries: u64) -> u64
     }
 }
 
-/// Whether memory ran out.
+/// Whether a call for the client alone got NoMemory.
 fn starves(made: &Result<Made, Call>) -> bool
     ensures { result ≡ starves_made made.now }
 {
@@ -53,7 +53,7 @@ fn starves(made: &Result<Made, Call>) -> bool
     }
 }
 
-/// The same of a call on a descriptor.
+/// Whether a call on a descriptor got NoMemory.
 fn starves_on_file(made: &Result<Made, Unmade>) -> bool
     ensures { result ≡ starves_made made.now }
 {
@@ -65,7 +65,7 @@ fn starves_on_file(made: &Result<Made, Unmade>) -> bool
     }
 }
 
-/// The client's call for itself alone, in the journal. Where memory runs out for it, the client's wants tell so.
+/// Makes the client's call for itself alone in the journal. If memory runs out, adds the call to the client's wants.
 pub(crate) fn step_alone<N: Shape>(
     tie: &Tie<N, Account>,
     keeper: &mut Keeper<N, Account>,
@@ -101,7 +101,8 @@ pub(crate) fn step_alone<N: Shape>(
     made
 }
 
-/// The same of a call on a descriptor, with the slot of its file.
+/// Makes the client's call on a descriptor in the journal, given the slot of its file. If memory runs out, adds the
+/// call to the client's wants.
 fn step_on_file<N: Shape>(
     tie: &Tie<N, Account>,
     keeper: &mut Keeper<N, Account>,
@@ -142,9 +143,8 @@ fn step_on_file<N: Shape>(
 impl<N: Shape> Desk<N> {
     ghost use Rattle.ll_client.specs.Gains.{Gains};
 
-    /// The client's call for itself alone is made and answered, or comes back where it is none, or a walk of the client
-    /// is under way. Only ruleset, confine and spawn take memory. A child that is spawned so has no client here:
-    /// `spawn` gives it.
+    /// Makes and answers a call for the client alone. Errors: the call, if it isn't one, or if the client has a walk
+    /// under way. Only ruleset, confine and spawn take memory. For a child with a client of its own, use `spawn`.
     pub fn client_step(
         &mut self,
         tie: &Tie<N, Account>,
@@ -175,8 +175,8 @@ impl<N: Shape> Desk<N> {
         made
     }
 
-    /// The client's call on a descriptor is made and answered, with the slot of that file; or it comes back, as the
-    /// journal's does. Reading and growing a file takes memory; closing takes none.
+    /// Makes and answers the client's call on a descriptor, given the slot of its file. Errors: those of the journal's
+    /// `fd_commit`. Reading and growing a file take memory; closing takes none.
     pub fn fd_commit(
         &mut self,
         tie: &Tie<N, Account>,

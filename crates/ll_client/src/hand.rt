@@ -1,4 +1,4 @@
-//! Passes, taken back from slots and clients, and given out to them.
+//! Takes passes back from slots and clients, and gives them out again.
 
 ghost use Rattle.std.specs.Prelude.{◌≡◌, ◌≢◌, ℕ, ◌<◌, ◌≤◌, ◌+◌, ◌*◌, Some, None, length, true};
 ghost use Rattle.ll_rights.specs.declared.limits.TheConstants.{TREE_CLIENTS, TREE_NODES};
@@ -14,7 +14,7 @@ use crate::{Keeper, Pass, Tie};
 use ll_journal::Journal;
 use ll_node::Held;
 
-/// What a client's account is picked from.
+/// What a client's account is built from.
 #[derive(Drop)]
 struct Known<'a> {
     number: u64,
@@ -22,7 +22,7 @@ struct Known<'a> {
     journal: &'a Journal,
 }
 
-/// Takes back the pass of a slot.
+/// Takes back the slot's pass.
 pub(crate) fn take_slot<N: Shape>(
     tie: &Tie<N, Account>,
     keeper: &mut Keeper<N, Account>,
@@ -44,7 +44,7 @@ pub(crate) fn take_slot<N: Shape>(
     tie.take_back(keeper, pass);
 }
 
-/// Gives it out again. The client's pass isn't out, and stays so.
+/// Gives the slot's pass out again. The client's pass isn't out, before and after.
 pub(crate) fn put_slot<N: Shape>(
     tie: &Tie<N, Account>,
     keeper: &mut Keeper<N, Account>,
@@ -68,7 +68,7 @@ pub(crate) fn put_slot<N: Shape>(
     *pass = tie.give_out(keeper, 3 * number, held);
 }
 
-/// Takes back the pass of a client.
+/// Takes back the client's pass.
 pub(crate) fn take_client<N: Shape>(
     tie: &Tie<N, Account>,
     keeper: &mut Keeper<N, Account>,
@@ -93,7 +93,7 @@ pub(crate) fn take_client<N: Shape>(
     tie.take_back(keeper, pass);
 }
 
-/// Gives out a client's pass, that shows its account as it is now.
+/// Gives out the client's pass, which shows its account as it is now.
 pub(crate) fn give_client<N: Shape>(
     tie: &Tie<N, Account>,
     keeper: &mut Keeper<N, Account>,

@@ -1,4 +1,4 @@
-//! Clients that come to the tree.
+//! New clients.
 
 ghost use Rattle.std.specs.Prelude.{◌≡◌, ◌≢◌, ℕ, ◌<◌, ◌≤◌, ◌+◌, ◌*◌, [], ◌∷◌, None, length, Err, IfOk, IfErr, OnOk};
 ghost use Rattle.std.specs.Prelude.{OnErr};
@@ -20,7 +20,7 @@ use crate::{Keeper, Tie};
 use ll_journal::Journal;
 use ll_rights::Errno;
 
-/// A client that has just come, with the first pass of its number.
+/// Builds the client of a new number, with that number's first passes.
 pub(crate) fn newcomer<N: Shape>(
     tie: &Tie<N, Account>,
     keeper: &mut Keeper<N, Account>,
@@ -53,8 +53,8 @@ impl<N: Shape> Desk<N> {
     ghost use Rattle.ll_laws.specs.World.{World, Joined, Replied, advance, next_number};
     ghost use Rattle.ll_laws.specs.declared.step.Step.TheVariants.{Join};
 
-    /// A new client, which gets the next number. Its one entry is that of its connect, the last of all. Errors:
-    /// HistoryFull, EMFILE where as many clients were made as a tree may have, NoMemory.
+    /// Adds a client with the next number. The history's new last entry is its connect. Errors: HistoryFull; EMFILE if
+    /// as many clients were made as a tree may have; NoMemory.
     pub fn connect(&mut self, tie: &Tie<N, Account>) -> Result<Client<N>, Errno>
         ensures joined { IfOk result (λ client.
             advance self.old.world Join ≡ (Joined client.rider.number, self.new.world)) }
@@ -83,7 +83,8 @@ impl<N: Shape> Desk<N> {
         let seen = journal.entries().len() as u64;
         Ok(newcomer(tie, keeper, journal, number, seen))
     }
-    /// The same, where this client's entries so far, and all others that it knows of, stand before the new one's.
+    /// Adds a client whose connect comes after every entry that `me` knows of, its own included. Errors: those of
+    /// `connect`.
     pub fn connect_after(
         &mut self,
         tie: &Tie<N, Account>,

@@ -1,4 +1,4 @@
-//! A walk is left: its call is answered, or it starts again. There is an act for each number of slots that it is lent.
+//! Ends a walk with its answer, or restarts it. There is one function for each number of lent slots.
 
 ghost use Rattle.std.specs.Prelude.{◌≡◌, ℕ, ◌≤◌, [], ◌∷◌, Some, length, map};
 ghost use Rattle.ll_rights.specs.declared.limits.TheConstants.{TREE_CLIENTS};
@@ -25,7 +25,7 @@ use ll_rights::Kind;
 use std::alloc::Global;
 use std::mem;
 
-/// What lies in a vacant slot. Takes no memory.
+/// Returns the contents of a vacant slot. Takes no memory.
 fn vacant(alloc: Global) -> Held
     ensures { result ≡ contents.vacant }
 {
@@ -35,7 +35,7 @@ fn vacant(alloc: Global) -> Held
     }
 }
 
-/// The last entry that the client knows of, where the history is so long.
+/// The client's last known entry after leaving. `entries` is the history's length.
 fn seen_after(left: &Left, seen: u64, entries: u64) -> u64
     ensures { result ≡ seen_of left.now seen entries }
 {
@@ -49,7 +49,7 @@ fn seen_after(left: &Left, seen: u64, entries: u64) -> u64
     }
 }
 
-/// Whether memory ran out.
+/// Whether the call got NoMemory.
 fn starves(left: &Left) -> bool
     ensures { result ≡ starves_left left.now }
 {
@@ -63,7 +63,7 @@ fn starves(left: &Left) -> bool
     }
 }
 
-/// With what is lent, which lies in these slots.
+/// Commits or restarts the walk in the journal. `lent` holds the contents of `slots`.
 fn leave_lent(
     journal: &mut Journal,
     client: u64,
@@ -86,7 +86,7 @@ fn leave_lent(
     }
 }
 
-/// The same. Where memory runs out, the client's wants tell so.
+/// Commits or restarts the walk. If memory runs out, adds the call to the client's wants.
 fn leave_with<N: Shape>(
     tie: &Tie<N, Account>,
     keeper: &mut Keeper<N, Account>,
@@ -123,7 +123,7 @@ fn leave_with<N: Shape>(
     left
 }
 
-/// With one slot.
+/// Leaves a walk with one lent slot.
 fn leave_by_1<N: Shape>(
     tie: &Tie<N, Account>,
     keeper: &mut Keeper<N, Account>,
@@ -168,7 +168,7 @@ fn leave_by_1<N: Shape>(
     left
 }
 
-/// With two slots.
+/// Leaves a walk with two lent slots.
 fn leave_by_2<N: Shape>(
     tie: &Tie<N, Account>,
     keeper: &mut Keeper<N, Account>,
@@ -221,7 +221,7 @@ fn leave_by_2<N: Shape>(
     left
 }
 
-/// With three slots.
+/// Leaves a walk with three lent slots.
 fn leave_by_3<N: Shape>(
     tie: &Tie<N, Account>,
     keeper: &mut Keeper<N, Account>,
@@ -280,7 +280,7 @@ fn leave_by_3<N: Shape>(
     left
 }
 
-/// With four slots.
+/// Leaves a walk with four lent slots.
 fn leave_by_4<N: Shape>(
     tie: &Tie<N, Account>,
     keeper: &mut Keeper<N, Account>,
@@ -346,7 +346,7 @@ fn leave_by_4<N: Shape>(
 }
 
 impl<N: Shape> Desk<N> {
-    /// The client's walk is left, with one slot. Only calls that add something take memory.
+    /// Commits or restarts the client's walk, with one lent slot. Only calls that add something take memory.
     pub fn leave_1(
         &mut self,
         tie: &Tie<N, Account>,
@@ -388,7 +388,7 @@ impl<N: Shape> Desk<N> {
         left
     }
 
-    /// The same with two slots.
+    /// Commits or restarts the client's walk, with two lent slots. Only calls that add something take memory.
     pub fn leave_2(
         &mut self,
         tie: &Tie<N, Account>,
@@ -438,7 +438,7 @@ impl<N: Shape> Desk<N> {
         left
     }
 
-    /// The same with three slots.
+    /// Commits or restarts the client's walk, with three lent slots. Only calls that add something take memory.
     pub fn leave_3(
         &mut self,
         tie: &Tie<N, Account>,
@@ -496,7 +496,7 @@ impl<N: Shape> Desk<N> {
         left
     }
 
-    /// The same with four slots.
+    /// Commits or restarts the client's walk, with four lent slots. Only calls that add something take memory.
     pub fn leave_4(
         &mut self,
         tie: &Tie<N, Account>,

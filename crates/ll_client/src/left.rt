@@ -1,4 +1,4 @@
-//! How a walk is left.
+//! How a walk is left, and the result.
 
 ghost use Rattle.std.specs.Prelude.{◌≡◌};
 ghost use Rattle.ll_client.specs.Hands.{ended_as, restarted_as};
@@ -6,31 +6,31 @@ ghost use Rattle.ll_client.specs.Hands.{ended_as, restarted_as};
 use ll_journal::{Ending, Progress};
 use ll_seq::Reply;
 
-/// What is to come of a walk: its call is answered, or it starts again.
+/// Whether to commit or to restart a walk.
 #[derive(Clone, Copy, PartialEq, Eq)]
 pub enum Leaving {
     Commit,
     Restart,
 }
 
-/// What comes of it.
+/// The result of leaving a walk.
 #[derive(Drop)]
 pub enum Left {
     /// The step isn't enabled.
     NotNow,
-    /// Other slots were lent than the step needs.
+    /// Other slots were lent than the step needs. Nothing has changed.
     Astray,
-    /// The walk has ended. The reply is that of the history's last entry.
+    /// The walk has ended. The reply is in the history's last entry.
     Answered(Reply),
-    /// It is above the root again.
+    /// The walk has restarted, above the root.
     Again,
-    /// The walk has ended. The history takes no more entry, and nothing else has changed.
+    /// The walk has ended. The history is full, and nothing else has changed.
     HistoryFull,
     /// The walk has ended. Memory ran out, and nothing else has changed.
     NoMemory,
 }
 
-/// What a commit comes to.
+/// The result of a commit, as a result of leaving.
 pub(crate) fn ended(ending: Ending) -> Left
     ensures { result ≡ ended_as ending }
 {
@@ -43,7 +43,7 @@ pub(crate) fn ended(ending: Ending) -> Left
     }
 }
 
-/// What a new start comes to.
+/// The result of a restart, as a result of leaving.
 pub(crate) fn restarted(outcome: Progress) -> Left
     ensures { result ≡ restarted_as outcome }
 {

@@ -1,4 +1,4 @@
-//! The tie between the journal's lock, the slots' locks and the clients: who may speak for what.
+//! Ties the journal's lock, the slots' locks and the clients together: passes show what each of them holds.
 #![tactic(auto)]
 
 mod account;

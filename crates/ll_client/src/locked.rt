@@ -1,4 +1,4 @@
-//! What lies behind a slot's lock.
+//! What a slot's lock guards.
 
 ghost use Rattle.std.specs.Prelude.{◌≡◌};
 
@@ -8,7 +8,7 @@ use crate::shape::Shape;
 use ll_node::Held;
 use std::marker::Model;
 
-/// What lies in the slot of a number, and the pass that shows this as the slot's account.
+/// The contents of the slot of this number, and the pass that shows them as the slot's account.
 #[derive(Drop)]
 pub struct Locked<N: Shape> {
     pub(crate) number: u64,
@@ -31,14 +31,14 @@ impl<N: Shape> Model for Locked<N> {
 }
 
 impl<N: Shape> Locked<N> {
-    /// The number of the slot.
+    /// Returns the number of the slot.
     pub fn number(&self) -> u64
         ensures { result ≡ self.now.number }
     {
         self.number
     }
 
-    /// The inode that lies in it, 0 where it is vacant.
+    /// Returns the inode in the slot, 0 if it is vacant.
     pub fn inode(&self) -> u64
         ensures { result ≡ self.now.held.inode }
     {

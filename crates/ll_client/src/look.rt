@@ -1,4 +1,4 @@
-//! Looks at the journal. They change nothing, and what they tell may be so no more once its lock is let go.
+//! Looks at the journal, which change nothing. The result may be stale as soon as the journal's lock is released.
 
 ghost use Rattle.std.specs.Prelude.{◌≡◌, ◌<◌, ◌≤◌, ℕ, length, None, Some, IfSome, IfNone};
 ghost use Rattle.ll_seq.specs.State.{root};
@@ -22,14 +22,14 @@ impl<N: Shape> Desk<N> {
     ghost use Rattle.ll_journal.specs.Stations.{station_in};
     ghost use Rattle.ll_journal.specs.Steps.{leg_in_turn};
 
-    /// Where the client's walk is.
+    /// Returns where the client's walk is.
     pub fn station(&self, me: &Rider<N>) -> Station
         ensures { result ≡ station_in self.now.world me.now.number }
     {
         self.journal.station(me.number())
     }
 
-    /// The slot of the root, to which a walk's first descent goes.
+    /// Returns the slot of the root, the target of a walk's first descent.
     pub fn root_slot(&self) -> u64
         ensures root { inode_in self.now result ≡ root }
         ensures within { result < length self.now.inodes }
@@ -37,7 +37,7 @@ impl<N: Shape> Desk<N> {
         self.journal.root_slot()
     }
 
-    /// The slot of the directory where the leg in turn of the client's walk stands.
+    /// Returns the slot of the directory of the walk's current leg.
     pub fn turn_slot(&self, me: &Rider<N>) -> Option<u64>
         ensures some { IfSome result (λ slot. (leg : Leg) × (leg_in_turn self.now.world me.now.number ≡ Some leg)
             × (inode_in self.now slot ≡ leg.here)) }
@@ -47,7 +47,7 @@ impl<N: Shape> Desk<N> {
         self.journal.turn_slot(me.number())
     }
 
-    /// The slot of the file that the client has open under this number.
+    /// Returns the slot of the file that the client has open under this number.
     pub fn file_slot(&self, me: &Rider<N>, number: u64) -> Option<u64>
         ensures some { IfSome result (λ slot. (file : descriptor.Descriptor)
             × IsOpen self.now.world me.now.number number file × (inode_in self.now slot ≡ file.inode)) }
@@ -58,9 +58,9 @@ impl<N: Shape> Desk<N> {
         self.journal.file_slot(me.number(), number)
     }
 
-    /// Which step of the client's walk comes next, with the slots that it needs, seen from the slot of the directory
-    /// where its leg in turn stands. (Above the root any slot will do. It may be that the step still has to wait for
-    /// other walks.) The slot's pass is taken back for the look, and given out again as it was.
+    /// Returns the next step of the client's walk and the slots that it needs, given the slot of the directory of its
+    /// current leg. (Above the root any slot will do. The step may still have to wait for other walks.) Takes the
+    /// slot's pass back and gives it out again unchanged.
     pub fn next_step(&mut self, tie: &Tie<N, Account>, me: &Rider<N>, here: &mut Locked<N>) -> Next
         ensures comes { ComesNext self.old me.now.number here.old.number result }
         ensures slots { CanBeLent self.old result }
@@ -95,9 +95,9 @@ impl<N: Shape> Desk<N> {
         next
     }
 
-    /// Of the client's walk at its ends: the slot of a node under a last name in which another client's walk stands, so
-    /// that this one isn't answered yet. It is looked for in the directory of this slot alone, for each path that ends
-    /// there. The slot's pass is taken back for the look, and given out again as it was.
+    /// For a walk at its ends: returns the slot of a node under a last name that another client's walk has marked,
+    /// which delays this one's answer. Looks only in the directory of this slot, for each path that ends there. Takes
+    /// the slot's pass back and gives it out again unchanged.
     pub fn slot_in_way(
         &mut self,
         tie: &Tie<N, Account>,

@@ -1,4 +1,4 @@
-//! Clients that meet.
+//! Clients learn which entries exist.
 
 ghost use Rattle.std.specs.Prelude.{◌≡◌, ◌≤◌, length, max};
 
@@ -12,7 +12,7 @@ use crate::rider::Rider;
 use crate::shape::Shape;
 
 impl<N: Shape> Desk<N> {
-    /// The client knows from now on of all entries up to this one.
+    /// The client now knows of all entries up to this one.
     pub(crate) fn learn(&mut self, tie: &Tie<N, Account>, me: &mut Rider<N>, seen: u64)
         requires { seen ≤ length self.old.world.history }
         ensures same { self.new ≡ self.old }
@@ -30,7 +30,7 @@ impl<N: Shape> Desk<N> {
         me.pass = give_client(tie, keeper, journal, number, me.seen);
     }
 
-    /// From now on each of the two knows of all entries of which one of them did. Nothing else changes.
+    /// Each of the two now knows of every entry that either knew of. Nothing else changes.
     pub fn meet(&mut self, tie: &Tie<N, Account>, one: &mut Client<N>, other: &mut Client<N>)
         ensures same { self.new ≡ self.old }
         ensures one { one.new.rider
@@ -38,12 +38,12 @@ impl<N: Shape> Desk<N> {
         ensures other { other.new.rider
             ≡ record other.old.rider { seen = max one.old.rider.seen other.old.rider.seen } }
     {
-        // What the first knows of is there.
+        // Every entry that the first knows of exists.
         self.learn(tie, &mut one.rider, 0);
         self.learn(tie, &mut other.rider, one.rider.seen());
         self.learn(tie, &mut one.rider, other.rider.seen());
     }
-    /// The client knows from now on of all entries made so far. Nothing else changes.
+    /// The client now knows of all entries made so far. Nothing else changes.
     pub fn catch_up(&mut self, tie: &Tie<N, Account>, me: &mut Client<N>)
         ensures same { self.new ≡ self.old }
         ensures low { me.old.rider.seen ≤ me.new.rider.seen }
@@ -52,7 +52,7 @@ impl<N: Shape> Desk<N> {
         let entries = self.journal.entries().len() as u64;
         self.learn(tie, &mut me.rider, entries);
     }
-    /// Has the reader read the history, of which the client knows no entry that isn't there. Nothing changes.
+    /// Lets the reader read the history. It holds every entry that the client knows of. Nothing changes.
     pub fn read_history<V: ReadsHistory>(
         &mut self,
         tie: &Tie<N, Account>,

@@ -1,4 +1,4 @@
-//! A walk goes down by what the last look told.
+//! Descends by what the last look found.
 
 ghost use Rattle.std.specs.Prelude.{◌≡◌, ◌<◌, ◌∷◌, [], ℕ, true, Some, IfSome, IfNone, length};
 ghost use Rattle.ll_rights.specs.Map.{get};
@@ -19,9 +19,8 @@ impl<N: Shape> Desk<N> {
     ghost use Rattle.ll_journal.specs.Steps.{Does, GoesDown, IsAstrayBelow, IsNext};
     ghost use Rattle.ll_laws.specs.declared.step.Step.TheVariants.{Descend};
 
-    /// The directory to which the client's walk would go down from the one in this slot. None where it wouldn't, where
-    /// it is past its fork, or where it doesn't stand here. Passes are taken back for the look, and given out again as
-    /// they were.
+    /// Returns the directory to which the client's walk would descend from the one in this slot. None if it wouldn't,
+    /// is past its fork, or isn't here. Takes passes back and gives them out again unchanged.
     pub fn onward(
         &mut self,
         tie: &Tie<N, Account>,
@@ -67,8 +66,8 @@ impl<N: Shape> Desk<N> {
         onward
     }
 
-    /// The same as `descend`, where the name at this depth of the call's first path is known to stand for this inode in
-    /// the first slot. Takes no memory.
+    /// Makes a descent with a hint from `onward`: the name at this depth of the call's first path names this inode. If
+    /// that is the next name, it isn't looked up. Takes no memory.
     pub fn descend_onward(
         &mut self,
         tie: &Tie<N, Account>,

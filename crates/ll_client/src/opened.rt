@@ -1,4 +1,4 @@
-//! A tree is opened.
+//! Opens a tree.
 
 ghost use Rattle.std.specs.Prelude.{◌≡◌, ℕ, ◌+◌, ◌*◌, ◌<◌, ◌≤◌, None, length, IfOk};
 ghost use Rattle.ll_rights.specs.declared.limits.TheConstants.{HISTORY_ENTRIES, TREE_CLIENTS, TREE_NODES};
@@ -20,16 +20,16 @@ use ll_rights::limits::TREE_CLIENTS;
 use ll_seq::{ROOT, Rules};
 use std::alloc::{AllocError, Global};
 
-/// A tree that nobody uses yet.
+/// A new tree without clients.
 #[derive(Drop)]
 pub struct Opened<N: Shape> {
     pub tie: Tie<N, Account>,
     pub desk: Desk<N>,
-    /// What lies in each slot, in the order of their numbers.
+    /// The contents of each slot, in the order of their numbers.
     pub slots: Vec<Locked<N>>,
 }
 
-/// What lies in the slot of a number in a tree of the root alone. Takes no memory.
+/// The contents of the slot of this number in a new tree. Takes no memory.
 fn first_held(alloc: Global, number: u64) -> Held
     ensures { result ≡ held_first number }
 {
@@ -66,7 +66,7 @@ fn new_slot<N: Shape>(
     Locked { number, held, pass }
 }
 
-/// All slots of a tree of the root alone.
+/// All slots of a new tree. Errors: memory ran out.
 fn new_slots<N: Shape>(
     alloc: Global,
     tie: &Tie<N, Account>,
@@ -90,8 +90,8 @@ fn new_slots<N: Shape>(
     Ok(slots)
 }
 
-/// A tree of the root alone, in which so many nodes may live, without a client: its tie, its desk, and all its slots.
-/// Room is reserved for so many entries of the history.
+/// Opens a tree with only the root and no clients, for at most `nodes` nodes. Reserves room for `history` entries.
+/// Errors: memory ran out.
 pub fn open<N: Shape>(
     alloc: Global,
     blank: Blank<Account>,

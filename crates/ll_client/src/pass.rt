@@ -5,8 +5,8 @@ use crate::view::View;
 use atomic_table::Badge;
 use std::marker::{Model, PhantomData};
 
-/// A token without bytes, which shows one entry of the keeper's map; or none, once it was taken back. Contracts see it
-/// as the entry.
+/// A token without bytes that shows one entry of the keeper's map, or none after it was taken back. Contracts see it as
+/// the entry.
 #[derive(Drop)]
 pub struct Pass<N: Naming, D> {
     pub(crate) badge: Badge<View<D>>,

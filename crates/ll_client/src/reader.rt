@@ -7,9 +7,9 @@ ghost use Rattle.ll_seq.specs.declared.reply.Entry.{Entry};
 
 use ll_seq::Entry;
 
-/// Reads the history as it is, while the journal's lock is held. It can make no step.
+/// Reads the history while the journal's lock is held. It can make no step.
 pub trait ReadsHistory {
-    /// The reader becomes this one by these entries, which are all that there are.
+    /// The relation of the reader before, the entries (all of the history), and the reader after.
     ghost reads: { Self → List Entry → Self → Type 0 };
 
     /// Reads the entries.

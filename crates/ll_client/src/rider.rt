@@ -7,9 +7,8 @@ use crate::account::Account;
 use crate::shape::Shape;
 use std::marker::Model;
 
-/// A client's number, the number of the last entry that it knows of, and the passes of its account and of its wants.
-/// Contracts see besides its part of the history, the calls for which memory ran out, and the call of its walk under
-/// way.
+/// A client: its number, its last known entry, and the passes of its account and of its wants. Contracts also see its
+/// part of the history, its calls that got NoMemory, and the call of its walk.
 #[derive(Drop)]
 pub struct Rider<N: Shape> {
     pub(crate) number: u64,
@@ -35,14 +34,14 @@ impl<N: Shape> Model for Rider<N> {
 }
 
 impl<N: Shape> Rider<N> {
-    /// The client's number.
+    /// Returns the client's number.
     pub fn number(&self) -> u64
         ensures { result ≡ self.now.number }
     {
         self.number
     }
 
-    /// The number of the last entry that it knows of.
+    /// Returns the number of the last entry that the client knows of.
     pub fn seen(&self) -> u64
         ensures { result ≡ self.now.seen }
     {

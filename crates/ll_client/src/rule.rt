@@ -1,10 +1,10 @@
-//! The table's rule, and what its steps tell.
+//! The table's rule, and what its operations guarantee.
 
 use crate::view::View;
 use atomic_table::{Join, Play, Split, TableRule};
 use std::marker::Brand;
 
-/// Each entry that is shown is the keeper's, and no two seats show one of the same number.
+/// The rule: each shown entry is the keeper's, and no two seats show entries of one number.
 pub struct Tied;
 
 impl<D> TableRule<(), View<D>, ()> for Tied {
@@ -17,7 +17,7 @@ impl<D> TableRule<(), View<D>, ()> for Tied {
     ghost first = { λ about. keeper empty };
 }
 
-/// The keeper compares the entry that it was given to show with its own, which then goes.
+/// Taking back: the keeper's entry equals the one shown, and is removed from the keeper.
 pub struct TakesBack;
 
 impl<D> Play<(), View<D>> for TakesBack {
@@ -26,12 +26,12 @@ impl<D> Play<(), View<D>> for TakesBack {
     ghost then = { λ step before found after. TakesEntry before after };
 }
 
-/// What a step tells where the proof of its caller picks it.
+/// A play whose contract the caller's proof chooses.
 impl<D> Play<(), View<D>> for Brand {
     ghost then = { λ step before found after. Unit {0} };
 }
 
-/// One seat gets the entry that the other one shows.
+/// Joins and splits views: one seat gets the entry that the other shows.
 pub struct OneEntry;
 
 impl<D> Join<View<D>> for OneEntry {

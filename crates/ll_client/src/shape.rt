@@ -1,10 +1,10 @@
-//! Which tree it is.
+//! The constants of one tree.
 
 use crate::Naming;
 use std::marker::Brand;
 
-/// Which tree it is: its table of passes, how many slots it has, how many entries its history may have, and the rules
-/// that it keeps.
+/// The constants of one tree: its table of passes, how many slots it has, how many entries its history may have, and
+/// its rules.
 pub trait Shape: Naming {
     ghost use Rattle.std.specs.Prelude.{ℕ};
 

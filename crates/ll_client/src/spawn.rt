@@ -1,4 +1,4 @@
-//! A client's child.
+//! Spawns a client's child.
 
 ghost use Rattle.std.specs.Prelude.{◌≡◌, ◌≢◌, ℕ, ◌≤◌, ◌+◌, ◌*◌, [], None, length, Ok, Err, IfOk, IfErr, OnOk};
 ghost use Rattle.ll_rights.specs.Map.{get};
@@ -20,7 +20,7 @@ use ll_journal::{Journal, Made};
 use ll_rights::Errno;
 use ll_seq::{Call, Reply};
 
-/// The child's number.
+/// The child's number in a spawn's reply. Errors: the refusal.
 fn child_in(reply: Reply) -> Result<u64, Errno>
     ensures { result ≡ child_told reply }
 {
@@ -31,7 +31,7 @@ fn child_in(reply: Reply) -> Result<u64, Errno>
     }
 }
 
-/// The same of what came of the call.
+/// The child's number in the result of a spawn. Errors: the refusal, HistoryFull or NoMemory.
 fn spawned(made: Result<Made, Call>) -> Result<u64, Errno>
     ensures { result ≡ child_of made }
 {
@@ -43,7 +43,7 @@ fn spawned(made: Result<Made, Call>) -> Result<u64, Errno>
     }
 }
 
-/// The child's client, where there is a child.
+/// Builds the child's client if there is a child.
 fn child<N: Shape>(
     tie: &Tie<N, Account>,
     keeper: &mut Keeper<N, Account>,
@@ -73,9 +73,8 @@ impl<N: Shape> Desk<N> {
     ghost use Rattle.ll_laws.specs.declared.step.Step.TheVariants.{ClientStep};
     ghost use Rattle.ll_client.specs.Gains.{Gains, Told};
 
-    /// The client spawns a child: a client of its own, that has no entry yet and knows of all entries up to the spawn.
-    /// Errors: HistoryFull, EMFILE where as many clients were made as a tree may have, NoMemory. Only EMFILE has an
-    /// entry.
+    /// Spawns a child of the client. The child has no entry yet, and knows of all entries up to the spawn. Errors:
+    /// EMFILE if as many clients were made as a tree may have; HistoryFull; NoMemory. Only EMFILE has an entry.
     pub fn spawn(&mut self, tie: &Tie<N, Account>, me: &mut Client<N>) -> Result<Client<N>, Errno>
         ensures does { IfOk result (λ child. Answers self.old (ClientStep me.old.rider.number calls.Spawn)
             (Made.Replied (replies.Spawned child.rider.number)) self.new) }

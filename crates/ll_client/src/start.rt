@@ -1,4 +1,4 @@
-//! What becomes of a call that isn't on a descriptor.
+//! The start of a client's call that is on no descriptor.
 
 ghost use Rattle.std.specs.Prelude.{◌≡◌, ℕ, ◌≤◌, [], Some, length};
 ghost use Rattle.ll_rights.specs.declared.limits.TheConstants.{TREE_CLIENTS};
@@ -18,7 +18,7 @@ use crate::{Keeper, Pass, Tie};
 use ll_journal::{Journal, Made, Start};
 use ll_seq::Call;
 
-/// The last entry that the client knows of, where the history is so long.
+/// The client's last known entry after a start. `entries` is the history's length.
 fn seen_after_start(start: &Start, seen: u64, entries: u64) -> u64
     ensures { result ≡ seen_started start.now seen entries }
 {
@@ -29,7 +29,7 @@ fn seen_after_start(start: &Start, seen: u64, entries: u64) -> u64
     }
 }
 
-/// Whether memory ran out.
+/// Whether the call got NoMemory.
 fn starves_at_start(start: &Start) -> bool
     ensures { result ≡ starves_started start.now }
 {
@@ -42,7 +42,7 @@ fn starves_at_start(start: &Start) -> bool
     }
 }
 
-/// What becomes of the client's call in the journal. Where memory runs out for it, the client's wants tell so.
+/// Starts the client's call in the journal. If memory runs out, adds the call to the client's wants.
 fn start_call<N: Shape>(
     tie: &Tie<N, Account>,
     keeper: &mut Keeper<N, Account>,
@@ -77,9 +77,9 @@ fn start_call<N: Shape>(
 impl<N: Shape> Desk<N> {
     ghost use Rattle.ll_client.specs.Coming.{SetsOut};
 
-    /// The client's call is made and answered where it is one for the client alone; else it sets out, or comes back
-    /// where it may not. A call on a descriptor that the client has comes back. Only ruleset, confine and spawn take
-    /// memory. A child that is spawned so has no client here: `spawn` gives it.
+    /// Makes and answers the client's call if it is for the client alone; otherwise begins its walk. Gives the call
+    /// back if it may not begin, or is on a descriptor that the client has. Only ruleset, confine and spawn take
+    /// memory. For a child with a client of its own, use `spawn`.
     pub fn start(&mut self, tie: &Tie<N, Account>, me: &mut Rider<N>, call: Call) -> Start
         ensures starts { Starts self.old me.old.number call result self.new }
         ensures spares { Spares self.old self.new [] }

@@ -1,4 +1,4 @@
-//! The table, its keeper, and the two steps.
+//! The shared table of passes, its keeper, and the two operations on them.
 
 ghost use Rattle.std.specs.Prelude.{◌≡◌, ◌<◌, ℕ, None, Some, IsSome, IfSome, IsNone};
 ghost use Rattle.ll_rights.specs.Map.{empty, get, insert, remove};
@@ -11,7 +11,7 @@ use std::alloc::{AllocError, Global};
 use std::marker::{Brand, Model, PhantomData};
 use std::mem;
 
-/// Which table it is. One call of a program picks it.
+/// Names one table. A program picks the table in one call.
 pub trait Naming {
     ghost use Rattle.atomic_table.specs.Seated.{TableId};
 
@@ -24,7 +24,7 @@ impl Naming for Brand {
     ghost table = { no_table };
 }
 
-/// A table without a name, and without an entry. Contracts see it as the table's identity.
+/// An unnamed, empty table. Contracts see it as the table's identity.
 #[derive(Drop)]
 pub struct Blank<D> {
     table: Table<(), View<D>, (), Tied, Global>,
@@ -47,13 +47,13 @@ impl<D> Model for Blank<D> {
 }
 
 impl<D> Blank<D> {
-    /// Errors: no memory.
+    /// Creates an unnamed, empty table. Errors: memory ran out.
     pub fn new(alloc: Global) -> Result<Blank<D>, AllocError> {
         let (table, seat) = Table::of_words(alloc, &[0], &())?;
         Ok(Blank { table, seat })
     }
 
-    /// The table under its name, and the keeper of no entry.
+    /// Names the table. Returns it with the keeper of no entry.
     pub fn named<N: Naming>(self) -> (Tie<N, D>, Keeper<N, D>)
         requires { self ≡ N.table }
         ensures { result.1 ≡ empty }
@@ -64,7 +64,7 @@ impl<D> Blank<D> {
     }
 }
 
-/// The table, which all threads share.
+/// The table, shared by all threads.
 #[derive(Drop)]
 pub struct Tie<N: Naming, D> {
     table: Table<(), View<D>, (), Tied, Global>,
@@ -73,7 +73,7 @@ pub struct Tie<N: Naming, D> {
     ghost named: { table.shared.table_id ≡ N.table },
 }
 
-/// The token that knows every entry whose pass is out. It has no bytes. Contracts see it as the map of these entries.
+/// A token without bytes that knows every entry whose pass is out. Contracts see it as the map of these entries.
 #[derive(Drop)]
 pub struct Keeper<N: Naming, D> {
     seat: Seat<(), View<D>>,
@@ -99,7 +99,7 @@ impl<N: Naming, D> Model for Keeper<N, D> {
 }
 
 impl<N: Naming, D> Tie<N, D> {
-    /// Takes a pass back. The entry that it showed is the keeper's, who has it no more.
+    /// Takes a pass back. Its entry is the keeper's, and is removed from the keeper.
     pub fn take_back(&self, keeper: &mut Keeper<N, D>, pass: &mut Pass<N, D>)
         requires { IsSome pass.old }
         ensures shown { IfSome pass.old (λ entry. get keeper.old entry.0 ≡ Some entry.1) }
@@ -112,8 +112,8 @@ impl<N: Naming, D> Tie<N, D> {
         shared.load::<TakesBack>(&mut keeper.seat, 0);
     }
 
-    /// Gives out a pass that shows this value under a number that has no entry. The proof of the caller picks the
-    /// value, from what is lent for it, which nothing reads when it runs.
+    /// Gives out a pass that shows this value under a number that has no entry. The caller's proof picks the value,
+    /// from what `from` lends; nothing reads `from` when the program runs.
     pub fn give_out<A>(&self, keeper: &mut Keeper<N, D>, number: u64, from: &A) -> Pass<N, D>
         ghost value: { D }
         requires { get keeper.old number ≡ None }
@@ -124,7 +124,7 @@ impl<N: Naming, D> Tie<N, D> {
         self.show(keeper, number)
     }
 
-    /// The same of an entry. Its number is lent to be picked from.
+    /// Gives out a pass that shows this entry. `number` is lent so that the proof can pick the entry.
     fn show(&self, keeper: &mut Keeper<N, D>, number: u64) -> Pass<N, D>
         ghost entry: { ℕ × D }
         requires { get keeper.old entry.0 ≡ None }

@@ -1,8 +1,8 @@
-//! What a seat at the table knows.
+//! The view of a seat at the table.
 
 use std::marker::{Model, PhantomData};
 
-/// What a seat at the table knows. No value of it is made.
+/// What a seat at the table knows. No value of this type is created.
 pub struct View<D> {
     of: PhantomData<D>,
 }

@@ -1,5 +1,5 @@
-//! The steps of a walk, but for its end: each takes back the passes of the client and of the slots that it is lent,
-//! makes one step of the journal, and gives them out again.
+//! The steps of a walk before its end. Each takes back the passes of the client and of the lent slots, makes one step
+//! of the journal, and gives the passes out again.
 
 ghost use Rattle.std.specs.Prelude.{◌≡◌, ◌≢◌, ℕ, [], ◌∷◌, Some, IfErr, OnOk, OnErr};
 
@@ -19,7 +19,7 @@ impl<N: Shape> Desk<N> {
     ghost use Rattle.ll_laws.specs.World.{Begun, NotNow, advance};
     ghost use Rattle.ll_laws.specs.declared.step.Step.TheVariants.{Begin, Descend, Fork};
 
-    /// The client's call sets out, or comes back where it may not. Takes no memory.
+    /// Begins the walk of the client's call. Errors: the call, if it may not begin. Takes no memory.
     pub fn begin(
         &mut self,
         tie: &Tie<N, Account>,
@@ -47,7 +47,7 @@ impl<N: Shape> Desk<N> {
         begun
     }
 
-    /// The client's walk leaves what is common to both paths. Takes no memory and no slot.
+    /// Splits the client's walk into one leg for each of its two paths. Takes no memory and no slot.
     pub fn fork(&mut self, tie: &Tie<N, Account>, me: &mut Rider<N>) -> Progress
         ensures does { Does self.old (Fork me.old.number) result self.new }
         ensures spares { Spares self.old self.new [] }
@@ -67,7 +67,7 @@ impl<N: Shape> Desk<N> {
         outcome
     }
 
-    /// The first descent of the client's walk, to the root, for which the root's slot is lent. Takes no memory.
+    /// Makes the walk's first descent, to the root. The root's slot must be lent. Takes no memory.
     pub fn enter(
         &mut self,
         tie: &Tie<N, Account>,
@@ -113,8 +113,8 @@ impl<N: Shape> Desk<N> {
         outcome
     }
 
-    /// A descent of the client's walk: from the directory where its leg in turn stands, to that of the next name.
-    /// Takes no memory.
+    /// Makes a descent of the client's walk: from the current leg's directory to that of the next name. Takes no
+    /// memory.
     pub fn descend(
         &mut self,
         tie: &Tie<N, Account>,

@@ -1,4 +1,4 @@
-//! Want of memory: for which of a client's calls it ran out.
+//! A client's wants: its calls that got NoMemory.
 
 ghost use Rattle.std.specs.Prelude.{◌≡◌, ◌≢◌, ℕ, ◌≤◌, ◌+◌, ◌*◌, [], Some, None, true, if◌then◌else◌, List};
 ghost use Rattle.ll_rights.specs.declared.limits.TheConstants.{TREE_CLIENTS};
@@ -14,7 +14,7 @@ use crate::shape::Shape;
 use crate::{Keeper, Pass, Tie};
 use ll_journal::Journal;
 
-/// Gives out the first pass of a client's wants: for none of its calls memory ran out.
+/// Gives out the first pass of a client's wants, which shows no call.
 pub(crate) fn give_wants<N: Shape>(
     tie: &Tie<N, Account>,
     keeper: &mut Keeper<N, Account>,
@@ -33,7 +33,7 @@ pub(crate) fn give_wants<N: Shape>(
     tie.give_out(keeper, 3 * number + 2, &())
 }
 
-/// Takes back the pass of a client's wants, whatever the journal says of them.
+/// Takes back the pass of a client's wants, without any law of the journal about them.
 fn take_pass<N: Shape>(
     tie: &Tie<N, Account>,
     keeper: &mut Keeper<N, Account>,
@@ -67,7 +67,7 @@ pub(crate) fn take_wants<N: Shape>(
     take_pass(tie, keeper, number, wants);
 }
 
-/// Where memory ran out, the client's wants are these from now on.
+/// Sets the client's wants if memory ran out.
 pub(crate) fn note_want<N: Shape>(
     tie: &Tie<N, Account>,
     keeper: &mut Keeper<N, Account>,

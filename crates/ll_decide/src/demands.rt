@@ -1,4 +1,4 @@
-//! What a call asks of each layer, as sets of rights.
+//! The rights that a call needs, as sets.
 
 ghost use Rattle.std.specs.Prelude.{List, [], ◌∷◌, ◌++◌};
 ghost use Rattle.ll_decide.specs.Demands.{ask_on, move_on, AreAsks, AreMoves};
@@ -6,34 +6,34 @@ ghost use Rattle.ll_decide.specs.Verdict.{Ask, Move, when};
 
 use ll_rights::{Access, Right};
 
-/// On what a right is asked, of the one or two paths of a call.
+/// The node that a right is needed on, of a call's one or two paths.
 #[derive(Clone, Copy)]
 pub enum On {
-    /// The call's path, of two the first.
+    /// The node at the call's only path, or at the first of two.
     Itself,
 
-    /// The second path.
+    /// The node at the second path.
     Other,
 
-    /// The directory of the path of a call that has only one.
+    /// The parent directory of a call's only path.
     Parent,
 
-    /// The directory of the first path.
+    /// The parent directory of the first path.
     Left,
 
-    /// The directory of the second path.
+    /// The parent directory of the second path.
     Entered,
 }
 
-/// Which node comes into the other one's directory: the first path's, or the second path's.
+/// The direction of a move: the first path's node moves into the second path's directory, or the reverse.
 #[derive(Clone, Copy)]
 pub enum Way {
     There,
     Back,
 }
 
-/// The rights that a call asks, as a set for each thing that they are asked on; and for each way of moving
-/// the rights that mean something for what moves, none where nothing does.
+/// The rights that a call needs, as one set for each `On`; and, for each direction of moving, the rights that apply to
+/// the moved node (the empty set if nothing moves that way).
 #[derive(Clone, Copy)]
 pub struct Demands {
     pub itself: Access,
@@ -46,7 +46,7 @@ pub struct Demands {
 }
 
 impl Demands {
-    /// Nothing is asked, and nothing moves.
+    /// Returns demands that need no right and move nothing.
     pub fn none() -> Demands
         ensures asks { AreAsks result [] }
         ensures moves { AreMoves result [] }
@@ -62,7 +62,7 @@ impl Demands {
         }
     }
 
-    /// One right more is asked.
+    /// Adds one needed right.
     pub fn ask(self, on: On, right: Right) -> Demands
         ensures asks { (asks : List (Ask On)) → AreAsks self asks → AreAsks result (asks ++ ask_on on right ∷ []) }
         ensures moves { (moves : List (Move On)) → AreMoves self moves → AreMoves result moves }
@@ -92,7 +92,7 @@ impl Demands {
         }
     }
 
-    /// One right more is asked where the test says so.
+    /// Adds one needed right if the test holds.
     pub fn ask_if(self, test: bool, on: On, right: Right) -> Demands
         ensures asks { (asks : List (Ask On)) → AreAsks self asks
             → AreAsks result (asks ++ when test (ask_on on right ∷ [])) }
@@ -101,7 +101,7 @@ impl Demands {
         if test { self.ask(on, right) } else { self }
     }
 
-    /// A node moves for which these rights mean something.
+    /// Adds a moved node, to which these rights apply.
     pub fn moves(self, way: Way, relevant: Access) -> Demands
         ensures asks { (asks : List (Ask On)) → AreAsks self asks → AreAsks result asks }
         ensures moves { (moves : List (Move On)) → AreMoves self moves

@@ -8,8 +8,8 @@ ghost use Rattle.ll_decide.specs.declared.denial.Place.{Place};
 
 use ll_rights::{Errno, Right};
 
-/// Which of a call's paths a right was asked for: its only path, its old one or its new one.
-/// They stand in the order in which denials name them.
+/// Which of a call's paths a right was needed on: its only path, its old one or its new one. Variants are in the order
+/// in which a denial picks them.
 #[derive(Clone, Copy, Debug, PartialEq, Eq)]
 pub enum Place {
     At,
@@ -18,7 +18,7 @@ pub enum Place {
 }
 
 impl Place {
-    /// All places, in the order in which denials name them.
+    /// All places, in the order in which a denial picks them.
     pub(crate) const ALL: [Place; 3] = [Place::At, Place::Old, Place::New];
 
     pub fn text(self) -> &'static str
@@ -31,7 +31,7 @@ impl Place {
         }
     }
 
-    /// The place that a text names.
+    /// Parses a place's name.
     pub fn parse(text: &str) -> Option<Place>
         ensures found { IfSome result (λ place. text.now ≡ place_text place) }
         ensures none { IfNone result ((place : Place) → text.now ≢ place_text place) }
@@ -45,7 +45,7 @@ impl Place {
     }
 }
 
-/// Why policy denies a call: a right is missing, or the node would move across what the layer parts.
+/// Why a layer denies a call. EACCES: a right is missing. EXDEV: refer is missing, or a moved node would gain a right.
 #[derive(Clone, Copy, Debug, PartialEq, Eq)]
 pub enum Cause {
     EACCES,
@@ -62,7 +62,7 @@ impl Cause {
         }
     }
 
-    /// The cause that a text names by its errno.
+    /// Parses a cause from the name of its errno.
     pub fn parse(text: &str) -> Option<Cause>
         ensures found { IfSome result (λ cause. text.now ≡ errno_text (cause_errno cause)) }
         ensures none { IfNone result ((cause : Cause) → text.now ≢ errno_text (cause_errno cause)) }
@@ -75,7 +75,7 @@ impl Cause {
     }
 }
 
-/// What a layer denies. Layers are numbered from 1, the oldest.
+/// A denial by one layer. Layers are numbered from 1, the oldest.
 #[derive(Clone, Copy, Debug, PartialEq, Eq)]
 pub struct Denial {
     pub cause: Cause,

@@ -1,4 +1,4 @@
-//! The least denial of a call, by sets of rights.
+//! The search for the denial that a call reports: the least of all, by sets of rights.
 
 ghost use Rattle.std.specs.Prelude.{◌≡◌, ◌<◌, ℕ, ◌&&◌, not, true, false, List, [], ◌∷◌, length, slice_get, slice_index};
 ghost use Rattle.std.specs.List.{AllByRecursion, range_with_len};
@@ -18,8 +18,8 @@ use crate::denial::{Cause, Denial, Place};
 use crate::masks::Masks;
 use ll_rights::{Access, Right};
 
-/// For each layer the rights that it grants on each thing that a call asks on. The first path's directory is one,
-/// whether the call has a second path or not.
+/// For each layer, the rights that it grants on each thing that a call needs rights on. The first path's directory is
+/// always one of them, whether or not there is a second path.
 #[derive(Clone, Copy)]
 pub struct Granted<'a> {
     pub itself: &'a Masks,
@@ -28,18 +28,18 @@ pub struct Granted<'a> {
     pub entered: &'a Masks,
 }
 
-/// What a domain denies where a call demands this: of all denials the one that is told.
+/// Returns the denial that is reported for a call with these demands, or None if every layer allows it.
 pub fn least_denial(demands: &Demands, granted: &Granted<'_>) -> Option<Denial>
     requires other { length granted.now.other.now ≡ length granted.now.itself.now }
     requires parent { length granted.now.parent.now ≡ length granted.now.itself.now }
     requires entered { length granted.now.entered.now ≡ length granted.now.itself.now }
 
-    // The masks as they are handed in, with a layer kept as its number from 0.
+    // In terms of the masks passed in. A layer is numbered from 0 here.
     ensures by_masks { (asks : List (Ask asked_on.On)) (moves : List (Move asked_on.On)) → AreAsks demands.now asks
         → AreMoves demands.now moves
         → result ≡ verdict (grants_by granted.now) (range_with_len 0 (length granted.now.itself.now)) asks moves }
 
-    // The layers that they are masks of, and the chains of inodes that they are over.
+    // In terms of the layers behind the masks, and the inode chains that the masks cover.
     ensures along_chains { (domain : List Layer) (chain : asked_on.On → List ℕ) (asks : List (Ask asked_on.On))
         (moves : List (Move asked_on.On))
         → AreAsks demands.now asks → AreMoves demands.now moves → AreGranted domain chain granted.now
@@ -48,7 +48,7 @@ pub fn least_denial(demands: &Demands, granted: &Granted<'_>) -> Option<Denial>
     granted.least(demands)
 }
 
-/// All rights but refer, in the order of their numbers. A refer that is missing is told after these.
+/// All rights except refer, in the order of their numbers. A missing refer is reported after these.
 const BUT_REFER: [Right; 14] = [
     Right::EXECUTE,
     Right::WRITE_FILE,
@@ -66,14 +66,14 @@ const BUT_REFER: [Right; 14] = [
     Right::TRUNCATE,
 ];
 
-/// Why a layer denies a right: it is asked and not granted, or what moves would gain it.
+/// Why a layer denies a right: the right is needed and not granted, or the moved node would gain it.
 #[derive(Clone, Copy)]
 enum Reason {
     Lacks,
     Gains,
 }
 
-/// What one layer denies, as a set for each place.
+/// The rights that one layer denies, as one set for each place.
 #[derive(Clone, Copy)]
 struct Denied {
     at: Access,
@@ -114,7 +114,7 @@ impl Denied {
         None
     }
 
-    /// The least of these rights that is denied, in the least place.
+    /// The least of these rights that is denied, at the least place.
     fn first(self, cause: Cause, layer: u64, rights: &[Right]) -> Option<Denial>
         ensures { result ≡ slice_get (of_layer cause layer (is_in self) rights.now) 0 }
     {
@@ -130,7 +130,7 @@ impl Denied {
     }
 }
 
-/// Those of the rights that the layer doesn't grant.
+/// The rights that the layer doesn't grant, out of these.
 fn missing(rights: Access, masks: &Masks, layer: usize) -> Access
     requires { layer < length masks.now }
     ensures { (right : ℕ) → right < 15
@@ -140,7 +140,7 @@ fn missing(rights: Access, masks: &Masks, layer: usize) -> Access
     Access(rights.0 & !granted.0)
 }
 
-/// Those of the rights that the layer grants.
+/// The rights that the layer grants, out of these.
 fn had(rights: Access, masks: &Masks, layer: usize) -> Access
     requires { layer < length masks.now }
     ensures { (right : ℕ) → holds result.0 right ≡ (holds rights.0 right && holds (slice_index masks.now layer) right) }
@@ -149,7 +149,7 @@ fn had(rights: Access, masks: &Masks, layer: usize) -> Access
     Access(rights.0 & granted.0)
 }
 
-/// Whether no layer can deny anything for this reason: nothing is asked, or nothing moves.
+/// Whether no layer can deny anything for this reason, because no right is needed or nothing moves.
 fn demands_nothing(demands: &Demands, reason: Reason) -> bool
     ensures { result ≡ true → (g : granted_of.Granted) (layer right : ℕ) (place : told_at.Place)
         → fails g demands.now reason layer right place ≡ false }
@@ -166,7 +166,7 @@ fn demands_nothing(demands: &Demands, reason: Reason) -> bool
     }
 }
 
-/// Whether refer is asked of anything.
+/// Whether refer is needed on anything.
 fn asks_refer(demands: &Demands) -> bool
     ensures { result ≡ false → (g : granted_of.Granted) (layer : ℕ) (place : told_at.Place)
         → fails g demands.now Reason.Lacks layer refer place ≡ false }
@@ -230,7 +230,7 @@ impl Granted<'_> {
         }
     }
 
-    /// The oldest layer's least denial.
+    /// The least denial of the oldest layer that denies something.
     fn first(
         &self,
         demands: &Demands,
@@ -256,7 +256,7 @@ impl Granted<'_> {
         None
     }
 
-    /// The oldest layer's missing refer.
+    /// The denial of the oldest layer that lacks a needed refer.
     fn first_refer(&self, demands: &Demands) -> Option<Denial>
         requires other { length self.now.other.now ≡ length self.now.itself.now }
         requires parent { length self.now.parent.now ≡ length self.now.itself.now }

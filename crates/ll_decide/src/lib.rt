@@ -1,5 +1,5 @@
-//! Denials, and which of all that a domain denies is told: what a call demands as sets of rights, what each layer
-//! grants as masks, and the search for the least denial.
+//! The decision of a domain: the rights that a call needs as sets, the rights that each layer grants as masks, and the
+//! search for the denial to report.
 #![tactic(auto)]
 
 mod demands;

@@ -1,4 +1,4 @@
-//! Masks: one set of rights for each layer, carried down a path.
+//! Masks: one set of granted rights for each layer, updated name by name down a path.
 
 ghost use Rattle.std.specs.Prelude.{◌≡◌, ℕ, ◌<◌, ◌^◌, List, [], ◌∷◌, ◌++◌, length, slice_get, Some};
 ghost use Rattle.ll_decide.specs.Masks.{IsMask, AreMasks};
@@ -10,11 +10,11 @@ use smallvec::SmallVec;
 use std::alloc::Global;
 use std::marker::Model;
 
-/// For each layer of a domain, the oldest first, the set of the rights that it grants on a chain of
-/// inodes. Contracts see the sets as numbers. It takes no memory.
+/// For each layer of a domain, the oldest first, the rights that it grants on a chain of inodes. Contracts see the sets
+/// as numbers. Takes no memory.
 #[derive(Drop)]
 pub struct Masks {
-    // A known right has a number below 16.
+    // Every known right has a number below 16.
     sets: SmallVec<u16, DOMAIN_LAYERS>,
 }
 
@@ -26,13 +26,13 @@ impl Model for Masks {
 
     ghost view = { λ masks. masks.sets.items };
 
-    // All stand in the inline places.
+    // All sets fit into the inline storage.
     ghost invariant = { λ masks. (length masks.sets.items ≤ DOMAIN_LAYERS) × (masks.sets.capacity ≡ DOMAIN_LAYERS) };
 }
 
 const ROOT: u64 = 1;
 
-/// What the layer grants on every path: the rights that it doesn't restrict.
+/// Returns the rights that the layer grants on every path: all but those it handles and refer.
 pub fn unrestricted(layer: &Layer) -> Access
     ensures { IsMask result.0 layer.now [] }
 {
@@ -41,7 +41,7 @@ pub fn unrestricted(layer: &Layer) -> Access
 }
 
 impl Masks {
-    /// The masks of no layer.
+    /// Returns the masks of no layers.
     pub fn empty(alloc: Global) -> Masks
         ensures { result ≡ [] }
     {
@@ -50,7 +50,7 @@ impl Masks {
         }
     }
 
-    /// What the next newer layer grants: known rights alone.
+    /// Appends the mask of the next newer layer. Only known rights are kept.
     pub fn push(&mut self, rights: Access)
         requires few { length self.old < DOMAIN_LAYERS }
         requires known { rights.0 < 2 ^ 15 }
@@ -59,7 +59,7 @@ impl Masks {
         self.sets.push_reserved(rights.0 as u16);
     }
 
-    /// The masks over the chain of the root alone, which is inode 1.
+    /// Returns the masks over the chain of the root alone (inode 1).
     pub fn root(alloc: Global, domain: &Domain) -> Masks
         ensures masks { AreMasks result domain.now (1 ∷ []) }
         ensures len { length result ≡ length domain.now }
@@ -69,11 +69,11 @@ impl Masks {
         masks
     }
 
-    // over no inode
+    // The masks over the empty chain.
     fn start(alloc: Global, domain: &Domain) -> Masks
         ensures { AreMasks result domain.now [] }
     {
-        // There is a place for each layer.
+        // The inline storage has a place for each layer.
         prove!(domain.len() <= DOMAIN_LAYERS);
         let mut masks = Masks::empty(alloc);
         for layer in domain.layers() {
@@ -82,7 +82,7 @@ impl Masks {
         masks
     }
 
-    /// The same over the chain with one inode more at its end.
+    /// Appends an inode to the chain and updates each layer's mask.
     pub fn down(&mut self, domain: &Domain, inode: u64)
         requires { length self.old ≡ length domain.now }
         ensures masks { (inodes : List ℕ) → AreMasks self.old domain.now inodes
@@ -92,7 +92,7 @@ impl Masks {
         add_rules(self.sets.as_mut_slice(), domain.layers(), inode);
     }
 
-    /// The same masks again.
+    /// Returns a copy. Takes no memory.
     #[inline(always)]
     pub fn copy(&self) -> Masks
         ensures { result ≡ self.now }
@@ -107,14 +107,14 @@ impl Masks {
         Masks { sets }
     }
 
-    /// How many layers there are.
+    /// Returns the number of layers.
     pub fn len(&self) -> usize
         ensures { result ≡ length self.now }
     {
         self.sets.len()
     }
 
-    /// What a layer grants; the oldest is 0.
+    /// Returns what a layer grants. Layers are numbered from 0 here, the oldest.
     pub fn layer(&self, number: usize) -> Access
         requires { number < length self.now }
         ensures { slice_get self.now number ≡ Some result.0 }
@@ -123,7 +123,7 @@ impl Masks {
     }
 }
 
-// the mask over the chain with one inode more
+// The layer's mask after one more inode.
 fn with_rule(mask: u16, layer: &Layer, inode: u64) -> u16
     ensures { (inodes : List ℕ) → IsMask mask layer.now inodes → IsMask result layer.now (inodes ++ inode ∷ []) }
 {
@@ -131,7 +131,7 @@ fn with_rule(mask: u16, layer: &Layer, inode: u64) -> u16
     mask | granted as u16
 }
 
-// each mask over the chain with one inode more
+// Updates every layer's mask for one more inode.
 fn add_rules(masks: &mut [u16], layers: &[Layer], inode: u64)
     requires { length masks.old ≡ length layers.now }
     ensures masks { (inodes : List ℕ) → AreMasks masks.old layers.now inodes

@@ -1,4 +1,4 @@
-//! A client's calls for itself alone: those that need no node, as they concern its record, or are refused early.
+//! Calls for the client alone, which need no node: they concern its own record, or are refused early.
 
 ghost use Rattle.std.specs.Prelude.{◌≡◌, ◌≢◌, ◌<◌, None, Some, slice_get, IfOk, OnErr, option_map, if◌then◌else◌};
 ghost use Rattle.ll_rights.specs.Map.{has};
@@ -15,11 +15,11 @@ use std::alloc::{AllocError, Global};
 /// A call on the client's record.
 #[derive(Clone, Copy)]
 pub(crate) enum RecordCall {
-    /// A new ruleset that handles these rights.
+    /// Create a ruleset that handles these rights.
     Ruleset(Access),
-    /// The ruleset of this number becomes the newest layer.
+    /// Enforce the ruleset of this number.
     Confine(u64),
-    /// Nothing, as an early stage refuses the call.
+    /// Do nothing: an early check refuses the call.
     Refused(Errno),
 }
 
@@ -30,7 +30,7 @@ pub(crate) enum Own {
     OnRecord(RecordCall),
 }
 
-/// The refusal, where there is one.
+/// The refusal as a call for the client alone, if there is one.
 fn refused(refusal: Option<Errno>) -> Option<Own>
     ensures { result ≡ option_map (λ errno. Own.OnRecord (RecordCall.Refused errno)) refusal }
 {
@@ -40,7 +40,7 @@ fn refused(refusal: Option<Errno>) -> Option<Own>
     }
 }
 
-/// The early refusal if the client lacks the descriptor; else None.
+/// The early refusal if the client lacks the descriptor; otherwise None.
 fn unheld(caller: &ClientRecord, call: &Call, number: u64) -> Option<Own>
     ensures { result ≡ (if has caller.now.descriptors number then None
         else option_map (λ errno. Own.OnRecord (RecordCall.Refused errno))
@@ -52,7 +52,7 @@ fn unheld(caller: &ClientRecord, call: &Call, number: u64) -> Option<Own>
     refused(refused_early(caller, call))
 }
 
-/// The call as one for the client alone, if it is one.
+/// Classifies the call: Some if it is for the client alone.
 pub(crate) fn own_call(caller: &ClientRecord, call: &Call) -> Option<Own>
     ensures { IsOwn caller.now call.now result }
 {
@@ -81,7 +81,7 @@ pub(crate) fn own_call(caller: &ClientRecord, call: &Call) -> Option<Own>
     }
 }
 
-/// The reply, unless memory ran out.
+/// The refusal as a reply. Errors: it is NoMemory, which gets no entry.
 pub(crate) fn refusal(alloc: Global, errno: Errno) -> Result<ReplyPair, AllocError>
     ensures ok { IfOk result (λ reply. (errno ≢ Errno.NoMemory) × (reply ≡ replies.Refused errno)) }
     ensures err { OnErr result (errno ≡ Errno.NoMemory) }
@@ -92,7 +92,7 @@ pub(crate) fn refusal(alloc: Global, errno: Errno) -> Result<ReplyPair, AllocErr
     ReplyPair::new(alloc, Reply::Refused(errno))
 }
 
-/// A new ruleset, or its refusal.
+/// Creates a ruleset. Returns its reply or its refusal.
 fn create_ruleset(
     client: &mut ClientRecord,
     alloc: Global,
@@ -110,7 +110,7 @@ fn create_ruleset(
     }
 }
 
-/// The client is under one layer more, or the refusal.
+/// Enforces a ruleset. Returns success or its refusal.
 fn confine(client: &mut ClientRecord, alloc: Global, number: u64) -> Result<ReplyPair, AllocError>
     ensures ok { IfOk result (λ reply. (abi : Abi)
         → Comes abi client.old (RecordCall.Confine number) reply client.new) }
@@ -127,7 +127,7 @@ fn confine(client: &mut ClientRecord, alloc: Global, number: u64) -> Result<Repl
     }
 }
 
-/// The reply, after the call has been made. Errors: memory ran out, and nothing has changed.
+/// Makes the call and returns its reply. Errors: memory ran out, and nothing has changed.
 pub(crate) fn answer(
     client: &mut ClientRecord,
     alloc: Global,

@@ -1,4 +1,4 @@
-//! Whether a walk may be answered, and for what: seen from what is lent.
+//! Checks whether a walk may be answered, and with what, given the lent slots.
 
 ghost use Rattle.std.specs.Prelude.{◌≡◌, ◌==◌, ◌||◌, ◌&&◌, ℕ, Bool, List, true, not, nat_le, slice_index_or};
 ghost use Rattle.std.specs.List.{list_all};
@@ -26,19 +26,19 @@ use ll_path::Target;
 use ll_rights::Errno;
 use ll_seq::{Call, Found, Spot, Targets, targets_of};
 
-/// Why a commit isn't made, or that it may be.
+/// The result of checking a commit.
 #[derive(Clone, Copy)]
 pub(crate) enum Stop {
     NotNow,
     /// Other slots are lent than the commit may need.
     Astray,
-    /// The leg in turn can't go on, which is refused so.
+    /// The walk can't go on: its call is refused with this errno.
     Blocked(Errno),
-    /// Each branch is at its end. What is found there lies in the caller's place for it.
+    /// Each leg is at its end. What was found there has been written to the caller's place.
     Reached,
 }
 
-/// Nothing is found.
+/// A placeholder for what is found.
 pub(crate) const NOTHING: Found = Found {
     first: NOWHERE,
     second: NOWHERE,
@@ -52,7 +52,7 @@ const NOWHERE: Spot = Spot {
     there: None,
 };
 
-/// With this name ahead of the leg in turn, which stands here.
+/// Checks a walk whose current leg is in `here` with this name ahead.
 fn check_before(table: &Inodes, lent: &[Held], here: u64, name: &str) -> Stop
     ensures { (found : Found) → checks.StopsBefore table.now.facts lent.now here name.now (check_of result found) }
 {
@@ -65,8 +65,8 @@ fn check_before(table: &Inodes, lent: &[Held], here: u64, name: &str) -> Stop
     }
 }
 
-/// The node that the call may change or tell of besides the directories of its paths, or 0, where its one path or its
-/// second has its last name here.
+/// The node that the call may change or report, other than the directories of its paths; 0 if none. `last` is the spot
+/// of its one path, or of its second.
 pub(crate) fn node_at(call: &Call, last: &Spot) -> u64
     ensures first { result ≡ slice_index_or (near.nodes_of call.now (checks.found_last last.now)) 0 0 }
     ensures alone { (p : ℕ → Bool) → p 0 ≡ true
@@ -88,7 +88,7 @@ pub(crate) fn node_at(call: &Call, last: &Spot) -> u64
     }
 }
 
-/// Whether the call may make a node, where its one path or its second has its last name here.
+/// Whether the call may create a node. `last` is the spot of its one path, or of its second.
 pub(crate) fn may_make_at(call: &Call, last: &Spot) -> bool
     ensures { result ≡ near.may_make call.now (checks.found_last last.now) }
 {
@@ -103,7 +103,7 @@ pub(crate) fn may_make_at(call: &Call, last: &Spot) -> bool
     }
 }
 
-/// Where the last name of the call's one path stands, or that of its second.
+/// The spot of the call's one path, or of its second.
 fn last_of<'a>(call: &Call, found: &'a Found) -> &'a Spot
     ensures { result.now ≡ checks.last_found call.now found.now }
 {
@@ -114,7 +114,7 @@ fn last_of<'a>(call: &Call, found: &'a Found) -> &'a Spot
     }
 }
 
-/// The node besides the directories of its paths that the call may change or tell of, or 0.
+/// The node that the call may change or report, other than the directories of its paths; 0 if none.
 pub(crate) fn other_node(call: &Call, found: &Found) -> u64
     ensures first { result ≡ slice_index_or (near.nodes_of call.now found.now) 0 0 }
     ensures alone { (p : ℕ → Bool) → p 0 ≡ true → list_all p (near.nodes_of call.now found.now) ≡ p result }
@@ -122,7 +122,7 @@ pub(crate) fn other_node(call: &Call, found: &Found) -> u64
     node_at(call, last_of(call, found))
 }
 
-/// Whether the call may make a node.
+/// Whether the call may create a node.
 fn may_make(call: &Call, found: &Found) -> bool
     ensures { result ≡ near.may_make call.now found.now }
 {
@@ -143,7 +143,7 @@ fn is_spare_lent(slots: &[u64], spare: u64, call: &Call, found: &Found) -> bool
     !may_make(call, found) || is_in(slots, spare)
 }
 
-/// Whether the slots besides those of directories are there which the call may need.
+/// Whether the slots that the call may need, other than those of directories, are lent.
 #[inline(always)]
 fn is_enough(slots: &[u64], lent: &[Held], spare: u64, call: &Call, found: &Found) -> bool
     ensures { result ≡ checks.is_enough slots.now lent.now spare call.now found.now }
@@ -151,8 +151,8 @@ fn is_enough(slots: &[u64], lent: &[Held], spare: u64, call: &Call, found: &Foun
     is_other_lent(lent, call, found) && is_spare_lent(slots, spare, call, found)
 }
 
-/// What is seen of a journal where a walk has ended: all seats, the table of inodes, how many nodes may live, and the
-/// slots that are lent.
+/// The parts of a journal that a commit looks at: all seats, the table of inodes, the limit of live nodes, and the lent
+/// slots.
 #[derive(Clone, Copy)]
 pub(crate) struct Sight<'a> {
     pub seats: &'a [Seat],
@@ -171,7 +171,7 @@ fn is_root(target: &Target) -> bool
     }
 }
 
-/// Whether the first path is the root's, and the second one.
+/// Whether the first path is the root, and whether the second is.
 pub(crate) fn are_roots(call: &Call) -> (bool, bool)
     ensures first { result.0 ≡ paths.is_root (first_path call.now) }
     ensures second { result.1 ≡ paths.is_root (second_path call.now) }
@@ -183,7 +183,7 @@ pub(crate) fn are_roots(call: &Call) -> (bool, bool)
     }
 }
 
-/// Whether another client's walk stands in the node under the last name.
+/// Whether another client's walk has marked the node under the last name.
 pub(crate) fn is_marked_at(seats: &[Seat], client: u64, is_root: bool, spot: &Spot) -> bool
     ensures { (w : world.World) (path : Path) → w.walks ≡ walks_from 1 seats.now → is_root ≡ paths.is_root path
         → result ≡ checks.is_marked_at (world.is_marked_by_other w client) path spot.now }
@@ -207,7 +207,7 @@ fn is_marked_there(seats: &[Seat], client: u64, call: &Call, found: &Found) -> b
         || is_marked_at(seats, client, second, &found.second)
 }
 
-/// With this found at the ends.
+/// Checks a walk at its ends, given what was found there.
 #[inline(always)]
 fn check_there(sight: &Sight<'_>, client: u64, spare: u64, call: &Call, found: &Found) -> Stop
     ensures { (w : world.World) → w.walks ≡ walks_from 1 sight.now.seats.now
@@ -223,7 +223,7 @@ fn check_there(sight: &Sight<'_>, client: u64, spare: u64, call: &Call, found: &
     }
 }
 
-/// With the legs of both paths at their ends, in these directories. What is found there goes into the caller's place.
+/// Checks a walk whose two legs are at their ends in these directories. Writes what is found there into `into`.
 fn check_between(
     sight: &Sight<'_>,
     client: u64,
@@ -259,7 +259,7 @@ fn check_between(
     check_there(sight, client, spare, call, into)
 }
 
-/// With no name ahead of the leg in turn. What is found at the ends goes into the caller's place.
+/// Checks a walk with no name ahead. Writes what is found at its ends into `into`.
 fn check_at_ends(sight: &Sight<'_>, client: u64, seat: &Seat, into: &mut Found) -> Stop
     ensures { (w : world.World) (s : State) (spares : List ℕ) → w.walks ≡ walks_from 1 sight.now.seats.now
         → IsTable s spares sight.now.table.now
@@ -279,7 +279,7 @@ fn check_at_ends(sight: &Sight<'_>, client: u64, seat: &Seat, into: &mut Found) 
     check_between(sight, client, seat.spare(), call, first, second, into)
 }
 
-/// Whether the client's walk may be answered. What is found at its ends goes into the caller's place.
+/// Checks whether the client's walk may be answered. Writes what is found at its ends into `into`.
 pub(crate) fn check_commit(sight: &Sight<'_>, client: u64, seat: &Seat, into: &mut Found) -> Stop
     ensures { (w : world.World) (s : State) (spares : List ℕ) → w.walks ≡ walks_from 1 sight.now.seats.now
         → IsTable s spares sight.now.table.now

@@ -1,4 +1,4 @@
-//! Whether a step may be made, seen from what is lent.
+//! Checks whether a step may be made, given the lent slots.
 
 ghost use Rattle.std.specs.Prelude.{◌≡◌, ◌==◌, true, Some};
 ghost use Rattle.std.specs.Option.{option_map_or};
@@ -13,7 +13,7 @@ use crate::seat::Seat;
 use ll_node::{Held, Inodes};
 use ll_seq::{Call, ROOT};
 
-/// What is found: the step may be made; or not now; or it is lent other slots than it names.
+/// The result of a check: the step may be made; it isn't enabled; or other slots are lent than it names.
 #[derive(Clone, Copy)]
 pub(crate) enum StepCheck {
     NotNow,
@@ -21,7 +21,7 @@ pub(crate) enum StepCheck {
     Go,
 }
 
-/// Whether the client may hold the gate that is held so.
+/// Whether the client may take the gate, given its holder.
 fn may_hold(gate: Option<u64>, client: u64) -> bool
     ensures { result ≡ option_map_or (λ holder. holder == client) gate true }
 {
@@ -31,7 +31,7 @@ fn may_hold(gate: Option<u64>, client: u64) -> bool
     }
 }
 
-/// Of the first descent, to the root.
+/// Checks the first descent, to the root.
 pub(crate) fn check_enter(seat: &Seat, gate: Option<u64>, client: u64, root: &Held) -> StepCheck
     ensures { result ≡ checks.check_enter seat.now gate client root.now }
 {
@@ -57,7 +57,7 @@ fn is_directory(table: &Inodes, inode: u64) -> bool
     }
 }
 
-/// Of a descent to what the name names.
+/// Checks a descent to the inode found under the name.
 fn check_into(table: &Inodes, found: Option<u64>, to: &Held) -> StepCheck
     ensures { result ≡ checks.check_into table.now.facts found to.now }
 {
@@ -86,7 +86,7 @@ fn check_next(table: &Inodes, seat: &Seat, from: &Held, to: &Held) -> StepCheck
     }
 }
 
-/// Of a descent from one directory to the next.
+/// Checks a descent from one directory to the next.
 pub(crate) fn check_descend(table: &Inodes, seat: &Seat, from: &Held, to: &Held) -> StepCheck
     ensures { result ≡ checks.check_descend table.now.facts seat.now from.now to.now }
 {
@@ -99,7 +99,7 @@ pub(crate) fn check_descend(table: &Inodes, seat: &Seat, from: &Held, to: &Held)
     }
 }
 
-/// Of the same descent, where the next name is known to stand for this inode.
+/// Checks a descent whose next name is known to name this inode.
 fn check_known(table: &Inodes, seat: &Seat, from: &Held, to: &Held, inode: u64) -> StepCheck
     requires { (name : Name) × (next_in seat.now ≡ Some name) × (get from.now.node.names name ≡ Some inode) }
     ensures { result ≡ checks.check_descend table.now.facts seat.now from.now to.now }
@@ -113,8 +113,8 @@ fn check_known(table: &Inodes, seat: &Seat, from: &Held, to: &Held, inode: u64) 
     }
 }
 
-/// Of the same descent, where the name at this depth of the call's first path is known to stand for this inode: if that
-/// is the next name, it isn't looked up.
+/// Checks a descent with a hint: the name at this depth of the call's first path names this inode. If that is the next
+/// name, it isn't looked up.
 pub(crate) fn check_onward(
     table: &Inodes,
     seat: &Seat,
@@ -131,7 +131,7 @@ pub(crate) fn check_onward(
     }
 }
 
-/// Of a new start, where this is lent.
+/// Checks a restart, given the lent slots.
 pub(crate) fn check_restart(seat: &Seat, lent: &[Held]) -> StepCheck
     ensures { result ≡ checks.check_restart lent.now seat.now }
 {
@@ -163,7 +163,7 @@ fn directory_for(table: &Inodes, seat: &Seat, from: &Held) -> Option<u64>
     }
 }
 
-/// The directory to which the walk would go down from here, if it stands here.
+/// The directory to which the walk would descend from here, if its current leg is here.
 #[inline(always)]
 pub(crate) fn directory_below(table: &Inodes, seat: &Seat, from: &Held) -> Option<u64>
     ensures { result ≡ checks.directory_below table.now.facts seat.now from.now }

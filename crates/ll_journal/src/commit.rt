@@ -1,4 +1,4 @@
-//! The commit of a walk: its call is answered.
+//! The commit of a walk, which answers its call.
 
 ghost use Rattle.std.specs.Prelude.{◌≡◌, ◌≢◌, ◌<◌, ℕ, List, suc, true, length, map, Some};
 ghost use Rattle.ll_rights.specs.Map.{get};
@@ -23,7 +23,7 @@ impl Journal {
     ghost use Rattle.ll_journal.specs.CommitCheck.{check_of};
     ghost use Rattle.ll_journal.specs.Stopped.{IsBlockedEnd, IsReachedEnd, IsStop};
 
-    /// The walk of the client at the place ends, and with it its marks.
+    /// Ends the walk of the client at this index, and removes its marks.
     #[inline(always)]
     pub(crate) fn end_walk(&mut self, place: usize, client: u64, lent: &mut [Held]) -> Ended
         requires numbered { client ≡ suc place }
@@ -45,7 +45,8 @@ impl Journal {
         seat.end()
     }
 
-    /// Whether the walk of the client at the place may be answered, and for what: that goes into the caller's place.
+    /// Checks whether the walk of the client at this index may be answered. Writes what is found at its ends into
+    /// `into`.
     fn check_end(
         &self,
         place: usize,
@@ -69,7 +70,7 @@ impl Journal {
         check_commit(&sight, client, &self.seats[place], into)
     }
 
-    /// The walk can't go on: its call is refused so.
+    /// Refuses the call of a walk that can't go on.
     fn refuse(
         &mut self,
         place: usize,
@@ -103,7 +104,7 @@ impl Journal {
         Ending::Replied(Reply::Refused(errno))
     }
 
-    /// Each branch is at its end: the walk's call is decided and made.
+    /// Decides and makes the call of a walk whose legs are at their ends.
     fn answer(
         &mut self,
         place: usize,
@@ -146,9 +147,9 @@ impl Journal {
         Ending::Replied(copy)
     }
 
-    /// The client's walk is answered. What is lent lies in these slots: those of the directories where the walk stands,
-    /// of the node that the call may change or tell of, and the client's spare slot if the call would make a node. The
-    /// walk ends in any case but the first two; only calls that add something take memory.
+    /// Answers the client's walk. `lent` holds the contents of `slots`: those of the directories that the walk has
+    /// marked, of the node that the call may change or report, and the client's spare slot if the call would create a
+    /// node. The walk ends unless the result is NotNow or Astray. Only calls that add something take memory.
     pub fn commit(&mut self, client: u64, slots: &[u64], lent: &mut [Held]) -> Ending
         requires distinct { AreDistinct slots.now }
         requires lent { lent.old ≡ map (slot_of self.old) slots.now }

@@ -1,4 +1,4 @@
-//! What a commit decides: what the call of a walk that has ended comes to, what is told, and whose walks are stale.
+//! The decision of a commit: the effect of a call whose walk has ended, its reply, and which walks become stale.
 
 ghost use Rattle.std.specs.Prelude.{◌≡◌, ◌≢◌, ◌==◌, ℕ, true, List, [], ◌∷◌, ◌++◌, None, length, filter, map};
 ghost use Rattle.std.specs.Prelude.{option_map, option_to_list, slice_index_or, is_ok, if◌then◌else◌, Option, IfOk};
@@ -39,7 +39,7 @@ use ll_seq::{
 };
 use std::alloc::{AllocError, Global};
 
-/// What is granted on the path that the word spells, by what is granted on its parent.
+/// What is granted on the path argument, given what is granted on its parent.
 #[inline(always)]
 fn granted_on(domain: &Domain, target: &Target, spot: &Spot, masks: &Masks) -> Masks
     requires { length masks.now ≡ length domain.now }
@@ -69,7 +69,7 @@ fn granted_on_first(domain: &Domain, call: &Call, spot: &Spot, masks: &Masks) ->
     }
 }
 
-/// What the call of the walk, which has ended where this was found, comes to where this is granted on its paths.
+/// Decides the call of an ended walk, given what was found and the rights granted on its paths.
 fn decide_granted<'a>(
     caller: &ClientRecord,
     walk: &'a Ended,
@@ -100,7 +100,7 @@ fn decide_granted<'a>(
     decide_passed(caller, &walk.call, found, &granted)
 }
 
-/// What the call of the walk, which has ended where this was found, comes to.
+/// Decides the call of an ended walk, given what was found.
 pub(crate) fn decide_end<'a>(
     caller: &ClientRecord,
     walk: &'a Ended,
@@ -126,7 +126,7 @@ pub(crate) fn decide_end<'a>(
     }
 }
 
-/// The slot where the inode lies, if it is lent.
+/// The contents of the slot that holds the inode, if it is lent.
 fn held_in(lent: &[Held], inode: u64) -> Option<&Held>
     ensures { (s : State) → Lends s lent.now inode → MatchOption result ⊥ (λ held. HasContent s inode held.now) }
 {
@@ -136,7 +136,7 @@ fn held_in(lent: &[Held], inode: u64) -> Option<&Held>
     }
 }
 
-/// How many bytes the node has. A directory has none.
+/// The number of bytes in the node: 0 for a directory.
 fn byte_count(held: &Held) -> u64
     ensures { result ≡ length held.now.node.bytes }
 {
@@ -147,7 +147,7 @@ fn byte_count(held: &Held) -> u64
     }
 }
 
-/// The same of the node that is lent.
+/// The number of bytes in the lent node.
 fn size_of_lent(lent: &[Held], inode: u64) -> u64
     ensures { (s : State) → Lends s lent.now inode → result ≡ length (bytes_of s inode) }
 {
@@ -157,7 +157,7 @@ fn size_of_lent(lent: &[Held], inode: u64) -> u64
     }
 }
 
-/// The names in the directory that is lent.
+/// The names in the lent directory. Errors: memory ran out.
 fn names_of_lent(lent: &[Held], inode: u64, alloc: Global) -> Result<Listing, AllocError>
     ensures { (s : State) → Lends s lent.now inode → IfOk result (λ names. names ≡ names_in s inode) }
 {
@@ -167,7 +167,7 @@ fn names_of_lent(lent: &[Held], inode: u64, alloc: Global) -> Result<Listing, Al
     }
 }
 
-/// The reply that tells the answer, of the node that is lent. Errors: memory ran out; never for a short answer.
+/// Builds the reply from the answer and the lent node. Errors: memory ran out, only if the reply holds a list.
 pub(crate) fn tell(
     answer: Answer,
     table: &Inodes,
@@ -192,7 +192,7 @@ pub(crate) fn tell(
     }
 }
 
-/// The directories that a call moves: at most that of each path.
+/// The directories that a call moves: at most one for each path.
 #[derive(Clone, Copy)]
 pub(crate) struct Moved {
     pub(crate) first: Option<u64>,
@@ -204,7 +204,7 @@ const NOTHING_MOVED: Moved = Moved {
     second: None,
 };
 
-/// Whether the second path names the first one's node already.
+/// Whether both paths name one node.
 fn is_same_node(found: &Found) -> bool
     ensures { (s : State) (old new : Path) → Stands s old found.now.first → Stands s new found.now.second
         → result ≡ world.is_same_node s old new }
@@ -226,7 +226,7 @@ fn directory_there(spot: &Spot) -> Option<u64>
     }
 }
 
-/// The directories that the call moves where it is done.
+/// The directories that the call moves if it succeeds.
 fn moved_where_done(call: &Call, found: &Found) -> Moved
     ensures { (s : State) → Stands s (first_path call.now) found.now.first
         → Stands s (second_path call.now) found.now.second → kind_of s 0 ≡ None
@@ -250,7 +250,7 @@ fn moved_where_done(call: &Call, found: &Found) -> Moved
     }
 }
 
-/// The directories that the call moves, where it is so answered. No node has the inode 0.
+/// The directories that the call moves, given its reply. No node has inode 0.
 pub(crate) fn moved_by(call: &Call, found: &Found, reply: &Reply) -> Moved
     ensures { (s : State) → AreFacts s call.now found.now → found.now.first.way ≡ None → found.now.second.way ≡ None
         → kind_of s 0 ≡ None
@@ -262,7 +262,7 @@ pub(crate) fn moved_by(call: &Call, found: &Found, reply: &Reply) -> Moved
     }
 }
 
-/// Every walk that passes one of these is stale.
+/// Makes every walk through one of these directories stale.
 pub(crate) fn overtake_moved(seats: &mut Vec<Seat>, moved: Moved)
     ensures { seats.new.items ≡ map
         (λ (seat : book.Seat). record seat { walk = option_map (world.overtaken (moved_list moved)) seat.walk })

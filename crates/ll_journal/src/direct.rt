@@ -1,4 +1,4 @@
-//! The calls that don't walk: a client's on itself, and the coming of clients.
+//! Calls that don't walk: those on the client's record, and new clients.
 
 ghost use Rattle.std.specs.Prelude.{◌≡◌, ◌≢◌, ℕ, ◌+◌, ◌<◌, [], ◌∷◌, ◌++◌, None, length, Ok, Err, IfOk, IfErr, OnOk};
 ghost use Rattle.std.specs.Prelude.{OnErr};
@@ -18,18 +18,18 @@ use ll_rights::limits::TREE_CLIENTS;
 use ll_seq::{Call, ClientRecord, Entry, History, Reply, Rules};
 use std::alloc::{AllocError, Global};
 
-/// What comes of a call that doesn't walk.
+/// The result of a call that doesn't walk.
 #[derive(Drop)]
 pub enum Made {
-    /// The reply is that of the history's last entry.
+    /// The reply is in the history's last entry.
     Replied(Reply),
-    /// The history takes no more entry. Nothing has changed.
+    /// The history is full. Nothing has changed.
     HistoryFull,
     /// Memory ran out. Nothing has changed.
     NoMemory,
 }
 
-/// The client gets the next number, and a seat; the last of the free slots is its spare.
+/// Adds a client with the next number, a seat, and the last free slot as its spare.
 fn seat_client(
     seats: &mut Vec<Seat>,
     table: &mut Inodes,
@@ -50,7 +50,7 @@ fn seat_client(
     Ok(seats.len() as u64)
 }
 
-/// The client at the place spawns one; its number. Errors: memory ran out, and nothing has changed.
+/// Spawns a child of the client at this index. Returns its number. Errors: memory ran out, and nothing has changed.
 fn spawn(
     seats: &mut Vec<Seat>,
     table: &mut Inodes,
@@ -74,7 +74,7 @@ fn spawn(
     Ok(number)
 }
 
-/// What spawning is answered. Errors: memory ran out, and nothing has changed.
+/// Spawns a child and builds the reply. Errors: memory ran out, and nothing has changed.
 fn answer_spawn(
     seats: &mut Vec<Seat>,
     table: &mut Inodes,
@@ -97,7 +97,7 @@ fn answer_spawn(
     ReplyPair::new(alloc, Reply::Spawned(number))
 }
 
-/// The call and its reply become the last entry, unless memory ran out.
+/// Appends the call and its reply to the history, unless memory ran out.
 pub(crate) fn enter(
     history: &mut History,
     client: u64,
@@ -133,21 +133,21 @@ impl Journal {
     ghost use Rattle.ll_journal.specs.Book.{Spares};
     ghost use Rattle.ll_journal.specs.Direct.{Answers, LeavesSlots, TakesMemory, TakesSpare};
 
-    /// The entries of the history, in their order.
+    /// Returns the entries of the history, in order.
     pub fn entries(&self) -> &[Entry]
         ensures { result.now ≡ self.now.world.history }
     {
         self.history.entries()
     }
 
-    /// The history of all calls.
+    /// Returns the history of all calls.
     pub fn history(&self) -> &History
         ensures { result.now ≡ record { entries = self.now.world.history; limit = self.now.world.limit } }
     {
         &self.history
     }
 
-    /// The same, and nothing else is left.
+    /// Returns the history and drops everything else.
     pub fn into_history(self) -> History
         ensures { result ≡ record { entries = self.world.history; limit = self.world.limit } }
     {
@@ -155,15 +155,15 @@ impl Journal {
         history
     }
 
-    /// How many clients there are. They have the numbers from 1 on.
+    /// Returns the number of clients. They are numbered from 1.
     pub fn clients(&self) -> u64
         ensures { result ≡ len (world.shown self.now.world).clients }
     {
         self.seats.len() as u64
     }
 
-    /// A new client, which gets the next number. Errors: HistoryFull, EMFILE where as many clients were made as a tree
-    /// may have, NoMemory.
+    /// Adds a client with the next number. Errors: HistoryFull; EMFILE if as many clients were made as a tree may have;
+    /// NoMemory.
     pub fn connect(&mut self) -> Result<u64, Errno>
         ensures joined { IfOk result (λ number.
             world.advance self.old.world steps.Join ≡ (world.Joined number, self.new.world)) }
@@ -193,8 +193,8 @@ impl Journal {
         Ok(number)
     }
 
-    /// The client's call for itself alone is made and answered, or comes back where it is none, or the client isn't
-    /// there or has a walk under way. Only ruleset, confine and spawn take memory.
+    /// Makes and answers a call for the client alone. Errors: the call, if it isn't one, or if the client doesn't exist
+    /// or has a walk under way. Only ruleset, confine and spawn take memory.
     #[inline(always)]
     pub fn client_step(&mut self, client: u64, call: Call) -> Result<Made, Call>
         ensures does { IfOk result (λ answer. Answers self.old (steps.ClientStep client call) answer self.new) }

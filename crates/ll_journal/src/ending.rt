@@ -1,4 +1,4 @@
-//! What a commit does to the walks of all clients.
+//! What a commit does to all clients' walks.
 
 ghost use Rattle.std.specs.Prelude.{◌≡◌, map, option_map};
 ghost use Rattle.ll_laws.specs.World as world;
@@ -7,7 +7,7 @@ ghost use Rattle.ll_journal.specs.Kept.{walks_from};
 
 use crate::seat::Seat;
 
-/// Every walk that passes one of these directories is stale.
+/// Makes every walk through one of these directories stale.
 pub(crate) fn overtake(seats: &mut Vec<Seat>, moved: &[u64])
     ensures { seats.new.items ≡ map
         (λ (seat : book.Seat). record seat { walk = option_map (world.overtaken moved.now) seat.walk })
@@ -18,7 +18,7 @@ pub(crate) fn overtake(seats: &mut Vec<Seat>, moved: &[u64])
     }
 }
 
-/// Whether the walk of another client stands in the directory.
+/// Whether another client's walk has marked the directory.
 pub(crate) fn is_marked_by_other(seats: &[Seat], client: u64, inode: u64) -> bool
     ensures { (w : world.World) → w.walks ≡ walks_from 1 seats.now → result ≡ world.is_marked_by_other w client inode }
 {
@@ -30,7 +30,7 @@ pub(crate) fn is_marked_by_other(seats: &[Seat], client: u64, inode: u64) -> boo
     false
 }
 
-/// Who holds the gate when the client's walk has ended.
+/// The holder of the gate after the client's walk has ended.
 pub(crate) fn released(gate: Option<u64>, client: u64) -> Option<u64>
     ensures { result ≡ world.released gate client }
 {

@@ -1,4 +1,4 @@
-//! Calls on descriptors: what they ask of a file, and the answers that need its bytes.
+//! Calls on descriptors: classifying them, and the answers that need the file's bytes.
 
 ghost use Rattle.std.specs.Prelude.{◌≡◌, false, IfOk, OnErr};
 ghost use Rattle.ll_rights.specs.Kind.{is_dir};
@@ -20,11 +20,11 @@ const MOST_READ: u64 = DATA_BYTES as u64;
 /// A call on the bytes of an open file.
 #[derive(Drop)]
 pub(crate) enum BytesCall<'a> {
-    /// From an offset on, at most so many are read.
+    /// Read: the offset, the most bytes to return.
     Read(u64, u64),
-    /// From an offset on they become these.
+    /// Write: the offset, the bytes.
     Write(u64, &'a Data),
-    /// They are cut to this many, or filled with zeros to them.
+    /// Set the length. New bytes are zeros.
     Resize(u64),
 }
 
@@ -35,7 +35,7 @@ pub(crate) enum FileCall<'a> {
     OnBytes(BytesCall<'a>),
 }
 
-/// The number of the descriptor that the call is made on, and what it asks.
+/// Returns the descriptor that the call is made on and what it asks for, or None for any other call.
 pub(crate) fn file_call(call: &Call) -> Option<(u64, FileCall<'_>)>
     ensures { IsOn call.now result }
 {
@@ -68,7 +68,7 @@ pub(crate) fn file_call(call: &Call) -> Option<(u64, FileCall<'_>)>
     }
 }
 
-/// What a reading is answered. Errors: memory ran out.
+/// Builds the reply of a read. Errors: memory ran out.
 fn read(
     alloc: Global,
     file: &Descriptor,
@@ -90,7 +90,7 @@ fn read(
     ReplyPair::new(alloc, Reply::Bytes(bytes))
 }
 
-/// The reply, after the bytes have come into the node's. Errors: memory ran out, and nothing has changed.
+/// Writes the bytes and builds the reply. Errors: memory ran out, and nothing has changed.
 fn write(
     alloc: Global,
     file: &Descriptor,
@@ -114,7 +114,7 @@ fn write(
     }
 }
 
-/// The reply, after the node's bytes have this length. Errors: memory ran out, and nothing has changed.
+/// Sets the length and builds the reply. Errors: memory ran out, and nothing has changed.
 fn resize(
     alloc: Global,
     file: &Descriptor,
@@ -146,7 +146,7 @@ fn resize(
     }
 }
 
-/// The reply, after the call has been made. Errors: memory ran out, and nothing has changed.
+/// Makes the call and builds its reply. Errors: memory ran out, and nothing has changed.
 pub(crate) fn answer(
     alloc: Global,
     file: &Descriptor,

@@ -1,4 +1,4 @@
-//! What a walk finds where it ends.
+//! What a walk finds at its ends.
 
 ghost use Rattle.std.specs.Prelude.{◌≡◌, ℕ, List, [], None, false, nat_le};
 ghost use Rattle.ll_rights.specs.Map.{len};
@@ -13,7 +13,7 @@ use ll_path::Target;
 use ll_rights::Errno;
 use ll_seq::{Call, Found, ROOT, Spot, Targets, no_directory, targets_of};
 
-/// What the word's last name stands for in the directory.
+/// The inode of the path's last name in the directory.
 #[inline(always)]
 fn last_in(here: &Held, target: &Target) -> Option<u64>
     ensures { result ≡ last_in here.now (path_of target.now) }
@@ -27,7 +27,7 @@ fn last_in(here: &Held, target: &Target) -> Option<u64>
     }
 }
 
-/// Where the word's last name stands, or would.
+/// The spot of the path's last name in the directory.
 #[inline(always)]
 fn spot(table: &Inodes, here: &Held, target: &Target) -> Spot
     ensures { result ≡ spot_at table.now.facts here.now (path_of target.now) }
@@ -35,7 +35,7 @@ fn spot(table: &Inodes, here: &Held, target: &Target) -> Spot
     Spot::of(table.facts(), None, here.inode, last_in(here, target))
 }
 
-/// Where a call without a path would end.
+/// The spot for a call without a path.
 fn nowhere(table: &Inodes, here: &Held) -> Spot
     ensures { result ≡ spot_at table.now.facts here.now [] }
 {
@@ -54,7 +54,7 @@ pub(crate) fn spots(table: &Inodes, first: &Held, second: &Held, call: &Call) ->
     }
 }
 
-/// The spots of both paths of a call that has one path at most, which ends in this directory.
+/// The spots of a call of at most one path, which ends in this directory.
 fn spots_alone(table: &Inodes, here: &Held, call: &Call) -> (Spot, Spot)
     requires { has_two_paths call.now ≡ false }
     ensures first { result.0 ≡ spot_at table.now.facts here.now (first_path call.now) }
@@ -68,7 +68,7 @@ fn spots_alone(table: &Inodes, here: &Held, call: &Call) -> (Spot, Spot)
     (found, found)
 }
 
-/// Where the last name of the call's one path, or of its second, stands in the directory.
+/// The spot of the call's one path, or of its second, in the directory.
 pub(crate) fn last_spot(table: &Inodes, here: &Held, call: &Call) -> Spot
     ensures { result ≡ spot_at table.now.facts here.now (second_path call.now) }
 {
@@ -79,7 +79,7 @@ pub(crate) fn last_spot(table: &Inodes, here: &Held, call: &Call) -> Spot
     }
 }
 
-/// What is found for the call, whose paths end in these directories, where so many nodes may live.
+/// What is found for a call whose paths end in these directories. `room` is the limit of live nodes.
 pub(crate) fn find_ends(
     table: &Inodes,
     room: usize,
@@ -98,7 +98,7 @@ pub(crate) fn find_ends(
     }
 }
 
-/// The same of a call that has one path at most, which ends in this directory.
+/// What is found for a call of at most one path, which ends in this directory. `room` is the limit of live nodes.
 pub(crate) fn find_end(table: &Inodes, room: usize, here: &Held, call: &Call) -> Found
     requires { has_two_paths call.now ≡ false }
     ensures { (s : State) (spares : List ℕ) → IsTable s spares table.now
@@ -112,7 +112,7 @@ pub(crate) fn find_end(table: &Inodes, room: usize, here: &Held, call: &Call) ->
     }
 }
 
-/// Why the walk can't go on to what its next name stands for, if it can't.
+/// Why the walk can't descend to this inode (None: the name is missing), or None if it can.
 pub(crate) fn blocked(table: &Inodes, next: Option<u64>) -> Option<Errno>
     ensures { result ≡ blocked_at table.now.facts next }
 {

@@ -1,4 +1,4 @@
-//! What stands in the way of a walk at its ends, so that whoever leads it can wait for that.
+//! Finds what keeps a walk at its ends from being answered, so that its driver can wait for it.
 
 ghost use Rattle.std.specs.Prelude.{◌≡◌, ◌<◌, ◌&&◌, length, IfSome, IfNone};
 ghost use Rattle.ll_path.specs.Path as paths;
@@ -16,14 +16,14 @@ use crate::seat::Seat;
 use ll_node::{Held, Inodes};
 use ll_seq::{Call, Spot};
 
-/// Whether its walk goes on, and is at its ends.
+/// Whether the seat's walk isn't stale and is at its ends.
 fn has_come(seat: &Seat) -> bool
     ensures { result ≡ (goes_on seat.now && is_at_ends seat.now) }
 {
     seat.goes_on() && seat.is_at_ends()
 }
 
-/// The node of a path's last name, if the path's leg ends here, and another client's walk stands in the node.
+/// The node of a path's last name, if the path's leg ends here and another client's walk has marked the node.
 fn node_at_end(
     seats: &[Seat],
     client: u64,
@@ -48,7 +48,7 @@ fn node_at_end(
     }
 }
 
-/// The node of the last name of one of the call's paths, whose leg ends here, if another client's walk stands in it.
+/// The node of the last name of a path of the call whose leg ends here, if another client's walk has marked it.
 fn node_in_way(
     table: &Inodes,
     seats: &[Seat],
@@ -87,9 +87,8 @@ impl Journal {
     ghost use Rattle.ll_journal.specs.Book.{slot_of};
     ghost use Rattle.ll_journal.specs.InWay.{IsFreeFrom, IsInWay};
 
-    /// Of the client's walk at its ends: the slot of a node under a last name in which another client's walk stands, so
-    /// that this one isn't answered yet. It is looked for in the directory of this slot alone, for each path that ends
-    /// there.
+    /// For a walk at its ends: returns the slot of a node under a last name that another client's walk has marked,
+    /// which delays this one's answer. Looks only in the directory of this slot, for each path that ends there.
     pub fn slot_in_way(&self, client: u64, slot: u64, here: &Held) -> Option<u64>
         requires { here.now ≡ slot_of self.now slot }
         ensures some { IfSome result (IsInWay self.now client) }

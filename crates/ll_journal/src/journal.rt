@@ -22,8 +22,8 @@ use ll_seq::{Call, History, ROOT, Rules};
 use std::alloc::{AllocError, Global};
 use std::marker::Model;
 
-/// The history of all calls, and what is under way. Contracts see it as a book: the world, which inode lies in each
-/// slot, and the vacant slots.
+/// The history of all calls, and the walks under way. Contracts see it as a book: the world, the inode in each slot,
+/// and the vacant slots.
 #[derive(Drop)]
 pub struct Journal {
     pub(crate) alloc: Global,
@@ -50,7 +50,7 @@ impl Model for Journal {
     ghost invariant = { IsKept };
 }
 
-/// The place of the seat of the client of this number.
+/// The index of the client's seat.
 pub(crate) fn place_of(seats: &[Seat], client: u64) -> Option<usize>
     ensures some { IfSome result (λ place. (client ≡ suc place) × (place < length seats.now)) }
     ensures none { IfNone result (seat_at seats.now client ≡ None) }
@@ -66,7 +66,7 @@ pub(crate) fn place_of(seats: &[Seat], client: u64) -> Option<usize>
     }
 }
 
-/// Who holds the gate when the client's walk has come to the root.
+/// The holder of the gate after the client's walk has reached the root.
 fn gate_at_root(seat: &Seat, gate: Option<u64>, client: u64) -> Option<u64>
     ensures { result ≡ (if option_map_or (λ (walk : Walk). walk.starts == 4) seat.now.walk false then Some client else
         gate) }
@@ -78,7 +78,7 @@ fn gate_at_root(seat: &Seat, gate: Option<u64>, client: u64) -> Option<u64>
     }
 }
 
-/// The client's mark in the directory, if its walk stands there.
+/// The client's mark on the directory, if its walk marks it.
 fn mark_in(seat: &Seat, client: u64, inode: u64) -> Option<u64>
     ensures { result ≡ (if option_map_or (λ (walk : Walk). marks walk inode) seat.now.walk false then Some client else
         None) }
@@ -90,7 +90,7 @@ fn mark_in(seat: &Seat, client: u64, inode: u64) -> Option<u64>
     }
 }
 
-/// Whether its walk stands at its fork, and isn't stale.
+/// Whether the seat's walk is at its fork and isn't stale.
 fn may_fork(seat: &Seat) -> bool
     ensures { result ≡ (goes_on seat.now
         && option_map_or (λ (walk : Walk). is_some (forked walk.call walk.at)) seat.now.walk false) }
@@ -98,7 +98,7 @@ fn may_fork(seat: &Seat) -> bool
     seat.goes_on() && seat.may_fork()
 }
 
-/// Whether it is idle, and the call names a path.
+/// Whether the client is idle and the call names a path.
 fn may_set_out(seat: &Seat, call: &Call) -> bool
     ensures { result ≡ (is_none seat.now.walk && has_any (targets call.now)) }
 {
@@ -112,8 +112,8 @@ impl Journal {
     ghost use Rattle.ll_laws.specs.World.{Begun, NotNow, Stands, advance};
     ghost use Rattle.ll_laws.specs.declared.step.Step.TheVariants.{Begin, ClientStep, Descend, Fork, Restart};
 
-    /// A tree of the root alone, in which so many nodes may live, without a client. Room is reserved for so many
-    /// entries of the history.
+    /// Returns a tree with only the root and no clients, for at most `nodes` nodes. Reserves room for `history`
+    /// entries. Errors: memory ran out.
     pub fn new(
         alloc: Global,
         rules: Rules,
@@ -137,7 +137,7 @@ impl Journal {
         })
     }
 
-    /// The client's call sets out, or comes back where it may not. Takes no memory.
+    /// Begins the walk of the client's call. Errors: the call, if it may not begin. Takes no memory.
     pub fn begin(&mut self, client: u64, call: Call) -> Result<(), Call>
         ensures begun { OnOk result (advance self.old.world (Begin client call) ≡ (Begun, self.new.world)) }
         ensures not_now { OnErr result (advance self.old.world (Begin client call) ≡ (NotNow, self.old.world)) }
@@ -155,7 +155,7 @@ impl Journal {
         self.set_out(client, call)
     }
 
-    /// The same of a call that isn't one for the client alone.
+    /// Begins the walk of a call that isn't for the client alone. Errors: the call, if it may not begin.
     pub(crate) fn set_out(&mut self, client: u64, call: Call) -> Result<(), Call>
         requires { advance self.old.world (ClientStep client call) ≡ (NotNow, self.old.world) }
         ensures begun { OnOk result (advance self.old.world (Begin client call) ≡ (Begun, self.new.world)) }
@@ -180,7 +180,7 @@ impl Journal {
         Ok(())
     }
 
-    /// The first descent of the client's walk, to the root, for which the root's slot is lent. Takes no memory.
+    /// Makes the walk's first descent, to the root. The root's slot must be lent. Takes no memory.
     pub fn enter(&mut self, client: u64, slot: u64, root: &mut Held) -> Progress
         requires { root.old ≡ slot_of self.old slot }
         ensures does { Does self.old (Descend client) result self.new }
@@ -207,7 +207,7 @@ impl Journal {
         Progress::Stands(ROOT)
     }
 
-    /// The client at the place goes down from the directory in the one slot to that in the other.
+    /// The client at this index descends from the directory in the one slot to the one in the other.
     #[inline(always)]
     pub(crate) fn go_down(
         &mut self,
@@ -237,8 +237,8 @@ impl Journal {
         to.node.set_mark(Some(client));
     }
 
-    /// A descent of the client's walk: the slots are those of the directory where its leg in turn stands, and of the
-    /// one that the next name names. Takes no memory.
+    /// Makes a descent of the client's walk. The slots are those of the current leg's directory, and of the directory
+    /// that the next name names. Takes no memory.
     pub fn descend(
         &mut self,
         client: u64,
@@ -270,7 +270,8 @@ impl Journal {
         Progress::Stands(to.inode)
     }
 
-    /// The same where the second slot is the one that `next_slot` tells of the first, so that no name is looked up.
+    /// Makes a descent to the slot that `next_slot` returned for the first slot, without looking the name up again.
+    /// Takes no memory.
     pub fn descend_to(
         &mut self,
         client: u64,
@@ -301,7 +302,7 @@ impl Journal {
         Progress::Stands(to.inode)
     }
 
-    /// Where the client's walk is.
+    /// Returns where the client's walk is.
     pub fn station(&self, client: u64) -> Station
         ensures { result ≡ station_in self.now.world client }
     {
@@ -311,8 +312,8 @@ impl Journal {
         }
     }
 
-    /// The slot of the directory to which the client's walk would go down from this one: none where it wouldn't, or
-    /// doesn't stand here.
+    /// Returns the slot of the directory to which the client's walk would descend from this one, or None if it wouldn't
+    /// or isn't here.
     pub fn next_slot(&self, client: u64, slot: u64, here: &Held) -> Option<u64>
         requires { here.now ≡ slot_of self.now slot }
         ensures some { IfSome result (λ next. IsNext self.now client slot next) }
@@ -328,7 +329,7 @@ impl Journal {
         self.table.slot(inode)
     }
 
-    /// The client's walk leaves what is common to both paths. Takes no memory and no slot.
+    /// Splits the client's walk into one leg for each of its two paths. Takes no memory and no slot.
     pub fn fork(&mut self, client: u64) -> Progress
         ensures does { Does self.old (Fork client) result self.new }
         ensures spares { Spares self.old self.new [] }
@@ -346,8 +347,8 @@ impl Journal {
         Progress::Forked
     }
 
-    /// The client's stale walk starts again, above the root. What is lent lies in these slots: those of the directories
-    /// where it stands. Takes no memory.
+    /// Restarts the client's stale walk, above the root. `lent` holds the contents of `slots`: those of the directories
+    /// that the walk has marked. Takes no memory.
     pub fn restart(&mut self, client: u64, slots: &[u64], lent: &mut [Held]) -> Progress
         requires { lent.old ≡ map (slot_of self.old) slots.now }
         ensures does { Does self.old (Restart client) result self.new }

@@ -1,4 +1,4 @@
-//! What holds of every journal, whatever was done before.
+//! Laws of every journal, after any steps.
 
 use crate::journal::Journal;
 
@@ -6,7 +6,7 @@ impl Journal {
     ghost use Rattle.ll_laws.specs.Sound.{IsSound};
     ghost use Rattle.ll_journal.specs.SlotTree.{HoldTree, accounts_of};
 
-    /// What has to lie in the slots is the tree, all of it, and the world is sound. Takes no memory.
+    /// Does nothing when it runs. Its contract: the contents of the slots are the whole tree, and the world is sound.
     pub fn by_law(&self)
         ensures tree { HoldTree (accounts_of self.now) self.now.world }
         ensures sound { IsSound self.now.world }

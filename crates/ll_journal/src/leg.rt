@@ -1,4 +1,4 @@
-//! A branch of a walk.
+//! A leg of a walk.
 
 ghost use Rattle.std.specs.Prelude.{◌≡◌, ◌+◌, ◌<◌, ◌≤◌, length, slice_get, [], ◌∷◌, ◌++◌, IfOk, IsSome};
 ghost use Rattle.ll_decide.specs.Masks.{AreMasks};
@@ -15,7 +15,7 @@ use ll_rules::Domain;
 use ll_seq::ROOT;
 use std::alloc::{AllocError, Global};
 
-/// The names ahead: where the next one begins in its path's text, and how many names the whole way has.
+/// The names ahead: the position of the next one in its path's text, and the number of names in the whole leg.
 #[derive(Clone, Copy)]
 pub(crate) struct Ahead {
     pub(crate) place: Place,
@@ -23,7 +23,7 @@ pub(crate) struct Ahead {
 }
 
 impl Ahead {
-    /// All names of a way that has so many.
+    /// All names of a leg of this length.
     fn whole(len: usize) -> Ahead
         ensures { result ≡ record { place = record { depth = 0; byte = 0 }; len = len } }
     {
@@ -40,7 +40,8 @@ impl Ahead {
     }
 }
 
-/// A branch of a walk: the inodes from the root to where it stands, what each layer grants there, and the names ahead.
+/// A leg of a walk: the inodes from the root to its directory, the rights that each layer grants there, and the names
+/// ahead.
 #[derive(Drop)]
 pub(crate) struct Leg {
     pub(crate) chain: Vec<u64>,
@@ -62,7 +63,7 @@ impl Leg {
         })
     }
 
-    /// At the root, with a way of so many names.
+    /// Puts the leg at the root, with `len` names ahead.
     pub(crate) fn start(&mut self, alloc: Global, domain: &Domain, len: usize)
         requires { IsRoomy self.old }
         ensures stands { StandsAt domain.now (root ∷ []) self.new }
@@ -74,7 +75,7 @@ impl Leg {
         self.ahead = Ahead::whole(len);
     }
 
-    /// One directory further, by its next name, which is one of this path.
+    /// Descends by the next name, which is one of this path.
     #[inline(always)]
     pub(crate) fn go_down(&mut self, domain: &Domain, path: Option<&Path>, inode: u64)
         requires roomy { IsRoomy self.old }
@@ -92,7 +93,7 @@ impl Leg {
         self.ahead.place = place_after(path, self.ahead.place);
     }
 
-    /// Where the other one stands, with so many names on the whole way.
+    /// Copies `other`'s position. `len` is the number of names in this leg.
     pub(crate) fn follow(&mut self, other: &Leg, len: usize)
         requires roomy { IsRoomy self.old }
         requires short { length other.now.chain.items ≤ PATH_NAMES }
@@ -127,7 +128,7 @@ impl Leg {
     }
 }
 
-/// The branches of one walk.
+/// The two legs of a walk.
 #[derive(Drop)]
 pub(crate) struct Legs {
     pub(crate) trunk: Leg,

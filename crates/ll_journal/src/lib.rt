@@ -1,4 +1,4 @@
-//! The journal of a tree that many clients share: the steps of their walks, each a method.
+//! The journal of a shared tree: each step of a walk is a method.
 #![tactic(auto)]
 
 mod alone;

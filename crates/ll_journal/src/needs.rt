@@ -1,4 +1,4 @@
-//! Which slots the steps of a client's walk need, so that whoever makes them can lend these.
+//! The slots that a walk's next step needs, so that its driver can lend them.
 
 ghost use Rattle.std.specs.Prelude.{◌≡◌, ◌<◌, ◌≤◌, ℕ, length, false, Some, None, IfSome, IfNone};
 ghost use Rattle.std.specs.List.{AllByRecursion};
@@ -15,8 +15,8 @@ use crate::slots::Slots;
 use ll_node::{Held, Inodes};
 use ll_seq::{Call, ROOT, Spot};
 
-/// The slot, besides those of directories, that the call may need where its walk ends: its one path or its second has
-/// its last name here.
+/// The slot, other than those of directories, that the call may need at its end. `last` is the spot of its one path, or
+/// of its second.
 fn slot_besides(table: &Inodes, spare: u64, call: &Call, last: &Spot) -> Option<u64>
     ensures { result ≡ needs.slot_besides table.now.places spare call.now (found_last last.now) }
 {
@@ -33,7 +33,7 @@ impl Journal {
     ghost use Rattle.ll_journal.specs.Steps.{IsInTurn, leg_in_turn};
     ghost use Rattle.ll_journal.specs.WalkEnds.{AreEnough, IsNeeded, is_lent};
 
-    /// The slot of the root, to which a walk's first descent goes.
+    /// Returns the slot of the root, the target of a walk's first descent.
     pub fn root_slot(&self) -> u64
         ensures root { inode_in self.now result ≡ root }
         ensures within { result < length self.now.inodes }
@@ -44,7 +44,7 @@ impl Journal {
         slot
     }
 
-    /// The slot of the directory where the leg in turn of the client's walk stands.
+    /// Returns the slot of the directory of the walk's current leg.
     pub fn turn_slot(&self, client: u64) -> Option<u64>
         ensures some { IfSome result (λ slot. (leg : Leg) × (leg_in_turn self.now.world client ≡ Some leg)
             × (inode_in self.now slot ≡ leg.here)) }
@@ -60,7 +60,7 @@ impl Journal {
         self.table.slot(here)
     }
 
-    /// The slots of the directories where the client's walk stands, also where it is stale.
+    /// Returns the slots of the directories that the client's walk has marked, stale or not.
     #[inline(always)]
     pub fn stands_in(&self, client: u64) -> Slots
         ensures marked { (inode : ℕ) → is_lent self.now result inode ≡ has_mark self.now.world inode client }
@@ -74,7 +74,7 @@ impl Journal {
         }
     }
 
-    /// At the walk's ends: the one further slot that its commit needs, if any. Its leg in turn stands here.
+    /// For a walk at its ends: the one further slot that its commit needs, if any. Its current leg is here.
     fn slot_at_ends(&self, client: u64, here: &Held) -> Option<u64>
         ensures within { IfSome result (λ slot. slot < length self.now.inodes) }
         ensures needed { (slot : ℕ) → here.now ≡ slot_of self.now slot → IsInTurn self.now client slot
@@ -95,8 +95,8 @@ impl Journal {
         slot_besides(&self.table, seat.spare(), call, &last)
     }
 
-    /// All the slots that a commit of the client's walk may need, and no others, seen from that of the directory where
-    /// its leg in turn stands.
+    /// Returns all the slots that a commit of the client's walk may need, given that of the directory of its current
+    /// leg.
     pub fn end_slots(&self, client: u64, slot: u64, here: &Held) -> Slots
         requires { here.now ≡ slot_of self.now slot }
         ensures enough { IsInTurn self.now client slot → (walk : Walk) → get self.now.world.walks client ≡ Some walk

@@ -1,4 +1,4 @@
-//! Which step of a client's walk comes next: told by one look.
+//! Finds a walk's next step with one look.
 
 ghost use Rattle.std.specs.Prelude.{◌≡◌};
 
@@ -7,20 +7,20 @@ use crate::slots::Slots;
 use crate::station::Station;
 use ll_node::Held;
 
-/// The step of a client's walk that comes next, with the slots that it needs.
+/// The next step of a client's walk, with the slots that it needs.
 #[derive(Drop)]
 pub enum Next {
-    /// None, as no walk is under way.
+    /// No walk is under way.
     Nothing,
-    /// The stale walk starts again: the slots of the directories where it stands.
+    /// Restart the stale walk. The slots are those of the directories that it has marked.
     Restart(Slots),
-    /// The walk goes to the root: its slot.
+    /// Enter the root, which is in this slot.
     Enter(u64),
-    /// The walk goes down to the directory that its next name names: that one's slot.
+    /// Descend to the directory in this slot.
     Descend(u64),
-    /// The walk leaves what is common to both paths. It needs no slot.
+    /// Fork: split the walk of two paths. It needs no slot.
     Fork,
-    /// The walk is answered, as it can't go on or each branch is at its end: all the slots that this may need.
+    /// Commit: the walk can't go on, or each leg is at its end. These are all the slots that it may need.
     Commit(Slots),
 }
 
@@ -28,8 +28,8 @@ impl Journal {
     ghost use Rattle.ll_journal.specs.Book.{slot_of};
     ghost use Rattle.ll_journal.specs.NextStep.{CanBeLent, ComesNext};
 
-    /// Which step of the client's walk comes next, seen from the slot of the directory where its leg in turn stands.
-    /// (Above the root any slot will do. It may be that the step still has to wait for other walks.)
+    /// Returns the next step of the client's walk, given the slot of the directory of its current leg. (Above the root
+    /// any slot will do. The step may still have to wait for other walks.)
     pub fn next_step(&self, client: u64, slot: u64, here: &Held) -> Next
         requires { here.now ≡ slot_of self.now slot }
         ensures comes { ComesNext self.now client slot result }

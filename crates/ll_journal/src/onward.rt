@@ -1,4 +1,4 @@
-//! A walk's next directory, told by one look, and the descent to it, for which its name isn't looked up again.
+//! Finds a walk's next directory with one look, and descends to it without looking the name up again.
 
 ghost use Rattle.std.specs.Prelude.{◌≡◌, ◌<◌, ℕ, [], ◌∷◌, length, true, Some, IfSome, IfNone};
 ghost use Rattle.ll_rights.specs.Map.{get};
@@ -9,8 +9,7 @@ use crate::journal::{Journal, place_of};
 use crate::progress::Progress;
 use ll_node::Held;
 
-/// The directory to which a walk would go down: its slot and inode, and at which name of its call's first path it
-/// stands.
+/// The next directory of a walk: its slot and inode, and the index of its name in the call's first path.
 #[derive(Clone, Copy)]
 pub struct Onward {
     pub slot: u64,
@@ -24,8 +23,8 @@ impl Journal {
     ghost use Rattle.ll_journal.specs.Steps.{Does, GoesDown, IsAstrayBelow, IsNext};
     ghost use Rattle.ll_laws.specs.declared.step.Step.TheVariants.{Descend};
 
-    /// The directory to which the client's walk would go down from this one. None where it wouldn't, where it is past
-    /// its fork, or where it doesn't stand here.
+    /// Returns the directory to which the client's walk would descend from this one. None if it wouldn't, is past its
+    /// fork, or isn't here.
     pub fn onward(&self, client: u64, slot: u64, here: &Held) -> Option<Onward>
         requires { here.now ≡ slot_of self.now slot }
         ensures next { IfSome result (λ on. IsNext self.now client slot on.slot) }
@@ -55,8 +54,8 @@ impl Journal {
         })
     }
 
-    /// The same as `descend`, where the name at this depth of the call's first path is known to stand for this inode in
-    /// the first slot: if that is the next name, it isn't looked up. Takes no memory.
+    /// Makes a descent with a hint from `onward`: the name at this depth of the call's first path names this inode. If
+    /// that is the next name, it isn't looked up. Takes no memory.
     pub fn descend_onward(
         &mut self,
         client: u64,

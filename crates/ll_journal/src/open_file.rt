@@ -1,4 +1,4 @@
-//! A client's calls on the files that it has open.
+//! A client's calls on its open files.
 
 ghost use Rattle.std.specs.Prelude.{◌≡◌, ◌≢◌, ◌<◌, ℕ, [], ◌∷◌, false, is_none, length, Some, None, Ok, IfOk, IfErr};
 ghost use Rattle.std.specs.Prelude.{IfSome, IfNone, OnErr, if◌then◌else◌};
@@ -16,7 +16,7 @@ use ll_node::{Held, Inodes};
 use ll_seq::{Call, Descriptor, Reply};
 use std::alloc::{AllocError, Global};
 
-/// A call that isn't made comes back.
+/// Why a call wasn't made. Gives the call back.
 #[derive(Drop)]
 pub enum Unmade {
     /// The step isn't enabled.
@@ -25,14 +25,14 @@ pub enum Unmade {
     Astray(Call),
 }
 
-/// What the client has open under the number.
+/// The client's descriptor of this number.
 fn opened(seat: &Seat, number: u64) -> Option<Descriptor>
     ensures { result ≡ get seat.now.client.descriptors number }
 {
     seat.descriptors().get(number).copied()
 }
 
-/// The same, unless it has a walk under way.
+/// The client's descriptor of this number, if the client has no walk under way.
 fn opened_idle(seat: &Seat, number: u64) -> Option<Descriptor>
     ensures { result ≡ (if is_none seat.now.walk then get seat.now.client.descriptors number else None) }
 {
@@ -42,7 +42,7 @@ fn opened_idle(seat: &Seat, number: u64) -> Option<Descriptor>
     opened(seat, number)
 }
 
-/// The file in this slot has a descriptor less, and goes where nothing keeps it.
+/// Counts one descriptor of the file less, and removes it if nothing keeps it.
 fn let_go(table: &mut Inodes, alloc: Global, file: &mut Held)
     ensures { LetsGo file.old.inode table.old table.new file.old file.new }
 {
@@ -52,7 +52,7 @@ fn let_go(table: &mut Inodes, alloc: Global, file: &mut Held)
     }
 }
 
-/// The reply, after the call has been made. Errors: memory ran out, and nothing has changed.
+/// Makes the call and builds its reply. Errors: memory ran out, and nothing has changed.
 fn serve(
     seat: &mut Seat,
     table: &mut Inodes,
@@ -84,9 +84,9 @@ impl Journal {
     ghost use Rattle.ll_journal.specs.Book.{Spares, inode_in, slot_of};
     ghost use Rattle.ll_journal.specs.Direct.{Answers, ComesBack, IsOpen, LeavesSlot};
 
-    /// The client's call on a descriptor is made and answered; the slot is that of the file. It comes back where it is
-    /// no such call, or the client isn't there, hasn't the descriptor or has a walk under way. Reading and growing a
-    /// file takes memory; closing takes none.
+    /// Makes and answers the client's call on a descriptor. The slot must be the file's. Errors: the call, if it is on
+    /// no descriptor, or if the client doesn't exist, lacks the descriptor or has a walk under way. Reading and growing
+    /// a file take memory; closing takes none.
     pub fn fd_commit(
         &mut self,
         client: u64,
@@ -125,7 +125,7 @@ impl Journal {
         Ok(enter(&mut self.history, client, call, told))
     }
 
-    /// The slot of the file that the client has open under this number.
+    /// Returns the slot of the file that the client has open under this number.
     pub fn file_slot(&self, client: u64, number: u64) -> Option<u64>
         ensures some { IfSome result (λ slot. (file : record_of.Descriptor)
             × IsOpen self.now.world client number file × (inode_in self.now slot ≡ file.inode)) }

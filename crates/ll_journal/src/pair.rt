@@ -1,4 +1,4 @@
-//! A reply for the history, and one for the caller.
+//! A reply in two copies: for the history and for the caller.
 
 ghost use Rattle.std.specs.Prelude.{◌≡◌, true, IfOk, OnErr};
 ghost use Rattle.ll_seq.specs.Memory.{holds_memory};
@@ -29,7 +29,7 @@ impl Model for ReplyPair {
 }
 
 impl ReplyPair {
-    /// The reply, and a copy of it. Errors: memory ran out; only for one that holds bytes or names.
+    /// Copies the reply. Errors: memory ran out, only for a reply that holds bytes or names.
     #[inline(always)]
     pub(crate) fn new(alloc: Global, reply: Reply) -> Result<ReplyPair, AllocError>
         ensures ok { IfOk result (λ pair. pair ≡ reply) }
@@ -42,7 +42,7 @@ impl ReplyPair {
         })
     }
 
-    /// The reply that becomes an entry's, and the caller's.
+    /// Splits the pair: the first goes into the history's entry, the second to the caller.
     pub(crate) fn split(self) -> (Reply, Reply)
         ensures entry { result.0 ≡ self }
         ensures caller { result.1 ≡ self }

@@ -1,30 +1,30 @@
-//! What comes of a step.
+//! The results of steps.
 
 use ll_seq::Reply;
 
-/// What comes of a step of a client's walk.
+/// The result of a step of a client's walk.
 #[derive(Clone, Copy, PartialEq, Eq)]
 pub enum Progress {
     /// The step isn't enabled.
     NotNow,
-    /// Other slots were lent than the step names.
+    /// Other slots were lent than the step names. Nothing has changed.
     Astray,
-    /// The walk stands in the directory of this inode.
+    /// The walk is in the directory of this inode.
     Stands(u64),
     Forked,
     Restarted,
 }
 
-/// What comes of a commit.
+/// The result of a commit.
 #[derive(Drop)]
 pub enum Ending {
     /// The step isn't enabled.
     NotNow,
-    /// Other slots were lent than the commit may need.
+    /// Other slots were lent than the commit may need. Nothing has changed.
     Astray,
-    /// The walk has ended. The reply is that of the history's last entry.
+    /// The walk has ended. The reply is in the history's last entry.
     Replied(Reply),
-    /// The walk has ended. The history takes no more entry, and nothing else has changed.
+    /// The walk has ended. The history is full, and nothing else has changed.
     HistoryFull,
     /// The walk has ended. Memory ran out, and nothing else has changed.
     NoMemory,

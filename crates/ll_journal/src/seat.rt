@@ -32,11 +32,11 @@ use ll_seq::{Call, ClientRecord, Descriptor, Found, NumberMap, Rules};
 use std::alloc::{AllocError, Global};
 use std::marker::Model;
 
-/// On its fourth start a walk takes the gate.
+/// The start on which a walk takes the gate.
 const LAST_START: u64 = 4;
 
-/// A client, the slot that is kept for what it makes, and its walk, if one is under way. There is room for the longest
-/// walk from the start, so none takes memory.
+/// A client, its spare slot, and its walk, if one is under way. Room for the longest walk is reserved at the start, so
+/// no walk takes memory.
 #[derive(Drop)]
 pub(crate) struct Seat {
     client: ClientRecord,
@@ -65,8 +65,7 @@ impl Model for Seat {
     ghost invariant = { IsSeat };
 }
 
-/// A walk that has ended: its call, and what each layer grants where its branches stood. With one path both are the
-/// same.
+/// An ended walk: its call, and what each layer grants where its legs ended (equal for a call of one path).
 #[derive(Drop)]
 pub(crate) struct Ended {
     pub call: Call,
@@ -79,7 +78,7 @@ impl Seat {
     ghost use Rattle.ll_journal.specs.Own.{Comes, IsFreeOwn, IsOwn};
     ghost use Rattle.ll_journal.specs.Seated.{again, call_in, entered, gone_down, is_at_ends, next_in, split};
 
-    /// A client without a walk.
+    /// Returns a client without a walk. Errors: memory ran out.
     pub(crate) fn new(alloc: Global, client: ClientRecord, spare: u64) -> Result<Seat, AllocError>
         ensures { IfOk result (λ seat. seat ≡ record { client = client; spare = spare; walk = None }) }
     {
@@ -108,14 +107,14 @@ impl Seat {
         }
     }
 
-    /// Whether it is idle, and the call is one that walks.
+    /// Whether the client is idle and the call walks.
     pub(crate) fn may_begin(&self, call: &Call) -> bool
         ensures { result ≡ (is_none self.now.walk && is_walked self.now.client call.now) }
     {
         self.call.is_none() && walks(&self.client, call)
     }
 
-    /// The call sets out, above the root.
+    /// Begins the call's walk, above the root.
     pub(crate) fn begin(&mut self, call: Call)
         ensures { self.new ≡ record self.old {
           walk = Some (record { call = call; starts = 1; stale = false; at = walks.Above });
@@ -128,7 +127,7 @@ impl Seat {
         self.stage = Stage::Above;
     }
 
-    /// What the call asks for its client alone, if it is such a call, and no walk is under way.
+    /// Classifies the call: Some if it is for the client alone and no walk is under way.
     pub(crate) fn own_call(&self, call: &Call) -> Option<Own>
         ensures some { IfSome result (λ own. (self.now.walk ≡ None) × IsOwn self.now.client call.now (Some own)) }
         ensures none { IfNone result ((is_none self.now.walk && is_alone self.now.client call.now) ≡ false) }
@@ -139,7 +138,7 @@ impl Seat {
         own_call(&self.client, call)
     }
 
-    /// The reply to a call on the client's record, after it has been made.
+    /// Makes a call on the client's record and builds its reply.
     pub(crate) fn answer(
         &mut self,
         alloc: Global,
@@ -156,7 +155,7 @@ impl Seat {
         answer(&mut self.client, alloc, abi, asked)
     }
 
-    /// A client that this one spawns.
+    /// The record of a client that this one spawns. Errors: memory ran out.
     pub(crate) fn child(&self, alloc: Global, rules: Rules) -> Result<ClientRecord, AllocError>
         ensures { IfOk result (λ child. child ≡ child_of rules self.now.client) }
     {
@@ -169,14 +168,14 @@ impl Seat {
         &self.client.descriptors
     }
 
-    /// Whether a walk is under way that isn't stale.
+    /// Whether a walk is under way and isn't stale.
     pub(crate) fn goes_on(&self) -> bool
         ensures { result ≡ option_map_or (λ (walk : walks.Walk). not walk.stale) self.now.walk false }
     {
         self.call.is_some() && !self.is_stale
     }
 
-    /// Whether a walk is under way that is stale.
+    /// Whether a walk is under way and is stale.
     pub(crate) fn is_stale(&self) -> bool
         ensures { result ≡ option_map_or (λ (walk : walks.Walk). walk.stale) self.now.walk false }
     {
@@ -197,7 +196,7 @@ impl Seat {
         self.call.is_some() && self.starts == LAST_START
     }
 
-    /// The walk is at the root.
+    /// Moves the walk to the root.
     pub(crate) fn enter(&mut self, alloc: Global)
         ensures { self.new ≡ record self.old { walk = option_map (entered self.old.client.domain) self.old.walk } }
     {
@@ -209,7 +208,7 @@ impl Seat {
         self.stage = Stage::Down;
     }
 
-    /// The next name of the leg in turn.
+    /// The next name of the current leg.
     #[inline(always)]
     pub(crate) fn next_name(&self) -> Option<&str>
         ensures { option_map (λ name. name.now) result ≡ next_in self.now }
@@ -223,7 +222,7 @@ impl Seat {
         }
     }
 
-    /// At which name of the call's first path the next one stands. None at the end of its way, and past the fork.
+    /// The index of the next name in the call's first path. None at the end of the leg, and past the fork.
     pub(crate) fn depth_ahead(&self) -> Option<usize>
         ensures some { IfSome result (λ depth. (call : Call) × (call_in self.now ≡ Some call)
             × (next_in self.now ≡ slice_get (calls.first_path call) depth)) }
@@ -240,7 +239,7 @@ impl Seat {
         }
     }
 
-    /// The leg in turn takes its next name, which names this directory.
+    /// Descends by the next name to this directory.
     pub(crate) fn descend(&mut self, inode: u64)
         requires { IsSome (next_in self.old) }
         ensures { self.new ≡ record self.old
@@ -275,7 +274,7 @@ impl Seat {
         }
     }
 
-    /// Whether the walk stands at its fork.
+    /// Whether the walk is at its fork.
     pub(crate) fn may_fork(&self) -> bool
         ensures { result ≡ option_map_or (λ (walk : walks.Walk). is_some (walks.forked walk.call walk.at)) self.now.walk
             false }
@@ -290,7 +289,7 @@ impl Seat {
         }
     }
 
-    /// The walk leaves what is common to both paths.
+    /// Splits the walk into one leg for each path.
     pub(crate) fn fork(&mut self)
         requires { option_map_or (λ (walk : walks.Walk). is_some (walks.forked walk.call walk.at)) self.old.walk false
             ≡ true }
@@ -305,7 +304,7 @@ impl Seat {
         self.stage = Stage::Split;
     }
 
-    /// The walk starts again, above the root.
+    /// Restarts the walk, above the root.
     pub(crate) fn restart(&mut self)
         requires { (walk : walks.Walk) × (self.old.walk ≡ Some walk) × (walk.starts ≤ 4) }
         ensures { self.new ≡ record self.old { walk = option_map again self.old.walk } }
@@ -315,7 +314,7 @@ impl Seat {
         self.stage = Stage::Above;
     }
 
-    /// Whether each branch is at its end.
+    /// Whether each leg is at its end.
     pub(crate) fn is_at_ends(&self) -> bool
         ensures { result ≡ is_at_ends self.now }
     {
@@ -336,7 +335,7 @@ impl Seat {
         self.call.as_ref()
     }
 
-    /// A walk that passes one of these directories is stale.
+    /// Makes the walk stale if it passes one of these directories.
     pub(crate) fn overtake(&mut self, moved: &[u64])
         ensures { self.new ≡ record self.old { walk = option_map (overtaken moved.now) self.old.walk } }
     {
@@ -345,7 +344,7 @@ impl Seat {
         }
     }
 
-    /// The walk ends.
+    /// Ends the walk.
     #[inline(always)]
     pub(crate) fn end(&mut self) -> Ended
         requires { (walk : walks.Walk) × (self.old.walk ≡ Some walk) }
@@ -369,14 +368,14 @@ impl Seat {
         }
     }
 
-    /// The slot that is kept for what it makes.
+    /// The client's spare slot.
     pub(crate) fn spare(&self) -> u64
         ensures { result ≡ self.now.spare }
     {
         self.spare
     }
 
-    /// The client's descriptor of this number is free.
+    /// Closes the client's descriptor.
     pub(crate) fn close(&mut self, number: u64)
         ensures { self.new ≡ record self.old {
           client = record self.old.client { descriptors = remove self.old.client.descriptors number };
@@ -385,8 +384,8 @@ impl Seat {
         self.client.descriptors.remove(number);
     }
 
-    /// The call of the client's walk, which has ended, is decided and made; the reply. Errors: memory ran out, and
-    /// nothing has changed.
+    /// Decides and makes the call of the client's ended walk. Returns the reply. Errors: memory ran out, and nothing
+    /// has changed.
     pub(crate) fn perform(
         &mut self,
         alloc: Global,

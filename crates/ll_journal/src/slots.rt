@@ -1,4 +1,4 @@
-//! Slots that a step needs.
+//! The slots that a step needs.
 
 ghost use Rattle.std.specs.Prelude.{◌≡◌, ℕ, ◌+◌, ◌<◌, ◌≤◌, List, [], length, take};
 ghost use Rattle.ll_journal.specs.Needs.{with_slot, with_slot_of};
@@ -7,10 +7,10 @@ use crate::standing::is_in;
 use ll_node::Inodes;
 use std::marker::Model;
 
-/// The most slots that a step needs: those of three directories, and one more.
+/// The most slots that a step needs: three directories and one more.
 const MOST: usize = 4;
 
-/// The slots to lend to a step, each once. Contracts see their numbers. Takes no memory.
+/// A set of slots to lend to a step. Contracts see their numbers. Takes no memory.
 #[derive(Drop)]
 pub struct Slots {
     numbers: [u64; MOST],
@@ -26,7 +26,7 @@ impl Model for Slots {
 }
 
 impl Slots {
-    /// None.
+    /// Returns no slots.
     pub(crate) fn new() -> Slots
         ensures { result ≡ [] }
     {
@@ -36,14 +36,14 @@ impl Slots {
         }
     }
 
-    /// Their numbers.
+    /// Returns the slots' numbers.
     pub fn as_slice(&self) -> &[u64]
         ensures { result.now ≡ self.now }
     {
         &self.numbers[..self.count]
     }
 
-    /// With this one too.
+    /// Adds the slot, unless it is there.
     pub(crate) fn add(&mut self, slot: u64)
         requires { length self.old < 4 }
         ensures slots { self.new ≡ with_slot self.old slot }
@@ -55,7 +55,7 @@ impl Slots {
         }
     }
 
-    /// With that of the inode too, where it lies in one.
+    /// Adds the inode's slot, if it has one.
     pub(crate) fn add_of(&mut self, table: &Inodes, inode: u64)
         requires { length self.old < 4 }
         ensures slots { self.new ≡ with_slot_of table.now.places self.old inode }

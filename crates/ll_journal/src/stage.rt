@@ -1,11 +1,11 @@
-//! How far a walk has come, and which of its legs is in turn.
+//! How far a walk has come, and which leg is its current one.
 
 ghost use Rattle.std.specs.Prelude.{◌≡◌};
 ghost use Rattle.ll_journal.specs.Seated.{none_left, turn_at};
 
 use crate::leg::Leg;
 
-/// How far a walk has come: above the root, on its one branch, or past the fork.
+/// How far a walk has come: above the root, on its common leg, or past the fork.
 #[derive(Clone, Copy)]
 pub(crate) enum Stage {
     Above,
@@ -13,7 +13,7 @@ pub(crate) enum Stage {
     Split,
 }
 
-/// The leg in turn.
+/// The current leg.
 #[derive(Clone, Copy)]
 pub(crate) enum Turn {
     No,
@@ -22,7 +22,7 @@ pub(crate) enum Turn {
     Second,
 }
 
-/// The leg in turn: of a forked walk the first path's, to its end.
+/// The current leg. After the fork it is the first path's until that is at its end.
 pub(crate) fn turn_of(stage: Stage, first: &Leg) -> Turn
     ensures { result ≡ turn_at stage (none_left first.now.ahead) }
 {

@@ -1,4 +1,4 @@
-//! Where the walk in a seat stands.
+//! Where a seat's walk is.
 
 ghost use Rattle.std.specs.Prelude.{◌≡◌, false};
 ghost use Rattle.std.specs.List.{list_any};
@@ -18,7 +18,7 @@ pub(crate) fn is_in(inodes: &[u64], inode: u64) -> bool
     inodes.iter().any(|other| *other == inode)
 }
 
-/// Whether the inode lies in what is lent.
+/// Whether the inode's slot is lent.
 pub(crate) fn is_lent(lent: &[Held], inode: u64) -> bool
     ensures { result ≡ checks.lends lent.now inode }
 {
@@ -28,7 +28,7 @@ pub(crate) fn is_lent(lent: &[Held], inode: u64) -> bool
 impl Seat {
     ghost use Rattle.ll_journal.specs.Seated.{first_here_in, here_in, second_here_in};
 
-    /// Where the leg in turn stands.
+    /// The directory of the current leg.
     pub(crate) fn here(&self) -> Option<u64>
         ensures { result ≡ here_in self.now }
     {
@@ -43,7 +43,7 @@ impl Seat {
         }
     }
 
-    /// Whether the walk stands in the directory.
+    /// Whether the walk marks the directory.
     pub(crate) fn stands_in(&self, inode: u64) -> bool
         ensures { result ≡ option_map_or (λ (walk : walks.Walk). walks.marks walk inode) self.now.walk false }
     {
@@ -61,7 +61,7 @@ impl Seat {
         }
     }
 
-    /// Whether each directory where the walk stands is lent.
+    /// Whether each directory that the walk marks is lent.
     pub(crate) fn is_all_lent(&self, lent: &[Held]) -> bool
         ensures { result ≡ checks.is_all_lent lent.now self.now }
     {
@@ -79,7 +79,7 @@ impl Seat {
         }
     }
 
-    /// The slots of the directories where the walk stands.
+    /// The slots of the directories that the walk marks.
     pub(crate) fn slots(&self, table: &Inodes) -> Slots
         ensures { result ≡ slots_in table.now.places self.now }
     {
@@ -99,7 +99,7 @@ impl Seat {
         slots
     }
 
-    /// Where the leg of the call's first path stands.
+    /// The directory of the first path's leg.
     pub(crate) fn first_here(&self) -> Option<u64>
         ensures { result ≡ first_here_in self.now }
     {
@@ -113,7 +113,7 @@ impl Seat {
         }
     }
 
-    /// Where the leg of the call's second path stands.
+    /// The directory of the second path's leg.
     pub(crate) fn second_here(&self) -> Option<u64>
         ensures { result ≡ second_here_in self.now }
     {
@@ -127,7 +127,7 @@ impl Seat {
         }
     }
 
-    /// Whether the directory is on the walk's way from the root.
+    /// Whether the directory is on the walk's chains from the root.
     fn passes(&self, inode: u64) -> bool
         ensures { result ≡ option_map_or (λ (walk : walks.Walk). walks.passes walk inode) self.now.walk false }
     {
@@ -145,7 +145,7 @@ impl Seat {
         }
     }
 
-    /// Whether one of these directories is on the walk's way.
+    /// Whether one of these directories is on the walk's chains.
     pub(crate) fn passes_any(&self, inodes: &[u64]) -> bool
         ensures { result ≡ list_any (λ inode. option_map_or (λ (walk : walks.Walk). walks.passes walk inode)
             self.now.walk false) inodes.now }

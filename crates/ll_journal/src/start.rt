@@ -1,4 +1,4 @@
-//! What becomes of a call that its client makes.
+//! The start of a client's call.
 
 ghost use Rattle.std.specs.Prelude.{◌≡◌, []};
 ghost use Rattle.ll_journal.specs.Starts.{Starts};
@@ -7,14 +7,14 @@ use crate::direct::Made;
 use crate::journal::Journal;
 use ll_seq::Call;
 
-/// What becomes of a call.
+/// The result of starting a call.
 #[derive(Drop)]
 pub enum Start {
-    /// It is one for the client alone, and this came of it.
+    /// The call was for the client alone and is done.
     Made(Made),
-    /// Its walk is under way, above the root.
+    /// The call's walk is under way, above the root.
     Begun,
-    /// It comes back: neither step is enabled.
+    /// Neither step is enabled. Gives the call back.
     Back(Call),
 }
 
@@ -22,8 +22,8 @@ impl Journal {
     ghost use Rattle.ll_journal.specs.Book.{Spares};
     ghost use Rattle.ll_journal.specs.Direct.{LeavesSlots, TakesMemory};
 
-    /// The client's call is made and answered where it is one for the client alone; else it sets out, or comes back
-    /// where it may not. A call on a descriptor that the client has comes back. Only ruleset, confine and spawn take
+    /// Makes and answers the client's call if it is for the client alone; otherwise begins its walk. Gives the call
+    /// back if it may not begin, or is on a descriptor that the client has. Only ruleset, confine and spawn take
     /// memory.
     pub fn start(&mut self, client: u64, call: Call) -> Start
         ensures starts { Starts self.old client call result self.new }

@@ -6,27 +6,27 @@ ghost use Rattle.ll_laws.specs.Walk as walks;
 use crate::way::has_two_paths;
 use ll_seq::Call;
 
-/// Where a client's walk is, as far as it can be told without a look at a directory.
+/// Where a client's walk is, as far as that is known without a look at a directory.
 #[derive(Clone, Copy, PartialEq, Eq)]
 pub enum Station {
     /// No walk is under way.
     Idle,
-    /// A directory on its way was moved: it has to start again.
+    /// A directory on its way was moved. It must restart.
     Stale,
     Above,
-    /// On what is common to its paths, with names ahead.
+    /// On the way that its paths share, with names ahead.
     Trunk,
-    /// At the end of what is common to two paths.
+    /// At the end of the way that its two paths share.
     Fork,
-    /// On the way of its first path, past the fork, with names ahead.
+    /// Past the fork, on the way of its first path, with names ahead.
     First,
-    /// On the way of its second path, past the fork, with names ahead.
+    /// Past the fork, on the way of its second path, with names ahead.
     Second,
-    /// Each branch is at its end.
+    /// Each leg is at its end.
     End,
 }
 
-/// On what is common to its paths, and perhaps at the end of that.
+/// The station of a walk on the way that its paths share.
 pub(crate) fn trunk_station(call: &Call, is_ended: bool) -> Station
     ensures { result ≡ (if is_ended then if walks.has_two_paths call.now then Station.Fork else Station.End else
         Station.Trunk) }
@@ -40,7 +40,7 @@ pub(crate) fn trunk_station(call: &Call, is_ended: bool) -> Station
     }
 }
 
-/// Past the fork, with branches that are perhaps at their ends.
+/// The station of a walk past the fork.
 pub(crate) fn split_station(is_first_ended: bool, is_second_ended: bool) -> Station
     ensures { result ≡ (if is_first_ended then if is_second_ended then Station.End else Station.Second else
         Station.First) }

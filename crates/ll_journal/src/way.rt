@@ -1,4 +1,4 @@
-//! The way of a call: the names that its walk takes.
+//! The names that a call's walk takes.
 
 ghost use Rattle.std.specs.Prelude.{◌≡◌, ◌+◌, ◌<◌, ◌≤◌, ◌==◌, IsSome, length, slice_get, option_map};
 ghost use Rattle.ll_path.specs.Path.{common, parent};
@@ -12,7 +12,7 @@ use crate::leg::Ahead;
 use ll_path::{Path, Place, Target};
 use ll_seq::{Call, Targets, targets_of};
 
-/// The path that the word spells, if it spells one.
+/// The path of the argument, if it is valid.
 fn spelled(target: &Target) -> Option<&Path>
     ensures { names_in result ≡ calls.path_of target.now }
 {
@@ -33,7 +33,7 @@ pub(crate) fn first_path(call: &Call) -> Option<&Path>
     }
 }
 
-/// The call's second path, which is the first one where it has no other.
+/// The call's second path, or its first if it has only one.
 pub(crate) fn second_path(call: &Call) -> Option<&Path>
     ensures { names_in result ≡ calls.second_path call.now }
 {
@@ -44,7 +44,7 @@ pub(crate) fn second_path(call: &Call) -> Option<&Path>
     }
 }
 
-/// How many names lead to the path's parent.
+/// The number of names that lead to the path's parent.
 pub(crate) fn way_len(path: Option<&Path>) -> usize
     ensures len { result ≡ length (parent (names_in path.entry)) }
     ensures short { result < PATH_NAMES }
@@ -55,7 +55,7 @@ pub(crate) fn way_len(path: Option<&Path>) -> usize
     }
 }
 
-/// With how many names the ways to both paths' parents begin alike.
+/// The number of names that the ways to both parents share.
 fn shared_len(one: Option<&Path>, other: Option<&Path>) -> usize
     ensures { result ≡ length (common (parent (names_in one.entry)) (parent (names_in other.entry))) }
 {
@@ -66,7 +66,7 @@ fn shared_len(one: Option<&Path>, other: Option<&Path>) -> usize
     }
 }
 
-/// How many names are common to both ways of a call; of one path, how many its way has.
+/// The number of names that both ways of a call share; with one path, the length of its way.
 pub(crate) fn trunk_len(call: &Call) -> usize
     ensures { result ≡ length (walks.trunk_path call.now) }
 {
@@ -77,7 +77,7 @@ pub(crate) fn trunk_len(call: &Call) -> usize
     }
 }
 
-/// The next name of a leg whose way is the beginning of this path.
+/// The next name of a leg along this path.
 pub(crate) fn next_name(path: Option<&Path>, ahead: Ahead) -> Option<&str>
     requires { IsPlace (names_in path) ahead.place }
     ensures { option_map (λ name. name.now) result ≡ name_on (names_in path.entry) ahead }
@@ -88,7 +88,7 @@ pub(crate) fn next_name(path: Option<&Path>, ahead: Ahead) -> Option<&str>
     path?.name_at(ahead.place)
 }
 
-/// The place after the name that begins there.
+/// The position after the name at this one.
 pub(crate) fn place_after(path: Option<&Path>, place: Place) -> Place
     requires place { IsPlace (names_in path) place }
     requires name { IsSome (slice_get (names_in path) place.depth) }
@@ -108,7 +108,7 @@ pub(crate) fn has_two_paths(call: &Call) -> bool
     matches!(targets_of(call), Targets::Two(..))
 }
 
-/// A path has few names.
+/// Does nothing when it runs. Its contract: a path has few names.
 fn know_short(target: &Target)
     ensures { length (calls.path_of target.now) ≤ PATH_NAMES }
 {
@@ -117,7 +117,7 @@ fn know_short(target: &Target)
     }
 }
 
-/// The ways of a call are short enough for its walk's chains. Nothing is done here.
+/// Does nothing when it runs. Its contract: the ways of a call fit into its walk's chains.
 pub(crate) fn know_ways(call: &Call)
     ensures { AreShort call.now }
 {

@@ -23,6 +23,7 @@ use Rattle.ll_seq.specs.declared.reply.Reply.TheVariants as reply
 use Rattle.ll_seq.specs.declared.reply.Entry.{Entry}
 use Rattle.ll_seq.specs.declared.rules.Rules.{Rules}
 use Rattle.ll_seq.specs.Call.{path_of, targets, first_path, second_path}
+pub use Rattle.ll_seq.specs.Call.{has_any, concerns, descriptor_of, moving, takes_gate}
 use Rattle.ll_seq.specs.State.{State, start, root}
 use Rattle.ll_seq.specs.Tree.{named, inode_of, kind_or_file}
 use Rattle.ll_seq.specs.Stages.{early_refusals}
@@ -63,40 +64,6 @@ pub data Outcome : Type 0 where
 
 -- ---- Which step makes a call
 
-abbrev pub has_any : {A : Type 0} → List A → Bool
-has_any [] = false
-has_any (x ∷ xs) = true
-
--- the descriptor that the call is made on, and the paths whose nodes it moves
-abbrev pub concerns : Call → Option ℕ × List Path
-concerns (call.Make kind target) = (None, [])
-concerns (call.Open mode target) = (None, [])
-concerns (call.Read fd offset count) = (Some fd, [])
-concerns (call.Write fd offset bytes) = (Some fd, [])
-concerns (call.Ftruncate fd size) = (Some fd, [])
-concerns (call.Close fd) = (Some fd, [])
-concerns (call.Truncate target size) = (None, [])
-concerns (call.ReadDir target) = (None, [])
-concerns (call.Stat target) = (None, [])
-concerns (call.Exec target) = (None, [])
-concerns (call.Unlink target) = (None, [])
-concerns (call.Rmdir target) = (None, [])
-concerns (call.Rename from into) = (None, path_of from ∷ [])
-concerns (call.RenameNoreplace from into) = (None, path_of from ∷ [])
-concerns (call.Exchange from into) = (None, path_of from ∷ path_of into ∷ [])
-concerns (call.Link from into) = (None, [])
-concerns (call.Ruleset rights) = (None, [])
-concerns (call.Allow number target rights) = (None, [])
-concerns (call.Confine number) = (None, [])
-concerns call.Spawn = (None, [])
-concerns call.Connect = (None, [])
-
-abbrev pub descriptor_of : Call → Option ℕ
-descriptor_of call = (concerns call).0
-
-abbrev pub moving : Call → List Path
-moving call = (concerns call).1
-
 -- A call that names a path walks, unless an early stage refuses it
 abbrev pub is_walked : ClientRecord → Call → Bool
 is_walked c call = has_any (targets call) && not (has_any (early_refusals c call))
@@ -118,10 +85,6 @@ is_marked w inode = list_any (λ (e : ℕ × Walk). marks e.1 inode) (entries w.
 abbrev pub is_marked_by_other : World → ℕ → ℕ → Bool
 is_marked_by_other w number inode =
     list_any (λ (e : ℕ × Walk). not (e.0 == number) && marks e.1 inode) (entries w.walks)
-
--- Of the calls that may move directories only one is under way at a time: it holds the gate from its beginning
-abbrev pub takes_gate : Call → Bool
-takes_gate call = has_any (moving call)
 
 -- ---- When a walk may be answered
 

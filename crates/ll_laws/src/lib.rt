@@ -1,4 +1,4 @@
-//! Laws about the definitions of the sequential tree, which hold of all its legal histories.
+//! Laws of the sequential tree's definitions, which hold for all its legal histories.
 #![tactic(auto)]
 
 mod alone;

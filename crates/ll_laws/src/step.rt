@@ -1,24 +1,24 @@
-//! Steps.
+//! The steps of a shared tree.
 
 use ll_seq::Call;
 
-/// A step of a tree that clients share. Each but the first is that of the client of a number.
+/// A step of a shared tree. Each variant but the first carries the number of the client that makes it.
 #[derive(Drop)]
 pub enum Step {
     /// A new client connects.
     Join,
-    /// The client's call sets out.
+    /// The client's call begins its walk.
     Begin(u64, Call),
-    /// Its walk goes one directory further.
+    /// The walk descends by one name.
     Descend(u64),
-    /// Its walk, of a call of two paths, leaves what is common to both.
+    /// The walk of a call with two paths splits into a branch for each.
     Fork(u64),
-    /// Its walk's call is answered.
+    /// The walk ends and its call is answered.
     Commit(u64),
-    /// Its walk starts again.
+    /// The stale walk starts again.
     Restart(u64),
-    /// A call on a descriptor.
+    /// A call on a descriptor is made and answered.
     FdCommit(u64, Call),
-    /// Any other call that doesn't walk.
+    /// Any other call that doesn't walk is made and answered.
     ClientStep(u64, Call),
 }

@@ -11,10 +11,10 @@ use std::alloc::{AllocError, Global};
 use std::collections::BTreeMap;
 use std::marker::Model;
 
-/// The inode under each name of a directory. Contracts see the map.
+/// The inode of each name in a directory. Contracts see the map.
 #[derive(Drop)]
 pub(crate) struct Directory {
-    // each text is a name
+    // Each key is a valid name.
     rows: BTreeMap<String, u64>,
 }
 
@@ -36,7 +36,7 @@ impl Model for Directory {
 impl Directory {
     ghost use Rattle.ll_rights.specs.Map.{empty};
 
-    /// No names. Takes no memory.
+    /// Returns an empty directory. Takes no memory.
     pub(crate) fn new(alloc: Global) -> Directory
         ensures { result ≡ empty }
     {
@@ -64,7 +64,7 @@ impl Directory {
         self.rows.get(name).copied()
     }
 
-    /// The inode gets the name, also where another one has it.
+    /// Sets the name's inode, whether or not the name exists. Errors: memory ran out.
     #[inline(always)]
     pub(crate) fn insert(&mut self, alloc: Global, name: &str, inode: u64) -> Result<(), AllocError>
         requires { IsName name.now }
@@ -76,7 +76,7 @@ impl Directory {
         Ok(())
     }
 
-    /// Another inode gets a name that is there. What had it is told. Takes no memory.
+    /// Sets the inode of an existing name. Returns the old inode, or None if there is no such name. Takes no memory.
     #[inline(always)]
     pub(crate) fn replace(&mut self, name: &str, inode: u64) -> Option<u64>
         ensures found { result ≡ get self.old name.now }
@@ -88,7 +88,7 @@ impl Directory {
         Some(old)
     }
 
-    /// Takes the name away and tells what had it. Takes no memory.
+    /// Removes the name. Returns its inode, or None if there is no such name. Takes no memory.
     #[inline(always)]
     pub(crate) fn remove(&mut self, name: &str) -> Option<u64>
         ensures found { result ≡ get self.old name.now }
@@ -98,7 +98,7 @@ impl Directory {
         self.rows.remove(name)
     }
 
-    /// The names, rising by bytes.
+    /// Returns the names, sorted by bytes. Errors: memory ran out.
     pub(crate) fn names(&self, alloc: Global) -> Result<Listing, AllocError>
         ensures { IfOk result (λ listing. listing ≡ map (λ (e : List ℕ × ℕ). e.0) (entries self.now)) }
     {

@@ -1,4 +1,4 @@
-//! A client's change.
+//! Makes a client's change.
 
 ghost use Rattle.std.specs.Prelude.{◌≡◌, true, is_ok, OnOk, OnErr};
 ghost use Rattle.ll_seq.specs.Lean.{adds_nothing};
@@ -11,9 +11,9 @@ use crate::{Held, Inodes};
 use ll_seq::{Change, ClientRecord};
 use std::alloc::{AllocError, Global};
 
-/// Makes the client's change. The slots of the nodes that it touches are lent; if it makes a node, also the client's
-/// spare slot, in which that node lies then, and another slot is kept. Errors: memory ran out, and nothing has changed;
-/// never where the change adds nothing.
+/// Makes the client's change. The slots of the nodes that it touches are lent. If it creates a node, the client's spare
+/// slot is lent too: the node goes there, and the client gets a new spare slot. Errors: memory ran out, and nothing has
+/// changed; impossible if the change adds nothing.
 pub fn enact(
     alloc: Global,
     client: &mut ClientRecord,

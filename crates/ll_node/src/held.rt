@@ -1,4 +1,4 @@
-//! What lies behind a slot's lock.
+//! The contents of a slot.
 
 ghost use Rattle.std.specs.Prelude.{◌≡◌, [], true, false, IfErr, IsErr, IsOk, OnOk, OnErr};
 ghost use Rattle.ll_rights.specs.declared.errno.Errno.TheVariants.{NoMemory};
@@ -14,14 +14,14 @@ use crate::Slot;
 use ll_rights::{Errno, Kind};
 use std::alloc::{AllocError, Global};
 
-/// A slot's node, and its inode; 0 where the slot is vacant.
+/// A slot's inode and node. The inode is 0 if the slot is vacant.
 #[derive(Drop)]
 pub struct Held {
     pub inode: u64,
     pub node: Slot,
 }
 
-/// Where the one error can be a want of memory.
+/// Converts errors that can only be NoMemory.
 fn wants_memory(done: Result<(), Errno>) -> Result<(), AllocError>
     requires { IfErr done (λ errno. errno ≡ NoMemory) }
     ensures ok { OnOk result (IsOk done) }
@@ -35,7 +35,7 @@ fn wants_memory(done: Result<(), Errno>) -> Result<(), AllocError>
 }
 
 impl Held {
-    /// The client's mark goes, if it is here.
+    /// Removes the client's mark, if it is here.
     pub(crate) fn unmark(&mut self, client: u64)
         ensures { self.new ≡ unmarked client self.old }
     {
@@ -44,7 +44,7 @@ impl Held {
         }
     }
 
-    /// The directory gets a name that it doesn't have. Errors: no memory, and nothing has changed.
+    /// Adds a name that the directory doesn't have. Errors: memory ran out, and nothing has changed.
     pub(crate) fn name(&mut self, name: &str, inode: u64) -> Result<(), AllocError>
         requires directory { is_dir self.old.node.kind ≡ true }
         requires name { IsName name.now }
@@ -56,7 +56,7 @@ impl Held {
         wants_memory(self.node.insert(name, inode))
     }
 
-    /// The directory's name comes to stand for another inode, if it lies here.
+    /// Sets the inode of a name in the directory, if the directory is in this slot.
     pub(crate) fn replace_name(&mut self, directory: u64, name: &str, inode: u64)
         requires { self.old.inode ≡ directory → missing self.old.node.names name.now ≡ [] }
         ensures { self.new ≡ named_in directory name.now inode self.old }
@@ -66,7 +66,7 @@ impl Held {
         }
     }
 
-    /// The directory loses the name, if it lies here.
+    /// Removes a name from the directory, if the directory is in this slot.
     pub(crate) fn take_name(&mut self, directory: u64, name: &str)
         ensures { self.new ≡ unnamed_in directory name.now self.old }
     {
@@ -75,7 +75,7 @@ impl Held {
         }
     }
 
-    /// What has the old name gets the new one in its place. Errors: no memory, and nothing has changed.
+    /// Moves the inode from the old name to the new one. Errors: memory ran out, and nothing has changed.
     pub(crate) fn rename(&mut self, old: &str, new: &str) -> Result<(), AllocError>
         requires name { IsName new.now }
         requires takes { rename_refusals self.old.node.names old.now new.now ≡ [] }
@@ -86,7 +86,7 @@ impl Held {
         wants_memory(self.node.rename(old, new))
     }
 
-    /// The node's bytes are cut or filled to this length. Errors: no memory, and nothing has changed.
+    /// Sets the length of the node's bytes. New bytes are zeros. Errors: memory ran out, and nothing has changed.
     pub(crate) fn set_len(&mut self, size: u64) -> Result<(), AllocError>
         requires file { is_dir self.old.node.kind ≡ false }
         requires takes { len_refusals size ≡ [] }
@@ -97,7 +97,7 @@ impl Held {
         wants_memory(self.node.set_len(size))
     }
 
-    /// The inode's node has no bytes, if it lies here.
+    /// Removes all bytes of the inode's node, if it is in this slot.
     pub(crate) fn clear(&mut self, inode: u64)
         ensures { self.new ≡ emptied_in inode self.old }
     {
@@ -106,7 +106,7 @@ impl Held {
         }
     }
 
-    /// Nothing lies here any more, if the inode did.
+    /// Makes the slot vacant, if the inode is in it.
     pub fn vacate(&mut self, alloc: Global, inode: u64)
         ensures { self.new ≡ vacated inode self.old }
     {
@@ -115,7 +115,7 @@ impl Held {
         }
     }
 
-    /// A new node lies here.
+    /// Puts a new node into the slot.
     pub(crate) fn fill(&mut self, alloc: Global, inode: u64, kind: Kind)
         ensures { self.new ≡ filled inode kind }
     {

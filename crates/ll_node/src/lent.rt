@@ -1,4 +1,4 @@
-//! What a step does to the slots that it is lent.
+//! Changes to the slots that a step is lent.
 
 ghost use Rattle.std.specs.Prelude.{◌≡◌, ◌≢◌, ◌<◌, [], true, false, length, map, slice_get, slice_set, Some, IfSome};
 ghost use Rattle.std.specs.Prelude.{IfNone, OnOk, OnErr};
@@ -15,7 +15,7 @@ use crate::held::Held;
 use ll_rights::Kind;
 use std::alloc::{AllocError, Global};
 
-/// The place of the slot where the inode lies.
+/// Returns the index of the slot that holds the inode, or None.
 pub fn find(lent: &[Held], inode: u64) -> Option<usize>
     ensures some { IfSome result (λ place. (held : record_of.Held) × (slice_get lent.now place ≡ Some held)
         × (held.inode ≡ inode)) }
@@ -25,7 +25,7 @@ pub fn find(lent: &[Held], inode: u64) -> Option<usize>
     lent.iter().position(|held| held.inode == inode)
 }
 
-/// The client's mark goes from each.
+/// Removes the client's mark from each slot.
 pub fn unmark(lent: &mut [Held], client: u64)
     ensures { lent.new ≡ map (unmarked client) lent.old }
 {
@@ -34,7 +34,7 @@ pub fn unmark(lent: &mut [Held], client: u64)
     }
 }
 
-/// The directory gets a name that it doesn't have. Errors: no memory, and nothing has changed.
+/// Adds a name that the directory doesn't have. Errors: memory ran out, and nothing has changed.
 pub fn name(lent: &mut [Held], directory: u64, name: &str, inode: u64) -> Result<(), AllocError>
     requires apart { AreApart lent.old }
     requires directory { directory ≢ 0 }
@@ -50,7 +50,7 @@ pub fn name(lent: &mut [Held], directory: u64, name: &str, inode: u64) -> Result
     lent[place].name(name, inode)
 }
 
-/// The directory loses the name. Takes no memory.
+/// Removes the name from the directory. Takes no memory.
 pub fn take_name(lent: &mut [Held], directory: u64, name: &str)
     ensures { lent.new ≡ map (unnamed_in directory name.now) lent.old }
 {
@@ -59,7 +59,7 @@ pub fn take_name(lent: &mut [Held], directory: u64, name: &str)
     }
 }
 
-/// A name that the directory has comes to stand for another inode. Takes no memory.
+/// Sets the inode of a name that the directory has. Takes no memory.
 pub fn replace_name(lent: &mut [Held], directory: u64, name: &str, inode: u64)
     requires { AllByRecursion (λ (held : record_of.Held). held.inode ≡ directory
         → missing held.node.names name.now ≡ []) lent.old }
@@ -70,7 +70,8 @@ pub fn replace_name(lent: &mut [Held], directory: u64, name: &str, inode: u64)
     }
 }
 
-/// What has the old name in the one directory has the new one in the other. Errors: no memory, and nothing has changed.
+/// Moves the inode from the old name in `from` to the new name in `into`. Errors: memory ran out, and nothing has
+/// changed.
 pub fn move_name(
     lent: &mut [Held],
     from: u64,
@@ -103,7 +104,7 @@ pub fn move_name(
     lent[place].rename(old, new)
 }
 
-/// The node's bytes are cut or filled to this length. Errors: no memory, and nothing has changed.
+/// Sets the length of the node's bytes. New bytes are zeros. Errors: memory ran out, and nothing has changed.
 pub fn set_len(lent: &mut [Held], inode: u64, size: u64) -> Result<(), AllocError>
     requires apart { AreApart lent.old }
     requires inode { inode ≢ 0 }
@@ -118,7 +119,7 @@ pub fn set_len(lent: &mut [Held], inode: u64, size: u64) -> Result<(), AllocErro
     lent[place].set_len(size)
 }
 
-/// The node has no bytes. Takes no memory.
+/// Removes all of the node's bytes. Takes no memory.
 pub fn clear(lent: &mut [Held], inode: u64)
     ensures { lent.new ≡ map (emptied_in inode) lent.old }
 {
@@ -127,7 +128,7 @@ pub fn clear(lent: &mut [Held], inode: u64)
     }
 }
 
-/// Nothing lies in the inode's slot any more. Takes no memory.
+/// Makes the inode's slot vacant. Takes no memory.
 pub fn vacate(alloc: Global, lent: &mut [Held], inode: u64)
     ensures { lent.new ≡ map (vacated inode) lent.old }
 {
@@ -136,7 +137,7 @@ pub fn vacate(alloc: Global, lent: &mut [Held], inode: u64)
     }
 }
 
-/// A new node lies in the slot at this place. Takes no memory.
+/// Puts a new node into the slot at this index. Takes no memory.
 pub fn fill(alloc: Global, lent: &mut [Held], place: usize, inode: u64, kind: Kind)
     requires { place < length lent.old }
     ensures { lent.new ≡ slice_set lent.old place (filled inode kind) }

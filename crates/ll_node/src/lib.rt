@@ -1,10 +1,11 @@
-//! What lies behind a node's lock: its names or its bytes, and at most one walk's mark. There is no thread in it.
+//! What the lock of a node guards: names or bytes, and at most one walk's mark. The crate uses no threads.
 //!
-//! A call on a name goes down std's B-tree a few times. Its blocks hold at most 15 names and, but for the top one, at
-//! least 7, so a directory of 1,024 names is four blocks high at most: that costs the logarithm of its names. A read
-//! costs the bytes that it copies, a write or a change of length those that it puts in or cuts; now and then a growing
-//! file moves to twice the room. (The sources of std say so, their contracts don't.) A slot takes 56 bytes of its own.
-//! An empty node takes no others; a block of names takes 488, or 616 with blocks below it, beside the names' texts.
+//! A call on a name searches std's B-tree a few times. Its blocks hold at most 15 names and, except for the top one, at
+//! least 7, so a directory of 1,024 names is at most four blocks high: a search is logarithmic in the number of names.
+//! A read costs the bytes that it copies. A write or a resize costs the bytes that it adds or removes; a growing file
+//! is sometimes copied to twice the room. (This is how std's sources work; their contracts don't say so.) A slot takes
+//! 56 bytes. An empty node takes no more. A block of names takes 488 bytes, or 616 with blocks below it, plus the texts
+//! of the names.
 #![tactic(auto)]
 
 mod directory;

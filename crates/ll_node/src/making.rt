@@ -1,4 +1,4 @@
-//! A node that is made, and a file that is opened.
+//! Creating nodes and opening files.
 
 ghost use Rattle.std.specs.Prelude.{◌≡◌, ◌<◌, length, slice_get, Some, None, IfSome, IfNone, OnOk, OnErr};
 ghost use Rattle.ll_seq.specs.declared.client.ClientRecord as record_of;
@@ -11,7 +11,7 @@ use ll_rights::Kind;
 use ll_seq::{At, ClientRecord, Opening};
 use std::alloc::{AllocError, Global};
 
-/// Where the slot stands among these.
+/// The index of the slot in the list.
 fn place_of(slots: &[u64], slot: u64) -> Option<usize>
     ensures some { IfSome result (λ place. slice_get slots.now place ≡ Some slot) }
     ensures within { IfSome result (λ place. place < length slots.now) }
@@ -20,8 +20,8 @@ fn place_of(slots: &[u64], slot: u64) -> Option<usize>
     slots.iter().position(|other| *other == slot)
 }
 
-/// A new node has the name. It lies in the client's spare slot, and another slot is kept. Errors: memory ran out, and
-/// nothing has changed.
+/// Creates a node under the name, in the client's spare slot, and takes a free slot as the new spare. Errors: memory
+/// ran out, and nothing has changed.
 pub(crate) fn make(
     alloc: Global,
     spare: &mut u64,
@@ -54,7 +54,7 @@ pub(crate) fn make(
     Ok(())
 }
 
-/// Makes the file and opens it, or does neither. Errors: memory ran out, and nothing has changed.
+/// Creates the file and opens it, or does neither. Errors: memory ran out, and nothing has changed.
 pub(crate) fn open_new(
     alloc: Global,
     client: &mut ClientRecord,
@@ -84,7 +84,7 @@ pub(crate) fn open_new(
     Ok(())
 }
 
-/// Opens the file that is there. Errors: memory ran out, and nothing has changed.
+/// Opens an existing file. Errors: memory ran out, and nothing has changed.
 pub(crate) fn open_there(
     client: &mut ClientRecord,
     table: &mut Inodes,

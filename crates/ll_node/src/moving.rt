@@ -1,4 +1,4 @@
-//! Changes that leave the nodes that there are: of names, of a length, and of a client's rulesets.
+//! Changes that neither create nor remove a node: to names, a length, or a client's rulesets.
 
 ghost use Rattle.std.specs.Prelude.{◌≡◌, OnOk, OnErr};
 ghost use Rattle.ll_seq.specs.declared.changes.Change.TheVariants as change;
@@ -8,7 +8,7 @@ use crate::{Held, Inodes};
 use ll_seq::{At, ClientRecord, Rule};
 use std::alloc::AllocError;
 
-/// The inode has a further name. Errors: memory ran out, and nothing has changed.
+/// Adds a further name for the inode. Errors: memory ran out, and nothing has changed.
 pub(crate) fn name(
     table: &mut Inodes,
     lent: &mut [Held],
@@ -26,7 +26,7 @@ pub(crate) fn name(
     Ok(())
 }
 
-/// The inode has the second name in the place of the first. Errors: memory ran out, and nothing has changed.
+/// Moves the inode from the first name to the second. Errors: memory ran out, and nothing has changed.
 pub(crate) fn move_name(
     table: &mut Inodes,
     lent: &mut [Held],
@@ -52,7 +52,7 @@ pub(crate) fn move_name(
     Ok(())
 }
 
-/// The inodes under the two names change places.
+/// Exchanges the inodes under the two names.
 pub(crate) fn exchange(lent: &mut [Held], old: &At<'_>, new: &At<'_>, first: u64, second: u64)
     requires { (any : InHand)
         × MayEnact (change.Exchange old.now new.now first second) (record any { lent = lent.old }) }
@@ -63,7 +63,7 @@ pub(crate) fn exchange(lent: &mut [Held], old: &At<'_>, new: &At<'_>, first: u64
     crate::replace_name(lent, old.directory, old.name, second);
 }
 
-/// The file's bytes are cut or filled to this length. Errors: memory ran out, and nothing has changed.
+/// Sets the length of the file. New bytes are zeros. Errors: memory ran out, and nothing has changed.
 pub(crate) fn resize(lent: &mut [Held], inode: u64, size: u64) -> Result<(), AllocError>
     requires { (any : InHand) × MayEnact (change.Resize inode size) (record any { lent = lent.old }) }
     ensures ok { OnOk result ((any : InHand) → Enacts (change.Resize inode size) (record any { lent = lent.old })
@@ -73,7 +73,7 @@ pub(crate) fn resize(lent: &mut [Held], inode: u64, size: u64) -> Result<(), All
     crate::set_len(lent, inode, size)
 }
 
-/// The client's ruleset has this rule too. Errors: memory ran out, and nothing has changed.
+/// Adds a rule to the client's ruleset. Errors: memory ran out, and nothing has changed.
 pub(crate) fn allow(client: &mut ClientRecord, rule: &Rule) -> Result<(), AllocError>
     requires { (any : InHand) × MayEnact (change.Allow rule.now) (record any { client = client.old }) }
     ensures ok { OnOk result ((any : InHand) → Enacts (change.Allow rule.now) (record any { client = client.old })

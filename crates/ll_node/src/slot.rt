@@ -1,4 +1,4 @@
-//! One node behind its lock.
+//! The node behind one lock.
 
 ghost use Rattle.std.specs.Prelude.{◌≡◌, ◌+◌, ◌≤◌, ℕ, List, [], ◌∷◌, Some, false, OnOk, OnErr, IfOk, IfErr, IsTrue};
 ghost use Rattle.std.specs.Prelude.{map, take, drop};
@@ -16,23 +16,23 @@ use ll_seq::{Content, Listing};
 use std::alloc::{AllocError, Global};
 use std::marker::Model;
 
-/// A directory has at most so many names.
+/// The most names in a directory.
 const MOST_NAMES: usize = 1_024;
 
-/// Any other node has at most so many bytes.
+/// The most bytes in any other node.
 const MOST_BYTES: u64 = 65_536;
 
 const _: () = prove!(size_of::<Slot>() <= 256);
 
-/// What a node holds: a directory its names, any other node its bytes.
+/// The contents of a node: names for a directory, bytes for any other node.
 #[derive(Drop)]
 enum Held {
     Names(Directory),
     Bytes(Content),
 }
 
-/// What lies behind a node's lock: the names in a directory, or the bytes of another node, and the mark of at most one
-/// walk. Contracts see a map or a list, and the mark.
+/// A directory's names or another node's bytes, and the mark of at most one walk. Contracts see a map or a list, and
+/// the mark.
 #[derive(Drop)]
 pub struct Slot {
     alloc: Global,
@@ -63,7 +63,7 @@ impl Model for Slot {
     ghost invariant = { λ slot. has_names slot.held ≡ is_dir slot.kind };
 }
 
-/// Whether these bytes would end behind what a node may have.
+/// Whether writing this many bytes at the offset would exceed the longest file.
 fn ends_too_late(offset: u64, len: u64) -> bool
     ensures { result ≡ is_too_long (offset + len) }
 {
@@ -74,7 +74,7 @@ impl Slot {
     ghost use Rattle.ll_node.specs.Slot.{new_slot, len_of, renamed, written};
     ghost use Rattle.ll_node.specs.Refusals.{insert_refusals, missing, rename_refusals, write_refusals, len_refusals};
 
-    /// A new node, empty and unmarked. Takes no memory.
+    /// Returns an empty, unmarked node. Takes no memory.
     pub fn new(alloc: Global, kind: Kind) -> Slot
         ensures { result ≡ new_slot kind }
     {
@@ -91,7 +91,7 @@ impl Slot {
         }
     }
 
-    /// The kind that the node was made with. A directory holds names, any other node bytes.
+    /// Returns the kind that the node was created with.
     pub fn kind(&self) -> Kind
         ensures kind { result ≡ self.now.kind }
         ensures names { IsTrue (is_dir self.now.kind) → self.now.bytes ≡ [] }
@@ -100,7 +100,7 @@ impl Slot {
         self.kind
     }
 
-    /// How many names, or how many bytes.
+    /// Returns the number of names in a directory, or of bytes in another node.
     pub fn len(&self) -> usize
         ensures { result ≡ len_of self.now }
     {
@@ -110,7 +110,7 @@ impl Slot {
         }
     }
 
-    /// The client whose walk stands here.
+    /// Returns the client whose walk has marked the node.
     pub fn mark(&self) -> Option<u64>
         ensures { result ≡ self.now.mark }
     {
@@ -123,7 +123,7 @@ impl Slot {
         self.mark = mark;
     }
 
-    /// The inode under the name. What is no directory has no names.
+    /// Returns the inode of the name. Only a directory has names.
     pub fn look_up(&self, name: &str) -> Option<u64>
         ensures { result ≡ get self.now.names name.now }
     {
@@ -133,7 +133,7 @@ impl Slot {
         }
     }
 
-    /// The inode gets a name that the directory doesn't have.
+    /// Adds a name that the directory doesn't have. Errors: no room, or memory ran out.
     pub fn insert(&mut self, name: &str, inode: u64) -> Result<(), Errno>
         requires directory { IsTrue (is_dir self.old.kind) }
         requires name { IsName name.now }
@@ -157,7 +157,7 @@ impl Slot {
         Ok(())
     }
 
-    /// Another inode gets a name that is there. What had it is told. Takes no memory.
+    /// Sets the inode of an existing name. Returns the old inode. Takes no memory.
     pub fn replace(&mut self, name: &str, inode: u64) -> Result<u64, Errno>
         ensures ok { OnOk result (self.new ≡ record self.old { names = insert self.old.names name.now inode }) }
         ensures had { IfOk result (λ had. get self.old.names name.now ≡ Some had) }
@@ -171,7 +171,7 @@ impl Slot {
         had.ok_or(Errno::ENOENT)
     }
 
-    /// What has the old name gets the new one in its place, which nothing has.
+    /// Moves the inode from the old name to the new one, which must be free.
     pub fn rename(&mut self, old: &str, new: &str) -> Result<(), Errno>
         requires { IsName new.now }
         ensures ok { OnOk result (self.new ≡ record self.old { names = renamed self.old.names old.now new.now }) }
@@ -196,7 +196,7 @@ impl Slot {
         Ok(())
     }
 
-    /// Takes the name away and tells what had it. Takes no memory.
+    /// Removes the name. Returns its inode. Takes no memory.
     pub fn remove(&mut self, name: &str) -> Result<u64, Errno>
         ensures ok { OnOk result (self.new ≡ record self.old { names = remove self.old.names name.now }) }
         ensures had { IfOk result (λ had. get self.old.names name.now ≡ Some had) }
@@ -210,7 +210,7 @@ impl Slot {
         had.ok_or(Errno::ENOENT)
     }
 
-    /// The names, rising by bytes. What is no directory has none.
+    /// Returns the names, sorted by bytes: none unless it is a directory. Errors: memory ran out.
     pub fn names(&self) -> Result<Listing, AllocError>
         ensures { IfOk result (λ listing. listing ≡ map (λ (e : List ℕ × ℕ). e.0) (entries self.now.names)) }
     {
@@ -220,7 +220,8 @@ impl Slot {
         }
     }
 
-    /// At most so many bytes from the offset on: fewer or none at the end. A directory has none.
+    /// Returns at most `count` bytes from the offset on: fewer or none at the end, none of a directory. Errors: memory
+    /// ran out.
     pub fn read_at(&self, offset: u64, count: u64) -> Result<Data, AllocError>
         requires { count ≤ 4096 }
         ensures { IfOk result (λ read. read ≡ take count (drop offset self.now.bytes)) }
@@ -231,8 +232,7 @@ impl Slot {
         }
     }
 
-    /// Puts the bytes in from the offset on, over what stands there. A gap before them is zeros; no bytes change
-    /// nothing.
+    /// Overwrites from the offset on, and fills a gap before it with zeros. An empty write changes nothing.
     pub fn write_at(&mut self, offset: u64, bytes: &[u8]) -> Result<(), Errno>
         requires { is_dir self.old.kind ≡ false }
         ensures ok { OnOk result (self.new ≡ record self.old { bytes = written self.old.bytes offset bytes.now }) }
@@ -255,7 +255,7 @@ impl Slot {
         Ok(())
     }
 
-    /// Cuts the bytes to this length, or fills them with zeros to it.
+    /// Sets the length. New bytes are zeros.
     pub fn set_len(&mut self, len: u64) -> Result<(), Errno>
         requires { is_dir self.old.kind ≡ false }
         ensures ok { OnOk result (self.new ≡ record self.old { bytes = resized self.old.bytes len }) }
@@ -275,7 +275,7 @@ impl Slot {
         Ok(())
     }
 
-    /// The node has no bytes. Takes no memory.
+    /// Removes all bytes. Takes no memory.
     pub fn clear(&mut self)
         ensures { self.new ≡ record self.old { bytes = [] } }
     {

@@ -23,15 +23,14 @@ use ll_seq::{Descriptor, Fact, NumberMap, ROOT};
 use std::alloc::{AllocError, Global};
 use std::marker::Model;
 
-/// The slot of each inode, what is counted of each node, the vacant slots, and the next inode. Contracts see them as
-/// they are.
+/// The slot of each inode, the counts of each node, the free slots, and the next inode number. Contracts see all four.
 #[derive(Drop)]
 pub struct Inodes {
     facts: NumberMap<Fact>,
     next: u64,
     inodes: Vec<u64>,
     places: NumberMap<u64>,
-    // room for every slot
+    // Has capacity for every slot.
     free: Vec<u64>,
 }
 
@@ -51,7 +50,7 @@ impl Model for Inodes {
     ghost invariant = { λ t. length t.inodes.items ≤ vec_capacity t.free };
 }
 
-/// The root in the first slot, and nothing in so many others.
+/// The slots' inodes in a new tree: the root in the first slot, the others vacant.
 fn root_alone(alloc: Global, others: usize) -> Result<Vec<u64>, AllocError>
     requires { others < TREE_NODES + TREE_CLIENTS }
     ensures { IfOk result (λ inodes. inodes.items ≡ root ∷ replicate others 0) }
@@ -62,7 +61,7 @@ fn root_alone(alloc: Global, others: usize) -> Result<Vec<u64>, AllocError>
     Ok(inodes)
 }
 
-/// So many slots, all but the first, and room for that one too.
+/// All slots but the first, with capacity for that one too.
 fn all_free(alloc: Global, others: usize) -> Result<Vec<u64>, AllocError>
     requires { others < TREE_NODES + TREE_CLIENTS }
     ensures items { IfOk result (λ free. free.items ≡ range_with_len 1 others) }
@@ -75,7 +74,7 @@ fn all_free(alloc: Global, others: usize) -> Result<Vec<u64>, AllocError>
     Ok(free)
 }
 
-/// Nothing lies in the slot.
+/// Marks the slot as vacant.
 fn clear(inodes: &mut Vec<u64>, slot: u64)
     ensures items { inodes.new.items ≡ slice_set inodes.old.items slot 0 }
 {
@@ -84,7 +83,7 @@ fn clear(inodes: &mut Vec<u64>, slot: u64)
     }
 }
 
-/// The slot becomes the last of the free ones, where there is room for it. Takes no memory.
+/// Appends the slot to the free ones, if there is capacity. Takes no memory.
 fn put_back(free: &mut Vec<u64>, slot: u64)
     ensures items { length free.old.items < vec_capacity free.old → free.new.items ≡ free.old.items ++ slot ∷ [] }
     ensures capacity { vec_capacity free.new ≡ vec_capacity free.old }
@@ -95,8 +94,8 @@ fn put_back(free: &mut Vec<u64>, slot: u64)
 }
 
 impl Inodes {
-    /// The table of a tree of the root alone, in which so many nodes may live: the root lies in the first slot, and
-    /// there is one slot more for each client that may come.
+    /// Returns the table of a tree with only the root, for at most `nodes` nodes. The root is in the first slot. There
+    /// is one more slot for each client that may connect. Errors: memory ran out.
     pub fn new(alloc: Global, nodes: usize) -> Result<Inodes, AllocError>
         requires some { 1 ≤ nodes }
         requires most { nodes ≤ TREE_NODES }
@@ -116,42 +115,42 @@ impl Inodes {
         })
     }
 
-    /// What is counted of each node.
+    /// Returns the counts of all nodes.
     pub fn facts(&self) -> &NumberMap<Fact>
         ensures { result.now ≡ self.now.facts }
     {
         &self.facts
     }
 
-    /// What is counted of the node.
+    /// Returns the counts of the node.
     pub fn fact(&self, inode: u64) -> Option<Fact>
         ensures { result ≡ get self.now.facts inode }
     {
         self.facts.get(inode).copied()
     }
 
-    /// The slot where it lies.
+    /// Returns the slot that holds the inode.
     pub fn slot(&self, inode: u64) -> Option<u64>
         ensures { result ≡ get self.now.places inode }
     {
         self.places.get(inode).copied()
     }
 
-    /// The inode of the next node.
+    /// Returns the number of the next inode.
     pub fn next(&self) -> u64
         ensures { result ≡ self.now.next }
     {
         self.next
     }
 
-    /// How many nodes live.
+    /// Returns the number of live nodes.
     pub fn living(&self) -> usize
         ensures { (s : State) (spares : List ℕ) → IsTable s spares self.now → result ≡ len s.nodes }
     {
         self.facts.len()
     }
 
-    /// The last of the free slots.
+    /// Returns the last of the free slots.
     pub fn last_free(&self) -> u64
         requires { 0 < length self.now.free }
         ensures { (before : List ℕ) × (self.now.free ≡ before ++ result ∷ []) }
@@ -159,7 +158,7 @@ impl Inodes {
         self.free[self.free.len() - 1]
     }
 
-    /// The last of the free slots, which becomes the spare of a new client.
+    /// Removes and returns the last of the free slots, as the spare of a new client.
     pub fn take_free(&mut self) -> u64
         requires { 0 < length self.old.free }
         ensures slot { self.old.free ≡ self.new.free ++ result ∷ [] }
@@ -171,14 +170,14 @@ impl Inodes {
         slot
     }
 
-    /// Whether one more of each of these descriptors can be counted.
+    /// Reports whether one more of each of these descriptors can be counted.
     pub fn have_room(&self, descriptors: &NumberMap<Descriptor>) -> bool
         ensures { result ≡ have_room self.now.facts descriptors.now }
     {
         self.facts.have_room(descriptors)
     }
 
-    /// A spawned client has these descriptors.
+    /// Counts the descriptors of a spawned client.
     pub fn open_all(&mut self, descriptors: &NumberMap<Descriptor>)
         requires { have_room self.old.facts descriptors.now ≡ true }
         ensures facts { (s : State) (client : ℕ) (c : ClientRecord) (fresh : ℕ) → AreKept s self.old.facts
@@ -190,14 +189,14 @@ impl Inodes {
         self.facts.open_all(descriptors);
     }
 
-    /// Whether a descriptor of the inode more can be counted.
+    /// Reports whether one more descriptor of the inode can be counted.
     pub fn has_room(&self, inode: u64) -> bool
         ensures { result ≡ has_room self.now.facts inode }
     {
         self.facts.has_room(inode)
     }
 
-    /// The inode has one descriptor more.
+    /// Counts one more descriptor of the inode.
     pub fn open(&mut self, inode: u64)
         requires { has_room self.old.facts inode ≡ true }
         ensures table { (s : State) (spares : List ℕ) (client : ℕ) (c : ClientRecord) (fd : ℕ) (d : file.Descriptor)
@@ -210,8 +209,8 @@ impl Inodes {
         self.facts.open(inode);
     }
 
-    /// A new node comes to lie in the client's spare slot, with a name in the directory. The last free slot is told,
-    /// which becomes the client's spare. Errors: no memory, and nothing has changed.
+    /// Adds a node in the client's spare slot, with a name in the directory. Returns the client's new spare slot, taken
+    /// from the free ones. Errors: memory ran out, and nothing has changed.
     pub fn make(&mut self, directory: u64, kind: Kind, spare: u64) -> Result<u64, AllocError>
         requires next { self.old.next < 2 ^ 64 - 1 }
         requires free { 0 < length self.old.free }
@@ -237,7 +236,7 @@ impl Inodes {
         Ok(self.take_free())
     }
 
-    /// The inode has a further name, in the directory.
+    /// Counts a further name of the inode, in the directory.
     pub fn name(&mut self, directory: u64, inode: u64)
         ensures table { (s : State) (spares : List ℕ) (at : Dentry) → IsTable s spares self.old
             → at.directory ≡ directory → has s.nodes directory ≡ true → has s.nodes inode ≡ true
@@ -249,7 +248,7 @@ impl Inodes {
         self.facts.name(directory, inode);
     }
 
-    /// The inode's slot becomes free.
+    /// Frees the inode's slot.
     fn vacate(&mut self, inode: u64)
         ensures inodes { ArePlaced self.old.inodes self.old.places
             → self.new.inodes ≡ without_inode self.old.inodes inode }
@@ -268,7 +267,8 @@ impl Inodes {
         }
     }
 
-    /// The inode loses a name, which the directory had, and its slot where nothing keeps its node. Whether it does.
+    /// Counts one name of the inode less, in the directory, and frees its slot if nothing keeps its node. Returns
+    /// whether it did.
     pub fn unname(&mut self, directory: u64, inode: u64) -> bool
         ensures table { (s : State) (spares : List ℕ) (at : Dentry) → IsTable s spares self.old
             → at.directory ≡ directory → get s.entries at ≡ Some inode → has s.nodes inode ≡ true
@@ -289,8 +289,8 @@ impl Inodes {
         goes
     }
 
-    /// The inode's name in the one directory becomes one in the other, where it may replace another inode's. Whether
-    /// the replaced node goes, with its slot.
+    /// Moves a name of the inode from one directory to the other, replacing another inode's name if given. Returns
+    /// whether the replaced node goes, with its slot.
     pub fn rename(&mut self, from: u64, into: u64, inode: u64, replaced: Option<u64>) -> bool
         ensures table { (s : State) (spares : List ℕ) (old new : Dentry) → IsTable s spares self.old
             → old.directory ≡ from → new.directory ≡ into → has s.nodes into ≡ true → get s.entries old ≡ Some inode
@@ -316,7 +316,7 @@ impl Inodes {
         goes
     }
 
-    /// The inode loses a descriptor, and its slot where nothing keeps its node. Whether it does.
+    /// Counts one descriptor of the inode less, and frees its slot if nothing keeps its node. Returns whether it did.
     pub fn close(&mut self, inode: u64) -> bool
         ensures table { (s : State) (spares : List ℕ) (client : ℕ) (c : ClientRecord) (fd : ℕ) (d : file.Descriptor)
             → IsTable s spares self.old → get s.clients client ≡ Some c → get c.descriptors fd ≡ Some d

@@ -1,4 +1,4 @@
-//! A name that goes, and one that takes another node's place.
+//! Changes that take a name from a node, which may remove it.
 
 ghost use Rattle.ll_seq.specs.declared.changes.Change.TheVariants.{Replace, Take};
 ghost use Rattle.ll_node.specs.Enacting.{Enacts, InHand, MayEnact};
@@ -7,7 +7,7 @@ use crate::{Held, Inodes, replace_name, take_name, vacate};
 use ll_seq::At;
 use std::alloc::Global;
 
-/// The inode loses the name, and its slot where nothing keeps its node. Takes no memory.
+/// Removes the name of the inode, and frees its slot if nothing keeps its node. Takes no memory.
 pub(crate) fn take(alloc: Global, table: &mut Inodes, lent: &mut [Held], at: &At<'_>, inode: u64)
     ensures { (any : InHand) → Enacts (Take at.now inode) (record any { table = table.old; lent = lent.old })
         (record any { table = table.new; lent = lent.new }) }
@@ -18,8 +18,8 @@ pub(crate) fn take(alloc: Global, table: &mut Inodes, lent: &mut [Held], at: &At
     }
 }
 
-/// The first inode has the second name in the place of the first. The other one, which had it, loses it, and its slot
-/// where nothing keeps its node. Takes no memory.
+/// Moves the first inode from the first name to the second, which the second inode loses. Frees that inode's slot if
+/// nothing keeps its node. Takes no memory.
 pub(crate) fn replace(
     alloc: Global,
     table: &mut Inodes,

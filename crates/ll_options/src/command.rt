@@ -16,7 +16,7 @@ use clap::{Arg, ArgAction, Command, value_parser};
 use ll_rights::limits::{HISTORY_ENTRIES, TREE_NODES};
 use std::alloc::{AllocError, Global};
 
-// An option of this name, with one value.
+// An option with one value.
 fn valued<'a>(alloc: Global, name: &'a str, value_name: &'a str, help: &'a str) -> Arg<'a>
     ensures rule { rule_of result ≡ valued name.entry.now }
     ensures local { result.global ≡ false }
@@ -27,7 +27,7 @@ fn valued<'a>(alloc: Global, name: &'a str, value_name: &'a str, help: &'a str) 
         .help(help)
 }
 
-// An option of this name, whose value is a number from 1 to the most that it may be.
+// An option whose value is a number from 1 to `most`.
 fn numbered<'a>(
     alloc: Global,
     name: &'a str,
@@ -42,7 +42,7 @@ fn numbered<'a>(
     valued(alloc, name, value_name, help).value_parser(value_parser!(u64).range(1..=most as i64))
 }
 
-// An option of this name, without a value.
+// An option without a value.
 fn flag<'a>(alloc: Global, name: &'a str, help: &'a str) -> Arg<'a>
     ensures rule { rule_of result ≡ flag name.entry.now }
     ensures local { result.global ≡ false }
@@ -53,7 +53,7 @@ fn flag<'a>(alloc: Global, name: &'a str, help: &'a str) -> Arg<'a>
         .help(help)
 }
 
-// The argument of this name, which is no option and must be there.
+// A required positional argument.
 fn demanded<'a>(alloc: Global, name: &'a str, help: &'a str) -> Arg<'a>
     ensures rule { rule_of result ≡ record (new_rule name.entry.now) { required = true } }
     ensures local { result.global ≡ false }
@@ -61,7 +61,7 @@ fn demanded<'a>(alloc: Global, name: &'a str, help: &'a str) -> Arg<'a>
     Arg::new(alloc, name).required(true).help(help)
 }
 
-// The same argument, with one value or more.
+// Lets a positional argument take one value or more.
 fn one_or_more<'a>(argument: Arg<'a>) -> Arg<'a>
     ensures rule { rule_of result ≡ record (rule_of argument.entry) {
       range = Some (record { start_inclusive = 1; end_inclusive = usize_max });
@@ -142,7 +142,7 @@ fn save_option<'a>(alloc: Global) -> Arg<'a>
     )
 }
 
-// The command of this name, with this text in its help and these arguments.
+// A command with this help text and these arguments.
 fn command_of<'a>(
     alloc: Global,
     name: &'a str,
@@ -411,7 +411,7 @@ fn serve_command<'a>(alloc: Global) -> Result<Command<'a>, AllocError>
     )
 }
 
-// An option of this name, with a value, that may be there again and again.
+// An option with a value that may be repeated.
 fn repeated<'a>(alloc: Global, name: &'a str, value_name: &'a str, help: &'a str) -> Arg<'a>
     ensures rule { rule_of result ≡ repeated name.entry.now }
     ensures local { result.global ≡ false }
@@ -511,7 +511,7 @@ fn why_command<'a>(alloc: Global) -> Result<Command<'a>, AllocError>
     )
 }
 
-// The command with one more subcommand, where memory sufficed for both.
+// Adds a subcommand, if memory sufficed for both.
 fn joined<'a>(
     command: Result<Command<'a>, AllocError>,
     subcommand: Result<Command<'a>, AllocError>,
@@ -524,7 +524,7 @@ fn joined<'a>(
     command?.subcommand(subcommand?)
 }
 
-/// The program's words.
+/// Returns the program's command line for clap. Errors: memory ran out.
 pub fn landtree_command<'a>(alloc: Global) -> Result<Command<'a>, AllocError>
     ensures { IfOk result (λ command. app_of command ≡ landtree) }
 {

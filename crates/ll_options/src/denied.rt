@@ -1,8 +1,8 @@
-//! What an exported program denies beside rights on files.
+//! What an exported program denies apart from rights on files.
 
 ghost use Rattle.std.specs.Prelude.{◌≡◌};
 
-/// What no rule can allow: the exported program handles these beside the rights on files.
+/// Kinds of access that the exported program handles without allowing any, apart from rights on files.
 #[derive(Clone, Copy, Debug, PartialEq, Eq)]
 pub struct Denied {
     pub tcp: bool,
@@ -21,7 +21,7 @@ impl Denied {
         abstract_unix_socket: false,
     };
 
-    // With what this word names, if it names something.
+    // Adds what this word names; None if it names nothing.
     fn with(self, word: &str) -> Option<Denied>
         ensures { result ≡ denied_too self word.now }
     {
@@ -43,7 +43,7 @@ impl Denied {
         }
     }
 
-    // What the words between the commas name, if each names something.
+    // The words between the commas; None if one of them names nothing.
     pub(crate) fn of_list(list: &str) -> Option<Denied>
         ensures { result ≡ denied_by list.now }
     {

@@ -1,4 +1,4 @@
-//! What the words of `export` ask for.
+//! The options of `export`.
 
 ghost use Rattle.std.specs.Prelude.{◌≡◌, codes, map, option_and_then, option_map, unwrap_or, [], IfOk};
 ghost use Rattle.std.specs.List.{list_all};
@@ -9,7 +9,7 @@ use crate::options::CheckOptions;
 use clap::ArgMatches;
 use std::alloc::{AllocError, Global};
 
-/// What a profile is written as: a C program, or JSON.
+/// The form of an exported profile: a C program or JSON.
 #[derive(Clone, Copy, Debug, PartialEq, Eq)]
 pub enum Form {
     C,
@@ -31,27 +31,27 @@ impl Form {
     }
 }
 
-/// What `export` writes, and for which place.
+/// The options of `export`.
 #[derive(Drop)]
 pub struct ExportOptions<'a> {
-    /// The policy's file.
+    /// The policy file.
     pub policy: &'a str,
     pub profile: &'a str,
-    /// The form, if the word for it names one.
+    /// The form; None if its word names none.
     pub form: Option<Form>,
-    /// The directory that the exported program takes for the policy's root, if not `/`.
+    /// The directory that the exported program uses as the policy's root, if not `/`.
     pub root: Option<&'a str>,
-    /// Files and directories on which each layer grants reading and executing too.
+    /// Files and directories that each layer may also read and execute.
     pub also: Vec<&'a str>,
-    /// Whether the exported program follows links on a rule's path.
+    /// Whether the exported program follows symbolic links in a rule's path.
     pub follow: bool,
-    /// What it denies beside the rights on files, if the list names nothing else.
+    /// What the program denies apart from rights on files; None if the list has an unknown word.
     pub deny: Option<Denied>,
-    /// Whether it refuses to go on where a rule's rights would be cut.
+    /// Whether the program refuses to run if a rule's rights would be cut because its path isn't a directory.
     pub exact: bool,
-    /// Whether it goes on with the layers that the kernel knows.
+    /// Whether the program goes on with the layers that the kernel knows.
     pub best_effort: bool,
-    /// Files of checks, which the profile must pass.
+    /// Files of checks that the profile must pass.
     pub checked: Vec<&'a str>,
 }
 
@@ -77,7 +77,7 @@ impl<'a> ExportOptions<'a> {
     ghost use Rattle.clap.specs.Words.{all_of, first_of, found_of, rows_of};
     ghost use Rattle.ll_options.specs.Options.{denied_of, export_order, exported_in, fits_export, form_of, is_checked};
 
-    // The form that the matches tell.
+    // The form among clap's matches.
     #[tactic(auto, using(crate::proofs::Numbers::text_told))]
     fn form_of(export: &ArgMatches) -> Option<Form>
         ensures { result ≡ option_and_then form_of (first_of (codes "as") (rows_of (found_of export.now))) }
@@ -85,7 +85,7 @@ impl<'a> ExportOptions<'a> {
         Form::of_word(export.get_str("as")?)
     }
 
-    // What the matches say is denied beside the rights on files.
+    // What is denied apart from rights on files, among clap's matches.
     #[tactic(auto, using(crate::proofs::Numbers::text_told))]
     fn deny_of(export: &ArgMatches) -> Option<Denied>
         ensures { result ≡ denied_of (first_of (codes "deny") (rows_of (found_of export.now))) }
@@ -96,7 +96,7 @@ impl<'a> ExportOptions<'a> {
         }
     }
 
-    // All values of an option that may be there again and again.
+    // All values of an option that may be repeated.
     #[tactic(auto, using(crate::proofs::Numbers::texts_told))]
     fn values_of(
         alloc: Global,
@@ -113,7 +113,7 @@ impl<'a> ExportOptions<'a> {
         Ok(values)
     }
 
-    /// What the matches of `export` ask for. Errors: memory ran out.
+    /// Reads the options of `export` from clap's matches. Errors: memory ran out.
     #[tactic(auto, using(crate::proofs::Numbers::text_told))]
     pub(crate) fn of_matches(
         alloc: Global,
@@ -149,15 +149,15 @@ impl<'a> ExportOptions<'a> {
         }))
     }
 
-    /// Whether the profile must pass checks.
+    /// Reports whether the profile must pass checks.
     pub fn is_checked(&self) -> bool
         ensures { result ≡ is_checked (exported_in self.now) }
     {
         !self.checked.is_empty()
     }
 
-    /// Whether the words after `--as` and `--deny` name what there is, paths are absolute, and at most one of
-    /// `--exact` and `--best-effort` is there.
+    /// Reports whether the options fit together: the words of `--as` and `--deny` are known, paths are absolute, and
+    /// `--exact` and `--best-effort` aren't both given.
     pub fn fit(&self) -> bool
         ensures { result ≡ fits_export (exported_in self.now) }
     {

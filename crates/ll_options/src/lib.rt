@@ -1,4 +1,4 @@
-//! The words of the command line, and what they ask for.
+//! The command line and its options.
 #![tactic(auto)]
 
 mod command;

@@ -1,4 +1,4 @@
-//! What the words of the command line ask for.
+//! The options of each subcommand.
 
 ghost use Rattle.std.specs.Prelude.{◌≡◌, ◌≤◌, codes, map, option_map, IfOk, Some};
 ghost use Rattle.ll_rights.specs.declared.limits.TheConstants.{HISTORY_ENTRIES, TREE_NODES};
@@ -15,13 +15,13 @@ use ll_rights::Abi;
 use ll_rights::limits::{HISTORY_ENTRIES, TREE_NODES};
 use std::alloc::{AllocError, Global};
 
-/// The most that the number of a schedule's line may be which is chosen for its picture.
+/// The greatest line number that `--from` and `--to` of a schedule's picture accept.
 pub(crate) const LINES: u64 = 1_000_000_000;
 
-/// The run that is wanted: its script's file (`-` is standard input); how many nodes may live in its tree; the tree's
-/// level, or the file of its policy and the profile that the first client has; how many entries its history may have,
-/// and the file in which this is saved, if any; and whether the run is strict. A strict run ends at the first line that
-/// says nothing, or that is refused where layers are asked for.
+/// The options of `run`: the script's file (`-` is standard input); the limit of live nodes; the ABI level, or the
+/// policy file and the first client's profile; the limit of history entries, and the file to save the history in, if
+/// any; and whether the run is strict. A strict run ends at the first bad line, or at the first refusal of a call that
+/// sets up layers.
 #[derive(Drop)]
 pub struct RunOptions<'a> {
     pub script: &'a str,
@@ -42,7 +42,7 @@ impl<'a> RunOptions<'a> {
     ghost use Rattle.clap.specs.Words.{found_of, rows_of};
     ghost use Rattle.ll_options.specs.Options.{fits, levels, number_of, order_in, run_order};
 
-    // The level that the matches tell.
+    // The ABI level among clap's matches.
     pub(crate) fn level_of(run: &ArgMatches) -> Option<Abi>
         ensures { result ≡ number_of (codes "abi") levels (rows_of (found_of run.now)) }
     {
@@ -52,7 +52,7 @@ impl<'a> RunOptions<'a> {
         }
     }
 
-    // What the matches of `run` ask for.
+    // Reads the options of `run` from clap's matches.
     #[tactic(auto, using(crate::proofs::Numbers::text_told))]
     fn of_matches(run: &ArgMatches<'a>) -> Option<RunOptions<'a>>
         ensures { option_map order_in result ≡ run_order (rows_of (found_of run.now)) }
@@ -77,8 +77,8 @@ impl<'a> RunOptions<'a> {
         })
     }
 
-    /// Whether the options go together: a level without a policy, a profile with one, and the history is saved over
-    /// neither the script nor the policy.
+    /// Reports whether the options fit together: no level with a policy, a profile with a policy, and a history file
+    /// that is neither the script nor the policy.
     pub fn fit(&self) -> bool
         ensures { result ≡ fits (order_in self.now) }
     {
@@ -92,9 +92,8 @@ impl<'a> RunOptions<'a> {
     }
 }
 
-/// The schedule that is wanted: its file (`-` is standard input); how many nodes may live in its tree; the tree's
-/// level; how many entries its history may have; and the file into which its picture is drawn, if any:
-/// of the lines from one number to another, which count from 1, or of all.
+/// The options of `schedule`: its file (`-` is standard input); the limit of live nodes; the ABI level; the limit of
+/// history entries; and the picture's file, if any, with its first and last line (from 1; by default all).
 #[derive(Drop)]
 pub struct ScheduleOptions<'a> {
     pub file: &'a str,
@@ -114,7 +113,7 @@ impl<'a> ScheduleOptions<'a> {
     ghost use Rattle.clap.specs.Words.{found_of, rows_of};
     ghost use Rattle.ll_options.specs.Options.{fits_schedule, may_be_drawn, schedule_order, scheduled_in};
 
-    // What the matches of `schedule` ask for.
+    // Reads the options of `schedule` from clap's matches.
     #[tactic(auto, using(crate::proofs::Numbers::text_told))]
     fn of_matches(schedule: &ArgMatches<'a>) -> Option<ScheduleOptions<'a>>
         ensures { option_map scheduled_in result ≡ schedule_order (rows_of (found_of schedule.now)) }
@@ -137,7 +136,7 @@ impl<'a> ScheduleOptions<'a> {
         })
     }
 
-    /// Whether lines are chosen for a picture alone, the first of them not behind the last.
+    /// Reports whether lines are chosen only for a picture, and the first isn't after the last.
     pub fn may_be_drawn(&self) -> bool
         ensures { result ≡ may_be_drawn (scheduled_in self.now).picture self.now.from self.now.to }
     {
@@ -148,7 +147,7 @@ impl<'a> ScheduleOptions<'a> {
         }
     }
 
-    /// Whether the options go together: the picture isn't drawn over the schedule, and its lines are well chosen.
+    /// Reports whether the options fit together: the picture's file isn't the schedule, and its lines are valid.
     pub fn fit(&self) -> bool
         ensures { result ≡ fits_schedule (scheduled_in self.now) }
     {
@@ -156,9 +155,8 @@ impl<'a> ScheduleOptions<'a> {
     }
 }
 
-/// The check that is wanted: its files of tests (`-` is standard input), each of which has a tree of its own; how many
-/// nodes may live in each tree; the trees' level, or the file of their policy and the profile that the first client
-/// has.
+/// The options of `check`: its test files (`-` is standard input), each run in a tree of its own; the limit of live
+/// nodes; the ABI level, or the policy file and the first client's profile.
 #[derive(Drop)]
 pub struct CheckOptions<'a> {
     pub files: Vec<&'a str>,
@@ -176,7 +174,7 @@ impl<'a> CheckOptions<'a> {
     ghost use Rattle.clap.specs.Words.{found_of, rows_of};
     ghost use Rattle.ll_options.specs.Options.{check_order, checked_in, fits_check, is_set};
 
-    // Whether the matches tell this flag.
+    // Whether the flag is among clap's matches.
     #[tactic(auto, using(crate::proofs::Numbers::text_told))]
     pub(crate) fn is_set(check: &ArgMatches, name: &str) -> bool
         ensures { result ≡ is_set name.now (rows_of (found_of check.now)) }
@@ -187,7 +185,7 @@ impl<'a> CheckOptions<'a> {
         }
     }
 
-    // What the matches of `check` ask for.
+    // Reads the options of `check` from clap's matches. Errors: memory ran out.
     #[tactic(auto, using(crate::proofs::Numbers::text_told, crate::proofs::Numbers::texts_told))]
     fn of_matches(
         alloc: Global,
@@ -218,7 +216,8 @@ impl<'a> CheckOptions<'a> {
         }))
     }
 
-    /// Whether the options go together: a level without a policy, a profile with one, and not quiet and verbose both.
+    /// Reports whether the options fit together: no level with a policy, a profile with a policy, and not both quiet
+    /// and verbose.
     pub fn fit(&self) -> bool
         ensures { result ≡ fits_check (checked_in self.now) }
     {
@@ -231,13 +230,13 @@ impl<'a> CheckOptions<'a> {
     }
 }
 
-/// What the program is asked to do.
+/// A subcommand with its options.
 #[derive(Drop)]
 pub enum Options<'a> {
     Run(RunOptions<'a>),
     Schedule(ScheduleOptions<'a>),
     Rights(RightsOptions<'a>),
-    /// To judge the history in this file, or in standard input where it is `-`.
+    /// Audit the history in this file (`-` is standard input).
     Audit(&'a str),
     Check(CheckOptions<'a>),
     Serve(ServeOptions<'a>),
@@ -249,7 +248,7 @@ impl<'a> Options<'a> {
     ghost use Rattle.clap.specs.Words.{FailsBy, fault_of, found_of, rows_of, subcommand_of, subcommand_rows_of};
     ghost use Rattle.ll_options.specs.Options.{landtree, ordered, ordered_by, ordered_in, ordered_of};
 
-    // What the matches of this subcommand ask for. Errors: memory ran out.
+    // Reads the options of this subcommand. Errors: memory ran out.
     fn of_matches(
         alloc: Global,
         name: &str,
@@ -305,7 +304,7 @@ impl<'a> Options<'a> {
         }
     }
 
-    // What the matches ask for, if they name a subcommand. Errors: memory ran out.
+    // Reads the subcommand and its options, if there is one. Errors: memory ran out.
     fn of_subcommand(
         alloc: Global,
         matches: &ArgMatches<'a>,
@@ -318,7 +317,7 @@ impl<'a> Options<'a> {
         }
     }
 
-    // The matches of the words.
+    // Parses the command line with clap.
     fn matched(alloc: Global, words: &'a [&'a str]) -> Result<ArgMatches<'a>, Error>
         ensures rows { IfOk result (λ matches. subcommand_rows_of matches
             ≡ subcommand_of landtree (map (λ w. w.now) words.entry.now)) }
@@ -327,7 +326,7 @@ impl<'a> Options<'a> {
         landtree_command(alloc)?.try_get_matches_from(words)
     }
 
-    /// What the words ask for, of which the first is the program's name.
+    /// Parses the command line, whose first word is the program's name. Errors: clap's, with the message to print.
     pub fn read(alloc: Global, words: &'a [&'a str]) -> Result<Options<'a>, Error>
         ensures asked { IfOk result (λ o. ordered_by (map (λ w. w.now) words.entry.now) ≡ Some (ordered_in o)) }
         ensures fault { FailsBy (fault_of landtree (map (λ w. w.now) words.entry.now)) result }

@@ -1,4 +1,4 @@
-//! What the words of `rights` ask for.
+//! The options of `rights`.
 
 ghost use Rattle.std.specs.Prelude.{◌≡◌, ◌≤◌, codes, map, option_map, unwrap_or, [], IfOk};
 ghost use Rattle.ll_rights.specs.declared.limits.TheConstants.{TREE_NODES};
@@ -8,9 +8,8 @@ use clap::ArgMatches;
 use ll_rights::limits::TREE_NODES;
 use std::alloc::{AllocError, Global};
 
-/// The rights that are wanted: the policy's file and the profile; how many nodes may live in the tree; the paths on
-/// which rights are told (without any, they are told on the policy's nodes); and whether it is told what each layer
-/// grants.
+/// The options of `rights`: the policy file and the profile; the limit of live nodes; the paths to report (by default
+/// the policy's nodes); and whether to report each layer.
 #[derive(Drop)]
 pub struct RightsOptions<'a> {
     pub policy: &'a str,
@@ -26,7 +25,7 @@ impl<'a> RightsOptions<'a> {
     ghost use Rattle.clap.specs.Words.{all_of, found_of, rows_of};
     ghost use Rattle.ll_options.specs.Options.{is_set, rights_in, rights_order};
 
-    // The paths that the matches tell.
+    // The paths among clap's matches. Errors: memory ran out.
     #[tactic(auto, using(crate::proofs::Numbers::texts_told))]
     fn paths_of(alloc: Global, rights: &ArgMatches<'a>) -> Result<Vec<&'a str>, AllocError>
         ensures { IfOk result (λ paths. map (λ t. t.now) paths.items
@@ -39,7 +38,7 @@ impl<'a> RightsOptions<'a> {
         Ok(paths)
     }
 
-    // Whether the layers are asked for.
+    // Whether `--layers` is given.
     #[tactic(auto, using(crate::proofs::Numbers::text_told))]
     fn shows_layers(rights: &ArgMatches) -> bool
         ensures { result ≡ is_set (codes "layers") (rows_of (found_of rights.now)) }
@@ -50,7 +49,7 @@ impl<'a> RightsOptions<'a> {
         }
     }
 
-    /// What the matches of `rights` ask for. Errors: memory ran out.
+    /// Reads the options of `rights` from clap's matches. Errors: memory ran out.
     #[tactic(auto, using(crate::proofs::Numbers::text_told))]
     pub(crate) fn of_matches(
         alloc: Global,

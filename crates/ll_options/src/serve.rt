@@ -1,4 +1,4 @@
-//! What the words of `serve` ask for.
+//! The options of `serve`.
 
 ghost use Rattle.std.specs.Prelude.{◌≡◌, ◌≤◌, option_map, IfSome};
 ghost use Rattle.std.proofs.Props.{props};
@@ -11,26 +11,25 @@ use clap::ArgMatches;
 use ll_rights::Abi;
 use ll_rights::limits::{HISTORY_ENTRIES, TREE_NODES};
 
-/// The greatest port.
+/// The greatest port number.
 pub(crate) const PORTS: u64 = 65_535;
 
-/// How many connections may be served at a time.
+/// The most connections that can be served at once.
 pub(crate) const WORKERS: usize = 32;
 
-/// How many connections may be served in all.
+/// The most connections that can be served in all.
 pub(crate) const CONNECTIONS: usize = 62;
 
-/// How many seconds a connection may at most be allowed to wait.
+/// The longest idle time of a connection, in seconds.
 pub(crate) const IDLE_SECONDS: u64 = 3600;
 
-/// How many megabytes of room a connection may at most have.
+/// The most memory for a connection's lines and replies, in megabytes.
 pub(crate) const ROOM_MEGABYTES: u64 = 65_536;
 
-/// The serving that is wanted: its port; how many connections are served in all, and how many at a time; after how many
-/// seconds without a byte one is given up, if ever; how many megabytes its lines and replies may take; whether a log
-/// tells of each; how many nodes may live in the tree that they share; the tree's level, or the file of its policy and
-/// the profile that each connection's first client has; how many entries its history may have, and the file in which
-/// this is saved, if any.
+/// The options of `serve`: the port; the number of connections in all, and at once; after how many idle seconds a
+/// connection is closed, if ever; how many megabytes its lines and replies may take; whether to log each; the limit of
+/// live nodes of the shared tree; the ABI level, or the policy file and the profile of each connection's first client;
+/// the limit of history entries, and the file to save the history in, if any.
 #[derive(Drop)]
 pub struct ServeOptions<'a> {
     pub port: u16,
@@ -63,7 +62,7 @@ impl<'a> ServeOptions<'a> {
     ghost use Rattle.clap.specs.Words.{found_of, rows_of};
     ghost use Rattle.ll_options.specs.Options.{fits_serve, serve_order, served_in};
 
-    // What the matches of `serve` ask for.
+    // Reads the options of `serve` from clap's matches.
     #[tactic(auto, using(crate::proofs::Numbers::text_told))]
     pub(crate) fn of_matches(serve: &ArgMatches<'a>) -> Option<ServeOptions<'a>>
         ensures { option_map served_in result ≡ serve_order (rows_of (found_of serve.now)) }
@@ -96,8 +95,8 @@ impl<'a> ServeOptions<'a> {
         })
     }
 
-    /// Whether the options go together: a level without a policy, a profile with one, and the history isn't saved over
-    /// the policy.
+    /// Reports whether the options fit together: no level with a policy, a profile with a policy, and a history file
+    /// that isn't the policy.
     pub fn fit(&self) -> bool
         ensures { result ≡ fits_serve (served_in self.now) }
     {

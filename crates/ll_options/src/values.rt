@@ -1,4 +1,4 @@
-//! The numbers that the words tell.
+//! The numbers among the options.
 
 ghost use Rattle.std.specs.Prelude.{◌≡◌, ◌≤◌, IfSome};
 ghost use Rattle.clap.specs.Words.{found_of, rows_of};
@@ -7,7 +7,7 @@ ghost use Rattle.ll_options.specs.Options.{number_in, number_of};
 
 use clap::ArgMatches;
 
-/// The number of the option with this name, where the matches tell one within these bounds.
+/// The number of this option, if it is given and within these bounds.
 pub(crate) fn number_of(matches: &ArgMatches, name: &str, low: u64, high: u64) -> Option<u64>
     ensures number { result ≡ number_of name.now (Unsigned low high) (rows_of (found_of matches.now)) }
     ensures within { IfSome result (λ number. (low ≤ number) × (number ≤ high)) }
@@ -19,7 +19,7 @@ pub(crate) fn number_of(matches: &ArgMatches, name: &str, low: u64, high: u64) -
     Some(number)
 }
 
-/// The number that the word gives, within these bounds.
+/// The number in this word, if it is within these bounds.
 pub(crate) fn number_in(word: &str, low: u64, high: u64) -> Option<u64>
     ensures { result ≡ number_in (Unsigned low high) word.now }
 {

@@ -1,4 +1,4 @@
-//! What the words of `why` ask for.
+//! The options of `why`.
 
 ghost use Rattle.std.specs.Prelude.{◌≡◌, ◌≤◌, codes, map, option_map, IfOk};
 ghost use Rattle.ll_rights.specs.declared.limits.TheConstants.{HISTORY_ENTRIES, TREE_NODES};
@@ -8,19 +8,17 @@ use clap::ArgMatches;
 use ll_rights::limits::{HISTORY_ENTRIES, TREE_NODES};
 use std::alloc::{AllocError, Global};
 
-/// What is asked.
+/// What `why` explains.
 #[derive(Clone, Copy)]
 pub enum Question<'a> {
-    /// Why a command does what it does, in a new tree by the policy in a file, of a client of its profile: the file's
-    /// name, the profile's, and the command.
+    /// A command, made in a new tree set up by a policy: the policy file, the client's profile, and the command.
     Command(&'a str, &'a str, &'a str),
-    /// Why an entry of a saved history was answered so: the file, or standard input where it is `-`, and the entry's
-    /// number, from 1.
+    /// The reply of an entry in a saved history: the file (`-` is standard input), and the entry's number from 1.
     Entry(&'a str, u64),
 }
 
-/// The explanation that is wanted: words that name a history and an entry's number, or else a command; for a command
-/// the policy's file and the profile; and how many nodes may live in the tree.
+/// The options of `why`: the words, which are a history and an entry's number, or a command; for a command the policy
+/// file and the profile; and the limit of live nodes.
 #[derive(Drop)]
 pub struct WhyOptions<'a> {
     pub words: Vec<&'a str>,
@@ -35,7 +33,7 @@ impl<'a> WhyOptions<'a> {
     ghost use Rattle.clap.specs.Words.{found_of, rows_of};
     ghost use Rattle.ll_options.specs.Options.{asked_by, fits_why, question_of, why_in, why_order};
 
-    /// What the matches of `why` ask for. Errors: memory ran out.
+    /// Reads the options of `why` from clap's matches. Errors: memory ran out.
     #[tactic(auto, using(crate::proofs::Numbers::text_told, crate::proofs::Numbers::texts_told))]
     pub(crate) fn of_matches(
         alloc: Global,
@@ -60,7 +58,7 @@ impl<'a> WhyOptions<'a> {
         }))
     }
 
-    /// What is asked, where the words and the options go together.
+    /// Returns what to explain, if the options fit together.
     pub fn question(&self) -> Option<Question<'a>>
         ensures { option_map question_of result ≡ asked_by (why_in self.now) }
     {
@@ -76,7 +74,8 @@ impl<'a> WhyOptions<'a> {
         }
     }
 
-    /// Whether the options go together: a history and a number alone, or a command with a policy and a profile.
+    /// Reports whether the options fit together: a history and a number alone, or a command with a policy and a
+    /// profile.
     pub fn fit(&self) -> bool
         ensures { result ≡ fits_why (why_in self.now) }
     {

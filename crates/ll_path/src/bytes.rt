@@ -1,11 +1,11 @@
-//! What a write brings and a read gives.
+//! The bytes that a write takes and a read returns.
 
 ghost use Rattle.std.specs.Prelude.{◌≡◌, ◌==◌, ◌≤◌, ◌<◌, ℕ, List, [], length, IfOk, IfErr};
 
 use std::alloc::{AllocError, Global};
 use std::marker::Model;
 
-/// At most 4,096 bytes of any kind. Contracts see the list of them.
+/// At most 4,096 arbitrary bytes. Contracts see the list of them.
 #[derive(Drop)]
 pub struct Data {
     bytes: Vec<u8>,
@@ -20,7 +20,7 @@ impl Model for Data {
 }
 
 impl Data {
-    /// These bytes. More than 4,096 come back. Takes no memory.
+    /// Wraps the bytes. Gives them back if there are more than 4,096. Takes no memory.
     pub fn new(bytes: Vec<u8>) -> Result<Data, Vec<u8>>
         ensures ok { IfOk result (λ d. (length bytes.items ≤ 4096) × (d ≡ bytes.items)) }
         ensures err { IfErr result (λ back. (4096 < length bytes.items) × (back ≡ bytes)) }
@@ -32,7 +32,7 @@ impl Data {
         }
     }
 
-    /// No bytes. Takes no memory.
+    /// Returns no bytes. Takes no memory.
     pub fn empty(alloc: Global) -> Data
         ensures { result ≡ [] }
     {
@@ -41,7 +41,7 @@ impl Data {
         }
     }
 
-    /// The same bytes. Errors: memory ran out.
+    /// Returns a copy of the bytes. Errors: memory ran out.
     pub fn copy(&self) -> Result<Data, AllocError>
         ensures { IfOk result (λ d. d ≡ self.now) }
     {

@@ -1,5 +1,4 @@
-//! The texts of calls: words, the names in directories, paths and what a word gives where a path
-//! is wanted, and the bytes of reads and writes.
+//! The texts of calls: words, names in directories, paths, path arguments, and the bytes of reads and writes.
 #![tactic(auto)]
 
 mod bytes;

@@ -31,7 +31,7 @@ fn is_visible_without_slash(text: &str) -> bool
 }
 
 impl Name {
-    /// Whether a name has this text.
+    /// Reports whether the text is a valid name.
     pub fn fits(text: &str) -> bool
         ensures { IsTrue result ↔ IsName text.now }
     {
@@ -41,7 +41,7 @@ impl Name {
         !text.is_empty() && text.len() <= 255 && is_visible_without_slash(text)
     }
 
-    /// A name of its own with this text. Fails only for want of memory.
+    /// Returns a name with a copy of this text. Errors: memory ran out.
     pub fn from_text(alloc: Global, text: &str) -> Result<Name, AllocError>
         requires { IsName text.now }
         ensures { IfOk result (λ name. name ≡ text.now) }
@@ -50,7 +50,7 @@ impl Name {
         Ok(Name { text })
     }
 
-    /// The same name. Errors: memory ran out.
+    /// Returns a copy of the name. Errors: memory ran out.
     pub fn copy(&self) -> Result<Name, AllocError>
         ensures { IfOk result (λ name. name ≡ self.now) }
     {

@@ -1,4 +1,4 @@
-//! The names of a path, one after the other.
+//! The names of a path, as an iterator.
 
 ghost use Rattle.std.specs.Prelude.{◌≡◌, ◌≢◌, ◌==◌, ◌<◌, ◌≤◌, ℕ, List, [], ◌∷◌, Option, Some, None, length};
 ghost use Rattle.std.specs.Prelude.{slice_index_or};
@@ -9,7 +9,7 @@ ghost use Rattle.ll_path.specs.Path.{path_of_text};
 
 use std::marker::Model;
 
-/// Where the first slash stands, or how many bytes there are. Names are short, so this looks at byte after byte.
+/// The index of the first slash, or the length if there is none. Names are short, so it compares byte by byte.
 fn first_slash(bytes: &[u8]) -> usize
     ensures within { result ≤ length bytes.now }
     ensures none_before { (i : ℕ) → i < result → slice_index_or bytes.now i 0 ≢ 47 }
@@ -22,7 +22,7 @@ fn first_slash(bytes: &[u8]) -> usize
     end
 }
 
-/// What stands before the first slash, and what behind it, if there is one.
+/// Splits at the first slash. The second part is None if there is no slash.
 pub(crate) fn cut_first(text: &str) -> (&str, Option<&str>)
     ensures { slice_split (λ b. b == 47) text.now ≡ result.0.now ∷ names_left result.1 }
 {
@@ -34,10 +34,10 @@ pub(crate) fn cut_first(text: &str) -> (&str, Option<&str>)
     }
 }
 
-/// A list of names that a text holds, as an iterator over them. Contracts see the names that are left.
+/// An iterator over the names in a text. Contracts see the names that are left.
 #[derive(Drop)]
 pub struct Names<'a> {
-    // the names with a slash between any two; `None` is no name
+    // The names that are left, separated by slashes. `None` after the last one.
     rest: Option<&'a str>,
 }
 
@@ -57,14 +57,14 @@ impl<'a> Names<'a> {
         Names { rest: None }
     }
 
-    // What stands between the slashes of a text.
+    // The parts of a text between its slashes.
     pub(crate) fn between_slashes(text: &'a str) -> Names<'a>
         ensures { result ≡ slice_split (λ b. b == 47) text.now }
     {
         Names { rest: Some(text) }
     }
 
-    // The names of a path, of which this is all that follows its first slash.
+    // The names of a path, given the text after its first slash.
     pub(crate) fn after_slash(text: &'a str) -> Names<'a>
         ensures { result ≡ path_of_text (47 ∷ text.now) }
     {

@@ -15,8 +15,7 @@ use crate::word::Word;
 use ll_rights::Errno;
 use std::marker::Model;
 
-/// A path of at most 64 names, from the root on, in a text of at most 4,095 bytes. Contracts see
-/// the list of its names.
+/// An absolute path of at most 64 names and 4,095 bytes. Contracts see the list of its names.
 #[derive(Drop)]
 pub struct Path {
     word: Word,
@@ -45,7 +44,7 @@ fn is_no_name(name: &str) -> bool
     if name.is_empty() {
         return true;
     }
-    // Few names begin with a dot, so most are compared with neither.
+    // Few names begin with a dot, so most are compared with neither `.` nor `..`.
     if name.as_bytes()[0] != b'.' {
         return false;
     }
@@ -64,14 +63,14 @@ fn is_any_long(mut names: Names<'_>) -> bool
     names.any(|name| name.len() > 255)
 }
 
-// Whether one of the names between the slashes is long. No name is longer than the text.
+// Whether a name between the slashes is too long. No name is longer than the whole text.
 fn has_long_name(rest: &str) -> bool
     ensures { result ≡ list_any is_long_name (path_of_text (47 ∷ rest.now)) }
 {
     rest.len() > 255 && is_any_long(Names::after_slash(rest))
 }
 
-/// How many slashes there are.
+/// Counts the slashes.
 fn slash_count(bytes: &[u8]) -> usize
     ensures count { result ≡ count_by (λ b. b == 47) bytes.now }
     ensures most { result ≤ length bytes.now }
@@ -85,7 +84,7 @@ fn slash_count(bytes: &[u8]) -> usize
     count
 }
 
-// How many names a path has, of which this is all that follows its first slash.
+// The number of names in a path, given the text after its first slash.
 fn name_count(rest: &str) -> usize
     ensures { result ≡ length (path_of_text (47 ∷ rest.now)) }
 {
@@ -115,7 +114,7 @@ fn refusal(text: &str) -> Option<Errno>
     None
 }
 
-// How many bytes the names take that both lists begin with, each with a slash after it.
+// The number of bytes in the names that both lists begin with, counting a slash after each.
 fn shared_len(names: Names<'_>, mut others: Names<'_>) -> usize
     requires { sum_by (λ name. length name + 1) names < 2 ^ 64 }
     ensures { result ≡ sum_by (λ name. length name + 1) (common names.entry others.entry) }
@@ -131,8 +130,7 @@ fn shared_len(names: Names<'_>, mut others: Names<'_>) -> usize
 }
 
 impl Path {
-    /// The path that a word spells. A word that spells none comes back with the reason. Takes no
-    /// memory.
+    /// Parses a word as a path. Errors: the word and the reason, if it spells no path. Takes no memory.
     pub fn parse(word: Word) -> Result<Path, (Word, Errno)>
         ensures ok { IfOk result (λ path. (path_refusals word ≡ []) × (path ≡ path_of_text word)) }
         ensures err { IfErr result (λ e. (e.0 ≡ word) × (slice_get (path_refusals word) 0 ≡ Some e.1)) }
@@ -143,7 +141,7 @@ impl Path {
         }
     }
 
-    // The names with a slash between any two.
+    // The names, separated by slashes.
     fn joined(&self) -> &str
         ensures text { result.now ≡ join_with_byte 47 self.now }
         ensures names { self.now ≡ path_of_text (47 ∷ result.now) }
@@ -154,14 +152,14 @@ impl Path {
         &self.word.as_str()[1..]
     }
 
-    /// All names, from the root on.
+    /// Returns all names, starting at the root.
     pub fn names(&self) -> Names<'_>
         ensures { result ≡ self.now }
     {
         Names::after_slash(self.joined())
     }
 
-    /// The name that begins at the place, unless no name follows. The names before it aren't read.
+    /// Returns the name that begins at the place, or None at the end. Doesn't read the names before it.
     pub fn name_at(&self, place: Place) -> Option<&str>
         requires { IsPlace self.now place }
         ensures { option_map (λ name. name.now) result ≡ slice_get self.now place.depth }
@@ -174,7 +172,7 @@ impl Path {
         Some(name)
     }
 
-    /// The place after the name that begins at the place and takes so many bytes.
+    /// Returns the place of the next name, given the length in bytes of the name at this place.
     pub fn place_after(&self, place: Place, len: usize) -> Place
         requires place { IsPlace self.now place }
         requires name { option_map length (slice_get self.now place.depth) ≡ Some len }
@@ -189,7 +187,7 @@ impl Path {
         }
     }
 
-    /// How many names there are.
+    /// Returns the number of names.
     pub fn len(&self) -> usize
         ensures len { result ≡ length self.now }
         ensures short { result ≤ 64 }
@@ -203,7 +201,7 @@ impl Path {
         self.joined().is_empty()
     }
 
-    /// The parent's names and the last name. The root has neither.
+    /// Returns the parent's names and the last name, or None for the root.
     #[inline(always)]
     pub fn split_last(&self) -> Option<(Names<'_>, &str)>
         ensures none { IfNone result (self.now ≡ []) }
@@ -222,7 +220,7 @@ impl Path {
         }
     }
 
-    /// The parent's names. The root is its own parent.
+    /// Returns the parent's names. The root is its own parent.
     pub fn parent(&self) -> Names<'_>
         ensures { result ≡ parent self.now }
     {
@@ -232,7 +230,7 @@ impl Path {
         }
     }
 
-    /// Whether this path is strictly beneath the other, by names.
+    /// Reports whether this path lies strictly below the other, comparing names only.
     pub fn is_beneath(&self, upper: &Path) -> bool
         ensures { result ≡ is_beneath upper.now self.now }
     {
@@ -246,7 +244,7 @@ impl Path {
         names.next().is_some()
     }
 
-    /// The longest common beginning of both paths.
+    /// Returns the longest prefix of names that both paths share.
     pub fn common(&self, other: &Path) -> Names<'_>
         ensures { result ≡ common self.now other.now }
     {
@@ -258,7 +256,7 @@ impl Path {
         Names::between_slashes(&joined[..len - 1])
     }
 
-    /// The one text of the path. It is a word, and spells the path.
+    /// Returns the path's text. It is a valid word, and parses to the same path.
     pub fn as_str(&self) -> &str
         ensures text { result.now ≡ path_text self.now }
         ensures word { IsWord result.now }

@@ -1,8 +1,8 @@
-//! Places in the text of a path, by which its names are read one after the other.
+//! Positions in the text of a path, used to read its names one after the other.
 
 ghost use Rattle.std.specs.Prelude.{◌≡◌};
 
-/// A place of a path: so many names stand before it, and so many bytes of its text after the first slash.
+/// A position in a path: the number of names before it, and its byte offset after the first slash.
 #[derive(Clone, Copy)]
 pub struct Place {
     pub depth: usize,
@@ -10,7 +10,7 @@ pub struct Place {
 }
 
 impl Place {
-    /// The place of the first name, of any path.
+    /// Returns the position of the first name, valid for any path.
     pub fn first() -> Place
         ensures { result ≡ record { depth = 0; byte = 0 } }
     {

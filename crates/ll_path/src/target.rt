@@ -1,4 +1,4 @@
-//! What stands in a call where a path is wanted.
+//! The path arguments of calls.
 
 ghost use Rattle.std.specs.Prelude.{◌≡◌, Some, slice_get};
 ghost use Rattle.ll_path.specs.Path.{path_refusals};
@@ -8,7 +8,7 @@ use crate::path::Path;
 use crate::word::Word;
 use ll_rights::Errno;
 
-/// A word that spells no path, and why.
+/// A word that is no valid path, and why.
 #[derive(Drop)]
 pub struct BadPath {
     pub word: Word,
@@ -16,8 +16,8 @@ pub struct BadPath {
     ghost refused: { slice_get (path_refusals word) 0 ≡ Some errno },
 }
 
-/// The path that a word spells, or the word where it spells none. So a call knows each of its
-/// paths from the start, and a bad one is refused only when its turn comes.
+/// A path argument: the path, or the word if it spells none. Each call parses its paths at the start, and a bad path is
+/// refused only when its turn comes in the order of refusals.
 #[derive(Drop)]
 pub enum Target {
     Good(Path),
@@ -27,7 +27,7 @@ pub enum Target {
 impl Target {
     ghost use Rattle.ll_path.specs.Target.{IsTarget, target_text};
 
-    /// What a word gives. Takes no memory.
+    /// Parses a path argument. Takes no memory.
     pub fn read(word: Word) -> Target
         ensures { IsTarget word result }
     {
@@ -37,7 +37,7 @@ impl Target {
         }
     }
 
-    /// The text of the word again, which gives the target.
+    /// Returns the argument's text.
     pub fn as_str(&self) -> &str
         ensures text { result.now ≡ target_text self.now }
         ensures word { IsWord result.now }

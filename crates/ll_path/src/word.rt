@@ -5,8 +5,8 @@ ghost use Rattle.ll_path.specs.Word.{IsVisible, IsWord};
 
 use std::marker::Model;
 
-/// A word of a command line: 1 to 8,000 bytes from 0x21 to 0x7E, the printed characters of ASCII
-/// but the space. Contracts see its bytes.
+/// A word of a command line: 1 to 8,000 bytes from 0x21 to 0x7E (printable ASCII without the space). Contracts see its
+/// bytes.
 #[derive(Drop)]
 pub struct Word {
     text: String,
@@ -27,14 +27,14 @@ fn is_visible(text: &str) -> bool
 }
 
 impl Word {
-    /// Whether a word has this text.
+    /// Reports whether the text is a valid word.
     pub fn fits(text: &str) -> bool
         ensures { IsTrue result ↔ IsWord text.now }
     {
         !text.is_empty() && text.len() <= 8000 && is_visible(text)
     }
 
-    /// The word of this text. A text that is no word comes back. Takes no memory.
+    /// Wraps a text as a word. Errors: the text, if it is no valid word. Takes no memory.
     pub fn new(text: String) -> Result<Word, String>
         ensures ok { IfOk result (λ word. IsWord (string_bytes text) × (word ≡ string_bytes text)) }
         ensures err { IfErr result (λ back. (IsWord (string_bytes text) → ⊥) × (back ≡ text)) }

@@ -1,3 +1,2 @@
 pub mod Drawn
-pub mod FirstLine
 pub mod Fronts

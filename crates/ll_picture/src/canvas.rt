@@ -1,4 +1,4 @@
-//! Elements of SVG, written.
+//! Writes SVG elements.
 
 ghost use Rattle.std.specs.Prelude.{◌≡◌, ◌++◌, IfOk, OnOk, codes, string_bytes};
 ghost use Rattle.ll_picture.specs.Pictures.{Begins, Ends, IsFrontOf};
@@ -8,17 +8,17 @@ use std::fmt;
 use std::fmt::Display;
 use std::num::nearest_usize_to_f64;
 
-/// How wide a character is, in pixels, of the usual writing and of the small one.
+/// The width of a character in pixels, in the usual writing and in the small one.
 pub const USUAL: f64 = 6.4;
 
 pub const SMALL: f64 = 5.6;
 
-/// How wide a text is, of characters of this width.
+/// Returns the width of a text whose characters have this width.
 pub fn width_of(text: &str, width: f64) -> f64 {
     nearest_usize_to_f64(text.chars().count()) * width
 }
 
-/// A text of at most so many characters: where it has more, the first of them and a sign that it goes on.
+/// A text cut to at most this many characters, with a sign that it goes on if it has more.
 #[derive(Drop)]
 pub struct Cut<'a> {
     text: &'a str,
@@ -36,7 +36,7 @@ impl<'a> Cut<'a> {
         }
     }
 
-    /// All of a text.
+    /// Returns the text uncut.
     pub fn whole(text: &'a str) -> Cut<'a> {
         Cut {
             text,
@@ -45,7 +45,7 @@ impl<'a> Cut<'a> {
     }
 }
 
-// What has a meaning between tags is spelled out, and what may not stand there becomes a question mark.
+// Escapes characters with a meaning in SVG, and replaces those that may not be there with a question mark.
 impl Display for Cut<'_> {
     fn fmt<W: fmt::Write>(&self, f: &mut fmt::Formatter<W>) -> fmt::Result {
         for c in self.text.chars() {
@@ -77,7 +77,7 @@ impl Point {
         Point { x, y }
     }
 
-    /// The point so much further to the right and further down.
+    /// Returns the point moved to the right and down.
     pub fn by(self, right: f64, down: f64) -> Point {
         Point::new(self.x + right, self.y + down)
     }
@@ -90,21 +90,21 @@ impl Display for Point {
     }
 }
 
-/// The text of a picture, or of a part of one, as it grows. The class of an element names its style.
+/// The text of a picture, or of a part of one, as it grows. An element's class names its style.
 #[derive(Drop)]
 pub struct Canvas {
     text: String,
 }
 
 impl Canvas {
-    /// A part of a picture, without an element.
+    /// Returns an empty part of a picture.
     pub fn new(alloc: Global) -> Canvas {
         Canvas {
             text: String::new(alloc),
         }
     }
 
-    /// The beginning of a picture of this size.
+    /// Begins a picture of this size.
     pub fn open(alloc: Global, width: f64, height: f64) -> Result<Canvas, AllocError>
         ensures { IfOk result (λ canvas. Begins (string_bytes canvas.text)) }
     {
@@ -116,14 +116,14 @@ impl Canvas {
         Ok(Canvas { text })
     }
 
-    /// Elements that are spelled already.
+    /// Appends elements.
     pub fn add(&mut self, elements: &str) -> Result<(), AllocError>
         ensures { OnOk result (IsFrontOf (string_bytes self.old.text) (string_bytes self.new.text)) }
     {
         self.text.push_str(elements)
     }
 
-    /// What comes now, up to the end of the group, has the colour of this row's client, or without one is grey.
+    /// Begins a group in the colour of this row's client; grey without a row.
     pub fn begin_group(&mut self, row: Option<usize>) -> Result<(), AllocError>
         ensures { OnOk result (IsFrontOf (string_bytes self.old.text) (string_bytes self.new.text)) }
     {
@@ -136,7 +136,7 @@ impl Canvas {
         }
     }
 
-    /// What comes now, up to the end of the group, is told so where it is pointed at.
+    /// Begins a group that shows this title when pointed at.
     pub fn begin_title(&mut self, title: Cut<'_>) -> Result<(), AllocError> {
         writeln!(self.text, "<g><title>{title}</title>")
     }
@@ -147,12 +147,12 @@ impl Canvas {
         self.add("</g>\n")
     }
 
-    /// A row's colour, as a style: its hue, and how light it is.
+    /// Writes a row's colour as a style: its hue and its lightness.
     pub fn tint(&mut self, row: usize, hue: usize, lightness: usize) -> Result<(), AllocError> {
         writeln!(self.text, ".tint{row}{{color:hsl({hue},70%,{lightness}%)}}")
     }
 
-    /// A box with this upper left corner.
+    /// Draws a box with this upper left corner.
     pub fn rect(
         &mut self,
         class: &str,
@@ -208,7 +208,7 @@ impl Canvas {
         )
     }
 
-    /// A tip to the right: what ends in the point goes on.
+    /// Draws a tip to the right, which says that a line goes on.
     pub fn tip(&mut self, class: &str, point: Point) -> Result<(), AllocError> {
         let from = point.by(2.0, -4.0);
         let middle = point.by(6.0, 0.0);
@@ -219,7 +219,7 @@ impl Canvas {
         )
     }
 
-    /// Words from the point on.
+    /// Writes words, beginning at the point.
     pub fn write(&mut self, class: &str, from: Point, words: Cut<'_>) -> Result<(), AllocError> {
         let Point { x, y } = from;
         writeln!(
@@ -228,8 +228,8 @@ impl Canvas {
         )
     }
 
-    /// Words that rise to the right, on a line that is so far below the one that goes through the point. So many
-    /// characters of them are shown at most, and all of them where they are pointed at.
+    /// Writes words that rise to the right, `below` pixels under the line through the point. Shows at most `most`
+    /// characters, and all of them when pointed at.
     pub fn write_rising(
         &mut self,
         class: &str,
@@ -254,7 +254,7 @@ impl Canvas {
         Ok(())
     }
 
-    /// The picture's end.
+    /// Ends the picture.
     pub fn close(&mut self) -> Result<(), AllocError>
         ensures front { OnOk result (IsFrontOf (string_bytes self.old.text) (string_bytes self.new.text)) }
         ensures ends { OnOk result (Ends (string_bytes self.new.text)) }
@@ -262,7 +262,7 @@ impl Canvas {
         self.text.push_str("</svg>\n")
     }
 
-    /// The text, as it is.
+    /// Returns the text so far.
     pub fn as_str(&self) -> &str {
         self.text.as_str()
     }

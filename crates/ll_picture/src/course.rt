@@ -1,4 +1,4 @@
-//! The ways of walks, by names.
+//! The courses of walks, by names.
 
 use crate::{Branch, Spot};
 use ll_journal::Station;
@@ -8,14 +8,14 @@ use std::alloc::{AllocError, Global};
 use std::fmt;
 use std::fmt::Display;
 
-/// A directory in which a walk stands, and how many bars below its client's line the mark is.
+/// A directory that a walk has marked, and how many bars below its client's line the mark is drawn.
 #[derive(Clone, Copy)]
 struct Stand {
     inode: u64,
     bar: usize,
 }
 
-/// The path that these names make.
+/// The path with these names.
 #[derive(Clone, Copy)]
 pub struct PathOf<'a> {
     names: &'a [String],
@@ -40,7 +40,7 @@ impl Display for PathOf<'_> {
     }
 }
 
-/// What comes next on a walk's way: a name in a directory, and its whole path.
+/// The next name on a walk's way, its directory, and its whole path.
 #[derive(Clone, Copy)]
 pub struct Ahead<'a> {
     pub directory: u64,
@@ -48,8 +48,8 @@ pub struct Ahead<'a> {
     pub path: PathOf<'a>,
 }
 
-/// The way of a path: all its names, of which the last isn't gone down to. Which name is the next, and where the walk
-/// stands on it, past the fork.
+/// The way along a path: its names (the walk doesn't descend by the last one), the index of the next name, and, past
+/// the fork, the directory that the walk is in.
 #[derive(Drop)]
 struct Way {
     names: Vec<String>,
@@ -60,25 +60,25 @@ struct Way {
 /// The names on the ways of a call's paths, and how far its walk has come.
 #[derive(Drop)]
 pub struct Course {
-    /// The call's words.
+    /// The call as text.
     pub call: String,
     first: Way,
-    // without a name where the call has one path
+    // Empty if the call has one path.
     second: Way,
     is_double: bool,
-    // how many names both ways begin with
+    // The number of names that both ways begin with.
     shared: usize,
     trunk: Option<Stand>,
     bars: usize,
     starts: u64,
     moves: bool,
-    /// It holds the move gate.
+    /// Whether the walk holds the move gate.
     pub has_gate: bool,
-    /// The row of the client that moved a directory on its way, since the walk's last start.
+    /// The row of the client that moved a directory on the walk's way, since its last start.
     pub mover: Option<usize>,
 }
 
-/// The paths of the directories in which a walk stands, one after the other.
+/// The paths of the directories that a walk is in, one after the other.
 #[derive(Clone, Copy)]
 pub struct Places<'a> {
     trunk: PathOf<'a>,
@@ -86,7 +86,7 @@ pub struct Places<'a> {
     second: Option<PathOf<'a>>,
 }
 
-// A place behind another one, if there is one.
+// Writes one more place, if there is one.
 fn write_further<W: fmt::Write>(
     f: &mut fmt::Formatter<W>,
     place: Option<PathOf<'_>>,
@@ -117,7 +117,7 @@ fn shared_by(first: &[String], second: &[String]) -> usize {
     shared
 }
 
-// Of a name and a path, where memory sufficed for both.
+// Combines a name and a path, if memory sufficed for both.
 fn spot_of(
     name: Result<String, AllocError>,
     path: Result<String, AllocError>,
@@ -128,7 +128,7 @@ fn spot_of(
     })
 }
 
-// The bar of a mark, if it is on the directory.
+// The bar of the walk's mark, if it is on the directory.
 fn bar_of(stand: Option<Stand>, inode: u64) -> Option<usize> {
     match stand {
         Some(stand) if stand.inode == inode => Some(stand.bar),
@@ -145,7 +145,7 @@ impl Way {
         }
     }
 
-    // The names of the path that a call's word spells. One that spells none has no names.
+    // Copies the names of a path argument. One that is no valid path has none.
     fn take_names(&mut self, alloc: Global, target: &Target) -> Result<(), AllocError> {
         if let Target::Good(path) = target {
             for name in path.names() {
@@ -163,7 +163,7 @@ impl Way {
         }
     }
 
-    // So many directories down.
+    // The path of the directory at this depth.
     fn path_down(&self, depth: usize) -> PathOf<'_> {
         let parents = self.parents();
         PathOf {
@@ -176,7 +176,7 @@ impl Way {
         self.stand = None;
     }
 
-    // The name of a directory on the way, or where it has none its inode's number.
+    // The name of a directory on the way, or its inode's number if it has none.
     fn name_of(&self, alloc: Global, number: usize, inode: u64) -> Result<String, AllocError> {
         match self.parents().get(number) {
             Some(name) => String::from_str(alloc, name.as_str()),
@@ -184,7 +184,7 @@ impl Way {
         }
     }
 
-    // The walk goes down into the directory of the next name. Its name and path.
+    // Descends into the directory of the next name. Returns its name and path.
     fn descend(&mut self, alloc: Global, inode: u64) -> Result<Spot, AllocError> {
         let name = self.name_of(alloc, self.next, inode);
         self.next = self.next.saturating_add(1);
@@ -192,7 +192,7 @@ impl Way {
         spot_of(name, format!(in alloc; "{path}"))
     }
 
-    // The next name, in the directory where the walk stands.
+    // The next name, in the walk's current directory.
     fn ahead(&self, directory: u64) -> Option<Ahead<'_>> {
         let name = self.parents().get(self.next)?;
         Some(Ahead {
@@ -215,7 +215,7 @@ impl Way {
 }
 
 impl Course {
-    /// The course of the call's walk when it begins. The call's words are told too.
+    /// Returns the course of a walk that begins. `words` is the call as text.
     pub fn new(alloc: Global, call: &Call, words: &str) -> Result<Course, AllocError> {
         let mut course = Course::empty(alloc, moves(call));
         course.take_names(alloc, call, words)?;
@@ -253,17 +253,17 @@ impl Course {
         }
     }
 
-    /// Whether the call has two paths.
+    /// Reports whether the call has two paths.
     pub fn has_two_paths(&self) -> bool {
         self.is_double
     }
 
-    /// Whether the walk takes the move gate as it enters the root.
+    /// Reports whether the walk takes the move gate when it enters the root.
     pub fn enters_by_gate(&self) -> bool {
         self.starts == 4 && !self.moves
     }
 
-    /// The walk is above the root again.
+    /// Puts the walk back above the root.
     pub fn restart(&mut self) {
         self.first.restart();
         self.second.restart();
@@ -273,12 +273,12 @@ impl Course {
         self.mover = None;
     }
 
-    /// The walk leaves what is common to its paths.
+    /// Splits the walk at its fork.
     pub fn fork(&mut self) {
         self.second.next = self.shared;
     }
 
-    // Where the walk stands on the branch, from now on.
+    // Sets the walk's directory on the branch.
     fn put(&mut self, branch: Branch, stand: Stand) {
         match branch {
             Branch::Trunk => self.trunk = Some(stand),
@@ -287,7 +287,7 @@ impl Course {
         }
     }
 
-    /// On which branch a walk goes on that is at this place.
+    /// Returns the branch on which a walk at this station goes on.
     pub fn branch_at(from: Station) -> Branch {
         match from {
             Station::First => Branch::First,
@@ -296,8 +296,7 @@ impl Course {
         }
     }
 
-    /// The walk goes down from a place, into the directory of an inode. Its mark has a new bar, or that of the one
-    /// before.
+    /// Descends into the directory of the inode. Its mark has a new bar, or shares the one before.
     pub fn descend(
         &mut self,
         alloc: Global,
@@ -317,7 +316,7 @@ impl Course {
         }
     }
 
-    // The directory of a branch: past the fork that where it forked, until it goes down.
+    // The directory of a branch: past the fork the fork's directory, until the walk descends.
     fn directory_of(&self, way: &Way) -> u64 {
         match way.stand.or(self.trunk) {
             Some(stand) => stand.inode,
@@ -325,7 +324,7 @@ impl Course {
         }
     }
 
-    /// What comes next on the way of the walk, which is at this place.
+    /// Returns the next name of the walk, which is at this station.
     pub fn ahead(&self, at: Station) -> Option<Ahead<'_>> {
         let way = match at {
             Station::Second => &self.second,
@@ -334,24 +333,24 @@ impl Course {
         way.ahead(self.directory_of(way))
     }
 
-    /// The first path's last name, of a walk that is at its end.
+    /// Returns the first path's last name, for a walk at its end.
     pub fn first_end(&self) -> Option<Ahead<'_>> {
         self.first.end(self.directory_of(&self.first))
     }
 
-    /// The second path's last name, of a walk that is at its end.
+    /// Returns the second path's last name, for a walk at its end.
     pub fn second_end(&self) -> Option<Ahead<'_>> {
         self.second.end(self.directory_of(&self.second))
     }
 
-    /// The bar of the walk's mark on the directory, if it has marked it.
+    /// Returns the bar of the walk's mark on the directory, if it has one.
     pub fn bar_on(&self, inode: u64) -> Option<usize> {
         bar_of(self.trunk, inode)
             .or(bar_of(self.first.stand, inode))
             .or(bar_of(self.second.stand, inode))
     }
 
-    // The path of the directory in which the walk stands on a branch.
+    // The path of the walk's directory on a branch.
     fn place_on(way: &Way) -> Option<PathOf<'_>> {
         match way.stand {
             Some(_) => Some(way.path_down(way.next)),
@@ -359,7 +358,7 @@ impl Course {
         }
     }
 
-    /// Where the walk stands.
+    /// Returns the directories that the walk is in.
     pub fn places(&self) -> Places<'_> {
         let first = Course::place_on(&self.first);
         let second = Course::place_on(&self.second);
@@ -377,7 +376,7 @@ impl Course {
     }
 }
 
-/// Whether the call may move directories, so that its walk takes the move gate as it begins.
+/// Reports whether the call may move directories. If so, its walk takes the move gate when it begins.
 pub fn moves(call: &Call) -> bool {
     matches!(
         call,

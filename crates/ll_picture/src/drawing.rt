@@ -1,4 +1,4 @@
-//! From a schedule's text to its picture, and to the reasons of what can't be made.
+//! From a schedule's text to its picture, or to the reasons for its refused steps.
 
 ghost use Rattle.std.specs.Prelude.{◌≡◌, ◌≤◌, suc, None, IfOk, OnOk, if◌then◌else◌, length, string_bytes};
 ghost use Rattle.ll_rights.specs.declared.limits.TheConstants.{HISTORY_ENTRIES, TREE_NODES};
@@ -6,16 +6,16 @@ ghost use Rattle.ll_picture.specs.Windows.{drawn_of};
 ghost use Rattle.ll_picture.specs.Pictures.{IsPicture};
 ghost use Rattle.ll_wire.specs.Pieces.{pieces};
 
-use crate::lines::cut;
 use crate::replay::Replay;
 use crate::shadow::Shadow;
 use crate::window::Window;
 use crate::{Column, picture_of};
 use ll_seq::Rules;
 use ll_steps::World;
+use ll_wire::split_line;
 use std::alloc::{AllocError, Global};
 
-// Before the first line.
+// The replay before the first line.
 fn replay_in(
     alloc: Global,
     rules: Rules,
@@ -33,7 +33,7 @@ fn replay_in(
     Ok(Replay::new(alloc, world, shadow))
 }
 
-// Makes a line of the schedule. One column more, if it is drawn.
+// Makes a line of the schedule. Adds its column if it is drawn.
 fn draw_line(
     replay: &mut Replay,
     columns: &mut Vec<Column>,
@@ -52,7 +52,7 @@ fn draw_line(
     Ok(())
 }
 
-// Makes the schedule's lines. The columns of those that are drawn.
+// Makes the schedule's lines. Returns the columns of those that are drawn.
 fn columns_of(
     alloc: Global,
     replay: &mut Replay,
@@ -65,7 +65,7 @@ fn columns_of(
     let mut number = 0u64;
     let mut rest = schedule;
     while !rest.is_empty() {
-        let (line, more) = cut(rest);
+        let (line, more) = split_line(rest);
         number += 1;
         draw_line(replay, &mut columns, line, window.has(number))?;
         rest = more;
@@ -73,8 +73,8 @@ fn columns_of(
     Ok(columns)
 }
 
-/// Makes a schedule in a new tree of so many nodes, with a history of so many entries at most. Gives the picture of the
-/// lines that the window has, as SVG.
+/// Runs a schedule in a new tree with these limits of nodes and history entries. Returns the picture of the lines in
+/// the window, as SVG. Errors: memory ran out.
 pub fn draw(
     alloc: Global,
     rules: Rules,
@@ -99,19 +99,19 @@ pub fn draw(
     picture_of(alloc, &scene)
 }
 
-// Makes the schedule's lines. Why steps couldn't be made, and which walks are left.
+// Makes the schedule's lines. Returns why steps couldn't be made, and which walks are left.
 fn reasons_of(replay: &mut Replay, schedule: &[u8]) -> Result<String, AllocError> {
     let mut rest = schedule;
     while !rest.is_empty() {
-        let (line, more) = cut(rest);
+        let (line, more) = split_line(rest);
         drop(replay.take_line(line)?);
         rest = more;
     }
     replay.reasons()
 }
 
-/// Makes a schedule in such a tree. Gives the reason why each step that isn't made can't be made then, a line each, and
-/// which walks are under way at the end.
+/// Runs a schedule in a new tree with these limits. Returns one line for each step that couldn't be made, with the
+/// reason, and one for each walk under way at the end. Errors: memory ran out.
 pub fn explain(
     alloc: Global,
     rules: Rules,

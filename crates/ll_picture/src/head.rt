@@ -1,4 +1,4 @@
-//! The head of a picture: the lines of the schedule, and what came of them.
+//! The head of a picture: the schedule's lines and their outcomes.
 
 ghost use Rattle.std.specs.Prelude.{◌++◌, ℕ, List, OnOk, length, string_bytes};
 ghost use Rattle.ll_picture.specs.Pictures.{HasMarks, IsFrontOf, mark};
@@ -43,7 +43,7 @@ fn write_column(
     Ok(())
 }
 
-/// Each line with its outcome, above its column.
+/// Writes each line and its outcome above its column.
 pub fn write_head(canvas: &mut Canvas, sheet: &Sheet, scene: &Scene) -> Result<(), AllocError>
     ensures front { OnOk result (IsFrontOf (string_bytes canvas.old.text) (string_bytes canvas.new.text)) }
     ensures marks { OnOk result (HasMarks (length scene.now.columns.items) (string_bytes canvas.new.text)) }

@@ -1,4 +1,4 @@
-//! What the signs of a picture mean.
+//! The legend: what the signs of a picture mean.
 
 use crate::canvas::{Canvas, Cut, Point};
 use crate::sheet::MARGIN;
@@ -21,7 +21,7 @@ enum Sign {
     GoesOn,
 }
 
-// Each sign, what the text of a picture that has it holds, and what it means.
+// Each sign, the text that a picture with that sign contains, and its meaning.
 const SIGNS: [(Sign, &str, &str); 13] = [
     (Sign::Made, "class='made'", "a call is made at once"),
     (Sign::Walk, "class='point'", "a walk begins, or is answered"),
@@ -46,20 +46,20 @@ const SIGNS: [(Sign, &str, &str); 13] = [
     ),
 ];
 
-/// How wide the place of a sign is, and how high.
+/// The width and the height of a sign's place.
 const WIDTH: f64 = 240.0;
 
 const HEIGHT: f64 = 22.0;
 
-/// The signs that a picture has, each with its meaning and its place.
+/// The signs in a picture, each with its meaning and its place.
 #[derive(Drop)]
 pub struct Legend {
     signs: Vec<(Sign, &'static str, Point)>,
-    /// Where it ends.
+    /// Where the legend ends.
     pub bottom: f64,
 }
 
-// The place to the right, or the first of the next line where there is none.
+// The place to the right, or the first of the next line if there is no room.
 fn next_place(place: Point, width: f64) -> Point {
     let right = place.by(WIDTH, 0.0);
     if right.x + WIDTH > width {
@@ -98,7 +98,8 @@ fn draw_sign(canvas: &mut Canvas, sign: Sign, at: Point) -> Result<(), AllocErro
 }
 
 impl Legend {
-    /// The legend of what is drawn, which begins at this height, in a picture of this width.
+    /// Returns the legend of what is drawn, which begins at this height in a picture of this width. Errors: memory ran
+    /// out.
     pub fn new(alloc: Global, drawn: &str, top: f64, width: f64) -> Result<Legend, AllocError> {
         let mut signs = Vec::new(alloc);
         let mut place = Point::new(MARGIN, top);

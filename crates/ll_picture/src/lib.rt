@@ -1,4 +1,4 @@
-//! Pictures of what clients did, line by line: a row a client, time to the right.
+//! Draws what clients did, line by line: one row for each client, time to the right.
 #![tactic(auto)]
 
 mod canvas;
@@ -6,7 +6,6 @@ mod course;
 mod drawing;
 mod head;
 mod legend;
-mod lines;
 mod picture;
 mod replay;
 mod scene;

@@ -1,4 +1,4 @@
-//! The whole picture.
+//! Draws the whole picture.
 
 ghost use Rattle.std.specs.Prelude.{IfOk, length, string_bytes};
 ghost use Rattle.ll_picture.specs.Pictures.{IsPicture};
@@ -12,7 +12,7 @@ use crate::style::{STYLE, write_tints};
 use crate::track::draw_row;
 use std::alloc::{AllocError, Global};
 
-// The number of each line, below its column.
+// Writes the number of each line below its column.
 fn write_numbers(
     alloc: Global,
     canvas: &mut Canvas,
@@ -31,7 +31,7 @@ fn write_numbers(
     Ok(())
 }
 
-// The rows, and what reaches from one to another over them.
+// Draws the rows, and over them the arrows from one row to another.
 fn draw_rows(alloc: Global, sheet: &Sheet, scene: &Scene) -> Result<Canvas, AllocError> {
     let mut canvas = Canvas::new(alloc);
     let mut above = Canvas::new(alloc);
@@ -44,7 +44,7 @@ fn draw_rows(alloc: Global, sheet: &Sheet, scene: &Scene) -> Result<Canvas, Allo
     Ok(canvas)
 }
 
-/// The picture of a scene, as SVG.
+/// Returns the picture of a scene, as SVG. Errors: memory ran out.
 pub fn picture_of(alloc: Global, scene: &Scene) -> Result<String, AllocError>
     ensures { IfOk result (λ text. IsPicture (length scene.now.columns.items) (string_bytes text)) }
 {

@@ -1,4 +1,4 @@
-//! A schedule, made once more: what happens to each client, and why steps can't be made now.
+//! Runs a schedule again, and finds what happens to each client and why steps can't be made.
 
 ghost use Rattle.std.specs.Prelude.{◌≡◌, IfOk};
 
@@ -16,23 +16,23 @@ use ll_wire::{ScheduleLine, read_schedule_line, shown};
 use std::alloc::{AllocError, Global};
 use std::mem;
 
-/// More steps than a walk makes without another's: a path has 64 names at most.
+/// More steps than one walk can make alone: a path has at most 64 names.
 const MOST_STEPS: usize = 256;
 
-/// The tree, and what happened to each client up to now.
+/// The tree, and what has happened to each client.
 #[derive(Drop)]
 pub struct Replay {
     alloc: Global,
     world: World,
     shadow: Shadow,
-    // The line that is made, from 0.
+    // The current line, from 0.
     line: usize,
     seats: Vec<Seat>,
-    // Why steps couldn't be made, a line each.
+    // Why steps couldn't be made, one line each.
     told: String,
 }
 
-// Whose step it is: with a connect the client's that would come next.
+// The client that makes the step. For a connect, the client that would be next.
 fn client_of(step: &Step, next: u64) -> u64 {
     match step {
         Step::Join => next,
@@ -46,7 +46,7 @@ fn client_of(step: &Step, next: u64) -> u64 {
     }
 }
 
-// What the step tries. A connect is always answered.
+// What the step tries. A connect always gets a reply.
 fn trial_of(shadow: &Shadow, step: &Step) -> Trial {
     match step {
         Step::Join => Trial::Make(Manner::Step),
@@ -60,7 +60,7 @@ fn trial_of(shadow: &Shadow, step: &Step) -> Trial {
     }
 }
 
-// The words of a call in its line, behind the client and what it is to do.
+// The text of a call in its line, after the client and the kind of step.
 fn call_in(line: &str) -> &str {
     match line.split_once(' ') {
         Some((_, behind)) => match behind.split_once(' ') {
@@ -76,12 +76,12 @@ fn row_of(client: u64) -> usize {
     client.saturating_sub(1) as usize
 }
 
-// What is shown of a line.
+// The text that is shown of a line.
 fn line_shown(alloc: Global, line: &[u8]) -> Result<String, AllocError> {
     shown(alloc, line.strip_suffix(b"\n").unwrap_or(line))
 }
 
-// The column of a line, of what came of it and of its client's row.
+// The column of a line, from its outcome and its client's row.
 fn column_of(
     line: String,
     made: Result<(String, Option<usize>), AllocError>,
@@ -90,7 +90,7 @@ fn column_of(
     Ok(Column { line, outcome, row })
 }
 
-// A text with one more at its end.
+// Appends a text.
 fn add(text: &mut String, part: Result<String, AllocError>) -> Result<(), AllocError> {
     let part = part?;
     let added = text.push_str(part.as_str());
@@ -98,7 +98,7 @@ fn add(text: &mut String, part: Result<String, AllocError>) -> Result<(), AllocE
     added
 }
 
-// That the client's walk, which is at this place, is still under way.
+// Reports that the client's walk, which is at this station, is still under way.
 fn walk_left(
     alloc: Global,
     client: u64,
@@ -127,7 +127,7 @@ fn walk_left(
     }
 }
 
-// The rows of seats that aren't needed any more.
+// Turns the seats into rows.
 fn rows_of(alloc: Global, seats: &mut [Seat]) -> Result<Vec<Row>, AllocError> {
     let mut rows = Vec::with_capacity(alloc, seats.len())?;
     for seat in seats {
@@ -164,7 +164,7 @@ impl Replay {
         }
     }
 
-    // The client's walk begins.
+    // Begins the client's walk.
     fn begin(&mut self, client: u64, course: Course) -> Result<(), AllocError> {
         match self.seats.get_mut(row_of(client)) {
             Some(seat) => seat.begin(self.line, course),
@@ -175,7 +175,7 @@ impl Replay {
         }
     }
 
-    // What came of a step of the client's walk, but for one that begins it.
+    // Records the outcome of a step of the client's walk, except the one that begins it.
     fn tell(&mut self, client: u64, from: Station, outcome: Report) -> Result<(), AllocError> {
         let line = self.line;
         let ending = ending_in(&self.world, outcome);
@@ -186,7 +186,7 @@ impl Replay {
         }
     }
 
-    // Why the client, whose walk is at this place, can't do so now.
+    // Finds why the client, whose walk is at this station, can't make the step now.
     fn wait_of(&self, client: u64, at: Station, trial: Trial) -> Result<Wait, AllocError> {
         let scenery = Scenery {
             seats: self.seats.as_slice(),
@@ -197,7 +197,7 @@ impl Replay {
             .told(self.alloc, client)
     }
 
-    // The client waits so.
+    // Records that the client waits.
     fn seat_wait(&mut self, client: u64, wait: Wait) -> Result<(), AllocError> {
         match self.seats.get_mut(row_of(client)) {
             Some(seat) => seat.wait(self.line, wait),
@@ -208,7 +208,7 @@ impl Replay {
         }
     }
 
-    // The client, whose walk is at this place, can't do so now.
+    // Finds and records why the client, whose walk is at this station, can't make the step now.
     fn wait(&mut self, client: u64, at: Station, trial: Trial) -> Result<(), AllocError> {
         let wait = self.wait_of(client, at, trial)?;
         let number = self.line.saturating_add(1);
@@ -218,7 +218,7 @@ impl Replay {
         seated
     }
 
-    // What came of a step, or why it couldn't be made, but for one that began a walk.
+    // Records the outcome of a step that begins no walk, or why it couldn't be made.
     fn tell_or_wait(
         &mut self,
         client: u64,
@@ -233,7 +233,7 @@ impl Replay {
         }
     }
 
-    // The same of a step that was to begin a walk, with the walk's course.
+    // Records the outcome of a step that begins a walk, given the walk's course, or why it couldn't be made.
     fn tell_begin(
         &mut self,
         client: u64,
@@ -260,7 +260,7 @@ impl Replay {
         Ok(outcome)
     }
 
-    // Makes another step, whose client's row stands in the scene already if there is one.
+    // Makes any other step. Its client has a row already.
     fn take_other(&mut self, step: Step) -> Result<(u64, Report), AllocError> {
         let client = client_of(&step, self.world.clients().saturating_add(1));
         let trial = trial_of(&self.shadow, &step);
@@ -280,7 +280,7 @@ impl Replay {
         }
     }
 
-    // Makes the first step of the client's walk that may be made: its commit, a fork, a descent, or that it restarts.
+    // Makes the first possible step of the client's walk: commit, fork, descent, or restart.
     fn go_on(&mut self, client: u64) -> Report {
         let committed = self.world.step(Step::Commit(client));
         if committed.was_enabled() {
@@ -297,7 +297,7 @@ impl Replay {
         self.world.step(Step::Restart(client))
     }
 
-    // Leads the client's walk to its call's answer, as far as it goes.
+    // Leads the client's walk to its answer, or until it has to wait.
     fn lead(&mut self, client: u64) -> Result<Report, AllocError> {
         for _ in 0..MOST_STEPS {
             let from = self.world.station(client);
@@ -337,7 +337,7 @@ impl Replay {
         Ok(outcome)
     }
 
-    // Looks at each walk, whether the line's step overtook it.
+    // Checks for each walk whether the line's step made it stale.
     fn see_walks(&mut self, mover: usize) -> Result<(), AllocError> {
         let line = self.line;
         let mut client = 0u64;
@@ -348,7 +348,7 @@ impl Replay {
         Ok(())
     }
 
-    // A row for each client that came.
+    // Adds a row for each new client.
     fn seat_all(&mut self) -> Result<(), AllocError> {
         for _ in self.seats.len() as u64..self.world.clients() {
             self.seats.push(Seat::new(self.alloc))?;
@@ -359,7 +359,7 @@ impl Replay {
         Ok(())
     }
 
-    // Makes what is asked for. Its outcome in words, and the row of its client.
+    // Makes what the line asks for. Returns its outcome in words, and the row of its client.
     fn take_asked(
         &mut self,
         asked: ScheduleLine,
@@ -377,7 +377,7 @@ impl Replay {
         Ok((told, Some(row)))
     }
 
-    // The same of a line, and of one that asks for nothing its refusal.
+    // Parses a line and makes what it asks for, or records why it was refused.
     fn make_line(
         &mut self,
         line: &[u8],
@@ -392,7 +392,7 @@ impl Replay {
         }
     }
 
-    /// Makes what a line of the schedule asks for. The line's column.
+    /// Makes what a line of the schedule asks for. Returns its column. Errors: memory ran out.
     pub fn take_line(&mut self, line: &[u8]) -> Result<Column, AllocError> {
         let text = line_shown(self.alloc, line)?;
         let made = self.make_line(line, call_in(text.as_str()));
@@ -400,7 +400,7 @@ impl Replay {
         column_of(text, made)
     }
 
-    // Which walks are still under way, a line each.
+    // Reports which walks are still under way, one line each.
     fn tell_walks_left(&mut self) -> Result<(), AllocError> {
         let mut client = 0u64;
         for seat in self.seats.iter() {
@@ -413,13 +413,14 @@ impl Replay {
         Ok(())
     }
 
-    /// Why steps couldn't be made, a line each, and then which walks are still under way.
+    /// Returns why steps couldn't be made, one line each, and then which walks are still under way. Errors: memory ran
+    /// out.
     pub fn reasons(&mut self) -> Result<String, AllocError> {
         self.tell_walks_left()?;
         Ok(mem::replace(&mut self.told, String::new(self.alloc)))
     }
 
-    /// What the picture of these columns shows, of which the first is that of the line of this number, from 0.
+    /// Returns the scene of these columns. `first` is the number of the first one's line, from 0.
     pub fn into_scene(self, first: usize, columns: Vec<Column>) -> Result<Scene, AllocError>
         ensures { IfOk result (λ scene. scene.columns ≡ columns) }
     {

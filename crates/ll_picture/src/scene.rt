@@ -1,6 +1,6 @@
-//! What a picture shows.
+//! The contents of a picture.
 
-/// A part of a walk's way: what is common to its paths, or what is the first's or the second's alone.
+/// A part of a walk's way: the part that its paths share, or the first's or the second's own part.
 #[derive(Clone, Copy, Debug, PartialEq, Eq)]
 pub enum Branch {
     Trunk,
@@ -8,7 +8,7 @@ pub enum Branch {
     Second,
 }
 
-/// A directory in which a walk stands: its name, or where that isn't known its inode's number, and its whole path.
+/// A directory that a walk is in: its name (its inode's number if unknown) and its whole path.
 #[derive(Drop)]
 pub struct Spot {
     pub name: String,
@@ -22,8 +22,8 @@ pub enum Ending {
     Refused,
 }
 
-/// What another client has in a step's way: the mark that stands so many bars below the line of its row, or where no
-/// bar is told the move gate.
+/// What another client has in a step's way: the mark drawn this many bars below its row's line, or without a bar the
+/// move gate.
 #[derive(Clone, Copy, Debug, PartialEq, Eq)]
 pub struct Obstacle {
     pub row: usize,
@@ -40,17 +40,17 @@ pub struct Wait {
 /// What a line of the schedule does to a client.
 #[derive(Drop)]
 pub enum Event {
-    /// It is there from now on.
+    /// The client is new.
     Came,
     /// Its walk begins, above the root.
     Begun,
-    /// Its walk stands in this directory.
+    /// Its walk is in this directory.
     Stands(Branch, Spot),
-    /// Its walk leaves what is common to its paths.
+    /// Its walk splits at its fork.
     Forked,
     /// Its walk is stale: the client of this row moved a directory on its way.
     Overtaken(usize),
-    /// Its walk is above the root again.
+    /// Its walk has restarted, above the root.
     Restarted,
     /// Its walk holds the move gate.
     GateTaken,
@@ -62,20 +62,20 @@ pub enum Event {
     NotNow(Wait),
 }
 
-/// An event, and the line that brought it about, from 0.
+/// An event, and the line that caused it, from 0.
 #[derive(Drop)]
 pub struct Moment {
     pub line: usize,
     pub event: Event,
 }
 
-/// What happens to a client, in order. First of all it comes.
+/// What happens to a client, in order, beginning with its connect or spawn.
 #[derive(Drop)]
 pub struct Row {
     pub moments: Vec<Moment>,
 }
 
-/// A line of the schedule, what came of it, and the row of its client.
+/// A line of the schedule, its outcome, and the row of its client.
 #[derive(Drop)]
 pub struct Column {
     pub line: String,
@@ -83,8 +83,8 @@ pub struct Column {
     pub row: Option<usize>,
 }
 
-/// What the picture shows: lines of the schedule, one after the other, as columns, and its clients as rows. What
-/// happens before the first of these lines (from 0) is seen by what is left of it, and what happens after them isn't.
+/// The contents of the picture: consecutive lines of the schedule as columns, and clients as rows. What happens before
+/// the first line (counted from 0) shows only in what is left of it; what happens after the last isn't shown.
 #[derive(Drop)]
 pub struct Scene {
     pub first: usize,

@@ -1,4 +1,4 @@
-//! Clients of a schedule.
+//! The clients of a schedule.
 
 use crate::course::Course;
 use crate::{Branch, Ending, Event, Moment, Wait};
@@ -6,7 +6,7 @@ use ll_journal::Station;
 use ll_steps::Report;
 use std::alloc::{AllocError, Global};
 
-/// What happened to a client, and its walk, if one is under way.
+/// What has happened to a client, and its walk, if one is under way.
 #[derive(Drop)]
 pub struct Seat {
     pub moments: Vec<Moment>,
@@ -26,12 +26,12 @@ impl Seat {
         Ok(())
     }
 
-    /// The client came.
+    /// Records that the client is new.
     pub fn come(&mut self, line: usize) -> Result<(), AllocError> {
         self.note(line, Event::Came)
     }
 
-    /// Its walk begins.
+    /// Records that its walk begins.
     pub fn begin(&mut self, line: usize, course: Course) -> Result<(), AllocError> {
         let takes_gate = course.has_gate;
         self.course = Some(course);
@@ -42,7 +42,8 @@ impl Seat {
         Ok(())
     }
 
-    // Whether the line told last that the walk stands on this branch. The steps of a whole call do so.
+    // Whether the line's last event is that the walk is on this branch. The steps of a whole call cause several of
+    // these.
     fn stands_already(&self, line: usize, branch: Branch) -> bool {
         match self.moments.last() {
             Some(
@@ -55,7 +56,7 @@ impl Seat {
         }
     }
 
-    // Whether the walk takes the move gate as it goes on from this place. It holds it then.
+    // Takes the move gate if the walk takes it when it leaves this station. Returns whether it did.
     fn takes_gate(&mut self, from: Station) -> bool {
         match &mut self.course {
             Some(course) if from == Station::Above && course.enters_by_gate() => {
@@ -66,7 +67,7 @@ impl Seat {
         }
     }
 
-    // What is told of the directory into which the walk goes down, if one is under way.
+    // Records the descent of the walk, if one is under way.
     fn descend(
         &mut self,
         alloc: Global,
@@ -117,7 +118,7 @@ impl Seat {
         self.note(line, Event::Restarted)
     }
 
-    /// A step of the client's walk, which was at a place, ended with this outcome, which tells no reply.
+    /// Records a step of the client's walk, which was at this station. The outcome has no reply.
     pub fn step(
         &mut self,
         alloc: Global,
@@ -133,12 +134,12 @@ impl Seat {
         }
     }
 
-    /// A step of the client can't be made now.
+    /// Records that a step of the client can't be made now.
     pub fn wait(&mut self, line: usize, wait: Wait) -> Result<(), AllocError> {
         self.note(line, Event::NotNow(wait))
     }
 
-    /// A call of the client, whose walk was at a place, is answered.
+    /// Records that the client's call, whose walk was at this station, got its reply.
     pub fn answer(&mut self, line: usize, from: Station, ending: Ending) -> Result<(), AllocError> {
         self.course = None;
         self.note(
@@ -150,7 +151,7 @@ impl Seat {
         )
     }
 
-    // How much happened to the client before this line.
+    // The number of events before this line.
     fn count_before(&self, line: usize) -> usize {
         let mut count = 0usize;
         for moment in self.moments.iter() {
@@ -162,7 +163,7 @@ impl Seat {
         count
     }
 
-    /// A call of the client is answered, all steps of which the line has made: its walk isn't told.
+    /// Records that a call got its reply within one line: its walk isn't shown.
     pub fn make(&mut self, line: usize, ending: Ending) -> Result<(), AllocError> {
         self.course = None;
         let before = self.count_before(line);
@@ -170,7 +171,7 @@ impl Seat {
         self.note(line, Event::Made(ending))
     }
 
-    // Whether the walk, which is at this place, has just become stale.
+    // Whether the walk, which is at this station, has just become stale.
     fn becomes_stale(&mut self, at: Station, mover: usize) -> bool {
         match &mut self.course {
             Some(course) if at == Station::Stale && course.mover.is_none() => {
@@ -181,7 +182,7 @@ impl Seat {
         }
     }
 
-    /// Where the walk is. If it has become stale, that was by the client of the row.
+    /// Updates where the walk is. If it has become stale, the client of row `mover` moved the directory.
     pub fn see(&mut self, line: usize, at: Station, mover: usize) -> Result<(), AllocError> {
         if self.becomes_stale(at, mover) {
             self.note(line, Event::Overtaken(mover))?;

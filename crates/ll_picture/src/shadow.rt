@@ -1,4 +1,4 @@
-//! The tree that the history has made, in which names can be looked up.
+//! The tree that the history has made, for looking up names.
 
 ghost use Rattle.std.specs.Prelude.{◌≤◌, ◌+◌};
 ghost use Rattle.ll_rights.specs.declared.limits.TheConstants.{TREE_NODES};
@@ -9,7 +9,7 @@ use ll_rights::{Errno, Kind};
 use ll_seq::{Call, ClientRecord, Entry, Reply, Rules};
 use std::alloc::{AllocError, Global};
 
-/// The tree, as far as so many entries of the history have made it.
+/// The tree after the first entries of the history.
 #[derive(Drop)]
 pub struct Shadow {
     plain: Plain,
@@ -18,7 +18,7 @@ pub struct Shadow {
 }
 
 impl Shadow {
-    /// A new tree of so many nodes.
+    /// Returns a new tree for at most `nodes` nodes. Errors: memory ran out.
     pub fn new(alloc: Global, rules: Rules, nodes: usize) -> Result<Shadow, AllocError>
         requires some { 1 ≤ nodes }
         requires most { nodes ≤ TREE_NODES }
@@ -36,7 +36,7 @@ impl Shadow {
             Reply::Spawned(number) => number,
             _ => self.plain.free_number(),
         };
-        // A legal history has neither a call of nobody nor so many entries.
+        // A legal history has neither a call of a client that doesn't exist nor so many entries.
         if self.made >= HISTORY_ENTRIES
             || self.plain.has_client(entry.client) == is_connect
             || self.plain.has_client(fresh)
@@ -51,7 +51,7 @@ impl Shadow {
         }
     }
 
-    /// Makes the calls of the entries that are new in the history. Errors: memory ran out.
+    /// Makes the calls of the new entries. Errors: memory ran out.
     pub fn follow(&mut self, history: &[Entry]) -> Result<(), AllocError> {
         for entry in history.iter().skip(self.made) {
             self.make(entry)?;
@@ -59,17 +59,17 @@ impl Shadow {
         Ok(())
     }
 
-    /// The client of this number.
+    /// Returns the client of this number.
     pub fn client(&self, number: u64) -> Option<&ClientRecord> {
         self.plain.client(number)
     }
 
-    /// What the directory has under the name.
+    /// Returns the inode of the name in the directory.
     pub fn child(&self, directory: u64, name: &str) -> Option<u64> {
         self.plain.child(directory, name)
     }
 
-    /// The directory that the directory has under the name.
+    /// Returns the inode of the name in the directory, if it is a directory.
     pub fn directory(&self, directory: u64, name: &str) -> Option<u64> {
         let inode = self.plain.child(directory, name)?;
         match self.plain.kind(inode) {

@@ -1,32 +1,32 @@
-//! Where things stand in a picture.
+//! The layout of a picture, in pixels.
 
 use crate::canvas::{USUAL, width_of};
 use crate::scene::{Column, Event, Row, Scene};
 use std::alloc::{AllocError, Global};
 use std::num::nearest_usize_to_f64;
 
-/// The most characters that are shown of a line, and of what came of it.
+/// The most characters that are shown of a line, and of its outcome.
 pub const MOST_SHOWN: usize = 56;
-/// How far the bar of a mark is below the one before.
+/// The distance between the bars of two marks.
 pub const STEP: f64 = 22.0;
-/// What is left free at the edges.
+/// The free space at the edges.
 pub const MARGIN: f64 = 16.0;
 /// Where the first column begins.
 const LEFT: f64 = 92.0;
-/// How far the head's writing rises, and how far it goes to the right, for its length.
+/// How far the head's writing rises, and how far it goes to the right, for each pixel of its length.
 const RISE: f64 = 0.82;
 
 const RUN: f64 = 0.58;
-/// What a row takes above its client's line, and below the lowest bar.
+/// The height of a row above its client's line, and below its lowest bar.
 const ABOVE: f64 = 30.0;
 
 const BELOW: f64 = 24.0;
 
-/// Where the columns and rows are, and where they end.
+/// Where the columns and rows begin and end.
 #[derive(Drop)]
 pub struct Sheet {
     pitch: f64,
-    // the first line that is drawn, from 0, and the one behind the last
+    // The first line that is drawn, from 0, and the one after the last.
     first: usize,
     end: usize,
     /// Where the head ends and the first row begins.
@@ -34,11 +34,11 @@ pub struct Sheet {
     /// Where the last row ends.
     pub bottom: f64,
     pub width: f64,
-    // of each row how far down its client's line is
+    // The height of each row's client line, from the top.
     lines: Vec<f64>,
 }
 
-// Whether the row's client comes before this line.
+// Whether the row's client exists before this line.
 fn comes_before(row: &Row, line: usize) -> bool {
     match row.moments.first() {
         Some(moment) => moment.line < line,
@@ -46,7 +46,7 @@ fn comes_before(row: &Row, line: usize) -> bool {
     }
 }
 
-// How far down the bars of the row's walks go, from the first of the lines on that are drawn.
+// How far down the bars of the row's walks reach, in the lines that are drawn.
 fn depth_of(row: &Row, first: usize, end: usize) -> f64 {
     let mut deepest = 0.0f64;
     let mut depth = 0.0f64;
@@ -65,7 +65,7 @@ fn depth_of(row: &Row, first: usize, end: usize) -> f64 {
     deepest
 }
 
-// How long the writing at the head of a column is.
+// The length of the writing at the head of a column.
 fn writing_of(column: &Column) -> f64 {
     let line = width_of(column.line.as_str(), USUAL);
     let outcome = width_of(column.outcome.as_str(), USUAL);
@@ -73,7 +73,7 @@ fn writing_of(column: &Column) -> f64 {
     line.max(outcome).min(most)
 }
 
-// How far down the line is of each client that comes before the end, and where the last row ends.
+// The height of the line of each client that exists before the end, and where the last row ends.
 fn lines_from(
     alloc: Global,
     top: f64,
@@ -90,7 +90,7 @@ fn lines_from(
 }
 
 impl Sheet {
-    /// A sheet on which the scene has room.
+    /// Returns a sheet with room for the scene. Errors: memory ran out.
     pub fn new(alloc: Global, scene: &Scene) -> Result<Sheet, AllocError> {
         let columns = scene.columns.len();
         let end = scene.first.saturating_add(columns);
@@ -116,27 +116,28 @@ impl Sheet {
         })
     }
 
-    /// How many rows there are.
+    /// Returns the number of rows.
     pub fn rows(&self) -> usize {
         self.lines.len()
     }
 
-    /// Whether the line is before those that are drawn.
+    /// Reports whether the line comes before those that are drawn.
     pub fn is_before(&self, line: usize) -> bool {
         line < self.first
     }
 
-    /// Whether the line is behind those that are drawn.
+    /// Reports whether the line comes after those that are drawn.
     pub fn is_behind(&self, line: usize) -> bool {
         line >= self.end
     }
 
-    /// How far to the right the middle of a column is.
+    /// Returns the middle of a column, from the left.
     pub fn middle(&self, index: usize) -> f64 {
         LEFT + self.pitch * (nearest_usize_to_f64(index) + 0.5)
     }
 
-    /// How far to the right a line of the schedule is. What was before the first that is drawn is at the left edge.
+    /// Returns the position of a line of the schedule, from the left. Lines before the first that is drawn are at the
+    /// left edge.
     pub fn column(&self, line: usize) -> f64 {
         if self.is_before(line) {
             LEFT
@@ -145,12 +146,12 @@ impl Sheet {
         }
     }
 
-    /// Where the last column ends.
+    /// Returns where the last column ends.
     pub fn end(&self) -> f64 {
         LEFT + self.pitch * nearest_usize_to_f64(self.end.saturating_sub(self.first))
     }
 
-    /// How far down the line of a row's client is.
+    /// Returns the height of a row's client line, from the top.
     pub fn line(&self, row: usize) -> f64 {
         self.lines.get(row).copied().unwrap_or(self.top)
     }

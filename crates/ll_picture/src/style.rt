@@ -3,15 +3,15 @@
 use crate::canvas::Canvas;
 use std::alloc::AllocError;
 
-/// How many degrees of the circle of hues clients have: not those from red to yellow, which signs have.
+/// The degrees of the hue circle that clients use. Signs use the others, from red to yellow.
 const HUES: usize = 270;
 
-// The hue of a row's client, in degrees. Clients that come one after the other have hues far from each other.
+// The hue of a row's client, in degrees. Consecutive clients get distant hues.
 fn hue_of(row: usize) -> usize {
     60 + (152 + 167 * (row % HUES)) % HUES
 }
 
-// How light its colour is, in percent, on white and in the dark. Each eight clients differ in it from the eight before.
+// The lightness of its colour in percent, on white and in the dark. It changes after every eight clients.
 fn lightness_of(row: usize) -> (usize, usize) {
     match row / 8 % 3 {
         0 => (38, 70),
@@ -20,7 +20,7 @@ fn lightness_of(row: usize) -> (usize, usize) {
     }
 }
 
-/// The colours of so many clients, on white and in the dark.
+/// Writes the colours of the rows' clients, on white and in the dark.
 pub fn write_tints(canvas: &mut Canvas, rows: usize) -> Result<(), AllocError> {
     canvas.add("<style>\n")?;
     for row in 0..rows {
@@ -33,7 +33,7 @@ pub fn write_tints(canvas: &mut Canvas, rows: usize) -> Result<(), AllocError> {
     canvas.add("}\n</style>\n")
 }
 
-/// The style of each class of elements, on white and in the dark, and the ground.
+/// The style of each class of elements, on white and in the dark, and the background.
 pub const STYLE: &str = "<title>A schedule: a row a client, time to the right</title>
 <style>
 text{font-family:ui-monospace,SFMono-Regular,Menlo,Consolas,'DejaVu Sans Mono',monospace;font-size:10.5px;fill:#24292f}

@@ -1,4 +1,4 @@
-//! What is told of outcomes.
+//! The words for outcomes.
 
 use crate::Ending;
 use ll_rights::Errno;
@@ -7,7 +7,7 @@ use ll_steps::{Report, World};
 use ll_wire::{is_entered, reply_text};
 use std::alloc::{AllocError, Global};
 
-/// A refusal's words.
+/// Returns a refusal's words.
 pub fn refusal_words(alloc: Global, errno: Errno) -> Result<String, AllocError> {
     let number = errno.number();
     let text = errno.text();
@@ -27,7 +27,7 @@ fn reply_words(alloc: Global, reply: &Reply) -> Result<String, AllocError> {
     }
 }
 
-// The reply that an outcome tells.
+// The reply that an outcome refers to.
 fn reply_in(world: &World, number: u64) -> Option<&Reply> {
     match world.history().entries().get(number as usize) {
         Some(entry) => Some(&entry.reply),
@@ -35,7 +35,7 @@ fn reply_in(world: &World, number: u64) -> Option<&Reply> {
     }
 }
 
-// What is told of a call that is answered in these words.
+// The words for a call that got this reply.
 fn replied(alloc: Global, words: Result<String, AllocError>) -> Result<String, AllocError> {
     let words = words?;
     let told = format!(in alloc; "reply {words}");
@@ -43,7 +43,7 @@ fn replied(alloc: Global, words: Result<String, AllocError>) -> Result<String, A
     told
 }
 
-/// What an outcome's line says.
+/// Returns the words of an outcome's line.
 pub fn outcome_words(alloc: Global, world: &World, outcome: Report) -> Result<String, AllocError> {
     match outcome {
         Report::NotNow => String::from_str(alloc, "NotNow"),
@@ -60,7 +60,7 @@ pub fn outcome_words(alloc: Global, world: &World, outcome: Report) -> Result<St
     }
 }
 
-/// How a call ends, where the outcome tells its reply.
+/// Returns how a call ends, if the outcome has its reply.
 pub fn ending_in(world: &World, outcome: Report) -> Option<Ending> {
     match outcome {
         Report::Replied(number) => match reply_in(world, number) {

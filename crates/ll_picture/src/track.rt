@@ -1,4 +1,4 @@
-//! The row of a client.
+//! Draws the row of a client.
 
 use crate::canvas::{Canvas, Cut, Point, SMALL};
 use crate::scene::{Branch, Ending, Event, Obstacle, Row, Spot, Wait};
@@ -9,7 +9,7 @@ use std::num::{nearest_usize_to_f64, saturating_f64_to_usize};
 /// Half the height of a bar.
 const HALF: f64 = 8.5;
 
-// A directory that a walk has marked, from where on it isn't drawn yet.
+// The mark on a directory, and from where on it has yet to be drawn.
 #[derive(Clone, Copy)]
 struct Mark<'a> {
     name: &'a str,
@@ -19,7 +19,7 @@ struct Mark<'a> {
 }
 
 impl<'a> Mark<'a> {
-    // Draws the bar of the mark up to here, if it was there before.
+    // Draws the bar of the mark up to `x`, if the mark was there before.
     fn draw(self, canvas: &mut Canvas, x: f64, is_stale: bool) -> Result<(), AllocError> {
         let width = x - self.since;
         if width < 1.0 {
@@ -39,7 +39,7 @@ impl<'a> Mark<'a> {
         canvas.end_group()
     }
 
-    // The mark from here on. It is told again only that it is stale.
+    // The mark from `x` on. If it is stale, its text says so again.
     fn from_here(self, x: f64, is_stale: bool) -> Mark<'a> {
         Mark {
             name: if is_stale { "stale" } else { self.name },
@@ -49,20 +49,20 @@ impl<'a> Mark<'a> {
     }
 }
 
-// A row that is drawn up to some column. Heights are those of the client's line and of the walk's lowest bar.
+// A row drawn up to some column, with the heights of the client's line and of the walk's lowest bar.
 #[derive(Drop)]
 struct Pen<'a> {
     line: f64,
     lowest: f64,
-    // where the walk came above the root, if it is there
+    // Where the walk came above the root, if it is there.
     above: Option<f64>,
     trunk: Option<Mark<'a>>,
     first: Option<Mark<'a>>,
     second: Option<Mark<'a>>,
-    // where the walk forked
+    // Where the walk forked.
     fork: Option<Point>,
     is_stale: bool,
-    // where the walk took the gate
+    // Where the walk took the gate.
     gate: Option<f64>,
 }
 
@@ -81,7 +81,7 @@ impl<'a> Pen<'a> {
         }
     }
 
-    // The point of the client's line.
+    // The point on the client's line.
     fn on_line(&self, x: f64) -> Point {
         Point::new(x, self.line)
     }
@@ -90,7 +90,7 @@ impl<'a> Pen<'a> {
         self.above.is_none() && self.trunk.is_none()
     }
 
-    // Draws all marks up to here, and the fork on what it forked from.
+    // Draws all marks up to `x`, and the fork.
     fn draw_marks(&mut self, canvas: &mut Canvas, x: f64) -> Result<(), AllocError> {
         for mark in [self.trunk, self.first, self.second].into_iter().flatten() {
             mark.draw(canvas, x, self.is_stale)?;
@@ -101,7 +101,7 @@ impl<'a> Pen<'a> {
         }
     }
 
-    // The walk isn't above the root from here on.
+    // Ends the line of a walk above the root.
     fn leave_above(&mut self, canvas: &mut Canvas, x: f64) -> Result<(), AllocError> {
         match self.above.take() {
             Some(since) if since < x => {
@@ -111,7 +111,7 @@ impl<'a> Pen<'a> {
         }
     }
 
-    // Draws what is under way up to here, where it ends.
+    // Draws what is under way up to `x`, where it ends.
     fn end(&mut self, canvas: &mut Canvas, x: f64) -> Result<(), AllocError> {
         self.leave_above(canvas, x)?;
         self.draw_marks(canvas, x)?;
@@ -123,7 +123,7 @@ impl<'a> Pen<'a> {
         Ok(())
     }
 
-    // Tells that what is under way here goes on.
+    // Shows that what is under way at `x` goes on.
     fn go_on(&self, canvas: &mut Canvas, x: f64) -> Result<(), AllocError> {
         if self.above.is_some() {
             canvas.tip("goes-on", self.on_line(x))?;
@@ -150,7 +150,7 @@ impl<'a> Pen<'a> {
         }
     }
 
-    // The walk goes down, into this directory.
+    // Draws the walk's descent into this directory.
     fn descend(
         &mut self,
         canvas: &mut Canvas,
@@ -182,7 +182,7 @@ impl<'a> Pen<'a> {
         Ok(())
     }
 
-    // From here on the walk is stale, since the client whose line is at this height moved a directory.
+    // Draws the walk as stale from `x` on. The client at height `mover` moved a directory on its way.
     fn overtake(&mut self, canvas: &mut Canvas, x: f64, mover: f64) -> Result<(), AllocError> {
         self.draw_marks(canvas, x)?;
         self.is_stale = true;
@@ -237,14 +237,14 @@ impl<'a> Pen<'a> {
         canvas.diamond(class, self.on_line(x), 5.5)
     }
 
-    // A cross where the client is: beneath the walk's lowest bar, or on the client's line.
+    // Draws a cross below the walk's lowest bar, or on the client's line.
     fn cross(&self, canvas: &mut Canvas, x: f64, wait: &Wait) -> Result<(), AllocError> {
         canvas.begin_title(Cut::whole(wait.reason.as_str()))?;
         canvas.cross("cross", Point::new(x, self.cross_height()), 3.5)?;
         canvas.end_group()
     }
 
-    // How far down a cross is drawn.
+    // The height of a cross.
     fn cross_height(&self) -> f64 {
         if self.is_idle() {
             self.line
@@ -253,7 +253,7 @@ impl<'a> Pen<'a> {
         }
     }
 
-    // An arrow from the cross to what is in the way.
+    // Draws an arrow from the cross to the obstacle.
     fn point_at(
         &self,
         canvas: &mut Canvas,
@@ -314,7 +314,7 @@ impl<'a> Pen<'a> {
     }
 }
 
-// The client's number, and its line from where it came.
+// Draws the client's number, and its line from where it begins.
 fn draw_line(
     alloc: Global,
     canvas: &mut Canvas,
@@ -339,8 +339,8 @@ fn draw_line(
     }
 }
 
-/// A client's number, and what happens to it; above all rows, what is in the way of its steps. What is under way at the
-/// end goes on to the edge.
+/// Draws a client's number and what happens to it; into `above`, which covers all rows, the obstacles of its steps.
+/// What is under way at the end goes on to the edge.
 pub fn draw_row(
     alloc: Global,
     canvas: &mut Canvas,
@@ -350,7 +350,7 @@ pub fn draw_row(
     row: &Row,
 ) -> Result<(), AllocError> {
     let mut pen = Pen::new(sheet.line(index));
-    // What was before the first line that is drawn isn't shown, only what is left of it.
+    // What happened before the first line that is drawn shows only in what is left of it.
     let mut before = Canvas::new(alloc);
     canvas.begin_group(Some(index))?;
     draw_line(alloc, canvas, sheet, index, row)?;

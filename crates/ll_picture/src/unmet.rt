@@ -1,4 +1,4 @@
-//! Why a step can't be made now.
+//! The words for why a step can't be made now.
 
 use crate::course::PathOf;
 use crate::{Obstacle, Wait};
@@ -6,15 +6,15 @@ use std::alloc::{AllocError, Global};
 use std::fmt;
 use std::fmt::Display;
 
-/// What a client tries.
+/// What a client tries to do.
 #[derive(Clone, Copy)]
 pub enum Tried<'a> {
-    /// To begin a call.
+    /// Begin a call.
     Begin,
-    /// To make a call at once, by a step.
+    /// Make a call at once, by one step.
     Make,
     Descend,
-    /// To go down to the directory of this path.
+    /// Descend to the directory of this path.
     DescendTo(PathOf<'a>),
     Fork,
     Commit,
@@ -35,44 +35,44 @@ impl Display for Tried<'_> {
     }
 }
 
-/// What of a step isn't met. Clients are told by their numbers.
+/// The unmet condition of a step. Clients are identified by their numbers.
 #[derive(Clone, Copy)]
 pub enum Unmet<'a> {
     /// The client has a walk under way.
     UnderWay,
-    /// It has none.
+    /// The client has no walk under way.
     NoWalk,
-    /// Another step makes the call, by this rule.
+    /// Another kind of step makes this call, by this rule.
     OtherStep(&'static str),
-    /// The walk of this client holds the move gate.
+    /// This client's walk holds the move gate.
     Gate(u64),
-    /// So too, and the walk takes the gate as it enters the root for the fourth time.
+    /// This client's walk holds the move gate, and the walk would take it when it enters the root for the fourth time.
     GateAtFourth(u64),
-    /// The walk of this client stands in the directory.
+    /// This client's walk has marked the directory.
     Marked(u64),
-    /// The walk of this client stands in the directory of this path, which the call names last.
+    /// This client's walk has marked the directory of this path, the call's last name.
     LastMarked(u64, PathOf<'a>),
     /// This client moved a directory on the walk's way.
     Stale(Option<u64>),
     NotStale,
     /// There is no directory of this path.
     NoDirectory(PathOf<'a>),
-    /// The walk has to go down before, to the directory of this path.
+    /// The walk must first descend to the directory of this path.
     NamesAhead(PathOf<'a>),
     /// The walk is at the fork.
     AtFork,
     /// The walk is past the fork.
     Forked,
-    /// The walk is at its end.
+    /// The walk is at its ends.
     AtEnd,
     /// The call has one path.
     OnePath,
-    /// Nothing is seen that isn't met.
+    /// No unmet condition was found.
     Unknown,
 }
 
 impl<'a> Unmet<'a> {
-    // The client that it tells first.
+    // The first client in the message.
     fn client(&self) -> Option<u64> {
         match self {
             Unmet::Gate(client) | Unmet::GateAtFourth(client) => Some(*client),
@@ -82,7 +82,7 @@ impl<'a> Unmet<'a> {
         }
     }
 
-    // The path that it tells.
+    // The path in the message.
     fn path(&self) -> Option<PathOf<'a>> {
         match self {
             Unmet::LastMarked(_, path) => Some(*path),
@@ -91,7 +91,7 @@ impl<'a> Unmet<'a> {
         }
     }
 
-    // Its words before the path, and those behind it.
+    // The words before the path, and those after it.
     fn words(&self) -> (&'static str, &'static str) {
         match self {
             Unmet::UnderWay => ("its walk is under way, and a client has one at a time", ""),
@@ -135,7 +135,7 @@ impl Display for Unmet<'_> {
     }
 }
 
-/// What a client tries, what of that isn't met, and what is in the way.
+/// What a client tries, the unmet condition, and the obstacle.
 #[derive(Clone, Copy)]
 pub struct Cause<'a> {
     pub tried: Tried<'a>,
@@ -144,7 +144,7 @@ pub struct Cause<'a> {
 }
 
 impl<'a> Cause<'a> {
-    /// Of what nobody else stands in the way.
+    /// Returns a cause without an obstacle.
     pub fn alone(tried: Tried<'a>, unmet: Unmet<'a>) -> Cause<'a> {
         Cause {
             tried,
@@ -153,7 +153,7 @@ impl<'a> Cause<'a> {
         }
     }
 
-    /// What is told of it, of this client.
+    /// Returns the message for this client. Errors: memory ran out.
     pub fn told(self, alloc: Global, client: u64) -> Result<Wait, AllocError> {
         let Cause {
             tried,

@@ -1,4 +1,4 @@
-//! Which clause of a step isn't met, and whose walk is in the way.
+//! Finds which condition of a step isn't met, and whose walk is the obstacle.
 
 use crate::Obstacle;
 use crate::course::{Ahead, Course, PathOf};
@@ -9,19 +9,19 @@ use ll_journal::Station;
 use ll_laws::Step;
 use ll_seq::{Call, ClientRecord, ROOT, Targets, refused_early, targets_of};
 
-/// By which step a call is made.
+/// The kind of step that makes a call.
 #[derive(Clone, Copy)]
 pub enum Manner {
-    /// It walks.
+    /// The call walks.
     Begin,
-    /// It is on a descriptor that its client has.
+    /// The call is on a descriptor that its client has.
     Fd,
-    /// It is for its client alone.
+    /// The call is for its client alone.
     Step,
 }
 
 impl Manner {
-    // Of which calls that is so.
+    // The words for the calls of this kind.
     fn rule(self) -> &'static str {
         match self {
             Manner::Begin => "`begin` makes a call that walks",
@@ -32,7 +32,7 @@ impl Manner {
     }
 }
 
-/// Which step it is, and of a call how it is made, and whether it takes the move gate.
+/// The tried step; for a call its kind, and whether it takes the move gate.
 #[derive(Clone, Copy)]
 pub enum Trial {
     Begin(Manner, bool),
@@ -43,32 +43,22 @@ pub enum Trial {
     Restart,
 }
 
-/// All that is under way, and the tree.
+/// All walks under way, and the tree.
 #[derive(Clone, Copy)]
 pub struct Scenery<'a> {
     pub seats: &'a [Seat],
     pub shadow: &'a Shadow,
 }
 
-// The descriptor that the call is made on.
-fn descriptor_of(call: &Call) -> Option<u64> {
-    match call {
-        Call::Read(fd, ..) | Call::Write(fd, ..) | Call::Ftruncate(fd, _) | Call::Close(fd) => Some(
-            *fd,
-        ),
-        _ => None,
-    }
-}
-
-// Whether the call is made on a descriptor that the client has.
+// Whether the call is on a descriptor that the client has.
 fn is_on_descriptor(record: &ClientRecord, call: &Call) -> bool {
-    match descriptor_of(call) {
+    match call.descriptor() {
         Some(number) => record.descriptors.get(number).is_some(),
         None => false,
     }
 }
 
-/// By which step the client's call is made.
+/// Returns the kind of step that makes the client's call.
 pub fn manner_of(shadow: &Shadow, client: u64, call: &Call) -> Manner {
     let Some(record) = shadow.client(client) else {
         return Manner::Step;
@@ -86,7 +76,7 @@ fn number_of(row: usize) -> u64 {
     (row as u64).saturating_add(1)
 }
 
-// Of a call that isn't on its way by itself: its client's walk is at this place.
+// The cause for a step that begins or makes a call. The client's walk is at this station.
 fn of_call(at: Station, manner: Manner) -> Cause<'static> {
     let unmet = if at == Station::Idle {
         Unmet::OtherStep(manner.rule())
@@ -106,7 +96,7 @@ fn tried_by(trial: Trial) -> Tried<'static> {
     }
 }
 
-// Of a walk that is stale.
+// The cause for a stale walk.
 fn of_stale(trial: Trial, course: &Course) -> Cause<'static> {
     let mover = match course.mover {
         Some(row) => Some(number_of(row)),
@@ -116,7 +106,7 @@ fn of_stale(trial: Trial, course: &Course) -> Cause<'static> {
 }
 
 impl<'a> Scenery<'a> {
-    // Whose walk but that of this row stands in the directory.
+    // The client of another row whose walk has marked the directory.
     fn marker_of(&self, row: usize, inode: u64) -> Option<Obstacle> {
         for (other, seat) in self.seats.iter().enumerate() {
             if other != row
@@ -132,7 +122,7 @@ impl<'a> Scenery<'a> {
         None
     }
 
-    // Whose walk holds the move gate.
+    // The client whose walk holds the move gate.
     fn gate_holder(&self) -> Option<Obstacle> {
         for (row, seat) in self.seats.iter().enumerate() {
             if let Some(course) = &seat.course
@@ -161,7 +151,7 @@ impl<'a> Scenery<'a> {
         }
     }
 
-    // Of the first descent.
+    // The cause for the first descent.
     fn of_entry(&self, row: usize) -> Cause<'a> {
         let tried = Tried::DescendTo(PathOf::root());
         if let Some(obstacle) = self.marker_of(row, ROOT) {
@@ -181,7 +171,7 @@ impl<'a> Scenery<'a> {
         }
     }
 
-    // Of a descent by the next name.
+    // The cause for a descent by the next name.
     fn of_next(&self, row: usize, next: Ahead<'a>) -> Cause<'a> {
         let Some(inode) = self.shadow.directory(next.directory, next.name) else {
             return Cause::alone(Tried::Descend, Unmet::NoDirectory(next.path));
@@ -209,7 +199,7 @@ impl<'a> Scenery<'a> {
         }
     }
 
-    // Where names are ahead, but something is tried that comes behind them.
+    // The cause for a step that needs the remaining names to be descended first.
     fn of_names(&self, tried: Tried<'a>, at: Station, course: &'a Course) -> Cause<'a> {
         if at == Station::Above {
             return Cause::alone(tried, Unmet::NamesAhead(PathOf::root()));
@@ -236,7 +226,7 @@ impl<'a> Scenery<'a> {
         }
     }
 
-    // Of a walk that is at its end, if what a path names last is marked.
+    // The cause for a walk at its end whose last name's node another walk has marked.
     fn of_marked(&self, row: usize, last: Option<Ahead<'a>>) -> Option<Cause<'a>> {
         let last = last?;
         let inode = self.shadow.child(last.directory, last.name)?;
@@ -248,7 +238,7 @@ impl<'a> Scenery<'a> {
         })
     }
 
-    // Of a walk that is at its end.
+    // The cause for a walk at its end.
     fn of_last(&self, row: usize, course: &'a Course) -> Cause<'a> {
         let first = self.of_marked(row, course.first_end());
         match first.or(self.of_marked(row, course.second_end())) {
@@ -265,7 +255,7 @@ impl<'a> Scenery<'a> {
         }
     }
 
-    // Of a walk that is under way, at this place.
+    // The cause for a walk under way, at this station.
     fn of_walk(&self, row: usize, at: Station, course: &'a Course, trial: Trial) -> Cause<'a> {
         if at == Station::Stale && !matches!(trial, Trial::Restart) {
             return of_stale(trial, course);
@@ -278,7 +268,7 @@ impl<'a> Scenery<'a> {
         }
     }
 
-    // Of a step of the client's walk, if one is under way.
+    // The cause for a step of the client's walk, if one is under way.
     fn of_step(&self, row: usize, at: Station, trial: Trial) -> Cause<'a> {
         if let Some(seat) = self.seats.get(row)
             && let Some(course) = &seat.course
@@ -288,7 +278,7 @@ impl<'a> Scenery<'a> {
         Cause::alone(tried_by(trial), Unmet::NoWalk)
     }
 
-    /// Why the client of this row, whose walk is at this place, can't do so now.
+    /// Returns why the client of this row, whose walk is at this station, can't make this step now.
     pub fn cause_of(&self, row: usize, at: Station, trial: Trial) -> Cause<'a> {
         match trial {
             Trial::Begin(manner, moves) => self.of_begin(at, manner, moves),

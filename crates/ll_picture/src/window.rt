@@ -3,7 +3,7 @@
 ghost use Rattle.std.specs.Prelude.{◌≡◌};
 ghost use Rattle.ll_picture.specs.Windows.{has_line};
 
-/// The lines from one number to another, or where that isn't told to the last. They count from 1.
+/// The lines from one number to another, or to the last. They count from 1.
 #[derive(Clone, Copy, Debug, PartialEq, Eq)]
 pub struct Window {
     pub from: u64,
@@ -11,7 +11,7 @@ pub struct Window {
 }
 
 impl Window {
-    /// Whether the line of this number is drawn.
+    /// Reports whether the line of this number is drawn.
     pub fn has(self, number: u64) -> bool
         ensures { result ≡ has_line self number }
     {

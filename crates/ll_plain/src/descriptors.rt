@@ -21,7 +21,7 @@ const MOST_READ: u64 = DATA_BYTES as u64;
 
 const MOST_BYTES: u64 = FILE_BYTES as u64;
 
-/// Whether these bytes would end behind what a file may have.
+/// Whether writing this many bytes at the offset would exceed the longest file.
 fn ends_too_late(offset: u64, len: u64) -> bool
     ensures { result ≡ is_too_long (offset + len) }
 {
@@ -38,7 +38,7 @@ impl Plain {
         }
     }
 
-    /// The client's descriptor, if it may read.
+    /// The client's descriptor, if it is open for reading.
     fn readable(&self, client: u64, number: u64) -> Result<Descriptor, Errno>
         ensures free { IfOk result (λ file. without (client_of self.now client) number (λ d. d.reads) Errno.EBADF
             ≡ []) }
@@ -54,7 +54,7 @@ impl Plain {
         }
     }
 
-    /// The client's descriptor, if it may write. `otherwise` is told where it may not.
+    /// The client's descriptor, if it is open for writing. Errors: `otherwise`, if it isn't.
     fn writable(&self, client: u64, number: u64, otherwise: Errno) -> Result<Descriptor, Errno>
         ensures free { IfOk result (λ file. without (client_of self.now client) number (λ d. d.writes) otherwise ≡ []) }
         ensures there { IfOk result (λ file. get (client_of self.now client).descriptors number ≡ Some file) }

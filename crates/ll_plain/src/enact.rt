@@ -1,4 +1,4 @@
-//! What a decided call answers and changes.
+//! The answer and the change of a decided call.
 
 ghost use Rattle.std.specs.Prelude.{◌≡◌, ◌<◌, ◌-◌, ◌^◌, Some, None, true, OnOk, OnErr, IfOk, is_ok};
 ghost use Rattle.ll_rights.specs.Map.{has};
@@ -21,7 +21,7 @@ impl Plain {
         status_of(&self.facts, inode, kind, self.size(inode) as u64)
     }
 
-    /// The reply that tells the answer of the tree as it is.
+    /// Builds the reply from the answer, as the tree is now. Errors: memory ran out.
     pub(crate) fn tell(&self, answer: Answer) -> Result<Reply, AllocError>
         ensures told { IfOk result (λ reply. reply ≡ told self.now answer) }
         ensures short { is_short answer ≡ true → is_ok result ≡ true }
@@ -34,7 +34,7 @@ impl Plain {
         }
     }
 
-    /// Makes the file and opens it, or does neither.
+    /// Creates the file and opens it, or does neither.
     fn open_new(&mut self, client: u64, opening: &Opening<'_>) -> Result<(), AllocError>
         requires caller { has self.old.clients client ≡ true }
         requires next { self.old.next < 2 ^ 64 - 1 }
@@ -54,7 +54,7 @@ impl Plain {
         Ok(())
     }
 
-    /// Opens the file that is there.
+    /// Opens an existing file.
     fn open_there(
         &mut self,
         client: u64,
@@ -68,7 +68,7 @@ impl Plain {
             ≡ with_opening self.old client (client_of self.old client) opening.now (Some inode)) }
         ensures err { OnErr result (self.new ≡ self.old) }
     {
-        // What has a name has a node, by what the tables keep.
+        // The tables' invariant gives a node to everything that has a name.
         let _ = &self.nodes;
         let _ = self.take(client, opening.descriptor(inode))?;
         if opening.is_emptied {
@@ -77,7 +77,7 @@ impl Plain {
         Ok(())
     }
 
-    /// The client's ruleset has this rule too.
+    /// Adds a rule to the client's ruleset.
     fn allow(&mut self, client: u64, rule: &Rule) -> Result<(), AllocError>
         requires caller { has self.old.clients client ≡ true }
         requires fits { FitsRule self.old (client_of self.old client) rule.now }
@@ -94,7 +94,7 @@ impl Plain {
         Ok(())
     }
 
-    /// Makes the client's change. Where there is no memory, nothing changes.
+    /// Makes the client's change. Errors: memory ran out, and nothing has changed.
     pub(crate) fn enact(&mut self, client: u64, change: &Change<'_>) -> Result<(), AllocError>
         requires caller { has self.old.clients client ≡ true }
         requires next { self.old.next < 2 ^ 64 - 1 }

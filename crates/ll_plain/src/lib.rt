@@ -1,4 +1,4 @@
-//! A plain tree that does what the definitions of a call say, one call at a time.
+//! A plain tree that executes the definition of each call, one call at a time.
 #![tactic(auto)]
 
 mod descriptors;
@@ -27,8 +27,8 @@ use ll_seq::{Call, ClientRecord, Content, Dentries, Fact, Node, NumberMap, ROOT,
 use std::alloc::{AllocError, Global};
 use std::marker::Model;
 
-/// The tree as its definition reads: tables in plain order, every path walked from the root, and beside them what is
-/// counted of each node. Contracts see the state.
+/// The tree as its definition reads: sorted tables, every path walked from the root, and the counts of each node.
+/// Contracts see the state.
 #[derive(Drop)]
 pub struct Plain {
     entries: Dentries,
@@ -72,7 +72,7 @@ impl Model for Plain {
 }
 
 impl Plain {
-    /// A tree of the root alone, without a client, in which this many nodes may live.
+    /// Returns a tree with only the root and no clients, for at most `nodes` nodes. Errors: memory ran out.
     pub fn new(alloc: Global, rules: Rules, nodes: usize) -> Result<Plain, AllocError>
         requires some { 1 ≤ nodes }
         requires most { nodes ≤ 4096 }
@@ -96,8 +96,8 @@ impl Plain {
         })
     }
 
-    /// Makes the client's call. The reply and the state after are those of one step, or want of memory is answered and
-    /// nothing has changed. `fresh` is the number that a spawned client would get, which no client has.
+    /// Makes the client's call. The reply and the new state are those of one step; or the reply is NoMemory and nothing
+    /// has changed. `fresh` is the number for a spawned client, and no client may have it.
     pub fn apply(&mut self, client: u64, call: &Call, fresh: u64) -> Reply
         requires caller { has self.old.clients client ≡ not (is_connect call.now) }
         requires fresh { call.now ≡ Call.Spawn → has self.old.clients fresh ≡ false }
@@ -107,10 +107,10 @@ impl Plain {
             → ◌≡◌ {A = Reply × State} (result, self.new) (step self.old client call.now fresh) }
         ensures no_memory { result ≡ Reply.Refused Errno.NoMemory → self.new ≡ self.old }
 
-        // Want of memory comes only to a call that takes some, and that nothing else refuses.
+        // NoMemory is returned only for a call that takes memory and that nothing else refuses.
         ensures starved { result ≡ Reply.Refused Errno.NoMemory → MayStarve self.old client call.now }
 
-        // What follows from these for every call.
+        // This follows from the above for every call.
         ensures answers { IsAnswer result }
         ensures kept { is_refusal result ≡ true → self.new ≡ self.old }
         ensures clients_stay { (other : ℕ) → has self.old.clients other ≡ true → has self.new.clients other ≡ true }

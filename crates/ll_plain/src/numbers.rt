@@ -1,4 +1,4 @@
-//! Which numbers clients have.
+//! The clients' numbers.
 
 ghost use Rattle.std.specs.Prelude.{◌≡◌, false};
 ghost use Rattle.std.specs.Option.{option_copied};
@@ -8,21 +8,21 @@ use crate::Plain;
 use ll_seq::ClientRecord;
 
 impl Plain {
-    /// Whether a client has this number.
+    /// Reports whether a client has this number.
     pub fn has_client(&self, number: u64) -> bool
         ensures { result ≡ has self.now.clients number }
     {
         self.clients.has(number)
     }
 
-    /// The client with this number.
+    /// Returns the client with this number.
     pub fn client(&self, number: u64) -> Option<&ClientRecord>
         ensures { option_copied result ≡ get self.now.clients number }
     {
         self.clients.get(number)
     }
 
-    /// A number that no client has.
+    /// Returns a number that no client has.
     pub fn free_number(&self) -> u64
         ensures { has self.now.clients result ≡ false }
     {

@@ -10,8 +10,8 @@ use ll_rights::Errno;
 use ll_seq::{Call, Reply};
 
 impl Plain {
-    /// Makes the client's call, which names a path: what is found decides it, the answer is told, and then the change
-    /// is made.
+    /// Makes the client's call, which names a path: finds its paths, decides, builds the reply, and then makes the
+    /// change.
     pub(crate) fn perform(&mut self, client: u64, call: &Call) -> Reply
         requires caller { has self.old.clients client ≡ true }
         requires path { has_path call.now ≡ true }

@@ -1,4 +1,4 @@
-//! What a layer grants on an inode by some name.
+//! The rights that a layer grants on an inode by any name.
 
 ghost use Rattle.std.specs.Prelude.{◌≡◌, ◌≤◌, ◌<◌, ◌-◌, ◌^◌, ◌↔◌, ℕ, Some, IfSome, IfNone, IsTrue, length, slice_get};
 ghost use Rattle.ll_rights.specs.Access.{holds};
@@ -13,8 +13,8 @@ use ll_rules::{Domain, Layer};
 use ll_seq::ROOT;
 
 impl Plain {
-    /// What the domain's layer of this number, the oldest being 1, grants on the inode by some name, of the rights
-    /// that mean something for it. `None` where no name names the inode. Takes no memory.
+    /// Returns the rights that layer `number` (1 is the oldest) grants on the inode by any of its names, out of those
+    /// that apply to its kind. None if no path names the inode. Takes no memory.
     pub fn reach(&self, domain: &Domain, number: usize, inode: u64) -> Option<Access>
         requires first { 1 ≤ number }
         requires last { number ≤ length domain.now }
@@ -26,7 +26,7 @@ impl Plain {
             (right : ℕ) → IsTrue (holds rights.0 right) ↔ InReach self.now layer inode right) }
     {
         let layer = &domain.layers()[number - 1];
-        // A path needs no entry twice on the way to a rule, nor from there to the inode.
+        // A path needs no entry twice on the way to a rule, nor from the rule to the inode.
         let most = 2 * self.entries.len();
         let ruled = self.reach_within(layer, most, inode)?;
         let Some(kind) = self.kind(inode) else {
@@ -36,7 +36,7 @@ impl Plain {
         Some(Access(granted.0 & kind.relevant().0))
     }
 
-    /// What the layer's rules hold on paths of at most so many names that name the inode.
+    /// The rights that the layer's rules allow on paths to the inode of at most `steps` names.
     fn reach_within(&self, layer: &Layer, steps: usize, inode: u64) -> Option<Access>
         ensures { Found self.now layer.now (Leads self.now steps inode) result }
     {

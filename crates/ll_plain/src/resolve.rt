@@ -1,4 +1,4 @@
-//! What is found for a call, and what it comes to.
+//! From the paths of a call to its decision.
 
 ghost use Rattle.std.specs.Prelude.{◌≡◌, ℕ, true, nat_le, MatchOption, MatchResult};
 ghost use Rattle.ll_rights.specs.Map.{has, len};
@@ -17,7 +17,7 @@ use ll_rules::Domain;
 use ll_seq::{Call, ClientRecord, Effect, Found, Reply, Targets, decide, targets_of};
 
 impl Plain {
-    /// The walk along what the word spells. A word that is no path stands for the root here.
+    /// Walks the path argument. A word that is no path is walked as the root.
     fn walk_target(&self, domain: &Domain, target: &Target) -> PathWalk
         ensures { IsPathWalk self.now domain.now (path_of target.now) result }
     {
@@ -27,7 +27,7 @@ impl Plain {
         }
     }
 
-    /// The walk along the call's path, or those along both.
+    /// Walks the call's one path, or both.
     fn walks(&self, domain: &Domain, call: &Call) -> (PathWalk, Option<PathWalk>)
         ensures first { IsPathWalk self.now domain.now (first_path call.now) result.0 }
         ensures second { MatchOption result.1 (second_path call.now ≡ first_path call.now)
@@ -43,7 +43,7 @@ impl Plain {
         }
     }
 
-    /// What is found for a call.
+    /// Returns what is found at the call's paths.
     pub fn found(&self, domain: &Domain, call: &Call) -> Found
         ensures { AreFacts self.now call.now result }
     {
@@ -54,7 +54,7 @@ impl Plain {
         }
     }
 
-    /// What these walks, which are those of a call, have found for it.
+    /// Combines what the walks of one call have found.
     fn facts_of(&self, first: &PathWalk, second: &PathWalk) -> Found
         ensures first { result.first ≡ first.now.spot }
         ensures second { result.second ≡ second.now.spot }
@@ -67,7 +67,7 @@ impl Plain {
         }
     }
 
-    /// What the caller's call comes to, of which these walks are.
+    /// Decides the caller's call, given the walks of its paths.
     fn decided<'a>(
         &self,
         caller: &ClientRecord,
@@ -91,7 +91,7 @@ impl Plain {
         decide(caller, call, &found, &granted)
     }
 
-    /// What the client's call does, which names a path, or the reply where it does nothing.
+    /// Returns the effect of the client's call, which names a path, or the reply if it is refused or denied.
     pub(crate) fn effect<'a>(&self, client: u64, call: &'a Call) -> Result<Effect<'a>, Reply>
         requires caller { has self.now.clients client ≡ true }
         requires path { has_path call.now ≡ true }

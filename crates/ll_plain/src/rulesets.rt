@@ -1,4 +1,4 @@
-//! Calls of clients on themselves.
+//! Calls that concern only the client's own record.
 
 ghost use Rattle.std.specs.Prelude.{◌≡◌, true, false, slice_get, is_some, IfOk};
 ghost use Rattle.ll_rights.specs.Map.{has};
@@ -50,7 +50,7 @@ impl Plain {
         Reply::Done
     }
 
-    /// A client that this one spawns.
+    /// The record of a client that this one spawns. Errors: memory ran out.
     fn child_of(&self, client: u64) -> Result<ClientRecord, AllocError>
         requires { has self.now.clients client ≡ true }
         ensures { IfOk result (λ child. child ≡ child_of self.now.rules (client_of self.now client)) }

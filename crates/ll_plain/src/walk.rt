@@ -15,29 +15,29 @@ use ll_rights::Errno;
 use ll_rules::Domain;
 use ll_seq::{ROOT, Spot, first, granted_at, no_directory};
 
-/// Where a walk along some names stands.
+/// A walk along some names, at its end.
 #[derive(Drop)]
 pub struct Walk {
-    /// The node that the names lead to, if they lead to one.
+    /// The node at the end, if the names lead to one.
     pub end: Option<u64>,
-    /// What is in the way first, if anything is.
+    /// The first thing that blocks the way, if anything does.
     pub way: Option<Errno>,
-    /// What each layer grants there.
+    /// The rights that each layer grants at the end.
     pub masks: Masks,
 }
 
-/// What the walk along a path finds.
+/// The result of walking a path.
 #[derive(Drop)]
 pub struct PathWalk {
     pub spot: Spot,
-    /// What each layer grants on the path's parent.
+    /// The rights that each layer grants on the path's parent.
     pub parent: Masks,
-    /// What each layer grants on the path.
+    /// The rights that each layer grants on the path.
     pub itself: Masks,
 }
 
 impl Plain {
-    /// The walk of the empty path.
+    /// The walk along no names.
     fn start(&self, domain: &Domain) -> Walk
         ensures { IsWalk self.now domain.now [] result }
     {
@@ -48,7 +48,7 @@ impl Plain {
         }
     }
 
-    /// Why what stands there is no directory.
+    /// Why the node can't be used as a directory, or None.
     fn in_the_way(&self, node: Option<u64>) -> Option<Errno>
         ensures { result ≡ slice_get (stages.no_directory (stages.kind_of_child self.now node)) 0 }
     {
@@ -58,7 +58,7 @@ impl Plain {
         }
     }
 
-    /// What the directory has under the name, if there is one.
+    /// The inode of the name in the directory, if both exist.
     fn beneath(&self, directory: Option<u64>, name: &str) -> Option<u64>
         ensures { result ≡ option_and_then (λ d. child self.now d name.now) directory }
     {
@@ -68,7 +68,7 @@ impl Plain {
         }
     }
 
-    /// The walk along one name more.
+    /// Extends the walk by one name.
     fn step(&self, domain: &Domain, walk: Walk, name: &str) -> Walk
         requires { length walk.masks ≡ length domain.now }
         ensures { (names : Path) → IsWalk self.now domain.now names walk
@@ -85,7 +85,7 @@ impl Plain {
         }
     }
 
-    /// The walk along the names.
+    /// Walks along the names.
     fn walk(&self, domain: &Domain, names: Names<'_>) -> Walk
         ensures { IsWalk self.now domain.now names.entry result }
     {
@@ -96,7 +96,7 @@ impl Plain {
         walk
     }
 
-    /// Where the path's last name stands, or would.
+    /// The spot of the path's last name.
     fn spot(&self, way: Option<Errno>, directory: u64, node: Option<u64>) -> Spot
         ensures { (path : Path) → way ≡ slice_get (stages.in_the_way self.now (parent path) root) 0
             → directory ≡ directory_of self.now path → node ≡ named self.now path → IsSpot self.now path result }
@@ -114,7 +114,7 @@ impl Plain {
         }
     }
 
-    /// The walk along the path, which is the only one along it.
+    /// Walks along the path.
     pub(crate) fn walk_path(&self, domain: &Domain, path: &Path) -> PathWalk
         ensures { IsPathWalk self.now domain.now path.now result }
     {

@@ -1,4 +1,4 @@
-//! What one change writes into the tables.
+//! The writes into the tables that one change makes.
 
 ghost use Rattle.std.specs.Prelude.{◌≡◌, ◌<◌, ◌-◌, ◌+◌, ◌^◌, [], Some, true, OnOk, OnErr, IfOk, if◌then◌else◌, is_some};
 ghost use Rattle.std.specs.Prelude.{length};
@@ -16,7 +16,7 @@ use ll_rights::Kind;
 use ll_seq::{At, Content, Descriptor, Node, NumberMap};
 use std::alloc::AllocError;
 
-/// Forgets the node that lost a name or a descriptor, if it goes.
+/// Removes the node that lost a name or a descriptor, if it goes.
 fn forget(nodes: &mut NumberMap<Node>, inode: u64, goes: bool)
     ensures { nodes.new ≡ (if goes then remove nodes.old inode else nodes.old) }
 {
@@ -26,7 +26,7 @@ fn forget(nodes: &mut NumberMap<Node>, inode: u64, goes: bool)
 }
 
 impl Plain {
-    /// A new empty node has this name.
+    /// Creates an empty node under this name. Errors: memory ran out.
     pub(crate) fn add(&mut self, at: &At<'_>, kind: Kind) -> Result<(), AllocError>
         requires next { self.old.next < 2 ^ 64 - 1 }
         requires room { HasRoom self.old at.now }
@@ -52,7 +52,7 @@ impl Plain {
         Ok(())
     }
 
-    /// The node has this name too.
+    /// Adds a further name for the node. Errors: memory ran out.
     pub(crate) fn add_name(&mut self, at: &At<'_>, inode: u64) -> Result<(), AllocError>
         requires { FitsName self.old at.now inode }
         ensures ok { OnOk result (self.new ≡ with_name self.old (dentry_at at.now) inode) }
@@ -64,7 +64,7 @@ impl Plain {
         Ok(())
     }
 
-    /// The node loses this name, and goes where nothing keeps it alive.
+    /// Removes the name of the node, and the node if nothing keeps it.
     pub(crate) fn take_name(&mut self, at: &At<'_>, inode: u64)
         requires { child self.old at.now.directory at.now.name.now ≡ Some inode }
         ensures { self.new ≡ without_name self.old (dentry_at at.now) inode }
@@ -74,7 +74,7 @@ impl Plain {
         forget(&mut self.nodes, inode, goes);
     }
 
-    /// The node has the new name, which no node has, in the place of the old one.
+    /// Moves the node from the old name to the new one, which no node has. Errors: memory ran out.
     pub(crate) fn move_name(
         &mut self,
         old: &At<'_>,
@@ -92,8 +92,8 @@ impl Plain {
         Ok(())
     }
 
-    /// The node has the new name in the place of the old one, and another node loses it, and goes where nothing keeps
-    /// it alive.
+    /// Moves the node from the old name to the new one, which another node loses. Removes that node if nothing keeps
+    /// it.
     pub(crate) fn move_over(&mut self, old: &At<'_>, new: &At<'_>, inode: u64, replaced: u64)
         requires { FitsReplace self.old old.now new.now inode replaced }
         ensures { self.new ≡ let_go (with_moved self.old (dentry_at old.now) (dentry_at new.now) inode) replaced }
@@ -106,7 +106,7 @@ impl Plain {
         forget(&mut self.nodes, replaced, goes);
     }
 
-    /// Two nodes have each other's name.
+    /// Exchanges the names of two nodes.
     pub(crate) fn exchange(&mut self, old: &At<'_>, new: &At<'_>, inode: u64, other: u64)
         requires { FitsExchange self.old old.now new.now inode other }
         ensures { self.new ≡ with_name (with_name self.old (dentry_at new.now) inode) (dentry_at old.now) other }
@@ -115,7 +115,7 @@ impl Plain {
         self.entries.replace(old.directory, old.name, other);
     }
 
-    /// The node's bytes are cut or filled to this length.
+    /// Sets the length of the node's bytes. New bytes are zeros. Errors: memory ran out.
     pub(crate) fn set_len(&mut self, inode: u64, len: usize) -> Result<(), AllocError>
         ensures ok { OnOk result (self.new ≡ with_bytes self.old inode (resized (bytes_of self.old inode) len)) }
         ensures err { OnErr result (self.new ≡ self.old) }
@@ -124,14 +124,14 @@ impl Plain {
         Ok(())
     }
 
-    /// The node has no bytes.
+    /// Removes all of the node's bytes.
     pub(crate) fn empty(&mut self, inode: u64)
         ensures { self.new ≡ with_bytes self.old inode [] }
     {
         self.nodes.clear(inode);
     }
 
-    /// These bytes come into the node's, from the offset on.
+    /// Writes the bytes into the node's from the offset on. Errors: memory ran out.
     pub(crate) fn put(&mut self, inode: u64, offset: usize, bytes: &[u8]) -> Result<(), AllocError>
         requires { offset + length bytes.now < 2 ^ 64 }
         ensures ok { OnOk result (self.new
@@ -142,7 +142,7 @@ impl Plain {
         Ok(())
     }
 
-    /// The client's lowest free descriptor, which there is, becomes this one.
+    /// Opens the file at the client's lowest free descriptor. There must be one. Returns its number.
     pub(crate) fn take(&mut self, client: u64, file: Descriptor) -> Result<u64, AllocError>
         requires caller { has self.old.clients client ≡ true }
         requires free { is_some (lowest_free (client_of self.old client).descriptors) ≡ true }
@@ -164,7 +164,7 @@ impl Plain {
         Ok(number)
     }
 
-    /// The client's descriptor, which is this one, is free, and its node goes where nothing keeps it alive.
+    /// Closes the client's descriptor, and removes the node if nothing keeps it.
     pub(crate) fn free(&mut self, client: u64, number: u64, file: Descriptor)
         requires caller { has self.old.clients client ≡ true }
         requires there { get (client_of self.old client).descriptors number ≡ Some file }

@@ -1,5 +1,5 @@
-//! Where a policy's first fault is, and what would be right there. No contract says what is told: it helps who wrote
-//! the policy.
+//! Finds a policy's first fault and what would be right there. No contract covers the words: they help the policy's
+//! author.
 
 use crate::fault::PolicyFault;
 use crate::node::Node;
@@ -11,7 +11,7 @@ use std::fmt;
 use std::fmt::Display;
 use toml::{Table, Value};
 
-/// A table of a policy, counted as people count.
+/// A table of a policy. Tables of an array are counted from 1.
 #[derive(Clone, Copy)]
 enum Place<'a> {
     Document,
@@ -35,7 +35,7 @@ impl Display for Place<'_> {
     }
 }
 
-/// The key of a table at which a fault is; none where the table's own name is at fault.
+/// The key of a table that is at fault; None if the table's own name is.
 #[derive(Clone, Copy)]
 struct Blame<'a> {
     place: Place<'a>,
@@ -43,7 +43,7 @@ struct Blame<'a> {
     key: Option<&'a str>,
 }
 
-// What the key wants.
+// What the key's value must be.
 fn wanted(place: Place<'_>, key: &str) -> &'static str {
     match (place, key) {
         (_, "version") => "1 or 2 is expected",
@@ -82,7 +82,7 @@ impl Display for Blame<'_> {
     }
 }
 
-// The first key of the table that isn't among these.
+// The first key of the table that isn't one of these.
 fn other_key<'a>(table: &'a Table, known: &[&str]) -> Option<&'a str> {
     for (key, _) in table.iter() {
         if !known.iter().any(|name| key.as_str() == *name) {
@@ -148,7 +148,7 @@ fn in_layer<'a>(alloc: Global, name: &'a str, layer: usize, table: &'a Table) ->
     blame
 }
 
-// In the profile of this name, if it has a fault.
+// The fault in the profile of this name, if any.
 fn in_profile<'a>(alloc: Global, name: &'a str, table: &'a Table) -> Option<Blame<'a>> {
     let mut blame = Blame {
         place: Place::Profile(name),
@@ -178,7 +178,7 @@ fn in_profile<'a>(alloc: Global, name: &'a str, table: &'a Table) -> Option<Blam
     None
 }
 
-// In what stands outside nodes and profiles, if there is a fault.
+// The fault outside nodes and profiles, if any.
 fn at_top(table: &Table) -> Option<Blame<'_>> {
     let known: &[&str] = if is_two(table) {
         &["version", "abi", "node", "profile"]
@@ -239,8 +239,8 @@ fn in_document(alloc: Global, table: &Table) -> Option<Blame<'_>> {
     }
 }
 
-/// One line or more, without a last line feed, on where the text's first fault is and what would be right there. None
-/// where it has no fault.
+/// Returns the text's first fault and what would be right there, in one line or more without a final line feed. None if
+/// it has no fault. Errors: memory ran out.
 pub fn first_fault(alloc: Global, text: &str) -> Result<Option<String>, AllocError> {
     match toml::table_from_str(alloc, text) {
         Ok(table) => match in_document(alloc, &table) {

@@ -1,4 +1,4 @@
-//! What is wrong with a policy.
+//! The faults of a policy.
 
 ghost use Rattle.std.specs.Prelude.{◌≡◌};
 ghost use Rattle.ll_policy.specs.declared.fault.PolicyFault.TheVariants.{NoMemory};
@@ -6,33 +6,33 @@ ghost use Rattle.ll_policy.specs.declared.fault.PolicyFault.TheVariants.{NoMemor
 use std::alloc::{AllocError, AllocFailed};
 use thiserror::Error;
 
-/// Why a text gives no policy. The first fault is told. It is shown by its name.
+/// Why a text is no policy: its first fault. Shown by the variant's name.
 #[derive(Clone, Copy, Debug, PartialEq, Eq, Error)]
 #[error("{:?}", self)]
 pub enum PolicyFault {
-    /// The text is no TOML document.
+    /// The text isn't a TOML document.
     NotToml,
-    /// A table has a key that it may not have.
+    /// A table has an unknown key.
     UnknownKey,
-    /// A table lacks a key that it must have.
+    /// A table lacks a required key.
     MissingKey,
-    /// A value is of another type than its key wants.
+    /// A value has the wrong type for its key.
     WrongType,
     /// The version is neither 1 nor 2.
     BadVersion,
-    /// The ABI level is none from 1 to 3.
+    /// The ABI level isn't 1, 2 or 3.
     BadAbi,
-    /// A profile's name isn't 1 to 32 of `a` to `z`, `0` to `9` and `-`.
+    /// A profile's name isn't 1 to 32 characters out of `a` to `z`, `0` to `9` and `-`.
     BadName,
-    /// A text spells no path.
+    /// A text is no valid path.
     BadPath,
-    /// A text names no kind of node.
+    /// A text is no kind of node.
     BadKind,
-    /// A text spells no set of rights.
+    /// A text is no set of rights.
     BadRights,
-    /// A text spells no bytes, or too many, or its node is no regular file.
+    /// A text spells no bytes or too many, or its node isn't a regular file.
     BadData,
-    /// There is no room for the policy. This says nothing of the text.
+    /// Memory ran out. The text may be a policy.
     NoMemory,
 }
 

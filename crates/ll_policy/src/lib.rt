@@ -1,4 +1,4 @@
-//! Policies: what a TOML document says of files that are made first, and of the layers that clients of a profile get.
+//! Policies: TOML documents that list the nodes to create first, and the layers of each profile's clients.
 #![tactic(auto)]
 
 mod blame;

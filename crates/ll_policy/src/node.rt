@@ -1,4 +1,4 @@
-//! Nodes that a policy has made first.
+//! The nodes that a policy creates.
 
 ghost use Rattle.std.specs.Prelude.{◌≡◌, ◌++◌, flat_map, OnOk, IfOk};
 ghost use Rattle.toml.specs.View.{table_view, items_view};
@@ -18,10 +18,10 @@ use ll_seq::{AccessMode, Call, Creation, Mode};
 use std::alloc::{AllocError, Global};
 use toml::{Table, Value};
 
-// How many bytes one write takes.
+// The most bytes in one write.
 const PIECE: usize = 4096;
 
-// The bytes of a descriptor that was opened first, piece by piece.
+// The writes that fill a file through descriptor 0.
 fn push_writes(alloc: Global, bytes: &[u8], calls: &mut Vec<Call>) -> Result<(), AllocError>
     ensures { OnOk result (calls.new.items ≡ calls.old.items ++ writes bytes.now) }
 {
@@ -36,7 +36,7 @@ fn push_writes(alloc: Global, bytes: &[u8], calls: &mut Vec<Call>) -> Result<(),
     Ok(())
 }
 
-/// A node, and the bytes that it begins with.
+/// A node and its initial bytes.
 #[derive(Drop)]
 pub(crate) struct Node {
     path: PathText,
@@ -45,7 +45,7 @@ pub(crate) struct Node {
 }
 
 impl Node {
-    /// The node of a table.
+    /// Reads a node's table.
     pub(crate) fn read(alloc: Global, table: &Table) -> Result<Node, PolicyFault>
         ensures { Reads (node_faults (table_view table.now))
             (λ node. IsNode (table_view table.now) (calls_of_node node)) result }
@@ -57,7 +57,7 @@ impl Node {
         Ok(Node { path, kind, bytes })
     }
 
-    // The node's bytes, through a descriptor.
+    // The calls that fill the node through a descriptor.
     fn push_filling(&self, alloc: Global, calls: &mut Vec<Call>) -> Result<(), AllocError>
         ensures { OnOk result (calls.new.items ≡ calls.old.items ++ fill self.now.path self.now.bytes.items) }
     {
@@ -75,7 +75,7 @@ impl Node {
         Ok(())
     }
 
-    /// The calls that make the node and put its bytes in.
+    /// Appends the calls that create the node and fill it. Errors: memory ran out.
     pub(crate) fn push_calls(&self, alloc: Global, calls: &mut Vec<Call>) -> Result<(), AllocError>
         ensures { OnOk result (calls.new.items ≡ calls.old.items ++ calls_of_node self.now) }
     {
@@ -84,7 +84,7 @@ impl Node {
     }
 }
 
-/// The nodes of an array of tables.
+/// Reads an array of nodes' tables.
 pub(crate) fn read_nodes(alloc: Global, values: &[Value]) -> Result<Vec<Node>, PolicyFault>
     ensures { Reads (flat_map node_faults (tables_of (items_view values.now)))
         (λ nodes. Joined IsNode (tables_of (items_view values.now)) (opening_of nodes.items)) result }
@@ -98,7 +98,7 @@ pub(crate) fn read_nodes(alloc: Global, values: &[Value]) -> Result<Vec<Node>, P
     Ok(nodes)
 }
 
-/// The calls that make all nodes.
+/// Returns the calls that create all nodes. Errors: memory ran out.
 pub(crate) fn opening_calls(alloc: Global, nodes: &[Node]) -> Result<Vec<Call>, AllocError>
     ensures { IfOk result (λ calls. calls.items ≡ opening_of nodes.now) }
 {

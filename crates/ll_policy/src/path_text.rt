@@ -13,7 +13,7 @@ use ll_path::{Path, Target, Word};
 use std::alloc::{AllocError, Global};
 use std::marker::Model;
 
-/// A path that several calls may need. Contracts see its text.
+/// A valid path that several calls may need. Contracts see its text.
 #[derive(Drop)]
 pub struct PathText {
     path: Path,
@@ -32,7 +32,7 @@ impl Model for PathText {
 }
 
 impl PathText {
-    /// The path that a text spells.
+    /// Reads a path.
     pub(crate) fn read(alloc: Global, text: &str) -> Result<PathText, PolicyFault>
         ensures { Reads (fault_if (not (is_path text.now)) BadPath) (λ path. path ≡ text.now) result }
     {
@@ -48,7 +48,7 @@ impl PathText {
         }
     }
 
-    /// Its one text, which is a word.
+    /// Returns the path's text, which is a word.
     pub fn as_str(&self) -> &str
         ensures text { result.now ≡ self.now }
         ensures word { IsWord result.now }
@@ -56,7 +56,7 @@ impl PathText {
         self.path.as_str()
     }
 
-    /// The path for one call.
+    /// Returns the path as the argument of one call. Errors: memory ran out.
     pub(crate) fn target(&self, alloc: Global) -> Result<Target, AllocError>
         ensures { IfOk result (λ target. target ≡ path_to self.now) }
     {

@@ -25,7 +25,7 @@ use std::alloc::{AllocError, Global};
 use std::marker::Model;
 use toml::{Table, Value};
 
-// What stands in a document's table itself.
+// The keys at the top of a document.
 #[derive(Drop)]
 struct Top<'a> {
     abi: u64,
@@ -33,7 +33,7 @@ struct Top<'a> {
     profiles: Option<&'a Table>,
 }
 
-// The document has no keys but those of its version.
+// Checks that the document has no other keys than those of its version.
 fn only_top(table: &Table, two: bool) -> Result<(), PolicyFault>
     ensures { Checks (other_keys (top_keys two) (table_view table.now)) (λ _. ⊤) result }
 {
@@ -44,7 +44,7 @@ fn only_top(table: &Table, two: bool) -> Result<(), PolicyFault>
     }
 }
 
-// The level that a document of the second version tells, or the one that the first means.
+// The level that a version 2 document states, or the fixed one of version 1.
 fn level_of(table: &Table, two: bool) -> Result<u64, PolicyFault>
     ensures { Checks (level_faults two (table_view table.now))
         (λ level. (pos level ≡ level_by two (table_view table.now)) × (1 ≤ level) × (level ≤ 3)) result }
@@ -68,7 +68,7 @@ fn read_top<'a>(table: &'a Table) -> Result<Top<'a>, PolicyFault>
     })
 }
 
-/// Calls that a first client makes, and calls of clients by the names of profiles.
+/// The calls that the first client makes, and the calls that clients make by the names of their profiles.
 #[derive(Drop)]
 pub struct Policy {
     abi: Abi,
@@ -93,7 +93,7 @@ impl Model for Policy {
 }
 
 impl Policy {
-    // The policy of a document's table.
+    // Reads a document's table.
     fn read(alloc: Global, table: &Table) -> Result<Policy, PolicyFault>
         ensures { Reads (policy_faults (table_view table.now)) (IsPlan (table_view table.now)) result }
     {
@@ -113,7 +113,7 @@ impl Policy {
         })
     }
 
-    /// The policy that a text gives, or its first fault. Where memory runs out, `NoMemory` may come in place of either.
+    /// Parses a policy. Errors: its first fault. If memory runs out, the result may be `NoMemory` instead.
     pub fn from_text(alloc: Global, text: &str) -> Result<Policy, PolicyFault>
         ensures right { OnOk result (document_faults (parse_document text.now) ≡ []) }
         ensures plan { IfOk result (IsPlanOf (parse_document text.now)) }
@@ -127,14 +127,15 @@ impl Policy {
         }
     }
 
-    /// The ABI level of the tree that the policy is for.
+    /// Returns the ABI level of the policy's tree.
     pub fn abi(&self) -> Abi
         ensures { result ≡ self.now.abi }
     {
         self.abi
     }
 
-    /// The calls that a client makes before all others, in order. None of them is a connect.
+    /// Returns the calls that a client makes before all others, in order. None of them is a connect. Errors: memory ran
+    /// out.
     pub fn opening(&self, alloc: Global) -> Result<Vec<Call>, AllocError>
         ensures calls { IfOk result (λ calls. calls.items ≡ self.now.opening) }
         ensures connects { IfOk result (λ calls. AllByRecursion (λ call. is_connect call ≡ false) calls.items) }
@@ -142,8 +143,8 @@ impl Policy {
         opening_calls(alloc, &self.nodes)
     }
 
-    /// The calls that each client of this profile makes first, in order. None where the policy has no such profile.
-    /// No call is a connect.
+    /// Returns the calls that each client of this profile makes first, in order. None if the policy has no such
+    /// profile. None of the calls is a connect. Errors: memory ran out.
     pub fn profile(&self, alloc: Global, name: &str) -> Result<Option<Vec<Call>>, AllocError>
         ensures calls { IfOk result (λ found. option_map (λ calls. calls.items) found
             ≡ lookup (bytes_eq name.now) self.now.profiles) }
@@ -158,8 +159,7 @@ impl Policy {
         Ok(None)
     }
 
-    /// The layers of this profile, oldest first, whose calls are the profile's. None where the policy has no such
-    /// profile.
+    /// Returns the profile's layers, the oldest first. None if the policy has no such profile.
     pub fn layers(&self, name: &str) -> Option<&[Layer]>
         ensures { option_map (λ layers. calls_of_layers 0 layers.now) result
             ≡ lookup (bytes_eq name.now) self.now.profiles }

@@ -1,4 +1,4 @@
-//! Profiles: the layers that a client gets.
+//! Profiles: the layers of a policy's clients.
 
 ghost use Rattle.std.specs.Prelude.{bytes_eq, ◌≡◌, [], ◌∷◌, ◌++◌, ℕ, flat_map, map, OnOk, IfOk, string_bytes};
 ghost use Rattle.std.specs.List.{enumerate_from};
@@ -19,7 +19,7 @@ use ll_seq::Call;
 use std::alloc::{AllocError, Global};
 use toml::{Table, Value};
 
-/// Rights on the node of a path, and beneath it.
+/// The rights that a rule allows on the node of a path, and below it.
 #[derive(Drop)]
 pub struct Rule {
     pub path: PathText,
@@ -27,7 +27,7 @@ pub struct Rule {
 }
 
 impl Rule {
-    /// The rule of a table.
+    /// Reads a rule's table.
     pub(crate) fn read(alloc: Global, table: &Table) -> Result<Rule, PolicyFault>
         ensures { Reads (rule_faults (table_view table.now))
             (λ rule. (number : ℕ) → IsRule number (table_view table.now) (call_of_rule number rule ∷ [])) result }
@@ -53,7 +53,7 @@ fn read_rules(alloc: Global, values: &[Value]) -> Result<Vec<Rule>, PolicyFault>
     Ok(rules)
 }
 
-/// A ruleset that is enforced: the rights that it handles, and its rules in order.
+/// A layer of a profile: the rights that it handles, and its rules in order.
 #[derive(Drop)]
 pub struct Layer {
     pub handled: Access,
@@ -61,7 +61,7 @@ pub struct Layer {
 }
 
 impl Layer {
-    /// The layer of a table.
+    /// Reads a layer's table.
     pub(crate) fn read(alloc: Global, table: &Table) -> Result<Layer, PolicyFault>
         ensures { Reads (layer_faults (table_view table.now))
             (λ layer. (number : ℕ) → IsLayer (number, table_view table.now) (calls_of_layer number layer)) result }
@@ -72,7 +72,7 @@ impl Layer {
         Ok(Layer { handled, rules })
     }
 
-    // The calls that make the ruleset of this number and enforce it.
+    // Appends the calls that create the ruleset of this number and enforce it.
     fn push_calls(
         &self,
         alloc: Global,
@@ -105,7 +105,7 @@ fn read_layers(alloc: Global, values: &[Value]) -> Result<Vec<Layer>, PolicyFaul
     Ok(layers)
 }
 
-/// What a client of this name gets.
+/// A profile's name and its layers.
 #[derive(Drop)]
 pub(crate) struct Profile {
     name: String,
@@ -113,7 +113,7 @@ pub(crate) struct Profile {
 }
 
 impl Profile {
-    /// The profile of a name and a table.
+    /// Reads a profile's table.
     fn read(alloc: Global, name: &str, table: &Table) -> Result<Profile, PolicyFault>
         ensures { Reads (profile_faults (name.now, table_view table.now))
             (λ profile. IsProfile (name.now, table_view table.now) (named_calls profile)) result }
@@ -133,14 +133,14 @@ impl Profile {
         name == self.name.as_str()
     }
 
-    /// The layers, oldest first.
+    /// The layers, the oldest first.
     pub(crate) fn layers(&self) -> &[Layer]
         ensures { result.now ≡ self.now.layers.items }
     {
         self.layers.as_slice()
     }
 
-    /// The calls that give a client its layers.
+    /// Returns the calls that give a client the layers. Errors: memory ran out.
     pub(crate) fn calls(&self, alloc: Global) -> Result<Vec<Call>, AllocError>
         ensures { IfOk result (λ calls. calls.items ≡ calls_of_layers 0 self.now.layers.items) }
     {
@@ -154,7 +154,7 @@ impl Profile {
     }
 }
 
-/// The profiles of a table of tables.
+/// Reads a table of profiles.
 pub(crate) fn read_profiles(alloc: Global, table: &Table) -> Result<Vec<Profile>, PolicyFault>
     ensures { Reads (flat_map profile_faults (named_tables (table_view table.now)))
         (λ profiles. Each IsProfile (named_tables (table_view table.now)) (map named_calls profiles.items)) result }

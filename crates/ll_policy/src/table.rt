@@ -1,4 +1,4 @@
-//! What stands at the keys of a table.
+//! Look-ups of a table's keys.
 
 ghost use Rattle.std.specs.Prelude.{bytes_eq, ◌≡◌, ⊤, ℕ, Bool, List, [], ◌∷◌, Some, option_map, option_and_then, map};
 ghost use Rattle.std.specs.Prelude.{IfOk, IfErr};
@@ -22,7 +22,7 @@ fn is_known(key: &str, known: &[&str]) -> bool
     known.iter().any(|name| key == *name)
 }
 
-// Whether the table has a key that is none of the known ones.
+// Whether the table has a key that isn't one of these.
 fn has_other_key(table: &Table, known: &[&str]) -> bool
     ensures { result ≡ has_other_key (map (λ key. key.now) known.now) (table_view table.now) }
 {
@@ -34,7 +34,7 @@ fn has_other_key(table: &Table, known: &[&str]) -> bool
     false
 }
 
-/// The table has no other keys than these.
+/// Checks that the table has no other keys than these.
 pub(crate) fn only(table: &Table, known: &[&str]) -> Result<(), PolicyFault>
     ensures { Checks (other_keys (map (λ key. key.now) known.now) (table_view table.now)) (λ _. ⊤) result }
 {
@@ -44,14 +44,14 @@ pub(crate) fn only(table: &Table, known: &[&str]) -> Result<(), PolicyFault>
     Ok(())
 }
 
-/// The value at a key.
+/// The value of the key, if the table has it.
 pub(crate) fn member<'a>(table: &'a Table, key: &str) -> Option<&'a Value>
     ensures { option_map (λ value. view value.now) result ≡ get_member key.now (table_view table.now) }
 {
     table.get(key)
 }
 
-/// The text at a key that must be there. Its value is still to be tested.
+/// The text of a required key. The caller must still check the text.
 pub(crate) fn required_text<'a>(table: &'a Table, key: &str) -> Result<&'a str, PolicyFault>
     ensures found { IfOk result (λ text.
         option_and_then as_str (get_member key.now (table_view table.now)) ≡ Some text.now) }
@@ -89,7 +89,7 @@ fn hold_tables(table: &Table) -> bool
     true
 }
 
-/// The array of tables at a key, or an empty one.
+/// The array of tables of the key; empty if the table lacks it.
 pub(crate) fn tables<'a>(table: &'a Table, key: &str) -> Result<&'a [Value], PolicyFault>
     ensures { Checks (optional as_array are_tables WrongType (get_member key.now (table_view table.now)))
         (λ values. tables_of (items_view values.now) ≡ tables_at key.now (table_view table.now)) result }
@@ -103,7 +103,7 @@ pub(crate) fn tables<'a>(table: &'a Table, key: &str) -> Result<&'a [Value], Pol
     }
 }
 
-/// The table of tables at a key, if there is one.
+/// The table of tables of the key, if the table has it.
 pub(crate) fn named_tables<'a>(
     table: &'a Table,
     key: &str,

@@ -1,4 +1,4 @@
-//! The values at the keys of a policy.
+//! The values of a policy's keys.
 
 ghost use Rattle.std.specs.Prelude.{◌≡◌, ⊤, Some, pos, codes, option_and_then, IfOk, IfErr, ◌∷◌, [], Bool, ℤ};
 ghost use Rattle.std.specs.List.{list_all};
@@ -24,7 +24,7 @@ use ll_rights::{Access, Kind};
 use std::alloc::Global;
 use toml::Table;
 
-// The whole number at a key that must be there.
+// The integer of a required key.
 fn integer(table: &Table, key: &str) -> Result<i64, PolicyFault>
     ensures found { IfOk result (λ number.
         option_and_then as_integer (get_member key.now (table_view table.now)) ≡ Some number) }
@@ -40,7 +40,7 @@ fn integer(table: &Table, key: &str) -> Result<i64, PolicyFault>
     }
 }
 
-/// Whether the document is of the second version.
+/// Whether the document has version 2.
 pub(crate) fn is_two(table: &Table) -> bool
     ensures { result ≡ is_two (integer_at (codes "version") (table_view table.now)) }
 {
@@ -50,7 +50,7 @@ pub(crate) fn is_two(table: &Table) -> bool
     }
 }
 
-/// The document is of a version that there is.
+/// Checks that the document has a known version.
 pub(crate) fn version(table: &Table) -> Result<(), PolicyFault>
     ensures { Checks (required as_integer is_version BadVersion (get_member (codes "version") (table_view table.now)))
         (λ _. ⊤) result }
@@ -61,7 +61,7 @@ pub(crate) fn version(table: &Table) -> Result<(), PolicyFault>
     }
 }
 
-/// The ABI level.
+/// Reads the ABI level.
 pub(crate) fn level(table: &Table) -> Result<u64, PolicyFault>
     ensures { Checks (required as_integer is_level BadAbi (get_member (codes "abi") (table_view table.now)))
         (λ level. integer_at (codes "abi") (table_view table.now) ≡ Some (pos level)) result }
@@ -74,7 +74,7 @@ pub(crate) fn level(table: &Table) -> Result<u64, PolicyFault>
     }
 }
 
-/// The path of a node or a rule.
+/// Reads the path of a node or a rule.
 pub(crate) fn path(alloc: Global, table: &Table) -> Result<PathText, PolicyFault>
     ensures { Reads (required as_str is_path BadPath (get_member (codes "path") (table_view table.now)))
         (λ path. path ≡ text_at (codes "path") (table_view table.now)) result }
@@ -83,7 +83,7 @@ pub(crate) fn path(alloc: Global, table: &Table) -> Result<PathText, PolicyFault
     PathText::read(alloc, text)
 }
 
-/// The kind of a node.
+/// Reads the kind of a node.
 pub(crate) fn kind(table: &Table) -> Result<Kind, PolicyFault>
     ensures { Checks (required as_str is_kind BadKind (get_member (codes "kind") (table_view table.now)))
         (λ kind. kind_text kind ≡ text_at (codes "kind") (table_view table.now)) result }
@@ -95,7 +95,7 @@ pub(crate) fn kind(table: &Table) -> Result<Kind, PolicyFault>
     }
 }
 
-/// The set of rights at a key.
+/// Reads the set of rights of the key.
 pub(crate) fn rights(table: &Table, key: &str) -> Result<Access, PolicyFault>
     ensures { Checks (required as_str is_rights BadRights (get_member key.now (table_view table.now)))
         (λ rights. access_text rights.0 ≡ text_at key.now (table_view table.now)) result }
@@ -133,7 +133,7 @@ fn are_bytes(text: &str) -> bool
     text.len() <= 131_072 && text.len() % 2 == 0 && are_digits(text)
 }
 
-/// The bytes of a node of this kind. Without the key there are none.
+/// Reads the bytes of a node of this kind: none without the key.
 pub(crate) fn data(alloc: Global, table: &Table, kind: Kind) -> Result<Vec<u8>, PolicyFault>
     ensures { Reads (optional as_str (is_data (kind_text kind)) BadData
         (get_member (codes "data") (table_view table.now)))

@@ -5,7 +5,7 @@ ghost use Rattle.std.specs.Option.{SomeIff};
 
 use std::marker::Model;
 
-/// A level of Landlock's ABI, 1 to 3: each knows more rights than the one before it. Contracts see its number.
+/// A Landlock ABI level, 1 to 3. Each level adds rights to the one before. Contracts see its number.
 #[derive(Clone, Copy, Debug, PartialEq, Eq)]
 pub struct Abi {
     number: u8,
@@ -27,7 +27,7 @@ impl Abi {
     /// The newest level.
     pub const NEWEST: Abi = Abi { number: 3 };
 
-    /// The level of this number, if there is one.
+    /// Returns the level of this number, or None outside 1 to 3.
     pub fn new(number: u64) -> Option<Abi>
         ensures { SomeIff result ((1 ≤ number) × (number ≤ 3)) number }
     {

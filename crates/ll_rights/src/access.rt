@@ -12,8 +12,7 @@ use crate::right::Right;
 use bitflags::{Flag, Flags, bitflag_items};
 use std::alloc::{AllocError, Global};
 
-/// A set of rights: a right is in it where the bit of its number is set. Bits from 15 on are
-/// rights that nobody here knows.
+/// A set of rights: right N is in it if bit N is set. Bits 15 and above belong to no right.
 #[derive(Clone, Copy, Debug, PartialEq, Eq)]
 pub struct Access(pub u64);
 
@@ -66,13 +65,13 @@ impl Flags for Access {
 }
 
 impl Access {
-    /// The rights that mean something for a file that is no directory.
+    /// The rights that apply to a file that isn't a directory.
     pub const FILE: Access = Access(0x4007);
 
     /// The fifteen rights of ABI 3.
     pub const ALL: Access = Access(0x7fff);
 
-    /// The rights that the ABI level knows.
+    /// Returns the rights that exist at the ABI level.
     pub fn known(abi: Abi) -> Access
         ensures { result.0 ≡ known_set abi }
     {
@@ -83,29 +82,29 @@ impl Access {
         }
     }
 
-    /// Whether the right is in the set.
+    /// Reports whether the set contains the right.
     pub fn holds(self, right: Right) -> bool
         ensures { result ≡ holds self.0 right }
     {
         self.0 >> right.number() & 1 == 1
     }
 
-    /// Whether each right of the set, known or not, is in the other.
+    /// Reports whether `other` contains every right of the set, known or not.
     pub fn is_within(self, other: Access) -> bool
         ensures { result ≡ is_within self.0 other.0 }
     {
         other.contains(self)
     }
 
-    /// The set and the rights of the other.
+    /// Returns the union of both sets.
     pub fn with(self, other: Access) -> Access
         ensures { result.0 ≡ bit_or self.0 other.0 }
     {
         Access(self.0 | other.0)
     }
 
-    /// The one text of the set: `none`, the names of its rights in rising order, joined by commas,
-    /// or `0x` and the number where a bit is no right's.
+    /// Returns the set's text: `none`; or the names of its rights in the order of their numbers, joined by commas; or,
+    /// if a bit belongs to no right, `0x` and the number in base 16. Errors: memory ran out.
     pub fn text(self, alloc: Global) -> Result<String, AllocError>
         ensures { IfOk result (λ text. string_bytes text ≡ access_text self.0) }
     {
@@ -118,7 +117,7 @@ impl Access {
         }
     }
 
-    /// The set that a text spells. No other spelling of a set is read.
+    /// Parses what `text` prints. Returns None for any other spelling.
     pub fn parse(text: &str) -> Option<Access>
         ensures found { IfSome result (λ access. text.now ≡ access_text access.0) }
         ensures none { IfNone result ((set : ℕ) → set < 2 ^ 64 → text.now ≢ access_text set) }
@@ -132,7 +131,7 @@ impl Access {
         }
     }
 
-    // the names of the rights, joined by commas
+    // The names of the rights, joined by commas.
     fn names(self, alloc: Global) -> Result<String, AllocError>
         ensures { IfOk result (λ text. string_bytes text ≡ join_with_byte 44 (set_names self.0)) }
     {
@@ -148,7 +147,7 @@ impl Access {
         Ok(text)
     }
 
-    // each name's right stands above those of the names before it
+    // Names must come in the order of their rights' numbers.
     fn parse_names(text: &str) -> Option<Access>
         ensures found { IfSome result (λ access. (access.0 < 2 ^ 15)
             × (slice_split (λ b. b == 44) text.now ≡ set_names access.0)) }
@@ -165,7 +164,7 @@ impl Access {
         Some(set)
     }
 
-    // the digits of a number with a bit that is no right's
+    // Parses the digits of a number that has a bit of no right.
     fn parse_number(digits: &str) -> Option<Access>
         ensures found { IfSome result (λ access. (2 ^ 15 ≤ access.0)
             × (digits.now ≡ map digit_char (digits_of 16 access.0))) }
@@ -182,7 +181,7 @@ impl Access {
     }
 }
 
-// whether each byte is a digit of base 16, in lower case
+// Reports whether every byte is a base-16 digit in lower case.
 fn is_lower_hex(text: &str) -> bool
     ensures { result ≡ list_all (λ b. (nat_le 48 b && nat_le b 57) || (nat_le 97 b && nat_le b 102)) text.now }
 {

@@ -4,8 +4,8 @@ ghost use Rattle.std.specs.Prelude.{◌≡◌, ◌≢◌, IfSome, IfNone};
 ghost use Rattle.ll_rights.specs.Errno.{errno_number, errno_text};
 ghost use Rattle.ll_rights.specs.declared.errno.Errno.{Errno};
 
-/// Why a call is refused: errno's names where Linux has one, and four of the project's own.
-/// They stand in the order of their numbers.
+/// Why a call is refused: errno's names where Linux has one, and four names of the project's own. Variants are in the
+/// order of their numbers.
 #[derive(Clone, Copy, Debug, PartialEq, Eq)]
 pub enum Errno {
     EACCES,
@@ -35,7 +35,7 @@ pub enum Errno {
 }
 
 impl Errno {
-    /// The number in a reply line, 1 to 24. It isn't Linux's number.
+    /// Returns the number that a reply line prints, 1 to 24. It isn't Linux's number.
     pub fn number(self) -> u64
         ensures { result ≡ errno_number self }
     {
@@ -98,7 +98,7 @@ impl Errno {
         }
     }
 
-    /// The refusal that a text names.
+    /// Parses a refusal's name.
     pub fn parse(text: &str) -> Option<Errno>
         ensures found { IfSome result (λ errno. text.now ≡ errno_text errno) }
         ensures none { IfNone result ((errno : Errno) → text.now ≢ errno_text errno) }

@@ -34,7 +34,7 @@ impl Kind {
         }
     }
 
-    /// The kind that a text names.
+    /// Parses a kind's name.
     pub fn parse(text: &str) -> Option<Kind>
         ensures found { IfSome result (λ kind. text.now ≡ kind_text kind) }
         ensures none { IfNone result ((kind : Kind) → text.now ≢ kind_text kind) }
@@ -57,7 +57,7 @@ impl Kind {
         self == Kind::Dir
     }
 
-    /// The right to make such a node, asked on the directory.
+    /// Returns the right needed on the directory to create a node of this kind.
     pub fn make_right(self) -> Right
         ensures { result ≡ make_right self }
     {
@@ -72,7 +72,7 @@ impl Kind {
         }
     }
 
-    /// The right to remove such a node, asked on the directory.
+    /// Returns the right needed on the directory to remove a node of this kind.
     pub fn remove_right(self) -> Right
         ensures { result ≡ remove_right self }
     {
@@ -82,7 +82,7 @@ impl Kind {
         }
     }
 
-    /// The rights that mean something for such a node.
+    /// Returns the rights that apply to a node of this kind.
     pub fn relevant(self) -> Access
         ensures { result.0 ≡ relevant self }
     {

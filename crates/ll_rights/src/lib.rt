@@ -1,5 +1,5 @@
-//! What Landlock's rules speak of: file system rights and sets of them, kinds of nodes, and the
-//! refusals of a call. The finite map of `specs/Map.antt` is what all crates' definitions use.
+//! File system rights and sets of them, kinds of nodes, and the refusals of calls. All crates' definitions use the
+//! finite map of `specs/Map.antt`.
 #![tactic(auto)]
 
 mod abi;

@@ -1,46 +1,46 @@
-//! The limits that several crates share: code and definitions cite these.
+//! The limits that several crates share. Code and definitions cite these.
 
-/// Bytes of a word of a line. own
+/// Most bytes in a word of a line. Landtree's own limit.
 pub const WORD_BYTES: usize = 8000;
 
-/// Bytes of a name. limits.h, NAME_MAX
+/// Most bytes in a name. limits.h, NAME_MAX
 pub const NAME_BYTES: usize = 255;
 
-/// Bytes of a path. limits.h, PATH_MAX without the byte that ends it
+/// Most bytes in a path. limits.h, PATH_MAX without the terminating byte
 pub const PATH_BYTES: usize = 4095;
 
-/// Names of a path. own
+/// Most names in a path. Landtree's own limit.
 pub const PATH_NAMES: usize = 64;
 
-/// Bytes that one read gives or one write takes. own
+/// Most bytes that one read returns or one write takes. Landtree's own limit.
 pub const DATA_BYTES: usize = 4096;
 
-/// Inodes with a rule in one ruleset. own
+/// Most inodes with a rule in one ruleset. Landtree's own limit.
 pub const RULESET_INODES: usize = 256;
 
-/// Layers of a domain. landlock.rst, "Ruleset layers"
+/// Most layers in a domain. landlock.rst, "Ruleset layers"
 pub const DOMAIN_LAYERS: usize = 16;
 
-/// Rulesets of a client. own
+/// Most rulesets of a client. Landtree's own limit.
 pub const CLIENT_RULESETS: usize = 16;
 
-/// Open descriptors of a client. own
+/// Most open descriptors of a client. Landtree's own limit.
 pub const CLIENT_DESCRIPTORS: usize = 64;
 
-/// Clients of a tree. own
+/// Most clients of a tree, ever. Landtree's own limit.
 pub const TREE_CLIENTS: usize = 64;
 
-/// Nodes that may live in a tree. own
+/// Most nodes alive in a tree. Landtree's own limit.
 pub const TREE_NODES: usize = 4096;
 
-/// Entries of a directory. own
+/// Most entries in a directory. Landtree's own limit.
 pub const DIRECTORY_ENTRIES: usize = 1024;
 
-/// Names of a node that is no directory. own
+/// Most names (hard links) of a node that isn't a directory. Landtree's own limit.
 pub const NODE_NAMES: usize = 1000;
 
-/// Bytes of a file. own
+/// Most bytes in a file. Landtree's own limit.
 pub const FILE_BYTES: usize = 65536;
 
-/// Entries of a history. own
+/// Most entries in a history. Landtree's own limit.
 pub const HISTORY_ENTRIES: usize = 1_000_000;

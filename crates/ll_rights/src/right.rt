@@ -6,8 +6,8 @@ ghost use Rattle.ll_rights.specs.Right.{right_text};
 use crate::access::Access;
 use std::marker::Model;
 
-/// One of the fifteen file system rights of Landlock's ABI 3. Contracts see its number, 0 to 14,
-/// the place of its bit in `linux/landlock.h`.
+/// One of the fifteen file system rights of Landlock's ABI 3. Contracts see its number, 0 to 14: the position of its
+/// bit in `linux/landlock.h`.
 #[derive(Clone, Copy, Debug, PartialEq, Eq)]
 pub struct Right {
     number: u8,
@@ -43,7 +43,7 @@ const NAMES: [&str; 15] = [
     "truncate",
 ];
 
-// Each constant has the bit of the flag of its name.
+// Each constant's number matches the flag of that name.
 const _: () = prove!(
     1 << Right::EXECUTE.number == Access::EXECUTE.0
         && 1 << Right::WRITE_FILE.number == Access::WRITE_FILE.0
@@ -93,7 +93,7 @@ impl Right {
 
     pub const TRUNCATE: Right = Right { number: 14 };
 
-    /// All fifteen, in the order of their numbers.
+    /// All fifteen rights, in the order of their numbers.
     pub const ALL: [Right; 15] = [
         Right::EXECUTE,
         Right::WRITE_FILE,
@@ -119,7 +119,7 @@ impl Right {
         self.number
     }
 
-    /// The set of this right alone.
+    /// Returns the set that contains only this right.
     pub fn access(self) -> Access
         ensures { result.0 ≡ 2 ^ self }
     {
@@ -132,7 +132,7 @@ impl Right {
         NAMES[self.number as usize]
     }
 
-    /// The right that a text names.
+    /// Parses a right's name.
     pub fn parse(text: &str) -> Option<Right>
         ensures known { IfSome result (λ right. right < 15) }
         ensures found { IfSome result (λ right. text.now ≡ right_text right) }

@@ -11,7 +11,7 @@ use ll_rights::limits::DOMAIN_LAYERS;
 use std::alloc::{AllocError, Global};
 use std::marker::Model;
 
-/// The layers that a client is under, the oldest first: at most 16.
+/// The layers that confine a client, the oldest first: at most 16.
 #[derive(Drop)]
 pub struct Domain {
     layers: Vec<Layer>,
@@ -33,7 +33,7 @@ impl Model for Domain {
 }
 
 impl Domain {
-    /// The domain of a client that never confined itself.
+    /// Returns the domain of a client that never confined itself: no layers.
     pub fn empty(alloc: Global) -> Domain
         ensures { result ≡ [] }
     {
@@ -42,11 +42,11 @@ impl Domain {
         }
     }
 
-    /// Enforces the ruleset as it is now, as the newest layer.
+    /// Copies the ruleset as it is now and adds it as the newest layer. Errors: the limit of layers; NoMemory.
     pub fn stack(&mut self, made: &Ruleset) -> Result<(), Errno>
         ensures ok { OnOk result ((layer_limit self.old ≡ []) × (self.new ≡ self.old ++ made.now ∷ [])) }
 
-        // Want of memory comes only where nothing else refuses the layer.
+        // NoMemory is returned only if nothing else refuses the layer.
         ensures refused { IfErr result (λ errno. errno ≢ Errno.NoMemory
             → slice_get (layer_limit self.old) 0 ≡ Some errno) }
         ensures starved { result ≡ Err Errno.NoMemory → layer_limit self.old ≡ [] }
@@ -71,7 +71,7 @@ impl Domain {
         Ok(Domain { layers })
     }
 
-    /// How many layers there are.
+    /// Returns the number of layers.
     pub fn len(&self) -> usize
         ensures len { result ≡ length self.now }
         ensures most { result ≤ 16 }
@@ -79,7 +79,7 @@ impl Domain {
         self.layers.len()
     }
 
-    /// The layers, the oldest first.
+    /// Returns the layers, the oldest first.
     pub fn layers(&self) -> &[Layer]
         ensures { result.now ≡ self.now }
     {

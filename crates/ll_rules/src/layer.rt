@@ -9,13 +9,13 @@ use std::alloc::{AllocError, Global};
 use std::collections::BTreeMap;
 use std::marker::Model;
 
-/// What an enforced ruleset handles, and its rules. Contracts see both as sets of numbers.
+/// An enforced ruleset: the rights that it handles, and its rules. Contracts see both as sets of numbers.
 #[derive(Drop)]
 pub struct Layer {
     handled: Access,
-    // the rights by inode
+    // The allowed rights of each inode with a rule.
     rules: BTreeMap<u64, Access>,
-    // no inode above this one has a rule
+    // No inode greater than this one has a rule.
     highest: u64,
 }
 
@@ -50,7 +50,7 @@ impl Clone for Layer {
 }
 
 impl Layer {
-    /// A layer with no rules. Takes no memory.
+    /// Returns a layer without rules. Takes no memory.
     pub(crate) fn new(alloc: Global, handled: Access) -> Layer
         ensures { result ≡ new_ruleset handled.0 }
     {
@@ -67,7 +67,7 @@ impl Layer {
         self.handled
     }
 
-    /// The rights of the rule on the inode; none where there is no rule.
+    /// Returns the rights that the inode's rule allows: the empty set if it has no rule.
     pub fn rule(&self, inode: u64) -> Access
         ensures { result.0 ≡ unwrap_or (get self.now.rules inode) 0 }
     {
@@ -77,21 +77,21 @@ impl Layer {
         self.rules.get(&inode).copied().unwrap_or(Access(0))
     }
 
-    /// How many inodes have a rule.
+    /// Returns the number of inodes with a rule.
     pub(crate) fn rule_count(&self) -> usize
         ensures { result ≡ len self.now.rules }
     {
         self.rules.len()
     }
 
-    /// Whether the inode has a rule.
+    /// Reports whether the inode has a rule.
     pub(crate) fn has_inode(&self, inode: u64) -> bool
         ensures { result ≡ has self.now.rules inode }
     {
         self.rules.contains_key(&inode)
     }
 
-    /// Adds a rule, joined with that on the same inode.
+    /// Adds a rule. If the inode has one already, it then allows the union of both.
     pub(crate) fn add_rule(&mut self, inode: u64, rights: Access) -> Result<(), AllocError>
         ensures ok { OnOk result (self.new ≡ with_rule self.old inode rights.0) }
         ensures err { OnErr result (self.new ≡ self.old) }

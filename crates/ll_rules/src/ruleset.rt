@@ -9,7 +9,7 @@ use ll_rights::{Abi, Access, Errno, Kind};
 use std::alloc::{AllocError, Global};
 use std::marker::Model;
 
-/// A ruleset that a client is making. Contracts see the layer that it would be.
+/// A ruleset under construction. Contracts see the layer that enforcing it would add.
 #[derive(Drop)]
 pub struct Ruleset {
     layer: Layer,
@@ -27,7 +27,7 @@ impl Model for Ruleset {
 }
 
 impl Ruleset {
-    /// A ruleset that handles these rights, at an ABI level. Takes no memory.
+    /// Creates a ruleset that handles these rights. Errors: the rights aren't valid at the ABI level. Takes no memory.
     pub fn create(alloc: Global, abi: Abi, handled: Access) -> Result<Ruleset, Errno>
         ensures ok { IfOk result (λ made. (create_refusals abi handled.0 ≡ []) × (made ≡ new_ruleset handled.0)) }
         ensures err { IfErr result (λ errno. slice_get (create_refusals abi handled.0) 0 ≡ Some errno) }
@@ -43,7 +43,7 @@ impl Ruleset {
         })
     }
 
-    /// Why a rule is refused on a node of this kind.
+    /// Returns why a rule with these rights on a node of this kind is refused, or None.
     pub fn refusal(&self, kind: Kind, rights: Access) -> Option<Errno>
         ensures { result ≡ slice_get (rule_refusals self.now kind rights.0) 0 }
     {
@@ -59,7 +59,7 @@ impl Ruleset {
         None
     }
 
-    /// Why a rule on the inode is one too many.
+    /// Returns the refusal if a rule on the inode would exceed the limit of rules.
     pub fn limit(&self, inode: u64) -> Option<Errno>
         ensures { result ≡ slice_get (rule_limit self.now inode) 0 }
     {
@@ -69,13 +69,13 @@ impl Ruleset {
         None
     }
 
-    /// Adds a rule on the inode of a node of this kind. A second rule on one inode is joined with
-    /// the first.
+    /// Adds a rule on the inode of a node of this kind. A second rule on one inode is merged with the first. Errors:
+    /// those of `refusal` and `limit`; NoMemory.
     pub fn allow(&mut self, inode: u64, kind: Kind, rights: Access) -> Result<(), Errno>
         ensures ok { OnOk result ((rule_refusals self.old kind rights.0 ++ rule_limit self.old inode ≡ [])
             × (self.new ≡ with_rule self.old inode rights.0)) }
 
-        // Want of memory comes only where nothing else refuses the rule.
+        // NoMemory is returned only if nothing else refuses the rule.
         ensures refused { IfErr result (λ errno. errno ≢ Errno.NoMemory →
             slice_get (rule_refusals self.old kind rights.0 ++ rule_limit self.old inode) 0 ≡ Some errno) }
         ensures starved { result ≡ Err Errno.NoMemory
@@ -94,7 +94,7 @@ impl Ruleset {
         Ok(())
     }
 
-    /// The layer that the ruleset is when it is enforced.
+    /// Returns the layer that enforcing the ruleset now would add.
     pub fn layer(&self) -> &Layer
         ensures { result.now ≡ self.now }
     {

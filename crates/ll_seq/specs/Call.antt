@@ -1,5 +1,5 @@
 -- The parts of calls. open(2), "File access modes", O_CREAT and O_EXCL
-use Rattle.std.specs.Prelude.{Bool, true, false, List, [], ◌∷◌}
+use Rattle.std.specs.Prelude.{ℕ, Bool, true, false, List, [], ◌∷◌, Option, Some, None}
 use Rattle.ll_path.specs.Path.{Path}
 use Rattle.ll_path.specs.declared.target.Target.{Target}
 use Rattle.ll_path.specs.declared.target.Target.TheVariants.{Good, Bad}
@@ -72,3 +72,41 @@ first_path call = first_of (targets call)
 
 abbrev pub second_path : Call → Path
 second_path call = second_of (targets call)
+
+abbrev pub has_any : {A : Type 0} → List A → Bool
+has_any [] = false
+has_any (x ∷ xs) = true
+
+-- the descriptor that the call is made on, and the paths whose nodes it moves
+abbrev pub concerns : Call → Option ℕ × List Path
+concerns (Make kind target) = (None, [])
+concerns (Open mode target) = (None, [])
+concerns (Read fd offset count) = (Some fd, [])
+concerns (Write fd offset bytes) = (Some fd, [])
+concerns (Ftruncate fd size) = (Some fd, [])
+concerns (Close fd) = (Some fd, [])
+concerns (Truncate target size) = (None, [])
+concerns (ReadDir target) = (None, [])
+concerns (Stat target) = (None, [])
+concerns (Exec target) = (None, [])
+concerns (Unlink target) = (None, [])
+concerns (Rmdir target) = (None, [])
+concerns (Rename from into) = (None, path_of from ∷ [])
+concerns (RenameNoreplace from into) = (None, path_of from ∷ [])
+concerns (Exchange from into) = (None, path_of from ∷ path_of into ∷ [])
+concerns (Link from into) = (None, [])
+concerns (Ruleset rights) = (None, [])
+concerns (Allow number target rights) = (None, [])
+concerns (Confine number) = (None, [])
+concerns Spawn = (None, [])
+concerns Connect = (None, [])
+
+abbrev pub descriptor_of : Call → Option ℕ
+descriptor_of call = (concerns call).0
+
+abbrev pub moving : Call → List Path
+moving call = (concerns call).1
+
+-- Of the calls that may move directories only one is under way at a time: it holds the move gate from its beginning
+abbrev pub takes_gate : Call → Bool
+takes_gate call = has_any (moving call)

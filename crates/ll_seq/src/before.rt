@@ -1,4 +1,4 @@
-//! What refuses a call before policy is asked.
+//! The refusals that are checked before policy.
 
 ghost use Rattle.std.specs.Prelude.{◌≡◌, [], None, slice_get};
 ghost use Rattle.ll_rights.specs.Errno.{refuse};
@@ -56,7 +56,7 @@ fn unreadable(caller: &ClientRecord, number: u64) -> Option<Errno>
     }
 }
 
-/// Refused with `otherwise` where the descriptor is there and not for writing.
+/// Refuses with `otherwise` if the descriptor exists but isn't open for writing.
 fn unwritable(caller: &ClientRecord, number: u64, otherwise: Errno) -> Option<Errno>
     ensures { result ≡ slice_get (stages.without caller.now number (λ d. d.writes) otherwise) 0 }
 {
@@ -171,7 +171,7 @@ fn existence_refusal(call: &Call, old: &Spot, new: &Spot) -> Option<Errno>
     }
 }
 
-/// What refuses the call whatever the tree is: by its words, its numbers and how its paths lie.
+/// Returns the first refusal that doesn't depend on the tree: by the call's words, its numbers, and how its paths lie.
 pub fn refused_early(caller: &ClientRecord, call: &Call) -> Option<Errno>
     ensures { result ≡ slice_get (early_refusals caller.now call.now) 0 }
 {
@@ -179,7 +179,7 @@ pub fn refused_early(caller: &ClientRecord, call: &Call) -> Option<Errno>
     first(text_refusal(call), number)
 }
 
-/// What refuses the call before policy is asked, where no early stage does: by what is in its way, and what is there.
+/// Returns the first refusal after the early ones and before policy: by what blocks the paths and what exists at them.
 pub fn refused_found(call: &Call, found: &Found) -> Option<Errno>
     ensures refused { (s : State) → AreFacts s call.now found.now
         → result ≡ slice_get (found_refusals s call.now) 0 }

@@ -1,12 +1,13 @@
 //! Calls.
 
 ghost use Rattle.std.specs.Prelude.{◌≡◌};
-ghost use Rattle.ll_seq.specs.Call.{reads, writes, creates, is_exclusive};
+ghost use Rattle.ll_seq.specs.Call.{creates, descriptor_of, is_exclusive, reads, takes_gate, writes};
+ghost use Rattle.ll_seq.specs.History.{is_connect};
 
 use ll_path::{Data, Target};
 use ll_rights::{Access, Kind};
 
-/// Which ways bytes may go through a descriptor. open(2), "The file access modes"
+/// Whether a descriptor reads, writes, or both. open(2), "The file access modes"
 #[derive(Clone, Copy, Debug, PartialEq, Eq)]
 pub enum AccessMode {
     Read,
@@ -28,14 +29,14 @@ impl AccessMode {
     }
 }
 
-/// What an opening does where the name is missing, and where it isn't. open(2), O_CREAT and O_EXCL
+/// What opening does if the name is missing, and if it exists. open(2), O_CREAT and O_EXCL
 #[derive(Clone, Copy, Debug, PartialEq, Eq)]
 pub enum Creation {
-    /// The file must be there.
+    /// The file must exist.
     Never,
-    /// A missing file is made.
+    /// Creates a missing file.
     IfMissing,
-    /// The file is made, and must be missing.
+    /// Creates the file, which must be missing.
     Exclusive,
 }
 
@@ -53,7 +54,7 @@ impl Creation {
     }
 }
 
-/// What a file is opened for, whether it is emptied, and whether it is made.
+/// How a file is opened: its access mode, whether it is truncated, and whether it is created.
 #[derive(Clone, Copy, Debug, PartialEq, Eq)]
 pub struct Mode {
     pub access: AccessMode,
@@ -61,50 +62,79 @@ pub struct Mode {
     pub creation: Creation,
 }
 
-/// What a client asks of the tree. A number is a descriptor's or a ruleset's, counted from 0; offsets and lengths are
-/// in bytes.
+/// A client's call. A number is a descriptor's or a ruleset's, counted from 0. Offsets and lengths are in bytes.
 #[derive(Drop)]
 pub enum Call {
-    /// A new empty node.
+    /// Creates an empty node.
     Make(Kind, Target),
-    /// A descriptor of the file.
+    /// Opens a file.
     Open(Mode, Target),
-    /// Bytes of the descriptor's file, from an offset on, at most so many.
+    /// Reads from a descriptor: its number, the offset, the most bytes to return.
     Read(u64, u64, u64),
-    /// The bytes come into the descriptor's file, from an offset on.
+    /// Writes through a descriptor: its number, the offset, the bytes.
     Write(u64, u64, Data),
-    /// The descriptor's file is cut to this many bytes, or filled with zeros to them.
+    /// Sets the length of the descriptor's file. New bytes are zeros.
     Ftruncate(u64, u64),
-    /// The descriptor is free.
+    /// Closes the descriptor.
     Close(u64),
-    /// The file is cut to this many bytes, or filled with zeros to them.
+    /// Sets the length of the file. New bytes are zeros.
     Truncate(Target, u64),
-    /// The names in the directory.
+    /// Lists the names in the directory.
     ReadDir(Target),
-    /// What the node is.
+    /// Reports the node's inode, kind, links and size.
     Stat(Target),
-    /// Whether the file may be executed.
+    /// Checks that the file may be executed.
     Exec(Target),
-    /// The name of a node that is no directory goes.
+    /// Removes a name of a node that isn't a directory.
     Unlink(Target),
-    /// The empty directory goes.
+    /// Removes an empty directory.
     Rmdir(Target),
-    /// The node at the first path gets the second in the place of it. What the second named loses that name.
+    /// Moves the node from the first path to the second. A node that had the second path loses that name.
     Rename(Target, Target),
-    /// The same, where the second path names nothing.
+    /// Moves the node from the first path to the second, which must name nothing.
     RenameNoreplace(Target, Target),
-    /// The nodes at the two paths change places.
+    /// Exchanges the nodes at the two paths.
     Exchange(Target, Target),
-    /// The node at the first path gets the second as a further name.
+    /// Gives the node at the first path the second path as a further name (hard link).
     Link(Target, Target),
-    /// A new ruleset that handles these rights.
+    /// Creates a ruleset that handles these rights.
     Ruleset(Access),
-    /// A rule of the ruleset on the node that the path names.
+    /// Adds a rule to the ruleset, on the node that the path names.
     Allow(u64, Target, Access),
-    /// The ruleset as it is now becomes the client's newest layer.
+    /// Enforces a copy of the ruleset as the client's newest layer.
     Confine(u64),
-    /// A new client with the caller's layers, and where the tree's rules say so with its descriptors.
+    /// Creates a client with the caller's layers, and copies of its descriptors if the tree's rules say so.
     Spawn,
-    /// A new client, which is the caller, without layers.
+    /// Creates a client without layers: the caller itself.
     Connect,
+}
+
+impl Call {
+    /// Returns the descriptor that the call is made on, or None.
+    pub fn descriptor(&self) -> Option<u64>
+        ensures { result ≡ descriptor_of self.now }
+    {
+        match self {
+            Call::Read(fd, ..) | Call::Write(fd, ..) => Some(*fd),
+            Call::Ftruncate(fd, _) | Call::Close(fd) => Some(*fd),
+            _ => None,
+        }
+    }
+
+    /// Reports whether the call may move a directory. If so, its walk holds the move gate.
+    pub fn takes_gate(&self) -> bool
+        ensures { result ≡ takes_gate self.now }
+    {
+        matches!(
+            self,
+            Call::Rename(..) | Call::RenameNoreplace(..) | Call::Exchange(..)
+        )
+    }
+
+    /// Reports whether the call is a connect.
+    pub fn is_connect(&self) -> bool
+        ensures { result ≡ is_connect self.now }
+    {
+        matches!(self, Call::Connect)
+    }
 }

@@ -1,4 +1,4 @@
-//! What a call does, as data.
+//! The effect of a call, as data.
 
 ghost use Rattle.std.specs.Prelude.{◌≡◌, [], false};
 ghost use Rattle.ll_path.specs.Name.{IsName};
@@ -14,14 +14,14 @@ use crate::found::Spot;
 use ll_path::Target;
 use ll_rights::{Access, Kind};
 
-/// A name in a directory.
+/// A directory and a name in it.
 #[derive(Clone, Copy)]
 pub struct At<'a> {
     pub directory: u64,
     pub name: &'a str,
 }
 
-/// A descriptor that the caller gets, of the file that is there, or of the one that is made at the place.
+/// A descriptor that the caller gets, for an existing file or for the one that is created.
 #[derive(Clone, Copy)]
 pub struct Opening<'a> {
     pub number: u64,
@@ -34,7 +34,7 @@ pub struct Opening<'a> {
 }
 
 impl Opening<'_> {
-    /// The descriptor, of a file of this inode.
+    /// Returns the descriptor for a file of this inode.
     pub fn descriptor(&self, inode: u64) -> Descriptor
         ensures { result ≡ descriptor_of self.now inode }
     {
@@ -47,7 +47,7 @@ impl Opening<'_> {
     }
 }
 
-/// A rule that a ruleset of the caller's gets, on the inode of a node of this kind.
+/// A rule to add to a ruleset of the caller, on the inode of a node of this kind.
 #[derive(Clone, Copy)]
 pub struct Rule {
     pub number: u64,
@@ -56,41 +56,41 @@ pub struct Rule {
     pub rights: Access,
 }
 
-/// What a call changes.
+/// A change that a call makes to the tree.
 #[derive(Clone, Copy)]
 pub enum Change<'a> {
     Nothing,
-    /// A new empty node has the name.
+    /// Creates an empty node under the name.
     Make(At<'a>, Kind),
-    /// The inode loses the name.
+    /// Removes this name of the inode.
     Take(At<'a>, u64),
-    /// The inode has the name too.
+    /// Adds a further name for the inode.
     Name(At<'a>, u64),
-    /// The inode has the second name in the place of the first.
+    /// Moves the inode from the first name to the second.
     Move(At<'a>, At<'a>, u64),
-    /// The first inode has the second name in the place of the first. The second inode, which had it, loses it.
+    /// Moves the first inode from the first name to the second, which the second inode loses.
     Replace(At<'a>, At<'a>, u64, u64),
-    /// The first inode, which had the first name, has the second one, and the second inode the first one.
+    /// Exchanges the names of two inodes: the first inode had the first name.
     Exchange(At<'a>, At<'a>, u64, u64),
-    /// The node's bytes are cut or filled to this length.
+    /// Sets the length of the node's bytes. New bytes are zeros.
     Resize(u64, u64),
     Open(Opening<'a>),
     Allow(Rule),
 }
 
-/// What a call answers.
+/// What a successful call returns.
 #[derive(Clone, Copy)]
 pub enum Answer {
     Done,
-    /// The descriptor's number.
+    /// The new descriptor's number.
     Opened(u64),
-    /// What the node is.
+    /// The node's status.
     Status(u64, Kind),
-    /// The names in the directory.
+    /// The names in the directory of this inode.
     Names(u64),
 }
 
-/// What a call does that nothing refuses.
+/// The answer and the change of a call that nothing refuses.
 #[derive(Clone, Copy)]
 pub struct Effect<'a> {
     pub answer: Answer,
@@ -98,7 +98,7 @@ pub struct Effect<'a> {
 }
 
 impl<'a> At<'a> {
-    /// The last name of the path whose spot this is.
+    /// The last name of a path, at the spot found for it.
     pub(crate) fn of(spot: &Spot, target: &'a Target) -> At<'a>
         ensures place { (s : State) → Stands s (path_of target.now) spot.now → way_to s target.now ≡ []
             → is_root (path_of target.now) ≡ false → IsPlace s (path_of target.now) result }

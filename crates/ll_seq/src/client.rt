@@ -17,7 +17,7 @@ use ll_rules::{Domain, Ruleset};
 use std::alloc::{AllocError, Global};
 use std::marker::Model;
 
-/// An open file. `kept` is the number of the oldest layer that didn't grant truncate when it was opened, if one didn't.
+/// An open file. `kept` is the number of the oldest layer that didn't grant truncate when the file was opened, or None.
 #[derive(Drop, Clone, Copy, Debug, PartialEq, Eq)]
 pub struct Descriptor {
     pub inode: u64,
@@ -26,7 +26,7 @@ pub struct Descriptor {
     pub kept: Option<u64>,
 }
 
-/// The rulesets that a client has made, in the order of their numbers. Contracts see the list.
+/// A client's rulesets, in the order of their numbers. Contracts see the list.
 #[derive(Drop)]
 pub struct Rulesets {
     made: Vec<Ruleset>,
@@ -60,14 +60,14 @@ impl Rulesets {
         self.made.len()
     }
 
-    /// The ruleset of this number.
+    /// Returns the ruleset of this number.
     pub fn get(&self, number: u64) -> Option<&Ruleset>
         ensures { option_copied result ≡ slice_get self.now number }
     {
         self.made.get(number as usize)
     }
 
-    /// A ruleset more, which gets the next number.
+    /// Adds a ruleset under the next number. Errors: memory ran out.
     pub fn push(&mut self, made: Ruleset) -> Result<(), AllocError>
         ensures ok { OnOk result (self.new ≡ self.old ++ made ∷ []) }
         ensures err { OnErr result (self.new ≡ self.old) }
@@ -76,7 +76,7 @@ impl Rulesets {
         Ok(())
     }
 
-    /// A rule of the ruleset of this number, which is there, on the inode of a node of this kind.
+    /// Adds a rule to an existing ruleset, on the inode of a node of this kind.
     pub fn allow(
         &mut self,
         number: u64,
@@ -97,7 +97,7 @@ impl Rulesets {
     }
 }
 
-/// A client: the layers that it is under, its rulesets, and its open files by number.
+/// A client: its layers, its rulesets, and its open files by number.
 #[derive(Drop)]
 pub struct ClientRecord {
     pub domain: Domain,
@@ -110,7 +110,7 @@ impl ClientRecord {
     ghost use Rattle.ll_seq.specs.Effects.{child_of};
     ghost use Rattle.ll_seq.specs.Stages.{lowest_free, ruleset_at};
 
-    /// A client under no layer, without rulesets and descriptors.
+    /// Returns a client without layers, rulesets and descriptors.
     pub fn new(alloc: Global) -> ClientRecord
         ensures { result ≡ new_client }
     {
@@ -121,7 +121,7 @@ impl ClientRecord {
         }
     }
 
-    /// A client that this one spawns in a tree of these rules.
+    /// Returns the record of a client that this one spawns, in a tree with these rules. Errors: memory ran out.
     pub fn child(&self, alloc: Global, rules: Rules) -> Result<ClientRecord, AllocError>
         ensures { IfOk result (λ child. child ≡ child_of rules self.now) }
     {
@@ -138,7 +138,7 @@ impl ClientRecord {
         })
     }
 
-    /// The lowest free one of the descriptors that a client may have.
+    /// Returns the lowest free descriptor number, or None if all are in use.
     pub fn lowest_free(&self) -> Option<u64>
         ensures { result ≡ lowest_free self.now.descriptors }
     {
@@ -150,7 +150,7 @@ impl ClientRecord {
         None
     }
 
-    /// Opens a file at the lowest free descriptor.
+    /// Opens a file at the lowest free descriptor. Returns its number.
     pub fn open(&mut self, descriptor: Descriptor) -> Result<u64, Errno>
         ensures ok { IfOk result (λ number. (lowest_free self.old.descriptors ≡ Some number)
             × (self.new ≡ record self.old { descriptors = insert self.old.descriptors number descriptor })) }
@@ -167,7 +167,7 @@ impl ClientRecord {
         Ok(number)
     }
 
-    /// Makes a ruleset that handles these rights, at an ABI level.
+    /// Creates a ruleset that handles these rights, at an ABI level. Returns its number.
     pub fn create_ruleset(&mut self, alloc: Global, abi: Abi, handled: Access) -> Result<u64, Errno>
         ensures ok { IfOk result (λ number.
             (create_refusals abi handled.0 ++ refuse (nat_le CLIENT_RULESETS (length self.old.rulesets)) Errno.EMFILE
@@ -193,7 +193,7 @@ impl ClientRecord {
         Ok(number as u64)
     }
 
-    /// Enforces the ruleset of this number, which is there.
+    /// Enforces an existing ruleset as the newest layer.
     pub fn confine(&mut self, number: u64) -> Result<(), Errno>
         requires { number < length self.old.rulesets }
         ensures ok { OnOk result ((layer_limit self.old.domain ≡ [])

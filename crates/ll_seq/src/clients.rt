@@ -1,4 +1,4 @@
-//! What clients do to their own records.
+//! Changes to the clients' own records.
 
 ghost use Rattle.std.specs.Prelude.{◌≡◌, ◌+◌, ◌<◌, [], ◌∷◌, ◌++◌, length, nat_le, IfOk, IfErr, OnOk, OnErr, Some, true};
 ghost use Rattle.std.specs.Prelude.{slice_get, slice_set, is_none};
@@ -17,7 +17,7 @@ use ll_rights::{Abi, Access, Errno, Kind};
 use std::alloc::Global;
 
 impl NumberMap<ClientRecord> {
-    /// Opens a file at the client's lowest free descriptor.
+    /// Opens a file at the client's lowest free descriptor. Returns its number.
     pub fn open(&mut self, client: u64, descriptor: Descriptor) -> Result<u64, Errno>
         requires { has self.old client ≡ true }
         ensures ok { IfOk result (λ number. (c : record_of.ClientRecord) → get self.old client ≡ Some c
@@ -35,7 +35,7 @@ impl NumberMap<ClientRecord> {
         row.1.open(descriptor)
     }
 
-    /// Frees the client's descriptor.
+    /// Closes the client's descriptor.
     pub fn close(&mut self, client: u64, number: u64)
         requires { has self.old client ≡ true }
         ensures { (c : record_of.ClientRecord) → get self.old client ≡ Some c
@@ -48,7 +48,7 @@ impl NumberMap<ClientRecord> {
         row.1.descriptors.remove(number);
     }
 
-    /// Makes a ruleset of the client's that handles these rights, at an ABI level.
+    /// Creates a ruleset of the client that handles these rights, at an ABI level. Returns its number.
     pub fn create_ruleset(
         &mut self,
         alloc: Global,
@@ -73,7 +73,7 @@ impl NumberMap<ClientRecord> {
         row.1.create_ruleset(alloc, abi, handled)
     }
 
-    /// A rule of the client's ruleset of this number, which is there, on the inode of a node of this kind.
+    /// Adds a rule to an existing ruleset of the client, on the inode of a node of this kind.
     pub fn allow(
         &mut self,
         client: u64,
@@ -101,7 +101,7 @@ impl NumberMap<ClientRecord> {
         row.1.rulesets.allow(number, inode, kind, rights)
     }
 
-    /// Enforces the client's ruleset of this number, which is there.
+    /// Enforces an existing ruleset of the client as its newest layer.
     pub fn confine(&mut self, client: u64, number: u64) -> Result<(), Errno>
         requires there { has self.old client ≡ true }
         requires made { (c : record_of.ClientRecord) → get self.old client ≡ Some c → number < length c.rulesets }

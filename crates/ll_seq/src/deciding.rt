@@ -1,4 +1,4 @@
-//! A call, from what is found to what it does.
+//! The decision of a call: from what its paths find to its effect or its refusal.
 
 ghost use Rattle.std.specs.Prelude.{◌≡◌, ℕ, true, [], length, slice_get, IfOk, MatchResult};
 ghost use Rattle.ll_decide.specs.Judge.{AreGranted};
@@ -22,7 +22,7 @@ use crate::later::refused_after;
 use crate::{Call, ClientRecord, Reply};
 use ll_decide::{Denial, Granted, least_denial};
 
-/// What the layers deny of the call, which names a path and which nothing refuses before policy.
+/// The denial of a call on paths that nothing refuses before policy, or None.
 fn denial_of(call: &Call, found: &Found, granted: &Granted<'_>) -> Option<Denial>
     requires other { length granted.now.other.now ≡ length granted.now.itself.now }
     requires parent { length granted.now.parent.now ≡ length granted.now.itself.now }
@@ -37,7 +37,7 @@ fn denial_of(call: &Call, found: &Found, granted: &Granted<'_>) -> Option<Denial
     least_denial(&demands, granted)
 }
 
-/// What the caller's call does, which names a path, or the reply where it does nothing.
+/// Decides a call that names a path. Returns its effect, or the reply if the call is refused or denied.
 pub fn decide<'a>(
     caller: &ClientRecord,
     call: &'a Call,
@@ -58,7 +58,8 @@ pub fn decide<'a>(
     decide_passed(caller, call, found, granted)
 }
 
-/// The same of a call that no early stage refuses, as that of a walk.
+/// Decides a call that passed the early checks, as every call that walks did. Returns its effect, or the reply if it is
+/// refused or denied.
 pub fn decide_passed<'a>(
     caller: &ClientRecord,
     call: &'a Call,

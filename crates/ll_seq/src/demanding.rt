@@ -1,4 +1,4 @@
-//! What each call asks of the layers.
+//! The rights that each call needs.
 
 ghost use Rattle.std.specs.Prelude.{List, [], ◌∷◌, ◌++◌};
 ghost use Rattle.ll_rights.specs.Kind.{make_right};
@@ -29,7 +29,7 @@ fn opening(mode: Mode, exists: bool) -> Demands
         .ask_if(mode.truncate && exists, On::Itself, Right::TRUNCATE)
 }
 
-/// Where the directories differ, refer is asked of both.
+/// Adds refer on both directories if they differ.
 fn refers(demands: Demands, differ: bool) -> Demands
     ensures asks { (asks : List (Ask asked_on.On)) → AreAsks demands asks → AreAsks result (asks ++ refer_on differ) }
     ensures moves { (moves : List (Move asked_on.On)) → AreMoves demands moves → AreMoves result moves }
@@ -43,7 +43,7 @@ fn refers(demands: Demands, differ: bool) -> Demands
     }
 }
 
-/// Where the directories differ, a node of this kind goes from the one into the other.
+/// Adds the move of a node of this kind if the directories differ.
 fn goes(demands: Demands, differ: bool, way: Way, kind: Kind) -> Demands
     ensures asks { (asks : List (Ask asked_on.On)) → AreAsks demands asks → AreAsks result asks }
     ensures moves { (moves : List (Move asked_on.On)) → AreMoves demands moves
@@ -56,7 +56,7 @@ fn goes(demands: Demands, differ: bool, way: Way, kind: Kind) -> Demands
     }
 }
 
-/// What is asked where a node of this kind loses the second name, if one does.
+/// Adds the right to remove the node that loses the second name, if there is one.
 fn replacing(demands: Demands, replaced: Option<Kind>) -> Demands
     ensures asks { (asks : List (Ask asked_on.On)) → AreAsks demands asks
         → AreAsks result (asks ++ replacing_on replaced) }
@@ -68,7 +68,7 @@ fn replacing(demands: Demands, replaced: Option<Kind>) -> Demands
     }
 }
 
-/// What a rename asks of a node of this kind, which may replace one of another.
+/// The rights for renaming a node of this kind, which may replace another.
 fn renaming(kind: Kind, replaced: Option<Kind>, differ: bool) -> Demands
     ensures asks { AreAsks result (moving_on kind ++ replacing_on replaced ++ refer_on differ) }
     ensures moves { AreMoves result (goes_on differ There kind) }
@@ -80,7 +80,7 @@ fn renaming(kind: Kind, replaced: Option<Kind>, differ: bool) -> Demands
     goes(refers(all, differ), differ, Way::There, kind)
 }
 
-/// What an exchange asks of two nodes of these kinds.
+/// The rights for exchanging two nodes of these kinds.
 fn exchanging(kind: Kind, other: Kind, differ: bool, back: bool) -> Demands
     ensures asks { AreAsks result (exchange_on kind other ++ refer_on differ) }
     ensures moves { AreMoves result (goes_on differ There kind ++ goes_on back Back other) }
@@ -94,7 +94,7 @@ fn exchanging(kind: Kind, other: Kind, differ: bool, back: bool) -> Demands
     goes(there, back, Way::Back, other)
 }
 
-/// What a link asks of a node of this kind.
+/// The rights for linking a node of this kind.
 fn linking(kind: Kind, differ: bool) -> Demands
     ensures asks { AreAsks result ((ask_on Entered (make_right kind) ∷ []) ++ refer_on differ) }
     ensures moves { AreMoves result (goes_on differ There kind) }
@@ -103,7 +103,7 @@ fn linking(kind: Kind, differ: bool) -> Demands
     goes(refers(one, differ), differ, Way::There, kind)
 }
 
-/// What the call asks, which nothing refuses before policy.
+/// Returns the rights needed for a call that nothing refuses before policy.
 pub fn demands_of(call: &Call, found: &Found) -> Demands
     ensures { (s : State) (c : record_of.ClientRecord) → Passed s c call.now found.now → AreDemands s call.now result }
 {

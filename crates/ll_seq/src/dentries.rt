@@ -12,14 +12,14 @@ use std::alloc::{AllocError, Global};
 use std::cmp::Ordering;
 use std::marker::Model;
 
-/// A place in the tree: a directory's inode and a name in it.
+/// A directory's inode and a name in it.
 #[derive(Drop)]
 pub struct Dentry {
     pub directory: u64,
     pub name: Name,
 }
 
-/// The inode at each place, in the order of directories and of the names' bytes. Contracts see the map.
+/// The inode of each entry, sorted by directory and then by the names' bytes. Contracts see the map.
 #[derive(Drop)]
 pub struct Dentries {
     rows: Vec<(Dentry, u64)>,
@@ -41,7 +41,7 @@ impl Model for Dentries {
     ghost invariant = { λ entries. IsTrue (is_sorted dentry_cmp entries.rows.items) };
 }
 
-/// How an entry's place stands to another.
+/// Compares an entry with this directory and name.
 fn order(row: &(Dentry, u64), directory: u64, name: &str) -> Ordering
     ensures { result ≡ dentry_cmp row.now.0 (dentry directory name.now) }
 {
@@ -51,7 +51,7 @@ fn order(row: &(Dentry, u64), directory: u64, name: &str) -> Ordering
         .then(row.0.name.as_str().cmp(name))
 }
 
-/// Where the entry at the place stands, or where it would.
+/// The entry's index, or as an error the index where it would be inserted.
 fn search(rows: &[(Dentry, u64)], directory: u64, name: &str) -> Result<usize, usize>
     requires { IsTrue (is_sorted dentry_cmp rows.now) }
     ensures within { IfOk result (λ i. i < length rows.now) }
@@ -64,7 +64,7 @@ fn search(rows: &[(Dentry, u64)], directory: u64, name: &str) -> Result<usize, u
     rows.binary_search_by(|row| order(row, directory, name))
 }
 
-/// Where the entry at the place stands.
+/// The entry's index, if it exists.
 fn index_of(rows: &[(Dentry, u64)], directory: u64, name: &str) -> Option<usize>
     requires { IsTrue (is_sorted dentry_cmp rows.now) }
     ensures none { IfNone result (find dentry_cmp (dentry directory name.now) rows.now ≡ None) }
@@ -89,7 +89,7 @@ impl Dentries {
         }
     }
 
-    /// The inode that the directory has under the name.
+    /// Returns the inode of the name in the directory.
     pub fn get(&self, directory: u64, name: &str) -> Option<u64>
         ensures { result ≡ get self.now (dentry directory name.now) }
     {
@@ -97,7 +97,7 @@ impl Dentries {
         Some(self.rows[i].1)
     }
 
-    /// How many entries there are.
+    /// Returns the number of entries.
     pub fn len(&self) -> usize
         ensures len { result ≡ length (entries self.now) }
         ensures most { result < 2 ^ 63 }
@@ -105,14 +105,14 @@ impl Dentries {
         self.rows.len()
     }
 
-    /// The entries in order.
+    /// Returns the entries in order.
     pub fn rows(&self) -> &[(Dentry, u64)]
         ensures { result.now ≡ entries self.now }
     {
         self.rows.as_slice()
     }
 
-    /// The entries of the directory, which stand together.
+    /// The directory's entries, which are adjacent.
     fn rows_of(&self, directory: u64) -> &[(Dentry, u64)]
         ensures { result.now ≡ filter (λ (e : dentries_of.Dentry × ℕ). e.0.directory == directory) (entries self.now) }
     {
@@ -123,7 +123,7 @@ impl Dentries {
         &self.rows[start..end]
     }
 
-    /// The names in the directory, rising by bytes.
+    /// Returns the names in the directory, sorted by bytes. Errors: memory ran out.
     pub fn names_in(&self, alloc: Global, directory: u64) -> Result<Listing, AllocError>
         ensures { IfOk result (λ listing. listing
             ≡ map (λ (e : dentries_of.Dentry × ℕ). e.0.name)
@@ -136,7 +136,7 @@ impl Dentries {
         Ok(listing)
     }
 
-    /// Adds an inode under a name that the directory doesn't have.
+    /// Adds an inode under a name that the directory doesn't have. Errors: memory ran out.
     pub fn insert(&mut self, directory: u64, name: Name, inode: u64) -> Result<(), AllocError>
         requires { get self.old (dentry directory name) ≡ None }
         ensures ok { OnOk result (self.new ≡ insert self.old (dentry directory name) inode) }
@@ -150,7 +150,7 @@ impl Dentries {
         Ok(())
     }
 
-    /// Another inode under a name that the directory has. Without the name nothing happens.
+    /// Sets the inode of a name that the directory has. Does nothing without that name.
     pub fn replace(&mut self, directory: u64, name: &str, inode: u64)
         ensures { self.new ≡ option_map_or (λ (old : ℕ). insert self.old (dentry directory name.now) inode)
             (get self.old (dentry directory name.now)) self.old }
@@ -161,7 +161,7 @@ impl Dentries {
         }
     }
 
-    /// Forgets the name, if the directory has it.
+    /// Removes the name, if the directory has it.
     pub fn remove(&mut self, directory: u64, name: &str)
         ensures { self.new ≡ remove self.old (dentry directory name.now) }
     {

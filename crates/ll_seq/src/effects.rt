@@ -1,4 +1,4 @@
-//! What an allowed call answers and changes.
+//! The answer and the change of an allowed call.
 
 ghost use Rattle.std.specs.Prelude.{◌≡◌, ℕ, [], ◌∷◌, Option, Some, None, true, false, length, option_map};
 ghost use Rattle.std.specs.Prelude.{option_to_list, unwrap_or};
@@ -29,7 +29,7 @@ use ll_decide::{Demands, Granted, On, least_denial};
 use ll_path::Target;
 use ll_rights::Right;
 
-/// The number of the oldest layer that doesn't grant truncate on the path itself.
+/// The number of the oldest layer that doesn't grant truncate on the path, or None.
 fn kept(granted: &Granted<'_>) -> Option<u64>
     requires other { length granted.now.other.now ≡ length granted.now.itself.now }
     requires parent { length granted.now.parent.now ≡ length granted.now.itself.now }
@@ -45,7 +45,7 @@ fn kept(granted: &Granted<'_>) -> Option<u64>
     }
 }
 
-/// The lowest free descriptor of the caller, which has one.
+/// The caller's lowest free descriptor. There must be one.
 fn free_descriptor(caller: &ClientRecord) -> u64
     ensures { result ≡ unwrap_or (lowest_free caller.now.descriptors) 0 }
 {
@@ -84,7 +84,7 @@ fn opening_of<'a>(
     }
 }
 
-/// What a rename changes: nothing where both names stand for one node.
+/// The change of a rename: none if both names name one node.
 fn renaming<'a>(old: At<'a>, new: At<'a>, inode: u64, replaced: Option<u64>) -> Change<'a>
     ensures done { (s : State) (n : ℕ) (c : record_of.ClientRecord)
         → renamed s (dentry_at old.entry) (dentry_at new.entry) inode replaced ≡ after s n c result }
@@ -102,7 +102,7 @@ fn renaming<'a>(old: At<'a>, new: At<'a>, inode: u64, replaced: Option<u64>) -> 
     }
 }
 
-/// What an exchange changes: nothing where both names stand for one node.
+/// The change of an exchange: none if both names name one node.
 fn exchanging<'a>(old: At<'a>, new: At<'a>, first: u64, second: u64) -> Change<'a>
     ensures done { (s : State) (n : ℕ) (c : record_of.ClientRecord) → Holds s old.entry first → Holds s new.entry second
         → with_name (with_name s (dentry_at new.entry) first) (dentry_at old.entry) second ≡ after s n c result }
@@ -196,7 +196,7 @@ fn answer_of(caller: &ClientRecord, call: &Call, found: &Found) -> Answer
     }
 }
 
-/// What the call does, which nothing refuses.
+/// Returns the effect of a call that nothing refuses.
 pub fn effect_of<'a>(
     caller: &ClientRecord,
     call: &'a Call,

@@ -1,4 +1,4 @@
-//! What is counted of each node, so that no call counts it again.
+//! Counts for each node, so that no call has to count again.
 
 ghost use Rattle.std.specs.Prelude.{◌≡◌, ◌&&◌, ◌||◌, ◌==◌, ◌+◌, ◌-◌, ◌^◌, ℕ, Some, None, true, false, not, min};
 ghost use Rattle.std.specs.Prelude.{is_none, if◌then◌else◌, option_map, IfOk, OnOk, OnErr};
@@ -23,10 +23,10 @@ use std::alloc::{AllocError, Global};
 /// The root's inode.
 pub const ROOT: u64 = 1;
 
-/// So many descriptors of one node no machine has room for.
+/// More descriptors of one node than any machine has room for.
 pub const MOST_OPENS: usize = 9223372036854775808;
 
-/// What is counted of a node: the names in it, if it is a directory; the names that it has; the descriptors open on it.
+/// The counts of a node: names in it (if it is a directory), names of it, and descriptors open on it.
 #[derive(Drop, Clone, Copy, Debug, PartialEq, Eq)]
 pub struct Fact {
     pub kind: Kind,
@@ -42,7 +42,7 @@ impl NumberMap<Fact> {
         self.get(inode).copied()
     }
 
-    /// Other counts of the node. Without such a node nothing happens.
+    /// Sets the counts of the node. Does nothing if there is no such node.
     fn put(&mut self, inode: u64, fact: Fact)
         ensures { (q : ℕ) → get self.new q
             ≡ option_map (λ (f : fact_type.Fact). if inode == q then fact else f) (get self.old q) }
@@ -119,7 +119,7 @@ impl NumberMap<Fact> {
         }
     }
 
-    /// Forgets the node where nothing is left that keeps it. Whether it does.
+    /// Forgets the node if nothing keeps it. Returns whether it was forgotten.
     fn let_go(&mut self, inode: u64) -> bool
         ensures dead { result ≡ option_map_or
             (λ (f : fact_type.Fact). not ((inode == 1) || not (f.links == 0) || not (f.opens == 0)))
@@ -136,7 +136,7 @@ impl NumberMap<Fact> {
         true
     }
 
-    /// A new node without a name.
+    /// Adds the counts of a new node without a name.
     fn add(&mut self, inode: u64, kind: Kind) -> Result<(), AllocError>
         requires { get self.old inode ≡ None }
         ensures ok { OnOk result (self.new
@@ -152,7 +152,7 @@ impl NumberMap<Fact> {
         self.insert(inode, fact)
     }
 
-    /// A name goes from one directory into another.
+    /// Moves one name from one directory's count to the other's.
     fn move_name(&mut self, from: u64, into: u64)
         ensures { (q : ℕ) → get self.new q ≡ option_map (λ (f : fact_type.Fact). if from == into then f else record f {
           names = if into == q then min ((if from == q then f.names - 1 else f.names) + 1) (2 ^ 64 - 1) else
@@ -165,7 +165,7 @@ impl NumberMap<Fact> {
         }
     }
 
-    /// The counts of a tree of the root alone.
+    /// Returns the counts of a tree that has only the root. Errors: memory ran out.
     pub fn of_root(alloc: Global) -> Result<NumberMap<Fact>, AllocError>
         ensures { IfOk result (λ facts. (rules : rules_of.Rules) (room : ℕ) → AreKept (start rules room) facts) }
     {
@@ -174,7 +174,7 @@ impl NumberMap<Fact> {
         Ok(facts)
     }
 
-    /// A new node of this kind has this number, and a name in the directory.
+    /// Adds a new node of this kind and number, with one name in the directory. Errors: memory ran out.
     pub fn make(&mut self, directory: u64, inode: u64, kind: Kind) -> Result<(), AllocError>
         requires { get self.old inode ≡ None }
         ensures ok { OnOk result ((s : State) (at : place_of.Dentry) → AreKept s self.old → s.next ≡ inode
@@ -188,7 +188,7 @@ impl NumberMap<Fact> {
         Ok(())
     }
 
-    /// The inode has a further name, in the directory.
+    /// Counts a further name of the inode, in the directory.
     pub fn name(&mut self, directory: u64, inode: u64)
         ensures { (s : State) (at : place_of.Dentry) → AreKept s self.old → at.directory ≡ directory
             → has s.nodes directory ≡ true → has s.nodes inode ≡ true
@@ -199,7 +199,7 @@ impl NumberMap<Fact> {
         self.add_link(inode);
     }
 
-    /// The inode loses a name, which the directory had. Whether its node goes with it.
+    /// Counts one name of the inode less, in the directory. Returns whether its node goes with it.
     pub fn unname(&mut self, directory: u64, inode: u64) -> bool
         ensures kept { (s : State) (at : place_of.Dentry) → AreKept s self.old → at.directory ≡ directory
             → get s.entries at ≡ Some inode
@@ -213,8 +213,8 @@ impl NumberMap<Fact> {
         self.let_go(inode)
     }
 
-    /// The inode's name in the one directory becomes one in the other, where it may replace another inode's. Whether
-    /// the replaced node goes.
+    /// Moves a name of the inode from one directory to the other, replacing another inode's name if given. Returns
+    /// whether the replaced node goes.
     pub fn rename(&mut self, from: u64, into: u64, inode: u64, replaced: Option<u64>) -> bool
         ensures kept { (s : State) (old new : place_of.Dentry) → AreKept s self.old → old.directory ≡ from
             → new.directory ≡ into → has s.nodes into ≡ true
@@ -242,7 +242,7 @@ impl NumberMap<Fact> {
         }
     }
 
-    /// Whether a descriptor of the inode more can be counted.
+    /// Reports whether one more descriptor of the inode can be counted.
     pub fn has_room(&self, inode: u64) -> bool
         ensures { result ≡ has_room self.now inode }
     {
@@ -252,7 +252,7 @@ impl NumberMap<Fact> {
         }
     }
 
-    /// The inode has one descriptor more.
+    /// Counts one more descriptor of the inode.
     pub fn open(&mut self, inode: u64)
         requires { has_room self.old inode ≡ true }
         ensures { (s : State) (client : ℕ) (c : record_of.ClientRecord) (fd : ℕ) (d : file.Descriptor)
@@ -263,7 +263,7 @@ impl NumberMap<Fact> {
         self.add_open(inode);
     }
 
-    /// The inode loses a descriptor. Whether its node goes with it.
+    /// Counts one descriptor of the inode less. Returns whether its node goes with it.
     pub fn close(&mut self, inode: u64) -> bool
         ensures kept { (s : State) (client : ℕ) (c : record_of.ClientRecord) (fd : ℕ) (d : file.Descriptor)
             → AreKept s self.old → get s.clients client ≡ Some c
@@ -279,7 +279,7 @@ impl NumberMap<Fact> {
         self.let_go(inode)
     }
 
-    /// Whether one more of each of these descriptors can be counted.
+    /// Reports whether one more of each of these descriptors can be counted.
     pub fn have_room(&self, descriptors: &NumberMap<Descriptor>) -> bool
         ensures { result ≡ have_room self.now descriptors.now }
     {
@@ -291,7 +291,7 @@ impl NumberMap<Fact> {
         true
     }
 
-    /// A spawned client has these descriptors.
+    /// Counts the descriptors of a spawned client.
     pub fn open_all(&mut self, descriptors: &NumberMap<Descriptor>)
         requires { have_room self.old descriptors.now ≡ true }
         ensures { (s : State) (client : ℕ) (c : record_of.ClientRecord) (fresh : ℕ) → AreKept s self.old

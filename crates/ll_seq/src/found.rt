@@ -1,4 +1,4 @@
-//! What a walk finds for a call's paths.
+//! What a walk finds at a call's paths.
 
 ghost use Rattle.std.specs.Prelude.{◌≡◌, ◌∷◌, ◌++◌, ℕ, List, [], None, true, is_some, length, option_and_then};
 ghost use Rattle.std.specs.Prelude.{option_map};
@@ -21,7 +21,7 @@ use ll_rights::limits::{DIRECTORY_ENTRIES, NODE_NAMES};
 use ll_rights::{Errno, Kind};
 use ll_rules::Domain;
 
-/// A node that stands under a name.
+/// A node that exists under a name, with its counts.
 #[derive(Clone, Copy)]
 pub struct There {
     pub inode: u64,
@@ -30,8 +30,8 @@ pub struct There {
     pub has_many_names: bool,
 }
 
-/// What is in the way to a path's last name; and if nothing is, in which directory the name stands, whether that has
-/// room for no further name, and what stands under it.
+/// What a walk finds for one path: what blocks the way to its last name, if anything; otherwise the directory of that
+/// name, whether the directory is full, and the node under the name.
 #[derive(Clone, Copy)]
 pub struct Spot {
     pub way: Option<Errno>,
@@ -40,8 +40,8 @@ pub struct Spot {
     pub there: Option<There>,
 }
 
-/// What is found for a call: the spots of both its paths, of which a call of one path has it twice; and whether no
-/// node more may live.
+/// What is found for a call: the spots of both paths (equal for a call of one path), and whether the tree has no room
+/// for another node.
 #[derive(Clone, Copy)]
 pub struct Found {
     pub first: Spot,
@@ -49,7 +49,7 @@ pub struct Found {
     pub is_full: bool,
 }
 
-/// The node, if there is one.
+/// The node with its counts, if there is one.
 fn node_there(facts: &NumberMap<Fact>, node: Option<u64>) -> Option<There>
     ensures { result ≡ option_and_then (there_at facts.now) node }
 {
@@ -63,7 +63,7 @@ fn node_there(facts: &NumberMap<Fact>, node: Option<u64>) -> Option<There>
     })
 }
 
-/// Whether the directory has no room for one entry more.
+/// Whether the directory has no room for another entry.
 fn is_crowded(facts: &NumberMap<Fact>, directory: u64) -> bool
     ensures { result ≡ crowded_at facts.now directory }
 {
@@ -73,7 +73,7 @@ fn is_crowded(facts: &NumberMap<Fact>, directory: u64) -> bool
     }
 }
 
-/// What stat tells of the node, which has so many bytes. A directory has one link.
+/// Returns what `stat` reports of the node. `size` is in bytes. A directory has one link.
 pub fn status_of(facts: &NumberMap<Fact>, inode: u64, kind: Kind, size: u64) -> Status
     ensures { (s : State) → AreKept s facts.now → size ≡ length (bytes_of s inode)
         → (get s.nodes inode ≡ None → name_count s inode ≡ 0) → result ≡ status_of s inode kind }
@@ -91,7 +91,7 @@ pub fn status_of(facts: &NumberMap<Fact>, inode: u64, kind: Kind, size: u64) -> 
     }
 }
 
-/// What is granted with one node more on the chain, if there is one.
+/// Returns what is granted after one more node on the chain, if there is one.
 pub fn granted_at(domain: &Domain, mut masks: Masks, node: Option<u64>) -> Masks
     requires { length masks ≡ length domain.now }
     ensures masks { (inodes : List ℕ) → AreMasks masks domain.now inodes
@@ -105,8 +105,7 @@ pub fn granted_at(domain: &Domain, mut masks: Masks, node: Option<u64>) -> Masks
 }
 
 impl Spot {
-    /// The spot of a name in this directory, where this is in the way to it and the name stands for this node: by what
-    /// is counted of each node.
+    /// Returns the spot of a name in this directory, given what blocks the way to it and the node under the name.
     #[inline(always)]
     pub fn of(
         facts: &NumberMap<Fact>,
@@ -131,7 +130,7 @@ impl Spot {
         self.there.is_some()
     }
 
-    /// The node that the path names.
+    /// Returns the node that the path names.
     pub fn named(&self) -> Option<u64>
         ensures stands { (s : State) (path : Path) → Stands s path self.now → result ≡ named s path }
         ensures data { result ≡ option_map (λ there. there.inode) self.now.there }
@@ -142,7 +141,7 @@ impl Spot {
         }
     }
 
-    /// The node that the path names, or 0.
+    /// Returns the node that the path names, or 0.
     pub fn inode(&self) -> u64
         ensures stands { (s : State) (path : Path) → Stands s path self.now → result ≡ inode_of s path }
         ensures data { result ≡ inode_at self.now }
@@ -164,7 +163,7 @@ impl Spot {
         }
     }
 
-    /// The kind of the node, which is there.
+    /// The kind of the node. It must exist.
     pub(crate) fn kind(&self) -> Kind
         ensures { (s : State) (path : Path) → Stands s path self.now → is_some (named s path) ≡ true
             → result ≡ kind_at s path }
@@ -175,7 +174,7 @@ impl Spot {
         }
     }
 
-    /// Whether the node, which is there, has names in it.
+    /// Whether the node has names in it. It must exist.
     pub(crate) fn has_names(&self) -> bool
         ensures { (s : State) (path : Path) → Stands s path self.now → is_some (named s path) ≡ true
             → result ≡ stages.has_names s (inode_of s path) }
@@ -186,7 +185,7 @@ impl Spot {
         }
     }
 
-    /// Whether the node, which is there, has as many names as a node may have.
+    /// Whether the node has as many names as a node may have. It must exist.
     pub(crate) fn has_many_names(&self) -> bool
         ensures { (s : State) (path : Path) → Stands s path self.now → is_some (named s path) ≡ true
             → result ≡ stages.has_many_names s (inode_of s path) }
@@ -197,7 +196,7 @@ impl Spot {
         }
     }
 
-    /// Whether the last names stand in different directories.
+    /// Whether the last names are in different directories.
     pub(crate) fn is_apart(&self, other: &Spot) -> bool
         ensures { (s : State) (old new : Path) → Stands s old self.now → Stands s new other.now
             → result ≡ parents_differ s old new }

@@ -7,8 +7,8 @@ use ll_rights::limits::HISTORY_ENTRIES;
 use std::alloc::{AllocError, Global};
 use std::marker::Model;
 
-/// Entries in their order, and how many there may be. Room for all of them is there from the start, so adding one
-/// takes no memory. Contracts see the list of the entries, and the limit.
+/// Entries in order, and how many there may be. All room is reserved at the start, so adding an entry takes no memory.
+/// Contracts see the list of entries, and the limit.
 #[derive(Drop)]
 pub struct History {
     entries: Vec<Entry>,
@@ -30,7 +30,7 @@ impl Model for History {
 }
 
 impl History {
-    /// A history without entries, with room for this many.
+    /// Returns an empty history with room for `limit` entries. Errors: memory ran out.
     pub fn new(alloc: Global, limit: usize) -> Result<History, AllocError>
         requires some { 1 ≤ limit }
         requires most { limit ≤ HISTORY_ENTRIES }
@@ -40,7 +40,7 @@ impl History {
         Ok(History { entries, limit })
     }
 
-    /// Whether no entry more may be added.
+    /// Reports whether the history is full.
     pub fn is_full(&self) -> bool
         ensures { result ≡ nat_le self.now.limit (length self.now.entries) }
     {
@@ -55,7 +55,7 @@ impl History {
         &self.entries
     }
 
-    /// The entry becomes the last one. It is moved, and takes no memory.
+    /// Appends an entry. Takes no memory.
     pub fn push(&mut self, entry: Entry)
         requires { length self.old.entries < self.old.limit }
         ensures { self.new ≡ record self.old { entries = self.old.entries ++ entry ∷ [] } }

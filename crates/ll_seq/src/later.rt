@@ -1,4 +1,4 @@
-//! What refuses a call that policy allows.
+//! The refusals that are checked after policy.
 
 ghost use Rattle.std.specs.Prelude.{◌≡◌, [], slice_get, true, is_some};
 ghost use Rattle.std.specs.Option.{option_map_or};
@@ -40,7 +40,7 @@ fn not_to_truncate(kind: Kind) -> Option<Errno>
     }
 }
 
-/// Whether one node may come in the place of another.
+/// Why one node can't replace another, or None.
 fn not_to_replace(node: &Spot, replaced: &Spot) -> Option<Errno>
     ensures { (s : State) (old new : Path) → Stands s old node.now → Stands s new replaced.now
         → is_some (named s old) ≡ true
@@ -57,7 +57,7 @@ fn not_to_replace(node: &Spot, replaced: &Spot) -> Option<Errno>
     }
 }
 
-/// Why the ruleset of this number, which is there, gets no rule on a node of this kind.
+/// Why the existing ruleset of this number gets no rule on a node of this kind, or None.
 fn not_to_allow(caller: &ClientRecord, number: u64, kind: Kind, rights: Access) -> Option<Errno>
     ensures { stages.no_ruleset caller.now number ≡ []
         → result ≡ slice_get (rule_refusals (stages.ruleset_at caller.now number) kind rights.0) 0 }
@@ -101,7 +101,7 @@ fn kind_refusal(caller: &ClientRecord, call: &Call, found: &Found) -> Option<Err
     }
 }
 
-/// Whether a rename that replaces nothing finds no room.
+/// Refuses a rename that replaces nothing if its directory is full.
 fn crowds(old: &Spot, new: &Spot) -> Option<Errno>
     ensures { (s : State) (from into : Path) → Stands s from old.now → Stands s into new.now
         → result ≡ slice_get (stages.crowds s from into) 0 }
@@ -136,7 +136,7 @@ fn limit_refusal(caller: &ClientRecord, call: &Call, found: &Found) -> Option<Er
     }
 }
 
-/// What refuses the call that policy allows.
+/// Returns the first refusal of a call that policy allows, or None.
 pub fn refused_after(caller: &ClientRecord, call: &Call, found: &Found) -> Option<Errno>
     ensures { (s : State) → has_path call.now ≡ true → Passed s caller.now call.now found.now
         → result ≡ slice_get (after_policy s caller.now call.now) 0 }

@@ -1,5 +1,4 @@
-//! The sequential tree: calls and their replies, the definitions of what each call does (in `specs/`), and the tables
-//! that hold a tree.
+//! The sequential tree: calls and replies, the definition of each call (in `specs/`), and the tables that hold a tree.
 #![tactic(auto)]
 
 mod before;

@@ -7,7 +7,7 @@ use ll_path::Name;
 use std::alloc::{AllocError, Global};
 use std::marker::Model;
 
-/// Names that rise by bytes, as they are told. Contracts see the list.
+/// Names in increasing byte order, as a reply lists them. Contracts see the list.
 #[derive(Drop)]
 pub struct Listing {
     names: Vec<Name>,
@@ -24,7 +24,7 @@ impl Model for Listing {
     ghost invariant = { λ listing. AreListed listing.names.items };
 }
 
-/// Whether both are the same names.
+/// Whether both lists are equal.
 fn are_same(names: &[Name], others: &[Name]) -> bool
     ensures { IsTrue result ↔ (names.now ≡ others.now) }
 {
@@ -55,7 +55,7 @@ impl Listing {
         &self.names
     }
 
-    /// One name more, at the end. It is above those before it.
+    /// Appends a name, which must be greater than those before it. Errors: memory ran out.
     pub fn push(&mut self, name: Name) -> Result<(), AllocError>
         requires { AreListed (self.old ++ name ∷ []) }
         ensures ok { OnOk result (self.new ≡ self.old ++ name ∷ []) }
@@ -65,7 +65,7 @@ impl Listing {
         Ok(())
     }
 
-    /// The same names. Errors: memory ran out.
+    /// Returns a copy of the list. Errors: memory ran out.
     pub fn copy(&self, alloc: Global) -> Result<Listing, AllocError>
         ensures { IfOk result (λ listing. listing ≡ self.now) }
     {
@@ -76,7 +76,7 @@ impl Listing {
         Ok(Listing { names })
     }
 
-    /// Whether both tell the same names.
+    /// Reports whether both lists hold equal names.
     pub fn is(&self, other: &Listing) -> bool
         ensures { IsTrue result ↔ (self.now ≡ other.now) }
     {

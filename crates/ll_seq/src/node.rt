@@ -8,7 +8,7 @@ use ll_rights::Kind;
 use std::alloc::{AllocError, Global};
 use std::marker::Model;
 
-/// The bytes of a node. Contracts see the list.
+/// The bytes of a file. Contracts see the list.
 #[derive(Drop)]
 pub struct Content {
     bytes: Vec<u8>,
@@ -22,7 +22,7 @@ impl Model for Content {
     ghost view = { λ content. content.bytes.items };
 }
 
-// The bytes from the offset on, in the place of as many.
+// Overwrites the bytes from the offset on.
 fn put_in(all: &mut [u8], offset: usize, bytes: &[u8])
     requires { offset + length bytes.now ≤ length all.old }
     ensures { all.new ≡ take offset all.old ++ (bytes.now ++ drop (offset + length bytes.now) all.old) }
@@ -49,7 +49,7 @@ impl Content {
         self.bytes.len()
     }
 
-    /// Cuts the bytes to this length, or fills them with zeros to it.
+    /// Sets the length. New bytes are zeros. Errors: memory ran out.
     pub fn set_len(&mut self, len: usize) -> Result<(), AllocError>
         ensures ok { OnOk result (self.new ≡ resized self.old len) }
         ensures err { OnErr result (self.new ≡ self.old) }
@@ -57,7 +57,7 @@ impl Content {
         self.bytes.resize(len, 0)
     }
 
-    /// At most so many bytes from the offset on: fewer or none at the end.
+    /// Returns at most `count` bytes from the offset on: fewer or none at the end. Errors: memory ran out.
     pub fn read(&self, alloc: Global, offset: usize, count: usize) -> Result<Data, AllocError>
         requires { count ≤ 4096 }
         ensures { IfOk result (λ read. read ≡ take count (drop offset self.now)) }
@@ -72,7 +72,7 @@ impl Content {
         }
     }
 
-    /// Puts the bytes in from the offset on, over what stands there. A gap before them is zeros.
+    /// Overwrites from the offset on, and fills a gap before it with zeros. Errors: memory ran out.
     pub fn write(&mut self, offset: usize, bytes: &[u8]) -> Result<(), AllocError>
         requires { offset + length bytes.now < 2 ^ 64 }
         ensures ok { OnOk result (self.new ≡ overwritten self.old offset bytes.now) }
@@ -83,7 +83,7 @@ impl Content {
         Ok(())
     }
 
-    /// Zeros behind the bytes, so that there are at least so many.
+    /// Appends zeros until there are at least this many bytes.
     fn grow(&mut self, len: usize) -> Result<(), AllocError>
         ensures ok { OnOk result (self.new ≡ self.old ++ replicate (len - length self.old) 0) }
         ensures err { OnErr result (self.new ≡ self.old) }
@@ -108,7 +108,7 @@ impl Content {
     }
 }
 
-/// A file of some kind. Only a regular file ever has bytes.
+/// A node of some kind. Only a regular file ever has bytes.
 #[derive(Drop)]
 pub struct Node {
     pub kind: Kind,

@@ -1,4 +1,4 @@
-//! What happens to the bytes of nodes.
+//! Changes to the bytes of nodes.
 
 ghost use Rattle.std.specs.Prelude.{◌≡◌, ◌+◌, ◌^◌, ◌<◌, [], OnOk, OnErr, length};
 ghost use Rattle.std.specs.Option.{option_map_or};
@@ -11,7 +11,8 @@ use crate::number_map::{NumberMap, index_of};
 use std::alloc::AllocError;
 
 impl NumberMap<Node> {
-    /// Cuts the node's bytes to this length, or fills them with zeros to it. Without such a node nothing happens.
+    /// Sets the length of the node's bytes. New bytes are zeros. Does nothing without such a node. Errors: memory ran
+    /// out.
     pub fn set_len(&mut self, inode: u64, len: usize) -> Result<(), AllocError>
         ensures ok { OnOk result (self.new
             ≡ option_map_or (λ (n : record_of.Node). insert self.old inode (record n { bytes = resized n.bytes len }))
@@ -25,7 +26,7 @@ impl NumberMap<Node> {
         row.1.bytes.set_len(len)
     }
 
-    /// Puts the bytes into the node's from the offset on. Without such a node nothing happens.
+    /// Writes into the node's bytes from the offset on. Does nothing without such a node. Errors: memory ran out.
     pub fn write(&mut self, inode: u64, offset: usize, bytes: &[u8]) -> Result<(), AllocError>
         requires { offset + length bytes.now < 2 ^ 64 }
         ensures ok { OnOk result (self.new
@@ -40,7 +41,7 @@ impl NumberMap<Node> {
         row.1.bytes.write(offset, bytes)
     }
 
-    /// Takes the node's bytes away. Without such a node nothing happens.
+    /// Removes all of the node's bytes. Does nothing without such a node.
     pub fn clear(&mut self, inode: u64)
         ensures { self.new ≡ option_map_or (λ (n : record_of.Node). insert self.old inode (record n { bytes = [] }))
             (get self.old inode) self.old }

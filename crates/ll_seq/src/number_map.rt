@@ -10,7 +10,7 @@ ghost use Rattle.ll_rights.proofs.Places.{place};
 use std::alloc::{AllocError, Global};
 use std::marker::Model;
 
-/// Values by number, in rising order. Contracts see the map from numbers to values.
+/// Values by number, sorted. Contracts see the map from numbers to values.
 #[derive(Drop)]
 pub struct NumberMap<V> {
     pub(crate) rows: Vec<(u64, V)>,
@@ -33,7 +33,7 @@ impl<V> Model for NumberMap<V> {
     ghost invariant = { λ table. IsTrue (is_sorted nat_cmp table.rows.items) };
 }
 
-/// Where the row of the number stands, or where it would.
+/// The index of the number's row, or as an error the index where it would be inserted.
 fn search<V>(rows: &[(u64, V)], number: u64) -> Result<usize, usize>
     requires { IsTrue (is_sorted nat_cmp rows.now) }
     ensures within { IfOk result (λ i. i < length rows.now) }
@@ -46,7 +46,7 @@ fn search<V>(rows: &[(u64, V)], number: u64) -> Result<usize, usize>
     rows.binary_search_by_key(&number, |row| row.0)
 }
 
-/// Where the row of the number stands, if there is one for each number from the first row's on.
+/// The index of the number's row, if numbers have no gap between the first row and it; otherwise None.
 fn numbered<V>(rows: &[(u64, V)], number: u64) -> Option<usize>
     ensures within { IfSome result (λ i. i < length rows.now) }
     ensures row { IfSome result (λ i. (v : V) × (slice_get rows.now i ≡ Some (number, v))) }
@@ -62,7 +62,7 @@ fn numbered<V>(rows: &[(u64, V)], number: u64) -> Option<usize>
     }
 }
 
-/// Where the row of the number stands. Numbers are given one after the other, so a look at one row often tells it.
+/// The index of the number's row. Numbers are assigned in order, so one look at the expected row usually finds it.
 pub(crate) fn index_of<V>(rows: &[(u64, V)], number: u64) -> Option<usize>
     requires { IsTrue (is_sorted nat_cmp rows.now) }
     ensures none { IfNone result (find nat_cmp number rows.now ≡ None) }
@@ -76,7 +76,7 @@ pub(crate) fn index_of<V>(rows: &[(u64, V)], number: u64) -> Option<usize>
     search(rows, number).ok()
 }
 
-/// The first place whose row has another number: no row has it.
+/// The first index that isn't its row's number. No row has it as its number.
 fn gap<V>(rows: &[(u64, V)]) -> u64
     requires { IsTrue (is_sorted nat_cmp rows.now) }
     ensures { find nat_cmp result rows.now ≡ None }
@@ -119,14 +119,14 @@ impl<V> NumberMap<V> {
         self.get(number).is_some()
     }
 
-    /// A number that has no value.
+    /// Returns a number that has no value.
     pub fn unused(&self) -> u64
         ensures { has self.now result ≡ false }
     {
         gap(&self.rows)
     }
 
-    /// The same map again.
+    /// Returns a copy of the map. Errors: memory ran out.
     pub fn copy(&self, alloc: Global) -> Result<NumberMap<V>, AllocError>
     where
         V: Copy,
@@ -137,7 +137,7 @@ impl<V> NumberMap<V> {
         Ok(NumberMap { rows })
     }
 
-    /// Adds a value under a number that has none.
+    /// Adds a value under a number that has none. Errors: memory ran out.
     pub fn insert(&mut self, number: u64, value: V) -> Result<(), AllocError>
     where
         V: Drop,
@@ -152,7 +152,7 @@ impl<V> NumberMap<V> {
         Ok(())
     }
 
-    /// Forgets the number and its value, if it has one.
+    /// Removes the number and its value, if it has one.
     pub fn remove(&mut self, number: u64)
     where
         V: Drop,

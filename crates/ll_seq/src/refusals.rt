@@ -1,4 +1,4 @@
-//! Refusals, the first first.
+//! The order of refusals: the first one counts.
 
 ghost use Rattle.std.specs.Prelude.{◌≡◌, List, [], ◌++◌, slice_get};
 ghost use Rattle.ll_rights.specs.Errno.{refuse};
@@ -7,14 +7,14 @@ ghost use Rattle.ll_seq.specs.Stages as stages;
 
 use ll_rights::{Errno, Kind};
 
-/// The refusal, where the test says so.
+/// The refusal, if the test holds.
 pub(crate) fn refuse(test: bool, errno: Errno) -> Option<Errno>
     ensures { result ≡ slice_get (refuse test errno) 0 }
 {
     if test { Some(errno) } else { None }
 }
 
-/// The first refusal of two lists of them.
+/// Returns the first refusal of two lists, given the first of each.
 pub fn first(one: Option<Errno>, other: Option<Errno>) -> Option<Errno>
     ensures { (ones others : List Errno) → one ≡ slice_get ones 0 → (ones ≡ [] → other ≡ slice_get others 0)
         → result ≡ slice_get (ones ++ others) 0 }
@@ -25,7 +25,7 @@ pub fn first(one: Option<Errno>, other: Option<Errno>) -> Option<Errno>
     }
 }
 
-/// Why a node of this kind is no directory. Where there is none, it is missing.
+/// Returns why a node of this kind can't be used as a directory, or None. Without a kind, the node is missing.
 pub fn no_directory(kind: Option<Kind>) -> Option<Errno>
     ensures { result ≡ slice_get (stages.no_directory kind) 0 }
 {

@@ -1,6 +1,7 @@
 //! Replies.
 
 ghost use Rattle.std.specs.Prelude.{◌≡◌, ◌≢◌, ◌<◌, ◌↔◌, ℕ, true, IsTrue, IfOk, OnErr, slice_index};
+ghost use Rattle.ll_decide.specs.declared.denial.Denial as denial_of;
 ghost use Rattle.ll_rights.specs.declared.errno.Errno as errno_of;
 ghost use Rattle.ll_seq.specs.Memory.{holds_memory};
 ghost use Rattle.ll_seq.specs.Step.{IsAnswer};
@@ -12,7 +13,7 @@ use ll_path::Data;
 use ll_rights::{Errno, Kind};
 use std::alloc::{AllocError, Global};
 
-/// What a node is. A directory's links are 1, another node's the number of its names.
+/// What `stat` returns. A directory has 1 link; another node has one for each of its names.
 #[derive(Clone, Copy, Debug, PartialEq, Eq)]
 pub struct Status {
     pub inode: u64,
@@ -21,21 +22,21 @@ pub struct Status {
     pub links: u64,
 }
 
-/// What a call answers.
+/// The reply to a call.
 #[derive(Drop)]
 pub enum Reply {
-    /// It is done, and there is nothing to tell.
+    /// Success without further data.
     Done,
-    /// The descriptor's number.
+    /// The new descriptor's number.
     Opened(u64),
     /// Bytes of a file.
     Bytes(Data),
-    /// How many bytes were written.
+    /// The number of bytes written.
     Wrote(u64),
-    /// The names in the directory, rising by bytes.
+    /// The names in the directory, sorted by bytes.
     Listed(Listing),
     Found(Status),
-    /// The ruleset's number.
+    /// The new ruleset's number.
     Created(u64),
     /// The new client's number.
     Spawned(u64),
@@ -43,7 +44,7 @@ pub enum Reply {
     Denied(Denial),
 }
 
-/// Nothing happens. What the type of bytes keeps of them.
+/// Does nothing when it runs. Its contract: each element of a byte slice is less than 256.
 fn fit(bytes: &[u8])
     ensures { (i : ℕ) → slice_index bytes.now i < 256 }
 {
@@ -51,7 +52,8 @@ fn fit(bytes: &[u8])
 }
 
 impl Reply {
-    /// Nothing happens. What the types of a reply keep of it: but for a refusal it is one that the tree may give.
+    /// Does nothing when it runs. Its contract: by the types alone, a reply that isn't a refusal is one that the tree
+    /// may give.
     pub fn by_type(&self)
         ensures { ((errno : errno_of.Errno) → self.now ≢ Reply.Refused errno) → IsAnswer self.now }
     {
@@ -64,7 +66,21 @@ impl Reply {
         }
     }
 
-    /// The same reply. Errors: memory ran out; only for one that holds bytes or names.
+    /// Reports whether the reply is NoMemory.
+    pub fn wants_memory(&self) -> bool
+        ensures { IsTrue result ↔ (self.now ≡ Reply.Refused errno_of.Errno.NoMemory) }
+    {
+        matches!(self, Reply::Refused(Errno::NoMemory))
+    }
+
+    /// Reports whether a layer denied the call.
+    pub fn is_denial(&self) -> bool
+        ensures { IsTrue result ↔ ((denial : denial_of.Denial) × (self.now ≡ Reply.Denied denial)) }
+    {
+        matches!(self, Reply::Denied(_))
+    }
+
+    /// Returns a copy of the reply. Errors: memory ran out, only for a reply that holds bytes or names.
     pub fn copy(&self, alloc: Global) -> Result<Reply, AllocError>
         ensures ok { IfOk result (λ reply. reply ≡ self.now) }
         ensures err { OnErr result (holds_memory self.now ≡ true) }
@@ -83,7 +99,7 @@ impl Reply {
         }
     }
 
-    /// Whether the replies are the same.
+    /// Reports whether the replies are equal.
     pub fn is(&self, other: &Reply) -> bool
         ensures { IsTrue result ↔ (self.now ≡ other.now) }
     {
@@ -103,7 +119,7 @@ impl Reply {
     }
 }
 
-/// One entry of a history: who called, what, and what was answered.
+/// One entry of a history: the client, its call, and the reply.
 #[derive(Drop)]
 pub struct Entry {
     pub client: u64,

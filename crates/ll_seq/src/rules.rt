@@ -1,9 +1,9 @@
-//! What a tree is opened with.
+//! The options that a tree is opened with.
 
 use ll_rights::Abi;
 
-/// The ABI level whose rights a ruleset may handle, and whether a spawned client gets copies of its parent's
-/// descriptors.
+/// The ABI level, which determines the rights that a ruleset may handle; and whether a spawned client gets copies of
+/// its parent's descriptors.
 #[derive(Clone, Copy, Debug, PartialEq, Eq)]
 pub struct Rules {
     pub abi: Abi,

@@ -1,4 +1,4 @@
-//! The words of a call that stand for paths.
+//! The path arguments of a call.
 
 ghost use Rattle.std.specs.Prelude.{◌≡◌};
 ghost use Rattle.ll_seq.specs.Call.{targets};
@@ -7,7 +7,7 @@ ghost use Rattle.ll_seq.specs.Found.{words_of};
 use crate::Call;
 use ll_path::Target;
 
-/// The words of a call that stand for paths, in their order.
+/// The path arguments of a call, in order: none, one or two.
 #[derive(Clone, Copy)]
 pub enum Targets<'a> {
     No,
@@ -15,7 +15,7 @@ pub enum Targets<'a> {
     Two(&'a Target, &'a Target),
 }
 
-/// The words of the call that stand for paths.
+/// Returns the call's path arguments.
 pub fn targets_of(call: &Call) -> Targets<'_>
     ensures { words_of result ≡ targets call.now }
 {

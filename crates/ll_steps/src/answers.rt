@@ -1,4 +1,4 @@
-//! A schedule answers lines.
+//! A schedule as a source of replies to lines.
 
 use crate::outcome::answer_text;
 use crate::schedule::Schedule;
@@ -17,7 +17,7 @@ impl Answers for Schedule {
 
     ghost over = { λ schedule. false };
 
-    // Nobody keeps it.
+    // This schedule needs no invariant.
     ghost kept = { λ schedule. ⊤ };
 
     fn answer(&mut self, line: &Line) -> Result<String, AllocError> {

@@ -1,4 +1,4 @@
-//! The calls that don't walk, and the coming of clients.
+//! Steps of calls that don't walk, and of new clients.
 
 ghost use Rattle.std.specs.Prelude.{◌≡◌, ◌≢◌, IfSome, IfNone, IfOk, IfErr, OnErr};
 ghost use Rattle.ll_steps.specs.Contents.{answered_as};
@@ -10,7 +10,7 @@ use ll_journal::{Made, Start, Unmade};
 use ll_rights::Errno;
 use ll_seq::Call;
 
-/// What comes of a call without a walk, where the history's next entry has this number.
+/// The report of a call without a walk. `number` is that of the history's next entry.
 fn answered(number: u64, answer: Made) -> Report
     ensures { result ≡ answered_as number answer }
 {
@@ -21,24 +21,12 @@ fn answered(number: u64, answer: Made) -> Report
     }
 }
 
-/// The descriptor that the call is made on.
-pub(crate) fn descriptor_of(call: &Call) -> Option<u64>
-    ensures { result ≡ world.descriptor_of call.now }
-{
-    match call {
-        Call::Read(fd, ..) | Call::Write(fd, ..) | Call::Ftruncate(fd, _) | Call::Close(fd) => Some(
-            *fd,
-        ),
-        _ => None,
-    }
-}
-
 impl World {
     ghost use Rattle.ll_laws.specs.declared.step.Step.TheVariants as steps;
     ghost use Rattle.ll_steps.specs.Calling.{Calls, Waits};
     ghost use Rattle.ll_steps.specs.Makes.{Makes};
 
-    /// A new client.
+    /// Connects a new client.
     pub(crate) fn join(&mut self) -> Report
         ensures { Makes self.old steps.Join result self.new }
     {
@@ -48,7 +36,7 @@ impl World {
         }
     }
 
-    /// The client's call for itself alone, which comes back where it isn't made.
+    /// Makes a call for the client alone. Errors: the call, if it isn't made.
     pub(crate) fn client_step(&mut self, client: u64, call: Call) -> Result<Report, Call>
         ensures makes { IfOk result (λ outcome. Makes self.old (steps.ClientStep client call) outcome self.new) }
         ensures made { IfOk result (λ outcome. outcome ≢ Report.NotNow) }
@@ -63,7 +51,8 @@ impl World {
         }
     }
 
-    /// What comes of the client's call, which is on no descriptor that it has. None where its walk is under way.
+    /// Starts the client's call, which is on no descriptor that it has. Some if that is its result; None if its walk is
+    /// under way.
     pub(crate) fn start(&mut self, client: u64, call: Call) -> Option<Report>
         ensures stops { IfSome result (λ outcome.
             Waits self.old (steps.FdCommit client call) → Calls self.old client call outcome self.new) }
@@ -78,7 +67,7 @@ impl World {
         }
     }
 
-    /// The client's call on a descriptor, which comes back where it isn't made.
+    /// Makes the client's call on a descriptor. Errors: the call, if it isn't made.
     pub(crate) fn fd_commit(&mut self, client: u64, call: Call) -> Result<Report, Call>
         ensures makes { IfOk result (λ outcome. Makes self.old (steps.FdCommit client call) outcome self.new) }
         ensures made { IfOk result (λ outcome. outcome ≢ Report.NotNow) }
@@ -86,7 +75,7 @@ impl World {
         ensures back { IfErr result (λ back. back ≡ call) }
         ensures same { OnErr result (self.new ≡ self.old) }
     {
-        let Some(fd) = descriptor_of(&call) else {
+        let Some(fd) = call.descriptor() else {
             return Err(call);
         };
         let Some(slot) = self.journal.file_slot(client, fd) else {

@@ -1,4 +1,4 @@
-//! A tree that many clients share, whose steps are made one after the other: any list of them.
+//! A shared tree whose steps are made one after the other, in any order.
 #![tactic(auto)]
 
 mod answers;

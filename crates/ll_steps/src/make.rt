@@ -1,4 +1,4 @@
-//! All steps of a call.
+//! All steps of one call.
 
 ghost use Rattle.std.specs.Prelude.{◌≡◌, ◌≢◌, ◌<◌, length, IfNone, IfSome};
 ghost use Rattle.ll_journal.specs.Steps.{IsInTurn};
@@ -7,7 +7,6 @@ ghost use Rattle.ll_steps.specs.Contents.{IsKept};
 ghost use Rattle.ll_steps.specs.Headline.{IsLawful};
 ghost use Rattle.ll_steps.specs.Left.{StepsOn};
 
-use crate::direct::descriptor_of;
 use crate::report::Report;
 use crate::slots::Hands;
 use crate::walk::{commit_with, descend_between, enter_at, fork_in, restart_with};
@@ -16,7 +15,7 @@ use ll_journal::{Journal, Next};
 use ll_node::Held;
 use ll_seq::Call;
 
-/// The slot of the directory where the leg in turn of the client's walk stands, or the root's where none stands.
+/// The slot of the directory of the walk's current leg, or the root's if it has none.
 fn slot_in_turn(journal: &Journal, client: u64) -> u64
     ensures turn { IsInTurn journal.now client result }
     ensures within { result < length journal.now.inodes }
@@ -27,7 +26,7 @@ fn slot_in_turn(journal: &Journal, client: u64) -> u64
     }
 }
 
-/// None where the step was made; else that its walk waits.
+/// None if the step was made; otherwise the report that its walk waits.
 fn unless_made(outcome: Report) -> Option<Report>
     ensures made { IfNone result (outcome ≢ Report.NotNow) }
     ensures waits { IfSome result (λ told. (told ≡ Report.NotNow) × (outcome ≡ Report.NotNow)) }
@@ -39,8 +38,8 @@ fn unless_made(outcome: Report) -> Option<Report>
     }
 }
 
-/// Makes the one step of the client's walk that comes next. None where the walk is to be led on; else what comes of its
-/// call, or that it waits.
+/// Makes the next step of the client's walk. None if the walk goes on; otherwise the result of its call, or that it
+/// waits.
 fn step_on(
     journal: &mut Journal,
     slots: &mut [Held],
@@ -67,15 +66,15 @@ fn step_on(
 }
 
 impl World {
-    /// Makes the one step of the client's walk that comes next. None where the walk is to be led on; else what comes of
-    /// its call, or that it waits.
+    /// Makes the next step of the client's walk. None if the walk goes on; otherwise the result of its call, or that it
+    /// waits.
     fn go_on(&mut self, client: u64) -> Option<Report>
         ensures { StepsOn self.old client result self.new }
     {
         step_on(&mut self.journal, &mut self.slots, &mut self.hands, client)
     }
 
-    /// The client's walk is led to its answer, as far as it goes.
+    /// Leads the client's walk to its answer, or until it has to wait.
     fn lead(&mut self, client: u64) -> Report
         ensures { Leads client self.old result self.new }
     {
@@ -86,8 +85,8 @@ impl World {
         }
     }
 
-    /// All steps of a call to its reply. NotNow where it may not begin, or where its walk waits for other walks: then
-    /// it stays under way.
+    /// Makes all steps of a call, up to its reply. Returns NotNow if it may not begin, or if its walk has to wait for
+    /// other walks; the walk then stays under way.
     pub fn make(&mut self, client: u64, call: Call) -> Report
         ensures makes { Calls self.old client call result self.new }
         ensures lawful { IsLawful self.new }
@@ -97,7 +96,7 @@ impl World {
         outcome
     }
 
-    /// The same of a call on a descriptor.
+    /// Makes all steps of a call on a descriptor.
     fn steps_on_file(&mut self, client: u64, call: Call) -> Report
         ensures { Calls self.old client call result self.new }
     {
@@ -110,11 +109,11 @@ impl World {
         }
     }
 
-    /// The same of any call. One on no descriptor needn't be handed in and back.
+    /// Makes all steps of any call. A call on no descriptor skips `steps_on_file`, which would only move it in and out.
     fn steps_of(&mut self, client: u64, call: Call) -> Report
         ensures { Calls self.old client call result self.new }
     {
-        match descriptor_of(&call) {
+        match call.descriptor() {
             Some(_) => self.steps_on_file(client, call),
             None => match self.start(client, call) {
                 Some(outcome) => outcome,

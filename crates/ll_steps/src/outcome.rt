@@ -19,7 +19,7 @@ fn number_line(alloc: Global, word: &str, number: u64) -> Result<String, AllocEr
     line_text(alloc, word, &[number.as_str()])
 }
 
-// The line of a reply, told by the entry that has it.
+// The line of a reply, read from the history's entry of this number.
 fn entry_line(alloc: Global, history: &[Entry], number: u64) -> Result<String, AllocError>
     ensures { IfOk result (λ line. string_bytes line ≡ outcome_line history.now (Report.Replied number)) }
 {
@@ -29,7 +29,7 @@ fn entry_line(alloc: Global, history: &[Entry], number: u64) -> Result<String, A
     }
 }
 
-// The line of an outcome, after which the history has these entries.
+// The line of a report, given the history after it.
 fn outcome_text(alloc: Global, history: &[Entry], outcome: Report) -> Result<String, AllocError>
     ensures { IfOk result (λ line. string_bytes line ≡ outcome_line history.now outcome) }
 {
@@ -45,7 +45,8 @@ fn outcome_text(alloc: Global, history: &[Entry], outcome: Report) -> Result<Str
     }
 }
 
-/// The line of what a line asked for, after which the history has these entries, or of why it was not read.
+/// Returns the line for the result of a line: its report, given the history after it, or why the line wasn't read.
+/// Errors: memory ran out.
 pub fn answer_text(
     alloc: Global,
     history: &[Entry],

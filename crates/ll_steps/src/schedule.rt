@@ -18,7 +18,7 @@ use ll_rights::Errno;
 use ll_wire::{Ends, Line, ScheduleLine, SessionFault, read_schedule_line, write_line};
 use std::alloc::{AllocError, Global};
 
-// Does what the line asks for.
+// Does what the line asks for. Returns its report.
 fn done(world: &mut World, line: ScheduleLine) -> Report
     ensures { Does world.old line result world.new }
 {
@@ -28,7 +28,7 @@ fn done(world: &mut World, line: ScheduleLine) -> Report
     }
 }
 
-/// The tree with its walks.
+/// A tree with its walks, driven by lines.
 #[derive(Drop)]
 pub struct Schedule {
     pub alloc: Global,
@@ -38,7 +38,7 @@ pub struct Schedule {
 impl Schedule {
     ghost use Rattle.ll_seq.specs.declared.reply.Reply.{Reply};
 
-    /// Before the first line.
+    /// Opens the tree, before the first line. Errors: memory ran out.
     pub fn open(alloc: Global, setup: WorldSetup) -> Result<Schedule, AllocError>
         ensures { IfOk result (λ schedule. schedule.world ≡ opened setup) }
     {
@@ -46,7 +46,7 @@ impl Schedule {
         Ok(Schedule { alloc, world })
     }
 
-    /// Does what the line spells, if it spells anything. What comes of it.
+    /// Does what the line asks for. Returns its report. Errors: why the line wasn't read.
     pub fn outcome(&mut self, line: &Line) -> Result<Report, Errno>
         ensures tells { (piece : List ℕ) → Holds line.now piece
             → Tells self.old.world piece (answer_line self.new.world.history result) self.new.world }
@@ -61,7 +61,7 @@ impl Schedule {
         }
     }
 
-    /// Writes the last line: how many entries the history has.
+    /// Writes the last line: the number of entries in the history.
     pub fn finish<E: Ends>(&self, ends: &mut E) -> Result<(), SessionFault>
         requires { IsWhole (E.devices ends.old) }
         ensures ok { OnOk result (Appends (E.devices ends.old).contents (E.devices ends.new).contents

@@ -5,8 +5,8 @@ ghost use Rattle.ll_rights.specs.declared.limits.TheConstants.{HISTORY_ENTRIES, 
 
 use ll_seq::Rules;
 
-/// The rules of the tree; how many nodes may live in it, the root among them; and how many entries its history may
-/// have, the connects among them.
+/// The rules of the tree, the limit of live nodes (the root counts), and the limit of entries in its history (connects
+/// count).
 #[derive(Drop)]
 pub struct WorldSetup {
     pub rules: Rules,

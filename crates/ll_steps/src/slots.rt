@@ -1,4 +1,4 @@
-//! What lies in the slots, and what is taken out of them for a step.
+//! The contents of the slots, and what is taken out of them for a step.
 
 ghost use Rattle.std.specs.Prelude.{◌≡◌, ◌<◌, ◌≤◌, ◌+◌, ◌-◌, ℕ, ◌∷◌, length, map, replicate, IfOk};
 ghost use Rattle.std.specs.List.{AllByRecursion};
@@ -15,7 +15,7 @@ use ll_rights::limits::TREE_CLIENTS;
 use ll_seq::ROOT;
 use std::alloc::{AllocError, Global};
 
-/// What lies in a vacant slot. Takes no memory.
+/// Returns the contents of a vacant slot. Takes no memory.
 fn vacant(alloc: Global) -> Held
     ensures { result ≡ lent.vacant }
 {
@@ -25,14 +25,14 @@ fn vacant(alloc: Global) -> Held
     }
 }
 
-/// What is lent to a step is taken into these, and put back after it: no step needs more slots.
+/// Holds what is lent to one step, which needs at most four slots.
 pub(crate) type Hands = [Held; 4];
 
 pub(crate) fn new_hands(alloc: Global) -> Hands {
     [vacant(alloc), vacant(alloc), vacant(alloc), vacant(alloc)]
 }
 
-/// The slots of a tree of the root alone.
+/// The slots of a new tree. Errors: memory ran out.
 pub(crate) fn new_slots(alloc: Global, nodes: usize) -> Result<Vec<Held>, AllocError>
     requires { nodes ≤ TREE_NODES }
     ensures { IfOk result (λ slots. slots.items ≡ lent.filled root Dir
@@ -50,7 +50,7 @@ pub(crate) fn new_slots(alloc: Global, nodes: usize) -> Result<Vec<Held>, AllocE
     Ok(slots)
 }
 
-/// What lies in the slots of these numbers, and what is lent, change places.
+/// Exchanges the contents of the slots of these numbers with `lent`.
 pub(crate) fn trade(slots: &mut [Held], numbers: &[u64], lent: &mut [Held])
     requires same { length lent.old ≡ length numbers.now }
     requires there { AllByRecursion (λ number. number < length slots.old) numbers.now }

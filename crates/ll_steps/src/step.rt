@@ -1,4 +1,4 @@
-//! Any step, and any list of them.
+//! Makes any step, and any list of them.
 
 ghost use Rattle.std.specs.Prelude.{◌≡◌, OnErr, IfOk};
 ghost use Rattle.ll_steps.specs.Headline.{IsHeadline, IsLawful};
@@ -10,7 +10,7 @@ use ll_laws::Step;
 use ll_seq::Call;
 use std::alloc::AllocError;
 
-/// Of a call that came back.
+/// The report of a call, or NotNow if it was given back.
 fn or_not_now(made: Result<Report, Call>) -> Report
     ensures made { IfOk made (λ outcome. result ≡ outcome) }
     ensures back { OnErr made (result ≡ Report.NotNow) }
@@ -22,14 +22,14 @@ fn or_not_now(made: Result<Report, Call>) -> Report
 }
 
 impl World {
-    /// What holds of it, whatever was done before. Takes no memory.
+    /// Does nothing when it runs. Its contract: what holds of every world, after any steps.
     pub(crate) fn by_law(&self)
         ensures { IsLawful self.now }
     {
         let _journal = &self.journal;
     }
 
-    /// One step. Where it isn't enabled nothing has changed.
+    /// Makes one step. If it isn't enabled, nothing changes.
     pub fn step(&mut self, step: Step) -> Report
         ensures makes { Makes self.old step result self.new }
         ensures lawful { IsLawful self.new }
@@ -48,8 +48,7 @@ impl World {
         outcome
     }
 
-    /// All these steps, in their order. Room for the outcomes is taken first. Errors: there is none, and no step was
-    /// made.
+    /// Makes all steps in order. Errors: memory for the reports ran out, and no step was made.
     pub fn run(&mut self, steps: Vec<Step>) -> Result<Vec<Report>, AllocError>
         ensures ran { IfOk result (λ outcomes. IsHeadline self.old steps.items outcomes.items self.new) }
         ensures not_run { OnErr result (self.new ≡ self.old) }

@@ -21,7 +21,7 @@ use ll_node::Held;
 use ll_rights::Errno;
 use ll_seq::Call;
 
-/// The same, where enough was lent.
+/// The report of a step that was lent enough slots.
 fn told(outcome: Progress) -> Report
     requires { outcome ≢ Progress.Astray }
     ensures { result ≡ told_as outcome }
@@ -35,7 +35,7 @@ fn told(outcome: Progress) -> Report
     }
 }
 
-/// What comes of a commit that was lent enough, where the history's next entry has this number.
+/// The report of a commit that was lent enough slots. `number` is that of the history's next entry.
 fn ended(number: u64, ending: Ending) -> Report
     requires { ending ≢ Ending.Astray }
     ensures { result ≡ ended_as number ending }
@@ -49,7 +49,7 @@ fn ended(number: u64, ending: Ending) -> Report
     }
 }
 
-/// The client's walk, which is above the root, goes to it; it lies in this slot.
+/// Moves the client's walk from above the root to the root, which is in this slot.
 pub(crate) fn enter_at(journal: &mut Journal, slots: &mut [Held], client: u64, slot: u64) -> Report
     requires kept { IsKept journal.old slots.old }
     requires top { is_at_top journal.old.world client ≡ true }
@@ -62,7 +62,7 @@ pub(crate) fn enter_at(journal: &mut Journal, slots: &mut [Held], client: u64, s
     told(journal.enter(client, slot, root))
 }
 
-/// The client's walk goes down from the directory in the one slot to that in a later one.
+/// Descends from the directory in slot `from` to the one in a higher slot `to`.
 fn descend_forth(
     journal: &mut Journal,
     slots: &mut [Held],
@@ -82,7 +82,7 @@ fn descend_forth(
     told(journal.descend_to(client, from, &mut front[from as usize], to, &mut back[0]))
 }
 
-/// The same to an earlier one.
+/// Descends from the directory in slot `from` to the one in a lower slot `to`.
 fn descend_back(
     journal: &mut Journal,
     slots: &mut [Held],
@@ -102,7 +102,7 @@ fn descend_back(
     told(journal.descend_to(client, from, &mut back[0], to, &mut front[to as usize]))
 }
 
-/// The client's walk goes down from the directory in the one slot to that in the other.
+/// Descends from the directory in slot `from` to the one in slot `to`.
 pub(crate) fn descend_between(
     journal: &mut Journal,
     slots: &mut [Held],
@@ -117,7 +117,7 @@ pub(crate) fn descend_between(
     ensures makes { Makes journal.old.world (steps.Descend client) result journal.new.world }
     ensures kept { IsKept journal.new slots.new }
 {
-    // No directory has its own slot as a child's; this is what lets both be lent at once.
+    // A directory and its child never share a slot, which is why both can be lent at once.
     if from == to {
         return Report::NotNow;
     }
@@ -128,7 +128,7 @@ pub(crate) fn descend_between(
     }
 }
 
-/// The client's walk is answered, with these slots, for whose contents something is lent.
+/// Commits the client's walk with these slots. `lent` has room for their contents.
 fn commit_lent(
     journal: &mut Journal,
     slots: &mut [Held],
@@ -152,7 +152,7 @@ fn commit_lent(
     ended(number, ending)
 }
 
-/// The same, with these hands.
+/// Commits the client's walk with these slots. `hands` has room for their contents.
 pub(crate) fn commit_with(
     journal: &mut Journal,
     slots: &mut [Held],
@@ -172,7 +172,7 @@ pub(crate) fn commit_with(
     commit_lent(journal, slots, client, numbers, &mut hands[..numbers.len()])
 }
 
-/// The client's walk leaves what is common to both paths.
+/// Splits the client's walk into one leg for each path.
 pub(crate) fn fork_in(journal: &mut Journal, slots: &[Held], client: u64) -> Report
     requires { IsKept journal.old slots.now }
     ensures makes { Makes journal.old.world (steps.Fork client) result journal.new.world }
@@ -181,7 +181,7 @@ pub(crate) fn fork_in(journal: &mut Journal, slots: &[Held], client: u64) -> Rep
     told(journal.fork(client))
 }
 
-/// The client's stale walk starts again, with these slots.
+/// Restarts the client's stale walk with these slots.
 pub(crate) fn restart_with(
     journal: &mut Journal,
     slots: &mut [Held],
@@ -205,7 +205,7 @@ pub(crate) fn restart_with(
 }
 
 impl World {
-    /// The client's call sets out, or comes back where it may not.
+    /// Begins the walk of the client's call. Errors: the call, if it may not begin.
     pub(crate) fn begin(&mut self, client: u64, call: Call) -> Result<Report, Call>
         ensures makes { IfOk result (λ outcome. Makes self.old (steps.Begin client call) outcome self.new) }
         ensures begun { IfOk result (λ outcome. outcome ≡ Report.Begun) }
@@ -217,7 +217,7 @@ impl World {
         Ok(Report::Begun)
     }
 
-    /// The client's walk, which is above the root, goes to it.
+    /// Moves the client's walk from above the root to the root.
     fn enter(&mut self, client: u64) -> Report
         requires { is_at_top self.old client ≡ true }
         ensures { Makes self.old (steps.Descend client) result self.new }
@@ -226,7 +226,7 @@ impl World {
         enter_at(&mut self.journal, &mut self.slots, client, slot)
     }
 
-    /// The client's walk goes one directory further.
+    /// Descends by one name.
     pub(crate) fn descend(&mut self, client: u64) -> Report
         ensures { Makes self.old (steps.Descend client) result self.new }
     {
@@ -245,14 +245,14 @@ impl World {
         descend_between(&mut self.journal, &mut self.slots, client, from, to)
     }
 
-    /// The client's walk leaves what is common to both paths.
+    /// Splits the client's walk into one leg for each path.
     pub(crate) fn fork(&mut self, client: u64) -> Report
         ensures { Makes self.old (steps.Fork client) result self.new }
     {
         fork_in(&mut self.journal, &self.slots, client)
     }
 
-    /// The client's walk is answered.
+    /// Commits the client's walk, which answers its call.
     pub(crate) fn commit(&mut self, client: u64) -> Report
         ensures { Makes self.old (steps.Commit client) result self.new }
     {
@@ -272,7 +272,7 @@ impl World {
         )
     }
 
-    /// The client's stale walk starts again.
+    /// Restarts the client's stale walk.
     pub(crate) fn restart(&mut self, client: u64) -> Report
         ensures { Makes self.old (steps.Restart client) result self.new }
     {

@@ -1,4 +1,4 @@
-//! The tree with its walks.
+//! The shared tree with the walks under way.
 
 ghost use Rattle.std.specs.Prelude.{◌≡◌, ◌≤◌, IfOk};
 ghost use Rattle.ll_rights.specs.declared.limits.TheConstants.{HISTORY_ENTRIES, TREE_NODES};
@@ -10,7 +10,7 @@ use ll_seq::{History, Rules};
 use std::alloc::{AllocError, Global};
 use std::marker::Model;
 
-/// A tree that clients share, and what is under way in it. Contracts see it as ll_worlds' world.
+/// A shared tree with the walks under way. Contracts see it as the world of ll_laws.
 #[derive(Drop)]
 pub struct World {
     pub(crate) alloc: Global,
@@ -39,8 +39,8 @@ impl World {
     ghost use Rattle.ll_laws.specs.World.{new_world, shown};
     ghost use Rattle.ll_journal.specs.Stations.{station_in};
 
-    /// A tree of the root alone, in which so many nodes may live, without a client. Room is taken for so many entries
-    /// of the history.
+    /// Returns a tree with only the root and no clients, for at most `nodes` nodes. Reserves room for `history`
+    /// entries. Errors: memory ran out.
     pub fn new(
         alloc: Global,
         rules: Rules,
@@ -61,21 +61,21 @@ impl World {
         })
     }
 
-    /// The history of all calls.
+    /// Returns the history of all calls.
     pub fn history(&self) -> &History
         ensures { result.now ≡ record { entries = self.now.history; limit = self.now.limit } }
     {
         self.journal.history()
     }
 
-    /// How many clients there are. They have the numbers from 1 on.
+    /// Returns the number of clients. They are numbered from 1.
     pub fn clients(&self) -> u64
         ensures { result ≡ len (shown self.now).clients }
     {
         self.journal.clients()
     }
 
-    /// Where the client's walk is.
+    /// Returns where the client's walk is.
     pub fn station(&self, client: u64) -> Station
         ensures { result ≡ station_in self.now client }
     {

@@ -1,4 +1,4 @@
-//! The words of calls, read by small functions, since one that does all of it is slow to prove.
+//! Parses calls by small functions: a single one is slow to prove.
 
 use ll_path::{Target, Word};
 use std::alloc::Global;
@@ -14,7 +14,7 @@ fn read(word: Word) -> Target {
     Target::read(word)
 }
 
-/// What the text spells.
+/// The text as a path argument.
 pub fn target(alloc: Global, text: &str) -> Option<Target> {
     match word(alloc, text) {
         Some(word) => Some(read(word)),

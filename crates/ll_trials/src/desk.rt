@@ -1,4 +1,4 @@
-//! A tree with one client, and its child: the client's walk makes a directory, with two slots lent.
+//! A tree with one client and its child. The client's walk creates a directory, with two slots lent.
 
 ghost use Rattle.std.specs.Prelude.{◌≡◌, true};
 
@@ -17,7 +17,7 @@ const RULES: Rules = Rules {
     copies: true,
 };
 
-/// Whether the client's call to make this directory sets out.
+/// Whether the walk of the client's mkdir begins.
 fn sets_out<N: Shape>(
     alloc: Global,
     tie: &Tie<N, Account>,
@@ -33,7 +33,7 @@ fn sets_out<N: Shape>(
     is_begun
 }
 
-/// Whether the walk is told to be answered next, with the root's slot and this one.
+/// Whether the walk's next step is its commit, with the root's slot and this one.
 fn ends_with<N: Shape>(
     tie: &Tie<N, Account>,
     desk: &mut Desk<N>,
@@ -47,7 +47,7 @@ fn ends_with<N: Shape>(
     }
 }
 
-/// Whether the directory is made.
+/// Whether the directory is created.
 fn makes<N: Shape>(
     alloc: Global,
     tie: &Tie<N, Account>,
@@ -74,12 +74,12 @@ fn spawns<N: Shape>(tie: &Tie<N, Account>, desk: &mut Desk<N>, me: &mut Client<N
     is_there
 }
 
-/// What may go to another thread.
+/// Compiles only if the value may go to another thread.
 fn sent<T: Send>(value: &T) {
     let _ = value;
 }
 
-/// A new tree. Its last free slot is the first client's.
+/// Opens a tree. Its last free slot is the first client's spare.
 fn begins<N: Shape + Send>(alloc: Global, blank: Blank<Account>) -> bool
     requires named { blank ≡ N.table }
     requires slots { N.slots ≡ 128 }

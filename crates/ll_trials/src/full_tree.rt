@@ -1,4 +1,4 @@
-//! A tree in which as many nodes live as may, while the walks of all clients but one stand in it.
+//! A full tree, in which the walks of all clients but one are under way.
 
 ghost use Rattle.std.specs.Prelude.{◌≡◌, ◌+◌, true};
 ghost use Rattle.ll_rights.specs.declared.limits.TheConstants.{TREE_CLIENTS};
@@ -32,25 +32,25 @@ const WALKS: usize = 63;
 /// The maker's connect, its 63 directories and its file, 63 connects, a refused make, an unlink, a make, and 63 walks.
 const ENTRIES: usize = 194;
 
-/// How often a thread looks, at most, whether the others have come so far.
+/// The most times that a thread looks whether the others have come so far.
 const TURNS: u64 = 10_000_000;
 
 const ROOT: u64 = 1;
 
-/// How many walks stand in their directories, and whether they may go on.
+/// The number of walks held in their directories, and whether they may go on.
 #[derive(Drop)]
 struct Flags {
     held: AtomicU64,
     goes_on: AtomicU64,
 }
 
-/// Holds all walks of other clients than the first in their directories.
+/// Holds the walks of all clients but the first in their directories.
 #[derive(Drop)]
 struct Standing {
     flags: Arc<Flags, Global>,
 }
 
-/// Waits until the number is as great, and tells whether it is.
+/// Waits until the number is as great. Returns whether it is.
 fn waits_for(number: &AtomicU64, wanted: u64) -> bool {
     for _ in 0..TURNS {
         if number.load(Ordering::SeqCst) >= wanted {
@@ -71,7 +71,7 @@ impl<N: Shape> Gate<N> for Standing {
     }
 }
 
-/// The path of the walk's directory, or of a name in it that isn't there.
+/// The path of the walk's directory, or of a missing name in it.
 fn path_of(alloc: Global, walk: usize, tail: &str) -> Option<Target> {
     let mut text = String::from_str(alloc, "/").ok()?;
     let number = (walk % 100) as u8;
@@ -86,7 +86,7 @@ fn path_of(alloc: Global, walk: usize, tail: &str) -> Option<Target> {
     target(alloc, text.as_str())
 }
 
-/// What comes of a make of the kind.
+/// Creates a node of this kind.
 fn makes<N: Shape>(
     rt: &impl Wait,
     tree: &Tree<N, Standing>,
@@ -114,7 +114,7 @@ fn furnishes<N: Shape>(
     makes(rt, tree, me, Kind::Reg, target(alloc, "/f")).is_ok()
 }
 
-/// Whether, with all walks standing, the maker finds no room for a node, and has some once a file is gone.
+/// Whether, while all walks are held, the maker finds no room for a node, and finds room after it removed a file.
 fn finds_no_room<N: Shape>(
     rt: &impl Wait,
     alloc: Global,
@@ -133,7 +133,7 @@ fn finds_no_room<N: Shape>(
     are_held && first == Err(Refused::Errno(Errno::ENOSPC)) && is_gone && second.is_ok()
 }
 
-/// The client whose walk stood in its directory, where it then found nothing under the name.
+/// Returns the client whose walk was held in its directory, if it then found nothing under the name.
 fn walks<N: Shape>(
     rt: &impl Wait,
     alloc: Global,
@@ -148,7 +148,7 @@ fn walks<N: Shape>(
     }
 }
 
-/// Whether the tree closes with all clients, and its history is legal and has all calls.
+/// Whether the tree closes with all clients, and its history is legal and complete.
 fn closes<N: Shape>(
     alloc: Global,
     tree: Tree<N, Standing>,

@@ -1,5 +1,5 @@
-//! Devices for tests. They give and take one byte at a time, and fail once their calls are used up. The sink counts how
-//! often it failed.
+//! Devices for tests. They read and write one byte at a time, and fail after their calls are used up. The sink counts
+//! its failures.
 
 ghost use Rattle.std.specs.Prelude.{Some};
 
@@ -64,7 +64,7 @@ impl Write for Sink {
     }
 }
 
-/// Takes one byte at a time, and none once its calls are used up. It counts how often it took none.
+/// Writes one byte at a time, and none after its calls are used up. Counts how often it wrote none.
 #[derive(Drop)]
 pub struct Stuck {
     pub held: Vec<u8>,

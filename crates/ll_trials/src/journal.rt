@@ -1,5 +1,4 @@
-//! A journal, by hand, as far as a step is lent no slot: two clients would rename, and the first of them holds the
-//! gate.
+//! A journal without lent slots: two clients try to rename, and the first holds the gate.
 
 use crate::calls::target;
 use ll_journal::{Journal, Made, Progress, Station};
@@ -12,7 +11,7 @@ const RULES: Rules = Rules {
     copies: true,
 };
 
-/// Whether the client's call on itself is answered, to the client and by the journal's last entry.
+/// Whether the client's spawn is answered, to the client and in the journal's last entry.
 fn spawns(journal: &mut Journal, client: u64) -> bool {
     let answered = journal.client_step(client, Call::Spawn);
     let is_answered = matches!(&answered, Ok(Made::Replied(Reply::Spawned(2))));
@@ -23,7 +22,7 @@ fn spawns(journal: &mut Journal, client: u64) -> bool {
     }
 }
 
-/// Whether the client's rename sets out.
+/// Whether the walk of the client's rename begins.
 fn renames(journal: &mut Journal, alloc: Global, client: u64) -> bool {
     let Some(old) = target(alloc, "/a") else {
         return false;

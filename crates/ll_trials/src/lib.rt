@@ -1,10 +1,10 @@
-//! Tests of what no clause of the libraries says: that calls find memory, and values from outside of the repository.
+//! Tests of what no contract of the libraries covers: that calls find memory, and values from outside the repository.
 //!
-//! A crate with tests is proved twice, so the libraries have none of their own. They are tables of plain data, gone
-//! through by small functions, since that is quick to prove: a call that is let go costs the prover 16 s at each place
-//! where its scope ends, and 1.5 s in all by `drop`.
+//! A crate with tests is proved twice, so the libraries have none of their own. The tests are tables of plain data with
+//! small functions, since that is quick to prove: dropping a call costs the prover 16 s at each place where its scope
+//! ends, and 1.5 s in all by an explicit `drop`.
 //!
-//! Each public call that takes memory is run once with enough of it, by the built program (worked/) or here:
+//! Each public function that takes memory is run once with enough of it, by the built program (worked/) or here:
 //!
 //! | library | by worked/ | here |
 //! |---|---|---|
@@ -14,19 +14,20 @@
 //! | ll_seq | all but the counts of nodes, and histories | these: `seq`, `saved` |
 //! | ll_node | | all of `Slot`: `node` |
 //! | ll_plain | `Plain::new`, each call of `Plain::apply` | `Plain::reach`, which takes none: `plain` |
-//! | ll_wire | `read_command`, `reply_text` | `command_text`, `read_reply`: `wire`; entries and headers: `saved` |
+//! | ll_wire | `read_command`, `reply_text` | `command_text`, `read_reply`: `wire` |
+//! | | `Line::new`, `Line::push` | entries and headers: `saved` |
 //! | ll_policy | | all of `Policy`: `policy` |
-//! | ll_audit, ll_saved | all but `audit` | `audit`; `save`, `run_audit` with devices that fail: `saved` |
-//! | ll_tie | | all: `tie` |
+//! | ll_audit | all but `audit` | `audit`; `save`, `run_audit` with devices that fail: `saved` |
+//! | ll_client | | `Blank`, `Tie`, `Keeper`, `Pass`: `tie` |
+//! | | | `open`, `connect`, `spawn`; `begin`, `enter`, `next_step`, `leave_2`: `desk` |
 //! | ll_journal | | `Journal::new`, `connect`, `client_step`; `begin`, which takes none: `journal` |
-//! | ll_client | | `open`, `connect`, `spawn`; `begin`, `enter`, `next_step`, `leave_2`: `desk` |
 //! | ll_walk | | `Table::open`, `connect`, `call`: `threads` |
 //! | ll_calls | | `Tree::open`, `connect`, `meet`, `close` and calls: `shared_tree` |
-//! | ll_lines | `Line::new` and `push` | |
 //! | ll_session | `run_script` | with devices that fail: `session` |
-//! | ll_steps | `World::new`, `step`, `make` | `World::run`: `steps`; `read`, `list`, whose replies are copied: `replies` |
+//! | ll_steps | `World::new`, `step`, `make` | `World::run`: `steps` |
+//! | | | `read`, `list`, whose replies are copied: `replies` |
 //!
-//! ll_decide and ll_answer take no memory that may be missing.
+//! ll_decide takes no memory that may be missing.
 #![tactic(auto)]
 
 #[cfg(test)]

@@ -1,4 +1,4 @@
-//! One node behind its lock: what its calls answer, and what it holds then.
+//! One node behind its lock: the results of its calls, and its contents after them.
 
 use ll_node::Slot;
 use ll_path::Name;
@@ -16,7 +16,7 @@ enum SlotCall {
     SetLen(u64),
 }
 
-/// What is answered: the inode that had the name, or 0, or why not.
+/// The result: the inode that had the name, 0, or the refusal.
 type Told = Result<u64, Errno>;
 
 fn insert(slot: &mut Slot, name: &str, inode: u64) -> Told {

@@ -1,9 +1,9 @@
-//! The longest common beginning of two paths, by whole names.
+//! The longest common prefix of two paths, by whole names.
 
 use ll_path::{Names, Path, Word};
 use std::alloc::Global;
 
-/// Two paths, and the names with which both begin.
+/// Two paths, and the names that both begin with.
 const PATHS: &[(&str, &str, &[&str])] = &[
     ("/", "/", &[]),
     ("/", "/a", &[]),
@@ -33,7 +33,7 @@ fn are(mut names: Names<'_>, want: &[&str]) -> bool {
     names.next().is_none()
 }
 
-/// Whether both paths, each asked of the other, begin with these names and no more.
+/// Whether these are the names that both paths begin with, in either order of the two.
 fn have_in_common(alloc: Global, one: &str, other: &str, want: &[&str]) -> bool {
     match (path(alloc, one), path(alloc, other)) {
         (Some(one), Some(other)) => are(one.common(&other), want) && are(other.common(&one), want),

@@ -1,4 +1,4 @@
-//! Documents of policies: the faults that they are told, and the calls that they stand for.
+//! Policies: the faults of bad documents, and the calls of good ones.
 
 use ll_commands::{Confinement, json_text};
 use ll_options::{Denied, ExportOptions, Form};
@@ -11,7 +11,7 @@ fn fault(alloc: Global, text: &str) -> Option<PolicyFault> {
     Policy::from_text(alloc, text).err()
 }
 
-/// The first of what is wrong with each document.
+/// The first fault of each document.
 const FAULTS: &[(&str, PolicyFault)] = &[
     ("", PolicyFault::MissingKey),
     ("version = \"1\"", PolicyFault::WrongType),
@@ -129,7 +129,7 @@ fn faults(rt: HostRuntime) {
     }
 }
 
-/// A call that a policy may stand for. Of a write there is only the offset, and how many bytes.
+/// A call of a policy. For a write, only its offset and its number of bytes.
 #[derive(Clone, Copy)]
 enum Want {
     Make(Kind, &'static str),
@@ -233,7 +233,7 @@ fn reader(rt: HostRuntime) {
     assert!(rt; is_read(rt.alloc()) == Ok(true));
 }
 
-/// A profile of two layers, of which the first has a rule.
+/// A profile of two layers, the first with one rule.
 const TWO_LAYERS: &str = "version = 1\n[[profile.p.layer]]\nhandled = \"write_file,refer\"\n\
     [[profile.p.layer.rule]]\npath = \"/\"\nrights = \"refer\"\n\
     [[profile.p.layer]]\nhandled = \"truncate\"\n";

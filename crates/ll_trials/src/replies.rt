@@ -1,4 +1,4 @@
-//! Replies that hold bytes or names: memory for the history's and for the caller's is found, and for a copy of them.
+//! Replies that hold bytes or names: memory suffices for the history's copy, the caller's, and one more.
 
 use crate::calls::target;
 use ll_laws::Step;
@@ -19,7 +19,7 @@ const NEW_FILE: Mode = Mode {
     creation: Creation::IfMissing,
 };
 
-/// Whether the first client's call is answered by what may be copied.
+/// Whether the first client's call gets a reply that can be copied.
 fn is_answered(alloc: Global, world: &mut World, call: Call) -> bool {
     let Report::Replied(number) = world.make(1, call) else {
         return false;

@@ -1,4 +1,4 @@
-//! Rights as the kernel's header numbers and names them.
+//! The rights, with the numbers and names of the kernel's header.
 
 use ll_rights::Right;
 

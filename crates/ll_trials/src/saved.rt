@@ -1,4 +1,4 @@
-//! Files of histories, and audits.
+//! History files and audits.
 
 ghost use Rattle.std.specs.Prelude.{◌≡◌};
 
@@ -14,7 +14,7 @@ const RULES: Rules = Rules {
     copies: true,
 };
 
-/// Files, and what an audit answers: worked examples.
+/// Files and their verdicts: worked examples.
 const FILES: &[(&str, &str)] = &[
     (
         "\
@@ -222,7 +222,7 @@ landtree-history 3 nodes 64 abi 3
 
 const ANSWER: &[u8] = b"legal 1\n";
 
-/// So many calls are never made.
+/// More calls than are ever made.
 const ENOUGH: usize = 1_000_000;
 
 fn sink(alloc: Global, writes: usize) -> Sink {
@@ -233,7 +233,7 @@ fn sink(alloc: Global, writes: usize) -> Sink {
     }
 }
 
-/// Saves a history of a connect by a writer that takes so many writes before it fails.
+/// Saves a history of one connect with a writer that fails after this many writes.
 fn saved(alloc: Global, writes: usize) -> (Result<(), SaveFault>, Sink) {
     let mut writer = sink(alloc, writes);
     let entries = [connect()];
@@ -242,7 +242,7 @@ fn saved(alloc: Global, writes: usize) -> (Result<(), SaveFault>, Sink) {
     (ended, writer)
 }
 
-/// Whether the write after so many fails once and ends the saving, and what came before it is right.
+/// Whether the write after this many fails once and ends the saving, and everything before it is right.
 fn stops_saving(alloc: Global, writes: usize) -> bool {
     let (ended, writer) = saved(alloc, writes);
     if writes >= SAVED.len() {
@@ -260,7 +260,7 @@ fn saving_stops_at_a_failed_write(rt: HostRuntime) {
     }
 }
 
-/// Audits the history by devices that take so many calls before they fail.
+/// Audits the history with devices that fail after this many calls.
 fn audited(alloc: Global, reads: usize, writes: usize) -> (Result<Verdict, FileAuditFault>, Sink) {
     let mut reader = Source {
         rest: SAVED,
@@ -271,7 +271,7 @@ fn audited(alloc: Global, reads: usize, writes: usize) -> (Result<Verdict, FileA
     (ended, writer)
 }
 
-/// Whether the read after so many fails and ends the audit without an answer.
+/// Whether the read after this many fails and ends the audit without a verdict.
 fn stops_reading(alloc: Global, reads: usize) -> bool {
     let (ended, writer) = audited(alloc, reads, ENOUGH);
     if reads > SAVED.len() {
@@ -280,7 +280,7 @@ fn stops_reading(alloc: Global, reads: usize) -> bool {
     ended == Err(FileAuditFault::Read) && writer.held.is_empty()
 }
 
-/// Whether the write after so many fails and ends the audit, and what came before it is right.
+/// Whether the write after this many fails and ends the audit, and everything before it is right.
 fn stops_answering(alloc: Global, writes: usize) -> bool {
     let (ended, writer) = audited(alloc, ENOUGH, writes);
     if writes >= ANSWER.len() {

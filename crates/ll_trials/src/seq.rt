@@ -1,4 +1,4 @@
-//! The counts of nodes, and copies of rulesets, which the program doesn't use.
+//! The counts of nodes, and copies of rulesets. The program doesn't use them.
 
 use ll_rights::{Abi, Access, Kind};
 use ll_rules::Ruleset;

@@ -1,7 +1,7 @@
 //! Sessions over devices that fail.
 //!
-//! The scenes are in worked/ at the top of the repository: the built program runs them. What is run and compared is in
-//! small functions, each slow thing once, since that is quick to prove.
+//! The scenes are in worked/ at the top of the repository, and the built program runs them. The functions here are
+//! small, and run each slow thing once, since that is quick to prove.
 
 use crate::fuse::{Sink, Source, Stuck};
 use ll_rights::Abi;
@@ -49,7 +49,7 @@ fd 0
 refused 23 BadLine
 ";
 
-/// So many calls are never made.
+/// More calls than are ever made.
 const ENOUGH: usize = 1_000_000;
 
 #[derive(Clone, Copy, PartialEq, Eq)]
@@ -69,7 +69,7 @@ fn how(ended: &Result<History, RunFault>) -> Ended {
     }
 }
 
-/// Runs the ten lines with a reader and a writer that take so many calls before they fail.
+/// Runs the ten lines with a reader and a writer that fail after this many calls.
 fn run<R: Wait>(rt: &R, alloc: Global, reads: usize, writes: usize) -> (Ended, Sink) {
     let mut reader = Source {
         rest: TEN_LINES,
@@ -86,7 +86,7 @@ fn run<R: Wait>(rt: &R, alloc: Global, reads: usize, writes: usize) -> (Ended, S
     (how, writer)
 }
 
-/// How many bytes are written before the read after so many fails, where it does and they are right.
+/// The number of bytes written before the read after this many fails, if it does and they are right.
 fn written<R: Wait>(rt: &R, alloc: Global, reads: usize) -> Option<usize> {
     let (ended, writer) = run(rt, alloc, reads, ENOUGH);
     let want = if reads > TEN_LINES.len() {
@@ -115,7 +115,7 @@ fn reads_fail(rt: HostRuntime) {
     assert!(rt; most == TEN_REPLIES.len());
 }
 
-/// Whether the write after so many fails once and ends the run, and what came before it is right.
+/// Whether the write after this many fails once and ends the run, and everything before it is right.
 fn fails_once<R: Wait>(rt: &R, alloc: Global, writes: usize) -> bool {
     let (ended, writer) = run(rt, alloc, ENOUGH, writes);
     if writes >= TEN_REPLIES.len() {
@@ -138,7 +138,7 @@ fn writes_fail(rt: HostRuntime) {
     }
 }
 
-/// Whether a write that takes no byte ends the run, and what came before it is right.
+/// Whether a write that takes no byte ends the run, and everything before it is right.
 fn stops_once<R: Wait>(rt: &R, alloc: Global, writes: usize) -> bool {
     let mut reader = Source {
         rest: TEN_LINES,
@@ -168,7 +168,7 @@ fn writes_take_nothing(rt: HostRuntime) {
     }
 }
 
-/// How many bytes the first so many lines have.
+/// The number of bytes in the first lines.
 fn lines_end(text: &[u8], lines: usize) -> usize {
     let mut left = lines;
     for (at, byte) in text.iter().enumerate() {
@@ -182,8 +182,8 @@ fn lines_end(text: &[u8], lines: usize) -> usize {
     text.len()
 }
 
-/// Whether an input that ends after so many bytes gets the replies to its whole lines, and the piece after the last
-/// line feed, if there is one, is a bad line.
+/// Whether an input that ends after this many bytes gets the replies to its whole lines, and anything after the last
+/// line feed is a bad line.
 fn ends_well<R: Wait>(rt: &R, alloc: Global, bytes: usize) -> bool {
     let Some(input) = TEN_LINES.get(..bytes) else {
         return false;

@@ -1,5 +1,5 @@
-//! A tree that threads share, through its calls: clients that meet, four that work side by side, a race, a list of
-//! clients that isn't whole, and a full history.
+//! A tree that threads share, through its calls: clients that meet, four that work in parallel, a race, an incomplete
+//! list of clients, and a full history.
 
 ghost use Rattle.std.specs.Prelude.{◌≡◌, ◌+◌, true};
 ghost use Rattle.ll_rights.specs.declared.limits.TheConstants.{TREE_CLIENTS};
@@ -59,7 +59,7 @@ fn makes<N: Shape>(
     }
 }
 
-/// The inode under the path, 0 where there is none.
+/// The inode of the path, 0 if there is none.
 fn inode_at<N: Shape>(
     rt: &impl Wait,
     alloc: Global,
@@ -76,7 +76,7 @@ fn inode_at<N: Shape>(
     }
 }
 
-/// Whether the tree closes with these clients, its history is legal, and has so many entries.
+/// Whether the tree closes with these clients, and its history is legal and has this many entries.
 fn closes<N: Shape>(
     alloc: Global,
     tree: Tree<N, NoGate>,
@@ -92,8 +92,8 @@ fn closes<N: Shape>(
     }
 }
 
-/// Whether a client that has met the maker of a directory finds it, and the tree closes with both clients, and with
-/// neither missing.
+/// Whether a client that has met the maker of a directory finds it, and the tree closes with both clients but not with
+/// one.
 fn meet<N: Shape>(rt: &impl Wait, alloc: Global, tree: Tree<N, NoGate>) -> bool {
     let (Ok(mut one), Ok(mut other)) = (tree.connect(rt), tree.connect(rt)) else {
         return false;
@@ -127,7 +127,7 @@ fn file_path(alloc: Global, directory: &str, client: u8, number: u8) -> Option<T
     target(alloc, text.as_str())
 }
 
-/// Whether all of the client's files are made in one directory, and moved into the other.
+/// Whether all of the client's files are created in one directory and moved into the other.
 fn works<N: Shape>(
     rt: &impl Wait,
     alloc: Global,
@@ -152,7 +152,7 @@ fn works<N: Shape>(
     true
 }
 
-/// How many entries the client of the number has.
+/// The number of entries of this client.
 fn entries_of(history: &History, client: u64) -> usize {
     let mut count = 0usize;
     for entry in history.entries() {
@@ -171,7 +171,7 @@ fn list<N: Shape>(alloc: Global, four: [Client<N>; 4]) -> Option<Vec<Client<N>>>
     Some(clients)
 }
 
-/// Whether four clients in four threads make and move their files, and each has its entries.
+/// Whether four clients in four threads create and move their files, and each has its entries.
 fn four_work<N: Shape + Send + Sync, R: Threads + Wait + Sync>(
     rt: &R,
     alloc: Global,
@@ -223,7 +223,7 @@ fn is_shared_out(alloc: Global, history: &History) -> bool {
         && is_legal(alloc, history)
 }
 
-/// Whether the client confines itself to reading files beneath `/pub`.
+/// Whether the client confines itself to reading files below `/pub`.
 fn confines<N: Shape>(
     rt: &impl Wait,
     alloc: Global,
@@ -238,7 +238,7 @@ fn confines<N: Shape>(
         && tree.confine(rt, me, 0).is_ok()
 }
 
-/// How often the client came to read `/pub/f`, and how often it was denied.
+/// How often the client could read `/pub/f`, and how often it was denied.
 fn reads<N: Shape>(
     rt: &impl Wait,
     alloc: Global,
@@ -264,7 +264,7 @@ fn reads<N: Shape>(
     (opened, denied)
 }
 
-/// Whether the two directories are exchanged again and again, and a file is linked from the one into the other.
+/// Whether the two directories are exchanged again and again, and a file is linked from one into the other.
 fn exchanges<N: Shape>(
     rt: &impl Wait,
     alloc: Global,
@@ -303,8 +303,8 @@ fn furnishes<N: Shape>(
         && makes(rt, alloc, tree, me, Kind::Reg, "/pub/f")
 }
 
-/// Whether each opening of a confined client is allowed or denied as the path stood then, though another client
-/// exchanges the directory for one where it may not read.
+/// Whether each open of a confined client is allowed or denied as the path was at that moment, while another client
+/// exchanges the directory for one that it may not read.
 fn race<N: Shape + Send + Sync, R: Threads + Wait + Sync>(
     rt: &R,
     alloc: Global,
@@ -336,8 +336,8 @@ fn race<N: Shape + Send + Sync, R: Threads + Wait + Sync>(
     }
 }
 
-/// Whether a client that finds no room in the history is told so, and the first one, which knows of its own entry
-/// alone, catches up with both.
+/// Whether a client that finds no room in the history gets HistoryFull, and the first client, which knew only of its
+/// own entry, catches up with both.
 fn fills<N: Shape>(rt: &impl Wait, tree: Tree<N, NoGate>) -> bool {
     let (Ok(mut one), Ok(other)) = (tree.connect(rt), tree.connect(rt)) else {
         return false;

@@ -1,7 +1,5 @@
-//! Worked schedules, whose steps are made by `run`: those that stand in a row are one list. A call that a line has made
-//! at once, by `do`, stands between two lists.
-//!
-//! The schedules and what comes of them are those of worked/schedule-*, but for one whose lines spell nothing.
+//! Worked schedules. Consecutive steps are one list and made by `run`; a call made at once, by `do`, separates two
+//! lists.
 
 ghost use Rattle.std.specs.Prelude.{◌≤◌};
 ghost use Rattle.ll_rights.specs.declared.limits.TheConstants.{HISTORY_ENTRIES};
@@ -19,7 +17,7 @@ const RULES: Rules = Rules {
     copies: true,
 };
 
-/// So many clients may come, of which lines may tell.
+/// The most clients, which lines may name.
 const CLIENTS: u64 = 64;
 
 /// A line with a number.
@@ -28,7 +26,7 @@ fn number_line(alloc: Global, word: &str, number: u64) -> Result<String, AllocEr
     line_text(alloc, word, &[number.as_str()])
 }
 
-/// What is told of an outcome, after which the history has these entries.
+/// The text of an outcome, given the history after it.
 fn told(alloc: Global, entries: &[Entry], outcome: Report) -> Result<String, AllocError> {
     match outcome {
         Report::NotNow => line_text(alloc, "NotNow", &[]),
@@ -45,7 +43,7 @@ fn told(alloc: Global, entries: &[Entry], outcome: Report) -> Result<String, All
     }
 }
 
-/// A tree, the steps that are still to be made in it, and what came of those before.
+/// A tree, the steps that are still to be made in it, and the outcomes of those before.
 #[derive(Drop)]
 struct Trial {
     alloc: Global,
@@ -55,7 +53,7 @@ struct Trial {
 }
 
 impl Trial {
-    /// Makes the steps that wait.
+    /// Makes the waiting steps.
     fn run(&mut self) -> Result<(), AllocError> {
         let steps = std::mem::replace(&mut self.steps, Vec::new(self.alloc));
         let mut outcomes = self.world.run(steps)?;
@@ -73,7 +71,7 @@ impl Trial {
         Ok(())
     }
 
-    /// What came of the schedule, and how long the history is.
+    /// The outcomes of the schedule, and the length of the history.
     fn text(&self) -> Result<String, AllocError> {
         let entries = self.world.history().entries();
         let mut text = String::new(self.alloc);
@@ -85,7 +83,7 @@ impl Trial {
     }
 }
 
-/// What comes of a schedule in a tree whose history may have so many entries.
+/// Runs a schedule in a tree with this limit of history entries.
 fn made(alloc: Global, history: usize, schedule: &[u8]) -> Result<String, AllocError>
     requires some { 1 ≤ history }
     requires most { history ≤ HISTORY_ENTRIES }
@@ -106,7 +104,7 @@ fn made(alloc: Global, history: usize, schedule: &[u8]) -> Result<String, AllocE
     trial.text()
 }
 
-/// Schedules, and what comes of them.
+/// Schedules and their outcomes.
 const SCHEDULES: &[(&[u8], &str)] = &[
     (
         b"\

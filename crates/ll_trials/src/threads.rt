@@ -1,5 +1,5 @@
-//! Threads that share a tree: one is held in a directory while another one works beside it, and four that move, link
-//! and make in the same two directories come to their ends.
+//! Threads that share a tree. One is held in a directory while another works in the next; and four move, link and
+//! create in the same two directories and finish.
 
 ghost use Rattle.std.specs.Prelude.{◌≡◌, ◌<◌, ◌+◌, length, true};
 ghost use Rattle.std.specs.Thread.{IsSync};
@@ -26,7 +26,7 @@ const RULES: Rules = Rules {
 };
 
 const NODES: usize = 64;
-/// How often a thread looks, at most, whether another one has come so far.
+/// The most times that a thread looks whether another one has come so far.
 const TURNS: u64 = 10_000_000;
 
 const ROUNDS: u64 = 100_000;
@@ -46,7 +46,7 @@ struct Holding {
     flags: Arc<Flags, Global>,
 }
 
-/// Waits until another thread has set the flag, and tells whether it has.
+/// Waits until another thread has set the flag. Returns whether it has.
 fn waits_for(flag: &AtomicU64) -> bool {
     for _ in 0..TURNS {
         if flag.load(Ordering::SeqCst) != 0 {
@@ -73,7 +73,7 @@ fn make(alloc: Global, kind: Kind, path: &str) -> Option<Call> {
     Some(Call::Make(kind, target(alloc, path)?))
 }
 
-/// Whether the call is done.
+/// Whether the call succeeds.
 fn does<N: Shape, G: Gate<N>>(
     rt: &impl Wait,
     table: &Table<N, G>,
@@ -89,7 +89,7 @@ fn does<N: Shape, G: Gate<N>>(
     is_done
 }
 
-/// The inode under the path, 0 where there is none.
+/// The inode of the path, 0 if there is none.
 fn inode_at<N: Shape, G: Gate<N>>(
     rt: &impl Wait,
     alloc: Global,
@@ -106,8 +106,8 @@ fn inode_at<N: Shape, G: Gate<N>>(
     }
 }
 
-/// The first client's walk is held in `/a`, until the second client has made a file in `/b`. Whether both files are
-/// made, the second one's while the first walk was held.
+/// Holds the first client's walk in `/a` until the second client has created a file in `/b`. Returns whether both files
+/// are created, the second while the first walk was held.
 fn passes<N: Shape + Send + Sync, R: Threads + Wait + Sync>(
     rt: &R,
     alloc: Global,
@@ -180,8 +180,8 @@ fn walk_held_in_one_directory(rt: HostRuntime) {
     assert_eq!(rt; ended, TrialEnd::Right);
 }
 
-/// The call of one of four threads in a round: two move a directory there and back, one links a file and takes the link
-/// away, and one makes a file and takes it away.
+/// The call of one of four threads in a round: two move a directory there and back, one links a file and removes the
+/// link, and one creates a file and removes it.
 fn call_of(alloc: Global, thread: usize, is_even: bool) -> Option<Call> {
     let path = |text| target(alloc, text);
     match (thread, is_even) {
@@ -196,7 +196,7 @@ fn call_of(alloc: Global, thread: usize, is_even: bool) -> Option<Call> {
     }
 }
 
-/// The client of a thread whose calls were all answered.
+/// Returns the client of a thread if all its calls got their replies.
 fn answered<N: Shape>(
     rt: &impl Wait,
     alloc: Global,
@@ -215,7 +215,7 @@ fn answered<N: Shape>(
     Some(me)
 }
 
-/// The client that has made the directories `/a`, `/b`, `/a/d` and `/b/e`, and the file `/a/f`.
+/// Returns a client that has created the directories `/a`, `/b`, `/a/d` and `/b/e`, and the file `/a/f`.
 fn furnishes<N: Shape>(
     rt: &impl Wait,
     alloc: Global,
@@ -234,7 +234,7 @@ fn furnishes<N: Shape>(
     }
 }
 
-/// Whether the tree closes with the clients of the four threads, and its history is legal and has all calls.
+/// Whether the tree closes with the clients of the four threads, and its history is legal and complete.
 fn closes<N: Shape>(
     alloc: Global,
     table: Table<N, NoGate>,
@@ -265,7 +265,7 @@ fn closes<N: Shape>(
     }
 }
 
-/// Whether all calls of the four threads are answered, and stand in a legal history.
+/// Whether all calls of the four threads get their replies, in a legal history.
 fn come_to_ends<N: Shape + Send + Sync, R: Threads + Wait + Sync>(
     rt: &R,
     alloc: Global,

@@ -6,7 +6,7 @@ ghost use Rattle.ll_rights.specs.Map.{get, insert};
 use ll_client::{Blank, Keeper, Naming, Pass, Tie};
 use std::marker::Brand;
 
-/// A pass that shows the value under the number.
+/// Gives out a pass that shows the value under the number.
 fn shown<N: Naming>(
     tie: &Tie<N, u64>,
     keeper: &mut Keeper<N, u64>,
@@ -20,7 +20,7 @@ fn shown<N: Naming>(
     tie.give_out(keeper, number, &value)
 }
 
-/// Two passes are out at once, and one that came back is given out with another value.
+/// Gives out two passes at once, takes one back, and gives it out with another value.
 fn trade<N: Naming>(blank: Blank<u64>)
     requires { blank ≡ N.table }
 {

@@ -1,5 +1,5 @@
-//! Two streams in memory, served by two threads: the first one's call is held in a directory until the second one is
-//! answered.
+//! Two streams in memory, served by two threads: the first one's call is held in a directory until the second has its
+//! reply.
 
 ghost use Rattle.std.specs.Prelude.{◌≡◌, ◌+◌, None, true};
 ghost use Rattle.ll_rights.specs.declared.limits.TheConstants.{TREE_CLIENTS};
@@ -35,7 +35,7 @@ const NODES: usize = 64;
 
 const ENTRIES: usize = 100;
 
-/// How often a walk that is held looks, at most, whether it may go on.
+/// The most times that a held walk looks whether it may go on.
 const TURNS: u64 = 10_000_000;
 
 const HELD_LINES: &[u8] = b"make reg /a/x\nstat /a/x\n";
@@ -46,7 +46,7 @@ const FREE_LINES: &[u8] = b"make reg /b/x\n";
 
 const FREE_REPLIES: &[u8] = b"ok\n";
 
-/// In which directory walks are held, whether the second stream has its first reply, and how many streams have all
+/// The directory in which walks are held, whether the second stream has its first reply, and how many streams have all
 /// theirs.
 #[derive(Drop)]
 struct Flags {
@@ -77,7 +77,7 @@ impl<N: Shape> Gate<N> for Holding {
     }
 }
 
-/// Keeps what is written. The second stream's tells when a line has come.
+/// Keeps what is written. The second stream's sets a flag when it has a line.
 #[derive(Drop)]
 struct Paper {
     number: u64,
@@ -104,7 +104,7 @@ impl Write for Paper {
     }
 }
 
-/// Looks at what came of each stream.
+/// Checks the replies of each stream.
 #[derive(Drop)]
 struct Reader {
     flags: Arc<Flags, Global>,
@@ -131,7 +131,7 @@ impl Watches<Source<'static>, Paper> for Reader {
     }
 }
 
-/// The stream of this number, which says these lines.
+/// The stream of this number, with these lines as its input.
 fn stream(
     alloc: Global,
     flags: &Arc<Flags, Global>,
@@ -165,7 +165,7 @@ fn makes<N: Shape>(
     }
 }
 
-/// The inode under the path, 0 where there is none.
+/// The inode of the path, 0 if there is none.
 fn inode_at<N: Shape>(
     rt: &impl Wait,
     alloc: Global,
@@ -182,7 +182,7 @@ fn inode_at<N: Shape>(
     }
 }
 
-/// The client that has made `/a`, in which walks are held from now on, and `/b`.
+/// Returns a client that has created `/a`, in which walks are held from now on, and `/b`.
 fn furnishes<N: Shape>(
     rt: &impl Wait,
     alloc: Global,
@@ -198,7 +198,7 @@ fn furnishes<N: Shape>(
     Some(me)
 }
 
-/// What is left of both streams, which two threads have served.
+/// Serves both streams with two threads. Returns what is left of them.
 fn serve_both<N: Shape + Send + Sync, R: Threads + Wait + Sync>(
     rt: &R,
     alloc: Global,
@@ -225,7 +225,7 @@ fn serve_both<N: Shape + Send + Sync, R: Threads + Wait + Sync>(
     serve_streams(rt, alloc, &host, streams, &watch, 2, 2).ok()
 }
 
-/// Whether the tree closes with all clients, and its history is legal and has all calls.
+/// Whether the tree closes with all clients, and its history is legal and complete.
 fn closes<N: Shape>(
     rt: &impl Wait,
     alloc: Global,

@@ -1,4 +1,4 @@
-//! Two threads on one tree, one of them confined: the caller that the README of ll_calls shows.
+//! Two threads on one tree, one of them confined: the example in the README of ll_calls.
 
 ghost use Rattle.std.specs.Prelude.{◌≡◌, true};
 
@@ -12,10 +12,10 @@ use std::sync::Wait;
 use std::test::*;
 use std::thread::{Threads, join};
 
-/// What the free client and the confined one were answered.
+/// The results of the free client and of the confined one.
 type Answers = (Result<(), Refused>, Result<(), Refused>);
 
-/// A free client makes `/log`, while another one, that may make nothing, tries to make `/tmp`.
+/// A free client creates `/log`, while another one, which may create nothing, tries to create `/tmp`.
 fn two_threads<N: Shape + Send + Sync, R: Threads + Wait + Sync>(
     rt: &R,
     alloc: Global,
@@ -44,7 +44,7 @@ fn two_threads<N: Shape + Send + Sync, R: Threads + Wait + Sync>(
     ))
 }
 
-/// Whether the text says this.
+/// Whether the refusal has this text.
 fn says(alloc: Global, refused: Refused, words: &str) -> bool {
     match refused.to_string(alloc) {
         Ok(text) => text.as_str() == words,

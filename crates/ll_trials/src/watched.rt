@@ -1,4 +1,4 @@
-//! Trials in threads that may hang: someone looks on, so that the test fails then, and isn't stopped from outside.
+//! Trials in threads that may hang. A watcher makes the test fail then, before the kit stops it.
 
 use std::alloc::Global;
 use std::rt::Clock;
@@ -7,24 +7,24 @@ use std::sync::atomic::{AtomicU64, Ordering};
 use std::thread::{self, Threads};
 use std::time::Duration;
 
-/// How long is slept between two looks, in milliseconds.
+/// The sleep between two looks, in milliseconds.
 const LOOK: u64 = 100;
 
-/// So many looks are taken: 40 seconds. (The kit stops a test after 60.)
+/// The number of looks: 40 seconds. (The kit stops a test after 60.)
 const LOOKS: u64 = 400;
 
-/// What came of a trial.
+/// The end of a trial.
 #[derive(Clone, Copy, Debug, PartialEq, Eq)]
 pub enum TrialEnd {
     Right,
     Wrong,
     /// It hadn't ended after 40 seconds.
     Hangs,
-    /// No thread could be made for it.
+    /// No thread could be started for it.
     Untried,
 }
 
-/// Makes the trial in a thread of its own, which isn't waited for any longer where it hangs.
+/// Runs the trial in a thread of its own, and stops waiting for it if it hangs.
 pub fn end_of_trial<R: Clock + Threads, F: FnOnce() -> bool + Send + 'static>(
     rt: &R,
     alloc: Global,

@@ -15,7 +15,7 @@ fn is_spelled(alloc: Global, client: u64, call: &Call, line: &[u8]) -> Result<bo
     Ok(text.as_bytes() == line)
 }
 
-/// Whether the line spells a command, and the command's spelling is the line.
+/// Whether the line parses as a command that is written as the same line.
 fn is_written_back(alloc: Global, line: &[u8]) -> Result<bool, AllocError> {
     match read_command(alloc, line, 64) {
         Ok((client, call)) => {
@@ -27,7 +27,7 @@ fn is_written_back(alloc: Global, line: &[u8]) -> Result<bool, AllocError> {
     }
 }
 
-/// Whether the line spells a reply, and the reply's spelling is the line.
+/// Whether the line parses as a reply that is written as the same line.
 fn is_reply_written_back(alloc: Global, line: &[u8]) -> Result<bool, AllocError> {
     let Ok(reply) = read_reply(alloc, line) else {
         return Ok(false);

@@ -1,4 +1,4 @@
-//! A walk past its fork: down the first branch, and then down the second.
+//! A walk past its fork: first down the one leg, then down the other.
 
 ghost use Rattle.std.specs.Prelude.{◌≡◌, ◌<◌};
 ghost use Rattle.ll_walk.specs.Sections.{AreThere, Came};
@@ -14,8 +14,8 @@ use std::sync::{MutexGuard, Wait};
 use std::thread;
 
 impl<N: Shape, G: Gate<N>> Table<N, G> {
-    /// A branch of the walk goes down to the next directory, and holds that in place of the one above, unless this is
-    /// the directory of the fork; or goes on to hold what it held.
+    /// Descends by one name. Locks the next directory and releases the one above, unless that is the directory of the
+    /// fork. If there is no descent, keeps what was locked.
     fn below<'a, R: Wait>(
         &'a self,
         rt: &R,
@@ -57,7 +57,7 @@ impl<N: Shape, G: Gate<N>> Table<N, G> {
         }
     }
 
-    /// A look at what comes next.
+    /// Looks for the next step, past the fork.
     fn view_split<R: Wait>(&self, rt: &R, me: &Rider<N>, split: &mut Split<'_, N>) -> View
         ensures { AreThere N.slots result.next }
     {
@@ -76,7 +76,8 @@ impl<N: Shape, G: Gate<N>> Table<N, G> {
         }
     }
 
-    /// The walk goes on past its fork, where it holds this directory, to its reply or above the root.
+    /// Leads the walk on from its fork, whose directory is locked, to its reply. None if the walk has restarted, above
+    /// the root.
     #[tactic(auto, using(crate::proofs::Walks::came_as, crate::proofs::Walks::stays, crate::proofs::Walks::again))]
     pub(crate) fn branches<'a, R: Wait>(
         &'a self,

@@ -20,35 +20,8 @@ use ll_rights::Errno;
 use ll_seq::Call;
 use std::sync::Wait;
 
-/// Whether the call may move a directory, so that its walk needs the move gate.
-fn takes_gate(call: &Call) -> bool
-    ensures { result ≡ world.takes_gate call.now }
-{
-    match call {
-        Call::Rename(..) | Call::RenameNoreplace(..) | Call::Exchange(..) => true,
-        Call::Make(..) | Call::Open(..) | Call::Truncate(..) | Call::ReadDir(_) => false,
-        Call::Stat(_) | Call::Exec(_) | Call::Unlink(_) | Call::Rmdir(_) | Call::Link(..) => false,
-        Call::Allow(..) | Call::Read(..) | Call::Write(..) | Call::Ftruncate(..) => false,
-        Call::Close(_) | Call::Ruleset(_) | Call::Confine(_) | Call::Spawn | Call::Connect => false,
-    }
-}
-
-/// The descriptor that the call is made on.
-fn descriptor_of(call: &Call) -> Option<u64>
-    ensures { result ≡ world.descriptor_of call.now }
-{
-    match call {
-        Call::Read(number, ..) | Call::Write(number, ..) => Some(*number),
-        Call::Ftruncate(number, _) | Call::Close(number) => Some(*number),
-        Call::Make(..) | Call::Open(..) | Call::Truncate(..) | Call::ReadDir(_) => None,
-        Call::Stat(_) | Call::Exec(_) | Call::Unlink(_) | Call::Rmdir(_) | Call::Link(..) => None,
-        Call::Rename(..) | Call::RenameNoreplace(..) | Call::Exchange(..) | Call::Allow(..) => None,
-        Call::Ruleset(_) | Call::Confine(_) | Call::Spawn | Call::Connect => None,
-    }
-}
-
 impl<N: Shape, G: Gate<N>> Table<N, G> {
-    /// A new client. Errors: HistoryFull, EMFILE where as many clients were made as a tree may have, NoMemory.
+    /// Adds a client. Errors: HistoryFull; EMFILE if as many clients were made as a tree may have; NoMemory.
     pub fn connect<R: Wait>(&self, rt: &R) -> Result<Client<N>, Errno>
         ensures client { IfOk result (λ client. client.rider
             ≡ knows client.rider.number (numbered client.rider.seen calls.Connect replies.Done ∷ []) []
@@ -59,7 +32,7 @@ impl<N: Shape, G: Gate<N>> Table<N, G> {
         self.section(rt).connect(&self.tie)
     }
 
-    /// A new client, whose entry stands after all entries that this one knows of. Errors: those of `connect`.
+    /// Adds a client whose entry comes after every entry that `me` knows of. Errors: those of `connect`.
     pub fn connect_after<R: Wait>(&self, rt: &R, me: &mut Client<N>) -> Result<Client<N>, Errno>
         ensures client { IfOk result (λ client. client.rider
             ≡ knows client.rider.number (numbered client.rider.seen calls.Connect replies.Done ∷ []) []
@@ -71,8 +44,8 @@ impl<N: Shape, G: Gate<N>> Table<N, G> {
         self.section(rt).connect_after(&self.tie, me)
     }
 
-    /// The client spawns a child, which knows of all entries up to the spawn. Errors: HistoryFull, EMFILE where as many
-    /// clients were made as a tree may have, NoMemory.
+    /// Spawns a child of the client. The child knows of all entries up to the spawn. Errors: HistoryFull; EMFILE if as
+    /// many clients were made as a tree may have; NoMemory.
     pub fn spawn<R: Wait>(&self, rt: &R, me: &mut Client<N>) -> Result<Client<N>, Errno>
         ensures child { IfOk result (λ child.
             Told calls.Spawn (replies.Spawned child.rider.number) me.old.rider me.new.rider
@@ -84,13 +57,13 @@ impl<N: Shape, G: Gate<N>> Table<N, G> {
         self.section(rt).spawn(&self.tie, me)
     }
 
-    /// The client's call on a descriptor that it has. Another call comes back.
+    /// Makes the client's call on a descriptor that it has. Errors: any other call is given back.
     fn on_file<R: Wait>(&self, rt: &R, me: &mut Rider<N>, call: Call) -> Result<Made, Call>
         requires { me.old.doing ≡ None }
         ensures made { IfOk result (λ made. Gains N.limit call me.old made me.new) }
         ensures back { IfErr result (λ back. (back ≡ call) × (me.new ≡ me.old)) }
     {
-        let Some(number) = descriptor_of(&call) else {
+        let Some(number) = call.descriptor() else {
             return Err(call);
         };
         let mut call = call;
@@ -108,7 +81,7 @@ impl<N: Shape, G: Gate<N>> Table<N, G> {
         unreachable!()
     }
 
-    /// Later calls of both stand after all entries of which one of them knew. It makes no entry, and takes no memory.
+    /// Orders later calls of both clients after every entry that either knows of. Adds no entry, and takes no memory.
     pub fn meet<R: Wait>(&self, rt: &R, one: &mut Client<N>, other: &mut Client<N>)
         ensures one { one.new.rider
             ≡ record one.old.rider { seen = max one.old.rider.seen other.old.rider.seen } }
@@ -118,8 +91,7 @@ impl<N: Shape, G: Gate<N>> Table<N, G> {
         self.section(rt).meet(&self.tie, one, other);
     }
 
-    /// The client knows from now on of all entries made so far: its later calls stand after them. It makes no entry,
-    /// and takes no memory.
+    /// Orders the client's later calls after every entry made so far. Adds no entry, and takes no memory.
     pub fn catch_up<R: Wait>(&self, rt: &R, me: &mut Client<N>)
         ensures low { me.old.rider.seen ≤ me.new.rider.seen }
         ensures mine { me.new.rider ≡ record me.old.rider { seen = me.new.rider.seen } }
@@ -127,8 +99,8 @@ impl<N: Shape, G: Gate<N>> Table<N, G> {
         self.section(rt).catch_up(&self.tie, me);
     }
 
-    /// Has the reader read the history as it is at one point, at which all entries are there that the client knows of.
-    /// It makes no entry. No lock is held but the journal's.
+    /// Lets the reader read the history as it is at one point, with every entry that the client knows of. Adds no
+    /// entry. Holds no lock but the journal's.
     pub fn read_history<R: Wait, V: ReadsHistory>(&self, rt: &R, me: &mut Client<N>, reader: &mut V)
         ensures mine { me.new.rider ≡ me.old.rider }
         ensures read { (history : List Entry) × (me.old.rider.seen ≤ length history)
@@ -138,7 +110,8 @@ impl<N: Shape, G: Gate<N>> Table<N, G> {
         self.section(rt).read_history(&self.tie, me, reader);
     }
 
-    /// A client's call, led to its reply. Connect and spawn come back: they have functions of their own.
+    /// Makes the client's call and returns its result. Errors: connect and spawn are given back; they have functions of
+    /// their own.
     pub fn call<R: Wait>(&self, rt: &R, me: &mut Client<N>, call: Call) -> Result<Made, Call>
         ensures made { IfOk result (λ made. Gains N.limit call me.old.rider made me.new.rider) }
         ensures back { IfErr result (λ back. (back ≡ call) × (me.new ≡ me.old)) }
@@ -149,7 +122,7 @@ impl<N: Shape, G: Gate<N>> Table<N, G> {
             return Err(call);
         }
         let mut moving = None;
-        if takes_gate(&call) {
+        if call.takes_gate() {
             moving = Some(self.soon(rt, &self.moving));
         }
         let rider = &mut me.rider;

@@ -22,7 +22,7 @@ use ll_rights::Errno;
 use ll_seq::Call;
 
 impl<'a, N: Shape> Section<'a, N> {
-    /// What becomes of the client's call: it is made, or its walk is under way, or it comes back.
+    /// Starts the client's call: it is made and answered, its walk begins, or it is given back.
     pub fn start(self, tie: &Tie<N, Account>, me: &mut Rider<N>, call: Call) -> Start
         ensures step { (w : Book) × Starts (mutex_guard_value self.entry.desk) me.old.number call result w
             × Shows (mutex_guard_value self.entry.desk) w [] [] }
@@ -32,7 +32,7 @@ impl<'a, N: Shape> Section<'a, N> {
         desk.start(tie, me, call)
     }
 
-    /// The slot of the file that the client has open under this number.
+    /// Returns the slot of the file that the client has open under this number.
     pub fn file_slot(self, me: &Rider<N>, number: u64) -> Option<u64>
         ensures within { IfSome result (λ slot. slot < N.slots) }
         ensures some { IfSome result (λ slot. (file : descriptor.Descriptor)
@@ -46,7 +46,7 @@ impl<'a, N: Shape> Section<'a, N> {
         desk.file_slot(me, number)
     }
 
-    /// The client's call on a descriptor, with the slot of its file.
+    /// Makes the client's call on a descriptor, given the slot of its file.
     pub fn fd_commit(
         self,
         tie: &Tie<N, Account>,
@@ -65,7 +65,7 @@ impl<'a, N: Shape> Section<'a, N> {
         desk.fd_commit(tie, me, call, file)
     }
 
-    /// A new client.
+    /// Adds a client.
     pub fn connect(self, tie: &Tie<N, Account>) -> Result<Client<N>, Errno>
         ensures step { IfOk result (λ client. (w : Book)
             × (advance (mutex_guard_value self.entry.desk).world Join ≡ (Joined client.rider.number, w.world))
@@ -86,7 +86,7 @@ impl<'a, N: Shape> Section<'a, N> {
         desk.connect(tie)
     }
 
-    /// The same, after all that this client knows of.
+    /// Adds a client whose entry comes after every entry that `me` knows of.
     pub fn connect_after(
         self,
         tie: &Tie<N, Account>,
@@ -112,7 +112,7 @@ impl<'a, N: Shape> Section<'a, N> {
         desk.connect_after(tie, me)
     }
 
-    /// A client's child, or why there is none.
+    /// Spawns a child of the client. Errors: why there is none.
     pub fn spawn(self, tie: &Tie<N, Account>, me: &mut Client<N>) -> Result<Client<N>, Errno>
         ensures child { IfOk result (λ child. (w : Book)
             × Answers (mutex_guard_value self.entry.desk) (ClientStep me.old.rider.number calls.Spawn)

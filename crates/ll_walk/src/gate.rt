@@ -1,18 +1,18 @@
-//! What is called while a walk holds a directory.
+//! A callback during walks.
 
 ghost use Rattle.std.specs.Prelude.{◌≡◌, Some};
 
 use ll_client::{Locked, Shape};
 
-/// What is called after each descent of a walk, with the journal's lock let go. What it does, the walk waits for.
+/// Called after each descent of a walk, while the journal's lock is released. The walk waits for it.
 pub trait Gate<N: Shape>: Drop {
-    /// The walk of this client stands in the directory of this inode, and holds its slot.
+    /// The client's walk is in the directory of this inode, and holds the lock of its slot.
     fn held(&self, client: u64, inode: u64, slot: &Locked<N>)
         requires inode { slot.now.held.inode ≡ inode }
         requires marked { slot.now.held.node.mark ≡ Some client };
 }
 
-/// Does nothing.
+/// A gate that does nothing.
 #[derive(Clone, Copy, Drop)]
 pub struct NoGate;
 

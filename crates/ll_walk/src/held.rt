@@ -1,4 +1,4 @@
-//! What a walk holds past its fork.
+//! The locks that a walk holds past its fork.
 
 ghost use Rattle.std.specs.Prelude.{◌≡◌, ◌<◌, ℕ, IfSome};
 ghost use Rattle.std.specs.List.{AllByRecursion};
@@ -8,10 +8,10 @@ use crate::section::Section;
 use ll_client::{Account, Leaving, Left, Locked, Rider, Shape, Tie};
 use std::sync::MutexGuard;
 
-/// A slot that is held, if it is.
+/// The guard of a slot, if the walk holds its lock.
 pub(crate) type Place<'a, N> = Option<MutexGuard<'a, Locked<N>>>;
 
-/// The directory of the fork; and, where it is another one, the directory where each leg stands.
+/// The lock of the fork's directory; and for each leg the lock of its directory, if that is another one.
 #[derive(Drop)]
 pub(crate) struct Split<'a, N: Shape> {
     pub common: MutexGuard<'a, Locked<N>>,
@@ -19,7 +19,7 @@ pub(crate) struct Split<'a, N: Shape> {
     pub second: Place<'a, N>,
 }
 
-/// The first of these slots that isn't held.
+/// Returns the first of these slots whose lock isn't held.
 pub(crate) fn other_than(slots: &[u64], held: &[u64]) -> Option<u64>
     ensures { (n : ℕ) → AllByRecursion (λ slot. slot < n) slots.now → IfSome result (λ slot. slot < n) }
 {
@@ -31,7 +31,7 @@ pub(crate) fn other_than(slots: &[u64], held: &[u64]) -> Option<u64>
     None
 }
 
-/// The slot, if it isn't held.
+/// Returns the slot, if its lock isn't held.
 pub(crate) fn unless_held(slot: Option<u64>, held: &[u64]) -> Option<u64>
     ensures { (n : ℕ) → IfSome slot (λ slot. slot < n) → IfSome result (λ slot. slot < n) }
 {
@@ -49,7 +49,7 @@ fn number_in<N: Shape>(place: &Place<'_, N>, otherwise: u64) -> u64 {
 }
 
 impl<'a, N: Shape> Split<'a, N> {
-    /// The numbers of the slots that are held, the directory of the fork in place of a leg's where that stands there.
+    /// The numbers of the locked slots. A leg that is still in the fork's directory counts as that.
     fn numbers(&self) -> [u64; 3] {
         let common = self.common.number();
         let first = number_in(&self.first, common);
@@ -57,14 +57,15 @@ impl<'a, N: Shape> Split<'a, N> {
         [common, first, second]
     }
 
-    /// The first of these slots that isn't held.
+    /// Returns the first of these slots that the walk doesn't hold.
     pub(crate) fn other_than(&self, slots: &[u64]) -> Option<u64>
         ensures { (n : ℕ) → AllByRecursion (λ slot. slot < n) slots.now → IfSome result (λ slot. slot < n) }
     {
         other_than(slots, &self.numbers())
     }
 
-    /// The slot of a node under a last name in which another client's walk stands, if it isn't held.
+    /// Returns the slot of a node under a last name that another client's walk has marked, if this walk doesn't hold
+    /// it.
     pub(crate) fn slot_in_way(
         &mut self,
         section: Section<'_, N>,
@@ -88,7 +89,7 @@ impl<'a, N: Shape> Split<'a, N> {
         unless_held(way, &held)
     }
 
-    /// The walk is left with all that is held, and with one slot more, if there is one.
+    /// Commits or restarts the walk with all held slots, and with one more if given.
     pub(crate) fn leave(
         &mut self,
         section: Section<'_, N>,

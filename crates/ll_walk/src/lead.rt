@@ -9,11 +9,11 @@ use ll_client::{Rider, Shape};
 use ll_journal::Made;
 use std::sync::{MutexGuard, Wait};
 
-/// How often a walk starts without the move gate.
+/// How often a walk starts before it takes the move gate.
 const FREE_STARTS: u64 = 3;
 
 impl<N: Shape, G: Gate<N>> Table<N, G> {
-    /// Starts until the call is answered.
+    /// Starts the walk until its call is answered.
     fn last_start<R: Wait>(&self, rt: &R, me: &mut Rider<N>) -> Made
         ensures { Came N.limit me.old (Some result) me.new }
     {
@@ -25,8 +25,7 @@ impl<N: Shape, G: Gate<N>> Table<N, G> {
         unreachable!()
     }
 
-    /// Leads the client's walk to its reply. It starts three times without the move gate, if it hasn't that yet, and
-    /// then with it.
+    /// Leads the client's walk to its reply. A walk that doesn't hold the move gate yet takes it after three starts.
     pub(crate) fn lead<'a, R: Wait>(
         &'a self,
         rt: &R,

@@ -1,4 +1,4 @@
-//! A walk is left in a section: its call is answered, or it starts again.
+//! Ends a walk in a section: its call is answered, or it restarts.
 
 ghost use Rattle.std.specs.Prelude.{◌≡◌, ◌∷◌, [], Option, Some};
 ghost use Rattle.std.specs.Sync.Mutex.{mutex_guard_value};
@@ -10,7 +10,7 @@ use crate::section::Section;
 use ll_client::{Account, Leaving, Left, Locked, Rider, Shape, Tie};
 
 impl<'a, N: Shape> Section<'a, N> {
-    /// The client's walk is left, with one slot.
+    /// Commits or restarts the client's walk, with one lent slot.
     #[inline(always)]
     pub fn leave_1(
         self,
@@ -29,7 +29,7 @@ impl<'a, N: Shape> Section<'a, N> {
         desk.leave_1(tie, me, a, leaving)
     }
 
-    /// The same with two slots.
+    /// Commits or restarts the client's walk, with two lent slots.
     #[inline(always)]
     pub fn leave_2(
         self,
@@ -49,7 +49,7 @@ impl<'a, N: Shape> Section<'a, N> {
         desk.leave_2(tie, me, a, b, leaving)
     }
 
-    /// The same with three slots.
+    /// Commits or restarts the client's walk, with three lent slots.
     pub fn leave_3(
         self,
         tie: &Tie<N, Account>,
@@ -69,7 +69,7 @@ impl<'a, N: Shape> Section<'a, N> {
         desk.leave_3(tie, me, a, b, d, leaving)
     }
 
-    /// The same with four slots.
+    /// Commits or restarts the client's walk, with four lent slots.
     pub fn leave_4(
         self,
         tie: &Tie<N, Account>,

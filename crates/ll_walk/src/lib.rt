@@ -1,4 +1,4 @@
-//! A tree that threads share: one lock a slot, and walks that go down hand over hand.
+//! A tree shared by threads: one lock for each slot, and walks that lock hand over hand on their way down.
 #![tactic(auto)]
 
 mod branches;

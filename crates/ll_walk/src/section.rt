@@ -1,4 +1,4 @@
-//! The journal's lock, held.
+//! The locked journal.
 
 ghost use Rattle.std.specs.Prelude.{◌≡◌, ◌≢◌, ◌<◌, ◌≤◌, ◌+◌, ℕ, ◌∷◌, [], Some, IfSome, IfNone, length, max};
 ghost use Rattle.ll_rights.specs.declared.limits.TheConstants.{TREE_CLIENTS};
@@ -20,26 +20,27 @@ use ll_client::{Account, Client, Desk, Locked, ReadsHistory, Rider, Shape, Tie};
 use ll_journal::{Next, Onward, Progress, Station};
 use std::sync::MutexGuard;
 
-/// What is seen of a walk past its fork: where it is, and which step comes next.
+/// What a look at a walk past its fork finds: where it is, and its next step.
 #[derive(Drop)]
 pub struct View {
     pub station: Station,
     pub next: Next,
 }
 
-/// What comes next of a walk above its fork: it goes down, or makes another step.
+/// The next step of a walk above its fork: a descent to this directory, or another step.
 #[derive(Drop)]
 pub enum Coming {
     Down(Onward),
     Other(Next),
 }
 
-/// The journal's lock, held. Its one act uses it up, and lets the lock go. In it no other lock is waited for.
+/// The locked journal. Each method that consumes it does one thing and releases the lock. No other lock is waited for
+/// while it is held.
 pub struct Section<'a, N: Shape> {
     pub(crate) desk: MutexGuard<'a, Desk<N>>,
 }
 
-/// A look at what comes next, from this slot.
+/// Finds the walk's next step, given its current leg's slot.
 #[tactic(auto, using(crate::proofs::Looks::are_there))]
 #[inline(always)]
 fn next_at<N: Shape>(
@@ -57,7 +58,7 @@ fn next_at<N: Shape>(
     desk.next_step(tie, me, here)
 }
 
-/// The same above the fork.
+/// Finds what the walk does next above its fork: the directory to descend to, or another step.
 #[tactic(auto, using(crate::proofs::Looks::comes_down))]
 #[inline(always)]
 fn coming_at<N: Shape>(
@@ -79,7 +80,7 @@ fn coming_at<N: Shape>(
     }
 }
 
-/// After a descent above the fork: from where the walk now stands.
+/// Finds what the walk does next after a descent above its fork, from the slot where it is now.
 fn coming_after<N: Shape>(
     desk: &mut Desk<N>,
     tie: &Tie<N, Account>,
@@ -104,7 +105,7 @@ fn coming_after<N: Shape>(
     }
 }
 
-/// A look at where the walk is too.
+/// Finds where the walk is and its next step.
 fn view_at<N: Shape>(
     desk: &mut Desk<N>,
     tie: &Tie<N, Account>,
@@ -121,7 +122,8 @@ fn view_at<N: Shape>(
     View { station, next }
 }
 
-/// From the one of two slots where the walk's leg in turn stands: the second, if it is neither.
+/// Finds where the walk is and its next step, from the slot of its current leg: the first if it is that one, otherwise
+/// the second.
 fn view_from<N: Shape>(
     desk: &mut Desk<N>,
     tie: &Tie<N, Account>,
@@ -142,7 +144,8 @@ fn view_from<N: Shape>(
     }
 }
 
-/// After a descent past the fork: from where the walk now stands, or from the directory of the fork.
+/// Finds where the walk is and its next step after a descent past the fork, from the slot where it is now, or from the
+/// fork's directory.
 fn view_below<N: Shape>(
     desk: &mut Desk<N>,
     tie: &Tie<N, Account>,
@@ -166,7 +169,8 @@ fn view_below<N: Shape>(
     }
 }
 
-/// A look from this slot's directory at what stands in the way of the client's walk at its ends.
+/// Looks in this slot's directory for a node that another walk has marked and that keeps the client's walk from being
+/// answered.
 fn slot_in_way<N: Shape>(
     desk: &mut Desk<N>,
     tie: &Tie<N, Account>,
@@ -184,7 +188,7 @@ fn slot_in_way<N: Shape>(
 }
 
 impl<'a, N: Shape> Section<'a, N> {
-    /// The first descent of the client's walk, to the root, and a look from there at what comes next.
+    /// Makes the walk's first descent, to the root, and finds what it does next.
     pub fn enter(
         self,
         tie: &Tie<N, Account>,
@@ -205,7 +209,7 @@ impl<'a, N: Shape> Section<'a, N> {
         (progress, coming)
     }
 
-    /// A descent of the client's walk above its fork, to where the last look told, and a look at what comes next.
+    /// Makes a descent above the fork, to the directory that the last look found, and finds what the walk does next.
     pub fn descend(
         self,
         tie: &Tie<N, Account>,
@@ -232,7 +236,7 @@ impl<'a, N: Shape> Section<'a, N> {
         (progress, coming)
     }
 
-    /// The same from the directory of the fork.
+    /// Makes a descent from the fork's directory, and finds where the walk is and its next step.
     pub fn descend_from_fork(
         self,
         tie: &Tie<N, Account>,
@@ -254,7 +258,8 @@ impl<'a, N: Shape> Section<'a, N> {
         (progress, view)
     }
 
-    /// The same from below it, where the directory of the fork is held too.
+    /// Makes a descent from below the fork's directory, whose lock is held too, and finds where the walk is and its
+    /// next step.
     pub fn descend_below(
         self,
         tie: &Tie<N, Account>,
@@ -278,7 +283,7 @@ impl<'a, N: Shape> Section<'a, N> {
         (progress, view)
     }
 
-    /// The client's walk leaves what is common to both paths, and a look at what comes next.
+    /// Splits the client's walk into one leg for each path, and finds where it is and its next step.
     pub fn fork(
         self,
         tie: &Tie<N, Account>,
@@ -297,8 +302,7 @@ impl<'a, N: Shape> Section<'a, N> {
         (progress, view)
     }
 
-    /// A look at where the walk is past its fork, and what comes next, from one of two slots where its leg in turn
-    /// stands.
+    /// Finds where a walk past its fork is and its next step. Its current leg is in one of the two slots.
     pub fn view(
         self,
         tie: &Tie<N, Account>,
@@ -316,7 +320,7 @@ impl<'a, N: Shape> Section<'a, N> {
         view_from(&mut desk, tie, me, one, other)
     }
 
-    /// The same above the fork, from the slot where the walk stands.
+    /// Finds what the walk does next above its fork, from the slot where it is.
     pub fn coming_here(
         self,
         tie: &Tie<N, Account>,
@@ -332,7 +336,7 @@ impl<'a, N: Shape> Section<'a, N> {
         coming_at(&mut desk, tie, me, here)
     }
 
-    /// The same past the fork, from one slot.
+    /// Finds where a walk past its fork is and its next step, from one slot.
     pub fn view_here(self, tie: &Tie<N, Account>, me: &Rider<N>, here: &mut Locked<N>) -> View
         ensures here { here.new ≡ here.old }
         ensures there { AreThere N.slots result.next }
@@ -342,8 +346,8 @@ impl<'a, N: Shape> Section<'a, N> {
         view_at(&mut desk, tie, me, here)
     }
 
-    /// The slot of a node under a last name of the client's walk in which another client's walk stands, so that this
-    /// one isn't answered yet: under a path that ends in the directory of the one slot or of the other.
+    /// For a walk at its ends: returns the slot of a node under a last name that another client's walk has marked,
+    /// which delays this one's answer. Looks in the directories of both slots.
     pub fn slot_in_way(
         self,
         tie: &Tie<N, Account>,
@@ -367,7 +371,8 @@ impl<'a, N: Shape> Section<'a, N> {
         }
     }
 
-    /// The same from one slot.
+    /// For a walk at its ends: returns the slot of a node under a last name that another client's walk has marked,
+    /// which delays this one's answer. Looks in the directory of this slot.
     pub fn slot_in_way_here(
         self,
         tie: &Tie<N, Account>,
@@ -384,7 +389,7 @@ impl<'a, N: Shape> Section<'a, N> {
         slot_in_way(&mut desk, tie, me, here)
     }
 
-    /// From now on each of the two knows of all entries of which one of them did. It makes no entry.
+    /// Each of the two now knows of every entry that either knew of. Adds no entry.
     pub fn meet(self, tie: &Tie<N, Account>, one: &mut Client<N>, other: &mut Client<N>)
         ensures one { one.new.rider
             ≡ record one.old.rider { seen = max one.old.rider.seen other.old.rider.seen } }
@@ -395,7 +400,7 @@ impl<'a, N: Shape> Section<'a, N> {
         desk.meet(tie, one, other);
     }
 
-    /// The client knows from now on of all entries made so far. It makes none.
+    /// The client now knows of all entries made so far. Adds no entry.
     pub fn catch_up(self, tie: &Tie<N, Account>, me: &mut Client<N>)
         ensures low { me.old.rider.seen ≤ me.new.rider.seen }
         ensures mine { me.new.rider
@@ -405,7 +410,7 @@ impl<'a, N: Shape> Section<'a, N> {
         desk.catch_up(tie, me);
     }
 
-    /// Has the reader read the history, of which the client knows no entry that isn't there. Nothing changes.
+    /// Lets the reader read the history. It holds every entry that the client knows of. Nothing changes.
     pub fn read_history<V: ReadsHistory>(
         self,
         tie: &Tie<N, Account>,
@@ -423,7 +428,7 @@ impl<'a, N: Shape> Section<'a, N> {
         desk.read_history(tie, me, reader);
     }
 
-    /// The slot of the root.
+    /// Returns the slot of the root.
     pub fn root_slot(self) -> u64
         ensures { result < N.slots }
     {
@@ -432,7 +437,7 @@ impl<'a, N: Shape> Section<'a, N> {
         desk.root_slot()
     }
 
-    /// What holds of the tree that lies behind the locks, whatever steps were made before. Takes no memory.
+    /// Does nothing when it runs. Its contract: what holds of the tree behind the locks, after any steps.
     pub fn by_law(&self)
         ensures legal { IsLegal (start (mutex_guard_value self.now.desk).world.rules
             (mutex_guard_value self.now.desk).world.room) (mutex_guard_value self.now.desk).world.history }

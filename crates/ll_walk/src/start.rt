@@ -1,4 +1,4 @@
-//! One start of a walk, on what is common to its paths.
+//! One start of a walk, on the way that its paths share.
 
 ghost use Rattle.std.specs.Prelude.{◌≡◌, ◌<◌, Some, IfSome};
 ghost use Rattle.std.specs.Sync.Mutex.{mutex_guard_value};
@@ -18,7 +18,7 @@ use ll_journal::{Made, Next, Onward, Progress};
 use std::sync::{MutexGuard, Wait};
 use std::thread;
 
-/// What the call came to, where the walk has ended.
+/// The result of the call, if the walk has ended.
 pub(crate) fn made_of(left: Left) -> Option<Made>
     ensures { result ≡ made_of left }
 {
@@ -31,8 +31,8 @@ pub(crate) fn made_of(left: Left) -> Option<Made>
 }
 
 impl<N: Shape, G: Gate<N>> Table<N, G> {
-    /// The walk comes to the root, and holds it. The root's slot is the one where it lay when the tree was opened; only
-    /// if it isn't found there is it looked up.
+    /// Moves the walk to the root and locks it. The root stays in the slot where it was when the tree was opened; it is
+    /// looked up only if it isn't found there.
     fn enter<R: Wait>(&self, rt: &R, me: &mut Rider<N>) -> (MutexGuard<'_, Locked<N>>, Coming)
         ensures there { IsComing N.slots me.new.doing (mutex_guard_value {X = Kept} result.0) result.1 }
         ensures mine { me.new ≡ me.old }
@@ -53,7 +53,8 @@ impl<N: Shape, G: Gate<N>> Table<N, G> {
         unreachable!()
     }
 
-    /// The walk goes down to the next directory, and holds that in place of the one above; or goes on to hold this one.
+    /// Descends by one name: locks the next directory and releases the one above. If there is no descent, keeps the
+    /// lock.
     fn further<'a, R: Wait>(
         &'a self,
         rt: &R,
@@ -86,7 +87,7 @@ impl<N: Shape, G: Gate<N>> Table<N, G> {
         }
     }
 
-    /// The walk, which holds this directory, is answered, with these slots.
+    /// Commits the walk with the lock of this directory and, if given, one more slot.
     fn commit<R: Wait>(
         &self,
         rt: &R,
@@ -109,7 +110,7 @@ impl<N: Shape, G: Gate<N>> Table<N, G> {
         }
     }
 
-    /// One start of the client's walk: its call is answered, or it is above the root again.
+    /// Makes one start of the client's walk. None if it has restarted, above the root.
     #[tactic(auto, using(crate::proofs::Walks::came_as, crate::proofs::Walks::stays, crate::proofs::Walks::again))]
     pub(crate) fn start<R: Wait>(&self, rt: &R, me: &mut Rider<N>) -> Option<Made>
         ensures { Came N.limit me.old result me.new }
@@ -146,7 +147,7 @@ impl<N: Shape, G: Gate<N>> Table<N, G> {
                         return Some(made);
                     }
                 }
-                // Where a walk above its fork goes down, `Coming::Down` told it.
+                // Above its fork, a walk that descends has returned `Coming::Down`.
                 Next::Nothing | Next::Enter(_) | Next::Descend(_) => {}
             }
             let way = self.section(rt).slot_in_way_here(&self.tie, me, &mut here);

@@ -16,19 +16,19 @@ use std::sync::atomic::{AtomicU64, Ordering};
 use std::sync::{Mutex, MutexGuard, Wait};
 use std::thread;
 
-/// How often a lock that another thread holds is tried before the thread sleeps until it is let go.
+/// How often a thread tries a lock that another holds before it sleeps until the lock is released.
 const TRIES: u32 = 20;
 
-/// How many pauses the processor makes before the first try. Before each further one it makes twice as many, up to the
+/// How many pauses the processor makes before the first try. Their number doubles before each further one, up to the
 /// most.
 const PAUSES: u32 = 16;
 
 const MOST_PAUSES: u32 = 512;
 
-/// So few threads wait awake. More would keep the processors from those that hold the locks.
+/// The most threads that wait awake. More would take the processors from the threads that hold the locks.
 const MOST_AWAKE: u64 = 3;
 
-/// The lock, if it is let go within a while.
+/// Takes the lock if it is released within a while.
 fn tried<T>(lock: &Mutex<T>) -> Option<MutexGuard<'_, T>> {
     let mut pauses = PAUSES;
     for _ in 0..TRIES {
@@ -47,7 +47,7 @@ fn tried<T>(lock: &Mutex<T>) -> Option<MutexGuard<'_, T>> {
     None
 }
 
-/// A tree that threads share: a lock for each slot, one for the journal, and the move gate.
+/// A tree shared by threads: one lock for each slot, one for the journal, and the move gate.
 #[derive(Drop)]
 pub struct Table<N: Shape, G: Gate<N>> {
     pub(crate) tie: Tie<N, Account>,
@@ -56,13 +56,13 @@ pub struct Table<N: Shape, G: Gate<N>> {
     pub(crate) desk: Mutex<Desk<N>>,
     pub(crate) moving: Mutex<()>,
     pub(crate) gate: G,
-    /// How many threads wait for one of these locks.
+    /// The number of threads that wait for one of these locks.
     pub(crate) waiting: AtomicU64,
     ghost all_slots: { vec_len slots ≡ N.slots },
     ghost root_there: { root < N.slots },
 }
 
-/// Each slot with a lock.
+/// Puts each slot behind a lock. Errors: memory ran out.
 fn locks<N: Shape>(
     alloc: Global,
     slots: Vec<Locked<N>>,
@@ -77,8 +77,8 @@ fn locks<N: Shape>(
 }
 
 impl<N: Shape, G: Gate<N>> Table<N, G> {
-    /// A tree of the root alone, in which so many nodes may live, without a client. Room is reserved for so many
-    /// entries of the history. Errors: no memory. Waits for nobody.
+    /// Opens a tree with only the root and no clients, for at most `nodes` nodes. Reserves room for `history` entries.
+    /// Non-blocking. Errors: memory ran out.
     pub fn open(
         alloc: Global,
         blank: Blank<Account>,
@@ -110,7 +110,7 @@ impl<N: Shape, G: Gate<N>> Table<N, G> {
         })
     }
 
-    /// The history, where the list holds all clients of the tree; else tree and list come back. Waits for nobody, and
+    /// Returns the history if the list holds all clients of the tree. Errors: the tree and the list. Non-blocking, and
     /// takes no memory.
     pub fn close(self, clients: Vec<Client<N>>) -> Result<History, (Table<N, G>, Vec<Client<N>>)>
         ensures closed { IfOk result (λ history. (nodes : ℕ) → N.slots ≡ nodes + TREE_CLIENTS
@@ -146,8 +146,8 @@ impl<N: Shape, G: Gate<N>> Table<N, G> {
         }
     }
 
-    /// The lock, taken, where another thread holds it. Locks are held for short, and a thread that sleeps is slow to
-    /// wake: so where few threads wait, this one tries for a while before it sleeps.
+    /// Takes a lock that another thread holds. Locks are held briefly, and waking a thread is slow: if few threads
+    /// wait, this one tries for a while before it sleeps.
     fn late<'a, T, R: Wait>(&self, rt: &R, lock: &'a Mutex<T>) -> MutexGuard<'a, T> {
         let others = self.waiting.fetch_add(1, Ordering::Relaxed);
         let found = if others < MOST_AWAKE {
@@ -163,7 +163,7 @@ impl<N: Shape, G: Gate<N>> Table<N, G> {
         guard
     }
 
-    /// The lock, taken.
+    /// Takes the lock.
     #[inline(always)]
     pub(crate) fn soon<'a, T, R: Wait>(&self, rt: &R, lock: &'a Mutex<T>) -> MutexGuard<'a, T> {
         match lock.try_lock() {
@@ -172,7 +172,7 @@ impl<N: Shape, G: Gate<N>> Table<N, G> {
         }
     }
 
-    /// The journal's lock, taken.
+    /// Locks the journal.
     #[inline(always)]
     pub fn section<R: Wait>(&self, rt: &R) -> Section<'_, N> {
         Section {
@@ -180,14 +180,14 @@ impl<N: Shape, G: Gate<N>> Table<N, G> {
         }
     }
 
-    /// The slot of this number, locked.
+    /// Locks the slot of this number.
     #[inline(always)]
     pub fn locked<R: Wait>(&self, rt: &R, slot: u64) -> MutexGuard<'_, Locked<N>>
         requires { slot < N.slots }
         ensures { (mutex_guard_value {X = Kept} result).number ≡ slot }
     {
-        // No type says that the lock of a place is that of the slot of this number: it is looked up, and is so each
-        // time.
+        // No type says that the lock at this index is that of the slot of this number. The number is checked, and
+        // always matches.
         for _ in rt.forever() {
             let guard = self.soon(rt, &self.slots[slot as usize]);
             if guard.number() == slot {
@@ -197,7 +197,7 @@ impl<N: Shape, G: Gate<N>> Table<N, G> {
         unreachable!()
     }
 
-    /// Waits until the slot of this number is free; without one, leaves the processor to others once.
+    /// Waits until the slot of this number is free. Without a number, yields the processor once.
     pub(crate) fn wait_for<R: Wait>(&self, rt: &R, slot: Option<u64>)
         requires { IfSome slot (λ slot. slot < N.slots) }
     {

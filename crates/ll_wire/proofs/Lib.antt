@@ -4,6 +4,7 @@ pub mod Cuts
 pub mod Digits
 pub mod EntryTokens
 pub mod FeedsInParts
+pub mod FirstLine
 pub mod FirstTokens
 pub mod Fronts
 pub mod Headers

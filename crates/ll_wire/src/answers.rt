@@ -1,4 +1,4 @@
-//! Lines, each answered.
+//! Answers lines one by one.
 
 ghost use Rattle.std.specs.Prelude.{◌≡◌, ◌<◌, ◌≤◌, ◌+◌, ◌^◌, ℕ, Bool, true, false, List, Some, Err, IfErr, IfOk};
 ghost use Rattle.std.specs.Prelude.{OnErr, OnOk, length, string_bytes};
@@ -14,25 +14,25 @@ use crate::fault::SessionFault;
 use crate::line::Line;
 use std::alloc::{AllocError, Global};
 
-/// What answers lines, one after the other, until it is over.
+/// Answers lines, one after the other, until it is over.
 pub trait Answers {
-    /// It answers the piece by this line, and goes on so.
+    /// The relation of the state before, a line's bytes, the line that answers it, and the state after.
     ghost tells: { Self → List ℕ → List ℕ → Self → Type 0 };
 
-    /// What any answers lead from and to.
+    /// The relation of the state before any number of answers, and after.
     ghost goes: { Self → Self → Type 0 };
 
-    /// How many numbers it has used.
+    /// How many line numbers it has used.
     ghost used: { Self → ℕ };
 
-    /// It answers no further line.
+    /// Whether it answers no further line.
     ghost over: { Self → Bool };
 
-    /// What it has answered is kept, as far as anybody keeps it: the replies may be written.
+    /// All its answers so far have been kept, as far as they are kept at all: the replies may be written.
     ghost kept: { Self → Type 0 };
 
-    /// The line that answers this one, with its line feed. Where memory is wanted for it, the line was answered all the
-    /// same.
+    /// Returns the line that answers this one, with its line feed. Errors: memory for the answer ran out; the line has
+    /// been answered all the same.
     fn answer(&mut self, line: &Line) -> Result<String, AllocError>
         requires room { used self.old < 2 ^ 63 }
         requires going { over self.old ≡ false }
@@ -44,7 +44,7 @@ pub trait Answers {
         ensures goes { goes self.old self.new }
         ensures used { used self.new ≤ used self.old + 2 };
 
-    /// Keeps what it has answered.
+    /// Keeps all its answers so far.
     fn settle(&mut self)
         ensures kept { kept self.new }
         ensures tells { (a : Self) (piece line : List ℕ) → tells a piece line self.old → tells a piece line self.new }
@@ -52,7 +52,7 @@ pub trait Answers {
         ensures used { used self.new ≡ used self.old }
         ensures over { over self.new ≡ over self.old };
 
-    /// Whether it is over with the line that it has answered last.
+    /// Reports whether the last answered line was the final one.
     fn is_over(&self) -> bool
         ensures { result ≡ over self.now };
 
@@ -61,9 +61,9 @@ pub trait Answers {
     ghost goes_on: { (a b c : Self) → goes a b → goes b c → goes a c };
 }
 
-/// Reads all lines and answers each, up to the one that it is over with. Before each read, the answers to all lines
-/// that were read are written, and so are all of them at the end; no line is answered after the one that it is over
-/// with, even if it was read with it.
+/// Reads lines and answers each, to the end of the input or to the final line. Writes the answers to everything read so
+/// far before each further read, and the rest at the end. Doesn't answer lines after the final one, even if one read
+/// returned them together.
 pub fn answer_lines<E: Ends, A: Answers>(
     alloc: Global,
     ends: &mut E,
@@ -76,15 +76,15 @@ pub fn answer_lines<E: Ends, A: Answers>(
     requires going { A.over answers.old ≡ false }
     ensures ok { OnOk result (A.over answers.new ≡ false
         → AnswersAll A.tells answers.old answers.new (E.devices ends.old) (E.devices ends.new)) }
-    // Where it is over, the pieces up to the one that it is over with are answered, and all their lines are written.
+    // If it is over, the lines up to the final one are answered, and all their answers are written.
     ensures over { OnOk result (A.over answers.new ≡ true
         → AnswersFirst A.tells answers.old answers.new (E.devices ends.old) (E.devices ends.new)) }
     ensures whole { OnOk result (IsWhole (E.devices ends.new)) }
-    // With a fault, what was written is a beginning of the transcript of the first pieces, and these are answered.
+    // After a fault, what was written is a prefix of the transcript of the first lines, and these are answered.
     ensures err { OnErr result
         (StartsAll A.tells answers.old answers.new (E.devices ends.old) (E.devices ends.new)) }
     ensures fault { IfErr result (λ fault. Blames fault (E.devices ends.old) (E.devices ends.new)) }
-    // Each read gives a byte at least.
+    // Each read returns at least one byte.
     ensures long { result ≡ Err SessionFault.TooLong
         → (input : List ℕ) → (E.devices ends.old).remaining ≡ Some input → most_reads ≤ length input }
     ensures goes { A.goes answers.old answers.new }

@@ -31,7 +31,7 @@ fn spells_data(token: &str) -> bool
     are_digits(token)
 }
 
-// Memory is taken only where the token spells bytes.
+// Takes memory only if the token spells bytes.
 pub(crate) fn data_of(alloc: Global, token: &str) -> Result<Data, Errno>
     ensures { Reads (SpellsData token.now) result }
 {

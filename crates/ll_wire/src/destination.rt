@@ -6,31 +6,31 @@ ghost use Rattle.std.specs.Io.KnownBytes.{Appends};
 use std::io;
 use std::io::Write;
 
-/// Where a file stands. What is to stand there is written elsewhere first, as a draft, and put there when it is whole.
+/// The path of a file that is written to a draft first. The draft replaces the file when it is complete.
 pub trait Destination {
-    /// What is written first.
+    /// The draft of a file.
     type Draft: Write + Drop + Send;
 
-    /// What stands there, where that is known.
+    /// The file's contents, if known.
     ghost contents: { Self → Option (List ℕ) };
 
-    /// What stands in a draft before anything is written, where that is known.
+    /// The contents of a new draft, if known.
     ghost blank: { Self → Option (List ℕ) };
 
-    /// Makes a draft.
+    /// Creates a draft.
     fn draft(&mut self) -> io::Result<Self::Draft>
         ensures fresh { IfOk result (λ draft. Self.Draft.contents draft ≡ blank self.old) }
         ensures same { contents self.new ≡ contents self.old }
         ensures again { blank self.new ≡ blank self.old };
 
-    /// Makes a draft that begins with these bytes, and grows with what is done. None where there is to be none, or
-    /// where there can be none: that is said at once to whoever waits.
+    /// Creates a draft that begins with these bytes and grows with every call. None if no draft is wanted, or if none
+    /// can be created, which is reported at once.
     fn record(&mut self, head: &[u8]) -> Option<Self::Draft>
         ensures begun { IfSome result (λ draft. Appends (blank self.old) (Self.Draft.contents draft) head.now) }
         ensures same { contents self.new ≡ contents self.old }
         ensures again { blank self.new ≡ blank self.old };
 
-    /// Puts a draft there. With an error nothing is put there, and the draft is gone.
+    /// Replaces the file with the draft. Errors: the file is unchanged, and the draft is gone.
     fn put(&mut self, draft: Self::Draft) -> io::Result<()>
         ensures ok { OnOk result (contents self.new ≡ Self.Draft.contents draft) }
         ensures err { OnErr result (contents self.new ≡ contents self.old) }

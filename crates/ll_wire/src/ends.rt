@@ -6,20 +6,20 @@ ghost use Rattle.std.specs.Io.{ReadsAtMost, WritesAtMost};
 ghost use Rattle.std.specs.Io.KnownBytes.{ReadConsumes, WriteAppends};
 ghost use Rattle.ll_wire.specs.Devices.{Devices, Gave, GaveNone, Took, TookNone};
 
-/// The device failed. It isn't called again.
+/// The device failed. It isn't used again.
 #[derive(Clone, Copy, Debug, PartialEq, Eq)]
 pub struct Broken;
 
-/// Two devices: bytes are read from one and written to the other. Whoever reads owes nothing then: each line feed that
-/// was read is answered by one that is written, where line feeds are answered at all.
+/// An input and an output. Before a read no answer is due: every line feed that was read has been answered by one that
+/// was written, if line feeds are answered at all.
 pub trait Ends {
-    /// How they stand.
+    /// The state of both devices.
     ghost devices: { Self → Devices };
 
-    /// What is lent them, where anything is: no call exchanges it.
+    /// The ghost names of what the devices borrow, if anything. No call exchanges it.
     ghost names: { Self → List GName };
 
-    /// Reads some bytes into the buffer, and none at the end.
+    /// Reads some bytes into the buffer. Returns their number, 0 at the end.
     fn read(&mut self, buf: &mut [u8]) -> Result<usize, Broken>
         requires whole { (devices self.old).is_input_broken ≡ false }
         requires answered { (devices self.old).owed ≡ 0 }
@@ -30,7 +30,7 @@ pub trait Ends {
         ensures err { OnErr result (GaveNone (devices self.old) (devices self.new)) }
         ensures same { names self.new ≡ names self.old };
 
-    /// Writes some of the bytes: one at least, if there are any.
+    /// Writes some of the bytes, at least one if there are any. Returns their number.
     fn write(&mut self, bytes: &[u8]) -> Result<usize, Broken>
         requires { (devices self.old).is_output_broken ≡ false }
         ensures bound { WritesAtMost result bytes.now }

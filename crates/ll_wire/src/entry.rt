@@ -17,10 +17,10 @@ use ll_rights::Errno;
 use ll_seq::{Call, Entry, Reply};
 use std::alloc::{AllocError, Global};
 
-/// How many bytes an entry's line has at most, its line feed included.
+/// The most bytes in an entry's line, with its line feed.
 pub const ENTRY_LIMIT: usize = 300_000;
 
-// How many tokens a call of this name has, the name among them.
+// The number of tokens in a call of this name, with the name.
 fn call_len(name: &str) -> usize
     ensures call { (call : Call) (args : List (List ℕ)) → call_tokens call ≡ name.now ∷ args
         → result ≡ length (call_tokens call) }
@@ -35,7 +35,7 @@ fn call_len(name: &str) -> usize
     }
 }
 
-// The call's tokens, so many, and what stands behind the sign `=` after them. A path may be that sign too.
+// The number of the call's tokens, and the text after the `=` that follows them. A path may be `=` too.
 fn cut_of<'a>(text: &'a str, tokens: &mut [&'a str]) -> Option<(usize, &'a str)>
     requires { 4 ≤ length tokens.old }
     ensures found { IfSome result (λ x. (x.0 ≤ length tokens.new)
@@ -49,7 +49,7 @@ fn cut_of<'a>(text: &'a str, tokens: &mut [&'a str]) -> Option<(usize, &'a str)>
     Some((count, reply))
 }
 
-// A command's call, or a connect.
+// Parses the call of a command, or a connect.
 fn entry_call_of(alloc: Global, tokens: &[&str]) -> Result<Call, Errno>
     ensures { ReadsBy (SpellsEntryCall (map (λ t. t.now) tokens.now)) (λ call. holds_text call ≡ true) result }
 {
@@ -61,7 +61,7 @@ fn entry_call_of(alloc: Global, tokens: &[&str]) -> Result<Call, Errno>
     call_of(alloc, tokens)
 }
 
-// A reply that the tree itself gave: HistoryFull (21), NoMemory and BadLine are no entry's.
+// Parses a reply that the tree itself gave. HistoryFull (21), NoMemory and BadLine are never in an entry.
 fn entry_reply_of(alloc: Global, body: &str) -> Result<Reply, Errno>
     ensures { ReadsBy (SpellsEntryReply body.now) (λ reply. tells_text reply ≡ true) result }
 {
@@ -71,7 +71,7 @@ fn entry_reply_of(alloc: Global, body: &str) -> Result<Reply, Errno>
     }
 }
 
-// Both, where both are read. Want of memory is told only where both are spelled.
+// Combines both results. NoMemory counts only if both are spelled.
 fn both(call: Result<Call, Errno>, reply: Result<Reply, Errno>) -> Result<(Call, Reply), Errno>
     ensures { (tokens : List (List ℕ)) (body : List ℕ)
         → ReadsBy (SpellsEntryCall tokens) (λ call. holds_text call ≡ true) call
@@ -90,7 +90,7 @@ fn both(call: Result<Call, Errno>, reply: Result<Reply, Errno>) -> Result<(Call,
     }
 }
 
-// The call and the reply of an entry.
+// Parses the call and the reply of an entry.
 fn answered_of(alloc: Global, text: &str) -> Result<(Call, Reply), Errno>
     ensures { ReadsBy (λ v. SpellsAnswered text.now v.0 v.1) (λ v. (holds_text v.0 || tells_text v.1) ≡ true) result }
 {
@@ -120,8 +120,7 @@ fn entry_of(alloc: Global, body: &str) -> Result<Entry, Errno>
     })
 }
 
-/// The entry that a line of a history spells. `BadLine` where it spells none, and `NoMemory` where it spells one whose
-/// call or reply finds no room.
+/// Parses a line of a history. Errors: BadLine if it spells no entry; NoMemory if it spells one and memory ran out.
 pub fn read_entry(alloc: Global, line: &[u8]) -> Result<Entry, Errno>
     ensures { ReadsBy (SpellsEntry line.now) (λ e. entry_holds_text e ≡ true) result }
 {
@@ -134,7 +133,7 @@ pub fn read_entry(alloc: Global, line: &[u8]) -> Result<Entry, Errno>
     entry_of(alloc, body)
 }
 
-/// The one spelling of an entry.
+/// Returns the entry's line. Errors: memory ran out.
 pub fn entry_text(alloc: Global, entry: &Entry) -> Result<String, AllocError>
     requires { IsEntry entry.now }
     ensures { IfOk result (λ text. string_bytes text ≡ entry_line entry.now) }

@@ -1,4 +1,4 @@
-//! Reading lines, and gathering their replies.
+//! Reads lines and gathers their replies.
 
 ghost use Rattle.std.specs.Prelude.{◌≡◌, ◌≢◌, ◌<◌, ◌≤◌, ◌-◌, ◌++◌, [], ℕ, List, true, false, Ok, IfOk, IfErr, OnOk};
 ghost use Rattle.std.specs.Prelude.{OnErr};
@@ -21,14 +21,14 @@ use crate::{Ends, write_out};
 use std::alloc::{AllocError, Global};
 use std::marker::Model;
 
-/// The most reads of one input that give bytes.
+/// The most reads of one input that return bytes.
 const MOST_READS: u64 = 1_000_000_000;
 
-/// How many bytes a read asks for, and how many of replies wait at most.
+/// The size in bytes of a read, and the most bytes of replies that wait.
 const BLOCK: usize = 65_536;
 
-/// Cuts what is read after each line feed, and gathers the replies. It holds what is read and not yet given, and the
-/// replies that are not yet written: they are before it reads on.
+/// Splits the input at line feeds, and gathers the replies. Holds the bytes that were read but not yet returned, and
+/// the replies that wait. Writes the waiting replies before it reads on.
 #[derive(Drop)]
 pub struct Exchange {
     chunk: Vec<u8>,
@@ -57,7 +57,7 @@ impl Model for Exchange {
         × (r.reads ≤ most_reads) };
 }
 
-// Writes a line that doesn't wait with others. What it answers is kept.
+// Writes one line directly. What it answers has been kept.
 fn write_through<E: Ends, A: Answers>(
     ends: &mut E,
     answers: &A,
@@ -78,7 +78,7 @@ fn write_through<E: Ends, A: Answers>(
 }
 
 impl Exchange {
-    /// Nothing is read yet.
+    /// Returns an exchange that has read nothing. Errors: memory ran out.
     pub fn new(alloc: Global) -> Result<Exchange, AllocError>
         ensures { IfOk result (λ exchange. exchange ≡ unread) }
     {
@@ -92,7 +92,7 @@ impl Exchange {
         })
     }
 
-    // Writes the replies that wait. What they answer is kept.
+    // Writes the waiting replies. What they answer has been kept.
     fn write_waiting<E: Ends, A: Answers>(
         &mut self,
         ends: &mut E,
@@ -123,7 +123,7 @@ impl Exchange {
         }
     }
 
-    // Keeps what was answered, and then writes the replies that wait.
+    // Keeps what was answered, and then writes the waiting replies.
     fn write_kept<E: Ends, A: Answers>(
         &mut self,
         ends: &mut E,
@@ -149,7 +149,7 @@ impl Exchange {
         self.write_waiting(ends, answers)
     }
 
-    // The same, where any reply waits.
+    // If any reply waits, keeps what was answered and writes the waiting replies.
     fn flush<E: Ends, A: Answers>(
         &mut self,
         ends: &mut E,
@@ -177,7 +177,7 @@ impl Exchange {
         self.write_kept(ends, answers)
     }
 
-    // Reads on where nothing is held, unless the input has ended. No reply waits then.
+    // Reads on if no bytes are held, unless the input has ended. No reply may wait.
     fn fill<E: Ends>(&mut self, ends: &mut E) -> Result<(), SessionFault>
         requires ready { CanGoOn 0 self.old (E.devices ends.old) }
         requires silent { IsSilent 0 self.old }
@@ -200,7 +200,7 @@ impl Exchange {
         self.read_chunk(ends)
     }
 
-    // Reads on, where nothing is held and no reply waits.
+    // Reads on. No bytes may be held and no reply may wait.
     fn read_chunk<E: Ends>(&mut self, ends: &mut E) -> Result<(), SessionFault>
         requires ready { CanGoOn 0 self.old (E.devices ends.old) }
         requires empty { self.old.bytes ≡ [] }
@@ -232,7 +232,7 @@ impl Exchange {
         Ok(())
     }
 
-    // The next byte, or none at the end.
+    // The next byte, or None at the end.
     fn next_byte<E: Ends>(&mut self, ends: &mut E) -> Result<Option<u8>, SessionFault>
         requires ready { CanGoOn 0 self.old (E.devices ends.old) }
         requires silent { IsSilent 0 self.old }
@@ -260,14 +260,14 @@ impl Exchange {
         }
     }
 
-    // Whether the next line is held whole, so that no read comes before it.
+    // Whether a complete line is held, so that it needs no read.
     fn holds_line(&self) -> bool
         ensures { IsTrue result → 1 ≤ line_feeds self.now.bytes }
     {
         self.chunk[self.start..self.end].contains(&b'\n')
     }
 
-    // Cuts the next line, and reads on for it only where no reply waits.
+    // Takes the next line. If that needs a read, no reply may wait.
     fn cut_line<E: Ends>(&mut self, ends: &mut E, line: &mut Line) -> Result<bool, SessionFault>
         requires ready { CanGoOn 0 self.old (E.devices ends.old) }
         requires silent { IsSilent 0 self.old }
@@ -292,7 +292,7 @@ impl Exchange {
         Ok(!line.is_empty())
     }
 
-    // Where the next line isn't held whole, no reply waits any more.
+    // Writes the waiting replies, unless a complete line is held.
     fn fall_silent<E: Ends, A: Answers>(
         &mut self,
         ends: &mut E,
@@ -318,8 +318,8 @@ impl Exchange {
         self.flush(ends, answers)
     }
 
-    /// Reads the next line, whose line feed only the last may lack. Whether there is one. Before each read the replies
-    /// that wait are written, once what they answer is kept.
+    /// Reads the next line into `line`. Only the last may lack its line feed. Returns whether there was one. Before
+    /// each read it keeps what was answered and writes the waiting replies.
     pub fn read_line<E: Ends, A: Answers>(
         &mut self,
         ends: &mut E,
@@ -344,7 +344,8 @@ impl Exchange {
         self.cut_line(ends, line)
     }
 
-    /// Memory is wanted for a reply: what was answered is kept, and the replies that wait are written, if they can be.
+    /// Handles NoMemory for a reply: keeps what was answered, and writes the waiting replies if possible. Returns the
+    /// fault.
     pub fn starve<E: Ends, A: Answers>(&mut self, ends: &mut E, answers: &mut A) -> SessionFault
         requires { IsWhole (E.devices ends.old) }
         ensures settled { Settles A.tells A.goes A.used A.over answers.old answers.new }
@@ -362,7 +363,7 @@ impl Exchange {
         }
     }
 
-    // Lets the line wait with the others, where it fits. Whether it does.
+    // Adds the line to the waiting replies if it fits. Returns whether it did.
     fn gather(&mut self, line: &str) -> bool
         ensures yes { IsTrue result → self.new ≡ record self.old { waiting = self.old.waiting ++ line.now } }
         ensures no { result ≡ false → self.new ≡ self.old }
@@ -376,7 +377,7 @@ impl Exchange {
         }
     }
 
-    /// Answers a line. The answer is written before the next read, once what it answers is kept.
+    /// Answers a line. The answer is written before the next read, after what it answers is kept.
     pub fn reply<E: Ends, A: Answers>(
         &mut self,
         ends: &mut E,
@@ -404,7 +405,7 @@ impl Exchange {
         write_through(ends, answers, line)
     }
 
-    /// All is read: what was answered is kept, and the last answers are written.
+    /// Ends the exchange after the last line: keeps what was answered, and writes the waiting replies.
     pub fn end<E: Ends, A: Answers>(
         &mut self,
         ends: &mut E,

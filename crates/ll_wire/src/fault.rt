@@ -2,7 +2,7 @@
 
 use thiserror::Error;
 
-/// Why a session ends before its input does: whoever reads lines and answers each.
+/// Why a session, or any other reader of lines, ends before its input does.
 #[derive(Debug, Drop, Error)]
 pub enum SessionFault {
     #[error("the input can't be read")]

@@ -3,7 +3,7 @@
 ghost use Rattle.std.specs.Prelude.{◌≡◌};
 ghost use Rattle.ll_wire.specs.Devices.{line_feeds};
 
-/// How many line feeds are among the bytes.
+/// Counts the line feeds in the bytes.
 pub fn count_feeds(bytes: &[u8]) -> usize
     ensures { result ≡ line_feeds bytes.now }
 {

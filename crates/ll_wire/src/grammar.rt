@@ -23,12 +23,12 @@ pub fn spells_one_reply()
     ensures { (line : List ℕ) (reply other : Reply) → SpellsReply line reply → SpellsReply line other → reply ≡ other }
 {}
 
-/// A line spells at most one entry of a history: where its call ends is never in doubt.
+/// A line spells at most one entry of a history. In particular, the end of its call is unique.
 pub fn spells_one_entry()
     ensures { (line : List ℕ) (entry other : Entry) → SpellsEntry line entry → SpellsEntry line other → entry ≡ other }
 {}
 
-/// The line of an entry is never too long to be read, unless it lists more names than a directory has.
+/// An entry's line never exceeds the length that is read, unless it lists more names than a directory can have.
 pub fn entries_fit()
     ensures { (entry : Entry) → IsEntry entry
         → ((names : List (List ℕ)) → entry.reply ≡ Listed names → length names ≤ DIRECTORY_ENTRIES)

@@ -13,10 +13,10 @@ use ll_rights::limits::TREE_NODES;
 use ll_seq::Rules;
 use std::alloc::{AllocError, Global};
 
-// The word that a header begins with.
+// The first word of a header.
 const TITLE: &str = "landtree-history";
 
-/// The versions of histories, and the ABI level where one tells it. Today's are of version 3.
+/// The version of a history, with the ABI level if the version has one. Version 3 is written today.
 #[derive(Clone, Copy, Debug, PartialEq, Eq)]
 pub enum Version {
     One,
@@ -27,7 +27,7 @@ pub enum Version {
 impl Version {
     ghost use Rattle.ll_wire.specs.Entries.{version_rules, version_text, level_tokens, IsVersion};
 
-    /// What the history's tree was opened with.
+    /// Returns the rules of the history's tree.
     pub fn rules(self) -> Rules
         ensures { result ≡ version_rules self }
     {
@@ -49,7 +49,7 @@ impl Version {
         }
     }
 
-    // The level's number, where the version tells it.
+    // The level's number, if the version has one.
     fn level(self) -> Option<u64>
         ensures tokens { MatchOption result (level_tokens self ≡ [])
             (λ abi. level_tokens self ≡ codes "abi" ∷ decimal abi ∷ []) }
@@ -62,7 +62,7 @@ impl Version {
     }
 }
 
-/// A history's first line: its version, and how many nodes may live in its tree.
+/// A history's first line: its version, and its tree's limit of live nodes.
 #[derive(Clone, Copy, Debug, PartialEq, Eq)]
 pub struct Header {
     pub version: Version,
@@ -120,7 +120,7 @@ fn header_of(tokens: &[&str]) -> Option<Header>
     })
 }
 
-/// The header that a line spells, if it spells one.
+/// Parses a header, or returns None.
 pub fn read_header(line: &[u8]) -> Option<Header>
     ensures { Finds (SpellsHeader line.now) result }
 {
@@ -130,7 +130,7 @@ pub fn read_header(line: &[u8]) -> Option<Header>
     header_of(&tokens[..count])
 }
 
-/// The one spelling of a header.
+/// Returns the header's line. Errors: memory ran out.
 pub fn header_text(alloc: Global, header: Header) -> Result<String, AllocError>
     requires some { 1 ≤ header.nodes }
     requires most { header.nodes ≤ TREE_NODES }

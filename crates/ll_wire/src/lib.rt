@@ -1,5 +1,5 @@
-//! The lines of a session, commands and replies, those of a history, and those of a schedule, read and written.
-//! `specs/Grammar.antt`, `specs/Entries.antt` and `specs/ScheduleLines.antt` spell each.
+//! Reads and writes the lines of sessions (commands and replies), of histories, and of schedules. `specs/Grammar.antt`,
+//! `specs/Entries.antt` and `specs/ScheduleLines.antt` define their spelling.
 #![tactic(auto)]
 
 mod answers;
@@ -15,6 +15,7 @@ mod header;
 mod line;
 mod line_out;
 mod pair;
+mod pieces;
 mod read;
 mod replies;
 mod schedule;
@@ -40,6 +41,7 @@ pub use header::{Header, Version, header_text, read_header};
 pub use line::Line;
 pub use line_out::write_line;
 pub use pair::Pair;
+pub use pieces::split_line;
 pub use read::{LINE_LIMIT, read_command};
 pub use replies::read_reply;
 pub use schedule::{ScheduleLine, read_schedule_line};

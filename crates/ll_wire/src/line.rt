@@ -7,7 +7,7 @@ use crate::LINE_LIMIT;
 use std::alloc::{AllocError, Global};
 use std::marker::Model;
 
-/// The bytes since the last line feed. Of a line that is too long only that it is.
+/// The bytes read since the last line feed. If they are too many for a command, only that fact.
 #[derive(Drop)]
 pub struct Line {
     bytes: Vec<u8>,
@@ -26,7 +26,7 @@ impl Model for Line {
 }
 
 impl Line {
-    /// An empty line, with room for the longest command.
+    /// Returns an empty line with room for the longest command. Errors: memory ran out.
     pub fn new(alloc: Global) -> Result<Line, AllocError>
         ensures { IfOk result (λ line. line ≡ Some []) }
     {
@@ -36,7 +36,7 @@ impl Line {
         })
     }
 
-    /// The bytes, or none where they are too many for a command.
+    /// Returns the bytes, or None if they are too many for a command.
     pub fn bytes(&self) -> Option<&[u8]>
         ensures { option_map (λ bytes. bytes.now) result ≡ self.now }
     {
@@ -47,7 +47,7 @@ impl Line {
         }
     }
 
-    /// Adds a byte. There is room for it, or the line gets too long.
+    /// Adds a byte. Takes no memory: without room, the line becomes too long.
     pub fn push(&mut self, byte: u8)
         ensures { (part : List ℕ) → Holds self.old part → Holds self.new (part ++ byte ∷ []) }
     {

@@ -1,4 +1,4 @@
-//! Writing a line.
+//! Writes a line.
 
 ghost use Rattle.std.specs.Prelude.{◌≡◌, IfErr, OnErr, OnOk};
 ghost use Rattle.std.specs.Io.KnownBytes.{Appends};
@@ -9,7 +9,7 @@ ghost use Rattle.ll_wire.specs.declared.fault.SessionFault.{SessionFault};
 use crate::fault::SessionFault;
 use crate::{Ends, write_out};
 
-/// Writes the whole text of a line. No failure is tried again.
+/// Writes the whole line. Doesn't retry after a failure.
 pub fn write_line<E: Ends>(ends: &mut E, line: &str) -> Result<(), SessionFault>
     requires { IsWhole (E.devices ends.old) }
     ensures ok { OnOk result (Appends (E.devices ends.old).contents (E.devices ends.new).contents line.now) }

@@ -5,8 +5,8 @@ use crate::feeds::count_feeds;
 use crate::{read_steadily, write_steadily};
 use std::io::{Read, Write};
 
-/// A reader and a writer, and what is counted of them: how many reads gave bytes, and how many line feeds are owed, if
-/// line feeds are answered.
+/// A reader and a writer, with two counts: the reads that returned bytes, and, if line feeds are answered, the line
+/// feeds whose answers are due.
 #[derive(Drop)]
 pub struct Pair<'a, R, W> {
     pub reader: &'a mut R,

@@ -12,7 +12,7 @@ use ll_rights::{Access, Errno, Kind};
 use ll_seq::{AccessMode, Call, Creation, Mode};
 use std::alloc::Global;
 
-/// How many bytes a command line has at most, its line feed included.
+/// The most bytes in a command line, with its line feed.
 pub const LINE_LIMIT: usize = 16_384;
 
 fn mode_of(text: &str) -> Option<Mode>
@@ -41,7 +41,7 @@ fn mode_of(text: &str) -> Option<Mode>
     })
 }
 
-// Takes memory, so it is read after all that takes none.
+// Takes memory, so it is parsed after everything that takes none.
 fn target_of(alloc: Global, text: &str) -> Result<Target, Errno>
     ensures { Reads (SpellsTarget text.now) result }
 {
@@ -156,7 +156,7 @@ fn truncate(alloc: Global, args: &[&str]) -> Result<Call, Errno>
     }
 }
 
-// The target of a call that names one path and nothing else.
+// The path argument of a call that has one and nothing else.
 fn only_target(alloc: Global, args: &[&str]) -> Result<Target, Errno>
     ensures { Reads (SpellsOneTarget (map (λ t. t.now) args.now)) result }
 {
@@ -166,8 +166,7 @@ fn only_target(alloc: Global, args: &[&str]) -> Result<Target, Errno>
     target_of(alloc, path)
 }
 
-// The targets of a call that names two paths and nothing else. Both words are known to be words
-// before memory is taken for one.
+// The path arguments of a call that has two and nothing else. Both words are checked before memory is taken for one.
 fn two_targets(alloc: Global, args: &[&str]) -> Result<(Target, Target), Errno>
     ensures { Reads (SpellsTwoTargets (map (λ t. t.now) args.now)) result }
 {
@@ -266,7 +265,7 @@ pub(crate) fn call_of(alloc: Global, tokens: &[&str]) -> Result<Call, Errno>
     }
 }
 
-// The client whose name comes first, or the first client, and its call, if there is such a client.
+// The client that is named first (by default the first), if it exists, and its call.
 fn command_of(alloc: Global, tokens: &[&str], clients: u64) -> Result<(u64, Call), Errno>
     requires { 1 ≤ clients }
     ensures { ReadsBy (λ v. SpellsTokens (map (λ t. t.now) tokens.now) v.0 v.1 × (v.0 ≤ clients))
@@ -282,9 +281,8 @@ fn command_of(alloc: Global, tokens: &[&str], clients: u64) -> Result<(u64, Call
     }
 }
 
-/// The call that a line spells, and which of the session's clients makes it (the first is 1).
-/// `BadLine` where it spells none of one of them, and `NoMemory` where it spells one that finds no room for a word or
-/// bytes.
+/// Parses a command line. Returns the client that makes the call, numbered from 1, and the call. Errors: BadLine if the
+/// line spells no call of one of the `clients` clients; NoMemory if it does and memory ran out for a word or bytes.
 pub fn read_command(alloc: Global, line: &[u8], clients: u64) -> Result<(u64, Call), Errno>
     requires { 1 ≤ clients }
     ensures { ReadsBy (λ v. SpellsCommand line.now v.0 v.1 × (v.0 ≤ clients)) (λ v. holds_text v.1 ≡ true) result }

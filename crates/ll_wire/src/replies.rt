@@ -1,4 +1,4 @@
-//! Reading replies.
+//! Reads replies.
 
 ghost use Rattle.std.specs.Prelude.{◌≡◌, ◌<◌, ◌==◌, ◌∷◌, true, false, map, codes, IfOk, MatchBool};
 ghost use Rattle.std.specs.List.{slice_split};
@@ -17,7 +17,7 @@ use ll_seq::{Listing, Reply, Status};
 use std::alloc::{AllocError, Global};
 use std::cmp::Ordering;
 
-// The empty text comes before each name.
+// The empty text is less than every name.
 fn are_listed(text: &str) -> bool
     ensures { MatchBool result (AreListed (slice_split (λ b. b == 32) text.now))
         (AreListed (slice_split (λ b. b == 32) text.now) → ⊥) }
@@ -43,7 +43,7 @@ fn listing_of(alloc: Global, text: &str) -> Result<Listing, AllocError>
     Ok(listing)
 }
 
-// What stands behind the word `names`. Memory is taken only where all of them are names.
+// Parses the text after the word `names`. Takes memory only if all parts are names.
 fn names_of(alloc: Global, text: &str) -> Result<Listing, Errno>
     ensures { Reads (SpellsNames text.now) result }
 {
@@ -85,7 +85,7 @@ fn status_of(args: &[&str]) -> Option<Status>
     })
 }
 
-// What policy refuses is a denial, and no reply tells that a walk is stale.
+// What policy denies is a denial, and no reply reports that a walk is stale.
 fn refusal_of(args: &[&str]) -> Option<Errno>
     ensures { Finds (λ errno. SpellsReplyTokens (codes "refused" ∷ map (λ t. t.now) args.now) (Reply.Refused errno))
         result }
@@ -128,7 +128,7 @@ fn done(args: &[&str]) -> Option<Reply>
     Some(Reply::Done)
 }
 
-// A reply that takes no memory to be read.
+// Parses a reply that takes no memory.
 fn short_reply(tokens: &[&str]) -> Option<Reply>
     ensures { Finds (λ reply. SpellsReplyTokens (map (λ t. t.now) tokens.now) reply × (tells_text reply ≡ false))
         result }
@@ -168,8 +168,8 @@ pub(crate) fn reply_of(alloc: Global, body: &str) -> Result<Reply, Errno>
     }
 }
 
-/// The reply that a line spells. `BadLine` where it spells none, and `NoMemory` where it spells one whose names or
-/// bytes find no room.
+/// Parses a reply's line. Errors: BadLine if it spells no reply; NoMemory if it does and memory ran out for its names
+/// or bytes.
 pub fn read_reply(alloc: Global, line: &[u8]) -> Result<Reply, Errno>
     ensures { ReadsBy (SpellsReply line.now) (λ reply. tells_text reply ≡ true) result }
 {

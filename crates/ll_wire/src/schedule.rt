@@ -1,4 +1,4 @@
-//! Reading lines of schedules.
+//! Reads lines of schedules.
 
 ghost use Rattle.std.specs.Prelude.{◌≡◌, ◌≤◌, true, map, IfSome};
 ghost use Rattle.ll_wire.specs.Reads.{ReadsBy};
@@ -12,16 +12,16 @@ use ll_rights::Errno;
 use ll_seq::Call;
 use std::alloc::Global;
 
-/// What a line of a schedule asks for.
+/// A parsed line of a schedule.
 #[derive(Drop)]
 pub enum ScheduleLine {
-    /// One step.
+    /// Make one step.
     Step(Step),
-    /// All steps of one call, by the client of a number.
+    /// Make all steps of one call, by the client of this number.
     Do(u64, Call),
 }
 
-// What stands behind the client's name: a word alone, or a word and a call.
+// Parses the tokens after the client's name: a word alone, or a word and a call.
 fn behind_name(alloc: Global, client: u64, tokens: &[&str]) -> Result<ScheduleLine, Errno>
     ensures { ReadsBy (SpellsBehind client (map (λ t. t.now) tokens.now)) (λ v. line_holds_text v ≡ true) result }
 {
@@ -43,7 +43,7 @@ fn behind_name(alloc: Global, client: u64, tokens: &[&str]) -> Result<ScheduleLi
     }
 }
 
-// A connect, or what stands behind the name of a client that there is.
+// Parses a connect, or a line of an existing client.
 fn schedule_line_of(alloc: Global, tokens: &[&str], clients: u64) -> Result<ScheduleLine, Errno>
     ensures { ReadsBy (λ v. SpellsLineTokens (map (λ t. t.now) tokens.now) v
         × IfSome (client_in v) (λ client. client ≤ clients)) (λ v. line_holds_text v ≡ true) result }
@@ -59,9 +59,8 @@ fn schedule_line_of(alloc: Global, tokens: &[&str], clients: u64) -> Result<Sche
     }
 }
 
-/// What a line of a schedule spells, of one of its clients, so many as came until then (the first is 1).
-/// `BadLine` where it spells nothing of one of them, and `NoMemory` where it spells a call that finds no room for a
-/// word or bytes.
+/// Parses a line of a schedule. `clients` is the number of clients so far; the first is 1. Errors: BadLine if it spells
+/// nothing of one of them; NoMemory if it spells a call and memory ran out for a word or bytes.
 pub fn read_schedule_line(alloc: Global, line: &[u8], clients: u64) -> Result<ScheduleLine, Errno>
     ensures { ReadsBy (λ v. SpellsScheduleLine line.now v × IfSome (client_in v) (λ client. client ≤ clients))
         (λ v. line_holds_text v ≡ true) result }

@@ -1,4 +1,4 @@
-//! What the types of a call and a reply keep of them.
+//! Facts that the types of calls and replies guarantee. These functions do nothing when they run.
 
 ghost use Rattle.std.specs.Prelude.{◌≢◌, ◌<◌, ℕ, slice_index};
 ghost use Rattle.ll_rights.specs.declared.errno.Errno.{Errno};
@@ -11,7 +11,7 @@ use ll_path::Target;
 use ll_rights::{Access, Right};
 use ll_seq::{Call, Reply};
 
-// Nothing happens. What the type of a target keeps of it.
+// A target's type guarantees that it can be spelled.
 fn is_target_spelled(target: &Target)
     ensures { IsSpelled target.now }
 {
@@ -25,28 +25,29 @@ fn are_spelled(old: &Target, new: &Target)
     is_target_spelled(new);
 }
 
-// Nothing happens. Numbers are below 2^64.
+// Numbers are less than 2^64.
 fn are_numbers(number: u64, second: u64, third: u64)
     ensures { IsU64 number × IsU64 second × IsU64 third }
 {
     let _numbers = (number, second, third);
 }
 
-// Nothing happens. Bytes are numbers below 256.
+// Bytes are less than 256.
 fn are_bytes(bytes: &[u8])
     ensures { (i : ℕ) → slice_index bytes.now i < 256 }
 {
     let _bytes = bytes;
 }
 
-// Nothing happens. Sets of rights are numbers too.
+// A set of rights is a number less than 2^64.
 fn is_set(rights: Access)
     ensures { IsU64 rights.0 }
 {
     let _rights = rights;
 }
 
-/// Nothing happens. What the types of a call keep of it: it has a spelling, or is a connect, which an entry may have.
+/// Does nothing when it runs. Its contract: a call's type guarantees that it can be spelled, or is a connect, which an
+/// entry may have.
 pub fn is_spelled(call: &Call)
     ensures { IsEntryCall call.now }
 {
@@ -85,14 +86,14 @@ pub fn is_spelled(call: &Call)
     }
 }
 
-// Nothing happens. There are fifteen rights.
+// There are fifteen rights.
 fn is_right(right: Right)
     ensures { right < 15 }
 {
     let _right = right;
 }
 
-/// Nothing happens. What the types of a tree's reply keep of it: it may stand in an entry, but for want of memory.
+/// Does nothing when it runs. Its contract: every reply of a tree but NoMemory may be in an entry.
 pub fn is_entered(reply: &Reply)
     requires answer { IsAnswer reply.now }
     requires memory { reply.now ≢ Reply.Refused Errno.NoMemory }

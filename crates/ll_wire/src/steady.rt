@@ -1,4 +1,4 @@
-//! Reads and writes that a signal doesn't end.
+//! Reads and writes that are retried after a signal.
 
 ghost use Rattle.std.specs.Prelude.{◌≢◌, IfErr};
 ghost use Rattle.std.specs.Io.{ReadsAtMost, WritesAtMost};
@@ -8,7 +8,7 @@ ghost use Rattle.std.specs.IoError.{error_kind};
 use std::io;
 use std::io::{Error, ErrorKind, Read, Write};
 
-/// Reads some bytes, and none at the end. A read that a signal interrupts is made again.
+/// Reads some bytes. Returns their number, 0 at the end. Retries if a signal interrupts.
 pub fn read_steadily<R: Read>(reader: &mut R, buf: &mut [u8]) -> io::Result<usize>
     ensures bound { ReadsAtMost result buf.new }
     ensures bytes { ReadConsumes (R.remaining reader.old) (R.remaining reader.new) result buf.new }
@@ -24,7 +24,7 @@ pub fn read_steadily<R: Read>(reader: &mut R, buf: &mut [u8]) -> io::Result<usiz
     Err(Error::from(ErrorKind::TimedOut))
 }
 
-/// Writes some of the bytes. A write that a signal interrupts is made again.
+/// Writes some of the bytes. Returns their number. Retries if a signal interrupts.
 pub fn write_steadily<W: Write>(writer: &mut W, bytes: &[u8]) -> io::Result<usize>
     ensures bound { WritesAtMost result bytes.now }
     ensures bytes { WriteAppends (W.contents writer.old) (W.contents writer.new) result bytes.now }

@@ -1,4 +1,4 @@
-//! Bytes of others as a terminal may get them.
+//! Makes others' bytes safe for a terminal.
 
 ghost use Rattle.std.specs.Prelude.{◌≡◌, ◌≤◌, ◌++◌, IfOk, OnOk, length, string_bytes};
 ghost use Rattle.std.specs.List.{All};
@@ -6,10 +6,10 @@ ghost use Rattle.ll_wire.specs.Terminal.{IsPrinted, cut, digit, escaped, escaped
 
 use std::alloc::{AllocError, Global};
 
-/// How many characters of a text are shown at most.
+/// The most characters of a text that are shown.
 const MOST: usize = 200;
 
-/// How many characters of each end of a longer text are shown.
+/// How many characters are shown of each end of a longer text.
 const END: usize = 99;
 
 fn is_printed(byte: u8) -> bool
@@ -18,7 +18,7 @@ fn is_printed(byte: u8) -> bool
     byte >= 32 && byte <= 126
 }
 
-// The digit in base 16 of this number, which is below 16.
+// The digit in base 16 of a number less than 16.
 fn digit(number: u8) -> char
     requires { number ≤ 15 }
     ensures { result ≡ digit number }
@@ -42,7 +42,7 @@ fn push_byte(text: &mut String, byte: u8) -> Result<(), AllocError>
     text.push(digit(byte % 16))
 }
 
-/// Returns the text with each byte that isn't a printed character of ASCII as `\x` and its two digits.
+/// Returns the text with each byte that isn't printable ASCII replaced by `\x` and two digits. Errors: memory ran out.
 pub fn escaped(alloc: Global, text: &[u8]) -> Result<String, AllocError>
     ensures escaped { IfOk result (λ it. string_bytes it ≡ escaped text.now) }
     ensures printed { IfOk result (λ it. All IsPrinted (string_bytes it)) }
@@ -54,7 +54,7 @@ pub fn escaped(alloc: Global, text: &[u8]) -> Result<String, AllocError>
     Ok(told)
 }
 
-// The text, or its two ends where it is longer than what is shown.
+// The text, or only its two ends if it is too long.
 fn cut(alloc: Global, text: String) -> Result<String, AllocError>
     requires { All IsPrinted (string_bytes text) }
     ensures { IfOk result (λ it. string_bytes it ≡ cut (string_bytes text)) }
@@ -69,7 +69,7 @@ fn cut(alloc: Global, text: String) -> Result<String, AllocError>
     Ok(ends)
 }
 
-/// Returns the escaped text, of which only the two ends are shown where it is long.
+/// Returns the escaped text, or only its two ends if it is too long. Errors: memory ran out.
 #[tactic(auto, using(crate::proofs::Printed::short_shown, crate::proofs::Printed::same_shown))]
 pub fn shown(alloc: Global, text: &[u8]) -> Result<String, AllocError>
     ensures shown { IfOk result (λ it. string_bytes it ≡ shown text.now) }

@@ -9,7 +9,7 @@ ghost use Rattle.ll_wire.specs.Reads.{Finds};
 
 use ll_rights::limits::TREE_CLIENTS;
 
-// What stands before the line feed.
+// The text before the line feed.
 pub(crate) fn body_of(line: &[u8]) -> Option<&str>
     ensures found { IfSome result (λ body. line.now ≡ body.now ++ 10 ∷ []) }
     ensures none { IfNone result ((body : List ℕ) → IsAscii body → line.now ≢ body ++ 10 ∷ []) }
@@ -24,7 +24,7 @@ pub(crate) fn body_of(line: &[u8]) -> Option<&str>
     }
 }
 
-// How many tokens there are, if they find room. Two spaces have an empty token between them.
+// The number of tokens, if they fit. Between two spaces is an empty token.
 pub(crate) fn tokens_of<'a>(body: &'a str, tokens: &mut [&'a str]) -> Option<usize>
     ensures found { IfSome result (λ n. (n ≤ length tokens.new)
         × (map (λ s. s.now) (take n tokens.new) ≡ slice_split (λ b. b == 32) body.entry.now)) }
@@ -41,7 +41,7 @@ pub(crate) fn tokens_of<'a>(body: &'a str, tokens: &mut [&'a str]) -> Option<usi
     Some(count)
 }
 
-// The first token, and what stands behind the space after it.
+// The first token, and the text after the space that follows it.
 pub(crate) fn first_of(text: &str) -> Option<(&str, &str)>
     ensures found { IfSome result (λ x. slice_split (λ b. b == 32) text.now
         ≡ x.0.now ∷ slice_split (λ b. b == 32) x.1.now) }
@@ -50,7 +50,7 @@ pub(crate) fn first_of(text: &str) -> Option<(&str, &str)>
     text.split_once(' ')
 }
 
-// The first tokens, so many, and what stands behind the space after them.
+// The first `count` tokens, and the text after the space that follows them.
 pub(crate) fn front_of<'a>(text: &'a str, count: usize, tokens: &mut [&'a str]) -> Option<&'a str>
     requires { count ≤ length tokens.old }
     ensures found { IfSome result (λ rest. slice_split (λ b. b == 32) text.entry.now
@@ -66,7 +66,7 @@ pub(crate) fn front_of<'a>(text: &'a str, count: usize, tokens: &mut [&'a str]) 
     Some(rest)
 }
 
-// No sign, and no zero in front.
+// Without a sign and leading zeros.
 fn is_plain(token: &str) -> bool
     ensures { MatchBool result ((0 < length token.now) × (slice_index token.now 0 ≢ 43)
         × (slice_index token.now 0 ≡ 48 → length token.now ≡ 1))
@@ -89,7 +89,7 @@ pub(crate) fn number_of(token: &str) -> Option<u64>
     token.parse::<u64>().ok()
 }
 
-// The client that the token names, whichever it is.
+// Parses the name of any client.
 pub(crate) fn named_client(token: &str) -> Option<u64>
     ensures { Finds (SpellsClient token.now) result }
 {
@@ -100,7 +100,7 @@ pub(crate) fn named_client(token: &str) -> Option<u64>
     Some(number)
 }
 
-// The first client's number is never written in a command.
+// Parses the name of a client in a command. The first client's is never written.
 pub(crate) fn client_of(token: &str) -> Option<u64>
     ensures { Finds (NamesClient token.now) result }
 {

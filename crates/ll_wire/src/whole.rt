@@ -1,4 +1,4 @@
-//! Text, written.
+//! Writes whole texts.
 
 ghost use Rattle.std.specs.Prelude.{OnOk, OnErr};
 ghost use Rattle.std.specs.Io.KnownBytes.{Appends};
@@ -8,7 +8,7 @@ use crate::steady::write_steadily;
 use std::io;
 use std::io::{ErrorKind, Write};
 
-/// Writes the whole text. No failure is tried again, but where a signal interrupts a write.
+/// Writes the whole text. Retries if a signal interrupts a write, but not after a failure.
 pub fn write_whole<W: Write>(writer: &mut W, text: &str) -> io::Result<()>
     ensures ok { OnOk result (Appends (W.contents writer.old) (W.contents writer.new) text.now) }
     ensures err { OnErr result (AppendsFront (W.contents writer.old) (W.contents writer.new) text.now) }

@@ -1,4 +1,4 @@
-//! Writing commands and replies.
+//! Writes commands and replies.
 
 ghost use Rattle.std.specs.Prelude.{◌≡◌, [], ◌∷◌, ◌++◌, map, decimal, codes, IfOk, OnOk, string_bytes};
 ghost use Rattle.std.specs.List.{join_with_byte};
@@ -12,7 +12,7 @@ use ll_rights::{Access, Errno};
 use ll_seq::{AccessMode, Call, Creation, Mode, Reply, Status};
 use std::alloc::{AllocError, Global};
 
-/// Most texts have no more bytes, so their room never grows.
+/// Most texts have fewer bytes, so their buffer never grows.
 const ROOM: usize = 64;
 
 fn push_token(text: &mut String, token: &str) -> Result<(), AllocError>
@@ -29,7 +29,7 @@ fn ended(mut text: String) -> Result<String, AllocError>
     Ok(text)
 }
 
-// The tokens with a space between any two.
+// The tokens, separated by spaces.
 fn spaced_text(alloc: Global, first: &str, others: &[&str]) -> Result<String, AllocError>
     ensures { IfOk result (λ text. string_bytes text ≡ join_with_byte 32 (first.now ∷ map (λ t. t.now) others.now)) }
 {
@@ -41,7 +41,7 @@ fn spaced_text(alloc: Global, first: &str, others: &[&str]) -> Result<String, Al
     Ok(text)
 }
 
-/// The line of these tokens.
+/// Returns the line of these tokens. Errors: memory ran out.
 pub fn line_text(alloc: Global, first: &str, others: &[&str]) -> Result<String, AllocError>
     ensures { IfOk result (λ text. string_bytes text ≡ line_of (first.now ∷ map (λ t. t.now) others.now)) }
 {
@@ -81,7 +81,7 @@ fn number_text(alloc: Global, name: &str, number: u64) -> Result<String, AllocEr
     one_arg(alloc, name, number.as_str())
 }
 
-// A call's name and two tokens. They share a lifetime, since an array of references has one.
+// A call's name and two tokens. They share a lifetime because an array of references has only one.
 fn two_args<'a>(alloc: Global, name: &str, one: &'a str, two: &'a str) -> Result<String, AllocError>
     ensures { IfOk result (λ text. string_bytes text ≡ join_with_byte 32 (name.now ∷ one.now ∷ two.now ∷ [])) }
 {
@@ -210,7 +210,7 @@ fn client_text(alloc: Global, client: u64) -> Result<String, AllocError>
     Ok(text)
 }
 
-/// The one spelling of a command.
+/// Returns the command's line. Errors: memory ran out.
 pub fn command_text(alloc: Global, client: u64, call: &Call) -> Result<String, AllocError>
     requires client { IsClient client }
     requires call { IsCall call.now }
@@ -294,7 +294,7 @@ pub(crate) fn reply_body(alloc: Global, reply: &Reply) -> Result<String, AllocEr
     }
 }
 
-/// The one spelling of a reply.
+/// Returns the reply's line. Errors: memory ran out.
 pub fn reply_text(alloc: Global, reply: &Reply) -> Result<String, AllocError>
     requires { IsReply reply.now }
     ensures { IfOk result (λ text. string_bytes text ≡ reply_line reply.now) }
@@ -302,7 +302,7 @@ pub fn reply_text(alloc: Global, reply: &Reply) -> Result<String, AllocError>
     ended(reply_body(alloc, reply)?)
 }
 
-/// The line of a word and a reply behind it.
+/// Returns the line of a word followed by a reply. Errors: memory ran out.
 pub fn reply_text_behind(alloc: Global, word: &str, reply: &Reply) -> Result<String, AllocError>
     ensures { IfOk result (λ text. string_bytes text ≡ line_of (word.now ∷ reply_tokens reply.now)) }
 {

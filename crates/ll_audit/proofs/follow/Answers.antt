@@ -1,6 +1,6 @@
 use Rattle.std.proofs.Common.{◌≡◌, true≢false, sym, ◌∙◌, subst, ◌+◌}
 use Rattle.ll_audit.specs.Audit.{IsFirstIllegal}
-use Rattle.ll_audit.proofs.Following.{goes_on, stops, starves}
+use Rattle.ll_audit.proofs.Follows.{goes_on, stops, starves}
 use Rattle.ll_audit.proofs.follow.Goals as goal
 
 pub loop-i-preserved : goal.loop-i-preserved

@@ -1,4 +1,4 @@
-use Rattle.ll_audit.proofs.Following.{HasFollowed}
+use Rattle.ll_audit.proofs.Follows.{HasFollowed}
 use Rattle.ll_audit.proofs.follow.Given as goal
 
 abbrev pub invariant-loop-i : goal.invariant-loop-i

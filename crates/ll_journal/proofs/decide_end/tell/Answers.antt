@@ -11,7 +11,7 @@ pub returns-in-Status-clause-told : goal.returns-in-Status-clause-told
 returns-in-Status-clause-told c s marks spares slots table lent any some =
     let known = lent_told s spares c.args.table.now table marks slots c.args.lent.now lent (told_inodes c.args.answer)
     c.in-Status.inode (ap told_inodes c.in-Status.is) any some in
-    ap reply.Found (c.status.ensures s (subst (AreKept s) (sym c.facts.ensures) table.facts)
+    ap reply.Found (c.status_of.ensures s (subst (AreKept s) (sym c.facts.ensures) table.facts)
     (c.size_of_lent-size.ensures s known.0) (λ none. absurd (cc (sym known.1 ∙ ap is_some none))))
     ∙ sym (ap (told s) c.in-Status.is)
 

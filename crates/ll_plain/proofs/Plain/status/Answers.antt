@@ -6,4 +6,4 @@ use Rattle.ll_plain.proofs.Plain.status.Goals as goal
 pub returns : goal.returns
 returns c =
     let tied = subst (λ (z : State). IsTied z c.self.inside.facts) c.self.view_is c.self.invariant in
-    c.status.ensures c.args.self.now tied.kept c.size.ensures (tied.nodes.named c.args.inode)
+    c.status_of.ensures c.args.self.now tied.kept c.size.ensures (tied.nodes.named c.args.inode)

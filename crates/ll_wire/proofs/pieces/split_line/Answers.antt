@@ -1,8 +1,8 @@
 use Rattle.std.proofs.Common.{◌≡◌, ◌∷◌, ℕ, ◌+◌, suc, List, slice_index, take, drop, sym, ap, ◌∙◌, arith}
 use Rattle.std.proofs.lemmas.Bool.{eqb-true, eq-eqb}
 use Rattle.ll_wire.specs.Pieces.{pieces}
-use Rattle.ll_picture.proofs.FirstLine.{Before, no_feed, first_feed}
-use Rattle.ll_picture.proofs.lines.cut.Goals as goal
+use Rattle.ll_wire.proofs.FirstLine.{Before, no_feed, first_feed}
+use Rattle.ll_wire.proofs.pieces.split_line.Goals as goal
 
 pub returns-in-Some-clause-first : goal.returns-in-Some-clause-first
 returns-in-Some-clause-first c =
