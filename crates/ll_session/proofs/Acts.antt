@@ -17,7 +17,7 @@ use Rattle.ll_client.specs.Entries.{Knows, knows, numbered}
 use Rattle.ll_client.specs.Gains.{Gains, Told}
 use Rattle.ll_client.specs.Replies.{Fits, success}
 use Rattle.ll_session.specs.Talk.{Asks, IsLast, IsMet, Joins, LooksAt, Spawns, is_birth, met, seen_by}
-use Rattle.ll_session.proofs.Kept.{push_there, set_there}
+use Rattle.ll_session.proofs.KeptParts.{push_there, set_there}
 use Rattle.ll_session.proofs.Seen.{seen_push, seen_set}
 
 -- ---- who brings nobody

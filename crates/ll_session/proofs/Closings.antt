@@ -14,7 +14,7 @@ use Rattle.ll_client.specs.Entries.{IsStarved, Knows, part_from}
 use Rattle.ll_session.specs.Growth.{Grows}
 use Rattle.ll_session.specs.Talk.{seen_by}
 use Rattle.ll_session.proofs.Entered.{IsAmong, IsEntered, entered_before, entered_of, part_has}
-use Rattle.ll_session.proofs.Kept.{IsEntry, all_at, all_first, all_map, part_entries, still_there}
+use Rattle.ll_session.proofs.KeptParts.{IsEntry, all_at, all_first, all_map, part_entries, still_there}
 use Rattle.ll_session.proofs.Points.{client_there, has_entry}
 use Rattle.ll_session.proofs.Seen.{seen_all}
 

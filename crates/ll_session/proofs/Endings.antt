@@ -1,6 +1,6 @@
 -- Whole runs.
 use Rattle.std.proofs.Common.{◌≡◌, ℕ, List, [], ◌∷◌, ◌++◌, Option, None, Some, ap, refl, sym, subst, ◌∙◌, inl, inr}
-use Rattle.std.proofs.Common.{Result, Ok, Err, ◌<◌, arith, length}
+use Rattle.std.proofs.Common.{Bool, false, Result, Ok, Err, ◌<◌, arith, length}
 use Rattle.std.specs.Prelude.{IfErr, IfSome, OnErr, OnOk, IsErrAnd}
 use Rattle.std.specs.Io.KnownBytes.{Appends}
 use Rattle.ll_client.specs.Entries.{Knows}
@@ -168,7 +168,7 @@ runs setup old new before entries e = some_is old.remaining _ (λ input is.
 -- a beginning of the lines of some first pieces
 pub begins_lines : (setup : Setup) (old new : Devices) (before : ℕ) (entries : List Entry)
     → AtEnd (λ mid. Opens setup (begun (without before mid))) (StopsAt before old new) entries
-    → IfKnown old new (BeginsLines setup)
+    → IfKnown old new (BeginsLines false setup)
 begins_lines setup old new before entries e = some_is old.remaining _ (λ input is.
     let first = without before e.0 in
     let last = e.3.0 in
@@ -197,16 +197,16 @@ weaker old new P Q f h = go old.remaining h
     go (Some input) x = (x.0, f input x.0 x.1, x.2)
 
 -- so a session that was begun ends, whichever fault ends it
-pub begins_by : (setup : Setup) (fault : SessionFault) (old new : Devices) → IfKnown old new (BeginsLines setup)
-    → IfKnown old new (BeginsBy setup (Session fault))
-begins_by setup Read old new h = h
-begins_by setup Write old new h =
-    weaker old new (BeginsLines setup) (BeginsBy setup (Session Write)) (λ input text b. inl b) h
-begins_by setup NoMemory old new h =
-    weaker old new (BeginsLines setup) (BeginsBy setup (Session NoMemory)) (λ input text b. inr b) h
-begins_by setup TooLong old new h = h
+pub begins_by : (strict : Bool) (setup : Setup) (fault : SessionFault) (old new : Devices)
+    → IfKnown old new (BeginsLines strict setup) → IfKnown old new (BeginsBy strict setup (Session fault))
+begins_by strict setup Read old new h = h
+begins_by strict setup Write old new h =
+    weaker old new (BeginsLines strict setup) (BeginsBy strict setup (Session Write)) (λ input text b. inl b) h
+begins_by strict setup NoMemory old new h =
+    weaker old new (BeginsLines strict setup) (BeginsBy strict setup (Session NoMemory)) (λ input text b. inr b) h
+begins_by strict setup TooLong old new h = h
 
-lines_begin : (setup : Setup) (input text : List ℕ) → BeginsLines setup input text → Begins setup input text
+lines_begin : (setup : Setup) (input text : List ℕ) → BeginsLines false setup input text → Begins setup input text
 lines_begin setup input text b = (b.2, [], b.3, b.4, b.1, b.6, inl (b.0, b.5, refl, b.7))
 
 refusal_begins : (setup : Setup) (input text : List ℕ) → BeginsRefusal setup text → Begins setup input text
@@ -224,7 +224,7 @@ none_begins setup input text none =
       inr (Refused errno.NoMemory, may_be_refused setup, refl, ap (λ (x : List ℕ). x ++ line) none),
     )
 
-begins : (setup : Setup) (fault : RunFault) (input text : List ℕ) → BeginsBy setup fault input text
+begins : (setup : Setup) (fault : RunFault) (input text : List ℕ) → BeginsBy false setup fault input text
     → Begins setup input text
 begins setup Opening input text b = none_begins setup input text b
 begins setup (Session Read) input text b = lines_begin setup input text b
@@ -251,20 +251,22 @@ refusal setup old new reply entries e wrote still = some_is old.remaining _ (λ 
   ),
 ))
 
-pub refusal_stops : (setup : Setup) (fault : SessionFault) (old new : Devices) (reply : Reply) (last : at.Session)
-    → Opens setup (refused reply last) → IsOfRefusal fault old.contents new.contents (reply_line reply)
-    → IfKnown old new (BeginsBy setup (Session fault))
-refusal_stops setup Read old new reply last is wrote = absurd wrote
-refusal_stops setup Write old new reply last is wrote = some_is old.remaining _ (λ input told.
+pub refusal_stops : (strict : Bool) (setup : Setup) (fault : SessionFault) (old new : Devices) (reply : Reply)
+    (last : at.Session) → Opens setup (refused reply last)
+    → IsOfRefusal fault old.contents new.contents (reply_line reply)
+    → IfKnown old new (BeginsBy strict setup (Session fault))
+refusal_stops strict setup Read old new reply last is wrote = absurd wrote
+refusal_stops strict setup Write old new reply last is wrote = some_is old.remaining _ (λ input told.
     (wrote.0, inr (reply, last, wrote.1, is, wrote.2), wrote.3))
-refusal_stops setup NoMemory old new reply last is wrote = some_is old.remaining _ (λ input told. ([], inl refl, wrote))
-refusal_stops setup TooLong old new reply last is wrote = absurd wrote
+refusal_stops strict setup NoMemory old new reply last is wrote =
+    some_is old.remaining _ (λ input told. ([], inl refl, wrote))
+refusal_stops strict setup TooLong old new reply last is wrote = absurd wrote
 
 -- ---- runs that read and write nothing
 
-pub nothing_done : (setup : Setup) (fault : RunFault) (d : Devices)
-    → ((input : List ℕ) → BeginsBy setup fault input []) → IfKnown d d (BeginsBy setup fault)
-nothing_done setup fault d none = some_is d.remaining _ (λ input told. ([], none input, appends-none d.contents))
+pub nothing_done : (strict : Bool) (setup : Setup) (fault : RunFault) (d : Devices)
+    → ((input : List ℕ) → BeginsBy strict setup fault input []) → IfKnown d d (BeginsBy strict setup fault)
+nothing_done strict setup fault d none = some_is d.remaining _ (λ input told. ([], none input, appends-none d.contents))
 
 -- ---- which fault may end a run
 
@@ -285,7 +287,7 @@ may_refused setup TooLong old new line reply last is wrote = absurd wrote
 
 -- with any fault, what was written is such a beginning
 pub of_err : {T : Type 0} (setup : Setup) (r : Result T RunFault) (remaining old new : Option (List ℕ))
-    → IfErr r (λ fault. IfSome remaining (λ input. Writes old new (BeginsBy setup fault input)))
+    → IfErr r (λ fault. IfSome remaining (λ input. Writes old new (BeginsBy false setup fault input)))
     → OnErr r (IfSome remaining (λ input. Writes old new (Begins setup input)))
 of_err setup (Ok value) remaining old new h = tt
 of_err setup (Err fault) None old new h = tt

@@ -7,7 +7,7 @@ use Rattle.ll_client.specs.Entries.{Knows}
 use Rattle.ll_client.specs.declared.account.Numbered.{Numbered}
 use Rattle.ll_session.specs.Growth.{AreAbove, ComesOn, GrowAbove, Grows}
 use Rattle.ll_session.specs.Talk.{seen_by}
-use Rattle.ll_session.proofs.Kept.{all_map}
+use Rattle.ll_session.proofs.KeptParts.{all_map}
 use Rattle.ll_session.proofs.Seen.{seen_push, seen_set}
 
 stays : (n : ℕ) (k : Knows) → ComesOn n k k

@@ -153,13 +153,6 @@ module _ (rules : Rules) (room limit : ℕ) where
       any_then ks mid end (goes_so ks mid before)
       (any_leads mid end Stays (turns.looks rules room limit mid end act))
 
--- one after the other
-pub goes_on : (limit : ℕ) (is js ks : List Knows) → Goes limit is js → Goes limit js ks → Goes limit is ks
-goes_on limit is js ks one nowhere = one
-goes_on limit is js ks one (asks mid end place call reply before act) =
-    asks mid end place call reply (goes_on limit is js mid one before) act
-goes_on limit is js ks one (looks mid end before act) = looks mid end (goes_on limit is js mid one before) act
-
 -- a spawn without a child is answered by the errno
 pub refusal_of : (errno : Errno) → reply_of (childless errno) ≡ Refused errno
 refusal_of HistoryFull = refl

@@ -25,7 +25,7 @@ use Rattle.ll_session.specs.Talk.{seen_by}
 use Rattle.ll_session.proofs.Closings.{covered, numbers_at, part_tells}
 use Rattle.ll_session.proofs.Comers.{same_many}
 use Rattle.ll_session.proofs.Entered.{AreBelow, IsAmong, IsEntered, entered_below}
-use Rattle.ll_session.proofs.Kept.{IsEntry, all_map, all_push, last_of}
+use Rattle.ll_session.proofs.KeptParts.{IsEntry, all_map, all_push, last_of}
 use Rattle.ll_session.proofs.Points.{entry_within, may_stand, one_taken, state_next}
 use Rattle.ll_session.proofs.Seen.{count_numbers}
 

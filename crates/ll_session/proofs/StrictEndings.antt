@@ -1,15 +1,14 @@
 -- Whole strict runs.
 use Rattle.std.proofs.Common.{◌≡◌, ℕ, ◌+◌, ◌<◌, Bool, true, false, cond, List, [], ◌∷◌, Option, None, Some}
 use Rattle.std.proofs.Common.{length, ap, refl, sym, subst, ◌∙◌, inl, inr, arith, is_some}
-use Rattle.std.proofs.Common.{Result, Ok}
-use Rattle.std.specs.Prelude.{IfOk, IfSome, OnErr}
+use Rattle.std.proofs.Common.{◌++◌, Result, Ok, Err}
+use Rattle.std.specs.Prelude.{IfErr, IfOk, IfSome, OnErr}
 use Rattle.std.specs.Io.KnownBytes.{Appends}
 use Rattle.std.proofs.lemmas.List.{append-nil}
 use Rattle.ll_client.specs.Entries.{Knows}
 use Rattle.ll_wire.specs.Devices.{Devices}
 use Rattle.ll_wire.specs.Reached.{AnswersAll, AnswersFirst, StartsAll}
 use Rattle.ll_wire.specs.Transcript.{Transcript, Writes}
-use Rattle.ll_wire.specs.declared.fault.SessionFault.{SessionFault}
 use Rattle.ll_wire.specs.declared.fault.SessionFault.TheVariants.{Read, Write, NoMemory, TooLong}
 use Rattle.ll_rights.specs.declared.errno.Errno.TheVariants as errno
 use Rattle.ll_seq.specs.declared.call.Call.{Call}
@@ -24,8 +23,8 @@ use Rattle.ll_session.proofs.Leading.{nothing_leads, so_leads, then_leads}
 use Rattle.ll_session.proofs.Leadings.{goes_so}
 use Rattle.ll_wire.specs.Grammar.{SpellsCommand, reply_line}
 use Rattle.ll_wire.specs.Pieces.{pieces}
-use Rattle.ll_wire.proofs.WrittenText.{appends-none}
 use Rattle.ll_session.specs.declared.fault.RunFault.{RunFault}
+use Rattle.ll_session.specs.declared.fault.RunFault.TheVariants.{Opening, Session}
 use Rattle.ll_session.specs.declared.setup.Setup.{Setup}
 use Rattle.ll_session.specs.declared.stop.StrictRun.{StrictRun}
 use Rattle.ll_session.specs.declared.stop.Stop.{Stop}
@@ -33,13 +32,14 @@ use Rattle.ll_session.specs.declared.stop.Stop.TheVariants.{AtOpening, AtLine}
 use Rattle.ll_session.specs.Beside as beside
 use Rattle.ll_session.specs.Beside.{AnswersBeside}
 use Rattle.ll_session.specs.Opening.{Opens, begun, fresh, refused}
-use Rattle.ll_session.specs.Progress.{IsOfRefusal, without}
+use Rattle.ll_session.specs.Progress.{without}
+use Rattle.ll_session.specs.Run.{BeginsBy, BeginsLines, BeginsRefusal}
 use Rattle.ll_session.specs.Session.{Answers}
 use Rattle.ll_session.specs.Strict.{BeginsStrictly, IsEnd, RunsStrictly, RunsStrictlyOver, TellsStrictly}
 use Rattle.ll_session.specs.Strict.{TellsStrictlyBeside, is_end}
 use Rattle.ll_session.specs.StrictProgress.{AnswersTo, RunsStrictlyTo, StopsStrictlyAt, stop_at}
 use Rattle.ll_session.proofs.Coming.{may_be_refused}
-use Rattle.ll_session.proofs.Endings.{some_is}
+use Rattle.ll_session.proofs.Endings.{IfKnown, some_is}
 use Rattle.ll_session.proofs.Replies.{answers_count, answers_so}
 use Rattle.ll_session.proofs.Ways.{AtEnd}
 
@@ -288,14 +288,10 @@ module _ {S : Type 0} (clients : S → List Knows) (last : S → Option Reply) (
 
 -- ---- strict runs of a setup
 
--- this of what is read and written, where what the devices read is known
-abbrev pub IfWritten : (old new : Devices) → (List ℕ → List ℕ → Type 0) → Type 0
-IfWritten old new P = IfSome old.remaining (λ input. Writes old.contents new.contents (P input))
-
 -- what holds of a session that was opened, after so many clients, and is answered
 pub runs : (setup : Setup) (old new : Devices) (before : ℕ) (entries : List Entry) (stop : Option Stop)
     → AtEnd (λ mid. Opens setup (begun (without before mid))) (RunsStrictlyTo before stop old new) entries
-    → IfWritten old new (λ input text. RunsStrictly setup input text stop entries)
+    → IfKnown old new (λ input text. RunsStrictly setup input text stop entries)
 runs setup old new before entries None e = some_is old.remaining _ (λ input is.
     let w = e.3.1 input is in
     (w.1.0, (e.3.0, (without before e.0, e.2, w.1.1), sym e.4 ∙ e.3.2), w.1.2))
@@ -304,6 +300,30 @@ runs setup old new before entries (Some (AtLine line reply)) e = some_is old.rem
     (w.2, (e.3.0, (without before e.0, w.0, w.1, e.2, w.3, w.4, w.5), sym e.4 ∙ e.3.2), w.6))
 runs setup old new before entries (Some (AtOpening reply)) e = some_is old.remaining _ (λ input is. absurd e.3.1)
 
+-- a beginning of the lines of some first pieces
+pub begins_lines : (setup : Setup) (old new : Devices) (before : ℕ) (entries : List Entry)
+    → AtEnd (λ mid. Opens setup (begun (without before mid))) (StopsStrictlyAt before old new) entries
+    → IfKnown old new (BeginsLines true setup)
+begins_lines setup old new before entries e = some_is old.remaining _ (λ input is.
+    let first = without before e.0 in
+    let h = e.3.2 input is in (
+      h.5.0,
+      (
+        first,
+        e.3.0,
+        e.3.1,
+        h.0,
+        h.1,
+        h.5.1,
+        e.2,
+        h.3,
+        subst (λ (text : List ℕ). Transcript TellsStrictly (first, None) h.0 text (e.3.0, e.3.1)) h.5.2 h.4,
+      ),
+      h.5.3,
+    ))
+
+-- ---- beginnings, whichever fault ends the run
+
 over_first : (setup : Setup) (first last : at.Session) (done : List (List ℕ)) (text : List ℕ) (end : Option Reply)
     → Opens setup (begun first) → Transcript TellsStrictly (first, None) done text (last, end)
     → RunsStrictlyOver setup done text (stop_at (length done) end) last
@@ -311,58 +331,54 @@ over_first setup first last done text None is h = (first, is, h)
 over_first setup first last done text (Some reply) is h =
     (first, done, [], is, sym (append-nil done), refl, h)
 
--- a beginning of the lines of some first pieces
-pub begins_lines : (setup : Setup) (old new : Devices) (before : ℕ) (entries : List Entry)
-    → AtEnd (λ mid. Opens setup (begun (without before mid))) (StopsStrictlyAt before old new) entries
-    → IfWritten old new (BeginsStrictly setup)
-begins_lines setup old new before entries e = some_is old.remaining _ (λ input is.
-    let h = e.3.2 input is in (
-      h.5.0,
-      (
-        h.0,
-        h.1,
-        h.5.1,
-        stop_at (length h.0) e.3.1,
-        e.3.0,
-        h.3,
-        subst (λ (text : List ℕ). RunsStrictlyOver setup h.0 text (stop_at (length h.0) e.3.1) e.3.0) h.5.2
-            (over_first setup (without before e.0) e.3.0 h.0 h.2 e.3.1 e.2 h.4),
-      ),
-      h.5.3,
-    ))
+lines_begin : (setup : Setup) (input text : List ℕ) → BeginsLines true setup input text
+    → BeginsStrictly setup input text
+lines_begin setup input text b =
+    (b.3, b.4, b.5, stop_at (length b.3) b.2, b.1, b.7, over_first setup b.0 b.1 b.3 (text ++ b.5) b.2 b.6 b.8)
 
-none_begins : (setup : Setup) (input : List ℕ) → BeginsStrictly setup input []
-none_begins setup input =
+refusal_begins : (setup : Setup) (input text : List ℕ) → BeginsRefusal setup text → BeginsStrictly setup input text
+refusal_begins setup input text b =
+    ([], pieces input, b.2, Some (AtOpening b.0), b.1, refl, (b.3, sym b.4))
+
+none_begins : (setup : Setup) (input text : List ℕ) → text ≡ [] → BeginsStrictly setup input text
+none_begins setup input text none =
     let reply = Refused errno.NoMemory in
-    ([], pieces input, reply_line reply, Some (AtOpening reply), fresh setup, refl, (may_be_refused setup, refl))
+    let line = reply_line reply in (
+      [],
+      pieces input,
+      line,
+      Some (AtOpening reply),
+      fresh setup,
+      refl,
+      (may_be_refused setup, ap (λ (x : List ℕ). x ++ line) none),
+    )
+
+begins : (setup : Setup) (fault : RunFault) (input text : List ℕ) → BeginsBy true setup fault input text
+    → BeginsStrictly setup input text
+begins setup Opening input text b = none_begins setup input text b
+begins setup (Session Read) input text b = lines_begin setup input text b
+begins setup (Session Write) input text (inl b) = lines_begin setup input text b
+begins setup (Session Write) input text (inr b) = refusal_begins setup input text b
+begins setup (Session NoMemory) input text (inl b) = none_begins setup input text b
+begins setup (Session NoMemory) input text (inr b) = lines_begin setup input text b
+begins setup (Session TooLong) input text b = lines_begin setup input text b
+
+-- with any fault, what was written is such a beginning
+pub of_err : {T : Type 0} (setup : Setup) (r : Result T RunFault) (remaining old new : Option (List ℕ))
+    → IfErr r (λ fault. IfSome remaining (λ input. Writes old new (BeginsBy true setup fault input)))
+    → OnErr r (IfSome remaining (λ input. Writes old new (BeginsStrictly setup input)))
+of_err setup (Ok value) remaining old new h = tt
+of_err setup (Err fault) None old new h = tt
+of_err setup (Err fault) (Some input) old new h = (h.0, begins setup fault input h.0 h.1, h.2)
 
 -- ---- runs whose opening is refused
 
 pub refusal : (setup : Setup) (old new : Devices) (reply : Reply) (entries : List Entry)
     → AtEnd (λ t. Opens setup (refused reply t)) (λ s t. t ≡ s) entries
     → Appends old.contents new.contents (reply_line reply)
-    → IfWritten old new (λ input text. RunsStrictly setup input text (Some (AtOpening reply)) entries)
+    → IfKnown old new (λ input text. RunsStrictly setup input text (Some (AtOpening reply)) entries)
 refusal setup old new reply entries e wrote = some_is old.remaining _ (λ input told.
     (reply_line reply, (e.0, (e.2, refl), sym e.4 ∙ ap (λ (t : at.Session). t.entries) e.3), wrote))
-
-pub refusal_stops : (setup : Setup) (fault : SessionFault) (old new : Devices) (reply : Reply) (last : at.Session)
-    → Opens setup (refused reply last) → IsOfRefusal fault old.contents new.contents (reply_line reply)
-    → IfWritten old new (BeginsStrictly setup)
-refusal_stops setup Read old new reply last is wrote = absurd wrote
-refusal_stops setup Write old new reply last is wrote = some_is old.remaining _ (λ input told. (
-  wrote.0,
-  ([], pieces input, wrote.1, Some (AtOpening reply), last, refl, (is, sym wrote.2)),
-  wrote.3,
-))
-refusal_stops setup NoMemory old new reply last is wrote =
-    some_is old.remaining _ (λ input told. ([], none_begins setup input, wrote))
-refusal_stops setup TooLong old new reply last is wrote = absurd wrote
-
--- nothing is read or written
-pub nothing_done : (setup : Setup) (remaining contents : Option (List ℕ))
-    → IfSome remaining (λ input. Writes contents contents (BeginsStrictly setup input))
-nothing_done setup remaining contents =
-    some_is remaining _ (λ input told. ([], none_begins setup input, appends-none contents))
 
 -- ---- over a reader and a writer
 
@@ -374,9 +390,3 @@ module _ (r : Result StrictRun RunFault) (setup : Setup) (remaining old new : Op
 
   pub ran : Ran → Ran
   ran h = h
-
-  abbrev pub Began : Type 0
-  Began = OnErr r (IfSome remaining (λ input. Writes old new (BeginsStrictly setup input)))
-
-  pub began : Began → Began
-  began h = h

@@ -31,7 +31,7 @@ use Rattle.ll_session.proofs.Closings.{was_starved}
 use Rattle.ll_session.proofs.Comers.{caller_there, child_there, one_child, one_comer}
 use Rattle.ll_session.proofs.Entered.{AreBelow, entered_push, entered_set}
 use Rattle.ll_session.proofs.Growths.{grows_push, grows_set, stays_so}
-use Rattle.ll_session.proofs.Kept.{all_at, all_map, all_push, all_set, first_there, last_of, push_there, set_there}
+use Rattle.ll_session.proofs.KeptParts.{all_at, all_map, all_push, all_set, first_there, last_of, push_there, set_there}
 use Rattle.ll_session.proofs.Seen.{count_numbers, numbers_push, numbers_set, seen_push, seen_set}
 use Rattle.ll_session.proofs.Steps.{Enters, comes_next, enters, is_called, no_entry, settled_more, settled_same, stands}
 use Rattle.ll_session.proofs.Steps.{is_next, still_between, still_settled, taken, tree_then}

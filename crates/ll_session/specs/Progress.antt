@@ -18,8 +18,7 @@ use Rattle.ll_wire.specs.declared.fault.SessionFault.TheVariants as fault
 use Rattle.ll_wire.specs.Writing.{AppendsFront}
 use Rattle.ll_session.specs.Between.{Leads}
 use Rattle.ll_session.specs.PartySession.{Session}
-use Rattle.ll_session.specs.Talk.{Goes, Looks, nowhere, seen_by}
-use Rattle.ll_session.proofs.Leadings.{goes_on}
+use Rattle.ll_session.specs.Talk.{Goes, Looks, goes_on, nowhere, seen_by}
 use Rattle.ll_session.specs.declared.opening.Refusal.{Refusal}
 use Rattle.ll_session.specs.declared.opening.Refusal.TheVariants.{AtCall, AtConnect}
 use Rattle.ll_session.specs.declared.opening.Shut.{Shut}

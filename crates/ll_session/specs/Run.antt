@@ -1,5 +1,5 @@
 -- A whole run of a script. own
-use Rattle.std.specs.Prelude.{⊤, ◌≡◌, ℕ, List, [], ◌++◌, ◌⊎◌}
+use Rattle.std.specs.Prelude.{⊤, ◌≡◌, ℕ, Bool, true, false, List, [], ◌++◌, ◌⊎◌, Option, None}
 use Rattle.ll_seq.specs.declared.reply.Entry.{Entry}
 use Rattle.ll_seq.specs.declared.reply.Reply.{Reply}
 use Rattle.ll_seq.specs.State.{start}
@@ -16,6 +16,7 @@ use Rattle.ll_wire.specs.declared.fault.SessionFault.TheVariants as fault
 use Rattle.ll_session.specs.PartySession.{Session}
 use Rattle.ll_session.specs.Session.{Tells}
 use Rattle.ll_session.specs.Opening.{Opens, begun, refused, stopped}
+use Rattle.ll_session.specs.Strict.{TellsStrictly}
 
 -- the opening may begin a session
 abbrev pub MayBegin : Setup → Type 0
@@ -57,11 +58,15 @@ abbrev pub EndsBy : Setup → RunFault → (old new : Devices) → Type 0
 EndsBy setup run.Opening old new = Opens setup stopped × IsWhole new
 EndsBy setup (run.Session of) old new = Blames of old new
 
--- a beginning of the lines of some first pieces, in a session that was opened
-abbrev pub BeginsLines : Setup → (input text : List ℕ) → Type 0
-BeginsLines setup input text =
+-- a beginning of the lines of some first pieces, in a session that was opened, and may be strict
+abbrev pub BeginsLines : (strict : Bool) → Setup → (input text : List ℕ) → Type 0
+BeginsLines false setup input text =
     (first last : Session) × (done more : List (List ℕ)) × (back : List ℕ) × Opens setup (begun first)
     × (pieces input ≡ done ++ more) × Transcript Tells first done (text ++ back) last
+BeginsLines true setup input text =
+    (first last : Session) × (end : Option Reply) × (done more : List (List ℕ)) × (back : List ℕ)
+    × Opens setup (begun first) × (pieces input ≡ done ++ more)
+    × Transcript TellsStrictly (first, None) done (text ++ back) (last, end)
 
 -- a beginning of the line of a refused opening
 abbrev pub BeginsRefusal : Setup → List ℕ → Type 0
@@ -70,12 +75,13 @@ BeginsRefusal setup text =
     × (reply_line reply ≡ text ++ back)
 
 -- What a run has written that this fault ends. Only a failed write cuts a refusal's line short: it reads nothing
-abbrev pub BeginsBy : Setup → RunFault → (input text : List ℕ) → Type 0
-BeginsBy setup run.Opening input text = text ≡ []
-BeginsBy setup (run.Session fault.Read) input text = BeginsLines setup input text
-BeginsBy setup (run.Session fault.Write) input text = BeginsLines setup input text ⊎ BeginsRefusal setup text
-BeginsBy setup (run.Session fault.NoMemory) input text = (text ≡ []) ⊎ BeginsLines setup input text
-BeginsBy setup (run.Session fault.TooLong) input text = BeginsLines setup input text
+abbrev pub BeginsBy : (strict : Bool) → Setup → RunFault → (input text : List ℕ) → Type 0
+BeginsBy strict setup run.Opening input text = text ≡ []
+BeginsBy strict setup (run.Session fault.Read) input text = BeginsLines strict setup input text
+BeginsBy strict setup (run.Session fault.Write) input text =
+    BeginsLines strict setup input text ⊎ BeginsRefusal setup text
+BeginsBy strict setup (run.Session fault.NoMemory) input text = (text ≡ []) ⊎ BeginsLines strict setup input text
+BeginsBy strict setup (run.Session fault.TooLong) input text = BeginsLines strict setup input text
 
 -- the entries of a run, line after line, are a legal history of its tree, and lead to the tree that it has then
 abbrev pub RunsLegally : Type 0

@@ -94,3 +94,10 @@ pub data Goes (limit : ℕ) (ks : List Knows) : List Knows → Type 0 where
   asks : (mid ks' : List Knows) (place : ℕ) (call : Call) (reply : Reply) → Goes limit ks mid
       → AsksFor limit mid place call reply ks' → Goes limit ks ks'
   looks : (mid ks' : List Knows) → Goes limit ks mid → Looks mid ks' → Goes limit ks ks'
+
+-- one after the other
+pub goes_on : (limit : ℕ) (is js ks : List Knows) → Goes limit is js → Goes limit js ks → Goes limit is ks
+goes_on limit is js ks one nowhere = one
+goes_on limit is js ks one (asks mid end place call reply before act) =
+    asks mid end place call reply (goes_on limit is js mid one before) act
+goes_on limit is js ks one (looks mid end before act) = looks mid end (goes_on limit is js mid one before) act

@@ -1,6 +1,6 @@
 //! Runs of scripts.
 
-ghost use Rattle.std.specs.Prelude.{◌≡◌, ◌+◌, ◌<◌, ◌≤◌, ◌^◌, [], length, All, IfOk, IfErr, ℕ, List, OnOk, OnErr};
+ghost use Rattle.std.specs.Prelude.{◌≡◌, ◌+◌, ◌<◌, ◌≤◌, ◌^◌, [], false, length, All, IfOk, IfErr, ℕ, List, OnOk, OnErr};
 ghost use Rattle.std.specs.Prelude.{IfSome};
 ghost use Rattle.std.specs.Prelude.{Option, Some, Err};
 ghost use Rattle.std.specs.Io.KnownBytes.{Appends};
@@ -134,7 +134,7 @@ fn run_in<N: Shape, R: Wait, K: Keeps, E: Ends>(
     ensures legal { IfOk result (λ history. IsLegal (start setup.rules setup.nodes) history.entries) }
     ensures entries { IfOk result (λ history. All IsEntry history.entries) }
     ensures beginning { IfErr result (λ fault. IfSome (E.devices ends.old).remaining (λ input.
-        Writes (E.devices ends.old).contents (E.devices ends.new).contents (BeginsBy setup fault input))) }
+        Writes (E.devices ends.old).contents (E.devices ends.new).contents (BeginsBy false setup fault input))) }
     ensures fault { IfErr result (λ fault. EndsBy setup fault (E.devices ends.old) (E.devices ends.new)) }
     ensures may { IfErr result (λ fault. MayEnd setup fault) }
     ensures long { result ≡ Err (RunFault.Session SessionFault.TooLong)
@@ -175,7 +175,7 @@ pub fn run_over<R: Wait, K: Keeps, E: Ends>(
     ensures entries { IfOk result (λ history. All IsEntry history.entries) }
     // With a fault, what was written is a beginning of the transcript of some first pieces, or of a refusal.
     ensures beginning { IfErr result (λ fault. IfSome (E.devices ends.old).remaining (λ input.
-        Writes (E.devices ends.old).contents (E.devices ends.new).contents (BeginsBy setup fault input))) }
+        Writes (E.devices ends.old).contents (E.devices ends.new).contents (BeginsBy false setup fault input))) }
     // A device is blamed only where it failed in this call, and neither is where memory is wanted.
     ensures fault { IfErr result (λ fault. EndsBy setup fault (E.devices ends.old) (E.devices ends.new)) }
     ensures may { IfErr result (λ fault. MayEnd setup fault) }

@@ -1,7 +1,7 @@
 //! Strict runs of scripts.
 
 ghost use Rattle.std.specs.Prelude.{◌≡◌, ◌+◌, ◌<◌, ◌≤◌, ◌^◌, length, All, IfOk, IfErr, IfSome, ℕ, List, OnErr};
-ghost use Rattle.std.specs.Prelude.{Some, Err};
+ghost use Rattle.std.specs.Prelude.{Some, Err, true};
 ghost use Rattle.ll_rights.specs.declared.limits.TheConstants.{TREE_CLIENTS};
 ghost use Rattle.ll_seq.specs.History.{IsLegal};
 ghost use Rattle.ll_seq.specs.State.{start};
@@ -11,7 +11,8 @@ ghost use Rattle.ll_wire.specs.Devices.{IsWhole};
 ghost use Rattle.ll_wire.specs.Transcript.{Writes, most_reads};
 ghost use Rattle.ll_wire.specs.declared.fault.SessionFault.{SessionFault};
 ghost use Rattle.ll_session.specs.Progress.{Closes};
-ghost use Rattle.ll_session.specs.Run.{MayEnd};
+ghost use Rattle.ll_wire.specs.Reached.{Blames};
+ghost use Rattle.ll_session.specs.Run.{BeginsBy, EndsBy, MayEnd};
 ghost use Rattle.ll_session.specs.Strict.{BeginsStrictly, RunsStrictly};
 ghost use Rattle.ll_session.specs.StrictProgress.{RunsStrictlyTo, StopsStrictlyAt};
 ghost use Rattle.ll_session.specs.declared.fault.RunFault.{RunFault};
@@ -52,6 +53,7 @@ fn run_strict_session<N: Shape, R: Wait, K: Keeps, E: Ends>(
         × Closes N.rules room N.limit shared.party entries
         (StopsStrictlyAt before (E.devices ends.old) (E.devices ends.new))) }
     ensures entries { IfOk result (λ run. All IsEntry run.history.entries) }
+    ensures fault { IfErr result (λ fault. Blames fault (E.devices ends.old) (E.devices ends.new)) }
     ensures long { result ≡ Err SessionFault.TooLong
         → (input : List ℕ) → (E.devices ends.old).remaining ≡ Some input → most_reads ≤ length input }
     ensures same { E.names ends.new ≡ E.names ends.old }
@@ -98,8 +100,9 @@ fn run_strict_in<N: Shape, R: Wait, K: Keeps, E: Ends>(
         (λ text. RunsStrictly setup input text run.stop run.history.entries))) }
     ensures legal { IfOk result (λ run. IsLegal (start setup.rules setup.nodes) run.history.entries) }
     ensures entries { IfOk result (λ run. All IsEntry run.history.entries) }
-    ensures beginning { OnErr result (IfSome (E.devices ends.old).remaining (λ input.
-        Writes (E.devices ends.old).contents (E.devices ends.new).contents (BeginsStrictly setup input))) }
+    ensures beginning { IfErr result (λ fault. IfSome (E.devices ends.old).remaining (λ input.
+        Writes (E.devices ends.old).contents (E.devices ends.new).contents (BeginsBy true setup fault input))) }
+    ensures fault { IfErr result (λ fault. EndsBy setup fault (E.devices ends.old) (E.devices ends.new)) }
     ensures may { IfErr result (λ fault. MayEnd setup fault) }
     ensures long { result ≡ Err (RunFault.Session SessionFault.TooLong)
         → (input : List ℕ) → (E.devices ends.old).remaining ≡ Some input → most_reads ≤ length input }
@@ -138,8 +141,9 @@ fn run_strict_over<R: Wait, K: Keeps, E: Ends>(
         (λ text. RunsStrictly setup input text run.stop run.history.entries))) }
     ensures legal { IfOk result (λ run. IsLegal (start setup.rules setup.nodes) run.history.entries) }
     ensures entries { IfOk result (λ run. All IsEntry run.history.entries) }
-    ensures beginning { OnErr result (IfSome (E.devices ends.old).remaining (λ input.
-        Writes (E.devices ends.old).contents (E.devices ends.new).contents (BeginsStrictly setup input))) }
+    ensures beginning { IfErr result (λ fault. IfSome (E.devices ends.old).remaining (λ input.
+        Writes (E.devices ends.old).contents (E.devices ends.new).contents (BeginsBy true setup fault input))) }
+    ensures fault { IfErr result (λ fault. EndsBy setup fault (E.devices ends.old) (E.devices ends.new)) }
     ensures may { IfErr result (λ fault. MayEnd setup fault) }
     ensures long { result ≡ Err (RunFault.Session SessionFault.TooLong)
         → (input : List ℕ) → (E.devices ends.old).remaining ≡ Some input → most_reads ≤ length input }

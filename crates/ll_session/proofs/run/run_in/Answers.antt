@@ -1,4 +1,4 @@
-use Rattle.std.proofs.Common.{inl, refl, subst, ◌≡◌}
+use Rattle.std.proofs.Common.{false, inl, refl, subst, ◌≡◌}
 use Rattle.ll_wire.specs.declared.fault.SessionFault.TheVariants.{NoMemory}
 use Rattle.ll_seq.specs.History.{IsLegal}
 use Rattle.ll_seq.specs.State.{start}
@@ -16,7 +16,7 @@ use Rattle.ll_session.proofs.run.run_in.Goals as goal
 
 pub returns-in_default-clause-beginning : goal.returns-in_default-clause-beginning
 returns-in_default-clause-beginning g c =
-    nothing_done c.args.setup (Session NoMemory) (g.E.Ends.devices c.args.ends.now) (λ input. inl refl)
+    nothing_done false c.args.setup (Session NoMemory) (g.E.Ends.devices c.args.ends.now) (λ input. inl refl)
 
 pub returns-in_err-run_session-in-Ok-clause-beginning :
     goal.returns-in_err-run_session-in-Ok-clause-beginning
@@ -25,9 +25,9 @@ returns-in_err-run_session-in-Ok-clause-beginning g c =
     let new = g.E.Ends.devices c.run_session.new.ends in
     let fault = c.in_err-run_session-in-Ok.field-0.0 in
     let ended = c.in_err-run_session-in-Ok.ensures.err c.args.setup.nodes c.requires.slots in
-    if_err c.from_residual.result fault (λ of. IfKnown old new (BeginsBy c.args.setup of))
+    if_err c.from_residual.result fault (λ of. IfKnown old new (BeginsBy false c.args.setup of))
     c.from_residual.ensures.1
-    (begins_by c.args.setup fault old new (begins_lines c.args.setup old new c.in-Ok.before ended.0
+    (begins_by false c.args.setup fault old new (begins_lines c.args.setup old new c.in-Ok.before ended.0
     (at_last c.args.setup g.N.Shape.rules g.N.Shape.limit c.in-Some.shared.party c.open.new.self.party ended.0
     (λ t. Opens c.args.setup (begun (without c.in-Ok.before t))) (StopsAt c.in-Ok.before old new) c.requires.rules
     c.requires.limit c.in-Some.ensures
@@ -79,9 +79,9 @@ returns-in_err-tell_refusal-in-Err-Refused-clause-beginning g c =
     c.in-Err-Refused.field-0-is (c.in-Err-Refused.ensures.err c.args.setup.nodes))
     (closes_here g.N.Shape.rules c.args.setup.nodes g.N.Shape.limit c.open.new.self.party ended.0 ended.1) in
     if_err c.from_residual-in_err-tell_refusal-in-Err-Refused.result fault
-    (λ of. IfKnown old new (BeginsBy c.args.setup of))
+    (λ of. IfKnown old new (BeginsBy false c.args.setup of))
     c.from_residual-in_err-tell_refusal-in-Err-Refused.ensures.1
-    (refusal_stops c.args.setup fault old new c.in-Err-Refused.reply e.0 e.2
+    (refusal_stops false c.args.setup fault old new c.in-Err-Refused.reply e.0 e.2
     c.in_err-tell_refusal-in-Err-Refused.ensures.err)
 
 pub returns-in_err-tell_refusal-in-Err-Refused-clause-may :
@@ -118,7 +118,7 @@ returns-in_ok-tell_refusal-in-Err-Refused-clause-transcript g c =
 
 pub returns-in-Err-Stopped-clause-beginning : goal.returns-in-Err-Stopped-clause-beginning
 returns-in-Err-Stopped-clause-beginning g c =
-    nothing_done c.args.setup Opening (g.E.Ends.devices c.args.ends.now) (λ input. refl)
+    nothing_done false c.args.setup Opening (g.E.Ends.devices c.args.ends.now) (λ input. refl)
 
 pub returns-in-Err-Stopped-clause-may : goal.returns-in-Err-Stopped-clause-may
 returns-in-Err-Stopped-clause-may g c =

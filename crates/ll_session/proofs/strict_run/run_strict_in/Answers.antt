@@ -1,5 +1,6 @@
-use Rattle.std.proofs.Common.{subst, ◌≡◌}
-use Rattle.ll_wire.proofs.Advance.{on_err}
+use Rattle.std.proofs.Common.{inl, refl, subst, true, ◌≡◌}
+use Rattle.ll_wire.specs.declared.fault.SessionFault.TheVariants.{NoMemory}
+use Rattle.ll_session.specs.declared.fault.RunFault.TheVariants.{Opening, Session}
 use Rattle.ll_seq.specs.History.{IsLegal}
 use Rattle.ll_seq.specs.State.{start}
 use Rattle.ll_seq.specs.declared.rules.Rules.{Rules}
@@ -7,27 +8,30 @@ use Rattle.ll_session.specs.Between.{Leads}
 use Rattle.ll_session.specs.declared.opening.Shut.{Shut}
 use Rattle.ll_session.specs.Opening.{Opens, begun, fresh, refused, stopped}
 use Rattle.ll_session.specs.Progress.{opening_at, without}
-use Rattle.ll_session.specs.Run.{MayEnd}
+use Rattle.ll_session.specs.Run.{BeginsBy, MayEnd}
 use Rattle.ll_session.specs.StrictProgress.{RunsStrictlyTo, StopsStrictlyAt}
-use Rattle.ll_session.proofs.Endings.{if_err, may_begun, may_refused}
-use Rattle.ll_session.proofs.StrictEndings.{begins_lines, nothing_done, refusal, refusal_stops, runs}
+use Rattle.ll_session.proofs.Endings.{IfKnown, begins_by, if_err, may_begun, may_refused, nothing_done, refusal_stops}
+use Rattle.ll_session.proofs.StrictEndings.{begins_lines, refusal, runs}
 use Rattle.ll_session.proofs.Ways.{at_last, closes_here}
 use Rattle.ll_session.proofs.strict_run.run_strict_in.Goals as goal
 
 pub returns-in_default-clause-beginning : goal.returns-in_default-clause-beginning
 returns-in_default-clause-beginning g c =
-    let d = g.E.Ends.devices c.args.ends.now in nothing_done c.args.setup d.remaining d.contents
+    nothing_done true c.args.setup (Session NoMemory) (g.E.Ends.devices c.args.ends.now) (λ input. inl refl)
 
 pub returns-in_err-run_strict_session-in-Ok-clause-beginning :
     goal.returns-in_err-run_strict_session-in-Ok-clause-beginning
 returns-in_err-run_strict_session-in-Ok-clause-beginning g c =
     let old = g.E.Ends.devices c.args.ends.now in
     let new = g.E.Ends.devices c.run_strict_session.new.ends in
+    let fault = c.in_err-run_strict_session-in-Ok.field-0.0 in
     let ended = c.in_err-run_strict_session-in-Ok.ensures.err c.args.setup.nodes c.requires.slots in
-    on_err c.from_residual.result (begins_lines c.args.setup old new c.in-Ok.before ended.0
+    if_err c.from_residual.result fault (λ of. IfKnown old new (BeginsBy true c.args.setup of))
+    c.from_residual.ensures.1
+    (begins_by true c.args.setup fault old new (begins_lines c.args.setup old new c.in-Ok.before ended.0
     (at_last c.args.setup g.N.Shape.rules g.N.Shape.limit c.in-Some.shared.party c.open.new.self.party ended.0
     (λ t. Opens c.args.setup (begun (without c.in-Ok.before t))) (StopsStrictlyAt c.in-Ok.before old new)
-    c.requires.rules c.requires.limit c.in-Some.ensures (c.in-Ok.ensures.ok c.args.setup.nodes) ended.1))
+    c.requires.rules c.requires.limit c.in-Some.ensures (c.in-Ok.ensures.ok c.args.setup.nodes) ended.1)))
 
 pub returns-in_err-run_strict_session-in-Ok-clause-may :
     goal.returns-in_err-run_strict_session-in-Ok-clause-may
@@ -65,6 +69,8 @@ returns-in_ok-run_strict_session-in-Ok-clause-legal g c =
 pub returns-in_err-history-in-Err-Refused-clause-beginning :
     goal.returns-in_err-history-in-Err-Refused-clause-beginning
 returns-in_err-history-in-Err-Refused-clause-beginning g c =
+    let old = g.E.Ends.devices c.args.ends.now in
+    let new = g.E.Ends.devices c.tell_refusal.new.ends in
     let fault = c.in_err-history-in-Err-Refused.field-0.0 in
     let ended = c.in_err-history-in-Err-Refused.ensures.over c.args.setup.nodes c.requires.slots in
     let e = at_last c.args.setup g.N.Shape.rules g.N.Shape.limit c.in-Some.shared.party c.open.new.self.party ended.0
@@ -75,10 +81,11 @@ returns-in_err-history-in-Err-Refused-clause-beginning g c =
     c.in-Err-Refused.field-0-is (c.in-Err-Refused.ensures.err c.args.setup.nodes))
     (closes_here g.N.Shape.rules c.args.setup.nodes g.N.Shape.limit c.open.new.self.party ended.0
     ended.1) in
-    on_err c.from_residual-in_err-history-in-Err-Refused.result
-    (refusal_stops c.args.setup fault (g.E.Ends.devices c.args.ends.now)
-    (g.E.Ends.devices c.tell_refusal.new.ends)
-    c.in-Err-Refused.reply e.0 e.2 c.in_err-history-in-Err-Refused.ensures.err)
+    if_err c.from_residual-in_err-history-in-Err-Refused.result fault
+    (λ of. IfKnown old new (BeginsBy true c.args.setup of))
+    c.from_residual-in_err-history-in-Err-Refused.ensures.1
+    (refusal_stops true c.args.setup fault old new c.in-Err-Refused.reply e.0 e.2
+    c.in_err-history-in-Err-Refused.ensures.err)
 
 pub returns-in_err-history-in-Err-Refused-clause-may :
     goal.returns-in_err-history-in-Err-Refused-clause-may
@@ -115,7 +122,7 @@ returns-in_ok-history-in-Err-Refused-clause-transcript g c =
 
 pub returns-in-Err-Stopped-clause-beginning : goal.returns-in-Err-Stopped-clause-beginning
 returns-in-Err-Stopped-clause-beginning g c =
-    let d = g.E.Ends.devices c.args.ends.now in nothing_done c.args.setup d.remaining d.contents
+    nothing_done true c.args.setup Opening (g.E.Ends.devices c.args.ends.now) (λ input. refl)
 
 pub returns-in-Err-Stopped-clause-may : goal.returns-in-Err-Stopped-clause-may
 returns-in-Err-Stopped-clause-may g c =
@@ -128,3 +135,6 @@ returns-in-Err-Stopped-clause-may g c =
     (closes_here g.N.Shape.rules c.args.setup.nodes g.N.Shape.limit c.open.new.self.party c.close_kept.result.entries
     (c.close_kept.ensures.closed c.args.setup.nodes c.requires.slots)) in
     e.2
+
+pub returns-in-Err-Stopped-clause-fault : goal.returns-in-Err-Stopped-clause-fault
+returns-in-Err-Stopped-clause-fault g c = (returns-in-Err-Stopped-clause-may g c, c.requires.whole)

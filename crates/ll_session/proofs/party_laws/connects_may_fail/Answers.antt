@@ -1,5 +1,5 @@
 use Rattle.ll_session.proofs.Edges.{may_fail}
-use Rattle.ll_session.proofs.turns.connects_may_fail.Goals as goal
+use Rattle.ll_session.proofs.party_laws.connects_may_fail.Goals as goal
 
 pub returns : goal.returns
 returns c = may_fail
