@@ -1,2 +1,3 @@
+pub mod Checked
 pub mod Told
 pub mod Wish

@@ -2,15 +2,12 @@
 
 ghost use Rattle.std.specs.Prelude.{◌≡◌, ℕ, true, false, List, Option, None, Some, Err, IfErr, IfOk, IfSome};
 ghost use Rattle.ll_runs.specs.Sources.{named, text_in};
-ghost use Rattle.ll_options.specs.Options.{checked_in, exported_in, fits, fits_check, fits_export, fits_schedule};
-ghost use Rattle.ll_options.specs.Options.{is_checked};
-ghost use Rattle.ll_options.specs.Options.{fits_why};
+ghost use Rattle.ll_options.specs.Options.{fits, fits_schedule, fits_why};
 ghost use Rattle.ll_options.specs.Options.{fits_serve, order_in, rights_in, scheduled_in, served_in, why_in};
-ghost use Rattle.ll_runs.specs.Failure.{EndsAudit, EndsCheck, EndsExport, EndsRights, EndsRun, EndsSchedule};
-ghost use Rattle.ll_runs.specs.Failure.{EndsServe, IsOfDevices, IsOfExport, IsRunEnd};
+ghost use Rattle.ll_runs.specs.Failure.{EndsAudit, EndsRights, EndsRun, EndsSchedule};
+ghost use Rattle.ll_runs.specs.Failure.{EndsServe, IsOfDevices, IsRunEnd};
 ghost use Rattle.ll_runs.specs.Policy.{MayFail};
 ghost use Rattle.ll_commands.specs.Rights as rights;
-ghost use Rattle.ll_commands.specs.Export as exports;
 ghost use Rattle.ll_commands.specs.Why.{EndsWhy};
 ghost use Rattle.ll_commands.specs.Serving as serving;
 ghost use Rattle.ll_audit.specs.Saved.{Judges};
@@ -19,19 +16,14 @@ ghost use Rattle.ll_wire.specs.Pieces.{pieces};
 use crate::hints::Hints;
 use crate::misfits::Misfit;
 use ll_audit::Verdict;
-use ll_check::check;
 use ll_commands::{
-    Binds, Log, draw_in, explain_schedule, export, export_checked, perform_schedule, serve,
-    setup_by, tell_rights, tell_why, window_by,
+    Binds, Log, draw_in, explain_schedule, perform_schedule, serve, setup_by, tell_rights,
+    tell_why, window_by,
 };
-use ll_options::{
-    CheckOptions, ExportOptions, Question, RightsOptions, RunOptions, ScheduleOptions,
-    ServeOptions, WhyOptions,
-};
-use ll_rights::limits::TREE_NODES;
+use ll_options::{Question, RightsOptions, RunOptions, ScheduleOptions, ServeOptions, WhyOptions};
 use ll_runs::{
-    Checked, Clash, Conclusion, Device, Failure, Kept, Late, NewFile, Purpose, Shown, Sources,
-    audit, named, read_text, run,
+    Clash, Conclusion, Device, Failure, Late, NewFile, Purpose, Shown, Sources, audit, named,
+    read_text, run,
 };
 use std::io::{IsTerminal, Read};
 use std::sync::Wait;
@@ -68,9 +60,16 @@ fn run_script<S: Sources + Wait>(
         × IfSome (text_in (S.texts sources.now) (order_in options.now).policy) (λ told. text ≡ told)
         × MayFail (order_in options.now) text failure) }
 {
-    let mut policy = Late::new(sources, Some(options.policy.unwrap_or("")));
-    let mut script = Late::new(sources, named(options.script));
-    let mut file = history_file(rt, options.save, hints.are_wanted());
+    let keeps = hints.are_wanted();
+    let keeps_lines = keeps && options.strict;
+    let mut policy = Late::keeping(
+        rt.alloc(),
+        sources,
+        Some(options.policy.unwrap_or("")),
+        keeps,
+    );
+    let mut script = Late::keeping(rt.alloc(), sources, named(options.script), keeps_lines);
+    let mut file = history_file(rt, options.save, keeps);
     let ended = run(
         sources,
         rt.alloc(),
@@ -83,10 +82,7 @@ fn run_script<S: Sources + Wait>(
     hints.of_input("policy", &policy);
     hints.of_input("script", &script);
     hints.of_output(&file);
-    // No script is read where a call of the opening is refused by the only reply.
-    if ended.is_ok() && !script.is_open() {
-        hints.want_opening();
-    }
+    hints.of_run(options, &ended, &policy, &script);
     ended
 }
 
@@ -128,10 +124,15 @@ fn judge_file<S: Sources>(
         (λ bytes. Judges (pieces bytes) verdict)) }
     ensures failure { IfErr result IsOfDevices }
 {
-    let mut input = Late::new(sources, named(file));
+    let mut input = Late::keeping(rt.alloc(), sources, named(file), hints.are_wanted());
     let mut shown = Shown::new(rt.stderr(), rt.stderr().is_terminal());
     let judged = audit(rt.alloc(), &mut input, &mut rt.stdout(), &mut shown);
     hints.of_input("history", &input);
+    if let Ok(verdict) = &judged
+        && let Some(text) = input.text()
+    {
+        hints.of_verdict(file, text, *verdict);
+    }
     judged
 }
 
@@ -164,12 +165,11 @@ fn perform_and_tell<S: Sources>(
 ) -> Result<(), Failure>
     ensures { IfErr result IsOfDevices }
 {
-    let file = Late::new(sources, named(options.file));
-    let mut kept = Kept::new(rt.alloc(), file, hints.are_wanted());
-    let ended = perform_schedule(rt.alloc(), setup_by(options), &mut kept, &mut rt.stdout());
-    hints.of_input("schedule", &kept.reader);
+    let mut file = Late::keeping(rt.alloc(), sources, named(options.file), hints.are_wanted());
+    let ended = perform_schedule(rt.alloc(), setup_by(options), &mut file, &mut rt.stdout());
+    hints.of_input("schedule", &file);
     if ended.is_ok()
-        && let Some(text) = kept.text()
+        && let Some(text) = file.text()
     {
         hint_at_steps(rt, options, text, hints);
     }
@@ -257,10 +257,21 @@ fn tell_file<S: Sources>(
 ) -> Result<(), Failure>
     ensures { IfErr result (λ failure. (text : List ℕ) × rights.MayFail (rights_in options.now) text failure) }
 {
-    let mut file = Late::new(sources, Some(options.policy));
+    let mut file = Late::keeping(
+        rt.alloc(),
+        sources,
+        Some(options.policy),
+        hints.are_wanted(),
+    );
     let told = tell_rights(rt.alloc(), options, &mut file, &mut rt.stdout());
     hints.of_input("policy", &file);
-    told
+    match told {
+        Ok(()) => Ok(()),
+        Err(failure) => {
+            hints.of_rights(options, &failure, file.text());
+            Err(failure)
+        }
+    }
 }
 
 // `rights`.
@@ -279,20 +290,6 @@ pub fn rights_options<S: Sources>(
             Err(failure)
         }
     }
-}
-
-// The whole text of this file.
-fn text_of<S: Sources>(
-    rt: &HostRuntime,
-    sources: &S,
-    what: &str,
-    file: Option<&str>,
-    hints: &mut Hints,
-) -> Result<Vec<u8>, Failure> {
-    let mut input = Late::new(sources, file);
-    let text = read_text(rt.alloc(), &mut input);
-    hints.of_input(what, &input);
-    text
 }
 
 // The file that is asked about: a history's, or a policy's.
@@ -318,168 +315,11 @@ pub fn why_options<S: Sources>(
         hints.of_misfit(Some(Misfit::NeitherEntryNorCommand));
         return Err(Failure::CommandLine);
     }
-    let mut file = Late::new(sources, file_asked(options));
+    let mut file = Late::keeping(rt.alloc(), sources, file_asked(options), hints.are_wanted());
     let told = tell_why(rt.alloc(), options, &mut file, &mut rt.stdout());
     hints.of_input("file", &file);
+    hints.of_question(options, &told, &file);
     told
-}
-
-// The whole texts of these files.
-fn texts_of<S: Sources>(
-    rt: &HostRuntime,
-    sources: &S,
-    files: &[&str],
-    hints: &mut Hints,
-) -> Result<Vec<Vec<u8>>, Failure> {
-    let mut texts = Vec::new(rt.alloc());
-    for file in files {
-        let text = text_of(rt, sources, "file", named(file), hints)?;
-        if let Err(refused) = texts.push(text) {
-            drop(refused);
-            return Err(Failure::NoMemory);
-        }
-    }
-    Ok(texts)
-}
-
-// Checks the files that are wanted.
-fn check_files<S: Sources + Wait>(
-    rt: &HostRuntime,
-    sources: &S,
-    options: &CheckOptions,
-    hints: &mut Hints,
-) -> Result<Checked, Failure> {
-    let policy = match options.policy {
-        Some(path) => text_of(rt, sources, "policy", Some(path), hints)?,
-        None => Vec::new(rt.alloc()),
-    };
-    let texts = texts_of(rt, sources, options.files.as_slice(), hints)?;
-    check(
-        sources,
-        rt.alloc(),
-        options,
-        policy.as_slice(),
-        texts.as_slice(),
-        &mut rt.stdout(),
-        &mut rt.stderr(),
-        hints,
-    )
-}
-
-// `check`.
-pub fn check_options<S: Sources + Wait>(
-    rt: &HostRuntime,
-    sources: &S,
-    options: &CheckOptions,
-    hints: &mut Hints,
-) -> Result<Conclusion, Failure>
-    ensures unfit { fits_check (checked_in options.now) ≡ false → result ≡ Err Failure.CommandLine }
-    ensures check { fits_check (checked_in options.now) ≡ true → EndsCheck result }
-{
-    if !options.fit() {
-        hints.of_misfit(Misfit::of_check(options));
-        return Err(Failure::CommandLine);
-    }
-    match check_files(rt, sources, options, hints) {
-        Ok(checked) => Ok(Conclusion::Checked(checked)),
-        Err(failure) => Err(failure),
-    }
-}
-
-// Writes the text that a policy's profile is exported as.
-fn export_file<S: Sources>(
-    rt: &HostRuntime,
-    sources: &S,
-    options: &ExportOptions,
-    hints: &mut Hints,
-) -> Result<(), Failure>
-    ensures told { IfErr result (λ failure. (text : List ℕ)
-        × IfSome (S.texts sources.now (Some (exported_in options.now).policy)) (λ told. text ≡ told)
-        × exports.MayFail (exported_in options.now) text failure) }
-    ensures failure { IfErr result IsOfExport }
-{
-    let mut file = Late::new(sources, Some(options.policy));
-    let told = export(rt.alloc(), options, &mut file, &mut rt.stdout());
-    hints.of_input("policy", &file);
-    told
-}
-
-// Checks that a profile passes these files, by the policy of this text. What `check` prints goes to standard error.
-fn check_profile<S: Sources + Wait>(
-    rt: &HostRuntime,
-    sources: &S,
-    options: &ExportOptions,
-    policy: &[u8],
-    hints: &mut Hints,
-) -> Result<Checked, Failure> {
-    let texts = texts_of(rt, sources, options.checked.as_slice(), hints)?;
-    let Ok(files) = options.checked.clone() else {
-        return Err(Failure::NoMemory);
-    };
-    let checks = CheckOptions {
-        files,
-        nodes: TREE_NODES,
-        level: None,
-        policy: Some(options.policy),
-        profile: Some(options.profile),
-        quiet: false,
-        verbose: false,
-    };
-    check(
-        sources,
-        rt.alloc(),
-        &checks,
-        policy,
-        texts.as_slice(),
-        &mut rt.stderr(),
-        &mut rt.stderr(),
-        hints,
-    )
-}
-
-// Writes the text that a policy's profile is exported as, if the profile passes the files of checks. The policy is read
-// once, so what is exported is what was checked.
-fn export_profile<S: Sources + Wait>(
-    rt: &HostRuntime,
-    sources: &S,
-    options: &ExportOptions,
-    hints: &mut Hints,
-) -> Result<Conclusion, Failure>
-    ensures { EndsExport true result }
-{
-    let policy = text_of(rt, sources, "policy", Some(options.policy), hints)?;
-    let checked = check_profile(rt, sources, options, policy.as_slice(), hints)?;
-    export_checked(
-        rt.alloc(),
-        checked,
-        options,
-        &mut policy.as_slice(),
-        &mut rt.stdout(),
-    )
-}
-
-// `export`.
-pub fn export_options<S: Sources + Wait>(
-    rt: &HostRuntime,
-    sources: &S,
-    options: &ExportOptions,
-    hints: &mut Hints,
-) -> Result<Conclusion, Failure>
-    ensures unfit { fits_export (exported_in options.now) ≡ false → result ≡ Err Failure.CommandLine }
-    ensures export { fits_export (exported_in options.now) ≡ true
-        → EndsExport (is_checked (exported_in options.now)) result }
-{
-    if !options.fit() {
-        hints.of_misfit(Misfit::of_export(options));
-        return Err(Failure::CommandLine);
-    }
-    if options.is_checked() {
-        return export_profile(rt, sources, options, hints);
-    }
-    match export_file(rt, sources, options, hints) {
-        Ok(()) => Ok(Conclusion::Done),
-        Err(failure) => Err(failure),
-    }
 }
 
 // Serves the streams that come to a port, and saves the history, if a file is named.
@@ -495,8 +335,14 @@ fn serve_port<S: Sources + Threads + Wait + Sync, B: Binds>(
         × serving.MayFail (served_in options.now) text out out' file file' failure) }
 {
     let log = Log::new(sources, options, rt.stderr(), rt.stderr().is_terminal());
-    let mut policy = Late::new(sources, Some(options.policy.unwrap_or("")));
-    let is_telling = options.log || hints.are_wanted();
+    let keeps = hints.are_wanted();
+    let mut policy = Late::keeping(
+        rt.alloc(),
+        sources,
+        Some(options.policy.unwrap_or("")),
+        keeps,
+    );
+    let is_telling = options.log || keeps;
     let mut file = history_file(rt, options.save, is_telling);
     let ended = serve(
         sources,
@@ -510,6 +356,7 @@ fn serve_port<S: Sources + Threads + Wait + Sync, B: Binds>(
     );
     hints.of_input("policy", &policy);
     hints.of_output(&file);
+    hints.of_serving(options, &ended, &policy);
     ended
 }
 
@@ -534,10 +381,7 @@ pub fn serve_options<S: Sources + Threads + Wait + Sync, B: Binds>(
         return Err(Failure::File);
     }
     match serve_port(rt, sources, ports, options, hints) {
-        Ok(()) => {
-            hints.want_opening();
-            Ok(Conclusion::Done)
-        }
+        Ok(()) => Ok(Conclusion::Done),
         Err(failure) => {
             if let Failure::Socket = failure {
                 hints.of_port(options.port);

@@ -4,21 +4,20 @@ ghost use Rattle.std.specs.Prelude.{IfOk, string_bytes};
 ghost use Rattle.std.specs.List.{All};
 ghost use Rattle.landtree.specs.Told.{IsTold};
 
+use crate::given::Given;
 use crate::misfits::Misfit;
-use crate::opening::refused_text;
+use crate::refusal::refused_text;
+use ll_audit::{Saved, Verdict};
 use ll_check::{Blame, DeniedTest, LinesOf, Notes, explain};
+use ll_commands::flaw_of;
 use ll_policy::{Policy, first_fault};
 use ll_rights::Errno;
-use ll_runs::{Late, NewFile, Sources};
-use ll_session::Setup;
-use ll_why::explain_entry;
+use ll_runs::{Failure, Late, NewFile, Sources};
+use ll_why::{explain_entry, why_not};
 use ll_wire::{Header, escaped, read_command, shown};
 use std::alloc::{AllocError, Global};
 use std::fmt::Display;
 use std::io::Write;
-
-/// How the line begins that tells why an entry may not stand.
-const MAY_NOT: &str = "may not stand: ";
 
 /// Of so many tests that fail by a denial it is told why. For each, the entries before it are made again.
 const DENIALS: usize = 20;
@@ -55,6 +54,12 @@ fn push_line(alloc: Global, text: &mut String, line: &[u8]) -> Result<(), AllocE
     text.push_str(line.as_str())
 }
 
+// The policy of this text, if it has no fault and there is memory for it.
+fn policy_of(alloc: Global, text: &[u8]) -> Option<Policy> {
+    let text = str::from_utf8(text).ok()?;
+    Policy::from_text(alloc, text).ok()
+}
+
 /// What is told behind the fault line, each line two spaces further in. Where memory is wanted for a line, it is left
 /// out. No contract says what is told: it helps whoever typed the command. Whatever it is, a terminal gets printed
 /// characters of ASCII and line feeds.
@@ -62,7 +67,6 @@ fn push_line(alloc: Global, text: &mut String, line: &[u8]) -> Result<(), AllocE
 pub struct Hints {
     alloc: Global,
     is_wanted: bool,
-    wants_opening: bool,
     text: String,
     /// How many tests were told of that fail by a denial.
     denials: usize,
@@ -75,7 +79,6 @@ impl Hints {
         Hints {
             alloc,
             is_wanted: false,
-            wants_opening: false,
             text: String::new(alloc),
             denials: 0,
         }
@@ -91,19 +94,9 @@ impl Hints {
         self.is_wanted
     }
 
-    /// Whether there are some already.
-    pub fn are_told(&self) -> bool {
-        !self.text.is_empty()
-    }
-
-    /// A command that doesn't fail may tell of a call that was refused as the tree was opened, and of nothing else.
-    pub fn want_opening(&mut self) {
-        self.wants_opening = true;
-    }
-
-    /// Whether it may.
-    pub fn is_opening_wanted(&self) -> bool {
-        self.wants_opening
+    // Whether they are to be told, and none is yet.
+    fn are_missing(&self) -> bool {
+        self.is_wanted && self.text.is_empty()
     }
 
     // These lines come last.
@@ -178,19 +171,67 @@ impl Hints {
         }
     }
 
-    /// Where the policy's first fault is, and what would be right there.
-    pub fn of_policy(&mut self, name: &str, text: &[u8]) {
-        let Ok(text) = str::from_utf8(text) else {
+    // Where the policy's first fault is, and what would be right there.
+    fn of_policy(&mut self, given: &Given<'_>) {
+        let Ok(text) = str::from_utf8(given.text) else {
             self.add(&"the policy's bytes are no UTF-8");
             return;
         };
         if let Ok(Some(blamed)) = first_fault(self.alloc, text) {
-            let _ = self.push_named(name, blamed.as_str());
+            let _ = self.push_named(given.name, blamed.as_str());
         }
     }
 
-    /// The line of this number, from 1, of the file's text.
-    pub fn of_line(&mut self, name: &str, text: &[u8], number: usize) {
+    // That the policy hasn't the profile that is wanted, if it hasn't.
+    fn of_profile(&mut self, given: &Given<'_>) {
+        if let Some(profile) = given.profile
+            && let Some(policy) = policy_of(self.alloc, given.text)
+            && policy.layers(profile).is_none()
+        {
+            let name = given.name;
+            if let Ok(told) = format!(in self.alloc; "the policy {name} has no profile {profile}") {
+                let _ = self.push(told.as_str());
+            }
+        }
+    }
+
+    /// Which call is refused where a tree is opened by this policy, and the reply to it, if one is: one that makes the
+    /// policy's nodes, or one of the profile that is wanted.
+    pub fn of_opening(&mut self, given: &Given<'_>) {
+        if self.are_missing()
+            && let Some(policy) = policy_of(self.alloc, given.text)
+            && let Ok(Some(refused)) = refused_text(self.alloc, &policy, given)
+        {
+            let _ = self.push_named(given.name, refused.as_str());
+        }
+    }
+
+    /// Why a command has failed, where this policy is the reason.
+    pub fn of_failure(&mut self, failure: &Failure, given: &Given<'_>) {
+        if !self.are_missing() {
+            return;
+        }
+        match failure {
+            Failure::Policy(_) => self.of_policy(given),
+            Failure::CommandLine => self.of_profile(given),
+            Failure::Opening => self.of_opening(given),
+            Failure::File | Failure::Output | Failure::Socket | Failure::NoMemory => {}
+        }
+    }
+
+    /// Which layer of the profile that is wanted can't be exported, and why, if one can't be.
+    pub fn of_flaw(&mut self, given: &Given<'_>) {
+        if self.are_missing()
+            && let Some(profile) = given.profile
+            && let Ok(text) = str::from_utf8(given.text)
+            && let Some(flawed) = flaw_of(self.alloc, text, profile)
+        {
+            self.add(&flawed);
+        }
+    }
+
+    // The line of this number, from 1, of the file's text.
+    fn of_line(&mut self, name: &str, text: &[u8], number: usize) {
         if let Ok(line) = shown(self.alloc, line_at(text, number))
             && let Ok(told) = format!(in self.alloc; "{name}:{number}: {line}")
         {
@@ -223,47 +264,55 @@ impl Hints {
         }
     }
 
-    /// Of a command that is a word of the command line: where in it something else was expected, and what. Whether it
-    /// spells none.
-    pub fn of_word(&mut self, command: &str) -> bool {
+    /// Of a command that is a word of the command line, if it spells none: where in it something else was expected, and
+    /// what.
+    pub fn of_word(&mut self, command: &str) {
         let Ok(line) = format!(in self.alloc; "{command}\n") else {
-            return false;
+            return;
         };
-        match read_command(self.alloc, line.as_bytes(), 1) {
-            Err(Errno::BadLine) => {
-                self.of_command(LinesOf::Word, "COMMAND", command.as_bytes(), 1);
-                true
-            }
-            _ => false,
+        if let Err(Errno::BadLine) = read_command(self.alloc, line.as_bytes(), 1) {
+            self.of_command(LinesOf::Word, "COMMAND", command.as_bytes(), 1);
         }
     }
 
-    /// The same of the script's bad line at which a strict run has ended. `told` is what the program says of that end,
-    /// and has the bad line's number in it.
-    pub fn of_stop(&mut self, script: &str, told: &str, text: &[u8]) {
-        let Some(told) = told.strip_prefix(script) else {
-            return;
-        };
-        let Some((place, reply)) = told.split_once(": ") else {
-            return;
-        };
-        if reply.trim_end() == "refused 23 BadLine"
-            && let Some(number) = place.strip_prefix(':')
-            && let Ok(number) = number.parse::<usize>()
-        {
-            self.of_command(LinesOf::Script, script, text, number);
+    /// Of the script's line of this number, from 1, which spells no command: where in it something else was expected,
+    /// and what.
+    pub fn of_bad_line(&mut self, script: &str, text: &[u8], number: u64) {
+        if self.are_missing() {
+            self.of_command(LinesOf::Script, script, text, number as usize);
         }
     }
 
-    /// Why a history's entry of this number may not stand, by what `why` tells of it, and how to ask for the rest.
-    pub fn of_entry(&mut self, name: &str, entry: usize, why: &[u8]) {
-        if let Ok(why) = str::from_utf8(why)
-            && let Some(line) = why.lines().find(|line| line.starts_with(MAY_NOT))
+    // Why a history's entry of this number may not stand, and how to ask for the rest.
+    fn of_entry(&mut self, name: &str, text: &[u8], entry: usize) {
+        if let Ok(saved) = Saved::read(self.alloc, text)
+            && let Ok(Some(line)) = why_not(
+                self.alloc,
+                &saved.header,
+                saved.entries.as_slice(),
+                entry,
+            )
         {
-            let _ = self.push_shown(line);
+            let _ = self.push_shown(line.as_str());
         }
         if let Ok(told) = format!(in self.alloc; "`landtree why {name} {entry}` tells more") {
             let _ = self.push(told.as_str());
+        }
+    }
+
+    /// Why a history isn't legal, where it is judged so: the line that is of no form, or the entry that may not stand.
+    pub fn of_verdict(&mut self, name: &str, text: &[u8], verdict: Verdict) {
+        if !self.are_missing() {
+            return;
+        }
+        match verdict {
+            Verdict::Legal(_) => {}
+            Verdict::Illegal(entry) => {
+                // The header stands before the entries.
+                self.of_line(name, text, entry.saturating_add(1));
+                self.of_entry(name, text, entry);
+            }
+            Verdict::BadLine(line) => self.of_line(name, text, line),
         }
     }
 
@@ -281,27 +330,6 @@ impl Hints {
         );
         if let Ok(told) = told {
             let _ = self.push(told.as_str());
-        }
-    }
-
-    /// That the policy hasn't this profile, where its text tells so.
-    pub fn of_profile(&mut self, policy: &str, text: &[u8], profile: &str) {
-        if let Ok(text) = str::from_utf8(text)
-            && let Ok(read) = Policy::from_text(self.alloc, text)
-            && read.layers(profile).is_none()
-            && let Ok(told) = format!(in self.alloc;
-                "the policy {policy} has no profile {profile}"
-            )
-        {
-            let _ = self.push(told.as_str());
-        }
-    }
-
-    /// Which call is refused where a tree is opened by this policy, and the reply to it: one that makes the policy's
-    /// nodes, or one of the profile that is wanted.
-    pub fn of_opening(&mut self, policy: &str, profile: Option<&str>, setup: &Setup) {
-        if let Ok(Some(refused)) = refused_text(self.alloc, setup, profile.unwrap_or("")) {
-            let _ = self.push_named(policy, refused.as_str());
         }
     }
 

@@ -2,11 +2,13 @@
 //! rights, tells why calls are denied, and checks what a tree answers.
 #![tactic(auto)]
 
+mod checks;
 mod commands;
-mod hinting;
+mod given;
 mod hints;
 mod misfits;
-mod opening;
+mod reasons;
+mod refusal;
 mod wanted;
 
 ghost use Rattle.std.specs.Prelude.{◌≡◌, ◌⊎◌, true, false, [], map, Some, None, Err};
@@ -19,14 +21,15 @@ ghost use Rattle.ll_options.specs.Options.{ServeOrder, fits, fits_check, fits_ex
 ghost use Rattle.ll_options.specs.Options.{landtree, ordered_by, ordered_in, to_audit, to_check, to_export, to_rights};
 ghost use Rattle.ll_options.specs.Options.{WhyOrder, fits_why, to_run, to_schedule, to_serve, to_why};
 ghost use Rattle.ll_commands.specs.Why.{EndsWhy};
-ghost use Rattle.ll_runs.specs.Failure.{EndsAudit, EndsCheck, EndsExport, EndsRights, EndsRun, EndsSchedule};
+ghost use Rattle.ll_runs.specs.Failure.{EndsAudit, EndsExport, EndsRights, EndsRun, EndsSchedule};
+ghost use Rattle.ll_check.specs.Ends.{EndsCheck};
+ghost use Rattle.landtree.specs.Checked.{EndsChecked};
 ghost use Rattle.ll_runs.specs.Failure.{EndsServe, failure_by};
 
+use checks::{check_options, export_options};
 use commands::{
-    audit_file, check_options, export_options, rights_options, run_options, schedule_options,
-    serve_options, why_options,
+    audit_file, rights_options, run_options, schedule_options, serve_options, why_options,
 };
-use hinting::{Doubt, hint_behind};
 use hints::Hints;
 use ll_commands::{Binds, Loopback};
 use ll_options::Options;
@@ -88,7 +91,7 @@ fn carry_out<S: Sources + Threads + Wait + Sync, B: Binds>(
     ensures unfit_check { (order : CheckOrder) → ordered_in options.now ≡ to_check order → fits_check order ≡ false
         → result ≡ Err Failure.CommandLine }
     ensures check { (order : CheckOrder) → ordered_in options.now ≡ to_check order → fits_check order ≡ true
-        → EndsCheck result }
+        → EndsCheck (S.texts sources.now) order result }
     ensures unfit_serve { (order : ServeOrder) → ordered_in options.now ≡ to_serve order → fits_serve order ≡ false
         → result ≡ Err Failure.CommandLine }
     ensures serve { (order : ServeOrder) → ordered_in options.now ≡ to_serve order → fits_serve order ≡ true
@@ -97,6 +100,8 @@ fn carry_out<S: Sources + Threads + Wait + Sync, B: Binds>(
         → fits_export order ≡ false → result ≡ Err Failure.CommandLine }
     ensures export { (order : ExportOrder) → ordered_in options.now ≡ to_export order → fits_export order ≡ true
         → EndsExport (is_checked order) result }
+    ensures checked_export { (order : ExportOrder) → ordered_in options.now ≡ to_export order
+        → fits_export order ≡ true → is_checked order ≡ true → EndsChecked (S.texts sources.now) order result }
     ensures unfit_why { (order : WhyOrder) → ordered_in options.now ≡ to_why order → fits_why order ≡ false
         → result ≡ Err Failure.CommandLine }
     ensures why { (order : WhyOrder) → ordered_in options.now ≡ to_why order → EndsWhy result }
@@ -146,7 +151,7 @@ fn run_words<S: Sources + Threads + Wait + Sync, B: Binds>(
         → (result ≡ Err Failure.CommandLine) ⊎ (result ≡ Err Failure.NoMemory) }
     ensures check { (order : CheckOrder) → fault_of landtree (map (λ w. w.now) words.now) ≡ []
         → ordered_by (map (λ w. w.now) words.now) ≡ Some (to_check order) → fits_check order ≡ true
-        → EndsCheck result }
+        → EndsCheck (S.texts sources.now) order result }
     ensures unfit_serve { (order : ServeOrder) → fault_of landtree (map (λ w. w.now) words.now) ≡ []
         → ordered_by (map (λ w. w.now) words.now) ≡ Some (to_serve order) → fits_serve order ≡ false
         → (result ≡ Err Failure.CommandLine) ⊎ (result ≡ Err Failure.NoMemory) }
@@ -159,6 +164,9 @@ fn run_words<S: Sources + Threads + Wait + Sync, B: Binds>(
     ensures export { (order : ExportOrder) → fault_of landtree (map (λ w. w.now) words.now) ≡ []
         → ordered_by (map (λ w. w.now) words.now) ≡ Some (to_export order) → fits_export order ≡ true
         → EndsExport (is_checked order) result }
+    ensures checked_export { (order : ExportOrder) → fault_of landtree (map (λ w. w.now) words.now) ≡ []
+        → ordered_by (map (λ w. w.now) words.now) ≡ Some (to_export order) → fits_export order ≡ true
+        → is_checked order ≡ true → EndsChecked (S.texts sources.now) order result }
     ensures unfit_why { (order : WhyOrder) → fault_of landtree (map (λ w. w.now) words.now) ≡ []
         → ordered_by (map (λ w. w.now) words.now) ≡ Some (to_why order) → fits_why order ≡ false
         → (result ≡ Err Failure.CommandLine) ⊎ (result ≡ Err Failure.NoMemory) }
@@ -171,8 +179,7 @@ fn run_words<S: Sources + Threads + Wait + Sync, B: Binds>(
     }
 }
 
-// Does what the program's words ask for, and tells of its end before it looks for further hints. Errors: there are no
-// such words, and nothing is told.
+// Does what the program's words ask for, and tells of its end. Errors: there are no such words, and nothing is told.
 fn run_program<S: Sources + Threads + Wait + Sync, B: Binds>(
     rt: &HostRuntime,
     sources: &S,
@@ -194,10 +201,7 @@ fn run_program<S: Sources + Threads + Wait + Sync, B: Binds>(
         return Err(Failure::NoMemory);
     };
     let ended = run_words(rt, sources, ports, words.as_slice(), hints);
-    let doubt = Doubt::of(rt.alloc(), hints, &ended);
-    let status = concluded(rt, ended);
-    hint_behind(rt, sources, hints, words.as_slice(), &doubt);
-    Ok(status)
+    Ok(concluded(rt, ended))
 }
 
 fn main(rt: HostRuntime) -> ExitCode {

@@ -1,16 +1,17 @@
 //! Checks of files, as the program makes them.
 
-ghost use Rattle.std.specs.Prelude.{◌≡◌, ◌≢◌, ◌≤◌, IfOk, IsTrue, Ok};
-ghost use Rattle.std.specs.List.{AllZip, list_any};
-ghost use Rattle.ll_check.specs.Checks.{is_test, meaning_of};
+ghost use Rattle.std.specs.Prelude.{◌≡◌, ◌≤◌, ◌+◌, ◌++◌, ℕ, IfErr, IfOk, OnOk, length, map};
+ghost use Rattle.std.specs.Option.{option_map_or};
 ghost use Rattle.ll_rights.specs.declared.limits.TheConstants.{HISTORY_ENTRIES};
-ghost use Rattle.std.specs.Io.KnownBytes.{Keeps};
-ghost use Rattle.ll_check.specs.Tested.{AreTested, AreTold, HaveTests, IsReadAs};
+ghost use Rattle.std.specs.List.{AllZip, list_all};
+ghost use Rattle.ll_wire.specs.Transcript.{Writes};
+ghost use Rattle.ll_options.specs.Options.{checked_in};
 ghost use Rattle.ll_runs.specs.declared.checked.Checked as checked;
+ghost use Rattle.ll_check.specs.Files.{AreChecked, Concludes, HasBadLine, IsCheck, IsFileChecked, IsReadAs, IsSetFor};
+ghost use Rattle.ll_check.specs.Files.{MayFail};
+ghost use Rattle.ll_check.specs.Files.{detail_of, end_of, has_test, room_for, source_of, sum_line, tests_of};
 
-use crate::{
-    CheckFault, CheckLine, Checks, Detail, LinesOf, Notes, Tally, check_file, explain, tell_denied,
-};
+use crate::{CheckFault, Checks, Detail, LinesOf, Notes, Tally, check_file, explain, tell_denied};
 use ll_options::{CheckOptions, RunOptions};
 use ll_rights::limits::HISTORY_ENTRIES;
 use ll_runs::{Checked, Failure, header_of, setup_of};
@@ -19,7 +20,38 @@ use std::alloc::{AllocError, Global};
 use std::io::Write;
 use std::sync::Wait;
 
-/// Why a file can't be checked, and which of them, from 0.
+/// A file of checks: its name, and its whole text.
+#[derive(Drop)]
+pub struct NamedText<'a> {
+    pub name: &'a str,
+    pub text: Vec<u8>,
+}
+
+/// What is to be checked: what the words ask for, the text of the policy that they name, if they name one, and the
+/// files.
+#[derive(Clone, Copy)]
+pub struct CheckInput<'a, 'w> {
+    pub options: &'a CheckOptions<'w>,
+    pub policy: &'a [u8],
+    pub files: &'a [NamedText<'w>],
+}
+
+// A file that is read: its name, and what its lines say.
+#[derive(Drop)]
+struct ReadFile<'a, 'w> {
+    name: &'w str,
+    checks: Checks<'a>,
+}
+
+impl ReadFile<'_, '_> {
+    fn has_test(&self) -> bool
+        ensures { result ≡ has_test (tests_of self.now) }
+    {
+        self.checks.has_test()
+    }
+}
+
+// Why a file can't be read, and which of them, from 0.
 #[derive(Clone, Copy)]
 struct BadFile {
     file: usize,
@@ -27,40 +59,66 @@ struct BadFile {
 }
 
 // What all files say, up to the first that can't be read.
-fn read_all<'a>(alloc: Global, texts: &'a [Vec<u8>]) -> Result<Vec<Checks<'a>>, BadFile>
-    ensures { IfOk result (λ all. AllZip IsReadAs texts.entry.now all.items) }
+fn read_all<'a, 'w>(
+    alloc: Global,
+    texts: &'a [NamedText<'w>],
+) -> Result<Vec<ReadFile<'a, 'w>>, BadFile>
+    ensures read { IfOk result (λ files. AllZip IsReadAs texts.entry.now files.items) }
+    ensures bad { IfErr result (λ bad. (line : ℕ) → bad.fault ≡ CheckFault.BadLine line
+        → HasBadLine (map source_of texts.entry.now)) }
 {
-    let mut all = Vec::new(alloc);
-    let mut file: usize = 0;
-    for text in texts {
-        let checks = match Checks::read(alloc, text.as_slice()) {
+    let mut files = Vec::new(alloc);
+    for (file, text) in texts.iter().enumerate() {
+        let checks = match Checks::read(alloc, text.text.as_slice()) {
             Ok(checks) => checks,
             Err(fault) => return Err(BadFile { file, fault }),
         };
-        if let Err(refused) = all.push(checks) {
+        let read = ReadFile {
+            name: text.name,
+            checks,
+        };
+        if let Err(refused) = files.push(read) {
             drop(refused);
             let fault = CheckFault::NoMemory;
             return Err(BadFile { file, fault });
         }
-        file = file.saturating_add(1);
     }
-    Ok(all)
+    Ok(files)
+}
+
+// How many calls a tree's loader makes.
+fn loader_calls(setup: &Setup) -> usize
+    ensures { result ≡ option_map_or (λ calls. length calls.items) setup.now.loader 0 }
+{
+    match &setup.loader {
+        Some(calls) => calls.len(),
+        None => 0,
+    }
 }
 
 // Room in the history for all calls of a check.
 fn room_of(setup: &Setup, lines: usize) -> usize
+    ensures room { result ≡ room_for setup.now lines }
     ensures some { 1 ≤ result }
     ensures most { result ≤ HISTORY_ENTRIES }
 {
-    let loaded = match &setup.loader {
-        Some(calls) => calls.len(),
-        None => 0,
-    };
-    let calls = loaded.saturating_add(setup.profile.len());
-    calls
+    loader_calls(setup)
+        .saturating_add(setup.profile.len())
         .saturating_add(lines)
         .saturating_add(2)
         .min(HISTORY_ENTRIES)
+}
+
+// The same setup, with room in the history for so many lines.
+fn with_room(mut setup: Setup, lines: usize) -> Setup
+    ensures rules { result.rules ≡ setup.rules }
+    ensures nodes { result.nodes ≡ setup.nodes }
+    ensures history { result.history ≡ room_for setup lines }
+    ensures loader { result.loader ≡ setup.loader }
+    ensures profile { result.profile ≡ setup.profile }
+{
+    setup.history = room_of(&setup, lines);
+    setup
 }
 
 // The setup of a file's tree.
@@ -69,7 +127,10 @@ fn setup_for(
     options: &CheckOptions,
     policy: &[u8],
     lines: usize,
-) -> Result<Setup, Failure> {
+) -> Result<Setup, Failure>
+    ensures setup { IfOk result (IsSetFor (checked_in options.now) policy.now lines) }
+    ensures failure { IfErr result (MayFail (checked_in options.now) policy.now) }
+{
     let run = RunOptions {
         script: "",
         nodes: options.nodes,
@@ -81,12 +142,15 @@ fn setup_for(
         strict: false,
     };
     let mut text = policy;
-    let mut setup = setup_of(alloc, &run, &mut text)?;
-    setup.history = room_of(&setup, lines);
-    Ok(setup)
+    match setup_of(alloc, &run, &mut text) {
+        Ok(setup) => Ok(with_room(setup, lines)),
+        Err(failure) => Err(failure),
+    }
 }
 
-fn detail_of(options: &CheckOptions) -> Detail {
+fn detail_of(options: &CheckOptions) -> Detail
+    ensures { result ≡ detail_of (checked_in options.now) }
+{
     if options.quiet {
         Detail::Quiet
     } else if options.verbose {
@@ -96,27 +160,24 @@ fn detail_of(options: &CheckOptions) -> Detail {
     }
 }
 
-// The name of the file at this place among those that are checked.
-fn name_of<'a>(options: &CheckOptions<'a>, file: usize) -> &'a str {
-    match options.files.get(file) {
-        Some(name) => *name,
-        None => "-",
-    }
-}
-
-// Checks a file of this name. What is reported comes behind the report so far.
+// Checks a file. What is reported comes behind the report so far.
 fn check_one<R: Wait, N: Notes>(
     rt: &R,
     alloc: Global,
-    detail: Detail,
-    setup: Setup,
-    name: &str,
-    lines: &[CheckLine<'_>],
+    input: &CheckInput<'_, '_>,
+    file: &ReadFile<'_, '_>,
     report: &mut Vec<u8>,
     notes: &mut N,
-) -> Result<Tally, Failure> {
-    let name = name.as_bytes();
+) -> Result<Tally, Failure>
+    ensures checked { IfOk result (IsFileChecked (checked_in input.now.options.now) input.now.policy.now
+        (tests_of file.now) report.old.items report.new.items) }
+    ensures failure { IfErr result (MayFail (checked_in input.now.options.now) input.now.policy.now) }
+{
+    let name = file.name.as_bytes();
+    let lines = file.checks.lines.as_slice();
+    let setup = setup_for(alloc, input.options, input.policy, lines.len())?;
     let header = header_of(&setup);
+    let detail = detail_of(input.options);
     let checked = match check_file(rt, report, alloc, detail, setup, name, lines) {
         Ok(checked) => checked,
         Err(fault) => return Err(Failure::of_run(fault)),
@@ -127,70 +188,87 @@ fn check_one<R: Wait, N: Notes>(
     Ok(checked.tally)
 }
 
+impl Tally {
+    // Of none.
+    fn empty() -> Tally
+        ensures passed { result.passed ≡ 0 }
+        ensures failed { result.failed ≡ 0 }
+    {
+        Tally {
+            passed: 0,
+            failed: 0,
+        }
+    }
+
+    // Of the tests of both. Errors: there are more than a number counts, which no memory holds.
+    fn plus(self, other: Tally) -> Result<Tally, Failure>
+        ensures passed { IfOk result (λ sum. sum.passed ≡ self.passed + other.passed) }
+        ensures failed { IfOk result (λ sum. sum.failed ≡ self.failed + other.failed) }
+        ensures failure { IfErr result (λ failure. failure ≡ Failure.NoMemory) }
+    {
+        let Some(passed) = self.passed.checked_add(other.passed) else {
+            return Err(Failure::NoMemory);
+        };
+        let Some(failed) = self.failed.checked_add(other.failed) else {
+            return Err(Failure::NoMemory);
+        };
+        Ok(Tally { passed, failed })
+    }
+}
+
 // Checks all files, one after the other.
 fn check_all<R: Wait, N: Notes>(
     rt: &R,
     alloc: Global,
-    options: &CheckOptions,
-    policy: &[u8],
-    all: &[Checks<'_>],
+    input: &CheckInput<'_, '_>,
+    files: &[ReadFile<'_, '_>],
     report: &mut Vec<u8>,
     notes: &mut N,
-) -> Result<Tally, Failure> {
-    let mut total = Tally {
-        passed: 0,
-        failed: 0,
-    };
-    let mut file: usize = 0;
-    for checks in all {
-        let name = name_of(options, file);
-        file = file.saturating_add(1);
-        let lines = checks.lines.as_slice();
-        let setup = setup_for(alloc, options, policy, lines.len())?;
-        let detail = detail_of(options);
-        let tally = check_one(rt, alloc, detail, setup, name, lines, report, notes)?;
-        total = Tally {
-            passed: total.passed.saturating_add(tally.passed),
-            failed: total.failed.saturating_add(tally.failed),
-        };
+) -> Result<Tally, Failure>
+    ensures checked { IfOk result (AreChecked (checked_in input.now.options.now) input.now.policy.now
+        (map tests_of files.now) report.old.items report.new.items) }
+    ensures failure { IfErr result (MayFail (checked_in input.now.options.now) input.now.policy.now) }
+{
+    let mut sum = Tally::empty();
+    for file in files {
+        let tally = check_one(rt, alloc, input, file, report, notes)?;
+        sum = sum.plus(tally)?;
     }
-    Ok(total)
+    Ok(sum)
 }
 
 // How many tests pass and fail, written at the end.
-fn push_total(report: &mut Vec<u8>, alloc: Global, total: Tally) -> Result<(), AllocError> {
-    let passed = total.passed.to_string(alloc)?;
-    let failed = total.failed.to_string(alloc)?;
+fn push_sum(report: &mut Vec<u8>, alloc: Global, sum: Tally) -> Result<(), AllocError>
+    ensures { OnOk result (report.new.items ≡ report.old.items ++ sum_line sum) }
+{
+    let passed = sum.passed.to_string(alloc)?;
+    let failed = sum.failed.to_string(alloc)?;
     report.extend_from_slice(passed.as_bytes())?;
     report.extend_from_slice(b" passed, ")?;
     report.extend_from_slice(failed.as_bytes())?;
     report.extend_from_slice(b" failed\n")
 }
 
-// Whether this file has a test, which is told where it has none.
-fn has_test<E: Write>(name: &str, checks: &Checks<'_>, err: &mut E) -> bool
-    ensures { result ≡ list_any (λ line. is_test (meaning_of line)) checks.now.lines.items }
+fn are_tested(files: &[ReadFile<'_, '_>]) -> bool
+    ensures { result ≡ list_all (λ file. has_test (tests_of file)) files.now }
 {
-    let has_test = checks.has_test();
-    if !has_test {
-        let _ = writeln!(err, "no test in {name}");
-    }
-    has_test
+    files.iter().all(|file| file.has_test())
 }
 
-// Whether each file has a test. Which have none is told.
-fn have_tests<E: Write>(options: &CheckOptions, all: &[Checks<'_>], err: &mut E) -> bool
-    ensures { IsTrue result → HaveTests all.now }
+// Whether each file has a test.
+fn have_tests(files: &[ReadFile<'_, '_>]) -> bool
+    ensures { result ≡ list_all has_test (map tests_of files.now) }
 {
-    let mut have_tests = true;
-    let mut file: usize = 0;
-    for checks in all {
-        if !has_test(name_of(options, file), checks, err) {
-            have_tests = false;
+    are_tested(files)
+}
+
+// Tells which files have no test.
+fn tell_untested<E: Write>(files: &[ReadFile<'_, '_>], err: &mut E) {
+    for file in files {
+        if !file.has_test() {
+            let _ = writeln!(err, "no test in {}", file.name);
         }
-        file = file.saturating_add(1);
     }
-    have_tests
 }
 
 // Tells that a policy is asked for and none of its profiles.
@@ -203,57 +281,45 @@ fn tell_no_profile<E: Write>(options: &CheckOptions, err: &mut E) {
     }
 }
 
-fn check_and_tell<R: Wait, W: Write, N: Notes>(
+// How it ends.
+fn end_of(files: &[ReadFile<'_, '_>], sum: Tally) -> Checked
+    ensures { result ≡ end_of (map tests_of files.now) sum }
+{
+    if have_tests(files) && sum.failed == 0 {
+        Checked::Passed
+    } else {
+        Checked::Failed
+    }
+}
+
+// Checks what was read, and writes the report.
+fn conclude<R: Wait, W: Write, N: Notes>(
     rt: &R,
     alloc: Global,
-    options: &CheckOptions,
-    policy: &[u8],
-    all: &[Checks<'_>],
+    input: &CheckInput<'_, '_>,
+    files: &[ReadFile<'_, '_>],
     out: &mut W,
     notes: &mut N,
 ) -> Result<Checked, Failure>
-    ensures { IfOk result (λ end. end ≢ checked.Checked.BadLine) }
+    ensures checked { IfOk result (λ end. Writes (W.contents out.old) (W.contents out.new)
+        (Concludes (checked_in input.now.options.now) input.now.policy.now (map tests_of files.now) end)) }
+    ensures failure { IfErr result (MayFail (checked_in input.now.options.now) input.now.policy.now) }
 {
     let mut report = Vec::new(alloc);
-    let total = check_all(rt, alloc, options, policy, all, &mut report, notes)?;
-    if push_total(&mut report, alloc, total).is_err() {
+    let sum = check_all(rt, alloc, input, files, &mut report, notes)?;
+    if push_sum(&mut report, alloc, sum).is_err() {
         return Err(Failure::NoMemory);
     }
     if out.write_all(report.as_slice()).is_err() {
         return Err(Failure::Output);
     }
-    if total.failed == 0 {
-        Ok(Checked::Passed)
-    } else {
-        Ok(Checked::Failed)
-    }
-}
-
-// Checks what was read of all files, and tells which have no test.
-fn check_read<R: Wait, W: Write, E: Write, N: Notes>(
-    rt: &R,
-    alloc: Global,
-    options: &CheckOptions,
-    policy: &[u8],
-    all: &[Checks<'_>],
-    out: &mut W,
-    err: &mut E,
-    notes: &mut N,
-) -> Result<Checked, Failure>
-    ensures never { IfOk result (λ end. end ≢ checked.Checked.BadLine) }
-    ensures tested { result ≡ Ok checked.Checked.Passed → HaveTests all.now }
-{
-    tell_no_profile(options, err);
-    if have_tests(options, all, err) {
-        return check_and_tell(rt, alloc, options, policy, all, out, notes);
-    }
-    check_and_tell(rt, alloc, options, policy, all, out, notes)?;
-    Ok(Checked::Failed)
+    Ok(end_of(files, sum))
 }
 
 // Tells where a file's line says nothing, and what was expected there.
-fn tell_line<E: Write>(alloc: Global, name: &str, text: &[u8], line: usize, err: &mut E) {
-    let Ok(Some(blame)) = explain(alloc, LinesOf::Checks, text, line) else {
+fn tell_line<E: Write>(alloc: Global, file: &NamedText<'_>, line: usize, err: &mut E) {
+    let name = file.name;
+    let Ok(Some(blame)) = explain(alloc, LinesOf::Checks, file.text.as_slice(), line) else {
         let _ = writeln!(err, "{name}:{line}:1: a command is expected, or a comment");
         return;
     };
@@ -265,55 +331,49 @@ fn tell_line<E: Write>(alloc: Global, name: &str, text: &[u8], line: usize, err:
     };
 }
 
+// Tells where a line says nothing, if that is why files can't be read.
 fn tell_bad<E: Write>(
     alloc: Global,
-    options: &CheckOptions,
-    texts: &[Vec<u8>],
-    file: usize,
-    line: usize,
+    files: &[NamedText<'_>],
+    bad: BadFile,
     err: &mut E,
-) {
-    let name = name_of(options, file);
-    let text: &[u8] = match texts.get(file) {
-        Some(text) => text.as_slice(),
-        None => &[],
-    };
-    tell_line(alloc, name, text, line, err);
+) -> Result<Checked, Failure>
+    ensures line { IfOk result (λ end. (end ≡ checked.Checked.BadLine)
+        × (line : ℕ) × (bad.fault ≡ CheckFault.BadLine line)) }
+    ensures failure { IfErr result (λ failure. failure ≡ Failure.NoMemory) }
+{
+    match bad.fault {
+        CheckFault::BadLine(line) => {
+            if let Some(file) = files.get(bad.file) {
+                tell_line(alloc, file, line, err);
+            }
+            Ok(Checked::BadLine)
+        }
+        CheckFault::NoMemory => Err(Failure::NoMemory),
+    }
 }
 
-/// Checks these files' texts, each over a tree of its own, and writes the report. All are read before anything is run:
-/// where a line says nothing, that is told, and nothing else is done. So is a file without a test told, and a policy of
-/// which no profile is chosen. Notes that are wanted are told of the tests that are shown and fail by a denial.
+/// Checks files, each over a tree of its own, and writes the report. All are read before anything is run: where a line
+/// says nothing, that is told, and nothing else is done. So is a file without a test told, and a policy of which no
+/// profile is chosen. Notes that are wanted are told of the tests that are shown and fail by a denial. Errors: the
+/// policy's text gives no setup, a call of the policy's loader is refused, `out` fails, or memory ran out.
 pub fn check<R: Wait, W: Write, E: Write, N: Notes>(
     rt: &R,
     alloc: Global,
-    options: &CheckOptions,
-    policy: &[u8],
-    texts: &[Vec<u8>],
+    input: &CheckInput<'_, '_>,
     out: &mut W,
     err: &mut E,
     notes: &mut N,
 ) -> Result<Checked, Failure>
-    ensures whole { IfOk result (λ end. end ≢ checked.Checked.BadLine → AreTold texts.now) }
-    ensures tested { result ≡ Ok checked.Checked.Passed → AreTested texts.now }
-    ensures nothing { result ≡ Ok checked.Checked.BadLine → Keeps (W.contents out.old) (W.contents out.new) }
+    ensures checked { IfOk result (λ end. Writes (W.contents out.old) (W.contents out.new)
+        (IsCheck (checked_in input.now.options.now) input.now.policy.now (map source_of input.now.files.now) end)) }
+    ensures failure { IfErr result (MayFail (checked_in input.now.options.now) input.now.policy.now) }
 {
-    match read_all(alloc, texts) {
-        Ok(all) => check_read(rt, alloc, options, policy, all.as_slice(), out, err, notes),
-        Err(
-            BadFile {
-                fault: CheckFault::NoMemory,
-                ..
-            },
-        ) => Err(Failure::NoMemory),
-        Err(
-            BadFile {
-                file,
-                fault: CheckFault::BadLine(line),
-            },
-        ) => {
-            tell_bad(alloc, options, texts, file, line, err);
-            Ok(Checked::BadLine)
-        }
-    }
+    let files = match read_all(alloc, input.files) {
+        Ok(files) => files,
+        Err(bad) => return tell_bad(alloc, input.files, bad, err),
+    };
+    tell_no_profile(input.options, err);
+    tell_untested(files.as_slice(), err);
+    conclude(rt, alloc, input, files.as_slice(), out, notes)
 }

@@ -15,7 +15,7 @@ mod running;
 mod wanted;
 
 pub use checking::{CheckedFile, check_file};
-pub use checks::check;
+pub use checks::{CheckInput, NamedText, check};
 pub use denied::{DeniedTest, Notes, tell_denied};
 pub use explaining::{Blame, LinesOf, explain};
 pub use judging::{Detail, Tally};

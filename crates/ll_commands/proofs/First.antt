@@ -26,7 +26,7 @@ use Rattle.ll_session.specs.Growth.{AreAbove, GrowAbove, Grows}
 use Rattle.ll_session.specs.Talk.{Asks, AsksFor, met, reply_of, seen_by}
 use Rattle.ll_session.proofs.Entered.{IsAmong, IsEntered}
 use Rattle.ll_session.proofs.Growths.{all_stay}
-use Rattle.ll_session.proofs.Kept.{IsEntry, all_first, all_map, part_entries}
+use Rattle.ll_session.proofs.KeptParts.{IsEntry, all_first, all_map, part_entries}
 use Rattle.ll_session.proofs.Seen.{seen_push, seen_set}
 use Rattle.ll_commands.specs.Loading.{HasBegun, HasLoaded, entry_count}
 

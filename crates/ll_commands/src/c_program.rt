@@ -1,10 +1,11 @@
-//! Layers as a C program that confines itself so.
+//! Writes layers as a C program that enforces them.
 
 ghost use Rattle.std.specs.Prelude.{◌≡◌, ◌++◌, map, unwrap_or, IfOk, OnOk, string_bytes};
 ghost use Rattle.std.specs.List.{flat_map};
 ghost use Rattle.ll_options.specs.Options.{exported_in, nothing_denied};
-ghost use Rattle.ll_commands.specs.CProgram.{c_byte, c_flag, c_layer, c_option, c_options, c_path, c_place, c_row, c_rows};
-ghost use Rattle.ll_commands.specs.CProgram.{c_denied, c_rule, c_string, c_text, c_type, c_values, is_plain, root_of};
+ghost use Rattle.ll_commands.specs.CProgram.{c_byte, c_denied, c_flag, c_layer, c_option, c_options, c_path, c_place};
+ghost use Rattle.ll_commands.specs.CProgram.{c_row, c_rows, c_rule, c_string, c_text, c_type, c_values, is_plain};
+ghost use Rattle.ll_commands.specs.CProgram.{root_of};
 
 use crate::confinement::{Confinement, kind_at};
 use crate::fixed::{HEAD, HELPERS, RESTRICT_SELF, TAIL};
@@ -197,8 +198,8 @@ pub(crate) fn root_of<'a>(options: &ExportOptions<'a>) -> &'a str
     options.root.unwrap_or("/")
 }
 
-// What the options ask for, as these texts.
-#[tactic(auto, unfolding(crate::specs::Program::c_values))]
+// The values that depend on the options.
+#[tactic(auto, unfolding(crate::specs::CProgram::c_values))]
 fn c_values(alloc: Global, root: &str, also: &str, options: &str) -> Result<String, AllocError>
     ensures { IfOk result (λ text. string_bytes text ≡ c_values root.now also.now options.now) }
 {
@@ -226,7 +227,7 @@ fn c_place(alloc: Global, options: &ExportOptions) -> Result<String, AllocError>
     c_values(alloc, root.as_str(), also.as_str(), flags.as_str())
 }
 
-#[tactic(auto, unfolding(crate::specs::Program::c_rows))]
+#[tactic(auto, unfolding(crate::specs::CProgram::c_rows))]
 fn c_rows(alloc: Global, rows: &str) -> Result<String, AllocError>
     ensures { IfOk result (λ text. string_bytes text ≡ c_rows rows.now) }
 {
@@ -240,7 +241,7 @@ fn c_rows(alloc: Global, rows: &str) -> Result<String, AllocError>
     )
 }
 
-/// Returns the C program that enforces the layers, oldest first.
+/// Returns the C program that enforces the layers, the oldest first. Errors: memory ran out.
 pub fn c_text(
     alloc: Global,
     options: &ExportOptions,

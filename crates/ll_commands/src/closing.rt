@@ -1,4 +1,4 @@
-//! Trees, closed.
+//! Closes trees.
 
 ghost use Rattle.std.specs.Prelude.{◌≡◌, ◌≤◌, ◌+◌, ℕ, map};
 ghost use Rattle.std.specs.List.{All};
@@ -13,7 +13,7 @@ use ll_session::are_entries;
 use ll_walk::Gate;
 use std::sync::Wait;
 
-/// The history of the tree, of which these are all clients. Each entry has a spelling.
+/// Returns the history of the tree. `clients` must be all its clients. Each entry can be spelled.
 pub(crate) fn close<N: Shape, H: Wait, G: Gate<N>>(
     rt: &H,
     tree: Tree<N, G>,

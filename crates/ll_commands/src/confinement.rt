@@ -1,4 +1,4 @@
-//! What is exported of a policy, and what keeps it from being exported.
+//! The part of a policy that is exported, and its flaws.
 
 ghost use Rattle.std.specs.Prelude.{◌≡◌, is_none};
 ghost use Rattle.std.specs.List.{list_all};
@@ -12,7 +12,7 @@ use ll_seq::Call;
 use std::fmt;
 use std::fmt::Display;
 
-/// A profile's layers, oldest first, with the policy's level and the calls that make its nodes.
+/// A profile's layers, the oldest first, with the policy's level and the calls that create its nodes.
 #[derive(Drop)]
 pub struct Confinement<'a> {
     pub abi: Abi,
@@ -23,9 +23,9 @@ pub struct Confinement<'a> {
 /// Why a rule can't be exported.
 #[derive(Clone, Copy, Debug, PartialEq, Eq)]
 pub enum RuleFlaw {
-    /// It grants a right that its layer doesn't handle.
+    /// It allows a right that its layer doesn't handle.
     GrantsMore,
-    /// The policy makes no node at its path.
+    /// The policy creates no node at its path.
     NoNode,
 }
 
@@ -33,7 +33,7 @@ pub enum RuleFlaw {
 #[derive(Clone, Copy, Debug, PartialEq, Eq)]
 pub enum LayerFlaw {
     HandlesNothing,
-    /// It handles a right that the policy's level doesn't know.
+    /// It handles a right that the policy's level doesn't have.
     HandlesMore,
     OfRule(usize, RuleFlaw),
 }
@@ -45,7 +45,7 @@ pub enum Flaw {
     OfLayer(usize, LayerFlaw),
 }
 
-/// Why the profile of this name can't be exported.
+/// The flaw that keeps the profile of this name from being exported.
 #[derive(Drop)]
 pub struct FlawedProfile<'a> {
     pub name: &'a str,
@@ -85,7 +85,7 @@ impl Display for FlawedProfile<'_> {
     }
 }
 
-// The kind of the node that the call makes, if it makes one at this path.
+// The kind of the node that the call creates, if it creates one at this path.
 fn made_at(call: &Call, path: &PathText) -> Option<Kind>
     ensures { result ≡ made_at path.now call.now }
 {
@@ -106,7 +106,7 @@ fn kind_among(calls: &[Call], path: &PathText) -> Option<Kind>
     None
 }
 
-/// Returns the kind of the node that these calls make at the path. The root is a directory.
+/// Returns the kind of the node that these calls create at the path. The root is a directory.
 pub(crate) fn kind_at(calls: &[Call], path: &PathText) -> Option<Kind>
     ensures { result ≡ kind_at calls.now path.now }
 {
@@ -169,7 +169,7 @@ fn flaw_of_layers(abi: Abi, opening: &[Call], layers: &[Layer]) -> Option<Flaw>
 }
 
 impl Confinement<'_> {
-    /// Returns what keeps the layers from being exported: the first flaw.
+    /// Returns the layers' first flaw, or None if they can be exported.
     pub fn flaw(&self) -> Option<Flaw>
         ensures { is_none result ≡ is_enforceable self.now }
     {

@@ -1,4 +1,4 @@
-//! Where the workers of a serve get their streams.
+//! Hands streams to the workers of a serve.
 
 use crate::counting::{Counted, Heard, measured};
 use crate::log::Log;
@@ -10,10 +10,10 @@ use std::io::Write;
 use std::sync::atomic::{AtomicU64, Ordering};
 use std::sync::{RwLock, Wait};
 
-/// How often in a row a listener may fail before one stream less is awaited.
+/// After this many failures in a row, the listener is asked for one stream less.
 const FAILURES: usize = 100;
 
-/// A listener, up to the last of the streams that are awaited. Then it is let go, so that nobody waits there in vain.
+/// A listener, until the last of its expected streams. It is then dropped, so that no further peer waits at it.
 #[derive(Drop)]
 pub(crate) struct Door<'a, H, L, E> {
     rt: &'a H,
@@ -48,7 +48,8 @@ impl<H: Wait, L: Listens + Drop, E: Write> Accepts for Door<'_, H, L, E> {
 
     type Out = Counted<L::Out>;
 
-    // One stream less is awaited where a stream fails, or the listener again and again.
+    // Accepts a stream. After a failed stream, or too many failures of the listener in a row, one stream less is
+    // expected.
     fn accept(&self) -> Option<(Heard<L::In>, Counted<L::Out>)> {
         let mut ends = None;
         if let Some(listener) = self.listener.read(self.rt).as_ref() {

@@ -1,4 +1,4 @@
-//! A policy's profile, written as the options ask for it.
+//! Exports a policy's profile in the form that the options ask for.
 
 ghost use Rattle.std.specs.Prelude.{◌≡◌, ◌≢◌, ◌⊎◌, ℕ, true, false, List, Err, IfOk, IfErr, IfSome, IsOk, OnOk};
 ghost use Rattle.std.specs.Prelude.{string_bytes};
@@ -37,7 +37,7 @@ fn text_of(
     }
 }
 
-// The layers in the form that is wanted, if they can be enforced.
+// The layers in this form, if they have no flaw.
 fn checked_text(
     alloc: Global,
     options: &ExportOptions,
@@ -59,7 +59,7 @@ fn checked_text(
     }
 }
 
-/// Returns the text that the options ask for, by the policy in this file.
+/// Returns the text that the options ask for, given the policy file's bytes.
 pub fn exported<R: Read>(
     alloc: Global,
     options: &ExportOptions,
@@ -102,7 +102,7 @@ pub fn exported<R: Read>(
     }
 }
 
-/// Returns why the profile of this name can't be exported, if the policy of this text has it and it can't.
+/// Returns the flaw of the profile of this name. None if the policy has no such profile, or if it has no flaw.
 pub fn flaw_of<'a>(alloc: Global, text: &str, profile: &'a str) -> Option<FlawedProfile<'a>> {
     let policy = Policy::from_text(alloc, text).ok()?;
     let layers = policy.layers(profile)?;
@@ -119,8 +119,8 @@ pub fn flaw_of<'a>(alloc: Global, text: &str, profile: &'a str) -> Option<Flawed
     })
 }
 
-/// Writes the text that the options ask for, by the policy in this file. Nothing is written before the whole text is
-/// there, and a beginning of it where the output fails.
+/// Writes the text that the options ask for, given the policy file's bytes. Writes nothing before the text is complete.
+/// If the output fails, a prefix of it is written.
 pub fn export<R: Read, W: Write>(
     alloc: Global,
     options: &ExportOptions,
@@ -149,7 +149,7 @@ pub fn export<R: Read, W: Write>(
     }
 }
 
-/// Writes as `export` does where the profile's checks passed. Else nothing is written, and the checks' end is returned.
+/// Exports if the profile's checks passed. Otherwise writes nothing and returns the checks' conclusion.
 pub fn export_checked<R: Read, W: Write>(
     alloc: Global,
     checked: Checked,

@@ -1,6 +1,6 @@
-//! The parts of the C program that are the same for all layers.
+//! The parts of the C program that don't depend on the layers.
 
-/// What stands before the table: what the program is, and the table's types.
+/// Before the table: what the program is, and the table's types.
 pub const HEAD: &str =
     "/* Made by `landtree export`: runs a program under the Landlock layers of a policy's profile, as
  *
@@ -39,7 +39,7 @@ struct row {
 
 ";
 
-/// What stands behind the table, up to the call that enforces a layer.
+/// After the table, up to the call that enforces a layer.
 pub const HELPERS: &str = "/* The rights by the places of their bits. */
 static const char *const names[] = {
     \"execute\", \"write_file\", \"read_file\", \"read_dir\", \"remove_dir\", \"remove_file\", \"make_char\",
@@ -261,7 +261,7 @@ static void restrict_self(int ruleset)
 
 ";
 
-/// What enforces the table's layers, and runs the program.
+/// The part that enforces the table's layers and runs the program.
 pub const TAIL: &str =
     "/* Enforces the layer of this row and its rules, and counts it. Returns the next row. */
 static const struct row *enforce(const struct row *row, int top, uint64_t known, int *layers)

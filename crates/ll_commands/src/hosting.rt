@@ -1,4 +1,4 @@
-//! The tree that all streams are served on.
+//! Serves all streams on one tree.
 
 ghost use Rattle.std.specs.Prelude.{◌≡◌, ◌≤◌, ◌+◌, ◌++◌, ℕ, List, [], IfErr, IfOk, OnOk, IfSome, map};
 ghost use Rattle.std.specs.Io.KnownBytes.{Appends};
@@ -30,7 +30,7 @@ use std::marker::Brand;
 use std::sync::Wait;
 use std::thread::Threads;
 
-// A fresh tree, and a party to which nobody has come yet. None where memory runs out.
+// A new tree and a party without members. None if memory runs out.
 fn fresh<N: Shape>(
     alloc: Global,
     blank: Blank<Account>,
@@ -55,7 +55,7 @@ fn fresh<N: Shape>(
     Some((tree, party))
 }
 
-// Serves the streams that come from here, and closes the tree. Its history is left. Errors: NoMemory.
+// Serves the listener's streams, and closes the tree. Returns its history. Errors: NoMemory.
 fn serve_all<
     N: Shape + Send + Sync,
     H: Threads + Wait + Sync,
@@ -106,7 +106,7 @@ fn serve_all<
     Ok(close(rt, tree, clients))
 }
 
-// The same as `host_on`, over a tree that this blank is of.
+// Does what `host_on` does, over a tree with this blank.
 fn host_in<
     N: Shape + Send + Sync,
     H: Threads + Wait + Sync,
@@ -161,8 +161,7 @@ fn host_in<
     }
 }
 
-/// Serves the streams that come from the port that the options name, on a tree that is set up so. What is left is its
-/// history.
+/// Opens a tree, serves the streams of the port in the options, and returns the tree's history.
 pub(crate) fn host_on<
     H: Threads + Wait + Sync,
     B: Binds,

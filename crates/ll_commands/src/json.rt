@@ -1,4 +1,4 @@
-//! Layers as JSON.
+//! Writes layers as JSON.
 
 ghost use Rattle.std.specs.Prelude.{◌≡◌, codes, map, IfOk, string_bytes};
 ghost use Rattle.std.specs.List.{join_by};
@@ -41,7 +41,7 @@ fn json_strings(alloc: Global, told: &[&str]) -> Result<String, AllocError>
     joined(alloc, ", ", texts.as_slice())
 }
 
-// The names of the rights in the set, each between quotation marks.
+// The quoted names of the rights in the set.
 fn names_of(alloc: Global, set: Access) -> Result<Vec<String>, AllocError>
     ensures { IfOk result (λ names. map string_bytes names.items ≡ map quoted (set_names set.0)) }
 {
@@ -54,7 +54,7 @@ fn names_of(alloc: Global, set: Access) -> Result<Vec<String>, AllocError>
     Ok(names)
 }
 
-// The set as a list of its rights' names.
+// The set as a JSON array of its rights' names.
 fn json_names(alloc: Global, set: Access) -> Result<String, AllocError>
     ensures { IfOk result (λ text. string_bytes text ≡ json_names set.0) }
 {
@@ -200,7 +200,7 @@ fn json_head(alloc: Global, options: &ExportOptions, abi: Abi) -> Result<String,
     )
 }
 
-/// Returns the layers as JSON, oldest first, with the options' values before them.
+/// Returns the layers as JSON, the oldest first, after the options' values. Errors: memory ran out.
 pub fn json_text(
     alloc: Global,
     options: &ExportOptions,

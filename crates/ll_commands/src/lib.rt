@@ -1,4 +1,5 @@
-//! The commands beside run, check and audit: serve, rights, why, schedule and export, as the program's words ask for them.
+//! The commands beside run, check and audit: serve, rights, why, schedule and export, as the program's words ask for
+//! them.
 #![tactic(auto)]
 
 mod c_program;

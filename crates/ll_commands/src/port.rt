@@ -1,51 +1,51 @@
-//! Ports, at which streams come.
+//! Ports that accept streams.
 
 use std::io::{Read, Write};
 use std::net::{Ipv4Addr, Net, TcpListener, TcpStream};
 use std::time::{Clock, Duration};
 use std::{io, thread};
 
-/// For how many milliseconds a listener that has failed is left alone.
+/// The pause after a listener has failed, in milliseconds.
 const PAUSE: u64 = 100;
 
-/// Why a stream hasn't come.
+/// Why no stream was accepted.
 #[derive(Debug, Drop)]
 pub enum Missed {
-    /// A peer has come, and its stream fails.
+    /// A peer connected, but its stream failed.
     Stream(io::Error),
-    /// No peer could be taken.
+    /// No peer could be accepted.
     Peer(io::Error),
 }
 
-/// Where peers come.
+/// A listener for peers.
 pub trait Listens {
     type In: Read + Send + Drop;
 
     type Out: Write + Send + Drop;
 
-    /// Returns the two ends of the next peer's stream, when it has come.
+    /// Waits for the next peer. Returns the two ends of its stream.
     fn accept(&self) -> Result<(Self::In, Self::Out), Missed>;
 
-    /// Lets a moment pass.
+    /// Waits a moment.
     fn pause(&self);
 }
 
-/// Where a listener is bound.
+/// Binds listeners.
 pub trait Binds {
     type Listener: Listens + Send + Sync + Drop;
 
-    /// Listens at this port. Where a number of seconds is told, a stream fails that says nothing, or takes no reply,
-    /// for so long. None where the port can't be bound.
+    /// Listens at this port. With `idle`, a stream fails if its peer sends nothing, or takes no reply, for that many
+    /// seconds. None if the port can't be bound.
     fn bind(&self, port: u16, idle: Option<u64>) -> Option<Self::Listener>;
 }
 
-/// The ports of this machine's own address, 127.0.0.1.
+/// The ports of 127.0.0.1, this machine's own address.
 #[derive(Drop)]
 pub struct Loopback<'a, R> {
     pub rt: &'a R,
 }
 
-/// A port at which TCP's streams come, and how long each of them may wait for its peer.
+/// A TCP port, and how long each of its streams waits for its peer.
 #[derive(Drop)]
 pub struct Port<'a, R> {
     rt: &'a R,
@@ -68,7 +68,7 @@ impl<'a, R: Net<Listener = TcpListener, Stream = TcpStream> + Clock + Sync> Bind
 }
 
 impl Missed {
-    // Returns what was missed where the listener fails: a peer that had gone counts, as accept(2) tells it.
+    // Classifies the failure of accept(2): a peer that has gone counts as a failed stream.
     fn of(error: io::Error) -> Missed {
         match error.kind() {
             io::ErrorKind::ConnectionAborted => Missed::Stream(error),
@@ -78,7 +78,7 @@ impl Missed {
 }
 
 impl<R> Port<'_, R> {
-    // Both ends of a stream, which waits for its peer only so long.
+    // Both ends of a stream, with its time limit.
     fn ends(&self, stream: TcpStream) -> io::Result<(TcpStream, TcpStream)> {
         stream.set_read_timeout(self.patience)?;
         stream.set_write_timeout(self.patience)?;

@@ -1,4 +1,4 @@
-//! How much of a connection's lines and replies the history may keep.
+//! Limits how much of a connection's lines and replies the history may keep.
 
 ghost use Rattle.std.specs.Prelude.{◌≤◌, length};
 
@@ -6,10 +6,10 @@ use std::alloc::{AllocError, Global};
 use std::sync::Arc;
 use std::sync::atomic::{AtomicU64, Ordering};
 
-/// How many bytes a megabyte has.
+/// The bytes in a megabyte.
 const MEGABYTE: u64 = 1_048_576;
 
-/// What a space and a line feed count beside themselves: a word or an entry takes about so many bytes in memory.
+/// What a space and a line feed count in addition, in bytes: a word or an entry takes about that much memory.
 const PARTING: u64 = 32;
 
 fn weight_of(byte: u8) -> u64
@@ -29,14 +29,14 @@ fn weight(bytes: &[u8]) -> u64 {
     weight
 }
 
-/// What is left of the room that a connection's two ends share.
+/// The room that is left to a connection, shared by its two ends.
 #[derive(Drop)]
 pub struct Room {
     left: Arc<AtomicU64, Global>,
 }
 
 impl Room {
-    /// Returns a room of so many megabytes. Errors: no memory.
+    /// Returns a room of this many megabytes. Errors: memory ran out.
     pub(crate) fn new(alloc: Global, megabytes: u64) -> Result<Room, AllocError> {
         let left = AtomicU64::new(megabytes.saturating_mul(MEGABYTE));
         Ok(Room {
@@ -44,7 +44,7 @@ impl Room {
         })
     }
 
-    /// Returns the same room, for the other end. Errors: no memory.
+    /// Shares the room with the other end. Errors: memory ran out.
     pub(crate) fn share(&self) -> Result<Room, AllocError> {
         Ok(Room {
             left: Arc::try_clone(&self.left)?,
@@ -55,7 +55,7 @@ impl Room {
         self.left.load(Ordering::SeqCst)
     }
 
-    /// Returns whether nothing is left.
+    /// Reports whether nothing is left.
     pub(crate) fn is_used_up(&self) -> bool {
         self.left() == 0
     }
@@ -66,7 +66,7 @@ impl Room {
         self.left.store(left, Ordering::SeqCst);
     }
 
-    /// Returns how many of these bytes there is room for: all, or the whole lines that come first.
+    /// Returns how many of these bytes fit: all, or as many whole lines as fit.
     pub(crate) fn fitting(&self, bytes: &[u8]) -> usize
         ensures { result ≤ length bytes.now }
     {

@@ -1,4 +1,4 @@
-//! Schedules and their pictures, as the program makes them.
+//! Runs schedules and draws their pictures.
 
 ghost use Rattle.std.specs.Prelude.{◌≡◌, ◌≤◌, ◌^◌, ℕ, List, [], Err, length, OnOk, OnErr, IfErr, IfSome, Some, false};
 ghost use Rattle.std.specs.Prelude.{true};
@@ -27,7 +27,7 @@ use ll_wire::{Destination, Ends, Pair, write_out};
 use std::alloc::Global;
 use std::io::{Read, Write, empty};
 
-/// What the options of a schedule ask for.
+/// Returns the tree that a schedule's options describe.
 pub fn setup_by(options: &ScheduleOptions) -> WorldSetup
     ensures { IsWorldSetup (scheduled_in options.now) result }
 {
@@ -41,7 +41,7 @@ pub fn setup_by(options: &ScheduleOptions) -> WorldSetup
     }
 }
 
-/// Which lines of a schedule are to be drawn.
+/// Returns the lines of the schedule to draw.
 pub fn window_by(options: &ScheduleOptions) -> Window
     ensures { result ≡ window_of (scheduled_in options.now) }
 {
@@ -51,8 +51,8 @@ pub fn window_by(options: &ScheduleOptions) -> Window
     }
 }
 
-/// Does what the lines of a schedule ask for, as `perform_schedule` does, over two devices that count their failures:
-/// each fault is told as what it is, of the device that failed in this call.
+/// Runs a schedule as `perform_schedule` does, over two devices that count their failures. The result names the device
+/// that failed in this call.
 pub fn perform_over<E: Ends>(alloc: Global, setup: WorldSetup, ends: &mut E) -> Result<(), Failure>
     requires whole { IsWhole (E.devices ends.old) }
     requires answered { (E.devices ends.old).owed ≡ 0 }
@@ -73,7 +73,7 @@ pub fn perform_over<E: Ends>(alloc: Global, setup: WorldSetup, ends: &mut E) -> 
     }
 }
 
-/// Does what the lines of a schedule ask for, in a tree that is set up so.
+/// Runs a schedule in a new tree.
 pub fn perform_schedule<R: Read, W: Write>(
     alloc: Global,
     setup: WorldSetup,
@@ -98,8 +98,8 @@ pub fn perform_schedule<R: Read, W: Write>(
     perform_over(alloc, setup, &mut ends)
 }
 
-/// Draws these lines of a schedule, as `draw_schedule` does, to a device that counts its failures. A failed write isn't
-/// tried again.
+/// Draws these lines of a schedule as `draw_schedule` does, to a device that counts its failures. Doesn't retry after a
+/// failed write.
 pub fn draw_over<E: Ends>(
     alloc: Global,
     setup: WorldSetup,
@@ -134,8 +134,7 @@ pub fn draw_over<E: Ends>(
     }
 }
 
-/// Draws what these lines of a schedule ask for, in a tree that is set up so. Want of memory is told before anything is
-/// written.
+/// Draws these lines of a schedule, run in a new tree. If memory runs out, nothing is written.
 pub fn draw_schedule<W: Write>(
     alloc: Global,
     setup: WorldSetup,
@@ -164,8 +163,8 @@ pub fn draw_schedule<W: Write>(
     draw_over(alloc, setup, window, schedule, &mut ends)
 }
 
-/// Draws what these lines of a schedule ask for, and has the picture alone stand in the destination. With a failure,
-/// what stood there stays.
+/// Draws these lines of a schedule, and replaces the destination with the picture. Errors: the destination is
+/// unchanged.
 pub fn draw_in<D: Destination>(
     alloc: Global,
     setup: WorldSetup,
@@ -185,14 +184,11 @@ pub fn draw_in<D: Destination>(
         destination.remove(draft);
         return Err(failure);
     }
-    match destination.put(draft) {
-        Ok(()) => Ok(()),
-        Err(_) => Err(Failure::File),
-    }
+    destination.put(draft).map_err(|_| Failure::File)
 }
 
-/// Why the steps of a schedule that weren't made couldn't be made, a line each, and which walks are under way at the
-/// end. None for want of memory.
+/// Returns one line for each step that couldn't be made, with the reason, and one for each walk under way at the end.
+/// None if memory ran out.
 pub fn explain_schedule(alloc: Global, setup: WorldSetup, schedule: &[u8]) -> Option<String> {
     explain(alloc, setup.rules, setup.nodes, setup.history, schedule).ok()
 }

@@ -1,11 +1,11 @@
-//! Texts of several parts.
+//! Builds texts from parts.
 
 ghost use Rattle.std.specs.Prelude.{◌≡◌, map, IfOk, string_bytes};
 ghost use Rattle.std.specs.List.{concat, join_by};
 
 use std::alloc::{AllocError, Global};
 
-/// The parts in a row.
+/// Concatenates the parts. Errors: memory ran out.
 pub(crate) fn concat(alloc: Global, parts: &[&str]) -> Result<String, AllocError>
     ensures { IfOk result (λ text. string_bytes text ≡ concat (map (λ p. p.now) parts.now)) }
 {
@@ -16,7 +16,7 @@ pub(crate) fn concat(alloc: Global, parts: &[&str]) -> Result<String, AllocError
     Ok(text)
 }
 
-/// The parts with the separator between any two.
+/// Joins the parts with the separator. Errors: memory ran out.
 pub(crate) fn joined(alloc: Global, separator: &str, parts: &[String]) -> Result<String, AllocError>
     ensures { IfOk result (λ text. string_bytes text ≡ join_by string_bytes separator.now parts.now) }
 {

@@ -153,14 +153,6 @@ EndsRights (Err Output) = ⊤
 EndsRights (Err Socket) = ⊥
 EndsRights (Err NoMemory) = ⊤
 
--- a check ends so, or by any failure
-abbrev pub EndsCheck : Result Conclusion Failure → Type 0
-EndsCheck (Ok Done) = ⊥
-EndsCheck (Ok (Stopped stopped)) = ⊥
-EndsCheck (Ok (Judged verdict)) = ⊥
-EndsCheck (Ok (Checked end)) = ⊤
-EndsCheck (Err failure) = ⊤
-
 -- Serving is done, or ends by a failure: by a wrong command line only for a profile that is asked for and not there
 abbrev pub EndsServe : Option (List ℕ) → Result Conclusion Failure → Type 0
 EndsServe profile (Ok Done) = ⊤

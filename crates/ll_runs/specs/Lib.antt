@@ -1,3 +1,4 @@
 pub mod Failure
 pub mod Policy
 pub mod Sources
+pub mod Stopped

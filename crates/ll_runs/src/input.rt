@@ -4,6 +4,7 @@ ghost use Rattle.std.specs.Prelude.{◌≡◌, ℕ, List, Option, None, IfOk, op
 ghost use Rattle.ll_runs.specs.Sources.{Starts, named};
 
 use either::Either;
+use std::alloc::Global;
 use std::fs::File;
 use std::io;
 use std::io::Read;
@@ -44,13 +45,15 @@ pub fn named(word: &str) -> Option<&str>
     if word == "-" { None } else { Some(word) }
 }
 
-/// A source that its first read opens, so that faults found before are told first.
+/// A source that its first read opens, so that faults found before are told first. It may keep what is read, so that a
+/// fault in it can be shown without a second reading.
 #[derive(Drop)]
 pub struct Late<'a, S: Sources> {
     sources: &'a S,
     file: Option<&'a str>,
     input: Option<S::Input>,
     trouble: Option<io::Error>,
+    kept: Option<Vec<u8>>,
 }
 
 // The bytes that are left of it, where they are known. Before its first read these are all.
@@ -73,6 +76,21 @@ impl<'a, S: Sources> Late<'a, S> {
             file,
             input: None,
             trouble: None,
+            kept: None,
+        }
+    }
+
+    /// Makes a source that keeps what is read of it, if `keeps` says so.
+    pub fn keeping(alloc: Global, sources: &'a S, file: Option<&'a str>, keeps: bool) -> Self
+        ensures { result ≡ S.texts sources.now (option_map (λ name. name.now) file.entry) }
+    {
+        let kept = if keeps { Some(Vec::new(alloc)) } else { None };
+        Late {
+            sources,
+            file,
+            input: None,
+            trouble: None,
+            kept,
         }
     }
 
@@ -89,6 +107,25 @@ impl<'a, S: Sources> Late<'a, S> {
     /// What the device told where the newest read failed, or the opening before it.
     pub fn trouble(&self) -> Option<io::Error> {
         self.trouble
+    }
+
+    /// Returns what was read, if a read has opened it, it is kept, and there was memory for it.
+    pub fn text(&self) -> Option<&[u8]> {
+        match &self.kept {
+            Some(text) if self.is_open() => Some(text.as_slice()),
+            _ => None,
+        }
+    }
+}
+
+// These bytes come behind those that are kept. Where memory is wanted, nothing is kept any longer.
+fn keep(kept: &mut Option<Vec<u8>>, bytes: &[u8]) {
+    let is_kept = match kept {
+        Some(text) => text.extend_from_slice(bytes).is_ok(),
+        None => true,
+    };
+    if !is_kept {
+        *kept = None;
     }
 }
 
@@ -107,10 +144,13 @@ impl<S: Sources> Read for Late<'_, S> {
                 Err(error) => Err(error),
             },
         };
-        self.trouble = match &told {
-            Ok(_) => None,
-            Err(error) => Some(*error),
-        };
+        match &told {
+            Ok(count) => {
+                self.trouble = None;
+                keep(&mut self.kept, &buf[..*count]);
+            }
+            Err(error) => self.trouble = Some(*error),
+        }
         told
     }
 }

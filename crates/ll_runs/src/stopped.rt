@@ -3,17 +3,22 @@
 ghost use Rattle.std.specs.Prelude.{◌≡◌, ◌++◌, IfOk, Some, decimal, codes, string_bytes};
 ghost use Rattle.ll_wire.specs.Grammar.{reply_line};
 ghost use Rattle.ll_runs.specs.Failure.{stop_line};
+ghost use Rattle.ll_runs.specs.Stopped.{bad_line};
 
+use ll_rights::Errno;
 use ll_seq::Reply;
 use ll_session::{Stop, reply_line};
 use std::alloc::{AllocError, Global};
 use std::fmt;
 use std::fmt::Display;
 
-/// The line of a strict run that has ended early: where in the script, and by which reply.
+/// What is known of a strict run that has ended early.
 #[derive(Debug, Drop)]
 pub struct Stopped {
+    /// Where in the script it has ended, and by which reply: a line to print.
     pub line: String,
+    /// The number, from 1, of the script's line that has ended it and spells no command.
+    pub bad_line: Option<u64>,
 }
 
 impl Display for Stopped {
@@ -45,10 +50,21 @@ fn place_of(alloc: Global, line: u64) -> Result<String, AllocError>
     Ok(text)
 }
 
+// The number of the line that spells no command.
+fn bad_line(stop: &Stop) -> Option<u64>
+    ensures { result ≡ bad_line stop.now }
+{
+    match stop {
+        Stop::AtLine(line, Reply::Refused(Errno::BadLine)) => Some(*line),
+        _ => None,
+    }
+}
+
 impl Stopped {
     /// What is told of the script of this name, by what ended its run. Errors: memory ran out.
     pub fn of(alloc: Global, script: &str, stop: &Stop) -> Result<Stopped, AllocError>
-        ensures { IfOk result (λ stopped. string_bytes stopped.line ≡ stop_line script.now stop.now) }
+        ensures line { IfOk result (λ stopped. string_bytes stopped.line ≡ stop_line script.now stop.now) }
+        ensures bad { IfOk result (λ stopped. stopped.bad_line ≡ bad_line stop.now) }
     {
         let line = match stop {
             Stop::AtOpening(reply) => told(alloc, script, ": before line 1: ", reply)?,
@@ -57,6 +73,9 @@ impl Stopped {
                 told(alloc, script, place.as_str(), reply)?
             }
         };
-        Ok(Stopped { line })
+        Ok(Stopped {
+            line,
+            bad_line: bad_line(stop),
+        })
     }
 }

@@ -64,6 +64,15 @@ pub record IsTextOf (s : State) (entries : List Entry) (number : ℕ) (text : Li
   pub opened : IsOpeningText s (opening_behind (take (number - 1) entries) entry told) opening
   pub is : text ≡ entry_text number entry standing told ++ opening
 
+-- the line on why the entry of this number may not stand, in the state that the entries before it lead to
+pub record IsWhyNot (s : State) (entries : List Entry) (number : ℕ) (line : List ℕ) : Type 0 where
+  pub entry : Entry
+  pub standing : Standing
+  pub at : slice_get entries (number - 1) ≡ Some entry
+  pub stands : IsStanding (state_after s (take (number - 1) entries)) entry standing
+  pub fails : IsLegal s (take number entries) → ⊥
+  pub is : line ≡ standing_line entry standing
+
 -- of the entry that is wanted, or of the first before it that may not stand
 abbrev pub IsEntryWhy : State → List Entry → ℕ → List ℕ → Type 0
 IsEntryWhy s entries wanted text =

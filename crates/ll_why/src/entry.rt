@@ -69,7 +69,12 @@ pub(crate) fn explain_at(
     }
 }
 
-fn standing_line(alloc: Global, entry: &Entry, standing: &Standing) -> Result<String, AllocError>
+/// Returns the line on whether an entry may stand, empty if it may.
+pub(crate) fn standing_line(
+    alloc: Global,
+    entry: &Entry,
+    standing: &Standing,
+) -> Result<String, AllocError>
     ensures { IfOk result (λ text. string_bytes text ≡ standing_line entry.now standing.now) }
 {
     match standing {

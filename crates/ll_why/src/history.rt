@@ -1,14 +1,14 @@
 //! What is told of an entry of a history.
 
-ghost use Rattle.std.specs.Prelude.{◌≡◌, ◌<◌, ◌≤◌, ◌-◌, ◌+◌, ◌^◌, ◌⊎◌, true, false, IfOk, MatchOption, length};
+ghost use Rattle.std.specs.Prelude.{◌≡◌, ◌<◌, ◌≤◌, ◌-◌, ◌+◌, ◌^◌, ◌⊎◌, ℕ, true, false, IfOk, MatchOption, length};
 ghost use Rattle.std.specs.Prelude.{string_bytes, take};
 ghost use Rattle.ll_rights.specs.declared.limits.TheConstants.{TREE_NODES};
 ghost use Rattle.ll_seq.specs.History.{IsLegal, MayStand};
 ghost use Rattle.ll_wire.specs.Pieces.{pieces};
 ghost use Rattle.ll_audit.specs.Saved.{opened};
-ghost use Rattle.ll_why.specs.Entries.{IsEntryWhy, IsHistoryWhy, IsStanding, IsTextOf, IsToldOf};
+ghost use Rattle.ll_why.specs.Entries.{IsEntryWhy, IsHistoryWhy, IsStanding, IsTextOf, IsToldOf, IsWhyNot};
 
-use crate::entry::{Standing, answer_at, entry_text, explain_at};
+use crate::entry::{Standing, answer_at, entry_text, explain_at, standing_line};
 use crate::opening::opening_lines;
 use crate::text::concat;
 use crate::tree::{open, tree_after};
@@ -114,7 +114,56 @@ pub fn explain_entry(
     Ok(Some(text))
 }
 
-/// The same of the entries of the saved history in these bytes.
+// The line on why the entry of this number may not stand.
+fn line_of(
+    alloc: Global,
+    header: &Header,
+    entries: &[Entry],
+    number: usize,
+) -> Result<String, AllocError>
+    requires some { 1 ≤ header.now.nodes }
+    requires most { header.now.nodes ≤ TREE_NODES }
+    requires first { 1 ≤ number }
+    requires last { number ≤ length entries.now }
+    requires legal { IsLegal (opened header.now) (take (number - 1) entries.now) }
+    requires no { IsLegal (opened header.now) (take number entries.now) → ⊥ }
+    ensures { IfOk result (λ line. IsWhyNot (opened header.now) entries.now number (string_bytes line)) }
+{
+    let mut tree = tree_after(alloc, header, &entries[..number - 1])?;
+    let wrong = &entries[number - 1];
+    let standing = answer_at(&mut tree, wrong)?;
+    standing_line(alloc, wrong, &standing)
+}
+
+/// Returns the line on why the first entry that may not stand may not: its client isn't there, or is there already, or
+/// what the tree answers, of the entries of a tree that was opened so, up to the one of this number, from 1. None if
+/// all of these may stand, or there is no entry of this number. Errors: memory ran out.
+pub fn why_not(
+    alloc: Global,
+    header: &Header,
+    entries: &[Entry],
+    wanted: usize,
+) -> Result<Option<String>, AllocError>
+    requires some { 1 ≤ header.now.nodes }
+    requires most { header.now.nodes ≤ TREE_NODES }
+    ensures { IfOk result (λ told. MatchOption told
+        ((wanted ≡ 0) ⊎ (length entries.now < wanted) ⊎ IsLegal (opened header.now) (take wanted entries.now))
+        (λ line. (number : ℕ) × IsToldOf (opened header.now) entries.now wanted number
+        × IsWhyNot (opened header.now) entries.now number (string_bytes line))) }
+{
+    if wanted == 0 || wanted > entries.len() {
+        return Ok(None);
+    }
+    let tree = open(alloc, header)?;
+    let (number, stands) = number_told(tree, entries, wanted)?;
+    if stands {
+        return Ok(None);
+    }
+    let line = line_of(alloc, header, entries, number)?;
+    Ok(Some(line))
+}
+
+/// Explains the entry of this number, from 1, of the saved history in these bytes, as `explain_entry` does.
 pub fn why_entry(alloc: Global, bytes: &[u8], wanted: usize) -> Result<HistoryWhy, AllocError>
     ensures { IfOk result (IsHistoryWhy (pieces bytes.now) wanted) }
 {

@@ -25,7 +25,7 @@ pub use change::{Change, LayerChange, change_for};
 pub use entry::Standing;
 pub use explanation::{Explanation, call_line, explain};
 pub use grants::{Grants, Ruled};
-pub use history::{HistoryWhy, explain_entry, why_entry};
+pub use history::{HistoryWhy, explain_entry, why_entry, why_not};
 pub use reason::{LayerReason, Reason};
 pub use rights::{PathRights, rights_on};
 pub use told::Told;

@@ -32,5 +32,5 @@ pub returns : goal.returns
 returns g c =
     of_some_devices c.serve-ended.result (served_in c.args.options.now) _ _ _ _ _ _
     (λ text. policy_text (g.S.Sources.texts c.args.sources.now) c.args.options.now.policy c.unwrap_or.result _ _ text
-    c.unwrap_or.ensures c.new-policy.ensures)
+    c.unwrap_or.ensures c.keeping-policy.ensures)
     c.serve-ended.ensures.failure

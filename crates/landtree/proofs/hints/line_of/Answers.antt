@@ -1,6 +1,6 @@
 use Rattle.std.proofs.Common.{◌≡◌, [], ◌∷◌, ◌++◌, arith, string_bytes}
 use Rattle.std.proofs.lemmas.Grind.{common_steps}
-use Rattle.landtree.proofs.Told.{told_line}
+use Rattle.landtree.proofs.HintLines.{told_line}
 use Rattle.landtree.proofs.hints.line_of.Goals as goal
 
 pub returns : goal.returns

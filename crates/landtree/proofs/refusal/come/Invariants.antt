@@ -1,6 +1,6 @@
 use Rattle.std.proofs.Common.{◌≡◌, ◌≤◌, ◌+◌, true}
 use Rattle.ll_rights.specs.Map.{has}
-use Rattle.landtree.proofs.opening.come.Given as goal
+use Rattle.landtree.proofs.refusal.come.Given as goal
 
 abbrev pub invariant-loop-call : goal.invariant-loop-call
 invariant-loop-call l = record {

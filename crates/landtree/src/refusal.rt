@@ -1,15 +1,16 @@
-//! Which call of a policy's opening is refused.
+//! The call of a policy's opening that is refused.
 
 ghost use Rattle.std.specs.Prelude.{◌≡◌, ◌<◌, ◌≤◌, ◌+◌, ◌-◌, ◌^◌, true, false, IfOk};
 ghost use Rattle.ll_rights.specs.Map.{has};
 ghost use Rattle.ll_seq.specs.History.{is_connect};
 ghost use Rattle.ll_session.specs.Session.{AreOthers};
 
+use crate::given::Given;
 use ll_check::{ProfileProgress, answered_text, is_refused, profile_call_text};
 use ll_plain::Plain;
+use ll_policy::Policy;
 use ll_rights::Errno;
-use ll_seq::{Call, Reply};
-use ll_session::Setup;
+use ll_seq::{Call, Reply, Rules};
 use std::alloc::{AllocError, Global};
 
 /// A client that comes before all others.
@@ -129,22 +130,44 @@ fn stop_text(alloc: Global, comer: Comer<'_>, stop: &Stop<'_>) -> Result<String,
     }
 }
 
-/// The lines on the first call that is refused where a tree is set up so, for a profile of this name: where the policy
-/// asks for it, the call, and the reply to it. None where no call is refused.
+// The calls that a client of the profile makes first, none where no profile is wanted, or it isn't there.
+fn profile_calls(
+    alloc: Global,
+    policy: &Policy,
+    profile: Option<&str>,
+) -> Result<Vec<Call>, AllocError>
+    ensures { IfOk result (λ calls. AreOthers calls.items) }
+{
+    match profile {
+        Some(name) => match policy.profile(alloc, name)? {
+            Some(calls) => Ok(calls),
+            None => Ok(Vec::new(alloc)),
+        },
+        None => Ok(Vec::new(alloc)),
+    }
+}
+
+/// The lines on the first call that is refused where a tree is opened by this policy: where the policy asks for it, the
+/// call, and the reply to it. None where no call is refused.
 pub(crate) fn refused_text(
     alloc: Global,
-    setup: &Setup,
-    profile: &str,
+    policy: &Policy,
+    given: &Given<'_>,
 ) -> Result<Option<String>, AllocError> {
-    let mut tree = Plain::new(alloc, setup.rules, setup.nodes)?;
-    let mut room = setup.history;
-    if let Some(calls) = &setup.loader
-        && let Some(stop) = come(&mut tree, &mut room, calls.as_slice())
-    {
+    let rules = Rules {
+        abi: policy.abi(),
+        copies: true,
+    };
+    let mut tree = Plain::new(alloc, rules, given.nodes)?;
+    let mut room = given.history;
+    let calls = policy.opening(alloc)?;
+    if let Some(stop) = come(&mut tree, &mut room, calls.as_slice()) {
         return Ok(Some(stop_text(alloc, Comer::Loader, &stop)?));
     }
-    match come(&mut tree, &mut room, setup.profile.as_slice()) {
-        Some(stop) => Ok(Some(stop_text(alloc, Comer::Profile(profile), &stop)?)),
+    let profile = Comer::Profile(given.profile.unwrap_or(""));
+    let calls = profile_calls(alloc, policy, given.profile)?;
+    match come(&mut tree, &mut room, calls.as_slice()) {
+        Some(stop) => Ok(Some(stop_text(alloc, profile, &stop)?)),
         None => Ok(None),
     }
 }

@@ -1,0 +1,278 @@
+//! `check` and `export`, over the files that their words name.
+
+ghost use Rattle.std.specs.Prelude.{◌≡◌, ◌⊎◌, ℕ, true, false, List, Option, None, Some, Err, IfErr, IfOk, IfSome};
+ghost use Rattle.std.specs.Prelude.{map, option_map};
+ghost use Rattle.std.specs.List.{AllZip};
+ghost use Rattle.ll_runs.specs.Sources.{named};
+ghost use Rattle.ll_options.specs.Options.{checked_in, exported_in, fits_check, fits_export};
+ghost use Rattle.ll_options.specs.Options.{is_checked};
+ghost use Rattle.ll_runs.specs.Failure.{EndsExport};
+ghost use Rattle.ll_check.specs.Ends.{EndsCheck, FailsCheck, IsCheckedUnder, IsPolicyText, IsSource};
+ghost use Rattle.ll_check.specs.Files.{source_of};
+ghost use Rattle.landtree.specs.Checked.{EndsChecked, check_of};
+ghost use Rattle.ll_runs.specs.Failure.{IsOfExport};
+ghost use Rattle.ll_commands.specs.Export as exports;
+
+use crate::hints::Hints;
+use crate::misfits::Misfit;
+use ll_check::{CheckInput, NamedText, check};
+use ll_commands::{export, export_checked};
+use ll_options::{CheckOptions, ExportOptions};
+use ll_rights::limits::TREE_NODES;
+use ll_runs::{Checked, Conclusion, Failure, Late, Sources, named, read_text};
+use std::sync::Wait;
+
+// The whole text of this file.
+fn text_of<S: Sources>(
+    rt: &HostRuntime,
+    sources: &S,
+    what: &str,
+    file: Option<&str>,
+    hints: &mut Hints,
+) -> Result<Vec<u8>, Failure>
+    ensures text { IfOk result (λ text. IfSome (S.texts sources.now (option_map (λ name. name.now) file.entry))
+        (λ told. text.items ≡ told)) }
+    ensures failure { IfErr result (λ failure. (failure ≡ Failure.File) ⊎ (failure ≡ Failure.NoMemory)) }
+{
+    let mut input = Late::new(sources, file);
+    let text = read_text(rt.alloc(), &mut input);
+    hints.of_input(what, &input);
+    text
+}
+
+// The text of the policy that is named, if one is.
+fn policy_text<S: Sources>(
+    rt: &HostRuntime,
+    sources: &S,
+    policy: Option<&str>,
+    hints: &mut Hints,
+) -> Result<Vec<u8>, Failure>
+    ensures text { IfOk result (λ text. IsPolicyText (S.texts sources.now)
+        (option_map (λ name. name.now) policy.entry) text.items) }
+    ensures failure { IfErr result (λ failure. (failure ≡ Failure.File) ⊎ (failure ≡ Failure.NoMemory)) }
+{
+    match policy {
+        Some(path) => text_of(rt, sources, "policy", Some(path), hints),
+        None => Ok(Vec::new(rt.alloc())),
+    }
+}
+
+// The file of checks of this name.
+fn named_text<'a, S: Sources>(
+    rt: &HostRuntime,
+    sources: &S,
+    name: &'a str,
+    hints: &mut Hints,
+) -> Result<NamedText<'a>, Failure>
+    ensures source { IfOk result (λ file. IsSource (S.texts sources.now) name.entry.now (source_of file)) }
+    ensures failure { IfErr result (λ failure. (failure ≡ Failure.File) ⊎ (failure ≡ Failure.NoMemory)) }
+{
+    let text = text_of(rt, sources, "file", named(name), hints)?;
+    Ok(NamedText { name, text })
+}
+
+// The files of checks of these names.
+fn texts_of<'a, S: Sources>(
+    rt: &HostRuntime,
+    sources: &S,
+    names: &[&'a str],
+    hints: &mut Hints,
+) -> Result<Vec<NamedText<'a>>, Failure>
+    ensures sources { IfOk result (λ files. AllZip (IsSource (S.texts sources.now)) (map (λ name. name.now) names.now)
+        (map source_of files.items)) }
+    ensures failure { IfErr result (λ failure. (failure ≡ Failure.File) ⊎ (failure ≡ Failure.NoMemory)) }
+{
+    let mut files = Vec::new(rt.alloc());
+    for name in names {
+        let file = named_text(rt, sources, name, hints)?;
+        if let Err(refused) = files.push(file) {
+            drop(refused);
+            return Err(Failure::NoMemory);
+        }
+    }
+    Ok(files)
+}
+
+// Checks the files that are wanted.
+fn check_files<S: Sources + Wait>(
+    rt: &HostRuntime,
+    sources: &S,
+    options: &CheckOptions,
+    hints: &mut Hints,
+) -> Result<Checked, Failure>
+    ensures checked { IfOk result (λ end. (policy : List ℕ)
+        × IsPolicyText (S.texts sources.now) (checked_in options.now).policy policy
+        × IsCheckedUnder (S.texts sources.now) (checked_in options.now) policy end) }
+    ensures failure { IfErr result (FailsCheck (S.texts sources.now) (checked_in options.now)) }
+{
+    let policy = match policy_text(rt, sources, options.policy, hints) {
+        Ok(policy) => policy,
+        Err(failure) => return Err(failure),
+    };
+    let files = match texts_of(rt, sources, options.files.as_slice(), hints) {
+        Ok(files) => files,
+        Err(failure) => return Err(failure),
+    };
+    let input = CheckInput {
+        options,
+        policy: policy.as_slice(),
+        files: files.as_slice(),
+    };
+    let checked = check(
+        sources,
+        rt.alloc(),
+        &input,
+        &mut rt.stdout(),
+        &mut rt.stderr(),
+        hints,
+    );
+    if let Err(failure) = &checked {
+        hints.of_check(options, failure, policy.as_slice());
+    }
+    checked
+}
+
+// `check`.
+pub fn check_options<S: Sources + Wait>(
+    rt: &HostRuntime,
+    sources: &S,
+    options: &CheckOptions,
+    hints: &mut Hints,
+) -> Result<Conclusion, Failure>
+    ensures unfit { fits_check (checked_in options.now) ≡ false → result ≡ Err Failure.CommandLine }
+    ensures check { fits_check (checked_in options.now) ≡ true
+        → EndsCheck (S.texts sources.now) (checked_in options.now) result }
+{
+    if !options.fit() {
+        hints.of_misfit(Misfit::of_check(options));
+        return Err(Failure::CommandLine);
+    }
+    match check_files(rt, sources, options, hints) {
+        Ok(checked) => Ok(Conclusion::Checked(checked)),
+        Err(failure) => Err(failure),
+    }
+}
+
+// Writes the text that a policy's profile is exported as.
+fn export_file<S: Sources>(
+    rt: &HostRuntime,
+    sources: &S,
+    options: &ExportOptions,
+    hints: &mut Hints,
+) -> Result<(), Failure>
+    ensures told { IfErr result (λ failure. (text : List ℕ)
+        × IfSome (S.texts sources.now (Some (exported_in options.now).policy)) (λ told. text ≡ told)
+        × exports.MayFail (exported_in options.now) text failure) }
+    ensures failure { IfErr result IsOfExport }
+{
+    let mut file = Late::keeping(
+        rt.alloc(),
+        sources,
+        Some(options.policy),
+        hints.are_wanted(),
+    );
+    let told = export(rt.alloc(), options, &mut file, &mut rt.stdout());
+    hints.of_input("policy", &file);
+    if let Err(failure) = &told {
+        hints.of_export(options, failure, file.text());
+    }
+    told
+}
+
+// Checks that a profile passes these files, by the policy of this text. What `check` prints goes to standard error.
+fn check_profile<S: Sources + Wait>(
+    rt: &HostRuntime,
+    sources: &S,
+    options: &ExportOptions,
+    policy: &[u8],
+    hints: &mut Hints,
+) -> Result<Checked, Failure>
+    ensures { IfOk result (IsCheckedUnder (S.texts sources.now) (check_of (exported_in options.now)) policy.now) }
+{
+    let files = texts_of(rt, sources, options.checked.as_slice(), hints)?;
+    let Ok(names) = options.checked.clone() else {
+        return Err(Failure::NoMemory);
+    };
+    let options = CheckOptions {
+        files: names,
+        nodes: TREE_NODES,
+        level: None,
+        policy: Some(options.policy),
+        profile: Some(options.profile),
+        quiet: false,
+        verbose: false,
+    };
+    let input = CheckInput {
+        options: &options,
+        policy,
+        files: files.as_slice(),
+    };
+    check(
+        sources,
+        rt.alloc(),
+        &input,
+        &mut rt.stderr(),
+        &mut rt.stderr(),
+        hints,
+    )
+}
+
+// Writes the text that the policy of this text is exported as, if the profile passes the files of checks.
+fn export_policy<S: Sources + Wait>(
+    rt: &HostRuntime,
+    sources: &S,
+    options: &ExportOptions,
+    policy: &[u8],
+    hints: &mut Hints,
+) -> Result<Conclusion, Failure>
+    ensures ends { EndsExport true result }
+    ensures checked { IsPolicyText (S.texts sources.now) (Some (exported_in options.now).policy) policy.now
+        → EndsChecked (S.texts sources.now) (exported_in options.now) result }
+{
+    let checked = check_profile(rt, sources, options, policy, hints)?;
+    let mut text = policy;
+    export_checked(rt.alloc(), checked, options, &mut text, &mut rt.stdout())
+}
+
+// Writes the text that a policy's profile is exported as, if the profile passes the files of checks. The policy is read
+// once, so what is exported is what was checked.
+fn export_profile<S: Sources + Wait>(
+    rt: &HostRuntime,
+    sources: &S,
+    options: &ExportOptions,
+    hints: &mut Hints,
+) -> Result<Conclusion, Failure>
+    ensures ends { EndsExport true result }
+    ensures checked { EndsChecked (S.texts sources.now) (exported_in options.now) result }
+{
+    let policy = text_of(rt, sources, "policy", Some(options.policy), hints)?;
+    let ended = export_policy(rt, sources, options, policy.as_slice(), hints);
+    if let Err(failure) = &ended {
+        hints.of_export(options, failure, Some(policy.as_slice()));
+    }
+    ended
+}
+
+// `export`.
+pub fn export_options<S: Sources + Wait>(
+    rt: &HostRuntime,
+    sources: &S,
+    options: &ExportOptions,
+    hints: &mut Hints,
+) -> Result<Conclusion, Failure>
+    ensures unfit { fits_export (exported_in options.now) ≡ false → result ≡ Err Failure.CommandLine }
+    ensures export { fits_export (exported_in options.now) ≡ true
+        → EndsExport (is_checked (exported_in options.now)) result }
+    ensures checked { fits_export (exported_in options.now) ≡ true → is_checked (exported_in options.now) ≡ true
+        → EndsChecked (S.texts sources.now) (exported_in options.now) result }
+{
+    if !options.fit() {
+        hints.of_misfit(Misfit::of_export(options));
+        return Err(Failure::CommandLine);
+    }
+    if options.is_checked() {
+        return export_profile(rt, sources, options, hints);
+    }
+    export_file(rt, sources, options, hints)?;
+    Ok(Conclusion::Done)
+}

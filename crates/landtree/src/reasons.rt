@@ -1,0 +1,137 @@
+//! Why commands have ended as they have, for people.
+
+use crate::given::Given;
+use crate::hints::Hints;
+use ll_options::{
+    CheckOptions, ExportOptions, Question, RightsOptions, RunOptions, ServeOptions, WhyOptions,
+};
+use ll_rights::limits::{HISTORY_ENTRIES, TREE_NODES};
+use ll_runs::{Conclusion, Failure, Late, Sources};
+
+impl Hints {
+    /// Of `run`: a line of a strict script spells no command, or the policy is the reason.
+    pub fn of_run<S: Sources>(
+        &mut self,
+        options: &RunOptions,
+        ended: &Result<Conclusion, Failure>,
+        policy: &Late<'_, S>,
+        script: &Late<'_, S>,
+    ) {
+        if let Ok(Conclusion::Stopped(stopped)) = ended
+            && let Some(line) = stopped.bad_line
+            && let Some(text) = script.text()
+        {
+            self.of_bad_line(options.script, text, line);
+        }
+        let (nodes, history) = (options.nodes, options.history);
+        let given = Given::new(
+            options.policy,
+            policy.text(),
+            options.profile,
+            nodes,
+            history,
+        );
+        let Some(given) = given else {
+            return;
+        };
+        match ended {
+            Err(failure) => self.of_failure(failure, &given),
+            // No script is read where a call of the opening is refused by the only reply.
+            Ok(_) if !script.is_open() => self.of_opening(&given),
+            Ok(_) => {}
+        }
+    }
+
+    /// Of `serve`: the policy is the reason. What a connection's profile asks is asked of a history that the others
+    /// haven't filled.
+    pub fn of_serving<S: Sources>(
+        &mut self,
+        options: &ServeOptions,
+        ended: &Result<(), Failure>,
+        policy: &Late<'_, S>,
+    ) {
+        let history = match ended {
+            Ok(()) => HISTORY_ENTRIES,
+            Err(_) => options.history,
+        };
+        let (text, nodes) = (policy.text(), options.nodes);
+        let given = Given::new(options.policy, text, options.profile, nodes, history);
+        let Some(given) = given else {
+            return;
+        };
+        match ended {
+            Ok(()) => self.of_opening(&given),
+            Err(failure) => self.of_failure(failure, &given),
+        }
+    }
+
+    /// Of `rights`: the policy is the reason.
+    pub fn of_rights(&mut self, options: &RightsOptions, failure: &Failure, text: Option<&[u8]>) {
+        let (policy, profile) = (Some(options.policy), Some(options.profile));
+        let given = Given::new(policy, text, profile, options.nodes, HISTORY_ENTRIES);
+        if let Some(given) = given {
+            self.of_failure(failure, &given);
+        }
+    }
+
+    /// Of `check`: the policy is the reason.
+    pub fn of_check(&mut self, options: &CheckOptions, failure: &Failure, text: &[u8]) {
+        let (policy, profile) = (options.policy, options.profile);
+        let given = Given::new(policy, Some(text), profile, options.nodes, HISTORY_ENTRIES);
+        if let Some(given) = given {
+            self.of_failure(failure, &given);
+        }
+    }
+
+    /// Of `export`: the policy is the reason, or a layer that can't be exported.
+    pub fn of_export(&mut self, options: &ExportOptions, failure: &Failure, text: Option<&[u8]>) {
+        let (policy, profile) = (Some(options.policy), Some(options.profile));
+        let Some(given) = Given::new(policy, text, profile, TREE_NODES, HISTORY_ENTRIES) else {
+            return;
+        };
+        self.of_failure(failure, &given);
+        if let Failure::CommandLine = failure {
+            self.of_flaw(&given);
+        }
+    }
+
+    // Of `why` of a command: a word spells none, or the policy is the reason.
+    fn of_command_asked(
+        &mut self,
+        options: &WhyOptions,
+        command: &str,
+        failure: &Failure,
+        text: Option<&[u8]>,
+    ) {
+        if matches!(failure, Failure::CommandLine) {
+            self.of_word(command);
+        }
+        let (nodes, history) = (options.nodes, HISTORY_ENTRIES);
+        if let Some(given) = Given::new(options.policy, text, options.profile, nodes, history) {
+            self.of_failure(failure, &given);
+        }
+    }
+
+    /// Of `why`: a history lacks the entry or isn't legal, a word spells no command, or the policy is the reason.
+    pub fn of_question<S: Sources>(
+        &mut self,
+        options: &WhyOptions,
+        ended: &Result<Conclusion, Failure>,
+        file: &Late<'_, S>,
+    ) {
+        match (options.question(), ended) {
+            (Some(Question::Entry(history, entry)), Err(Failure::CommandLine)) => {
+                self.of_missing_entry(history, entry);
+            }
+            (Some(Question::Entry(history, _)), Ok(Conclusion::Judged(verdict))) => {
+                if let Some(text) = file.text() {
+                    self.of_verdict(history, text, *verdict);
+                }
+            }
+            (Some(Question::Command(_, _, command)), Err(failure)) => {
+                self.of_command_asked(options, command, failure, file.text());
+            }
+            _ => {}
+        }
+    }
+}

@@ -1,0 +1,210 @@
+-- Files, checked one after the other.
+use Rattle.std.proofs.Common.{◌≡◌, ◌∙◌, ◌<◌, ℕ, zero, suc, ◌+◌, List, [], ◌∷◌, ◌++◌, length, map, take, get_or}
+use Rattle.std.proofs.Common.{Option, Some, None, option_map, is_some, true, refl, sym, ap, ap₂, subst, arith, inl}
+use Rattle.std.proofs.Common.{inr, Result, Ok, Err}
+use Rattle.std.specs.Prelude.{◌&&◌, ◌||◌, IfOk, min, slice_get}
+use Rattle.std.specs.List.{AllZip, list_all, list_any}
+use Rattle.std.specs.Option.{option_map_or}
+use Rattle.std.specs.Borrow.{Bor}
+use Rattle.std.specs.declared.vec.Vec.{Vec}
+use Rattle.std.specs.declared.alloc.Global.{Global}
+use Rattle.std.proofs.lemmas.List.{length-map, map-append, take_more}
+use Rattle.std.proofs.lemmas.Option.{slice_get-map}
+use Rattle.ll_rights.specs.declared.limits.TheConstants.{HISTORY_ENTRIES}
+use Rattle.ll_seq.specs.declared.call.Call.{Call}
+use Rattle.ll_seq.specs.declared.reply.Entry.{Entry}
+use Rattle.ll_wire.specs.Pieces.{pieces}
+use Rattle.ll_wire.specs.Transcript.{Writes}
+use Rattle.ll_session.specs.declared.setup.Setup.{Setup}
+use Rattle.ll_options.specs.Options.{CheckOrder}
+use Rattle.ll_runs.specs.declared.checked.Checked.{Checked}
+use Rattle.ll_runs.specs.declared.failure.Failure.{Failure}
+use Rattle.ll_runs.specs.Policy.{IsSetBy, IsSetup, Lacks}
+use Rattle.ll_check.specs.declared.checks.NamedText.{NamedText}
+use Rattle.ll_check.specs.declared.checks.ReadFile.{ReadFile}
+use Rattle.ll_check.specs.declared.judging.Detail.{Detail}
+use Rattle.ll_check.specs.declared.judging.Tally.{Tally}
+use Rattle.ll_check.specs.declared.line.CheckLine.{CheckLine}
+use Rattle.ll_check.specs.declared.running.Made.{Made}
+use Rattle.ll_check.specs.Checks.{IsFirstBad, is_test, meaning_of}
+use Rattle.ll_check.specs.Files.{AreChecked, AreTestsOf, Concludes, HasBadLine, IsCheck, IsFileChecked, IsReadAs}
+use Rattle.ll_check.specs.Files.{IsSetFor, MayFail, Tests, detail_of, has_test, room_for, run_of, source_of, tests_of}
+use Rattle.ll_check.specs.Report.{IsChecked}
+
+-- ---- files that are read
+
+pub all_read : (texts : List NamedText) (files : List ReadFile) → AllZip IsReadAs texts files
+    → AllZip AreTestsOf (map source_of texts) (map tests_of files)
+all_read [] [] read = tt
+all_read [] (file ∷ files) read = absurd read
+all_read (text ∷ texts) [] read = absurd read
+all_read (text ∷ texts) (file ∷ files) read = (read.0, all_read texts files read.1)
+
+-- where the next one is read, the texts before the ones that are left are
+pub read_more : (texts : List NamedText) (i : ℕ) (files : List ReadFile) (text : NamedText) (file : ReadFile)
+    → i < length texts → text ≡ get_or texts i text → AllZip IsReadAs (take i texts) files → IsReadAs text file
+    → AllZip IsReadAs (take (suc i) texts) (files ++ file ∷ [])
+read_more [] i files text file below is read more = absurd (omega (arith, below))
+read_more (t ∷ ts) zero [] text file below is read more = (subst (λ x. IsReadAs x file) is more, tt)
+read_more (t ∷ ts) zero (c ∷ files) text file below is read more = absurd read
+read_more (t ∷ ts) (suc i) [] text file below is read more = absurd read
+read_more (t ∷ ts) (suc i) (c ∷ files) text file below is read more =
+    (read.0, read_more ts i files text file (omega (arith, below)) is read.1 more)
+
+-- a bad line of a text is one of its source
+pub bad_line : (texts : List NamedText) (file line : ℕ) (text : NamedText) (bytes : List ℕ) → file < length texts
+    → text ≡ get_or texts file text → bytes ≡ text.text.items → IsFirstBad (pieces bytes) line
+    → HasBadLine (map source_of texts)
+bad_line texts file line text bytes below is all bad = (
+  file,
+  line,
+  source_of text,
+  slice_get-map source_of texts file ∙ ap (option_map source_of) (there texts file below is),
+  subst (λ (x : List ℕ). IsFirstBad (pieces x) line) all bad,
+)
+  where
+    there : (texts : List NamedText) (file : ℕ) → file < length texts → text ≡ get_or texts file text
+        → slice_get texts file ≡ Some text
+    there [] file below is = absurd (omega (arith, below))
+    there (t ∷ ts) zero below is = ap Some (sym is)
+    there (t ∷ ts) (suc file) below is = there ts file (omega (arith, below)) is
+
+-- ---- files that have tests
+
+any_test : (lines : List CheckLine)
+    → list_any (λ line. is_test (meaning_of line)) lines ≡ list_any is_test (map meaning_of lines)
+any_test [] = refl
+any_test (line ∷ lines) = ap (λ b. is_test (meaning_of line) || b) (any_test lines)
+
+pub tests_any : (file : ReadFile)
+    → list_any (λ line. is_test (meaning_of line)) file.checks.lines.items ≡ has_test (tests_of file)
+tests_any file = any_test file.checks.lines.items
+
+pub tests_all : (files : List ReadFile)
+    → list_all (λ file. has_test (tests_of file)) files ≡ list_all has_test (map tests_of files)
+tests_all [] = refl
+tests_all (file ∷ files) = ap (λ b. has_test (tests_of file) && b) (tests_all files)
+
+-- ---- files that are checked
+
+pub one_more : (files : List ReadFile) (i : ℕ) (file : ReadFile) → i < length files → file ≡ get_or files i file
+    → map tests_of (take (i + 1) files) ≡ map tests_of (take i files) ++ tests_of file ∷ []
+one_more files i file below is =
+    ap (map tests_of) (take_more files i file below)
+    ∙ map-append tests_of (take i files) (get_or files i file ∷ [])
+    ∙ ap (λ (x : ReadFile). map tests_of (take i files) ++ tests_of x ∷ []) (sym is)
+
+pub file_checked : (order : CheckOrder) (policy : List ℕ) (file : ReadFile) (detail : Detail) (setup : Setup)
+    (name : List ℕ) (lines : List CheckLine) (made : Made) (entries : List Entry) (before after : List ℕ)
+    (tally : Tally) → detail ≡ detail_of order → name ≡ file.name.now → lines ≡ file.checks.lines.items
+    → IsSetFor order policy (length lines) setup
+    → IsChecked detail setup name (map meaning_of lines) made entries before after tally
+    → IsFileChecked order policy (tests_of file) before after tally
+file_checked order policy file detail setup name lines made entries before after tally d n l is checked =
+    let items : List CheckLine = file.checks.lines.items in (
+      setup,
+      made,
+      entries,
+      subst (λ (k : ℕ). IsSetFor order policy k setup) (ap length l ∙ sym (length-map items meaning_of)) is,
+      subst (λ (x : Detail). IsChecked x setup file.name.now (map meaning_of items) made entries before after tally) d
+          (subst (λ (x : List ℕ). IsChecked detail setup x (map meaning_of items) made entries before after tally) n
+          (subst (λ (x : List CheckLine). IsChecked detail setup name (map meaning_of x) made entries before after
+          tally) l checked)),
+    )
+
+none : Tally
+none = record { passed = 0; failed = 0 }
+
+module _ (order : CheckOrder) (policy : List ℕ) where
+  -- one file more
+  pub checked_more : (front : List Tests) (tests : Tests) (before mid after : List ℕ) (sum tally more : Tally)
+      → AreChecked order policy front before mid sum → IsFileChecked order policy tests mid after tally
+      → more.passed ≡ sum.passed + tally.passed → more.failed ≡ sum.failed + tally.failed
+      → AreChecked order policy (front ++ tests ∷ []) before after more
+  unfolding none
+  checked_more [] tests before mid after sum tally more done is p f = (
+    after,
+    tally,
+    none,
+    subst (λ (x : List ℕ). IsFileChecked order policy tests x after tally) done.0 is,
+    (refl, refl, refl),
+    omega (arith, p, done.1),
+    omega (arith, f, done.2),
+  )
+  checked_more (first ∷ front) tests before mid after sum tally more done is p f =
+      let rest : Tally = done.2 in
+      let behind : Tally = record {
+        passed = rest.passed + tally.passed;
+        failed = rest.failed + tally.failed;
+      } in (
+        done.0,
+        done.1,
+        behind,
+        done.3,
+        checked_more front tests done.0 mid after rest tally behind done.4 is refl refl,
+        omega (arith, p, done.5),
+        omega (arith, f, done.6),
+      )
+
+-- ---- setups
+
+-- the same setup with other room in its history
+pub with_room : (order : CheckOrder) (policy : List ℕ) (room lines : ℕ) (old new : Setup)
+    → IsSetup (run_of order room) policy old → new.rules ≡ old.rules → new.nodes ≡ old.nodes
+    → new.history ≡ room_for old lines → new.loader ≡ old.loader → new.profile ≡ old.profile
+    → IsSetFor order policy lines new
+with_room order policy room lines old new is rules nodes history loader profile =
+    (nodes ∙ is.0, history ∙ same, go order.policy is.2)
+  where
+    same : room_for old lines ≡ room_for new lines
+    same = ap₂ (λ (l : Option (Vec Call Global)) (p : Vec Call Global).
+        min (option_map_or (λ (calls : Vec Call Global). length calls.items) l 0 + length p.items + lines + 2)
+        HISTORY_ENTRIES) (sym loader) (sym profile)
+
+    go : (file : Option (List ℕ)) → IsSetBy file (run_of order room) policy old
+        → IsSetBy file (run_of order (room_for new lines)) policy new
+    go None by = record {
+      rules = rules ∙ by.rules;
+      loader = loader ∙ by.loader;
+      profile = ap (λ (x : Vec Call Global). x.items) profile ∙ by.profile;
+    }
+    go (Some file) by = (
+      by.0,
+      by.1,
+      record {
+        rules = rules ∙ by.2.rules;
+        loader = ap (option_map (λ (x : Vec Call Global). x.items)) loader ∙ by.2.loader;
+        profile = ap (λ (x : Vec Call Global). Some x.items) profile ∙ by.2.profile;
+      },
+    )
+
+some_text : (file : Option (Bor (List ℕ))) → is_some file ≡ true → is_some (option_map (λ t. t.now) file) ≡ true
+some_text None some = absurd cc
+some_text (Some file) some = refl
+
+-- a policy is named, and it gives no setup
+pub no_setup : (order : CheckOrder) (policy text : List ℕ) (file : Option (Bor (List ℕ))) (failure : Failure)
+    → order.policy ≡ option_map (λ t. t.now) file → is_some file ≡ true → text ≡ policy
+    → Lacks (run_of order HISTORY_ENTRIES) text failure → MayFail order policy failure
+no_setup order policy text file failure named some is lacks = inl (
+  ap is_some named ∙ some_text file some,
+  subst (λ (x : List ℕ). Lacks (run_of order HISTORY_ENTRIES) x failure) is lacks,
+)
+
+-- ---- what a check ends with
+
+-- what is concluded of what was read is a check of the texts
+pub concluded : (order : CheckOrder) (policy : List ℕ) (texts : List NamedText) (files all : List ReadFile)
+    (old new : Option (List ℕ)) (r : Result Checked Failure) → AllZip IsReadAs texts files → all ≡ files
+    → IfOk r (λ end. Writes old new (Concludes order policy (map tests_of all) end))
+    → IfOk r (λ end. Writes old new (IsCheck order policy (map source_of texts) end))
+concluded order policy texts files all old new (Err failure) read same done = tt
+concluded order policy texts files all old new (Ok end) read same done = (
+  done.0,
+  inr (
+    map tests_of files,
+    all_read texts files read,
+    subst (λ (x : List ReadFile). Concludes order policy (map tests_of x) end done.0) same done.1,
+  ),
+  done.2,
+)

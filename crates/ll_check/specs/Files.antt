@@ -1,0 +1,135 @@
+-- What a check of files does, what it writes, and how it ends. own
+use Rattle.std.specs.Prelude.{◌≡◌, ◌⊎◌, ℕ, ◌+◌, ◌==◌, ◌&&◌, Bool, true, List, [], ◌∷◌, ◌++◌, Some, None, length, map}
+use Rattle.std.specs.Prelude.{false, codes, decimal, min, slice_get, is_some, if◌then◌else◌}
+use Rattle.std.specs.List.{AllZip, list_all, list_any}
+use Rattle.std.specs.Option.{option_map_or}
+use Rattle.ll_rights.specs.declared.limits.TheConstants.{HISTORY_ENTRIES}
+use Rattle.ll_seq.specs.declared.reply.Entry.{Entry}
+use Rattle.ll_wire.specs.Pieces.{pieces}
+use Rattle.ll_session.specs.declared.fault.RunFault.{RunFault}
+use Rattle.ll_session.specs.declared.setup.Setup.{Setup}
+use Rattle.ll_session.specs.Run.{MayEnd}
+use Rattle.ll_options.specs.Options.{CheckOrder, RunOrder}
+use Rattle.ll_runs.specs.declared.checked.Checked.{Checked}
+use Rattle.ll_runs.specs.declared.checked.Checked.TheVariants.{BadLine, Failed, Passed}
+use Rattle.ll_runs.specs.declared.failure.Failure.{Failure}
+use Rattle.ll_runs.specs.declared.failure.Failure.TheVariants.{NoMemory, Output}
+use Rattle.ll_runs.specs.Failure.{failure_of}
+use Rattle.ll_runs.specs.Policy.{IsSetup, Lacks}
+use Rattle.ll_check.specs.declared.checks.NamedText.{NamedText}
+use Rattle.ll_check.specs.declared.checks.ReadFile.{ReadFile}
+use Rattle.ll_check.specs.declared.judging.Detail.{Detail}
+use Rattle.ll_check.specs.declared.judging.Detail.TheVariants.{Quiet, Usual, Verbose}
+use Rattle.ll_check.specs.declared.judging.Tally.{Tally}
+use Rattle.ll_check.specs.declared.running.Made.{Made}
+use Rattle.ll_check.specs.Checks.{IsFirstBad, Meaning, SpellsLine, is_test, meaning_of}
+use Rattle.ll_check.specs.Report.{IsChecked}
+
+-- ---- files, and what they say
+
+-- a file of checks: its name, and its text
+pub record Source : Type 0 where
+  pub name : List ℕ
+  pub text : List ℕ
+
+abbrev pub source_of : NamedText → Source
+source_of file = record { name = file.name.now; text = file.text.items }
+
+-- a file that is read: its name, and what its lines say
+pub record Tests : Type 0 where
+  pub name : List ℕ
+  pub lines : List Meaning
+
+abbrev pub AreTestsOf : Source → Tests → Type 0
+AreTestsOf source tests = (tests.name ≡ source.name) × AllZip SpellsLine (pieces source.text) tests.lines
+
+abbrev pub has_test : Tests → Bool
+has_test tests = list_any is_test tests.lines
+
+-- a line of one of them says nothing
+abbrev pub HasBadLine : List Source → Type 0
+HasBadLine sources =
+    (file line : ℕ) × (bad : Source) × (slice_get sources file ≡ Some bad) × IsFirstBad (pieces bad.text) line
+
+-- ---- the tree of a file
+
+-- room in its history for each call that can come: the loader's, the profile's, their two connects, and one a line
+abbrev pub room_for : Setup → (lines : ℕ) → ℕ
+room_for setup lines =
+    min (option_map_or (λ calls. length calls.items) setup.loader 0 + length setup.profile.items + lines + 2)
+    HISTORY_ENTRIES
+
+-- a run in the tree that these words ask for, with this room
+abbrev pub run_of : CheckOrder → (room : ℕ) → RunOrder
+run_of order room =
+    record {
+      script = [];
+      nodes = order.nodes;
+      level = order.level;
+      history = room;
+      policy = order.policy;
+      profile = order.profile;
+      save = None;
+      strict = false;
+    }
+
+-- the setup of a file's tree, where the policy's file has this text
+abbrev pub IsSetFor : CheckOrder → (policy : List ℕ) → (lines : ℕ) → Setup → Type 0
+IsSetFor order policy lines setup = IsSetup (run_of order (room_for setup lines)) policy setup
+
+-- ---- how files are checked
+
+abbrev pub detail_of : CheckOrder → Detail
+detail_of order = if order.quiet then Quiet else (if order.verbose then Verbose else Usual)
+
+-- a file's tests are made in a tree of its own, which is set up so, and are reported and counted
+abbrev pub IsFileChecked : CheckOrder → (policy : List ℕ) → Tests → (before after : List ℕ) → Tally → Type 0
+IsFileChecked order policy tests before after tally =
+    (setup : Setup) × (made : Made) × (entries : List Entry) × IsSetFor order policy (length tests.lines) setup
+    × IsChecked (detail_of order) setup tests.name tests.lines made entries before after tally
+
+-- the files are checked one after the other, each report comes behind the one before it, and this is the sum
+abbrev pub AreChecked : CheckOrder → (policy : List ℕ) → List Tests → (before after : List ℕ) → (sum : Tally) → Type 0
+AreChecked order policy [] before after sum = (after ≡ before) × (sum.passed ≡ 0) × (sum.failed ≡ 0)
+AreChecked order policy (tests ∷ files) before after sum =
+    (mid : List ℕ) × (tally rest : Tally) × IsFileChecked order policy tests before mid tally
+    × AreChecked order policy files mid after rest
+    × (sum.passed ≡ tally.passed + rest.passed) × (sum.failed ≡ tally.failed + rest.failed)
+
+-- the line of the sum
+abbrev pub sum_line : Tally → List ℕ
+sum_line sum = decimal sum.passed ++ codes " passed, " ++ decimal sum.failed ++ codes " failed\n"
+
+-- passed exactly where each file has a test and none fails
+abbrev pub end_of : List Tests → (sum : Tally) → Checked
+end_of files sum = if list_all has_test files && (sum.failed == 0) then Passed else Failed
+
+-- the files are checked, the reports and the sum's line are written, and it ends so
+abbrev pub Concludes : CheckOrder → (policy : List ℕ) → List Tests → Checked → (written : List ℕ) → Type 0
+Concludes order policy files end written =
+    (report : List ℕ) × (sum : Tally) × AreChecked order policy files [] report sum
+    × (written ≡ report ++ sum_line sum) × (end ≡ end_of files sum)
+
+-- A check of these files, where the policy's file has this text: where a line says nothing, nothing is made or written
+abbrev pub IsCheck : CheckOrder → (policy : List ℕ) → List Source → Checked → (written : List ℕ) → Type 0
+IsCheck order policy sources end written =
+    (HasBadLine sources × (end ≡ BadLine) × (written ≡ []))
+    ⊎ ((files : List Tests) × AllZip AreTestsOf sources files × Concludes order policy files end written)
+
+-- Why files aren't checked to the end: a policy is named, and there is no setup by it, or a fault ends the run of a
+-- file's tests, or the report can't be written, or want of memory
+abbrev pub MayFail : CheckOrder → (policy : List ℕ) → Failure → Type 0
+MayFail order policy failure =
+    ((is_some order.policy ≡ true) × Lacks (run_of order HISTORY_ENTRIES) policy failure)
+    ⊎ ((lines : ℕ) × (setup : Setup) × (fault : RunFault) × IsSetFor order policy lines setup × MayEnd setup fault
+    × (failure ≡ failure_of fault))
+    ⊎ (failure ≡ Output) ⊎ (failure ≡ NoMemory)
+
+-- ---- parts, which no public contract cites
+
+abbrev pub tests_of : ReadFile → Tests
+tests_of file = record { name = file.name.now; lines = map meaning_of file.checks.lines.items }
+
+-- the file is read so
+abbrev pub IsReadAs : NamedText → ReadFile → Type 0
+IsReadAs text file = AreTestsOf (source_of text) (tests_of file)
