@@ -1,5 +1,5 @@
 #!/usr/bin/env python3
-"""Tests the client in Python with the built program. What is wanted comes from docs/RULES.md, from the examples and the
+"""Tests the client in Python with the built program. What is wanted comes from docs/MODEL.md, from the examples and the
 worked examples, whose replies were worked out from the rules, and from the file system. The last line is
 'N passed, M failed'.
 
@@ -1581,10 +1581,11 @@ class Guide(Case):
     """What stands in docs/GUIDE.md, tried as a reader would."""
 
     def blocks(self, section):
-        """The blocks of a section, each without its fences."""
+        """The blocks of a section, each without its fences and prompts."""
         text = (TOP / "docs/GUIDE.md").read_text(encoding="utf-8")
         text = text.split(f"\n## {section}\n", 1)[1].split("\n## ", 1)[0]
-        return re.findall("^```[a-z]*\n(.*?)^```$", text, re.MULTILINE | re.DOTALL)
+        blocks = re.findall("^```[a-z]*\n(.*?)^```$", text, re.MULTILINE | re.DOTALL)
+        return [re.sub(r"^\$ ", "", it, flags=re.MULTILINE) for it in blocks]
 
     def run_python(self, name, program):
         os.symlink(PROGRAM, self.room / "landtree")
@@ -1605,7 +1606,7 @@ class Guide(Case):
     def test_serving_many_clients(self):
         begin, typed, program, printed, log, audit = self.blocks("Serving many clients")
         command, listening = begin.splitlines()
-        first = ["./landtree", "serve", "--port", "7000"]
+        first = ["landtree", "serve", "--port", "7000"]
         words = command.replace(" examples/", f" {TOP}/examples/").split(" ")
         self.assertEqual((words[:4], words[-2:], listening), (first, ["--save", "history"], "listening 7000"))
         history = self.room / "history"
@@ -1615,7 +1616,7 @@ class Guide(Case):
         self.assertEqual(ran.stdout, printed)
         self.assertEqual(server.ended(), (0, f"listening {server.port}\n", log))
         ran = subprocess.run([PROGRAM, "audit", history], capture_output=True, text=True, timeout=LONGEST)
-        self.assertEqual(f"./landtree audit history\n{ran.stdout}", audit)
+        self.assertEqual(f"landtree audit history\n{ran.stdout}", audit)
 
     def type_in(self, port, typed):
         """Types what stands in a session of nc, and wants what is answered there."""

@@ -5,7 +5,8 @@ from __future__ import annotations
 import operator
 import os
 import re
-from typing import Callable, List, Match, Pattern, Union
+from types import TracebackType
+from typing import Callable, List, Match, Optional, Pattern, Type, Union
 
 from .errors import BadReply, Denied, LandtreeError, Refused
 from .transports import Transport
@@ -96,6 +97,30 @@ def is_listing(names: List[str]) -> bool:
     return all(one < next for one, next in zip(names, names[1:])) and not {".", ".."} & {*names}
 
 
+class Descriptor(int):
+    """The number of an open file. After `with` its block closes it: `with client.open("r", "/f") as file: ..`."""
+
+    def __new__(cls, number: int, client: Client) -> Descriptor:
+        descriptor = super().__new__(cls, number)
+        descriptor._client = client
+        return descriptor
+
+    _client: Client
+
+    def __enter__(self) -> Descriptor:
+        return self
+
+    def __exit__(
+        self, kind: Optional[Type[BaseException]], error: Optional[BaseException], trace: Optional[TracebackType]
+    ) -> None:
+        """Closes it. What the block has raised is more than that this fails."""
+        try:
+            self._client.close(self)
+        except LandtreeError:
+            if error is None:
+                raise
+
+
 class Client:
     """A client of the tree; `number` is its place in the session, the first one being 1.
 
@@ -125,9 +150,9 @@ class Client:
         """Makes an empty node of one of the `KINDS`."""
         self._ask(OK, "make", kind_word(kind), path_word(path))
 
-    def open(self, mode: str, path: Path) -> int:
+    def open(self, mode: str, path: Path) -> Descriptor:
         """Opens a file and returns the descriptor; the mode is r, w or rw, with t, c or cx behind it."""
-        return int(self._ask(FD, "open", mode_word(mode), path_word(path))[1])
+        return Descriptor(int(self._ask(FD, "open", mode_word(mode), path_word(path))[1]), self)
 
     def read(self, descriptor: int, offset: int, count: int) -> bytes:
         """Returns the bytes from the offset on. A count of over 4,096 is refused with EINVAL."""

@@ -31,13 +31,15 @@ class Snapshot(NamedTuple):
     """A policy's text with the nodes of a real directory.
 
     `left_out` has each path that can't be a node, with the reason, and `excluded` each path that a pattern excluded.
-    `entries` is how many entries of a history the nodes take, so a run's `history` must be more.
+    `entries` is how many entries of a history the nodes take, so a run's `history` must be more. `sizes` has the bytes
+    of each regular file, by its node's path.
     """
 
     text: str
     left_out: List[Tuple[str, str]]
     entries: int
     excluded: List[str]
+    sizes: Dict[str, int]
 
 
 class Node(NamedTuple):
@@ -112,6 +114,7 @@ class Taking:
         self.nodes: List[Node] = []
         self.left_out: List[Tuple[str, str]] = []
         self.excluded: List[str] = []
+        self.sizes: Dict[str, int] = {}
         self.first_paths: Dict[Tuple[int, int], str] = {}
 
     def need_room(self) -> None:
@@ -173,6 +176,8 @@ class Taking:
         if self.data and node.kind == "reg":
             node = node._replace(data=spot.data(found))
         self.nodes.append(node)
+        if node.kind == "reg":
+            self.sizes[node.path] = found.st_size
         if found.st_nlink > 1:
             self.first_paths[key] = node.path
 
@@ -246,4 +251,4 @@ def snapshot(
     finally:
         os.close(opened)
     text = "\n".join([f"version = 2\nabi = {abi}\n", *tables(taking.nodes)])
-    return Snapshot(text, taking.left_out, entries_of(taking.nodes), taking.excluded)
+    return Snapshot(text, taking.left_out, entries_of(taking.nodes), taking.excluded, taking.sizes)

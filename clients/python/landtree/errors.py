@@ -4,7 +4,7 @@ from __future__ import annotations
 
 import errno
 import os
-from typing import NamedTuple, Optional, Sequence
+from typing import Any, NamedTuple, Optional, Sequence, Tuple
 
 from .values import Rights
 
@@ -67,7 +67,7 @@ class Denied(LandtreeError, PermissionError):
     def __str__(self) -> str:
         return replied(self.call, self.reply)
 
-    def __reduce__(self):  # type: ignore[no-untyped-def]
+    def __reduce__(self) -> Tuple[Any, ...]:
         return type(self), (self.name, self.layer, self.right, self.place, self.call, self._paths)
 
 
@@ -132,3 +132,7 @@ class BadReply(LandtreeError):
 
     def __str__(self) -> str:
         return f"the program answered {shown(self.reply)!r}" + (f" to {shown(self.call)}" if self.call else "")
+
+
+class Fault(LandtreeError):
+    """Raised if a command of this package can't do its work. Its text is one line that names the file and the place."""

@@ -55,8 +55,8 @@ class Landtree:
         """Starts the program, by its path or as the PATH has it, with the options of `landtree run`.
 
         `policy` and `save` are files. `timeout` is how many seconds each wait may last: for the opening, for a reply
-        and for the end. None is no limit. This raises `OpeningRefused` if the first client can't connect or its profile is refused,
-        `ProgramFault` if the program has ended, as it does for a policy with a fault, and `TimedOut`.
+        and for the end. None is no limit. This raises `OpeningRefused` if the first client can't connect or its profile
+        is refused, `ProgramFault` if the program has ended, as it does for a policy with a fault, and `TimedOut`.
         """
         numbers = {"nodes": nodes, "abi": abi, "history": history}
         texts = {"policy": policy, "profile": profile, "save": save}

@@ -3,7 +3,7 @@
 from __future__ import annotations
 
 import enum
-from typing import NamedTuple
+from typing import Iterable, NamedTuple, Union
 
 KINDS = ("reg", "dir", "sym", "fifo", "sock", "char", "block")
 CALL_BYTES = 4_096
@@ -53,11 +53,54 @@ class Rights(enum.Flag):
             raise ValueError(f"rights are none, or names in this order, parted by commas: {cls.ALL}; not {text!r}")
         return rights
 
+    @classmethod
+    def of(cls, *words: RightsLike) -> Rights:
+        """Returns the set of all these: rights and groups of rights, in any order.
+
+        A word is a set, a text of names with commas between, as `"read,make_reg"`, or a list of words. The groups are
+        `read`, `write`, `make` and `all`; `GROUPS` has their rights. `execute` is the right of this name alone.
+        """
+        rights = cls.NONE
+        for word in words:
+            if isinstance(word, Rights):
+                rights |= word
+            elif isinstance(word, str):
+                rights |= cls.of(*(cls._named(it.strip()) for it in word.split(",") if it.strip()))
+            else:
+                rights |= cls.of(*word)
+        return rights
+
+    @classmethod
+    def _named(cls, name: str) -> Rights:
+        if name in GROUPS:
+            return GROUPS[name]
+        if name == "none":
+            return cls.NONE
+        if name != name.lower() or name.upper() not in cls.__members__:
+            raise ValueError(f"a right is one of {cls.ALL}, or a group of {', '.join(GROUPS)}: {name!r}")
+        return cls[name.upper()]
+
     def __str__(self) -> str:
         return ",".join(str(it.name).lower() for it in SINGLE_RIGHTS if it in self) or "none"
 
 
+RightsLike = Union[Rights, str, "Iterable[RightsLike]"]
 SINGLE_RIGHTS = tuple(Rights(1 << bit) for bit in range(15))
+# The rights that mean something for what is no directory.
+FILE_RIGHTS = Rights.EXECUTE | Rights.WRITE_FILE | Rights.READ_FILE | Rights.TRUNCATE
+MAKE_RIGHTS = Rights.MAKE_CHAR | Rights.MAKE_DIR | Rights.MAKE_REG | Rights.MAKE_SOCK | Rights.MAKE_FIFO
+MAKE_RIGHTS |= Rights.MAKE_BLOCK | Rights.MAKE_SYM
+GROUPS = {
+    "read": Rights.READ_FILE | Rights.READ_DIR,
+    "write": Rights.WRITE_FILE | Rights.TRUNCATE | Rights.REMOVE_FILE | Rights.REMOVE_DIR,
+    "make": MAKE_RIGHTS,
+    "all": Rights.ALL,
+}
+
+
+def rights_of_level(abi: int) -> Rights:
+    """Returns the rights that a level of the ABI knows, from 1 to 3."""
+    return Rights((1 << (12 + abi)) - 1)
 
 
 class Stat(NamedTuple):

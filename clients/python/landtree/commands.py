@@ -1,0 +1,285 @@
+"""The commands of the program, with their results as objects.
+
+    for it in Commands().rights("policy.toml", "build", "/src/main.c"):
+        print(it.path, it.rights)
+"""
+
+from __future__ import annotations
+
+import os
+import re
+import subprocess
+from dataclasses import dataclass, field
+from typing import Iterable, List, Optional, Sequence, Tuple, Union
+
+from .errors import Fault, LandtreeError, ProgramFault, TimedOut
+from .exported import Exported, exported_of
+from .histories import learned_by_history
+from .values import Rights, RightsLike
+
+File = Union[str, "os.PathLike[str]"]
+
+ASKED = re.compile(r"  +asked on (\S+) \((at|old|new)\): (\S+)")
+CHANGE = re.compile(r"  +would pass with layer (\d+)(?: and a rule on (\S+)| handling): (\S+)")
+SUM = re.compile(r"(\d+) passed, (\d+) failed")
+SHOWN = re.compile(r"(.*):(\d+): (.*)")
+VERDICT = re.compile(r"(legal|illegal at|bad line) (\d+)")
+LEAST = re.compile("# least\\b")
+
+
+@dataclass(frozen=True)
+class Granted:
+    """The rights that each layer of a profile grants on a path. `kind` is `missing` if nothing is there."""
+
+    path: str
+    kind: str
+    rights: Rights
+
+
+@dataclass(frozen=True)
+class Asked:
+    """Rights that a call asks for on a path; `place` is "at", "old" or "new"."""
+
+    path: str
+    place: str
+    rights: Rights
+
+
+@dataclass(frozen=True)
+class Change:
+    """Rights to add to a layer: to a rule on a path, or to what it handles if the path is None."""
+
+    layer: int
+    path: Optional[str]
+    rights: Rights
+
+
+@dataclass(frozen=True)
+class Why:
+    """Why a call was answered so. With all `changes` no layer denies it; there are none if no layer does.
+
+    `text` is all that the program has written.
+    """
+
+    call: str
+    answered: str
+    asked: List[Asked]
+    changes: List[Change]
+    text: str
+
+
+@dataclass(frozen=True)
+class Failure:
+    """A test that failed: its file, its line, counted from 1, its command, and the replies."""
+
+    file: str
+    line: int
+    command: str
+    expected: str
+    got: str
+
+
+@dataclass(frozen=True)
+class Checked:
+    """How many tests passed and failed. `told` is what the program has written beside that."""
+
+    passed: int
+    failed: int
+    failures: List[Failure]
+    told: str = ""
+
+    @property
+    def is_well(self) -> bool:
+        return self.passed > 0 and self.failed == 0 and not self.told
+
+
+@dataclass(frozen=True)
+class Audited:
+    """What an audit says: `legal`, `illegal at` or `bad line`, and the number of entries, of the entry or the line."""
+
+    verdict: str
+    number: int
+
+    @property
+    def is_legal(self) -> bool:
+        return self.verdict == "legal"
+
+
+@dataclass(frozen=True)
+class Learned:
+    """A learned profile, as text to be put after the nodes of a policy, and the program's hints on it."""
+
+    profile: str
+    hints: str
+
+    @property
+    def is_least(self) -> bool:
+        """Says whether the program claims that each layer which lets the checks pass grants all that this one does."""
+        return LEAST.match(self.profile) is not None
+
+
+@dataclass(frozen=True)
+class ExportOptions:
+    """The options of `landtree export --as json`."""
+
+    root: Optional[str] = None
+    also: Sequence[str] = ()
+    deny: Sequence[str] = ()
+    checked: Sequence[File] = ()
+    follow: bool = False
+    exact: bool = False
+    best_effort: bool = False
+
+    def words(self) -> List[str]:
+        words = [f"--root={self.root}"] if self.root is not None else []
+        words += [f"--also={it}" for it in self.also] + [f"--checked={os.fspath(it)}" for it in self.checked]
+        words += [f"--deny={','.join(self.deny)}"] if self.deny else []
+        flags = {"--follow": self.follow, "--exact": self.exact, "--best-effort": self.best_effort}
+        return words + [word for word, is_set in flags.items() if is_set]
+
+
+@dataclass(frozen=True)
+class LearnOptions:
+    """The options of `landtree learn`: the profile's name, rights that it never grants, directories whose files share
+    a rule, and the most rules."""
+
+    name: str = "learned"
+    never: RightsLike = Rights.NONE
+    beneath: Sequence[str] = ()
+    most: Optional[int] = None
+
+    def words(self) -> List[str]:
+        never = Rights.of(self.never)
+        words = [f"--name={self.name}", *(f"--beneath={it}" for it in self.beneath)]
+        return words + ([f"--never={never}"] if never else []) + ([f"--most={self.most}"] if self.most else [])
+
+
+@dataclass(frozen=True)
+class Commands:
+    """The program, by its path or as the PATH has it. `timeout` is how many seconds a command may last.
+
+    Each method runs the program once. It raises `ProgramFault` if the program ends with a fault, with its status, its
+    line and its hints, and `TimedOut`. An operating system's error, as of a program that isn't there, is an `OSError`.
+    """
+
+    program: File = "landtree"
+    timeout: Optional[float] = None
+    is_explaining: bool = field(default=True)
+
+    def rights(self, policy: File, profile: str, *paths: str, nodes: int = 4_096) -> List[Granted]:
+        """Returns what a profile grants on these paths, or on each node of the policy."""
+        words = [f"--policy={os.fspath(policy)}", f"--profile={profile}", f"--nodes={nodes}", "--", *paths]
+        rows = [line.split(" ") for line in self.run("rights", *words).splitlines()]
+        return [Granted(path, kind, Rights.parse(rights)) for path, kind, rights in rows]
+
+    def why(self, policy: File, profile: str, command: str) -> Why:
+        """Explains a command under a profile, in a new tree of the policy."""
+        return why_of(self.run("why", f"--policy={os.fspath(policy)}", f"--profile={profile}", "--", command))
+
+    def why_entry(self, history: File, entry: int) -> Why:
+        """Explains an entry of a saved history. Entries count from 1."""
+        return why_of(self.run("why", "--", os.fspath(history), str(entry)))
+
+    def check(self, files: Iterable[File], policy: Optional[File] = None, profile: Optional[str] = None) -> Checked:
+        """Runs files of checks under a profile, under no layer, or without a policy. No test that fails raises."""
+        words = [f"--policy={os.fspath(policy)}"] if policy is not None else []
+        words += [f"--profile={profile}"] if profile is not None else []
+        ended = self.ended("check", *words, "--", *(os.fspath(it) for it in files))
+        if ended.returncode not in (0, 3) or not SUM.search(ended.stdout):
+            raise fault_of(ended)
+        return checked_of(ended.stdout, ended.stderr if ended.returncode else "")
+
+    def audit(self, history: File) -> Audited:
+        """Judges a saved history."""
+        ended = self.ended("audit", "--", os.fspath(history))
+        verdict = VERDICT.fullmatch(ended.stdout.strip())
+        if ended.returncode not in (0, 3) or not verdict:
+            raise fault_of(ended)
+        return Audited(verdict[1], int(verdict[2]))
+
+    def export(self, policy: File, profile: str, options: ExportOptions = ExportOptions()) -> Exported:
+        """Returns a profile for the kernel. One without layers is a fault."""
+        words = [f"--policy={os.fspath(policy)}", f"--profile={profile}", "--as=json", *options.words()]
+        return exported_of(self.run("export", *words))
+
+    def learn(self, files: Iterable[File], nodes: File, options: LearnOptions = LearnOptions()) -> Learned:
+        """Returns the least profile under which the tests of these files pass, on a policy's nodes.
+
+        A program whose `learn` reads histories alone learns from that of one file, and takes no option but the name.
+        """
+        if not self.learns_from_checks():
+            if len(options.words()) > 1:
+                raise Fault(f"{os.fspath(self.program)}: its `learn` has no --never, --beneath and --most")
+            return Learned(learned_by_history(self, files, nodes, options.name), "")
+        words = [f"--policy={os.fspath(nodes)}", *options.words(), "--", *(os.fspath(it) for it in files)]
+        ended = self.ended("learn", *words)
+        if ended.returncode:
+            raise fault_of(ended)
+        return Learned(ended.stdout, ended.stderr)
+
+    def learns_from_checks(self) -> bool:
+        """Says whether the program's `learn` reads files of checks."""
+        return "--policy" in self.ended("learn", "--help").stdout
+
+    def knows(self, command: str) -> bool:
+        """Says whether the program has a command of this name."""
+        return self.ended(command, "--help").returncode == 0
+
+    def version(self) -> str:
+        return self.ended("--version").stdout.strip()
+
+    def run(self, command: str, *words: str) -> str:
+        """Returns what a command writes to standard output, if it ends well."""
+        ended = self.ended(command, *words)
+        if ended.returncode:
+            raise fault_of(ended)
+        return ended.stdout
+
+    def ended(self, command: str, *words: str) -> "subprocess.CompletedProcess[str]":
+        explain = ["--explain"] if self.is_explaining and command != "--version" else []
+        call = [os.fspath(self.program), command, *explain, *words]
+        try:
+            return subprocess.run(
+                call,
+                stdin=subprocess.DEVNULL,
+                capture_output=True,
+                check=False,
+                encoding="utf-8",
+                errors="surrogateescape",
+                timeout=self.timeout,
+            )
+        except subprocess.TimeoutExpired:
+            raise TimedOut(f"{command}: no end within {self.timeout} seconds") from None
+
+
+def fault_of(ended: "subprocess.CompletedProcess[str]") -> LandtreeError:
+    """Returns the error for a command that ended with a fault."""
+    lines = (ended.stderr or ended.stdout).splitlines() or [""]
+    return ProgramFault(ended.returncode, lines[0], "\n".join(lines[1:]))
+
+
+def why_of(text: str) -> Why:
+    lines = text.splitlines()
+    call = next((it for it in lines if not it.startswith("  ")), "")
+    answered = next((it[len("answered ") :] for it in lines if it.startswith("answered ")), "")
+    asked = [Asked(it[1], it[2], Rights.parse(it[3])) for it in map(ASKED.fullmatch, lines) if it]
+    changes = [Change(int(it[1]), it[2], Rights.parse(it[3])) for it in map(CHANGE.fullmatch, lines) if it]
+    return Why(call, answered, asked, changes, text)
+
+
+def checked_of(text: str, told: str) -> Checked:
+    """Returns what a check has written: three lines for each test that failed, and the sum."""
+    lines = text.splitlines()
+    failures = []
+    for place, wanted, got in zip(lines, lines[1:], lines[2:]):
+        shown = SHOWN.fullmatch(place)
+        if shown and wanted.startswith("expected ") and got.startswith("got "):
+            expected, reply = wanted[len("expected ") :], got[len("got ") :]
+            failures.append(Failure(shown[1], int(shown[2]), shown[3], expected, reply))
+    passed, failed = numbers_of(lines[-1])
+    return Checked(passed, failed, failures, told)
+
+
+def numbers_of(line: str) -> Tuple[int, int]:
+    found = SUM.fullmatch(line)
+    return (int(found[1]), int(found[2])) if found else (0, 0)

@@ -1,0 +1,112 @@
+"""Looks in a policy for what its author may not want, and for what Landlock can't do."""
+
+from __future__ import annotations
+
+import os
+from dataclasses import dataclass
+from typing import Iterator, List, Union
+
+from .commands import Commands, Granted
+from .policy import Layer, Policy, ancestors
+from .policy_text import read_policy
+from .values import MAKE_RIGHTS, Rights, rights_of_level
+
+# What no layer of the levels 1 to 3 restricts (docs/LINUX.md has the whole list).
+OPEN = (
+    "chmod, chown, utimes and setxattr change files that no layer lets a program write",
+    "stat, access and readlink show files that no layer lets a program read",
+    "TCP stays open: `exec --deny tcp` closes it, on a kernel of level 4",
+    "signals to other processes stay open: `exec --deny signal` stops them, on a kernel of level 6",
+    "UDP and UNIX sockets with a path stay open",
+)
+
+
+@dataclass(frozen=True)
+class Finding:
+    """Something in a policy that its author may not want, and the place of it."""
+
+    place: str
+    text: str
+
+    def __str__(self) -> str:
+        return f"{self.place}: {self.text}"
+
+
+@dataclass(frozen=True)
+class Linted:
+    """What was found in a policy, and what no layer of any policy can do."""
+
+    findings: List[Finding]
+    open: List[str]
+
+
+def lint(file: Union[str, "os.PathLike[str]"], commands: Commands = Commands()) -> Linted:
+    """Looks through each profile of the policy in a file. A policy with a fault raises `Fault` or `ProgramFault`."""
+    policy = read_policy(file)
+    findings: List[Finding] = []
+    if not policy.profiles:
+        findings.append(Finding("the policy", "it has no profile"))
+    for name, layers in policy.profiles.items():
+        findings += profile_findings(policy, name, layers)
+        if layers:
+            findings += grant_findings(name, commands.rights(file, name))
+    return Linted(findings, list(OPEN))
+
+
+def profile_findings(policy: Policy, name: str, layers: List[Layer]) -> Iterator[Finding]:
+    """Yields what the text of a profile shows."""
+    place = f"profile {name}"
+    if not layers:
+        yield Finding(place, "it has no layer, so it denies nothing")
+    for number, layer in enumerate(layers, 1):
+        yield from layer_findings(policy.abi, f"{place}, layer {number}", layer)
+        yield from rule_findings(f"{place}, layer {number}", layer)
+    yield from move_findings(place, layers)
+
+
+def layer_findings(abi: int, place: str, layer: Layer) -> Iterator[Finding]:
+    level = rights_of_level(abi)
+    if Rights.WRITE_FILE in layer.handled and Rights.TRUNCATE not in layer.handled and Rights.TRUNCATE in level:
+        text = "write_file is handled and truncate isn't, so a file that may not be written can be emptied"
+        yield Finding(place, text)
+    # A layer restricts refer whether it handles it or not.
+    left = level & ~layer.handled & ~Rights.REFER & ~Rights.TRUNCATE
+    if left:
+        yield Finding(place, f"it doesn't handle {left}, so it denies none of these anywhere")
+    if layer.handled & ~level:
+        yield Finding(place, f"level {abi} doesn't know {layer.handled & ~level}")
+
+
+def rule_findings(place: str, layer: Layer) -> Iterator[Finding]:
+    """Yields the rules whose rights other rules of the layer grant there too."""
+    for number, rule in enumerate(layer.rules, 1):
+        others = {rule.path, "/", *ancestors(rule.path)}
+        granted = Rights.NONE
+        for other_number, other in enumerate(layer.rules, 1):
+            # Of two rules on one path the later one is told.
+            if other.path in others and (other.path != rule.path or other_number < number):
+                granted |= other.rights
+        if not rule.rights & ~granted:
+            text = f"it adds nothing on {rule.path}: rules on it or above grant {rule.rights}"
+            yield Finding(f"{place}, rule {number}", text)
+
+
+def move_findings(place: str, layers: List[Layer]) -> Iterator[Finding]:
+    """Yields whether files can be made and removed somewhere, but not moved between directories."""
+    for number, layer in enumerate(layers, 1):
+        granted = ~layer.handled
+        for rule in layer.rules:
+            granted |= rule.rights
+        moves = any(it.rights & Rights.REFER for it in layer.rules)
+        if granted & MAKE_RIGHTS and Rights.REMOVE_FILE in granted and not moves:
+            text = "no rule has refer, so nothing moves from one directory to another (EXDEV), and `mv` copies"
+            yield Finding(f"{place}, layer {number}", text)
+
+
+def grant_findings(name: str, granted: List[Granted]) -> Iterator[Finding]:
+    """Yields the files that may be written and also executed."""
+    for it in granted:
+        writes = it.rights & (Rights.WRITE_FILE | Rights.MAKE_REG)
+        if it.kind in ("reg", "dir") and Rights.EXECUTE in it.rights and writes:
+            what = "a file in it can be written" if it.kind == "dir" else "it can be written"
+            yield Finding(f"profile {name}", f"{it.path}: {what} and then executed")

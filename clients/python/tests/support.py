@@ -1,0 +1,81 @@
+"""What the tests of the package share."""
+
+import os
+import shutil
+import subprocess
+import sys
+import tempfile
+import unittest
+from pathlib import Path
+
+HERE = Path(__file__).resolve().parent
+PACKAGE = HERE.parent
+TOP = PACKAGE.parent.parent
+sys.path.insert(0, str(PACKAGE))
+
+from landtree import Commands, Fault, landlock  # noqa: E402
+
+# The program, which test_package.py sets.
+PROGRAM = os.environ.get("LANDTREE_PROGRAM", str(TOP / "crates/landtree/out/landtree"))
+LONGEST = 120
+
+
+def can_trace():
+    """Says whether strace may follow a program here, as far as it is installed."""
+    words = ["strace", "-o", "/dev/null", "true"]
+    return not shutil.which("strace") or subprocess.run(words, capture_output=True, check=False).returncode == 0
+
+
+def needs(is_there, what):
+    """Skips a test where something isn't installed, unless nothing may be missing (LANDTREE_ALL_TESTS)."""
+    return unittest.skipUnless(is_there or os.environ.get("LANDTREE_ALL_TESTS"), what)
+
+
+def needs_strace(test):
+    allowed = unittest.skipUnless(can_trace(), "strace may follow no program here")
+    return needs(shutil.which("strace"), "no strace")(allowed(test))
+
+
+needs_landlock = unittest.skipUnless(landlock.level() > 0, "no Landlock in this kernel")
+
+
+def needs_tools(*names):
+    missing = [it for it in names if not shutil.which(it)]
+    return needs(not missing, f"no {', '.join(missing)}")
+
+
+class Case(unittest.TestCase):
+    """A test with a directory of its own."""
+
+    def setUp(self):
+        folder = tempfile.TemporaryDirectory()
+        self.addCleanup(folder.cleanup)
+        self.room = Path(folder.name).resolve()
+
+    def put(self, name, text=""):
+        path = self.room / name
+        path.parent.mkdir(parents=True, exist_ok=True)
+        path.write_text(text)
+        return path
+
+    def learner(self):
+        """Returns the program, or a stand-in for it if it has no `learn`."""
+        if Commands(PROGRAM).knows("learn"):
+            return PROGRAM
+        text = f'#!/bin/sh\nexec {sys.executable} {HERE}/stand_in.py {PROGRAM} "$@"\n'
+        program = self.put("stand-in/landtree", text)
+        program.chmod(0o755)
+        return str(program)
+
+    def wants_fault(self, text, call, *words, **options):
+        """Wants a call to raise a fault of one line, which is this text."""
+        with self.assertRaises(Fault) as caught:
+            call(*words, **options)
+        self.assertEqual(str(caught.exception), text)
+
+    def run_module(self, *words, **how):
+        """Runs the package's commands as a user does."""
+        environment = {**os.environ, "PYTHONPATH": str(PACKAGE), "PYTHONDONTWRITEBYTECODE": "1"}
+        how = {"cwd": self.room, "env": environment, "timeout": LONGEST, **how}
+        how = {"capture_output": True, "text": True, "stdin": subprocess.DEVNULL, **how}
+        return subprocess.run([sys.executable, "-m", "landtree", *map(os.fspath, words)], check=False, **how)

@@ -1,0 +1,153 @@
+"""The program's commands as calls. What is wanted comes from docs/PROGRAM.md and docs/GUIDE.md."""
+
+from tests.support import PROGRAM, TOP, Case
+
+from landtree import Commands, ExportOptions, LearnOptions, ProgramFault, Rights, TimedOut
+from landtree.commands import Asked, Audited, Change, Failure, Granted
+from landtree.exported import ExportedRule, exported_of
+
+POLICY, CHECKS = TOP / "examples/build-service.toml", TOP / "examples/build-service.check"
+READ = Rights.READ_FILE | Rights.READ_DIR
+
+
+class Results(Case):
+    def setUp(self):
+        super().setUp()
+        self.commands = Commands(PROGRAM, timeout=60)
+
+    def test_rights(self):
+        rows = self.commands.rights(POLICY, "build", "/src", "/none")
+        self.assertEqual(rows, [Granted("/src", "dir", READ), Granted("/none", "missing", Rights.NONE)])
+        paths = ["/src", "/src/main.c", "/build", "/keys", "/keys/deploy"]
+        self.assertEqual([it.path for it in self.commands.rights(POLICY, "build")], paths)
+
+    def test_why(self):
+        why = self.commands.why(POLICY, "build", "open rw /src/main.c")
+        self.assertEqual((why.call, why.answered), ("open rw /src/main.c", "denied EACCES layer 1 write_file at"))
+        self.assertEqual(why.asked, [Asked("/src/main.c", "at", Rights.of("write_file,read_file"))])
+        self.assertEqual(why.changes, [Change(1, "/src/main.c", Rights.WRITE_FILE)])
+        self.assertEqual(self.commands.why(POLICY, "build", "list /src").changes, [])
+
+    def test_why_of_a_history(self):
+        history = TOP / "worked/why-kept-at-the-latest-opening/history"
+        why = self.commands.why_entry(history, 10)
+        self.assertEqual(why.call, "entry 10, client 1: ftruncate 0 0")
+        self.assertEqual(why.changes, [Change(1, "/g", Rights.TRUNCATE)])
+
+    def test_check(self):
+        checked = self.commands.check([CHECKS], POLICY, "build")
+        self.assertEqual((checked.passed, checked.failed, checked.failures, checked.is_well), (20, 0, [], True))
+        file = self.put("f.check", "open w /src/main.c\nlist /src\n")
+        checked = self.commands.check([file], POLICY, "build")
+        denied = "denied EACCES layer 1 write_file at"
+        failure = Failure(str(file), 1, "open w /src/main.c", "neither refused nor denied", denied)
+        self.assertEqual((checked.passed, checked.failed, checked.failures, checked.is_well), (1, 1, [failure], False))
+
+    def test_no_test(self):
+        checked = self.commands.check([self.put("none.check")], POLICY, "build")
+        self.assertFalse(checked.is_well)
+
+    def test_a_bad_line(self):
+        file = self.put("bad.check", "open\n")
+        with self.assertRaises(ProgramFault) as caught:
+            self.commands.check([file])
+        self.assertEqual(caught.exception.status, 2)
+        self.assertTrue(caught.exception.line.startswith(f"{file}:1:"), caught.exception.line)
+
+    def test_audit(self):
+        history = self.put("h", "landtree-history 1 nodes 64\n1 connect = ok\n1 make reg /f = ok\n")
+        self.assertEqual(self.commands.audit(history), Audited("legal", 2))
+        history.write_text("landtree-history 1 nodes 64\n1 connect = ok\n1 rmdir /f = ok\n")
+        self.assertEqual(self.commands.audit(history), Audited("illegal at", 2))
+        self.assertFalse(Audited("bad line", 1).is_legal)
+
+    def test_export(self):
+        options = ExportOptions(root="/srv", also=["/usr"], deny=["tcp", "signal"], best_effort=True)
+        exported = self.commands.export(POLICY, "build", options)
+        self.assertEqual((exported.root, exported.also, exported.abi), ("/srv", ("/usr",), 3))
+        self.assertEqual((exported.deny, exported.best_effort), ({"tcp", "signal"}, True))
+        (layer,) = exported.layers
+        self.assertEqual(layer.rules[0], ExportedRule("/src", "dir", READ))
+
+    def test_faults(self):
+        with self.assertRaises(ProgramFault) as caught:
+            self.commands.rights(self.put("p.toml", "version = 9\n"), "x")
+        self.assertEqual((caught.exception.status, caught.exception.line), (2, "landtree: policy BadVersion"))
+        self.assertIn("p.toml", caught.exception.hints)
+        empty = self.put("e.toml", "version = 2\nabi = 3\n[profile.x]\n")
+        self.assertRaises(ProgramFault, self.commands.export, empty, "x")
+        self.assertRaises(FileNotFoundError, Commands(self.room / "none").audit, "x")
+
+    def test_a_time_limit(self):
+        slow = self.put("slow", "#!/bin/sh\nexec sleep 60\n")
+        slow.chmod(0o755)
+        self.assertRaises(TimedOut, Commands(slow, timeout=0.2).audit, "x")
+
+    def test_learning(self):
+        text = '#!/bin/sh\n[ "$3" != --help ] || { echo "--policy"; exit; }\n'
+        program = self.put("learner", f'{text}echo "# least: it is so"\nprintf "%s\\n" "$@"\necho hint >&2\n')
+        program.chmod(0o755)
+        options = LearnOptions("b", "truncate,read_file", ["/usr"], 9)
+        learned = Commands(program).learn(["a.check"], "n.toml", options)
+        words = "learn --explain --policy=n.toml --name=b --beneath=/usr --never=read_file,truncate --most=9 -- a.check"
+        self.assertEqual(learned.profile, "\n".join(["# least: it is so", *words.split(" "), ""]))
+        self.assertEqual((learned.is_least, learned.hints), (True, "hint\n"))
+
+
+    def test_learning_by_a_history(self):
+        # This program's `learn` shows the history that it reads. All else is done by the real program.
+        learn = '[ "$3" = --help ] || cat "${3#--history=}"; exit'
+        program = self.put("landtree", f'#!/bin/sh\n[ "$1" != learn ] || {{ {learn}; }}\nexec {PROGRAM} "$@"\n')
+        program.chmod(0o755)
+        nodes = self.put("n.toml", 'version = 2\nabi = 3\n[[node]]\npath = "/f"\nkind = "reg"\n')
+        checks = self.put("c.check", "# Calls.\nopen r /f = fd 0\n\nclose 0\nopen w /f = denied EACCES ..\nlist /")
+        commands = Commands(program)
+        history = commands.learn([checks], nodes).profile.splitlines()
+        made = ["1 connect = ok", "1 make reg /f = ok", "2 connect = ok"]
+        called = ["2 open r /f = fd 0", "2 close 0 = ok", "2 list / = names f"]
+        self.assertEqual(history, ["landtree-history 3 nodes 4096 abi 3", *made, *called])
+        for options in (LearnOptions(never="refer"), LearnOptions(beneath=["/usr"]), LearnOptions(most=3)):
+            text = f"{program}: its `learn` has no --never, --beneath and --most"
+            self.wants_fault(text, commands.learn, [checks], nodes, options)
+        checks.write_text("list / = names f\nopen r /g = fd 0\n")
+        text = f"{checks}:2: open r /g: fd 0 is expected, and it gets refused 3 ENOENT"
+        self.wants_fault(text, commands.learn, [checks], nodes)
+        self.wants_fault(f"{program}: its `learn` reads one file of checks at a time", commands.learn, [], nodes)
+
+
+class Exports(Case):
+    TEXT = (
+        '{"version": 1, "abi": 3, "root": "/", "also": [], "follow": false, "exact": false, "best_effort": false, '
+        '"deny": {"tcp": true, "ioctl_dev": false, "signal": false, "abstract_unix_socket": false}, '
+        '"layers": [{"handled": ["execute", "refer"], "rules": [{"path": "/a", "kind": "dir", "rights": ["refer"]}]}]}'
+    )
+
+    def test_a_text(self):
+        exported = exported_of(self.TEXT)
+        self.assertEqual((exported.deny, exported.layers[0].rules[0].rights), ({"tcp"}, Rights.REFER))
+
+    def test_other_texts(self):
+        changes = [
+            ('"version": 1', '"version": 2'),
+            ('"version": 1', '"version": 1, "more": 1'),
+            ('"abi": 3, ', ""),
+            ('"/a"', '"a"'),
+            ('"/a"', '"/a/../b"'),
+            ('"/a"', '"/a//b"'),
+            ('["refer"]', '["truncate"]'),
+            ('["refer"]', '["refer", "execute"]'),
+            ('["refer"]', '"refer"'),
+            ('"dir"', '"file"'),
+            ('"exact": false', '"exact": 0'),
+            ('"tcp": true', '"udp": true'),
+            ('["execute", "refer"]', "[]"),
+            ('"root": "/"', '"root": ""'),
+        ]
+        for old, new in changes:
+            with self.subTest(new), self.assertRaises(Exception) as caught:
+                exported_of(self.TEXT.replace(old, new))
+            self.assertEqual(type(caught.exception).__name__, "Fault", new)
+        for text in ("", "[]", "null", "{}", self.TEXT[:-1], self.TEXT[: self.TEXT.index("[{")] + "[]}"):
+            with self.assertRaises(Exception) as caught:
+                exported_of(text)
+            self.assertEqual(type(caught.exception).__name__, "Fault", text)
