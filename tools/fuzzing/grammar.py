@@ -1,4 +1,4 @@
-"""Which lines spell what: the grammar of docs/RULES.md, written once more without the program."""
+"""Which lines spell what: the grammar of docs/PROGRAM.md, written once more without the program."""
 
 import re
 

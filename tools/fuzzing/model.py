@@ -1,4 +1,4 @@
-"""The rules of docs/RULES.md once more, as a tree of Python objects: what each call of a script is answered."""
+"""The rules of docs/MODEL.md once more, as a tree of Python objects: what each call of a script is answered."""
 
 from fuzzing.grammar import ERRNOS, FULL, RIGHTS, is_name
 

@@ -144,7 +144,7 @@ class Ended:
 
 class Serving:
     """The program serves so many connections one after another, by one worker; or all at once. What is known of them:
-    the lines of each, with their replies by docs/RULES.md, the calls before these, which the profile makes, and the
+    the lines of each, with their replies by docs/MODEL.md, the calls before these, which the profile makes, and the
     loader's."""
 
     def __init__(self, program, refusing, room, connections, way, are_together=False, **options):

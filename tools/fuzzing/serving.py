@@ -145,7 +145,7 @@ class Caller:
 
 
 def work(number, rounds):
-    """Lines of a client in a directory of its own, and their replies by docs/RULES.md; # stands for an inode."""
+    """Lines of a client in a directory of its own, and their replies by docs/MODEL.md; # stands for an inode."""
     at = f"/w{number}"
     data = f"{number:04x}" * 100
     yield f"make dir {at}", "ok"

@@ -1,4 +1,4 @@
-"""Files of checks and policies, as docs/RULES.md has them."""
+"""Files of checks and policies, as docs/PROGRAM.md has them."""
 
 import tomllib
 
