@@ -10,7 +10,7 @@ from exports.profile import DENIALS, UNENFORCED, aged, also, compiled, ended, la
 
 # Each attempt, made by a Python of its own; it prints the names of those that are denied.
 ATTEMPTS = """
-import errno, fcntl, os, socket, sys, termios
+import errno, fcntl, os, socket, sys, tempfile, termios
 port, other, name = int(sys.argv[1]), int(sys.argv[2]), sys.argv[3]
 def connect(): socket.create_connection(("127.0.0.1", port)).close()
 def bind():
@@ -20,10 +20,15 @@ def control():
 def kill(): os.kill(other, 0)
 def abstract():
     with socket.socket(socket.AF_UNIX) as it: it.connect("\\0" + name)
-for what, attempt in dict(tcp=connect, tcp2=bind, ioctl_dev=control, signal=kill, abstract_unix_socket=abstract).items():
+def move():
+    with tempfile.TemporaryDirectory() as one, tempfile.TemporaryDirectory() as two:
+        open(one + "/f", "w").close()
+        os.rename(one + "/f", two + "/f")
+attempts = dict(tcp=connect, tcp2=bind, ioctl_dev=control, signal=kill, abstract_unix_socket=abstract, move=move)
+for what, attempt in attempts.items():
     try: attempt()
     except OSError as error:
-        if error.errno in (errno.EACCES, errno.EPERM): print(what)
+        if error.errno in (errno.EACCES, errno.EPERM, errno.EXDEV): print(what)
 """
 
 
@@ -44,7 +49,8 @@ def attempted(confined):
 
 
 def try_deny(tally, program, room, level):
-    profile = policy_of(program, room, {}, layer("make_sym"))
+    """What --deny names is denied, and nothing else: not the moves between directories that the profile allows."""
+    profile = policy_of(program, room, {}, layer("make_sym,refer", **{"/": "refer"}))
     known = {"tcp": 4, "ioctl_dev": 5, "signal": 6, "abstract_unix_socket": 6}
     for names in ((), *((name,) for name in DENIALS), DENIALS):
         names = [name for name in names if known[name] <= level]

@@ -71,7 +71,7 @@ struct how {
 
 enum { OPENAT2 = 437, CREATE_RULESET = 444, ADD_RULE = 445, RESTRICT_SELF = 446 };
 enum { PATH_BENEATH = 1, VERSION = 1 };
-enum { BIND_TCP = 1, CONNECT_TCP = 2, IOCTL_DEV = 0x8000, ABSTRACT_UNIX_SOCKET = 1, SIGNAL = 2 };
+enum { BIND_TCP = 1, CONNECT_TCP = 2, REFER = 0x2000, IOCTL_DEV = 0x8000, ABSTRACT_UNIX_SOCKET = 1, SIGNAL = 2 };
 enum { NO_MAGICLINKS = 2, NO_SYMLINKS = 4, BENEATH = 8 };
 
 static void say(const char *format, ...)
@@ -293,21 +293,29 @@ static int is_denied(int is_wanted, const char *what, long known, long needed)
     return 0;
 }
 
-/* Enforces a layer without a rule that denies what --deny names. */
+/* Enforces a layer that denies what --deny names. A layer denies moves between directories unless a rule of its own
+   allows them, so this one allows them below /: the profile's layers decide. */
 static void deny(long known)
 {
-    struct ruleset layer = {0};
+    struct ruleset layer = {.handled_access_fs = REFER};
+    int ruleset, fd;
 
     if (is_denied(DENY_TCP, \"tcp\", known, 4))
         layer.handled_access_net = BIND_TCP | CONNECT_TCP;
     if (is_denied(DENY_IOCTL_DEV, \"ioctl_dev\", known, 5))
-        layer.handled_access_fs = IOCTL_DEV;
+        layer.handled_access_fs |= IOCTL_DEV;
     if (is_denied(DENY_SIGNAL, \"signal\", known, 6))
         layer.scoped |= SIGNAL;
     if (is_denied(DENY_ABSTRACT_UNIX_SOCKET, \"abstract_unix_socket\", known, 6))
         layer.scoped |= ABSTRACT_UNIX_SOCKET;
-    if (layer.handled_access_fs || layer.handled_access_net || layer.scoped)
-        restrict_self(create_ruleset(&layer));
+    if (layer.handled_access_fs == REFER && !layer.handled_access_net && !layer.scoped)
+        return;
+    fd = open(\"/\", O_PATH | O_DIRECTORY | O_CLOEXEC);
+    if (fd < 0)
+        fail(\"can't open\", \"/\");
+    ruleset = create_ruleset(&layer);
+    add_rule(ruleset, fd, REFER, \"/\");
+    restrict_self(ruleset);
 }
 
 int main(int count, char **words)
