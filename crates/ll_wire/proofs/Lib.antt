@@ -5,6 +5,7 @@ pub mod Digits
 pub mod EntryTokens
 pub mod FeedsInParts
 pub mod FirstLine
+pub mod FirstReads
 pub mod FirstTokens
 pub mod Fronts
 pub mod Headers

@@ -62,14 +62,14 @@ errno_visible errnos.NoMemory = refl
 errno_visible errnos.BadLine = refl
 errno_visible errnos.Stale = refl
 
-errno_token : (errno : Errno) → IsToken (errno_text errno)
+pub errno_token : (errno : Errno) → IsToken (errno_text errno)
 errno_token errno = visible_is (errno_text errno) (errno_visible errno)
 
-right_token : (right : ℕ) → right < 15 → IsToken (right_text right)
+pub right_token : (right : ℕ) → right < 15 → IsToken (right_text right)
 right_token right known = visible_is (right_text right)
     (agree_below_at (λ k. visible (right_text k)) (λ _. true) 15 right refl known)
 
-place_token : (place : Place) → IsToken (place_text place)
+pub place_token : (place : Place) → IsToken (place_text place)
 place_token places.At = visible_is (codes "at") refl
 place_token places.Old = visible_is (codes "old") refl
 place_token places.New = visible_is (codes "new") refl

@@ -85,7 +85,7 @@ pub stripped : (front body rest : List ℕ) → StripsPrefix (FindsTextPrefix fr
 stripped front body rest h = h.1.1 ∙ ap (λ (x : List ℕ). front ++ x) (sym h.2)
 
 -- whether the text begins with the two bytes
-abbrev begins : ℕ → ℕ → List ℕ → Bool
+abbrev pub begins : ℕ → ℕ → List ℕ → Bool
 begins a b [] = false
 begins a b (x ∷ []) = false
 begins a b (x ∷ y ∷ text) = (x == a) && (y == b)

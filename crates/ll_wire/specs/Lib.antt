@@ -2,6 +2,7 @@ pub mod Cutting
 pub mod Devices
 pub mod Entries
 pub mod EntryParts
+pub mod FirstWords
 pub mod Grammar
 pub mod Parts
 pub mod Pieces

@@ -10,6 +10,7 @@ mod entry;
 mod exchange;
 mod fault;
 mod feeds;
+mod first_words;
 mod grammar;
 mod header;
 mod line;
@@ -33,6 +34,9 @@ pub use ends::{Broken, Ends};
 pub use entry::{ENTRY_LIMIT, entry_text, read_entry};
 pub use exchange::Exchange;
 pub use fault::SessionFault;
+pub use first_words::{
+    DenialWords, FirstWords, RefusalWords, StatusWords, first_words_text, read_first_words,
+};
 pub use grammar::{
     entries_fit, spells_one, spells_one_entry, spells_one_header, spells_one_reply,
     spells_one_schedule_line,

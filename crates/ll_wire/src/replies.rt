@@ -44,7 +44,7 @@ fn listing_of(alloc: Global, text: &str) -> Result<Listing, AllocError>
 }
 
 // Parses the text after the word `names`. Takes memory only if all parts are names.
-fn names_of(alloc: Global, text: &str) -> Result<Listing, Errno>
+pub(crate) fn names_of(alloc: Global, text: &str) -> Result<Listing, Errno>
     ensures { Reads (SpellsNames text.now) result }
 {
     if text.is_empty() {
@@ -62,7 +62,7 @@ fn names_of(alloc: Global, text: &str) -> Result<Listing, Errno>
     }
 }
 
-fn only_number(args: &[&str]) -> Option<u64>
+pub(crate) fn only_number(args: &[&str]) -> Option<u64>
     ensures { Finds (SpellsOneNumber (map (λ t. t.now) args.now)) result }
 {
     let [number] = args else {
@@ -71,7 +71,7 @@ fn only_number(args: &[&str]) -> Option<u64>
     number_of(number)
 }
 
-fn status_of(args: &[&str]) -> Option<Status>
+pub(crate) fn status_of(args: &[&str]) -> Option<Status>
     ensures { Finds (λ s. SpellsReplyTokens (codes "stat" ∷ map (λ t. t.now) args.now) (Reply.Found s)) result }
 {
     let [inode, kind, size, links] = args else {
@@ -86,7 +86,7 @@ fn status_of(args: &[&str]) -> Option<Status>
 }
 
 // What policy denies is a denial, and no reply reports that a walk is stale.
-fn refusal_of(args: &[&str]) -> Option<Errno>
+pub(crate) fn refusal_of(args: &[&str]) -> Option<Errno>
     ensures { Finds (λ errno. SpellsReplyTokens (codes "refused" ∷ map (λ t. t.now) args.now) (Reply.Refused errno))
         result }
 {

@@ -30,7 +30,7 @@ fn ended(mut text: String) -> Result<String, AllocError>
 }
 
 // The tokens, separated by spaces.
-fn spaced_text(alloc: Global, first: &str, others: &[&str]) -> Result<String, AllocError>
+pub(crate) fn spaced_text(alloc: Global, first: &str, others: &[&str]) -> Result<String, AllocError>
     ensures { IfOk result (λ text. string_bytes text ≡ join_with_byte 32 (first.now ∷ map (λ t. t.now) others.now)) }
 {
     let mut text = String::with_capacity(alloc, ROOM)?;
@@ -68,13 +68,13 @@ fn mode_text(alloc: Global, mode: Mode) -> Result<String, AllocError>
     Ok(text)
 }
 
-fn one_arg(alloc: Global, name: &str, arg: &str) -> Result<String, AllocError>
+pub(crate) fn one_arg(alloc: Global, name: &str, arg: &str) -> Result<String, AllocError>
     ensures { IfOk result (λ text. string_bytes text ≡ join_with_byte 32 (name.now ∷ arg.now ∷ [])) }
 {
     spaced_text(alloc, name, &[arg])
 }
 
-fn number_text(alloc: Global, name: &str, number: u64) -> Result<String, AllocError>
+pub(crate) fn number_text(alloc: Global, name: &str, number: u64) -> Result<String, AllocError>
     ensures { IfOk result (λ text. string_bytes text ≡ join_with_byte 32 (name.now ∷ decimal number ∷ [])) }
 {
     let number = number.to_string(alloc)?;
@@ -224,14 +224,14 @@ pub fn command_text(alloc: Global, client: u64, call: &Call) -> Result<String, A
     line_text(alloc, client.as_str(), &[text.as_str()])
 }
 
-fn bytes_text(alloc: Global, bytes: &Data) -> Result<String, AllocError>
+pub(crate) fn bytes_text(alloc: Global, bytes: &Data) -> Result<String, AllocError>
     ensures { IfOk result (λ text. string_bytes text ≡ join_with_byte 32 (reply_tokens (Reply.Bytes bytes.now))) }
 {
     let bytes = data_text(alloc, bytes)?;
     one_arg(alloc, "data", bytes.as_str())
 }
 
-fn names_text(alloc: Global, names: &[Name]) -> Result<String, AllocError>
+pub(crate) fn names_text(alloc: Global, names: &[Name]) -> Result<String, AllocError>
     ensures { IfOk result (λ text. string_bytes text ≡ join_with_byte 32 (codes "names" ∷ names.now)) }
 {
     let mut text = String::from_str(alloc, "names")?;
@@ -241,7 +241,7 @@ fn names_text(alloc: Global, names: &[Name]) -> Result<String, AllocError>
     Ok(text)
 }
 
-fn status_text(alloc: Global, status: &Status) -> Result<String, AllocError>
+pub(crate) fn status_text(alloc: Global, status: &Status) -> Result<String, AllocError>
     ensures { IfOk result (λ text. string_bytes text ≡ join_with_byte 32 (reply_tokens (Reply.Found status.now))) }
 {
     let inode = status.inode.to_string(alloc)?;
@@ -255,7 +255,7 @@ fn status_text(alloc: Global, status: &Status) -> Result<String, AllocError>
     )
 }
 
-fn denial_text(alloc: Global, denial: &Denial) -> Result<String, AllocError>
+pub(crate) fn denial_text(alloc: Global, denial: &Denial) -> Result<String, AllocError>
     ensures { IfOk result (λ text. string_bytes text ≡ join_with_byte 32 (reply_tokens (Reply.Denied denial.now))) }
 {
     let errno = denial.cause.errno().text();
@@ -269,7 +269,7 @@ fn denial_text(alloc: Global, denial: &Denial) -> Result<String, AllocError>
     )
 }
 
-fn refusal_text(alloc: Global, errno: Errno) -> Result<String, AllocError>
+pub(crate) fn refusal_text(alloc: Global, errno: Errno) -> Result<String, AllocError>
     ensures { IfOk result (λ text. string_bytes text ≡ join_with_byte 32 (reply_tokens (Reply.Refused errno))) }
 {
     let number = errno.number().to_string(alloc)?;
