@@ -1,7 +1,7 @@
 -- What a reader has told, and what follows from it.
 use Rattle.std.proofs.Common.{◌≡◌, ◌∙◌, ℕ, List, [], Option, None, Some, refl, sym, subst, option_map, is_some, false}
 use Rattle.std.proofs.Common.{inl, inr, ◌⊎◌, Result, Ok, Err, true}
-use Rattle.std.specs.Prelude.{IfOk, IfSome, OnOk, slice_get}
+use Rattle.std.specs.Prelude.{IfOk, IfSome, slice_get}
 use Rattle.std.specs.Io.KnownBytes.{Appends}
 use Rattle.std.specs.Str.{IsUtf8}
 use Rattle.std.specs.Borrow.{Bor}
@@ -16,11 +16,7 @@ use Rattle.ll_policy.specs.declared.fault.PolicyFault.TheVariants as faults
 use Rattle.ll_runs.specs.Failure.{failure_in}
 use Rattle.ll_options.specs.Options.{RunOrder, order_in}
 use Rattle.ll_policy.specs.Plan.{Plan, IsPlanOf}
-use Rattle.ll_runs.specs.Policy.{ByLevel, ByPlan, IsDone, IsSaved, IsSetBy, IsSetup, Lacks, header_of}
-use Rattle.ll_session.specs.Run.{Runs}
-use Rattle.ll_wire.specs.Transcript.{Writes}
-use Rattle.ll_seq.specs.History.{IsLegal}
-use Rattle.ll_seq.specs.State.{start}
+use Rattle.ll_runs.specs.Policy.{ByLevel, ByPlan, IsSaved, IsSetBy, IsSetup, Lacks, header_of}
 use Rattle.ll_seq.specs.declared.reply.Entry.{Entry}
 use Rattle.ll_audit.specs.Saved.{saved_text}
 use Rattle.ll_wire.specs.declared.header.Header.{Header}
@@ -86,21 +82,6 @@ is_saved options setup entries blank old new h some is saved = go options.save s
         → IsSaved (option_map (λ (t : Bor (List ℕ)). t.now) file) setup entries blank old new
     go None e = absurd cc
     go (Some file) e = subst (λ (x : Header). Appends blank new (saved_text x entries)) is saved
-
--- a run whose history was to be saved, by what became of that
-pub saved_run : {T E : Type 0} (r : Result T E) (options : RunOptions) (policy script script' : Option (List ℕ))
-    (out out' blank old new : Option (List ℕ)) (setup : Setup) (entries : List Entry) (h : Header)
-    → ((text : List ℕ) × IfSome policy (λ told. text ≡ told) × IsSetup (order_in options) text setup)
-    → IsLegal (start setup.rules setup.nodes) entries
-    → IfSome script (λ input. (left : List ℕ) × (script' ≡ Some left)
-    × Writes out out' (λ written. Runs setup input left written entries))
-    → is_some options.save ≡ true → h ≡ header_of setup → OnOk r (Appends blank new (saved_text h entries))
-    → OnOk r ((text : List ℕ) × IfSome policy (λ told. text ≡ told)
-    × IsDone (order_in options) text script script' out out' blank old new)
-saved_run (Ok value) options policy script script' out out' blank old new setup entries h s legal ran some is saved =
-    (s.0, s.1, (setup, entries, s.2, legal, ran, is_saved options setup entries blank old new h some is saved))
-saved_run (Err fault) options policy script script' out out' blank old new setup entries h s legal ran some is saved =
-    tt
 
 -- the text gives no policy
 pub not_given : (order : RunOrder) (text : List ℕ) (fault : PolicyFault) → IsUtf8 text

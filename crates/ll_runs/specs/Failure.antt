@@ -20,7 +20,6 @@ use Rattle.ll_audit.specs.declared.verdict.Verdict.TheVariants.{Legal, Illegal, 
 use Rattle.ll_audit.specs.Saved.{Judges}
 use Rattle.ll_wire.specs.Grammar.{reply_line}
 use Rattle.ll_wire.specs.Pieces.{pieces}
-use Rattle.ll_options.specs.Options.{RunOrder}
 use Rattle.ll_runs.specs.declared.failure.Failure.{Failure}
 use Rattle.ll_runs.specs.declared.failure.Failure.TheVariants.{CommandLine, Policy, Opening, File, Output, Socket}
 use Rattle.ll_runs.specs.declared.failure.Failure.TheVariants.{NoMemory}
@@ -97,20 +96,6 @@ abbrev pub stop_line : List ℕ → Stop → List ℕ
 stop_line script (AtLine line reply) = script ++ (codes ":" ++ decimal line ++ codes ": ") ++ reply_line reply
 stop_line script (AtOpening reply) = script ++ codes ": before line 1: " ++ reply_line reply
 
--- a run is done, and a strict one may end early
-abbrev pub IsRunEnd : RunOrder → Conclusion → Type 0
-IsRunEnd order Done = ⊤
-IsRunEnd order (Stopped stopped) = order.strict ≡ true
-IsRunEnd order (Judged verdict) = ⊥
-IsRunEnd order (Checked end) = ⊥
-
--- a run ends so, or by any failure but a wrong command line and a listener's
-abbrev pub EndsRun : RunOrder → Result Conclusion Failure → Type 0
-EndsRun order (Ok end) = IsRunEnd order end
-EndsRun order (Err CommandLine) = ⊥
-EndsRun order (Err Socket) = ⊥
-EndsRun order (Err failure) = ⊤
-
 -- saving a history, drawing a picture: its file or memory
 abbrev pub IsOfSaving : Failure → Type 0
 IsOfSaving File = ⊤
@@ -138,20 +123,6 @@ EndsSchedule (Ok (Stopped stopped)) = ⊥
 EndsSchedule (Ok (Judged verdict)) = ⊥
 EndsSchedule (Ok (Checked end)) = ⊥
 EndsSchedule (Err failure) = IsOfDevices failure
-
--- rights are told, or why not: by any failure but a listener's
-abbrev pub EndsRights : Result Conclusion Failure → Type 0
-EndsRights (Ok Done) = ⊤
-EndsRights (Ok (Stopped stopped)) = ⊥
-EndsRights (Ok (Judged verdict)) = ⊥
-EndsRights (Ok (Checked end)) = ⊥
-EndsRights (Err CommandLine) = ⊤
-EndsRights (Err (Policy fault)) = ⊤
-EndsRights (Err Opening) = ⊤
-EndsRights (Err File) = ⊤
-EndsRights (Err Output) = ⊤
-EndsRights (Err Socket) = ⊥
-EndsRights (Err NoMemory) = ⊤
 
 -- Serving is done, or ends by a failure: by a wrong command line only for a profile that is asked for and not there
 abbrev pub EndsServe : Option (List ℕ) → Result Conclusion Failure → Type 0

@@ -1,6 +1,6 @@
 -- What the words and the policy's file set up. own
-use Rattle.std.specs.Prelude.{bytes_eq, ◌≡◌, ◌⊎◌, ⊤, ℕ, true, List, [], Option, Some, None, option_map, slice_get}
-use Rattle.std.specs.Prelude.{false, unwrap_or, is_some, IfSome, string_bytes}
+use Rattle.std.specs.Prelude.{bytes_eq, ◌≡◌, ◌≢◌, ◌⊎◌, ⊤, ℕ, true, List, [], Option, Some, None, option_map, slice_get}
+use Rattle.std.specs.Prelude.{false, unwrap_or, is_some, IfSome, string_bytes, Result, Ok, Err}
 use Rattle.std.specs.Io.KnownBytes.{Appends}
 use Rattle.std.specs.Map.{lookup}
 use Rattle.std.specs.Str.{IsUtf8}
@@ -21,10 +21,10 @@ use Rattle.ll_session.specs.declared.stop.Stop.{Stop}
 use Rattle.ll_runs.specs.declared.conclusion.Conclusion.{Conclusion}
 use Rattle.ll_runs.specs.declared.conclusion.Conclusion.TheVariants.{Checked, Done, Judged, Stopped}
 use Rattle.ll_runs.specs.Failure.{failure_of, IsOfSaving, stop_line}
+use Rattle.ll_runs.specs.Sources.{named, text_in}
 use Rattle.ll_wire.specs.declared.header.Header.{Header}
 use Rattle.ll_wire.specs.declared.header.Version.TheVariants.{Three}
-use Rattle.ll_session.specs.Run.{MayEnd, Runs}
-use Rattle.ll_session.specs.Strict.{RunsStrictly}
+use Rattle.ll_session.specs.Run.{MayEnd, RunsAs}
 use Rattle.ll_wire.specs.Transcript.{Writes}
 use Rattle.ll_audit.specs.Saved.{saved_text}
 use Rattle.ll_options.specs.Options.{RunOrder}
@@ -80,16 +80,6 @@ abbrev pub IsSaved : Option (List ℕ) → Setup → List Entry → (blank old n
 IsSaved None setup entries blank old new = new ≡ old
 IsSaved (Some name) setup entries blank old new = Appends blank new (saved_text (header_of setup) entries)
 
--- A run of the setup that is wanted, where the policy's file has this text: what was read of the script and written,
--- and what is saved, are of one history, which is legal in the setup's tree
-abbrev pub IsDone : RunOrder → List ℕ → (script script' out out' blank file file' : Option (List ℕ)) → Type 0
-IsDone order text script script' out out' blank file file' =
-    (setup : Setup) × (entries : List Entry) × IsSetup order text setup
-    × IsLegal (start setup.rules setup.nodes) entries
-    × IfSome script (λ input. (left : List ℕ) × (script' ≡ Some left)
-    × Writes out out' (λ written. Runs setup input left written entries))
-    × IsSaved order.save setup entries blank file file'
-
 -- what the program concludes from what ended a strict run of the script with this name, if anything did
 abbrev pub IsConcluded : List ℕ → Option Stop → Conclusion → Type 0
 IsConcluded script None end = end ≡ Done
@@ -98,21 +88,18 @@ IsConcluded script (Some stop) Done = ⊥
 IsConcluded script (Some stop) (Judged verdict) = ⊥
 IsConcluded script (Some stop) (Checked end) = ⊥
 
--- the same of a strict run, which is concluded by what ended it
-abbrev pub IsStrictlyDone : RunOrder → List ℕ → Conclusion → (script out out' blank file file' : Option (List ℕ))
-    → Type 0
-IsStrictlyDone order text end script out out' blank file file' =
-    (setup : Setup) × (entries : List Entry) × (stop : Option Stop) × IsSetup order text setup
-    × IsLegal (start setup.rules setup.nodes) entries
-    × IfSome script (λ input. Writes out out' (λ written. RunsStrictly setup input written stop entries))
-    × IsSaved order.save setup entries blank file file' × IsConcluded order.script stop end
-
--- a run that isn't strict is done, and a strict one is concluded so
+-- A run of the setup that is wanted, where the policy's file has this text: what was read of the script and written,
+-- and what is saved, are of one history, which is legal in the setup's tree. It is concluded by what ended it: only a
+-- strict run is ended before its script
 abbrev pub IsRun : RunOrder → List ℕ → Conclusion → (script script' out out' blank file file' : Option (List ℕ))
     → Type 0
 IsRun order text end script script' out out' blank file file' =
-    ((order.strict ≡ false) × (end ≡ Done) × IsDone order text script script' out out' blank file file')
-    ⊎ ((order.strict ≡ true) × IsStrictlyDone order text end script out out' blank file file')
+    (setup : Setup) × (entries : List Entry) × (stop : Option Stop) × IsSetup order text setup
+    × IsLegal (start setup.rules setup.nodes) entries
+    × IfSome script (λ input. Writes out out' (λ written.
+    RunsAs order.strict setup input script' written stop entries))
+    × (order.strict ≡ false → stop ≡ None)
+    × IsSaved order.save setup entries blank file file' × IsConcluded order.script stop end
 
 -- Why nothing is run to its end and saved: a policy is named, and there is no setup by it, or a fault ends the run of
 -- the setup there is, or a history that is to be saved can't be
@@ -122,3 +109,14 @@ MayFail order text failure =
     ⊎ ((setup : Setup) × IsSetup order text setup × (fault : RunFault)
     × MayEnd setup fault × (failure ≡ failure_of fault))
     ⊎ ((is_some order.save ≡ true) × IsOfSaving failure)
+
+-- A run ends so, where the files have these texts: it is done, or stopped, as one of the script that is named; or it
+-- fails, by a wrong command line only for a profile that is asked for and not there, and never by a listener
+abbrev pub EndsRun : (texts : Option (List ℕ) → Option (List ℕ)) → RunOrder → Result Conclusion Failure → Type 0
+EndsRun texts order (Ok end) =
+    (text : List ℕ) × (script' out out' blank file file' : Option (List ℕ))
+    × IfSome (text_in texts order.policy) (λ told. text ≡ told)
+    × IsRun order text end (texts (named order.script)) script' out out' blank file file'
+EndsRun texts order (Err CommandLine) = order.profile ≢ None
+EndsRun texts order (Err Socket) = ⊥
+EndsRun texts order (Err failure) = ⊤

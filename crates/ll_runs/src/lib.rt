@@ -14,7 +14,6 @@ mod program;
 mod shown;
 mod standard;
 mod stopped;
-mod strict;
 mod text;
 
 pub use checked::Checked;

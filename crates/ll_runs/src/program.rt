@@ -1,31 +1,35 @@
 //! Runs and audits, as the program makes them.
 
-ghost use Rattle.std.specs.Prelude.{◌≡◌, ◌≤◌, ℕ, List, OnOk, OnErr, IfOk, IfErr, IfSome, Some};
+ghost use Rattle.std.specs.Prelude.{◌≡◌, ◌≤◌, ◌^◌, ℕ, List, OnOk, OnErr, IfOk, IfErr, IfSome, None, is_some, true};
+ghost use Rattle.std.specs.Prelude.{false};
 ghost use Rattle.std.specs.Io.KnownBytes.{Appends};
 ghost use Rattle.std.specs.List.{All};
 ghost use Rattle.ll_rights.specs.declared.limits.TheConstants.{TREE_NODES};
+ghost use Rattle.ll_wire.specs.Devices.{IsWhole};
 ghost use Rattle.ll_wire.specs.Transcript.{Writes};
 ghost use Rattle.ll_options.specs.Options.{order_in};
 ghost use Rattle.ll_audit.specs.Saved.{Judges, saved_text, verdict_line};
 ghost use Rattle.ll_session.specs.declared.fault.RunFault.{RunFault};
-ghost use Rattle.ll_session.specs.Run.{Runs, Begins, MayEnd};
+ghost use Rattle.ll_session.specs.declared.setup.Setup.{Setup};
+ghost use Rattle.ll_session.specs.Run.{EndsBy, MayEnd, RunsAs};
 ghost use Rattle.ll_wire.specs.Entries.{IsEntry, header_tokens};
 ghost use Rattle.ll_wire.specs.Grammar.{line_of};
 ghost use Rattle.ll_wire.specs.Pieces.{pieces};
-ghost use Rattle.ll_runs.specs.Failure.{failure_of, IsOfDevices, IsOfSaving, IsRunEnd};
-ghost use Rattle.ll_runs.specs.Policy.{header_of, IsDone, IsRun, MayFail};
+ghost use Rattle.ll_runs.specs.declared.failure.Failure.{Failure};
+ghost use Rattle.ll_runs.specs.Failure.{failure_of, IsOfDevices, IsOfSaving};
+ghost use Rattle.ll_runs.specs.Policy.{header_of, IsConcluded, IsRun, IsSaved, MayFail};
 ghost use Rattle.ll_seq.specs.History.{IsLegal};
 ghost use Rattle.ll_seq.specs.State.{start};
 
 use crate::conclusion::Conclusion;
 use crate::failure::Failure;
 use crate::policy::setup_of;
-use crate::strict::run_strictly;
+use crate::stopped::Stopped;
 use ll_audit::{Progress, Verdict, record_in, run_audit, save_in};
 use ll_options::RunOptions;
 use ll_seq::History;
-use ll_session::{Chronicle, Setup, run_kept, run_script};
-use ll_wire::{Destination, Header, Version};
+use ll_session::{Chronicle, Manner, NoKeeper, Run, Setup, Stop, run_over};
+use ll_wire::{Destination, Ends, Header, Pair, Version};
 use std::alloc::Global;
 use std::io::{Read, Write};
 use std::sync::Wait;
@@ -37,43 +41,100 @@ pub struct Recorded<D> {
     pub record: Option<D>,
 }
 
-/// Runs a script over a tree that is set up so. What is left is its history. A record that has the header is kept of it
-/// meanwhile; with a failure, what was answered is in the record.
-pub fn perform<H: Wait, D: Write + Drop, R: Read, W: Write>(
+// A run, and what has ended it before its script, if anything has.
+#[derive(Drop)]
+struct Performed<D> {
+    run: Recorded<D>,
+    stop: Option<Stop>,
+}
+
+impl<D> Performed<D> {
+    // A run of which this record was kept.
+    fn of(run: Run, record: Option<D>) -> Performed<D>
+        ensures history { result.run.history ≡ run.history }
+        ensures stop { result.stop ≡ run.stop }
+    {
+        let Run { history, stop } = run;
+        Performed {
+            run: Recorded { history, record },
+            stop,
+        }
+    }
+}
+
+// Runs a script over a tree that is set up so, strictly or not. A record that has the header is kept of its history
+// meanwhile; with a failure, what was answered is in the record.
+fn perform_over<H: Wait, D: Write + Drop, E: Ends>(
     rt: &H,
     alloc: Global,
     setup: Setup,
+    is_strict: bool,
     record: Option<D>,
-    script: &mut R,
-    out: &mut W,
-) -> Result<Recorded<D>, Failure>
-    ensures transcript { IfOk result (λ run. IfSome (R.remaining script.old) (λ input. (left : List ℕ)
-        × (R.remaining script.new ≡ Some left)
-        × Writes (W.contents out.old) (W.contents out.new) (λ text. Runs setup input left text run.history.entries))) }
-    ensures legal { IfOk result (λ run. IsLegal (start setup.rules setup.nodes) run.history.entries) }
-    ensures entries { IfOk result (λ run. All IsEntry run.history.entries) }
-    ensures beginning { OnErr result (IfSome (R.remaining script.old) (λ input.
-        Writes (W.contents out.old) (W.contents out.new) (Begins setup input))) }
-    ensures failure { IfErr result (λ failure. (fault : RunFault)
-        × MayEnd setup fault × (failure ≡ failure_of fault)) }
+    ends: &mut E,
+) -> Result<Performed<D>, Failure>
+    requires whole { IsWhole (E.devices ends.old) }
+    requires answered { (E.devices ends.old).owed ≡ 0 }
+    requires reads { (E.devices ends.old).reads ≤ 2 ^ 62 }
+    ensures transcript { IfOk result (λ it. IfSome (E.devices ends.old).remaining (λ input.
+        Writes (E.devices ends.old).contents (E.devices ends.new).contents (λ text.
+        RunsAs is_strict setup input (E.devices ends.new).remaining text it.stop it.run.history.entries))) }
+    ensures lax { IfOk result (λ it. is_strict ≡ false → it.stop ≡ None) }
+    ensures legal { IfOk result (λ it. IsLegal (start setup.rules setup.nodes) it.run.history.entries) }
+    ensures entries { IfOk result (λ it. All IsEntry it.run.history.entries) }
+    ensures failure { IfErr result (λ failure. (fault : RunFault) × MayEnd setup fault
+        × (failure ≡ failure_of fault) × EndsBy setup fault (E.devices ends.old) (E.devices ends.new)) }
+    ensures same { E.names ends.new ≡ E.names ends.old }
 {
     let Some(draft) = record else {
-        return match run_script(rt, alloc, setup, script, out) {
-            Ok(history) => Ok(Recorded {
-                history,
-                record: None,
-            }),
+        let manner = Manner {
+            is_strict,
+            keeper: &NoKeeper,
+        };
+        return match run_over(rt, alloc, setup, &manner, ends) {
+            Ok(run) => Ok(Performed::of(run, None)),
             Err(fault) => Err(Failure::of_run(fault)),
         };
     };
     let chronicle = Chronicle::new(alloc, draft);
-    match run_kept(rt, alloc, setup, &chronicle, script, out) {
-        Ok(history) => Ok(Recorded {
-            history,
-            record: Some(chronicle.into_parts().0),
-        }),
+    let manner = Manner {
+        is_strict,
+        keeper: &chronicle,
+    };
+    match run_over(rt, alloc, setup, &manner, ends) {
+        Ok(run) => Ok(Performed::of(run, Some(chronicle.into_parts().0))),
         Err(fault) => Err(Failure::of_run(fault)),
     }
+}
+
+// The same, from a reader to a writer.
+fn perform<H: Wait, D: Write + Drop, R: Read, W: Write>(
+    rt: &H,
+    alloc: Global,
+    setup: Setup,
+    is_strict: bool,
+    record: Option<D>,
+    script: &mut R,
+    out: &mut W,
+) -> Result<Performed<D>, Failure>
+    ensures transcript { IfOk result (λ it. IfSome (R.remaining script.old) (λ input.
+        Writes (W.contents out.old) (W.contents out.new) (λ text.
+        RunsAs is_strict setup input (R.remaining script.new) text it.stop it.run.history.entries))) }
+    ensures lax { IfOk result (λ it. is_strict ≡ false → it.stop ≡ None) }
+    ensures legal { IfOk result (λ it. IsLegal (start setup.rules setup.nodes) it.run.history.entries) }
+    ensures entries { IfOk result (λ it. All IsEntry it.run.history.entries) }
+    ensures failure { IfErr result (λ failure. (fault : RunFault)
+        × MayEnd setup fault × (failure ≡ failure_of fault)) }
+{
+    let mut ends = Pair {
+        reader: script,
+        writer: out,
+        reads: 0,
+        owed: 0,
+        is_answering: true,
+        is_input_broken: false,
+        is_output_broken: false,
+    };
+    perform_over(rt, alloc, setup, is_strict, record, &mut ends)
 }
 
 /// The header of the history of a run that is set up so.
@@ -143,42 +204,44 @@ pub fn save_history<F: Destination>(
     }
 }
 
-// Runs a script to its end as the options ask for it, and saves the history where they name a file for it.
-fn run_to_end<H: Wait, P: Read, R: Read, W: Write, F: Destination>(
-    rt: &H,
+// Saves a history where a file is named for it.
+fn save_where_named<F: Destination>(
     alloc: Global,
     options: &RunOptions,
-    policy: &mut P,
-    script: &mut R,
-    out: &mut W,
+    header: Header,
+    run: Recorded<F::Draft>,
     file: &mut F,
 ) -> Result<(), Failure>
-    ensures done { OnOk result ((text : List ℕ) × IfSome (P.remaining policy.old) (λ told. text ≡ told)
-        × IsDone (order_in options.now) text (R.remaining script.old) (R.remaining script.new)
-        (W.contents out.old) (W.contents out.new)
-        (F.blank file.old) (F.contents file.old) (F.contents file.new)) }
+    requires some { 1 ≤ header.nodes }
+    requires most { header.nodes ≤ TREE_NODES }
+    requires entries { All IsEntry run.history.entries }
+    ensures saved { (setup : Setup) → header ≡ header_of setup → OnOk result (IsSaved (order_in options.now).save setup
+        run.history.entries (F.blank file.old) (F.contents file.old) (F.contents file.new)) }
     ensures kept { OnErr result (F.contents file.new ≡ F.contents file.old) }
-    ensures failure { IfErr result (λ failure. (text : List ℕ) × IfSome (P.remaining policy.old) (λ told. text ≡ told)
-        × MayFail (order_in options.now) text failure) }
+    ensures failure { IfErr result (λ failure. (is_some (order_in options.now).save ≡ true) × IsOfSaving failure) }
 {
-    let setup = match setup_of(alloc, options, policy) {
-        Ok(setup) => setup,
-        Err(failure) => return Err(failure),
-    };
-    let record = begin_record(alloc, header_of(&setup), options.save, file);
-    let header = header_of(&setup);
-    let run = match perform(rt, alloc, setup, record, script, out) {
-        Ok(it) => it,
-        Err(failure) => return Err(failure),
-    };
     if options.save.is_none() {
         return Ok(());
     }
     save_history(alloc, header, run, file)
 }
 
+// What the program concludes from what ended the run of this script.
+fn conclude(alloc: Global, script: &str, stop: Option<Stop>) -> Result<Conclusion, Failure>
+    ensures end { IfOk result (IsConcluded script.now stop) }
+    ensures failure { IfErr result (λ failure. failure ≡ Failure.NoMemory) }
+{
+    let Some(stop) = stop else {
+        return Ok(Conclusion::Done);
+    };
+    match Stopped::of(alloc, script, &stop) {
+        Ok(stopped) => Ok(Conclusion::Stopped(stopped)),
+        Err(_) => Err(Failure::NoMemory),
+    }
+}
+
 /// Runs a script as the options ask for it: where they name a policy, by the one that `policy` reads. Where they name a
-/// file for the history, it is saved into `file`, under the header of its tree. A strict run may end early.
+/// file for the history, it is saved into `file`, under the header of its tree, also where a strict run ends early.
 pub fn run<H: Wait, P: Read, R: Read, W: Write, F: Destination>(
     rt: &H,
     alloc: Global,
@@ -193,15 +256,26 @@ pub fn run<H: Wait, P: Read, R: Read, W: Write, F: Destination>(
         (W.contents out.old) (W.contents out.new)
         (F.blank file.old) (F.contents file.old) (F.contents file.new)) }
     ensures kept { OnErr result (F.contents file.new ≡ F.contents file.old) }
-    ensures end { IfOk result (IsRunEnd (order_in options.now)) }
     ensures failure { IfErr result (λ failure. (text : List ℕ) × IfSome (P.remaining policy.old) (λ told. text ≡ told)
         × MayFail (order_in options.now) text failure) }
 {
-    if options.strict {
-        return run_strictly(rt, alloc, options, policy, script, out, file);
-    }
-    match run_to_end(rt, alloc, options, policy, script, out, file) {
-        Ok(()) => Ok(Conclusion::Done),
+    let setup = match setup_of(alloc, options, policy) {
+        Ok(setup) => setup,
+        Err(failure) => return Err(failure),
+    };
+    let record = begin_record(alloc, header_of(&setup), options.save, file);
+    let header = header_of(&setup);
+    let it = match perform(rt, alloc, setup, options.strict, record, script, out) {
+        Ok(it) => it,
+        Err(failure) => return Err(failure),
+    };
+    let Performed { run, stop } = it;
+    let end = match conclude(alloc, options.script, stop) {
+        Ok(end) => end,
+        Err(failure) => return Err(failure),
+    };
+    match save_where_named(alloc, options, header, run, file) {
+        Ok(()) => Ok(end),
         Err(failure) => Err(failure),
     }
 }

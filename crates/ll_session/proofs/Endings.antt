@@ -1,9 +1,8 @@
 -- Whole runs.
 use Rattle.std.proofs.Common.{◌≡◌, ℕ, List, [], ◌∷◌, ◌++◌, Option, None, Some, ap, refl, sym, subst, ◌∙◌, inl, inr}
-use Rattle.std.proofs.Common.{Bool, false, Result, Ok, Err, ◌<◌, arith, length}
+use Rattle.std.proofs.Common.{Bool, true, false, cond, Result, Ok, Err, arith, is_some}
 use Rattle.std.specs.Prelude.{IfErr, IfSome, OnErr, OnOk, IsErrAnd}
 use Rattle.std.specs.Io.KnownBytes.{Appends}
-use Rattle.ll_client.specs.Entries.{Knows}
 use Rattle.ll_wire.specs.Devices.{Devices}
 use Rattle.ll_wire.specs.Grammar.{reply_line}
 use Rattle.ll_wire.specs.Pieces.{pieces}
@@ -11,27 +10,26 @@ use Rattle.ll_rights.specs.declared.errno.Errno.TheVariants as errno
 use Rattle.ll_seq.specs.declared.reply.Entry.{Entry}
 use Rattle.ll_seq.specs.declared.reply.Reply.{Reply}
 use Rattle.ll_seq.specs.declared.reply.Reply.TheVariants.{Refused}
-use Rattle.ll_seq.specs.declared.rules.Rules.{Rules}
 use Rattle.ll_session.specs.declared.fault.RunFault.{RunFault}
 use Rattle.ll_session.specs.declared.fault.RunFault.TheVariants.{Opening, Session}
 use Rattle.ll_session.specs.declared.setup.Setup.{Setup}
-use Rattle.ll_wire.specs.Reached.{AnswersAll, StartsAll}
 use Rattle.ll_wire.specs.Transcript.{Transcript, Writes}
 use Rattle.ll_wire.specs.declared.fault.SessionFault.{SessionFault}
 use Rattle.ll_wire.specs.declared.fault.SessionFault.TheVariants.{Read, Write, NoMemory, TooLong}
-use Rattle.ll_session.specs.Between.{Leads, between}
 use Rattle.ll_session.specs.PartySession as at
-use Rattle.ll_session.specs.Talk.{Goes}
-use Rattle.ll_session.proofs.Leading.{nothing_leads, so_leads, then_leads}
-use Rattle.ll_session.proofs.Leadings.{goes_so}
-use Rattle.ll_session.specs.Beside.{TellsBeside}
 use Rattle.ll_session.specs.Session.{Answers, Tells}
 use Rattle.ll_session.specs.Opening.{begun, fresh, refused, Opens}
-use Rattle.ll_session.specs.Run.{Begins, BeginsBy, BeginsLines, BeginsRefusal, MayEnd, Runs}
+use Rattle.ll_session.specs.Run.{Begins, BeginsBy, BeginsLines, BeginsRefusal, MayEnd, Runs, RunsAs}
 use Rattle.ll_session.specs.Progress.{IsOfRefusal, RunsTo, StopsAt, without}
+use Rattle.ll_session.specs.Counts.{first_score, stop_at, stop_of}
+use Rattle.ll_session.specs.Strict.{RunsStrictly, TellsStrictly}
+use Rattle.ll_session.specs.declared.score.Score.{Score}
+use Rattle.ll_session.specs.declared.stop.Run.{Run}
+use Rattle.ll_session.specs.declared.stop.Stop.{Stop}
+use Rattle.ll_session.specs.declared.stop.Stop.TheVariants.{AtOpening}
 use Rattle.ll_wire.proofs.WrittenText.{appends-none}
 use Rattle.ll_session.proofs.Coming.{may_be_refused}
-use Rattle.ll_session.proofs.Replies.{answers_count, answers_so}
+use Rattle.ll_session.proofs.Scores.{lax_lines, lines_counted, strict_lines}
 use Rattle.ll_session.proofs.Ways.{AtEnd}
 
 pub some_is : (o : Option (List ℕ)) (P : List ℕ → Type 0) → ((x : List ℕ) → o ≡ Some x → P x) → IfSome o P
@@ -50,142 +48,116 @@ at_ok {P = P} r value is h = subst (λ x. OnOk x P) is h
 pub at_err : {T E P : Type 0} (r : Result T E) (fault : E) → r ≡ Err fault → OnErr r P → P
 at_err {P = P} r fault is h = subst (λ x. OnErr x P) is h
 
--- ---- lines, one after the other
-
-module _ (rules : Rules) (room limit before : ℕ) where
-  one_line : (ks ks' : List Knows) (piece line : List ℕ) → before < length ks
-      → TellsBeside limit before ks piece line ks'
-      → Leads rules room limit ks ks' (λ s t. Tells (without before s) piece line (without before t))
-  one_line ks ks' piece line less h = so_leads rules room limit ks ks'
-      (λ s t. Answers (without before s) piece h.0 (without before t))
-      (λ s t. Tells (without before s) piece line (without before t))
-      (answers_so rules room limit before piece ks ks' h.0 less h.1)
-      (λ history end c s s' answers. (h.0, answers, h.2))
-
-  lines_so : (ks ks' : List Knows) (done : List (List ℕ)) (text : List ℕ) → before < length ks
-      → Transcript (TellsBeside limit before) ks done text ks'
-      → Leads rules room limit ks ks' (λ s t. Transcript Tells (without before s) done text (without before t))
-  lines_so ks ks' [] text less h =
-      subst (λ (l : List Knows). Leads rules room limit ks l
-      (λ s t. Transcript Tells (without before s) [] text (without before t))) (sym h.1)
-      (so_leads rules room limit ks ks (λ s t. t ≡ s)
-      (λ s t. Transcript Tells (without before s) [] text (without before t)) (nothing_leads rules room limit ks)
-      (λ history end c s s' same. (h.0, ap (without before) same)))
-  lines_so ks ks' (piece ∷ done) text less h =
-      let line = h.0 in
-      let mid = h.1 in
-      let rest = h.2 in
-      let more = answers_count limit before ks mid piece h.3.0 h.3.1 in
-      so_leads rules room limit ks ks'
-      (λ s u. (t : at.Session) × Tells (without before s) piece line (without before t)
-      × Transcript Tells (without before t) done rest (without before u))
-      (λ s t. Transcript Tells (without before s) (piece ∷ done) text (without before t))
-      (then_leads rules room limit ks mid ks' (λ s t. Tells (without before s) piece line (without before t))
-      (λ s t. Transcript Tells (without before s) done rest (without before t)) (one_line ks mid piece line less h.3)
-      (lines_so mid ks' done rest (omega (arith, less, more)) h.4))
-      (λ history end c s s' it. (line, without before it.0, rest, it.1, it.2, h.5))
-
-  module _ (ks ks' : List Knows) (old new : Devices) (goes : Goes limit ks ks') (less : before < length ks) where
-    -- the session at this point
-    abbrev point : List Entry → List Knows → at.Session
-    point history is = without before (between rules room limit history is)
-
-    pub runs_to : AnswersAll (TellsBeside limit before) ks ks' old new
-        → Leads rules room limit ks ks' (RunsTo before old new)
-    runs_to all =
-        let on = goes_so rules room limit ks ks' goes in (
-          on.0,
-          λ history end c g s. (
-            (on.1 history end c g s).0,
-            (
-              point history ks',
-              λ input is. let h = all input is in
-                  (h.0, (h.1.0, ((lines_so ks ks' (pieces input) h.1.0 less h.1.1).1 history end c g s).1, h.1.2)),
-              refl,
-            ),
-          ),
-        )
-
-    pub stops_at : StartsAll (TellsBeside limit before) ks ks' old new
-        → Leads rules room limit ks ks' (StopsAt before old new)
-    stops_at start =
-        let on = goes_so rules room limit ks ks' goes in (
-          on.0,
-          λ history end c g s. (
-            (on.1 history end c g s).0,
-            (
-              point history ks',
-              λ input is. let h = start input is in
-                  (h.0, h.1, h.2, h.3, ((lines_so ks ks' h.0 h.2 less h.4).1 history end c g s).1, h.5),
-            ),
-          ),
-        )
-
--- what a session that answers lines tells of itself, told of its clients
-module _ {S : Type 0} (clients : S → List Knows) (before : S → ℕ) (limit : ℕ) where
-  abbrev pub On : S → List ℕ → List ℕ → S → Type 0
-  On a piece line b = TellsBeside limit (before a) (clients a) piece line (clients b) × (before b ≡ before a)
-
-  of_session : (a b : S) (n : ℕ) (done : List (List ℕ)) (text : List ℕ) → before a ≡ n
-      → Transcript On a done text b → Transcript (TellsBeside limit n) (clients a) done text (clients b)
-  of_session a b n [] text is h = (h.0, ap clients h.1)
-  of_session a b n (piece ∷ done) text is h = (
-    h.0,
-    clients h.1,
-    h.2,
-    subst (λ (m : ℕ). TellsBeside limit m (clients a) piece h.0 (clients h.1)) is h.3.0,
-    of_session h.1 b n done h.2 (h.3.1 ∙ is) h.4,
-    h.5,
-  )
-
-  module _ (a b : S) (old new : Devices) where
-    pub answers_all : AnswersAll On a b old new
-        → AnswersAll (TellsBeside limit (before a)) (clients a) (clients b) old new
-    answers_all all = λ input is.
-        let h = all input is in (h.0, (h.1.0, of_session a b (before a) (pieces input) h.1.0 refl h.1.1, h.1.2))
-
-    pub starts_all : StartsAll On a b old new
-        → StartsAll (TellsBeside limit (before a)) (clients a) (clients b) old new
-    starts_all start = λ input is.
-        let h = start input is in
-        (h.0, h.1, h.2, h.3, of_session a b (before a) h.0 h.2 refl h.4, h.5)
-
 -- this of what is read and written, where what the devices read is known
 abbrev pub IfKnown : (old new : Devices) → (List ℕ → List ℕ → Type 0) → Type 0
 IfKnown old new P = IfSome old.remaining (λ input. Writes old.contents new.contents (P input))
 
--- what holds of a session that was opened, after so many clients, and is answered
-pub runs : (setup : Setup) (old new : Devices) (before : ℕ) (entries : List Entry)
-    → AtEnd (λ mid. Opens setup (begun (without before mid))) (RunsTo before old new) entries
-    → IfSome old.remaining (λ input. (left : List ℕ) × (new.remaining ≡ Some left)
-    × Writes old.contents new.contents (λ text. Runs setup input left text entries))
-runs setup old new before entries e = some_is old.remaining _ (λ input is.
-    let first = without before e.0 in
-    let last = e.3.0 in
-    let w = e.3.1 input is in
-    ([], w.0, (w.1.0, (last, inl (first, e.2, refl, w.1.1), sym e.4 ∙ e.3.2), w.1.2)))
+module _ (setup : Setup) (old new : Devices) (before : ℕ) (entries : List Entry) where
+  -- what holds of a session that was opened, after so many clients, and is answered
+  module _ (score : Score) (stop : Option Stop) (is : stop ≡ stop_of score) where
+    lax : (end : Option Reply) → score.end ≡ end
+        → AtEnd (λ mid. Opens setup (begun (without before mid))) (RunsTo before false score old new) entries
+        → IfKnown old new (λ input text. RunsAs false setup input new.remaining text stop entries)
+    lax None none e = some_is old.remaining _ (λ input told.
+        let first = without before e.0 in
+        let h = e.3.1.0 (ap is_some none) input told in
+        let lines = lax_lines (first, first_score false) (e.3.0, score) (pieces input) h.1.0 (refl, refl) h.1.1 in
+        (h.1.0, ([], h.0, (e.3.0, inl (first, e.2, refl, lines.1), sym e.4 ∙ e.3.2)), h.1.2))
+    lax (Some reply) some e = some_is old.remaining _ (λ input told.
+        let first = without before e.0 in
+        let h = e.3.1.1 (ap is_some some) input told in
+        let lines = lax_lines (first, first_score false) (e.3.0, score) h.0 h.2 (refl, refl) h.4 in
+        absurd (let none = lines.0.1 in cc))
 
--- a beginning of the lines of some first pieces
-pub begins_lines : (setup : Setup) (old new : Devices) (before : ℕ) (entries : List Entry)
-    → AtEnd (λ mid. Opens setup (begun (without before mid))) (StopsAt before old new) entries
-    → IfKnown old new (BeginsLines false setup)
-begins_lines setup old new before entries e = some_is old.remaining _ (λ input is.
-    let first = without before e.0 in
-    let last = e.3.0 in
-    let h = e.3.1 input is in (
-      h.5.0,
-      (
-        first,
-        last,
-        h.0,
-        h.1,
-        h.5.1,
-        e.2,
-        h.3,
-        subst (λ (text : List ℕ). Transcript Tells first h.0 text last) h.5.2 h.4,
-      ),
-      h.5.3,
-    ))
+    strictly : (end : Option Reply) → score.end ≡ end
+        → AtEnd (λ mid. Opens setup (begun (without before mid))) (RunsTo before true score old new) entries
+        → IfKnown old new (λ input text. RunsAs true setup input new.remaining text stop entries)
+    strictly None none e = some_is old.remaining _ (λ input told.
+        let first = without before e.0 in
+        let h = e.3.1.0 (ap is_some none) input told in
+        let lines = strict_lines (first, first_score true) (e.3.0, score) (pieces input) h.1.0 refl h.1.1 in (
+          h.1.0,
+          subst (λ (o : Option Stop). RunsStrictly setup input h.1.0 o entries)
+              (sym (is ∙ ap (stop_at score.tally.lines) none)) (
+                e.3.0,
+                (
+                  first,
+                  e.2,
+                  subst (λ (o : Option Reply). Transcript TellsStrictly (first, None) (pieces input) h.1.0 (e.3.0, o))
+                      none lines.1,
+                ),
+                sym e.4 ∙ e.3.2,
+              ),
+          h.1.2,
+        ))
+    strictly (Some reply) some e = some_is old.remaining _ (λ input told.
+        let first = without before e.0 in
+        let h = e.3.1.1 (ap is_some some) input told in
+        let lines = strict_lines (first, first_score true) (e.3.0, score) h.0 h.2 refl h.4 in
+        let many = lines_counted Answers (first, first_score true) (e.3.0, score) h.0 h.2 h.4 in (
+          h.2,
+          subst (λ (o : Option Stop). RunsStrictly setup input h.2 o entries)
+              (sym (is ∙ ap (stop_at score.tally.lines) some)) (
+                e.3.0,
+                (
+                  first,
+                  h.0,
+                  h.1,
+                  e.2,
+                  h.3,
+                  omega (arith, many),
+                  subst (λ (o : Option Reply). Transcript TellsStrictly (first, None) h.0 h.2 (e.3.0, o)) some lines.1,
+                ),
+                sym e.4 ∙ e.3.2,
+              ),
+          h.5,
+        ))
+
+    pub runs : (strict : Bool)
+        → AtEnd (λ mid. Opens setup (begun (without before mid))) (RunsTo before strict score old new) entries
+        → IfKnown old new (λ input text. RunsAs strict setup input new.remaining text stop entries)
+    runs false = lax score.end refl
+    runs true = strictly score.end refl
+
+  -- a beginning of the lines of some first pieces
+  pub begins_lines : (strict : Bool)
+      → AtEnd (λ mid. Opens setup (begun (without before mid))) (StopsAt before strict old new) entries
+      → IfKnown old new (BeginsLines strict setup)
+  begins_lines false e = some_is old.remaining _ (λ input told.
+      let first = without before e.0 in
+      let h = e.3.2 input told in
+      let lines = lax_lines (first, first_score false) (e.3.0, e.3.1) h.0 h.2 (refl, refl) h.4 in (
+        h.5.0,
+        (
+          first,
+          e.3.0,
+          h.0,
+          h.1,
+          h.5.1,
+          e.2,
+          h.3,
+          subst (λ (text : List ℕ). Transcript Tells first h.0 text e.3.0) h.5.2 lines.1,
+        ),
+        h.5.3,
+      ))
+  begins_lines true e = some_is old.remaining _ (λ input told.
+      let first = without before e.0 in
+      let h = e.3.2 input told in
+      let lines = strict_lines (first, first_score true) (e.3.0, e.3.1) h.0 h.2 refl h.4 in (
+        h.5.0,
+        (
+          first,
+          e.3.0,
+          e.3.1.end,
+          h.0,
+          h.1,
+          h.5.1,
+          e.2,
+          h.3,
+          subst (λ (text : List ℕ). Transcript TellsStrictly (first, None) h.0 text (e.3.0, e.3.1.end)) h.5.2 lines.1,
+        ),
+        h.5.3,
+      ))
 
 weaker : (old new : Devices) (P Q : List ℕ → List ℕ → Type 0) → ((input text : List ℕ) → P input text → Q input text)
     → IfKnown old new P → IfKnown old new Q
@@ -236,19 +208,25 @@ begins setup (Session TooLong) input text b = lines_begin setup input text b
 
 -- ---- runs whose opening is refused
 
-pub refusal : (setup : Setup) (old new : Devices) (reply : Reply) (entries : List Entry)
+refusal_runs : (strict : Bool) (setup : Setup) (input : List ℕ) (left : Option (List ℕ)) (reply : Reply)
+    (last : at.Session) (entries : List Entry) → Opens setup (refused reply last) → left ≡ Some input
+    → entries ≡ last.entries
+    → RunsAs strict setup input left (reply_line reply) (cond strict (Some (AtOpening reply)) None) entries
+refusal_runs false setup input left reply last entries is same ends =
+    (input, same, (last, inr (reply, is, refl, refl), ends))
+refusal_runs true setup input left reply last entries is same ends = (last, (is, refl), ends)
+
+pub refusal : (strict : Bool) (setup : Setup) (old new : Devices) (reply : Reply) (entries : List Entry)
+    (stop : Option Stop) → stop ≡ cond strict (Some (AtOpening reply)) None
     → AtEnd (λ t. Opens setup (refused reply t)) (λ s t. t ≡ s) entries
     → Appends old.contents new.contents (reply_line reply) → new.remaining ≡ old.remaining
-    → IfSome old.remaining (λ input. (left : List ℕ) × (new.remaining ≡ Some left)
-    × Writes old.contents new.contents (λ text. Runs setup input left text entries))
-refusal setup old new reply entries e wrote still = some_is old.remaining _ (λ input told. (
-  input,
-  still ∙ told,
-  (
-    reply_line reply,
-    (e.0, inr (reply, e.2, refl, refl), sym e.4 ∙ ap (λ (t : at.Session). t.entries) e.3),
-    wrote,
-  ),
+    → IfKnown old new (λ input text. RunsAs strict setup input new.remaining text stop entries)
+refusal strict setup old new reply entries stop so e wrote still = some_is old.remaining _ (λ input told. (
+  reply_line reply,
+  subst (λ (o : Option Stop). RunsAs strict setup input new.remaining (reply_line reply) o entries) (sym so)
+      (refusal_runs strict setup input new.remaining reply e.0 entries e.2 (still ∙ told)
+      (sym e.4 ∙ ap (λ (t : at.Session). t.entries) e.3)),
+  wrote,
 ))
 
 pub refusal_stops : (strict : Bool) (setup : Setup) (fault : SessionFault) (old new : Devices) (reply : Reply)
@@ -292,3 +270,19 @@ pub of_err : {T : Type 0} (setup : Setup) (r : Result T RunFault) (remaining old
 of_err setup (Ok value) remaining old new h = tt
 of_err setup (Err fault) None old new h = tt
 of_err setup (Err fault) (Some input) old new h = (h.0, begins setup fault input h.0 h.1, h.2)
+
+-- ---- as a script is run, which isn't strict
+
+in_turn : (remaining left old new : Option (List ℕ)) (P : List ℕ → List ℕ → List ℕ → Type 0)
+    → IfSome remaining (λ input. Writes old new (λ text. (it : List ℕ) × (left ≡ Some it) × P input it text))
+    → IfSome remaining (λ input. (it : List ℕ) × (left ≡ Some it) × Writes old new (λ text. P input it text))
+in_turn None left old new P h = tt
+in_turn (Some input) left old new P h = (h.1.0, h.1.1, (h.0, h.1.2, h.2))
+
+pub script_runs : (run : Run) (setup : Setup) (remaining left old new : Option (List ℕ))
+    → IfSome remaining (λ input. Writes old new (λ text.
+    RunsAs false setup input left text run.stop run.history.entries))
+    → IfSome remaining (λ input. (it : List ℕ) × (left ≡ Some it)
+    × Writes old new (λ text. Runs setup input it text run.history.entries))
+script_runs run setup remaining left old new =
+    in_turn remaining left old new (λ input it text. Runs setup input it text run.history.entries)

@@ -1,5 +1,6 @@
 -- What a visit comes to.
-use Rattle.std.proofs.Common.{◌≡◌, ℕ, List, [], ◌∷◌, Option, Result, Ok, Err, refl, subst, sym, inl, inr, true}
+use Rattle.std.proofs.Common.{◌≡◌, ℕ, List, [], ◌∷◌, Option, None, Some, Result, Ok, Err}
+use Rattle.std.proofs.Common.{refl, subst, sym, inl, inr, true, false}
 use Rattle.std.specs.Prelude.{IfErr, OnErr, OnOk}
 use Rattle.std.specs.Io.KnownBytes.{Appends}
 use Rattle.ll_rights.specs.declared.errno.Errno.{Errno}
@@ -9,53 +10,72 @@ use Rattle.ll_seq.specs.declared.reply.Reply.TheVariants.{Refused}
 use Rattle.ll_client.specs.Coming.{HasNoPlace}
 use Rattle.ll_client.specs.Entries.{Knows}
 use Rattle.ll_wire.specs.Devices.{Devices, untouched}
-use Rattle.ll_wire.specs.Reached.{AnswersAll, Blames, StartsAll}
+use Rattle.ll_wire.specs.Reached.{Blames, StartsAll}
 use Rattle.ll_wire.specs.declared.fault.SessionFault.{SessionFault}
 use Rattle.ll_wire.specs.declared.fault.SessionFault.TheVariants.{Read, Write, NoMemory, TooLong}
-use Rattle.ll_session.specs.Beside.{MakesBeside, StopsBeside, TellsBeside}
+use Rattle.ll_session.specs.Beside.{AnswersBeside, MakesBeside, StopsBeside}
+use Rattle.ll_session.specs.Counts.{counted, first_score, nothing}
+use Rattle.ll_session.specs.Strict.{Scores, ScoresTo}
+use Rattle.ll_session.specs.declared.score.Score.{Score}
+use Rattle.ll_session.specs.declared.stream.Outcome.{Outcome}
+use Rattle.ll_session.specs.declared.tally.Tally.{Tally}
+use Rattle.ll_session.proofs.Scores.{counts_all, counts_some}
+use Rattle.std.proofs.lemmas.Result.{on_ok_weaker}
 use Rattle.ll_session.specs.Progress.{IsOfRefusal}
 use Rattle.ll_wire.specs.Grammar.{reply_line}
 use Rattle.ll_session.specs.Visit.{HasCome, IsReady, IsTurnedAway, Starts, StartsBy, Visits}
 
 module _ (limit : ℕ) (profile : List Call) (old new : Devices) where
-  by_fault : (fault : SessionFault) (ks : List Knows) → Starts limit profile old new ks
-      → StartsBy limit profile fault old new ks
-  by_fault Read ks h = h
-  by_fault Write ks h = h
-  by_fault NoMemory ks h = inr h
-  by_fault TooLong ks h = h
+  by_fault : (fault : SessionFault) (refusal : Option Reply) (tally : Tally) (ks : List Knows)
+      → Starts limit profile old new refusal tally ks → StartsBy limit profile fault old new refusal tally ks
+  by_fault Read refusal tally ks h = h
+  by_fault Write refusal tally ks h = h
+  by_fault NoMemory refusal tally ks h = inr h
+  by_fault TooLong refusal tally ks h = h
 
-  -- the session is whole
-  pub visited : {A : Type 0} (ended : Result A SessionFault) (first ks : List Knows) → IsReady limit profile first
-      → OnOk ended (AnswersAll (TellsBeside limit 0) first ks old new) → OnOk ended (Visits limit profile old new ks)
-  visited (Ok value) first ks ready h = inl (first, ready, h)
-  visited (Err fault) first ks ready h = tt
+  module _ {A : Type 0} (ended : Result A SessionFault) (first ks : List Knows) (score : Score)
+      (ready : IsReady limit profile first) where
+    -- the session is whole
+    pub visited : score.end ≡ None
+        → OnOk ended (ScoresTo (AnswersBeside limit 0) (first, first_score false) (ks, score) old new)
+        → OnOk ended (Visits limit profile old new None score.tally ks)
+    visited none h = on_ok_weaker ended (λ to. (first, ready, counts_all limit first ks score old new none to)) h
 
-  -- a fault ends it
-  pub started : {A : Type 0} (ended : Result A SessionFault) (first ks : List Knows) → IsReady limit profile first
-      → OnErr ended (StartsAll (TellsBeside limit 0) first ks old new)
-      → IfErr ended (λ fault. StartsBy limit profile fault old new ks)
-  started (Ok value) first ks ready h = tt
-  started (Err fault) first ks ready h = by_fault fault ks (inl (first, ready, h))
+    -- a fault ends it
+    pub started : OnErr ended
+        (StartsAll (Scores (AnswersBeside limit 0)) (first, first_score false) (ks, score) old new)
+        → IfErr ended (λ fault. StartsBy limit profile fault old new None score.tally ks)
+    started h = go ended h
+      where
+        go : (r : Result A SessionFault) → OnErr r
+            (StartsAll (Scores (AnswersBeside limit 0)) (first, first_score false) (ks, score) old new)
+            → IfErr r (λ fault. StartsBy limit profile fault old new None score.tally ks)
+        go (Ok value) h = tt
+        go (Err fault) h =
+            by_fault fault None score.tally ks (first, ready, counts_some limit first ks score old new h)
 
-  -- the refusal is told
-  pub turned_away : {A : Type 0} (told : Result A SessionFault) (reply : Reply) (ks : List Knows)
-      → IsTurnedAway limit profile reply ks → new.remaining ≡ old.remaining
-      → OnOk told (Appends old.contents new.contents (reply_line reply)) → OnOk told (Visits limit profile old new ks)
-  turned_away (Ok value) reply ks turned same h = inr (reply, turned, same, h)
-  turned_away (Err fault) reply ks turned same h = tt
+  module _ {A : Type 0} (refusal : Option Reply) (tally : Tally) (reply : Reply) (ks : List Knows)
+      (is : refusal ≡ Some reply) (one : tally ≡ counted nothing reply) (turned : IsTurnedAway limit profile reply ks)
+      (same : new.remaining ≡ old.remaining) where
+    -- the refusal is told
+    pub turned_away : (told : Result A SessionFault)
+        → OnOk told (Appends old.contents new.contents (reply_line reply))
+        → OnOk told (Visits limit profile old new refusal tally ks)
+    turned_away (Ok value) h =
+        subst (λ (o : Option Reply). Visits limit profile old new o tally ks) (sym is) (turned, one, same, h)
+    turned_away (Err fault) h = tt
 
-  -- a fault keeps it from being told
-  pub cut_short : {A : Type 0} (told : Result A SessionFault) (reply : Reply) (ks : List Knows)
-      → IsTurnedAway limit profile reply ks → new.remaining ≡ old.remaining
-      → IfErr told (λ fault. IsOfRefusal fault old.contents new.contents (reply_line reply))
-      → IfErr told (λ fault. StartsBy limit profile fault old new ks)
-  cut_short (Ok value) reply ks turned same h = tt
-  cut_short (Err Read) reply ks turned same h = absurd h
-  cut_short (Err Write) reply ks turned same h = inr (reply, turned, same, h)
-  cut_short (Err NoMemory) reply ks turned same h =
-      inr (inr (reply, turned, same, ([], reply_line reply, refl, h)))
-  cut_short (Err TooLong) reply ks turned same h = absurd h
+    -- a fault keeps it from being told
+    pub cut_short : (told : Result A SessionFault)
+        → IfErr told (λ fault. IsOfRefusal fault old.contents new.contents (reply_line reply))
+        → IfErr told (λ fault. StartsBy limit profile fault old new refusal tally ks)
+    cut_short (Ok value) h = tt
+    cut_short (Err Read) h = absurd h
+    cut_short (Err Write) h =
+        subst (λ (o : Option Reply). Starts limit profile old new o tally ks) (sym is) (turned, one, same, h)
+    cut_short (Err NoMemory) h = inr (subst (λ (o : Option Reply). Starts limit profile old new o tally ks) (sym is)
+        (turned, one, same, ([], reply_line reply, refl, h)))
+    cut_short (Err TooLong) h = absurd h
 
 -- nobody comes for this reason
 pub no_place : (limit : ℕ) (profile : List Call) (errno : Errno) (ks : List Knows) → HasNoPlace errno → ks ≡ []
@@ -85,21 +105,24 @@ both : {A : Type 0} (P Q : SessionFault → Type 0) (ended : Result A SessionFau
 both P Q (Ok value) p q = tt
 both P Q (Err fault) p q = (p, q)
 
--- what `WasServed` says of a stream, by what was left of it and written before and is afterwards
-abbrev pub IsServed : {A : Type 0} → (limit : ℕ) → (profile : List Call) → Result A SessionFault
+-- what `WasServedSo` says of a stream, by what was left of it and written before and is afterwards
+abbrev pub IsServed : (limit : ℕ) → (profile : List Call) → Outcome → Option Reply
     → (left written left' written' : Option (List ℕ)) → List Knows → Type 0
-IsServed limit profile ended left written left' written' ks =
+IsServed limit profile outcome refusal left written left' written' ks =
     let old = untouched left written true in
-    (new : Devices) × (new.remaining ≡ left') × (new.contents ≡ written') × OnOk ended (Visits limit profile old new ks)
-    × IfErr ended (λ fault. StartsBy limit profile fault old new ks × Blames fault old new)
+    (new : Devices) × (new.remaining ≡ left') × (new.contents ≡ written')
+    × OnOk outcome.ended (Visits limit profile old new refusal outcome.tally ks)
+    × IfErr outcome.ended
+    (λ fault. StartsBy limit profile fault old new refusal outcome.tally ks × Blames fault old new)
 
 -- by a reader and a writer, with an equal profile
-pub served_so : {A : Type 0} (limit : ℕ) (copy profile : List Call) (ended : Result A SessionFault)
+pub served_so : (limit : ℕ) (copy profile : List Call) (outcome : Outcome) (refusal : Option Reply)
     (left written : Option (List ℕ)) (new : Devices) (ks : List Knows) → copy ≡ profile
-    → OnOk ended (Visits limit copy (untouched left written true) new ks)
-    → IfErr ended (λ fault. StartsBy limit copy fault (untouched left written true) new ks)
-    → IfErr ended (λ fault. Blames fault (untouched left written true) new)
-    → IsServed limit profile ended left written new.remaining new.contents ks
-served_so limit copy profile ended left written new ks same ok err blames =
-    subst (λ (calls : List Call). IsServed limit calls ended left written new.remaining new.contents ks) same
-    (new, refl, refl, ok, both _ _ ended err blames)
+    → OnOk outcome.ended (Visits limit copy (untouched left written true) new refusal outcome.tally ks)
+    → IfErr outcome.ended
+    (λ fault. StartsBy limit copy fault (untouched left written true) new refusal outcome.tally ks)
+    → IfErr outcome.ended (λ fault. Blames fault (untouched left written true) new)
+    → IsServed limit profile outcome refusal left written new.remaining new.contents ks
+served_so limit copy profile outcome refusal left written new ks same ok err blames =
+    subst (λ (calls : List Call). IsServed limit calls outcome refusal left written new.remaining new.contents ks) same
+    (new, refl, refl, ok, both _ _ outcome.ended err blames)

@@ -7,7 +7,9 @@ use Rattle.ll_seq.specs.declared.reply.Reply.{Reply}
 use Rattle.ll_seq.specs.declared.reply.Reply.TheVariants.{Refused, Spawned}
 use Rattle.ll_plain.specs.Refusal.{is_refusal}
 use Rattle.ll_client.specs.Entries.{Knows}
+use Rattle.ll_session.specs.Counts.{counted}
 use Rattle.ll_session.specs.Talk.{AsksFor, Looks, seen_by}
+use Rattle.ll_session.specs.declared.tally.Tally.{Tally}
 use Rattle.ll_wire.specs.Grammar.{SpellsCommand, reply_line}
 use Rattle.ll_wire.specs.Reads.{holds_text}
 
@@ -32,10 +34,11 @@ pub data AnswersBeside (limit before : ℕ) (ks : List Knows) (piece : List ℕ)
   bad : ((n : ℕ) (call : Call) → SpellsCommand piece n call → length ks < before + n)
       → AnswersBeside limit before ks piece (Refused BadLine) ks
 
--- the piece gets this line
-abbrev pub TellsBeside : (limit before : ℕ) → List Knows → (piece line : List ℕ) → List Knows → Type 0
-TellsBeside limit before ks piece line ks' =
-    (reply : Reply) × AnswersBeside limit before ks piece reply ks' × (line ≡ reply_line reply)
+-- the piece gets this line, and its reply is counted
+abbrev pub CountsBeside : (limit before : ℕ) → List Knows × Tally → (piece line : List ℕ) → List Knows × Tally → Type 0
+CountsBeside limit before s piece line t =
+    (reply : Reply) × AnswersBeside limit before s.0 piece reply t.0 × (line ≡ reply_line reply)
+    × (t.1 ≡ counted s.1 reply)
 
 -- The client at this place makes these calls in turn, and none is refused
 abbrev pub MakesBeside : (limit : ℕ) → List Knows → (place : ℕ) → List Call → List Knows → Type 0

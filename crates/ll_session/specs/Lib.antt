@@ -1,5 +1,7 @@
 pub mod Beside
 pub mod Between
+pub mod CallsRun
+pub mod Counts
 pub mod Growth
 pub mod Keeping
 pub mod Laws
@@ -10,6 +12,5 @@ pub mod Rooms
 pub mod Run
 pub mod Session
 pub mod Strict
-pub mod StrictProgress
 pub mod Talk
 pub mod Visit

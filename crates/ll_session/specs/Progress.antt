@@ -1,6 +1,6 @@
 -- How far a run has come. (Support of the functions below `run_script`: of public contracts only that of `write_reply`
 -- cites this file.)
-use Rattle.std.specs.Prelude.{◌≡◌, ◌≢◌, ◌⊎◌, ◌<◌, ◌≤◌, ℕ, List, [], drop, Option, refl}
+use Rattle.std.specs.Prelude.{◌≡◌, ◌≢◌, ◌⊎◌, ◌<◌, ◌≤◌, ℕ, Bool, List, [], drop, Option, refl}
 use Rattle.std.proofs.Common.{◌∙◌}
 use Rattle.std.specs.Io.KnownBytes.{Appends}
 use Rattle.ll_rights.specs.declared.errno.Errno.{Errno}
@@ -12,7 +12,7 @@ use Rattle.ll_seq.specs.declared.rules.Rules.{Rules}
 use Rattle.ll_client.specs.Closed.{IsClosed}
 use Rattle.ll_client.specs.Entries.{Knows}
 use Rattle.ll_wire.specs.Devices.{Devices}
-use Rattle.ll_wire.specs.Reached.{AnswersAll, StartsAll}
+use Rattle.ll_wire.specs.Reached.{StartsAll}
 use Rattle.ll_wire.specs.declared.fault.SessionFault.{SessionFault}
 use Rattle.ll_wire.specs.declared.fault.SessionFault.TheVariants as fault
 use Rattle.ll_wire.specs.Writing.{AppendsFront}
@@ -24,7 +24,10 @@ use Rattle.ll_session.specs.declared.opening.Refusal.TheVariants.{AtCall, AtConn
 use Rattle.ll_session.specs.declared.opening.Shut.{Shut}
 use Rattle.ll_session.specs.declared.opening.Shut.TheVariants as shut
 use Rattle.ll_session.specs.Opening.{Coming, Opening, refused, stopped, unconnected, unmade}
-use Rattle.ll_session.specs.Session.{Tells}
+use Rattle.ll_session.specs.Counts.{StaysAs, first_score}
+use Rattle.ll_session.specs.Session.{Answers}
+use Rattle.ll_session.specs.Strict.{Scores, ScoresTo}
+use Rattle.ll_session.specs.declared.score.Score.{Score}
 
 -- ---- openings
 
@@ -67,19 +70,38 @@ pub stands_on : (limit i j k : ℕ) (is js ks : List Knows) → StandsOn limit i
     → StandsOn limit i is k ks
 stands_on limit i j k is js ks one two = (goes_on limit is js ks one.0 two.0, two.1 ∙ one.1)
 
+-- the same of one with this score, which stays strict or not
+abbrev pub ScoreStandsOn : (limit before : ℕ) → List Knows → Score → ℕ → List Knows → Score → Type 0
+ScoreStandsOn limit before ks score before' ks' score' =
+    StandsOn limit before ks before' ks' × StaysAs score score'
+
+pub score_stands : (limit before : ℕ) (ks : List Knows) (score : Score)
+    → ScoreStandsOn limit before ks score before ks score
+score_stands limit before ks score = (stands limit before ks, (refl, λ lax. refl))
+
+pub score_stands_on : (limit i j k : ℕ) (is js ks : List Knows) (a b c : Score) → ScoreStandsOn limit i is a j js b
+    → ScoreStandsOn limit j js b k ks c → ScoreStandsOn limit i is a k ks c
+score_stands_on limit i j k is js ks a b c one two = (
+  stands_on limit i j k is js ks one.0 two.0,
+  (two.1.0 ∙ one.1.0, λ lax. two.1.1 (one.1.0 ∙ lax) ∙ one.1.1 lax),
+)
+
 -- The tree was closed with these entries, and to the clients that it had then these came on, so
 abbrev pub Closes : Rules → (room limit : ℕ) → List Knows → List Entry → (Session → Session → Type 0) → Type 0
 Closes rules room limit ks entries Holds =
     (end : List Knows) × IsClosed rules room limit entries end × Leads rules room limit ks end Holds
 
--- all lines of the session are answered, and it ends with the entries of t
-abbrev pub RunsTo : ℕ → (old new : Devices) → (s t : Session) → Type 0
-RunsTo before old new s t =
-    (last : Session) × AnswersAll Tells (without before s) last old new × (t.entries ≡ last.entries)
+-- the session's lines are answered up to what has ended it, and it ends with the entries of t
+abbrev pub RunsTo : ℕ → (strict : Bool) → Score → (old new : Devices) → (s t : Session) → Type 0
+RunsTo before strict score old new s t =
+    (last : Session) × ScoresTo Answers (without before s, first_score strict) (last, score) old new
+    × (t.entries ≡ last.entries)
 
 -- some first lines of it are
-abbrev pub StopsAt : ℕ → (old new : Devices) → (s t : Session) → Type 0
-StopsAt before old new s t = (last : Session) × StartsAll Tells (without before s) last old new
+abbrev pub StopsAt : ℕ → (strict : Bool) → (old new : Devices) → (s t : Session) → Type 0
+StopsAt before strict old new s t =
+    (last : Session) × (score : Score)
+    × StartsAll (Scores Answers) (without before s, first_score strict) (last, score) old new
 
 -- what is written of a refusal's line that this fault kept from being written whole: a beginning where the write
 -- failed, and nothing where memory was wanted

@@ -1,5 +1,5 @@
 -- A whole run of a script. own
-use Rattle.std.specs.Prelude.{⊤, ◌≡◌, ℕ, Bool, true, false, List, [], ◌++◌, ◌⊎◌, Option, None}
+use Rattle.std.specs.Prelude.{⊤, ◌≡◌, ℕ, Bool, true, false, List, [], ◌++◌, ◌⊎◌, Option, Some, None}
 use Rattle.ll_seq.specs.declared.reply.Entry.{Entry}
 use Rattle.ll_seq.specs.declared.reply.Reply.{Reply}
 use Rattle.ll_seq.specs.State.{start}
@@ -16,7 +16,8 @@ use Rattle.ll_wire.specs.declared.fault.SessionFault.TheVariants as fault
 use Rattle.ll_session.specs.PartySession.{Session}
 use Rattle.ll_session.specs.Session.{Tells}
 use Rattle.ll_session.specs.Opening.{Opens, begun, refused, stopped}
-use Rattle.ll_session.specs.Strict.{TellsStrictly}
+use Rattle.ll_session.specs.Strict.{RunsStrictly, TellsStrictly}
+use Rattle.ll_session.specs.declared.stop.Stop.{Stop}
 
 -- the opening may begin a session
 abbrev pub MayBegin : Setup → Type 0
@@ -44,6 +45,13 @@ RunsOver setup done left text last =
 abbrev pub Runs : Setup → (input left text : List ℕ) → List Entry → Type 0
 Runs setup input left text entries =
     (last : Session) × RunsOver setup (pieces input) (pieces left) text last × (entries ≡ last.entries)
+
+-- what a run of this setup reads and writes, strict or not, and what it leaves
+abbrev pub RunsAs : (strict : Bool) → Setup → (input : List ℕ) → (remaining : Option (List ℕ)) → (text : List ℕ)
+    → Option Stop → List Entry → Type 0
+RunsAs false setup input remaining text stop entries =
+    (left : List ℕ) × (remaining ≡ Some left) × Runs setup input left text entries
+RunsAs true setup input remaining text stop entries = RunsStrictly setup input text stop entries
 
 -- a run that a fault ends has written a beginning of what one over some first pieces writes
 abbrev pub Begins : Setup → (input text : List ℕ) → Type 0

@@ -1,56 +1,45 @@
 -- Strict runs: they end at the first line that says nothing, and so that nothing goes on with fewer layers than were
 -- asked for. own
-use Rattle.std.specs.Prelude.{◌≡◌, ◌⊎◌, ◌&&◌, ℕ, Bool, true, false, List, ◌++◌, length, Option, Some, None}
-use Rattle.ll_rights.specs.declared.errno.Errno.TheVariants.{BadLine, HistoryFull}
+use Rattle.std.specs.Prelude.{◌≡◌, ◌⊎◌, ◌&&◌, ℕ, Bool, true, false, List, ◌++◌, length, Option, Some, None, is_some}
+use Rattle.ll_rights.specs.declared.errno.Errno.TheVariants.{BadLine, HistoryFull, NoMemory}
 use Rattle.ll_seq.specs.declared.call.Call.{Call}
-use Rattle.ll_seq.specs.declared.call.Call.TheVariants.{Make, Open, Read, Write, Ftruncate, Close, Truncate, ReadDir}
-use Rattle.ll_seq.specs.declared.call.Call.TheVariants.{Stat, Exec, Unlink, Rmdir, Rename, RenameNoreplace, Exchange}
-use Rattle.ll_seq.specs.declared.call.Call.TheVariants.{Link, Ruleset, Allow, Confine, Spawn, Connect}
+use Rattle.ll_seq.specs.declared.call.Call.TheVariants.{Allow, Confine, Ruleset, Spawn}
 use Rattle.ll_seq.specs.declared.reply.Entry.{Entry}
 use Rattle.ll_seq.specs.declared.reply.Reply.{Reply}
 use Rattle.ll_seq.specs.declared.reply.Reply.TheVariants.{Refused}
-use Rattle.ll_client.specs.Entries.{Knows}
+use Rattle.ll_wire.specs.Devices.{Devices}
+use Rattle.ll_wire.specs.Reached.{AnswersAll, AnswersFirst}
 use Rattle.ll_wire.specs.Transcript.{Transcript}
 use Rattle.ll_plain.specs.Refusal.{is_refusal}
 use Rattle.ll_session.specs.PartySession.{Session}
 use Rattle.ll_wire.specs.Grammar.{SpellsCommand, reply_line}
 use Rattle.ll_wire.specs.Pieces.{pieces}
-use Rattle.ll_session.specs.Beside.{AnswersBeside}
+use Rattle.ll_session.specs.Counts.{counted}
 use Rattle.ll_session.specs.Opening.{Opens, begun, refused}
 use Rattle.ll_session.specs.Session.{Answers}
+use Rattle.ll_session.specs.declared.score.Score.{Score}
 use Rattle.ll_session.specs.declared.setup.Setup.{Setup}
 use Rattle.ll_session.specs.declared.stop.Stop.{Stop}
 use Rattle.ll_session.specs.declared.stop.Stop.TheVariants.{AtOpening, AtLine}
 
 -- the calls by which layers are made, and clients that have them
 abbrev pub is_of_layers : Call → Bool
-is_of_layers (Make kind target) = false
-is_of_layers (Open mode target) = false
-is_of_layers (Read fd offset count) = false
-is_of_layers (Write fd offset bytes) = false
-is_of_layers (Ftruncate fd size) = false
-is_of_layers (Close fd) = false
-is_of_layers (Truncate target size) = false
-is_of_layers (ReadDir target) = false
-is_of_layers (Stat target) = false
-is_of_layers (Exec target) = false
-is_of_layers (Unlink target) = false
-is_of_layers (Rmdir target) = false
-is_of_layers (Rename old new) = false
-is_of_layers (RenameNoreplace old new) = false
-is_of_layers (Exchange old new) = false
-is_of_layers (Link old new) = false
 is_of_layers (Ruleset rights) = true
 is_of_layers (Allow number target rights) = true
 is_of_layers (Confine number) = true
 is_of_layers Spawn = true
-is_of_layers Connect = false
+is_of_layers call = false
 
--- this reply to the call ends a strict run
+-- this reply ends a strict run, to a call of layers or to another one
+abbrev pub ends_strictly : (of_layers : Bool) → Reply → Bool
+ends_strictly of_layers (Refused BadLine) = true
+ends_strictly of_layers (Refused HistoryFull) = true
+ends_strictly of_layers (Refused NoMemory) = true
+ends_strictly of_layers reply = of_layers && is_refusal reply
+
+-- this reply to the call does
 abbrev pub is_end : Call → Reply → Bool
-is_end call (Refused BadLine) = true
-is_end call (Refused HistoryFull) = true
-is_end call reply = is_of_layers call && is_refusal reply
+is_end call reply = ends_strictly (is_of_layers call) reply
 
 -- the reply to this piece, where it ends a strict run
 abbrev pub IsEnd : (piece : List ℕ) → Reply → Option Reply → Type 0
@@ -59,20 +48,33 @@ IsEnd piece reply (Some last) =
     (last ≡ reply) × ((reply ≡ Refused BadLine)
     ⊎ ((n : ℕ) × (call : Call) × SpellsCommand piece n call × (is_end call reply ≡ true)))
 
--- Where no reply has ended the run yet, the piece gets this line, whose reply may end it
+-- the same of a session that may be strict: no reply ends another one
+abbrev pub EndsAt : (strict : Bool) → (piece : List ℕ) → Reply → Option Reply → Type 0
+EndsAt false piece reply end = end ≡ None
+EndsAt true piece reply end = IsEnd piece reply end
+
 module _ {S : Type 0} (Answers : S → List ℕ → Reply → S → Type 0) where
+  -- Where no reply has ended the run yet, the piece gets this line, whose reply may end it
   abbrev pub GoesOn : S × Option Reply → (piece line : List ℕ) → S × Option Reply → Type 0
   GoesOn s piece line t =
       (s.1 ≡ None) × ((reply : Reply) × Answers s.0 piece reply t.0 × (line ≡ reply_line reply) × IsEnd piece reply t.1)
 
--- the same of a session of a tree that nobody else calls on
+  -- the same of a session that may be strict, and counts the reply
+  abbrev pub Scores : S × Score → (piece line : List ℕ) → S × Score → Type 0
+  Scores s piece line t =
+      (s.1.end ≡ None) × ((reply : Reply) × Answers s.0 piece reply t.0 × (line ≡ reply_line reply)
+      × EndsAt s.1.is_strict piece reply t.1.end × (t.1.tally ≡ counted s.1.tally reply)
+      × (t.1.is_strict ≡ s.1.is_strict))
+
+  -- Lines are answered from s to t: all, or those up to the one that has ended the session
+  abbrev pub ScoresTo : (s t : S × Score) → (old new : Devices) → Type 0
+  ScoresTo s t old new =
+      (is_some t.1.end ≡ false → AnswersAll Scores s t old new)
+      × (is_some t.1.end ≡ true → AnswersFirst Scores s t old new)
+
+-- so does a strict session of a tree that nobody else calls on
 abbrev pub TellsStrictly : Session × Option Reply → (piece line : List ℕ) → Session × Option Reply → Type 0
 TellsStrictly = GoesOn Answers
-
--- and of one beside which others call, of which the first so many clients came before it
-abbrev pub TellsStrictlyBeside : (limit before : ℕ) → List Knows × Option Reply → (piece line : List ℕ)
-    → List Knows × Option Reply → Type 0
-TellsStrictlyBeside limit before = GoesOn (AnswersBeside limit before)
 
 -- A strict run over these pieces writes the replies to all, or to those up to the line that ends it; or the refusal of
 -- its opening. Lines are counted from 1
@@ -89,9 +91,3 @@ RunsStrictlyOver setup pieces text (Some (AtOpening reply)) last =
 abbrev pub RunsStrictly : Setup → (input text : List ℕ) → Option Stop → List Entry → Type 0
 RunsStrictly setup input text stop entries =
     (last : Session) × RunsStrictlyOver setup (pieces input) text stop last × (entries ≡ last.entries)
-
--- one that a fault ends has written a beginning of what one over some first pieces writes
-abbrev pub BeginsStrictly : Setup → (input text : List ℕ) → Type 0
-BeginsStrictly setup input text =
-    (done more : List (List ℕ)) × (back : List ℕ) × (stop : Option Stop) × (last : Session)
-    × (pieces input ≡ done ++ more) × RunsStrictlyOver setup done (text ++ back) stop last

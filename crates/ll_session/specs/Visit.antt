@@ -1,6 +1,6 @@
 -- One stream's session: a client comes, makes the calls of its profile, and answers the stream's lines, while others
 -- call on the same tree. What becomes of it is told by what its clients know. own
-use Rattle.std.specs.Prelude.{◌≡◌, ◌⊎◌, ℕ, List, [], ◌∷◌, Option, None, true, Result, OnOk, IfErr}
+use Rattle.std.specs.Prelude.{◌≡◌, ◌⊎◌, ℕ, List, [], ◌∷◌, Option, None, Some, true, OnOk, IfErr}
 use Rattle.std.specs.Io.KnownBytes.{Appends}
 use Rattle.ll_rights.specs.declared.errno.Errno.{Errno}
 use Rattle.ll_seq.specs.declared.call.Call.{Call}
@@ -14,7 +14,10 @@ use Rattle.ll_wire.specs.Reached.{AnswersAll, Blames, StartsAll}
 use Rattle.ll_wire.specs.declared.fault.SessionFault.{SessionFault}
 use Rattle.ll_wire.specs.declared.fault.SessionFault.TheVariants as fault
 use Rattle.ll_session.specs.declared.stream.Stream.{Stream}
-use Rattle.ll_session.specs.Beside.{MakesBeside, StopsBeside, TellsBeside}
+use Rattle.ll_session.specs.Beside.{CountsBeside, MakesBeside, StopsBeside}
+use Rattle.ll_session.specs.Counts.{counted, nothing}
+use Rattle.ll_session.specs.declared.stream.Outcome.{Outcome}
+use Rattle.ll_session.specs.declared.tally.Tally.{Tally}
 use Rattle.ll_wire.specs.Grammar.{reply_line}
 use Rattle.ll_wire.specs.Writing.{AppendsFront}
 
@@ -33,30 +36,40 @@ module _ (limit : ℕ) (profile : List Call) where
       ((errno : Errno) × HasNoPlace errno × (reply ≡ Refused errno) × (ks ≡ []))
       ⊎ ((me : Knows) × HasCome me × StopsBeside limit (me ∷ []) 0 profile reply ks)
 
-  -- A whole visit answered all that it read, or read nothing and told the refusal
-  abbrev pub Visits : (old new : Devices) → List Knows → Type 0
-  Visits old new ks =
-      ((first : List Knows) × IsReady first × AnswersAll (TellsBeside limit 0) first ks old new)
-      ⊎ ((reply : Reply) × IsTurnedAway reply ks × (new.remaining ≡ old.remaining)
-      × Appends old.contents new.contents (reply_line reply))
+  -- A whole visit answered all that it read, and counted it; or it read nothing and told the refusal
+  abbrev pub Visits : (old new : Devices) → Option Reply → Tally → List Knows → Type 0
+  Visits old new None tally ks =
+      (first : List Knows) × IsReady first × AnswersAll (CountsBeside limit 0) (first, nothing) (ks, tally) old new
+  Visits old new (Some reply) tally ks =
+      IsTurnedAway reply ks × (tally ≡ counted nothing reply) × (new.remaining ≡ old.remaining)
+      × Appends old.contents new.contents (reply_line reply)
 
   -- A visit that a fault ends answered some first lines, or told a beginning of the refusal
-  abbrev pub Starts : (old new : Devices) → List Knows → Type 0
-  Starts old new ks =
-      ((first : List Knows) × IsReady first × StartsAll (TellsBeside limit 0) first ks old new)
-      ⊎ ((reply : Reply) × IsTurnedAway reply ks × (new.remaining ≡ old.remaining)
-      × AppendsFront old.contents new.contents (reply_line reply))
+  abbrev pub Starts : (old new : Devices) → Option Reply → Tally → List Knows → Type 0
+  Starts old new None tally ks =
+      (first : List Knows) × IsReady first × StartsAll (CountsBeside limit 0) (first, nothing) (ks, tally) old new
+  Starts old new (Some reply) tally ks =
+      IsTurnedAway reply ks × (tally ≡ counted nothing reply) × (new.remaining ≡ old.remaining)
+      × AppendsFront old.contents new.contents (reply_line reply)
 
   -- with this fault; before anybody has come, memory may be wanted
-  abbrev pub StartsBy : SessionFault → (old new : Devices) → List Knows → Type 0
-  StartsBy fault.NoMemory old new ks = ((ks ≡ []) × (new ≡ old)) ⊎ Starts old new ks
-  StartsBy other old new ks = Starts old new ks
+  abbrev pub StartsBy : SessionFault → (old new : Devices) → Option Reply → Tally → List Knows → Type 0
+  StartsBy fault.NoMemory old new refusal tally ks =
+      ((ks ≡ []) × (new ≡ old) × (refusal ≡ None) × (tally ≡ nothing)) ⊎ Starts old new refusal tally ks
+  StartsBy other old new refusal tally ks = Starts old new refusal tally ks
 
-  -- A stream was served and ended so, with these clients: by what its reader tells to be left, and its writer to be
-  -- written
-  abbrev pub WasServed : {R W A : Type 0} → (R → Option (List ℕ)) → (W → Option (List ℕ)) → Result A SessionFault
+  -- A stream was served and ended so, with these clients, or its client was turned away by this reply: by what its
+  -- reader tells to be left, and its writer to be written
+  abbrev pub WasServedSo : {R W : Type 0} → (R → Option (List ℕ)) → (W → Option (List ℕ)) → Outcome → Option Reply
       → (came went : Stream R W) → List Knows → Type 0
-  WasServed remaining contents ended came went ks =
+  WasServedSo remaining contents outcome refusal came went ks =
       let old = untouched (remaining came.reader) (contents came.writer) true in
       (new : Devices) × (new.remaining ≡ remaining went.reader) × (new.contents ≡ contents went.writer)
-      × OnOk ended (Visits old new ks) × IfErr ended (λ fault. StartsBy fault old new ks × Blames fault old new)
+      × OnOk outcome.ended (Visits old new refusal outcome.tally ks)
+      × IfErr outcome.ended (λ fault. StartsBy fault old new refusal outcome.tally ks × Blames fault old new)
+
+  -- it was served so, whether its client was turned away or not
+  abbrev pub WasServed : {R W : Type 0} → (R → Option (List ℕ)) → (W → Option (List ℕ)) → Outcome
+      → (came went : Stream R W) → List Knows → Type 0
+  WasServed remaining contents outcome came went ks =
+      (refusal : Option Reply) × WasServedSo remaining contents outcome refusal came went ks

@@ -90,7 +90,7 @@ pub fn serve_on<
     ensures workers { IfOk result (λ rooms. length rooms.items ≡ workers) }
     ensures most { IfOk result (λ rooms. All (λ room. length room.items ≤ connections) rooms.items) }
     ensures served { IfOk result (λ rooms. All (λ room. All (λ it. WasServed N.limit host.now.profile.now
-        L.In.remaining L.Out.contents it.ended it.came.value it.went.value (map (λ c. c.rider) it.clients.items))
+        L.In.remaining L.Out.contents it.outcome it.came.value it.went.value (map (λ c. c.rider) it.clients.items))
         room.items) rooms.items) }
 {
     let (sender, streams) = unbounded(alloc)?;

@@ -17,8 +17,8 @@ fn copied(alloc: Global, target: &Target) -> Result<Target, AllocError>
     }
 }
 
-// The same call.
-fn copy_call(alloc: Global, call: &Call) -> Result<Call, AllocError>
+/// Copies a call. Errors: memory ran out.
+pub fn copy_call(alloc: Global, call: &Call) -> Result<Call, AllocError>
     ensures { IfOk result (λ copy. copy ≡ call.now) }
 {
     Ok(match call {

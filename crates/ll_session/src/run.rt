@@ -1,8 +1,7 @@
 //! Runs of scripts.
 
-ghost use Rattle.std.specs.Prelude.{◌≡◌, ◌+◌, ◌<◌, ◌≤◌, ◌^◌, [], false, length, All, IfOk, IfErr, ℕ, List, OnOk, OnErr};
-ghost use Rattle.std.specs.Prelude.{IfSome};
-ghost use Rattle.std.specs.Prelude.{Option, Some, Err};
+ghost use Rattle.std.specs.Prelude.{◌≡◌, ◌+◌, ◌<◌, ◌≤◌, ◌^◌, false, length, All, IfOk, IfErr, ℕ, List, OnOk, OnErr};
+ghost use Rattle.std.specs.Prelude.{IfSome, None, Some, Err, cond};
 ghost use Rattle.std.specs.Io.KnownBytes.{Appends};
 ghost use Rattle.ll_rights.specs.declared.limits.TheConstants.{TREE_CLIENTS};
 ghost use Rattle.ll_seq.specs.History.{IsLegal};
@@ -12,20 +11,25 @@ ghost use Rattle.ll_client.specs.Closed.{IsClosed};
 ghost use Rattle.ll_wire.specs.Entries.{IsEntry};
 ghost use Rattle.ll_wire.specs.Grammar.{reply_line};
 ghost use Rattle.ll_session.specs.declared.fault.RunFault.{RunFault};
+ghost use Rattle.ll_session.specs.declared.score.Score.{Score};
+ghost use Rattle.ll_session.specs.declared.stop.Stop.{Stop};
 ghost use Rattle.ll_wire.specs.declared.fault.SessionFault.{SessionFault};
 ghost use Rattle.ll_wire.specs.Transcript.{Writes, most_reads};
-ghost use Rattle.ll_session.specs.Run.{Begins, BeginsBy, EndsBy, MayEnd, Runs};
+ghost use Rattle.ll_session.specs.Counts.{stop_of};
+ghost use Rattle.ll_session.specs.Run.{Begins, BeginsBy, EndsBy, MayEnd, Runs, RunsAs};
 ghost use Rattle.ll_wire.specs.Devices.{IsWhole};
 ghost use Rattle.ll_wire.specs.Reached.{Blames};
 ghost use Rattle.ll_session.specs.Progress.{Closes, IsOfRefusal, RunsTo, StopsAt};
 
-use crate::answering::{OpenSession, session};
+use crate::answering::OpenSession;
 use crate::fault::RunFault;
 use crate::keeper::{Keeps, Kept, NoKeeper};
 use crate::opening::Shut;
 use crate::output::tell_reply;
+use crate::scored::session;
 use crate::setup::Setup;
 use crate::shared::Shared;
+use crate::stop::{Run, Stop};
 use ll_client::{Account, Blank, Shape};
 use ll_seq::{History, Reply};
 use ll_wire::{Ends, Pair, SessionFault};
@@ -34,26 +38,35 @@ use std::io::{Read, Write};
 use std::marker::Brand;
 use std::sync::Wait;
 
-// Answers each line of the input, and closes the tree. Its history is left.
+/// How a script is run: strictly or not, and who keeps its history meanwhile.
+#[derive(Drop)]
+pub struct Manner<'a, K> {
+    pub is_strict: bool,
+    pub keeper: &'a K,
+}
+
+// Answers the lines of the input, and closes the tree.
 fn run_session<N: Shape, R: Wait, K: Keeps, E: Ends>(
     rt: &R,
     alloc: Global,
     shared: Shared<N>,
-    keeper: &K,
     before: u64,
+    manner: &Manner<'_, K>,
     ends: &mut E,
-) -> Result<History, SessionFault>
+) -> Result<Run, SessionFault>
     requires some { before < length shared.party }
     requires whole { IsWhole (E.devices ends.old) }
     requires answered { (E.devices ends.old).owed ≡ 0 }
     requires reads { (E.devices ends.old).reads ≤ 2 ^ 62 }
-    ensures ok { IfOk result (λ history. (room : ℕ) → N.slots ≡ room + TREE_CLIENTS
-        → Closes N.rules room N.limit shared.party history.entries
-        (RunsTo before (E.devices ends.old) (E.devices ends.new))) }
+    ensures ok { IfOk result (λ run. (score : Score) × (run.stop ≡ stop_of score)
+        × ((room : ℕ) → N.slots ≡ room + TREE_CLIENTS
+        → Closes N.rules room N.limit shared.party run.history.entries
+        (RunsTo before manner.now.is_strict score (E.devices ends.old) (E.devices ends.new)))) }
     ensures err { OnErr result ((room : ℕ) → N.slots ≡ room + TREE_CLIENTS → (entries : List Entry)
         × Closes N.rules room N.limit shared.party entries
-        (StopsAt before (E.devices ends.old) (E.devices ends.new))) }
-    ensures entries { IfOk result (λ history. All IsEntry history.entries) }
+        (StopsAt before manner.now.is_strict (E.devices ends.old) (E.devices ends.new))) }
+    ensures lax { IfOk result (λ run. manner.now.is_strict ≡ false → run.stop ≡ None) }
+    ensures entries { IfOk result (λ run. All IsEntry run.history.entries) }
     ensures fault { IfErr result (λ fault. Blames fault (E.devices ends.old) (E.devices ends.new)) }
     ensures long { result ≡ Err SessionFault.TooLong
         → (input : List ℕ) → (E.devices ends.old).remaining ≡ Some input → most_reads ≤ length input }
@@ -64,24 +77,28 @@ fn run_session<N: Shape, R: Wait, K: Keeps, E: Ends>(
         rt,
         alloc,
         tree: &tree,
-        keeper,
+        keeper: manner.keeper,
         party,
         before,
         kept: Kept::UpTo(0),
     };
-    let (party, ended) = session(open, ends);
+    let (party, score, ended) = session(open, manner.is_strict, ends);
     let history = Shared { tree, party }.close(rt);
     match ended {
-        Ok(()) => Ok(history),
+        Ok(()) => Ok(Run {
+            history,
+            stop: score.into_stop(),
+        }),
         Err(fault) => {
             drop(history);
+            drop(score);
             Err(fault)
         }
     }
 }
 
 // Writes the line of the refusal that no session begins with, and closes the tree. Its history is left.
-pub(crate) fn tell_refusal<N: Shape, R: Wait, K: Keeps, E: Ends>(
+fn tell_refusal<N: Shape, R: Wait, K: Keeps, E: Ends>(
     rt: &R,
     alloc: Global,
     shared: Shared<N>,
@@ -111,15 +128,26 @@ pub(crate) fn tell_refusal<N: Shape, R: Wait, K: Keeps, E: Ends>(
     Ok(history)
 }
 
-// The same, over a tree that this blank is of.
+// What ends a run whose opening gets this refusal, where it is strict.
+fn at_opening(is_strict: bool, reply: Reply) -> Option<Stop>
+    ensures { result ≡ cond is_strict (Some (Stop.AtOpening reply)) None }
+{
+    if is_strict {
+        return Some(Stop::AtOpening(reply));
+    }
+    drop(reply);
+    None
+}
+
+// The same as `run_over`, over a tree that this blank is of.
 fn run_in<N: Shape, R: Wait, K: Keeps, E: Ends>(
     rt: &R,
     alloc: Global,
     blank: Blank<Account>,
     setup: Setup,
-    keeper: &K,
+    manner: &Manner<'_, K>,
     ends: &mut E,
-) -> Result<History, RunFault>
+) -> Result<Run, RunFault>
     requires named { blank ≡ N.table }
     requires slots { N.slots ≡ setup.nodes + TREE_CLIENTS }
     requires limit { N.limit ≡ setup.history }
@@ -127,14 +155,15 @@ fn run_in<N: Shape, R: Wait, K: Keeps, E: Ends>(
     requires whole { IsWhole (E.devices ends.old) }
     requires answered { (E.devices ends.old).owed ≡ 0 }
     requires reads { (E.devices ends.old).reads ≤ 2 ^ 62 }
-    ensures transcript { IfOk result (λ history. IfSome (E.devices ends.old).remaining (λ input. (left : List ℕ)
-        × ((E.devices ends.new).remaining ≡ Some left)
-        × Writes (E.devices ends.old).contents (E.devices ends.new).contents
-        (λ text. Runs setup input left text history.entries))) }
-    ensures legal { IfOk result (λ history. IsLegal (start setup.rules setup.nodes) history.entries) }
-    ensures entries { IfOk result (λ history. All IsEntry history.entries) }
+    ensures transcript { IfOk result (λ run. IfSome (E.devices ends.old).remaining (λ input.
+        Writes (E.devices ends.old).contents (E.devices ends.new).contents (λ text.
+        RunsAs manner.now.is_strict setup input (E.devices ends.new).remaining text run.stop run.history.entries))) }
+    ensures lax { IfOk result (λ run. manner.now.is_strict ≡ false → run.stop ≡ None) }
+    ensures legal { IfOk result (λ run. IsLegal (start setup.rules setup.nodes) run.history.entries) }
+    ensures entries { IfOk result (λ run. All IsEntry run.history.entries) }
     ensures beginning { IfErr result (λ fault. IfSome (E.devices ends.old).remaining (λ input.
-        Writes (E.devices ends.old).contents (E.devices ends.new).contents (BeginsBy false setup fault input))) }
+        Writes (E.devices ends.old).contents (E.devices ends.new).contents
+        (BeginsBy manner.now.is_strict setup fault input))) }
     ensures fault { IfErr result (λ fault. EndsBy setup fault (E.devices ends.old) (E.devices ends.new)) }
     ensures may { IfErr result (λ fault. MayEnd setup fault) }
     ensures long { result ≡ Err (RunFault.Session SessionFault.TooLong)
@@ -145,37 +174,44 @@ fn run_in<N: Shape, R: Wait, K: Keeps, E: Ends>(
         return Err(RunFault::Session(SessionFault::NoMemory));
     };
     match shared.open(rt, setup) {
-        Ok(before) => Ok(run_session(rt, alloc, shared, keeper, before, ends)?),
-        Err(Shut::Refused(reply)) => { Ok(tell_refusal(rt, alloc, shared, keeper, &reply, ends)?) }
+        Ok(before) => Ok(run_session(rt, alloc, shared, before, manner, ends)?),
+        Err(Shut::Refused(reply)) => {
+            let history = tell_refusal(rt, alloc, shared, manner.keeper, &reply, ends)?;
+            let stop = at_opening(manner.is_strict, reply);
+            Ok(Run { history, stop })
+        }
         Err(Shut::Stopped) => {
-            drop(shared.close_kept(rt, keeper));
+            drop(shared.close_kept(rt, manner.keeper));
             Err(RunFault::Opening)
         }
     }
 }
 
-/// Runs a script, as `run_script` does, over two devices, which count their calls and failures. Before each read, the
-/// replies to all lines that were read are written, and before that the keeper keeps their entries; a device that
-/// failed isn't called again.
+/// Runs a script in this manner over two devices, which count their calls and failures. Before each read, the replies
+/// to all lines that were read are written, and before that the keeper keeps their entries; a device that failed isn't
+/// called again. A strict run ends at the first line that is answered BadLine, HistoryFull or NoMemory, or by which a
+/// layer or a client that has layers is asked for and refused: its reply is written, and no line is called after it,
+/// even if it was read with it.
 pub fn run_over<R: Wait, K: Keeps, E: Ends>(
     rt: &R,
     alloc: Global,
     setup: Setup,
-    keeper: &K,
+    manner: &Manner<'_, K>,
     ends: &mut E,
-) -> Result<History, RunFault>
+) -> Result<Run, RunFault>
     requires whole { IsWhole (E.devices ends.old) }
     requires answered { (E.devices ends.old).owed ≡ 0 }
     requires reads { (E.devices ends.old).reads ≤ 2 ^ 62 }
-    ensures transcript { IfOk result (λ history. IfSome (E.devices ends.old).remaining (λ input. (left : List ℕ)
-        × ((E.devices ends.new).remaining ≡ Some left)
-        × Writes (E.devices ends.old).contents (E.devices ends.new).contents
-        (λ text. Runs setup input left text history.entries))) }
-    ensures legal { IfOk result (λ history. IsLegal (start setup.rules setup.nodes) history.entries) }
-    ensures entries { IfOk result (λ history. All IsEntry history.entries) }
+    ensures transcript { IfOk result (λ run. IfSome (E.devices ends.old).remaining (λ input.
+        Writes (E.devices ends.old).contents (E.devices ends.new).contents (λ text.
+        RunsAs manner.now.is_strict setup input (E.devices ends.new).remaining text run.stop run.history.entries))) }
+    ensures lax { IfOk result (λ run. manner.now.is_strict ≡ false → run.stop ≡ None) }
+    ensures legal { IfOk result (λ run. IsLegal (start setup.rules setup.nodes) run.history.entries) }
+    ensures entries { IfOk result (λ run. All IsEntry run.history.entries) }
     // With a fault, what was written is a beginning of the transcript of some first pieces, or of a refusal.
     ensures beginning { IfErr result (λ fault. IfSome (E.devices ends.old).remaining (λ input.
-        Writes (E.devices ends.old).contents (E.devices ends.new).contents (BeginsBy false setup fault input))) }
+        Writes (E.devices ends.old).contents (E.devices ends.new).contents
+        (BeginsBy manner.now.is_strict setup fault input))) }
     // A device is blamed only where it failed in this call, and neither is where memory is wanted.
     ensures fault { IfErr result (λ fault. EndsBy setup fault (E.devices ends.old) (E.devices ends.new)) }
     ensures may { IfErr result (λ fault. MayEnd setup fault) }
@@ -185,7 +221,7 @@ pub fn run_over<R: Wait, K: Keeps, E: Ends>(
     ensures same { E.names ends.new ≡ E.names ends.old }
 {
     match Blank::new(alloc) {
-        Ok(blank) => run_in::<Brand, R, K, E>(rt, alloc, blank, setup, keeper, ends),
+        Ok(blank) => run_in::<Brand, R, K, E>(rt, alloc, blank, setup, manner, ends),
         Err(_) => Err(RunFault::Session(SessionFault::NoMemory)),
     }
 }
@@ -218,36 +254,6 @@ pub fn run_script<H: Wait, R: Read, W: Write>(
     ensures long { result ≡ Err (RunFault.Session SessionFault.TooLong)
         → (input : List ℕ) → R.remaining reader.old ≡ Some input → most_reads ≤ length input }
 {
-    run_kept(rt, alloc, setup, &NoKeeper, reader, writer)
-}
-
-/// Runs a script, as `run_script` does. The keeper keeps each entry before the reply to it is written.
-pub fn run_kept<H: Wait, K: Keeps, R: Read, W: Write>(
-    rt: &H,
-    alloc: Global,
-    setup: Setup,
-    keeper: &K,
-    reader: &mut R,
-    writer: &mut W,
-) -> Result<History, RunFault>
-    // Where no fault is answered: what was read, what is left of the input, what was written, and the entries, are
-    // those of a run.
-    ensures transcript { IfOk result (λ history. IfSome (R.remaining reader.old) (λ input. (left : List ℕ)
-        × (R.remaining reader.new ≡ Some left)
-        × Writes (W.contents writer.old) (W.contents writer.new)
-        (λ text. Runs setup input left text history.entries))) }
-    // Whatever the reader and the writer tell: the entries are a legal history of the setup's tree, and each has a
-    // spelling.
-    ensures legal { IfOk result (λ history. IsLegal (start setup.rules setup.nodes) history.entries) }
-    ensures entries { IfOk result (λ history. All IsEntry history.entries) }
-    // With a fault, what was written is a beginning of such a text.
-    ensures beginning { OnErr result (IfSome (R.remaining reader.old) (λ input.
-        Writes (W.contents writer.old) (W.contents writer.new) (Begins setup input))) }
-    ensures fault { IfErr result (λ fault. MayEnd setup fault) }
-    // Each read gives a byte at least.
-    ensures long { result ≡ Err (RunFault.Session SessionFault.TooLong)
-        → (input : List ℕ) → R.remaining reader.old ≡ Some input → most_reads ≤ length input }
-{
     let mut ends = Pair {
         reader,
         writer,
@@ -257,5 +263,12 @@ pub fn run_kept<H: Wait, K: Keeps, R: Read, W: Write>(
         is_input_broken: false,
         is_output_broken: false,
     };
-    run_over(rt, alloc, setup, keeper, &mut ends)
+    let manner = Manner {
+        is_strict: false,
+        keeper: &NoKeeper,
+    };
+    match run_over(rt, alloc, setup, &manner, &mut ends) {
+        Ok(Run { history, .. }) => Ok(history),
+        Err(fault) => Err(fault),
+    }
 }

@@ -1,4 +1,4 @@
-//! What ends a strict run.
+//! What a run leaves, and what ends a strict one.
 
 use ll_seq::{History, Reply};
 
@@ -11,9 +11,9 @@ pub enum Stop {
     AtLine(u64, Reply),
 }
 
-/// A strict run that no fault ended: its history, and what ended it, if anything did.
+/// A run that no fault ended: its history, and what has ended it before its input, which only a strict one may be.
 #[derive(Drop)]
-pub struct StrictRun {
+pub struct Run {
     pub history: History,
     pub stop: Option<Stop>,
 }

@@ -1,5 +1,6 @@
 //! Streams, and what is left of one that was served.
 
+use crate::tally::Tally;
 use ll_client::{Client, Shape};
 use ll_wire::SessionFault;
 use std::snapshot::Snapshot;
@@ -12,12 +13,19 @@ pub struct Stream<R, W> {
     pub writer: W,
 }
 
+/// How a stream's session has ended: what was counted, and the fault that has ended it, if one has.
+#[derive(Drop)]
+pub struct Outcome {
+    pub tally: Tally,
+    pub ended: Result<(), SessionFault>,
+}
+
 /// What is left of a stream that was served: the clients that came, and how it ended. Contracts see the stream as it
 /// came and as it went.
 #[derive(Drop)]
 pub struct Served<N: Shape, R, W> {
     pub clients: Vec<Client<N>>,
-    pub ended: Result<(), SessionFault>,
+    pub outcome: Outcome,
     pub came: Snapshot<Stream<R, W>>,
     pub went: Snapshot<Stream<R, W>>,
 }

@@ -6,17 +6,20 @@ ghost use Rattle.ll_wire.specs.Devices.{IsWhole};
 ghost use Rattle.ll_wire.specs.Reached.{Blames};
 ghost use Rattle.ll_wire.specs.Transcript.{most_reads};
 ghost use Rattle.ll_wire.specs.declared.fault.SessionFault.{SessionFault};
+ghost use Rattle.ll_session.specs.Counts.{counted, nothing};
 ghost use Rattle.ll_session.specs.Progress.{IsOfRefusal};
 ghost use Rattle.ll_session.specs.Session.{AreOthers};
 ghost use Rattle.ll_wire.specs.Grammar.{reply_line};
 ghost use Rattle.ll_client.specs.Coming.{HasNoPlace};
 ghost use Rattle.ll_client.specs.Entries.{Knows};
-ghost use Rattle.ll_session.specs.Visit.{HasCome, StartsBy, Visits, WasServed};
+ghost use Rattle.ll_session.specs.Visit.{HasCome, StartsBy, Visits, WasServedSo};
 
 use crate::copies::copy_calls;
 use crate::host::Host;
-use crate::stream::{Served, Stream};
-use crate::{Gate, Keeps, Kept, OpenSession, Party, Tree, make_calls, session, tell_reply};
+use crate::stream::{Outcome, Served, Stream};
+use crate::{
+    Gate, Keeps, Kept, OpenSession, Party, Score, Tally, Tree, make_calls, session, tell_reply,
+};
 use ll_client::{Client, Shape};
 use ll_rights::Errno;
 use ll_seq::{Call, Reply};
@@ -52,23 +55,36 @@ fn turn_away<N: Shape, H: Wait, G: Gate<N>, K: Keeps, E: Ends>(
     alloc: Global,
     host: &Host<N, G, K>,
     party: Party<N>,
-    reply: &Reply,
+    reply: Reply,
     ends: &mut E,
-) -> (Vec<Client<N>>, Result<(), SessionFault>)
+) -> (Vec<Client<N>>, Outcome, Option<Reply>)
     requires { IsWhole (E.devices ends.old) }
     ensures clients { map (λ c. c.rider) result.0.items ≡ party }
-    ensures ok { OnOk result.1 (Appends (E.devices ends.old).contents (E.devices ends.new).contents
-        (reply_line reply.now)) }
-    ensures err { IfErr result.1 (λ fault. IsOfRefusal fault (E.devices ends.old).contents (E.devices ends.new).contents
-        (reply_line reply.now)) }
-    ensures fault { IfErr result.1 (λ fault. Blames fault (E.devices ends.old) (E.devices ends.new)) }
+    ensures ok { OnOk result.1.ended (Appends (E.devices ends.old).contents (E.devices ends.new).contents
+        (reply_line reply)) }
+    ensures err { IfErr result.1.ended (λ fault. IsOfRefusal fault (E.devices ends.old).contents
+        (E.devices ends.new).contents (reply_line reply)) }
+    ensures tally { result.1.tally ≡ counted nothing reply }
+    ensures refusal { result.2 ≡ Some reply }
+    ensures fault { IfErr result.1.ended (λ fault. Blames fault (E.devices ends.old) (E.devices ends.new)) }
     ensures remaining { (E.devices ends.new).remaining ≡ (E.devices ends.old).remaining }
     ensures same { E.names ends.new ≡ E.names ends.old }
 {
     let mut party = party;
     let kept = host.keeper.keep(rt, host.tree, &mut party);
-    let told = tell_reply(alloc, reply, &party, kept, ends);
-    (party.into_clients(), told)
+    let ended = tell_reply(alloc, &reply, &party, kept, ends);
+    let mut tally = Tally::nothing();
+    tally.count(&reply);
+    (party.into_clients(), Outcome { tally, ended }, Some(reply))
+}
+
+// The outcome of a session that has come so far.
+fn answered(score: Score, ended: Result<(), SessionFault>) -> Outcome
+    ensures { result ≡ record { tally = score.tally; ended = ended } }
+{
+    let Score { tally, end, .. } = score;
+    drop(end);
+    Outcome { tally, ended }
 }
 
 /// Serves one stream: a client comes, makes the calls of its profile, and answers each line that is read, beside
@@ -80,31 +96,33 @@ pub fn visit<N: Shape, H: Wait, G: Gate<N>, K: Keeps, E: Ends>(
     host: &Host<N, G, K>,
     profile: Vec<Call>,
     ends: &mut E,
-) -> (Vec<Client<N>>, Result<(), SessionFault>)
+) -> (Vec<Client<N>>, Outcome, Option<Reply>)
     requires calls { AreOthers profile.items }
     requires whole { IsWhole (E.devices ends.old) }
     requires answered { (E.devices ends.old).owed ≡ 0 }
     requires reads { (E.devices ends.old).reads ≤ 2 ^ 62 }
     // Without a fault all was read, and the transcript of it was written; or the client was refused, and the refusal
     // was written.
-    ensures ok { OnOk result.1 (Visits N.limit profile.items (E.devices ends.old) (E.devices ends.new)
-        (map (λ c. c.rider) result.0.items)) }
+    ensures ok { OnOk result.1.ended (Visits N.limit profile.items (E.devices ends.old) (E.devices ends.new)
+        result.2 result.1.tally (map (λ c. c.rider) result.0.items)) }
     // With one, a beginning of that, and the calls were made that were told.
-    ensures err { IfErr result.1 (λ fault. StartsBy N.limit profile.items fault (E.devices ends.old)
-        (E.devices ends.new) (map (λ c. c.rider) result.0.items)) }
-    ensures fault { IfErr result.1 (λ fault. Blames fault (E.devices ends.old) (E.devices ends.new)) }
+    ensures err { IfErr result.1.ended (λ fault. StartsBy N.limit profile.items fault (E.devices ends.old)
+        (E.devices ends.new) result.2 result.1.tally (map (λ c. c.rider) result.0.items)) }
+    ensures fault { IfErr result.1.ended (λ fault. Blames fault (E.devices ends.old) (E.devices ends.new)) }
     // Each read gives a byte at least.
-    ensures long { result.1 ≡ Err SessionFault.TooLong
+    ensures long { result.1.ended ≡ Err SessionFault.TooLong
         → (input : List ℕ) → (E.devices ends.old).remaining ≡ Some input → most_reads ≤ length input }
     ensures same { E.names ends.new ≡ E.names ends.old }
 {
     let Ok(mut party) = Party::<N>::new(alloc, host.limit) else {
         drop(profile);
-        return (Vec::new(alloc), Err(SessionFault::NoMemory));
+        let tally = Tally::nothing();
+        let ended = Err(SessionFault::NoMemory);
+        return (Vec::new(alloc), Outcome { tally, ended }, None);
     };
     if let Err(errno) = come(rt, host.tree, &mut party) {
         drop(profile);
-        return turn_away(rt, alloc, host, party, &Reply::Refused(errno), ends);
+        return turn_away(rt, alloc, host, party, Reply::Refused(errno), ends);
     }
     match make_calls(rt, host.tree, &mut party, 0, profile) {
         Ok(()) => {
@@ -117,10 +135,10 @@ pub fn visit<N: Shape, H: Wait, G: Gate<N>, K: Keeps, E: Ends>(
                 before: 0,
                 kept: Kept::UpTo(0),
             };
-            let (party, ended) = session(open, ends);
-            (party.into_clients(), ended)
+            let (party, score, ended) = session(open, false, ends);
+            (party.into_clients(), answered(score, ended), None)
         }
-        Err(reply) => turn_away(rt, alloc, host, party, &reply, ends),
+        Err(reply) => turn_away(rt, alloc, host, party, reply, ends),
     }
 }
 
@@ -130,12 +148,14 @@ fn serve_ends<N: Shape, G: Gate<N>, K: Keeps, H: Wait, R: Read, W: Write>(
     alloc: Global,
     host: &Host<N, G, K>,
     stream: &mut Stream<R, W>,
-) -> (Vec<Client<N>>, Result<(), SessionFault>)
-    ensures { WasServed N.limit host.now.profile.now R.remaining W.contents result.1 stream.old stream.new
+) -> (Vec<Client<N>>, Outcome, Option<Reply>)
+    ensures { WasServedSo N.limit host.now.profile.now R.remaining W.contents result.1 result.2 stream.old stream.new
         (map (λ c. c.rider) result.0.items) }
 {
     let Ok(profile) = copy_calls(alloc, host.profile) else {
-        return (Vec::new(alloc), Err(SessionFault::NoMemory));
+        let tally = Tally::nothing();
+        let ended = Err(SessionFault::NoMemory);
+        return (Vec::new(alloc), Outcome { tally, ended }, None);
     };
     let mut ends = Pair {
         reader: &mut stream.reader,
@@ -149,24 +169,25 @@ fn serve_ends<N: Shape, G: Gate<N>, K: Keeps, H: Wait, R: Read, W: Write>(
     visit(rt, alloc, host, profile, &mut ends)
 }
 
-/// Serves one stream as `visit` does, and gives what is left of it.
+/// Serves one stream as `visit` does. What is left of it, and the reply by which its client was turned away, if it was.
 pub fn serve_stream<N: Shape, G: Gate<N>, K: Keeps, H: Wait, R: Read, W: Write>(
     rt: &H,
     alloc: Global,
     host: &Host<N, G, K>,
     stream: &mut Stream<R, W>,
-) -> Served<N, R, W>
-    ensures served { WasServed N.limit host.now.profile.now R.remaining W.contents result.ended
-        result.came.value result.went.value (map (λ c. c.rider) result.clients.items) }
-    ensures came { result.came.value ≡ stream.old }
-    ensures went { result.went.value ≡ stream.new }
+) -> (Served<N, R, W>, Option<Reply>)
+    ensures served { WasServedSo N.limit host.now.profile.now R.remaining W.contents result.0.outcome result.1
+        result.0.came.value result.0.went.value (map (λ c. c.rider) result.0.clients.items) }
+    ensures came { result.0.came.value ≡ stream.old }
+    ensures went { result.0.went.value ≡ stream.new }
 {
     let came = Snapshot::of(&*stream);
-    let (clients, ended) = serve_ends(rt, alloc, host, stream);
-    Served {
+    let (clients, outcome, refusal) = serve_ends(rt, alloc, host, stream);
+    let served = Served {
         clients,
-        ended,
+        outcome,
         came,
         went: Snapshot::of(&*stream),
-    }
+    };
+    (served, refusal)
 }

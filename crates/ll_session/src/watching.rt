@@ -2,14 +2,20 @@
 
 use crate::stream::{Served, Stream};
 use ll_client::Shape;
+use ll_seq::Reply;
 
 /// Who is told of streams as they come and go.
 pub trait Watches<R, W> {
     /// The stream's turn has come.
     fn came(&self, stream: &Stream<R, W>);
 
-    /// It was served, and this is left of it.
-    fn went<N: Shape>(&self, stream: &Stream<R, W>, served: &Served<N, R, W>);
+    /// It was served, and this is left of it. Its client was turned away by this reply, if it was.
+    fn went<N: Shape>(
+        &self,
+        stream: &Stream<R, W>,
+        served: &Served<N, R, W>,
+        refusal: Option<&Reply>,
+    );
 }
 
 /// Nobody.
@@ -21,8 +27,14 @@ impl<R, W> Watches<R, W> for Nobody {
         let _ = stream;
     }
 
-    fn went<N: Shape>(&self, stream: &Stream<R, W>, served: &Served<N, R, W>) {
+    fn went<N: Shape>(
+        &self,
+        stream: &Stream<R, W>,
+        served: &Served<N, R, W>,
+        refusal: Option<&Reply>,
+    ) {
         let _ = stream;
         let _ = served;
+        let _ = refusal;
     }
 }

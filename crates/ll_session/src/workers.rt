@@ -71,7 +71,7 @@ fn work<
 )
     requires { IsRoomFor most room.old }
     ensures most { length room.new.items ≤ most }
-    ensures served { All (λ it. WasServed N.limit host.now.profile.now R.remaining W.contents it.ended it.came.value
+    ensures served { All (λ it. WasServed N.limit host.now.profile.now R.remaining W.contents it.outcome it.came.value
         it.went.value (map (λ c. c.rider) it.clients.items)) room.new.items }
 {
     for _ in 0..most {
@@ -79,8 +79,8 @@ fn work<
             return;
         };
         watch.came(&stream);
-        let served = serve_stream(rt, alloc, host, &mut stream);
-        watch.went(&stream, &served);
+        let (served, refusal) = serve_stream(rt, alloc, host, &mut stream);
+        watch.went(&stream, &served, refusal.as_ref());
         room.push_reserved(served);
     }
 }
@@ -110,7 +110,7 @@ pub(crate) fn serve_from<
     ensures most { IfOk result (λ rooms. All (λ room. length room.items ≤ most) rooms.items) }
     // Each of these streams was served as `serve_stream` says of one.
     ensures served { IfOk result (λ rooms. All (λ room. All (λ it. WasServed N.limit host.now.profile.now
-        R.remaining W.contents it.ended it.came.value it.went.value (map (λ c. c.rider) it.clients.items))
+        R.remaining W.contents it.outcome it.came.value it.went.value (map (λ c. c.rider) it.clients.items))
         room.items) rooms.items) }
 {
     let mut all = rooms(alloc, workers, most)?;
@@ -121,7 +121,7 @@ pub(crate) fn serve_from<
         &|_, room|
             requires { IsRoomFor most room.now }
             ensures most { length room.exit.now.items ≤ most }
-            ensures served { All (λ it. WasServed N.limit host.entry.now.profile.now R.remaining W.contents it.ended
+            ensures served { All (λ it. WasServed N.limit host.entry.now.profile.now R.remaining W.contents it.outcome
                 it.came.value it.went.value (map (λ c. c.rider) it.clients.items)) room.exit.now.items }
         { work(rt, alloc, host, streams, watch, room, most) },
     );
@@ -153,7 +153,7 @@ pub fn serve_streams<
     ensures most { IfOk result (λ rooms. All (λ room. length room.items ≤ most) rooms.items) }
     // Each of these streams was served as `serve_stream` says of one.
     ensures served { IfOk result (λ rooms. All (λ room. All (λ it. WasServed N.limit host.now.profile.now
-        R.remaining W.contents it.ended it.came.value it.went.value (map (λ c. c.rider) it.clients.items))
+        R.remaining W.contents it.outcome it.came.value it.went.value (map (λ c. c.rider) it.clients.items))
         room.items) rooms.items) }
 {
     serve_from(rt, alloc, host, &streams, watch, workers, most)

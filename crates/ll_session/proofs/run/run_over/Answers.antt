@@ -6,4 +6,5 @@ use Rattle.ll_session.proofs.run.run_over.Goals as goal
 
 pub returns-in-Err-clause-beginning : goal.returns-in-Err-clause-beginning
 returns-in-Err-clause-beginning g c =
-    nothing_done false c.args.setup (Session NoMemory) (g.E.Ends.devices c.args.ends.now) (λ input. inl refl)
+    nothing_done c.args.manner.now.is_strict c.args.setup (Session NoMemory) (g.E.Ends.devices c.args.ends.now)
+    (λ input. inl refl)

@@ -9,13 +9,13 @@ returns-in_default g c = (
   refl,
   refl,
   tt,
-  (inl (ap (map (λ it. it.rider)) c.new.ensures.items, refl), (refl, refl)),
+  (inl (ap (map (λ it. it.rider)) c.new.ensures.items, refl, refl, c.nothing-tally.ensures), (refl, refl)),
 )
 
 pub returns : goal.returns
 returns g c =
     let ends = c.visit.new.ends in
-    served_so g.N.Shape.limit c.in-Ok.profile.items c.args.host.now.profile.now c.visit.result.1
+    served_so g.N.Shape.limit c.in-Ok.profile.items c.args.host.now.profile.now c.visit.result.1 c.visit.result.2
     (g.R.Read.remaining c.args.stream.now.reader) (g.W.Write.contents c.args.stream.now.writer) (record {
       remaining = g.R.Read.remaining ends.reader.now;
       contents = g.W.Write.contents ends.writer.now;

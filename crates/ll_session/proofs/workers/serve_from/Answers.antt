@@ -20,7 +20,7 @@ returns-clause-most g c =
 pub returns-clause-served : goal.returns-clause-served
 returns-clause-served g c =
     left_by_all (λ room. All (λ it. WasServed g.N.Shape.limit c.args.host.now.profile.now g.R.Read.remaining
-    g.W.Write.contents it.ended it.came.value it.went.value (map (λ c. c.rider) it.clients.items)) room.items)
+    g.W.Write.contents it.outcome it.came.value it.went.value (map (λ c. c.rider) it.clients.items)) room.items)
     c.for_each_mut.new.s c.in_ok-all.all.items (length c.as_mut_slice.result.now) c.for_each_mut.auto.s
     (λ k d below. let it = (c.for_each_mut.ensures k d below).1 in (it.after_call.now, it.left, it.call.1))
     c.in_ok-all.all.len (omega (arith, c.as_mut_slice.ensures.len))

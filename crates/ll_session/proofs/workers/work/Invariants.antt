@@ -8,6 +8,6 @@ abbrev pub invariant-loop : goal.invariant-loop
 invariant-loop g l = record {
   room : l.fn.most ≤ vec_capacity l.room;
   most : length l.room.items ≤ l.counter;
-  served : All (λ it. WasServed g.N.Shape.limit l.fn.host.profile.now g.R.Read.remaining g.W.Write.contents it.ended
+  served : All (λ it. WasServed g.N.Shape.limit l.fn.host.profile.now g.R.Read.remaining g.W.Write.contents it.outcome
       it.came.value it.went.value (map (λ c. c.rider) it.clients.items)) l.room.items;
 }

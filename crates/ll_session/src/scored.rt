@@ -1,0 +1,108 @@
+//! Sessions, strict or not, that count what they answer.
+
+ghost use Rattle.std.specs.Prelude.{◌≡◌, ◌≤◌, ◌+◌, ◌^◌, ℕ, List, Some, None, Err, IfErr, OnErr, OnOk, false, length};
+ghost use Rattle.ll_wire.specs.Devices.{IsWhole};
+ghost use Rattle.ll_wire.specs.Reached.{Blames, StartsAll};
+ghost use Rattle.ll_wire.specs.Transcript.{most_reads};
+ghost use Rattle.ll_wire.specs.declared.fault.SessionFault.{SessionFault};
+ghost use Rattle.ll_session.specs.Beside.{AnswersBeside};
+ghost use Rattle.ll_session.specs.Counts.{first_score};
+ghost use Rattle.ll_session.specs.Strict.{Scores, ScoresTo};
+ghost use Rattle.ll_session.specs.Talk.{Goes};
+
+use crate::answering::OpenSession;
+use crate::keeper::Keeps;
+use crate::output::reply_line;
+use crate::score::Score;
+use crate::{Gate, Party};
+use ll_client::Shape;
+use ll_wire::{Answers, Ends, Line, SessionFault, answer_lines};
+use std::alloc::AllocError;
+use std::sync::Wait;
+
+/// A session under way, and how far it has come.
+#[derive(Drop)]
+struct ScoredSession<'a, N: Shape, R: Wait, G: Gate<N>, K: Keeps> {
+    session: OpenSession<'a, N, R, G, K>,
+    score: Score,
+}
+
+impl<'a, N: Shape, R: Wait, G: Gate<N>, K: Keeps> Answers for ScoredSession<'a, N, R, G, K> {
+    ghost use Rattle.std.specs.Prelude.{is_some};
+    ghost use Rattle.ll_session.specs.Keeping.{AreKept};
+    ghost use Rattle.ll_session.specs.Progress.{ScoreStandsOn, score_stands, score_stands_on};
+
+    ghost tells = { λ a piece line b.
+        Scores (AnswersBeside N.limit a.session.before) (a.session.party, a.score) piece line
+        (b.session.party, b.score) × (b.session.before ≡ a.session.before) };
+
+    ghost goes = { λ a b. ScoreStandsOn N.limit a.session.before a.session.party a.score
+        b.session.before b.session.party b.score };
+
+    // Each line adds at most two.
+    ghost used = { λ scored. scored.score.tally.lines + scored.score.tally.denials };
+
+    ghost over = { λ scored. is_some scored.score.end };
+
+    // All entries that its clients know of are kept, as far as anybody keeps them.
+    ghost kept = { λ scored. AreKept scored.session.kept scored.session.party };
+
+    fn answer(&mut self, line: &Line) -> Result<String, AllocError> {
+        let (reply, is_end) = self.session.reply(line);
+        let text = reply_line(self.session.alloc, &reply);
+        self.score.note(reply, is_end);
+        text
+    }
+
+    fn settle(&mut self) {
+        self.session.keep();
+    }
+
+    fn is_over(&self) -> bool {
+        self.score.end.is_some()
+    }
+
+    ghost goes_nowhere = { λ a. score_stands N.limit a.session.before a.session.party a.score };
+
+    ghost goes_on = { λ a b c.
+        score_stands_on N.limit a.session.before b.session.before c.session.before
+        a.session.party b.session.party c.session.party a.score b.score c.score };
+}
+
+/// Answers each line that is read, beside whatever others call on the tree; where it is strict, up to the first whose
+/// reply ends it: no line is called after that one, even if it was read with it. The first so many clients of the party
+/// came before the session, and no line names them; those that the session spawns come last. Before each read, the
+/// replies to all lines that were read are written, and before that the entries are kept of which its clients know.
+/// With a fault, calls that the tree has answered stand.
+pub fn session<N: Shape, R: Wait, G: Gate<N>, K: Keeps, E: Ends>(
+    session: OpenSession<'_, N, R, G, K>,
+    is_strict: bool,
+    ends: &mut E,
+) -> (Party<N>, Score, Result<(), SessionFault>)
+    requires whole { IsWhole (E.devices ends.old) }
+    requires answered { (E.devices ends.old).owed ≡ 0 }
+    requires reads { (E.devices ends.old).reads ≤ 2 ^ 62 }
+    // Without a fault all was read, or what a reply has ended, and the transcript of it written.
+    ensures ok { OnOk result.2 (ScoresTo (AnswersBeside N.limit session.entry.before)
+        (session.entry.party, first_score is_strict) (result.0, result.1) (E.devices ends.old) (E.devices ends.new)) }
+    // With one, a beginning of the transcript of some first pieces, whose calls were made.
+    ensures err { OnErr result.2 (StartsAll (Scores (AnswersBeside N.limit session.entry.before))
+        (session.entry.party, first_score is_strict) (result.0, result.1) (E.devices ends.old) (E.devices ends.new)) }
+    // Whatever the devices tell: its clients have made calls, and looked how long the history is.
+    ensures goes { Goes N.limit session.entry.party result.0 }
+    ensures lax { is_strict ≡ false → result.1.end ≡ None }
+    ensures fault { IfErr result.2 (λ fault. Blames fault (E.devices ends.old) (E.devices ends.new)) }
+    // Each read gives a byte at least.
+    ensures long { result.2 ≡ Err SessionFault.TooLong
+        → (input : List ℕ) → (E.devices ends.old).remaining ≡ Some input → most_reads ≤ length input }
+    ensures same { E.names ends.new ≡ E.names ends.old }
+{
+    let mut scored = ScoredSession {
+        session,
+        score: Score::new(is_strict),
+    };
+    let ended = answer_lines(scored.session.alloc, ends, &mut scored);
+    let ScoredSession { session, score } = scored;
+    let party = session.close();
+    (party, score, ended)
+}
