@@ -2,31 +2,35 @@
 use Rattle.std.proofs.Common.{◌≡◌, ◌∙◌, ◌<◌, ℕ, zero, suc, ◌+◌, List, [], ◌∷◌, ◌++◌, length, map, take, get_or}
 use Rattle.std.proofs.Common.{Option, Some, None, option_map, is_some, true, refl, sym, ap, ap₂, subst, arith, inl}
 use Rattle.std.proofs.Common.{inr, Result, Ok, Err}
-use Rattle.std.specs.Prelude.{◌&&◌, ◌||◌, IfOk, min, slice_get}
-use Rattle.std.specs.List.{AllZip, list_all, list_any}
+use Rattle.std.specs.Prelude.{◌&&◌, IfOk, min, slice_get}
+use Rattle.std.specs.List.{AllZip, list_all}
 use Rattle.std.specs.Option.{option_map_or}
 use Rattle.std.specs.Borrow.{Bor}
 use Rattle.std.specs.declared.vec.Vec.{Vec}
 use Rattle.std.specs.declared.alloc.Global.{Global}
-use Rattle.std.proofs.lemmas.List.{length-map, map-append, take_more}
+use Rattle.std.proofs.lemmas.List.{map-append, take_more}
 use Rattle.std.proofs.lemmas.Option.{slice_get-map}
 use Rattle.ll_rights.specs.declared.limits.TheConstants.{HISTORY_ENTRIES}
 use Rattle.ll_seq.specs.declared.call.Call.{Call}
 use Rattle.ll_seq.specs.declared.reply.Entry.{Entry}
 use Rattle.ll_wire.specs.Pieces.{pieces}
 use Rattle.ll_wire.specs.Transcript.{Writes}
+use Rattle.ll_wire.proofs.WrittenText.{appends-none}
+use Rattle.ll_session.specs.declared.calls_run.CallReplies.{CallReplies}
 use Rattle.ll_session.specs.declared.setup.Setup.{Setup}
 use Rattle.ll_options.specs.Options.{CheckOrder}
 use Rattle.ll_runs.specs.declared.checked.Checked.{Checked}
+use Rattle.ll_runs.specs.declared.checked.Checked.TheVariants.{BadLine}
 use Rattle.ll_runs.specs.declared.failure.Failure.{Failure}
 use Rattle.ll_runs.specs.Policy.{IsSetBy, IsSetup, Lacks}
 use Rattle.ll_check.specs.declared.checks.NamedText.{NamedText}
 use Rattle.ll_check.specs.declared.checks.ReadFile.{ReadFile}
 use Rattle.ll_check.specs.declared.judging.Detail.{Detail}
 use Rattle.ll_check.specs.declared.judging.Tally.{Tally}
-use Rattle.ll_check.specs.declared.line.CheckLine.{CheckLine}
-use Rattle.ll_check.specs.declared.running.Made.{Made}
-use Rattle.ll_check.specs.Checks.{IsFirstBad, is_test, meaning_of}
+use Rattle.ll_check.specs.declared.reading.CheckFault.{CheckFault}
+use Rattle.ll_check.specs.declared.reading.CheckFault.TheVariants as faults
+use Rattle.ll_check.specs.declared.reading.Test.{Test}
+use Rattle.ll_check.specs.Checks.{IsFirstBad}
 use Rattle.ll_check.specs.Files.{AreChecked, AreTestsOf, Concludes, HasBadLine, IsCheck, IsFileChecked, IsReadAs}
 use Rattle.ll_check.specs.Files.{IsSetFor, MayFail, Tests, detail_of, has_test, room_for, run_of, source_of, tests_of}
 use Rattle.ll_check.specs.Report.{IsChecked}
@@ -71,15 +75,6 @@ bad_line texts file line text bytes below is all bad = (
 
 -- ---- files that have tests
 
-any_test : (lines : List CheckLine)
-    → list_any (λ line. is_test (meaning_of line)) lines ≡ list_any is_test (map meaning_of lines)
-any_test [] = refl
-any_test (line ∷ lines) = ap (λ b. is_test (meaning_of line) || b) (any_test lines)
-
-pub tests_any : (file : ReadFile)
-    → list_any (λ line. is_test (meaning_of line)) file.checks.lines.items ≡ has_test (tests_of file)
-tests_any file = any_test file.checks.lines.items
-
 pub tests_all : (files : List ReadFile)
     → list_all (λ file. has_test (tests_of file)) files ≡ list_all has_test (map tests_of files)
 tests_all [] = refl
@@ -95,21 +90,20 @@ one_more files i file below is =
     ∙ ap (λ (x : ReadFile). map tests_of (take i files) ++ tests_of x ∷ []) (sym is)
 
 pub file_checked : (order : CheckOrder) (policy : List ℕ) (file : ReadFile) (detail : Detail) (setup : Setup)
-    (name : List ℕ) (lines : List CheckLine) (made : Made) (entries : List Entry) (before after : List ℕ)
-    (tally : Tally) → detail ≡ detail_of order → name ≡ file.name.now → lines ≡ file.checks.lines.items
-    → IsSetFor order policy (length lines) setup
-    → IsChecked detail setup name (map meaning_of lines) made entries before after tally
+    (name : List ℕ) (tests : List Test) (made : CallReplies) (entries : List Entry) (before after : List ℕ)
+    (tally : Tally) → detail ≡ detail_of order → name ≡ file.name.now → tests ≡ file.checks.tests.items
+    → IsSetFor order policy (length tests) setup
+    → IsChecked detail setup name tests made entries before after tally
     → IsFileChecked order policy (tests_of file) before after tally
-file_checked order policy file detail setup name lines made entries before after tally d n l is checked =
-    let items : List CheckLine = file.checks.lines.items in (
+file_checked order policy file detail setup name tests made entries before after tally d n t is checked =
+    let items : List Test = file.checks.tests.items in (
       setup,
       made,
       entries,
-      subst (λ (k : ℕ). IsSetFor order policy k setup) (ap length l ∙ sym (length-map items meaning_of)) is,
-      subst (λ (x : Detail). IsChecked x setup file.name.now (map meaning_of items) made entries before after tally) d
-          (subst (λ (x : List ℕ). IsChecked detail setup x (map meaning_of items) made entries before after tally) n
-          (subst (λ (x : List CheckLine). IsChecked detail setup name (map meaning_of x) made entries before after
-          tally) l checked)),
+      subst (λ (k : ℕ). IsSetFor order policy k setup) (ap length t) is,
+      subst (λ (x : Detail). IsChecked x setup file.name.now items made entries before after tally) d
+          (subst (λ (x : List ℕ). IsChecked detail setup x items made entries before after tally) n
+          (subst (λ (x : List Test). IsChecked detail setup name x made entries before after tally) t checked)),
     )
 
 none : Tally
@@ -149,20 +143,20 @@ module _ (order : CheckOrder) (policy : List ℕ) where
 -- ---- setups
 
 -- the same setup with other room in its history
-pub with_room : (order : CheckOrder) (policy : List ℕ) (room lines : ℕ) (old new : Setup)
+pub with_room : (order : CheckOrder) (policy : List ℕ) (room tests : ℕ) (old new : Setup)
     → IsSetup (run_of order room) policy old → new.rules ≡ old.rules → new.nodes ≡ old.nodes
-    → new.history ≡ room_for old lines → new.loader ≡ old.loader → new.profile ≡ old.profile
-    → IsSetFor order policy lines new
-with_room order policy room lines old new is rules nodes history loader profile =
+    → new.history ≡ room_for old tests → new.loader ≡ old.loader → new.profile ≡ old.profile
+    → IsSetFor order policy tests new
+with_room order policy room tests old new is rules nodes history loader profile =
     (nodes ∙ is.0, history ∙ same, go order.policy is.2)
   where
-    same : room_for old lines ≡ room_for new lines
+    same : room_for old tests ≡ room_for new tests
     same = ap₂ (λ (l : Option (Vec Call Global)) (p : Vec Call Global).
-        min (option_map_or (λ (calls : Vec Call Global). length calls.items) l 0 + length p.items + lines + 2)
+        min (option_map_or (λ (calls : Vec Call Global). length calls.items) l 0 + length p.items + tests + 2)
         HISTORY_ENTRIES) (sym loader) (sym profile)
 
     go : (file : Option (List ℕ)) → IsSetBy file (run_of order room) policy old
-        → IsSetBy file (run_of order (room_for new lines)) policy new
+        → IsSetBy file (run_of order (room_for new tests)) policy new
     go None by = record {
       rules = rules ∙ by.rules;
       loader = loader ∙ by.loader;
@@ -208,3 +202,13 @@ concluded order policy texts files all old new (Ok end) read same done = (
   ),
   done.2,
 )
+
+-- where a line of the texts says nothing, nothing is written
+pub bad_file : (order : CheckOrder) (policy : List ℕ) (texts : List NamedText) (fault : CheckFault)
+    (out : Option (List ℕ)) (r : Result Checked Failure)
+    → ((line : ℕ) → fault ≡ faults.BadLine line → HasBadLine (map source_of texts))
+    → IfOk r (λ end. (end ≡ BadLine) × (line : ℕ) × (fault ≡ faults.BadLine line))
+    → IfOk r (λ end. Writes out out (IsCheck order policy (map source_of texts) end))
+bad_file order policy texts fault out (Err failure) bad told = tt
+bad_file order policy texts fault out (Ok end) bad told =
+    ([], inl (bad told.1 told.2, told.0, refl), appends-none out)

@@ -1,4 +1,4 @@
--- What stands behind a front.
+-- What stands behind a front, or in front of a back.
 use Rattle.std.proofs.Common.{◌≡◌, ℕ, Bool, true, false, cond, eqb, ◌&&◌, List, [], ◌∷◌, length, take, drop, Option}
 use Rattle.std.proofs.Common.{Some, None, refl, true≢false, sym}
 use Rattle.std.proofs.Common.{option_map, ap, ◌∙◌, Bor}
@@ -8,39 +8,6 @@ use Rattle.std.proofs.lemmas.List.{length-append, take-append-drop}
 use Rattle.std.proofs.lemmas.Slice.Eq.{bytes_eq-Decides}
 use Rattle.std.proofs.Math.Seq.{take-append_seam, drop-append_seam}
 use Rattle.std.specs.Str.{bytes_eq}
-use Rattle.ll_check.specs.Checks.{behind}
-
-pub behind_there : (front line : List ℕ) → bytes_eq (take (length front) line) front ≡ true
-    → Some (drop (length front) line) ≡ behind front line
-behind_there [] line e = refl
-behind_there (b ∷ front) [] e = absurd (true≢false (sym e))
-behind_there (b ∷ front) (c ∷ line) e = go (eqb c b) e (λ e'. behind_there front line e')
-  where
-    go : (t : Bool) → (t && bytes_eq (take (length front) line) front) ≡ true
-        → (bytes_eq (take (length front) line) front ≡ true → Some (drop (length front) line) ≡ behind front line)
-        → Some (drop (length front) line) ≡ cond t (behind front line) None
-    go true e' later = later e'
-    go false e' later = absurd (true≢false (sym e'))
-
-pub behind_missing : (front line : List ℕ) → bytes_eq (take (length front) line) front ≡ false
-    → None ≡ behind front line
-behind_missing [] line e = absurd (true≢false e)
-behind_missing (b ∷ front) [] e = refl
-behind_missing (b ∷ front) (c ∷ line) e = go (eqb c b) e (λ e'. behind_missing front line e')
-  where
-    go : (t : Bool) → (t && bytes_eq (take (length front) line) front) ≡ false
-        → (bytes_eq (take (length front) line) front ≡ false → None ≡ behind front line)
-        → None ≡ cond t (behind front line) None
-    go true e' later = later e'
-    go false e' later = refl
-
--- what is left where the front is stripped
-pub stripped : (Q : Bor (List ℕ) → Type 0) (r : Option (Bor (List ℕ))) (front line : List ℕ)
-    → MatchOption r (bytes_eq (take (length front) line) front ≡ false)
-    (λ x. (bytes_eq (take (length front) line) front ≡ true) × (x.now ≡ drop (length front) line) × Q x)
-    → option_map (λ x. x.now) r ≡ behind front line
-stripped Q None front line e = behind_missing front line e
-stripped Q (Some x) front line e = ap Some e.1 ∙ behind_there front line e.0
 
 -- ---- fronts and backs, stripped
 

@@ -1,8 +1,7 @@
 pub mod Bodies
-pub mod Counted
 pub mod Files
-pub mod FirstLine
 pub mod Fronts
-pub mod Scripts
+pub mod Judges
 pub mod Tests
 pub mod Told
+pub mod Verdicts

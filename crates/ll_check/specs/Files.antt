@@ -1,11 +1,12 @@
 -- What a check of files does, what it writes, and how it ends. own
 use Rattle.std.specs.Prelude.{◌≡◌, ◌⊎◌, ℕ, ◌+◌, ◌==◌, ◌&&◌, Bool, true, List, [], ◌∷◌, ◌++◌, Some, None, length, map}
 use Rattle.std.specs.Prelude.{false, codes, decimal, min, slice_get, is_some, if◌then◌else◌}
-use Rattle.std.specs.List.{AllZip, list_all, list_any}
+use Rattle.std.specs.List.{AllZip, list_all}
 use Rattle.std.specs.Option.{option_map_or}
 use Rattle.ll_rights.specs.declared.limits.TheConstants.{HISTORY_ENTRIES}
 use Rattle.ll_seq.specs.declared.reply.Entry.{Entry}
 use Rattle.ll_wire.specs.Pieces.{pieces}
+use Rattle.ll_session.specs.declared.calls_run.CallReplies.{CallReplies}
 use Rattle.ll_session.specs.declared.fault.RunFault.{RunFault}
 use Rattle.ll_session.specs.declared.setup.Setup.{Setup}
 use Rattle.ll_session.specs.Run.{MayEnd}
@@ -21,8 +22,8 @@ use Rattle.ll_check.specs.declared.checks.ReadFile.{ReadFile}
 use Rattle.ll_check.specs.declared.judging.Detail.{Detail}
 use Rattle.ll_check.specs.declared.judging.Detail.TheVariants.{Quiet, Usual, Verbose}
 use Rattle.ll_check.specs.declared.judging.Tally.{Tally}
-use Rattle.ll_check.specs.declared.running.Made.{Made}
-use Rattle.ll_check.specs.Checks.{IsFirstBad, Meaning, SpellsLine, is_test, meaning_of}
+use Rattle.ll_check.specs.declared.reading.Test.{Test}
+use Rattle.ll_check.specs.Checks.{AreTests, IsFirstBad}
 use Rattle.ll_check.specs.Report.{IsChecked}
 
 -- ---- files, and what they say
@@ -35,28 +36,28 @@ pub record Source : Type 0 where
 abbrev pub source_of : NamedText → Source
 source_of file = record { name = file.name.now; text = file.text.items }
 
--- a file that is read: its name, and what its lines say
+-- a file that is read: its name, and its tests
 pub record Tests : Type 0 where
   pub name : List ℕ
-  pub lines : List Meaning
+  pub tests : List Test
 
 abbrev pub AreTestsOf : Source → Tests → Type 0
-AreTestsOf source tests = (tests.name ≡ source.name) × AllZip SpellsLine (pieces source.text) tests.lines
+AreTestsOf source file = (file.name ≡ source.name) × AreTests 1 (pieces source.text) file.tests
 
 abbrev pub has_test : Tests → Bool
-has_test tests = list_any is_test tests.lines
+has_test file = is_some (slice_get file.tests 0)
 
--- a line of one of them says nothing
+-- a line of one of them is neither silent nor a test
 abbrev pub HasBadLine : List Source → Type 0
 HasBadLine sources =
     (file line : ℕ) × (bad : Source) × (slice_get sources file ≡ Some bad) × IsFirstBad (pieces bad.text) line
 
 -- ---- the tree of a file
 
--- room in its history for each call that can come: the loader's, the profile's, their two connects, and one a line
-abbrev pub room_for : Setup → (lines : ℕ) → ℕ
-room_for setup lines =
-    min (option_map_or (λ calls. length calls.items) setup.loader 0 + length setup.profile.items + lines + 2)
+-- room in its history for each call that can come: the loader's, the profile's, their two connects, and one a test
+abbrev pub room_for : Setup → (tests : ℕ) → ℕ
+room_for setup tests =
+    min (option_map_or (λ calls. length calls.items) setup.loader 0 + length setup.profile.items + tests + 2)
     HISTORY_ENTRIES
 
 -- a run in the tree that these words ask for, with this room
@@ -74,8 +75,8 @@ run_of order room =
     }
 
 -- the setup of a file's tree, where the policy's file has this text
-abbrev pub IsSetFor : CheckOrder → (policy : List ℕ) → (lines : ℕ) → Setup → Type 0
-IsSetFor order policy lines setup = IsSetup (run_of order (room_for setup lines)) policy setup
+abbrev pub IsSetFor : CheckOrder → (policy : List ℕ) → (tests : ℕ) → Setup → Type 0
+IsSetFor order policy tests setup = IsSetup (run_of order (room_for setup tests)) policy setup
 
 -- ---- how files are checked
 
@@ -84,15 +85,15 @@ detail_of order = if order.quiet then Quiet else (if order.verbose then Verbose 
 
 -- a file's tests are made in a tree of its own, which is set up so, and are reported and counted
 abbrev pub IsFileChecked : CheckOrder → (policy : List ℕ) → Tests → (before after : List ℕ) → Tally → Type 0
-IsFileChecked order policy tests before after tally =
-    (setup : Setup) × (made : Made) × (entries : List Entry) × IsSetFor order policy (length tests.lines) setup
-    × IsChecked (detail_of order) setup tests.name tests.lines made entries before after tally
+IsFileChecked order policy file before after tally =
+    (setup : Setup) × (made : CallReplies) × (entries : List Entry) × IsSetFor order policy (length file.tests) setup
+    × IsChecked (detail_of order) setup file.name file.tests made entries before after tally
 
 -- the files are checked one after the other, each report comes behind the one before it, and this is the sum
 abbrev pub AreChecked : CheckOrder → (policy : List ℕ) → List Tests → (before after : List ℕ) → (sum : Tally) → Type 0
 AreChecked order policy [] before after sum = (after ≡ before) × (sum.passed ≡ 0) × (sum.failed ≡ 0)
-AreChecked order policy (tests ∷ files) before after sum =
-    (mid : List ℕ) × (tally rest : Tally) × IsFileChecked order policy tests before mid tally
+AreChecked order policy (file ∷ files) before after sum =
+    (mid : List ℕ) × (tally rest : Tally) × IsFileChecked order policy file before mid tally
     × AreChecked order policy files mid after rest
     × (sum.passed ≡ tally.passed + rest.passed) × (sum.failed ≡ tally.failed + rest.failed)
 
@@ -121,14 +122,14 @@ IsCheck order policy sources end written =
 abbrev pub MayFail : CheckOrder → (policy : List ℕ) → Failure → Type 0
 MayFail order policy failure =
     ((is_some order.policy ≡ true) × Lacks (run_of order HISTORY_ENTRIES) policy failure)
-    ⊎ ((lines : ℕ) × (setup : Setup) × (fault : RunFault) × IsSetFor order policy lines setup × MayEnd setup fault
+    ⊎ ((tests : ℕ) × (setup : Setup) × (fault : RunFault) × IsSetFor order policy tests setup × MayEnd setup fault
     × (failure ≡ failure_of fault))
     ⊎ (failure ≡ Output) ⊎ (failure ≡ NoMemory)
 
 -- ---- parts, which no public contract cites
 
 abbrev pub tests_of : ReadFile → Tests
-tests_of file = record { name = file.name.now; lines = map meaning_of file.checks.lines.items }
+tests_of file = record { name = file.name.now; tests = file.checks.tests.items }
 
 -- the file is read so
 abbrev pub IsReadAs : NamedText → ReadFile → Type 0

@@ -1,4 +1,6 @@
 pub mod Checks
 pub mod Ends
 pub mod Files
+pub mod Replied
 pub mod Report
+pub mod Wanted

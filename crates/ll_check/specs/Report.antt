@@ -1,43 +1,57 @@
--- What the check of a file writes, and how its tests are made. own
-use Rattle.std.specs.Prelude.{⊤, ◌≡◌, ℕ, ◌+◌, Bool, true, false, List, [], ◌∷◌, ◌++◌, codes, decimal, if◌then◌else◌}
+-- What the check of a file writes, and how its tests are judged. own
+use Rattle.std.specs.Prelude.{◌≡◌, ◌↔◌, IsTrue, ℕ, Bool, true, false, not, List, [], ◌∷◌, ◌++◌, codes, decimal, map}
+use Rattle.std.specs.Prelude.{if◌then◌else◌}
+use Rattle.std.specs.List.{AllByRecursion, count_by, flat_map}
 use Rattle.ll_seq.specs.declared.reply.Entry.{Entry}
 use Rattle.ll_seq.specs.declared.reply.Reply.{Reply}
 use Rattle.ll_wire.specs.Grammar.{reply_line}
-use Rattle.ll_wire.specs.Pieces.{pieces}
-use Rattle.ll_wire.specs.Transcript.{Transcript}
+use Rattle.ll_session.specs.CallsRun.{Makes, call_line}
+use Rattle.ll_session.specs.declared.calls_run.CallReplies.{CallReplies}
+use Rattle.ll_session.specs.declared.calls_run.CallReplies.TheVariants.{Answered, Refused}
 use Rattle.ll_session.specs.declared.setup.Setup.{Setup}
-use Rattle.ll_session.specs.Session.{Session}
-use Rattle.ll_session.specs.Session as session
-use Rattle.ll_session.specs.Opening.{Opens, begun, refused}
-use Rattle.ll_check.specs.declared.running.Made.{Made}
-use Rattle.ll_check.specs.declared.running.Made.TheVariants.{Answered, Refused}
 use Rattle.ll_check.specs.declared.judging.Detail.{Detail}
-use Rattle.ll_check.specs.declared.judging.Tally.{Tally}
 use Rattle.ll_check.specs.declared.judging.Detail.TheVariants as detail
-use Rattle.ll_check.specs.Checks.{Want, Meaning, success, whole, beginning, silent, test, passes, passed, failed}
-use Rattle.ll_check.specs.Checks.{script_of, verdicts}
+use Rattle.ll_check.specs.declared.judging.Tally.{Tally}
+use Rattle.ll_check.specs.declared.reading.Test.{Test}
+use Rattle.ll_check.specs.declared.wanted.Wanted.{Wanted}
+use Rattle.ll_check.specs.Wanted.{Satisfies, wanted_text}
 
--- the tests' commands are made one after the other, as `run` makes a script's lines, and these are the lines of their
--- replies and the history's entries; or a connect or a profile's call is refused, and this is that reply's line
-abbrev pub Makes : Setup → (script : List ℕ) → Made → List Entry → Type 0
-Makes setup script (Answered text) entries =
-    (first last : Session) × Opens setup (begun first) × Transcript session.Tells first (pieces script) text.items last
-    × (entries ≡ last.entries)
-Makes setup script (Refused text) entries =
-    (reply : Reply) × (last : Session) × Opens setup (refused reply last) × (text.items ≡ reply_line reply)
-    × (entries ≡ last.entries)
+-- ---- verdicts
 
-abbrev pub want_text : Want → List ℕ
-want_text success = codes "neither refused nor denied"
-want_text (whole text) = text
-want_text (beginning words) = words ++ codes " .."
+-- a test, its reply, and whether it passes
+pub record Judged : Type 0 where
+  pub test : Test
+  pub reply : Reply
+  pub passes : Bool
+
+abbrev pub judged : Test → Reply → Bool → Judged
+judged test reply passes = record { test = test; reply = reply; passes = passes }
+
+-- it passes exactly where the reply is as wanted
+abbrev pub IsJudged : Judged → Type 0
+IsJudged it = IsTrue it.passes ↔ Satisfies it.test.wanted it.reply
+
+-- these are the verdicts on the tests, by these replies
+pub record AreJudged (tests : List Test) (replies : List Reply) (verdicts : List Judged) : Type 0 where
+  pub of_tests : map (λ it. it.test) verdicts ≡ tests
+  pub by_replies : map (λ it. it.reply) verdicts ≡ replies
+  pub each : AllByRecursion IsJudged verdicts
+
+-- how many tests pass, and how many don't
+abbrev pub passed : List Judged → ℕ
+passed verdicts = count_by (λ it. it.passes) verdicts
+
+abbrev pub failed : List Judged → ℕ
+failed verdicts = count_by (λ it. not it.passes) verdicts
+
+-- ---- texts
 
 -- where a test stands, and its command
-abbrev pub heading : List ℕ → ℕ → List ℕ → List ℕ
-heading file number command = file ++ codes ":" ++ decimal number ++ codes ": " ++ command ++ codes "\n"
+abbrev pub heading : List ℕ → Test → List ℕ
+heading file test = file ++ codes ":" ++ decimal test.line ++ codes ": " ++ call_line test.call
 
-abbrev pub expected : Want → List ℕ
-expected want = codes "expected " ++ want_text want ++ codes "\n"
+abbrev pub expected : Wanted → List ℕ
+expected wanted = codes "expected " ++ (wanted_text wanted ++ codes "\n")
 
 -- a test that passes is shown where everything is, and one that fails unless nothing is
 abbrev pub shows : Detail → Bool → Bool
@@ -46,47 +60,31 @@ shows detail.Usual true = false
 shows detail.Usual false = true
 shows detail.Verbose passes = true
 
-abbrev pub shown : Detail → List ℕ → ℕ → List ℕ → Want → Bool → List ℕ → List ℕ
-shown detail file number command want pass line =
-    if shows detail pass
-    then heading file number command ++ (if pass then [] else expected want) ++ codes "got " ++ line
+abbrev pub shown : Detail → List ℕ → Judged → List ℕ
+shown detail file it =
+    if shows detail it.passes
+    then heading file it.test ++ (if it.passes then [] else expected it.test.wanted)
+    ++ (codes "got " ++ reply_line it.reply)
     else []
-
--- the report on a file's lines, of which the first has this number, with the replies' lines in their order
-abbrev pub report : Detail → List ℕ → ℕ → List Meaning → List (List ℕ) → List ℕ
-report detail file number [] lines = []
-report detail file number (silent ∷ meanings) lines = report detail file (number + 1) meanings lines
-report detail file number (test command want ∷ meanings) [] =
-    shown detail file number command want false (codes "nothing\n") ++ report detail file (number + 1) meanings []
-report detail file number (test command want ∷ meanings) (line ∷ lines) =
-    shown detail file number command want (passes want line) line
-    ++ report detail file (number + 1) meanings lines
 
 -- ---- a whole file
 
--- the verdicts on its tests, as they were made. A profile that is refused is one that fails
-abbrev pub verdicts_on : List Meaning → Made → List Bool
-verdicts_on meanings (Answered text) = verdicts meanings (pieces text.items)
-verdicts_on meanings (Refused text) = false ∷ []
+-- the tests are judged by their replies, the report on them is put behind what was there, and so many pass and fail
+abbrev pub Judges : Detail → (file : List ℕ) → List Test → List Reply → (before after : List ℕ) → Tally → Type 0
+Judges detail file tests replies before after tally =
+    (verdicts : List Judged) × AreJudged tests replies verdicts
+    × (after ≡ before ++ flat_map (shown detail file) verdicts)
+    × (tally.passed ≡ passed verdicts) × (tally.failed ≡ failed verdicts)
 
--- the report is put behind what was there. How a profile's refusal is told, no definition says
-abbrev pub Tells : Detail → (file : List ℕ) → List Meaning → Made → (before after : List ℕ) → Type 0
-Tells detail file meanings (Answered text) before after =
-    after ≡ before ++ report detail file 1 meanings (pieces text.items)
-Tells detail file meanings (Refused text) before after = ⊤
+-- The same of tests that were made so. A profile that is refused is one test that fails; how that is told, no
+-- definition says
+abbrev pub Tells : Detail → (file : List ℕ) → List Test → CallReplies → (before after : List ℕ) → Tally → Type 0
+Tells detail file tests (Answered replies) before after tally =
+    Judges detail file tests replies.items before after tally
+Tells detail file tests (Refused reply) before after tally = (tally.passed ≡ 0) × (tally.failed ≡ 1)
 
--- its tests are made so under this setup, by the calls of this history, and reported, and so many pass and fail
-abbrev pub IsChecked : Detail → Setup → (file : List ℕ) → List Meaning → Made → List Entry
+-- the tests' calls are made under this setup, which leaves these entries, and the tests are reported and counted
+abbrev pub IsChecked : Detail → Setup → (file : List ℕ) → List Test → CallReplies → List Entry
     → (before after : List ℕ) → Tally → Type 0
-IsChecked detail setup file meanings made entries before after tally =
-    Makes setup (script_of meanings) made entries × Tells detail file meanings made before after
-    × (tally.passed ≡ passed (verdicts_on meanings made)) × (tally.failed ≡ failed (verdicts_on meanings made))
-
--- ---- parts, which no public contract cites
-
--- the verdict on the first of some lines is counted, and the replies' lines of the others are left
-abbrev pub Counts : (before after : Tally) → Meaning → (lines left : List (List ℕ)) → Type 0
-Counts before after meaning lines left =
-    (ms : List Meaning)
-    → (before.passed + passed (verdicts (meaning ∷ ms) lines) ≡ after.passed + passed (verdicts ms left))
-    × (before.failed + failed (verdicts (meaning ∷ ms) lines) ≡ after.failed + failed (verdicts ms left))
+IsChecked detail setup file tests made entries before after tally =
+    Makes setup (map (λ test. test.call) tests) made entries × Tells detail file tests made before after tally

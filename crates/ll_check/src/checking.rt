@@ -1,47 +1,45 @@
 //! The check of one file.
 
-ghost use Rattle.std.specs.Prelude.{◌≡◌, All, map, IfOk, IfErr, OnOk};
+ghost use Rattle.std.specs.Prelude.{◌≡◌, length, All, IfOk, IfErr};
 ghost use Rattle.ll_session.specs.Run.{MayEnd};
-ghost use Rattle.ll_check.specs.Checks.{failed, meaning_of, passed};
-ghost use Rattle.ll_check.specs.Report.{IsChecked, Tells, verdicts_on};
+ghost use Rattle.ll_check.specs.Report.{IsChecked, Tells};
+ghost use Rattle.ll_check.specs.Replied.{HasReplies};
 ghost use Rattle.ll_wire.specs.Entries.{IsEntry};
 
-use crate::judging::{Detail, Tally, judge};
-use crate::line::CheckLine;
+use crate::judging::{Detail, Reporter, Tally};
+use crate::reading::Test;
 use crate::refusing::push_refusal;
-use crate::running::{Made, make};
+use crate::running::make;
 use ll_seq::History;
-use ll_session::{RunFault, Setup};
+use ll_session::{CallReplies, RunFault, Setup};
 use ll_wire::SessionFault;
-use std::alloc::{AllocError, Global};
+use std::alloc::AllocError;
 use std::sync::Wait;
 
-// Reports on how the tests were made.
-fn report(
-    out: &mut Vec<u8>,
-    alloc: Global,
-    detail: Detail,
-    file: &[u8],
-    lines: &[CheckLine<'_>],
-    made: &Made,
-    history: &History,
-) -> Result<Tally, AllocError>
-    requires { All IsEntry history.now.entries }
-    ensures report { OnOk result (Tells detail file.now (map meaning_of lines.now) made.now
-        out.old.items out.new.items) }
-    ensures passed { IfOk result (λ t. t.passed ≡ passed (verdicts_on (map meaning_of lines.now) made.now)) }
-    ensures failed { IfOk result (λ t. t.failed ≡ failed (verdicts_on (map meaning_of lines.now) made.now)) }
-{
-    match made {
-        Made::Answered(replies) => judge(out, alloc, detail, file, lines, replies.as_slice()),
-        Made::Refused(line) => {
-            if detail != Detail::Quiet {
-                push_refusal(out, alloc, file, history.entries(), line.as_slice())?;
+impl Reporter<'_> {
+    // Reports on how the tests were made.
+    fn report(
+        &self,
+        out: &mut Vec<u8>,
+        tests: &[Test],
+        made: &CallReplies,
+        history: &History,
+    ) -> Result<Tally, AllocError>
+        requires entries { All IsEntry history.now.entries }
+        requires replies { HasReplies (length tests.now) made.now }
+        ensures { IfOk result (Tells self.now.detail self.now.file.now tests.now made.now out.old.items out.new.items) }
+    {
+        match made {
+            CallReplies::Answered(replies) => self.judge(out, tests, replies.as_slice()),
+            CallReplies::Refused(reply) => {
+                if self.detail != Detail::Quiet {
+                    push_refusal(out, self.alloc, self.file, history.entries(), reply)?;
+                }
+                Ok(Tally {
+                    passed: 0,
+                    failed: 1,
+                })
             }
-            Ok(Tally {
-                passed: 0,
-                failed: 1,
-            })
         }
     }
 }
@@ -50,7 +48,7 @@ fn report(
 #[derive(Drop)]
 pub struct CheckedFile {
     pub tally: Tally,
-    pub made: Made,
+    pub made: CallReplies,
     /// The history of the file's tree.
     pub history: History,
 }
@@ -59,19 +57,16 @@ pub struct CheckedFile {
 pub fn check_file<R: Wait>(
     rt: &R,
     out: &mut Vec<u8>,
-    alloc: Global,
-    detail: Detail,
+    reporter: &Reporter<'_>,
     setup: Setup,
-    file: &[u8],
-    lines: &[CheckLine<'_>],
+    tests: &[Test],
 ) -> Result<CheckedFile, RunFault>
-    ensures checked { IfOk result (λ checked.
-        IsChecked detail setup file.now (map meaning_of lines.now) checked.made checked.history.entries
-        out.old.items out.new.items checked.tally) }
+    ensures checked { IfOk result (λ checked. IsChecked reporter.now.detail setup reporter.now.file.now tests.now
+        checked.made checked.history.entries out.old.items out.new.items checked.tally) }
     ensures fault { IfErr result (λ fault. MayEnd setup fault) }
 {
-    let (made, history) = make(rt, alloc, setup, lines)?;
-    match report(out, alloc, detail, file, lines, &made, &history) {
+    let (made, history) = make(rt, reporter.alloc, setup, tests)?;
+    match reporter.report(out, tests, &made, &history) {
         Ok(tally) => Ok(CheckedFile {
             tally,
             made,

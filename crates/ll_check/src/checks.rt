@@ -11,7 +11,9 @@ ghost use Rattle.ll_check.specs.Files.{AreChecked, Concludes, HasBadLine, IsChec
 ghost use Rattle.ll_check.specs.Files.{MayFail};
 ghost use Rattle.ll_check.specs.Files.{detail_of, end_of, has_test, room_for, source_of, sum_line, tests_of};
 
-use crate::{CheckFault, Checks, Detail, LinesOf, Notes, Tally, check_file, explain, tell_denied};
+use crate::{
+    CheckFault, Checks, Detail, LinesOf, Notes, Reporter, Tally, check_file, explain, tell_denied,
+};
 use ll_options::{CheckOptions, RunOptions};
 use ll_rights::limits::HISTORY_ENTRIES;
 use ll_runs::{Checked, Failure, header_of, setup_of};
@@ -36,18 +38,18 @@ pub struct CheckInput<'a, 'w> {
     pub files: &'a [NamedText<'w>],
 }
 
-// A file that is read: its name, and what its lines say.
+// A file that is read: its name, and its tests.
 #[derive(Drop)]
-struct ReadFile<'a, 'w> {
+struct ReadFile<'w> {
     name: &'w str,
-    checks: Checks<'a>,
+    checks: Checks,
 }
 
-impl ReadFile<'_, '_> {
+impl ReadFile<'_> {
     fn has_test(&self) -> bool
         ensures { result ≡ has_test (tests_of self.now) }
     {
-        self.checks.has_test()
+        !self.checks.tests.is_empty()
     }
 }
 
@@ -59,13 +61,10 @@ struct BadFile {
 }
 
 // What all files say, up to the first that can't be read.
-fn read_all<'a, 'w>(
-    alloc: Global,
-    texts: &'a [NamedText<'w>],
-) -> Result<Vec<ReadFile<'a, 'w>>, BadFile>
-    ensures read { IfOk result (λ files. AllZip IsReadAs texts.entry.now files.items) }
+fn read_all<'w>(alloc: Global, texts: &[NamedText<'w>]) -> Result<Vec<ReadFile<'w>>, BadFile>
+    ensures read { IfOk result (λ files. AllZip IsReadAs texts.now files.items) }
     ensures bad { IfErr result (λ bad. (line : ℕ) → bad.fault ≡ CheckFault.BadLine line
-        → HasBadLine (map source_of texts.entry.now)) }
+        → HasBadLine (map source_of texts.now)) }
 {
     let mut files = Vec::new(alloc);
     for (file, text) in texts.iter().enumerate() {
@@ -97,27 +96,27 @@ fn loader_calls(setup: &Setup) -> usize
 }
 
 // Room in the history for all calls of a check.
-fn room_of(setup: &Setup, lines: usize) -> usize
-    ensures room { result ≡ room_for setup.now lines }
+fn room_of(setup: &Setup, tests: usize) -> usize
+    ensures room { result ≡ room_for setup.now tests }
     ensures some { 1 ≤ result }
     ensures most { result ≤ HISTORY_ENTRIES }
 {
     loader_calls(setup)
         .saturating_add(setup.profile.len())
-        .saturating_add(lines)
+        .saturating_add(tests)
         .saturating_add(2)
         .min(HISTORY_ENTRIES)
 }
 
-// The same setup, with room in the history for so many lines.
-fn with_room(mut setup: Setup, lines: usize) -> Setup
+// The setup with room in its history for so many tests.
+fn with_room(mut setup: Setup, tests: usize) -> Setup
     ensures rules { result.rules ≡ setup.rules }
     ensures nodes { result.nodes ≡ setup.nodes }
-    ensures history { result.history ≡ room_for setup lines }
+    ensures history { result.history ≡ room_for setup tests }
     ensures loader { result.loader ≡ setup.loader }
     ensures profile { result.profile ≡ setup.profile }
 {
-    setup.history = room_of(&setup, lines);
+    setup.history = room_of(&setup, tests);
     setup
 }
 
@@ -126,9 +125,9 @@ fn setup_for(
     alloc: Global,
     options: &CheckOptions,
     policy: &[u8],
-    lines: usize,
+    tests: usize,
 ) -> Result<Setup, Failure>
-    ensures setup { IfOk result (IsSetFor (checked_in options.now) policy.now lines) }
+    ensures setup { IfOk result (IsSetFor (checked_in options.now) policy.now tests) }
     ensures failure { IfErr result (MayFail (checked_in options.now) policy.now) }
 {
     let run = RunOptions {
@@ -143,7 +142,7 @@ fn setup_for(
     };
     let mut text = policy;
     match setup_of(alloc, &run, &mut text) {
-        Ok(setup) => Ok(with_room(setup, lines)),
+        Ok(setup) => Ok(with_room(setup, tests)),
         Err(failure) => Err(failure),
     }
 }
@@ -165,7 +164,7 @@ fn check_one<R: Wait, N: Notes>(
     rt: &R,
     alloc: Global,
     input: &CheckInput<'_, '_>,
-    file: &ReadFile<'_, '_>,
+    file: &ReadFile<'_>,
     report: &mut Vec<u8>,
     notes: &mut N,
 ) -> Result<Tally, Failure>
@@ -173,17 +172,20 @@ fn check_one<R: Wait, N: Notes>(
         (tests_of file.now) report.old.items report.new.items) }
     ensures failure { IfErr result (MayFail (checked_in input.now.options.now) input.now.policy.now) }
 {
-    let name = file.name.as_bytes();
-    let lines = file.checks.lines.as_slice();
-    let setup = setup_for(alloc, input.options, input.policy, lines.len())?;
+    let tests = file.checks.tests.as_slice();
+    let setup = setup_for(alloc, input.options, input.policy, tests.len())?;
     let header = header_of(&setup);
-    let detail = detail_of(input.options);
-    let checked = match check_file(rt, report, alloc, detail, setup, name, lines) {
+    let reporter = Reporter {
+        alloc,
+        detail: detail_of(input.options),
+        file: file.name.as_bytes(),
+    };
+    let checked = match check_file(rt, report, &reporter, setup, tests) {
         Ok(checked) => checked,
         Err(fault) => return Err(Failure::of_run(fault)),
     };
-    if detail != Detail::Quiet && notes.are_wanted() {
-        tell_denied(notes, &header, name, lines, &checked);
+    if reporter.detail != Detail::Quiet && notes.are_wanted() {
+        tell_denied(notes, &reporter, &header, tests, &checked);
     }
     Ok(checked.tally)
 }
@@ -221,7 +223,7 @@ fn check_all<R: Wait, N: Notes>(
     rt: &R,
     alloc: Global,
     input: &CheckInput<'_, '_>,
-    files: &[ReadFile<'_, '_>],
+    files: &[ReadFile<'_>],
     report: &mut Vec<u8>,
     notes: &mut N,
 ) -> Result<Tally, Failure>
@@ -249,21 +251,21 @@ fn push_sum(report: &mut Vec<u8>, alloc: Global, sum: Tally) -> Result<(), Alloc
     report.extend_from_slice(b" failed\n")
 }
 
-fn are_tested(files: &[ReadFile<'_, '_>]) -> bool
+fn are_tested(files: &[ReadFile<'_>]) -> bool
     ensures { result ≡ list_all (λ file. has_test (tests_of file)) files.now }
 {
     files.iter().all(|file| file.has_test())
 }
 
 // Whether each file has a test.
-fn have_tests(files: &[ReadFile<'_, '_>]) -> bool
+fn have_tests(files: &[ReadFile<'_>]) -> bool
     ensures { result ≡ list_all has_test (map tests_of files.now) }
 {
     are_tested(files)
 }
 
 // Tells which files have no test.
-fn tell_untested<E: Write>(files: &[ReadFile<'_, '_>], err: &mut E) {
+fn tell_untested<E: Write>(files: &[ReadFile<'_>], err: &mut E) {
     for file in files {
         if !file.has_test() {
             let _ = writeln!(err, "no test in {}", file.name);
@@ -282,7 +284,7 @@ fn tell_no_profile<E: Write>(options: &CheckOptions, err: &mut E) {
 }
 
 // How it ends.
-fn end_of(files: &[ReadFile<'_, '_>], sum: Tally) -> Checked
+fn end_of(files: &[ReadFile<'_>], sum: Tally) -> Checked
     ensures { result ≡ end_of (map tests_of files.now) sum }
 {
     if have_tests(files) && sum.failed == 0 {
@@ -297,7 +299,7 @@ fn conclude<R: Wait, W: Write, N: Notes>(
     rt: &R,
     alloc: Global,
     input: &CheckInput<'_, '_>,
-    files: &[ReadFile<'_, '_>],
+    files: &[ReadFile<'_>],
     out: &mut W,
     notes: &mut N,
 ) -> Result<Checked, Failure>

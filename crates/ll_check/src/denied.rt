@@ -4,11 +4,11 @@ ghost use Rattle.std.specs.Prelude.{◌≤◌};
 ghost use Rattle.ll_rights.specs.declared.limits.TheConstants.{TREE_NODES};
 
 use crate::checking::CheckedFile;
-use crate::line::CheckLine;
-use crate::lines::cut;
-use crate::passing::{has_first, passes};
-use crate::running::Made;
-use ll_seq::Entry;
+use crate::judging::{Reporter, command_of};
+use crate::reading::Test;
+use ll_rights::Errno;
+use ll_seq::{Entry, Reply};
+use ll_session::CallReplies;
 use ll_wire::Header;
 
 /// A test that fails by a denial.
@@ -17,7 +17,7 @@ pub struct DeniedTest<'a> {
     /// The file that it stands in, its line there, from 1, and its command.
     pub file: &'a [u8],
     pub line: usize,
-    pub command: &'a [u8],
+    pub command: &'a str,
     /// The history of the file's tree, and the number of the test's entry, from 1.
     pub entries: &'a [Entry],
     pub number: usize,
@@ -35,65 +35,57 @@ pub trait Notes {
 }
 
 // Whether a call that gets this reply stands in the history.
-fn is_entered(reply: &[u8]) -> bool {
-    !has_first(b"refused 21", reply)
-        && !has_first(b"refused 22", reply)
-        && !has_first(b"refused 23", reply)
+fn has_entry(reply: &Reply) -> bool {
+    !matches!(
+        reply,
+        Reply::Refused(Errno::HistoryFull | Errno::NoMemory | Errno::BadLine)
+    )
 }
 
 // How many of the replies are to calls that stand in the history.
-fn entered(replies: &[u8]) -> usize {
+fn entered(replies: &[Reply]) -> usize {
     let mut count: usize = 0;
-    let mut rest = replies;
-    while !rest.is_empty() {
-        let (reply, more) = cut(rest);
-        if is_entered(reply) {
+    for reply in replies {
+        if has_entry(reply) {
             count = count.saturating_add(1);
         }
-        rest = more;
     }
     count
 }
 
 /// Tells of the tests of a file that fail by a denial.
-pub fn tell_denied<'a, N: Notes>(
+pub fn tell_denied<N: Notes>(
     notes: &mut N,
+    reporter: &Reporter<'_>,
     header: &Header,
-    file: &'a [u8],
-    lines: &'a [CheckLine<'a>],
-    checked: &'a CheckedFile,
+    tests: &[Test],
+    checked: &CheckedFile,
 )
     requires some { 1 ≤ header.now.nodes }
     requires most { header.now.nodes ≤ TREE_NODES }
 {
-    let Made::Answered(replies) = &checked.made else {
+    let CallReplies::Answered(replies) = &checked.made else {
         return;
     };
     let entries = checked.history.entries();
-    let mut rest = replies.as_slice();
     // The profile's calls stand before those of the tests.
-    let mut number = entries.len().saturating_sub(entered(rest));
-    let mut line: usize = 0;
-    for test in lines {
-        line = line.saturating_add(1);
-        if let CheckLine::Test(command, wanted) = test
-            && !rest.is_empty()
+    let mut number = entries.len().saturating_sub(entered(replies.as_slice()));
+    for (test, reply) in tests.iter().zip(replies.as_slice()) {
+        if has_entry(reply) {
+            number = number.saturating_add(1);
+        }
+        if reply.is_denial()
+            && !test.wanted.is_met(reply)
+            && let Ok(command) = command_of(reporter.alloc, test)
         {
-            let (reply, more) = cut(rest);
-            rest = more;
-            if is_entered(reply) {
-                number = number.saturating_add(1);
-            }
-            if has_first(b"denied", reply) && !passes(*wanted, reply) {
-                let test = DeniedTest {
-                    file,
-                    line,
-                    command,
-                    entries,
-                    number,
-                };
-                notes.of_denied(header, &test);
-            }
+            let denied = DeniedTest {
+                file: reporter.file,
+                line: test.line,
+                command: command.as_str().trim_end(),
+                entries,
+                number,
+            };
+            notes.of_denied(header, &denied);
         }
     }
 }

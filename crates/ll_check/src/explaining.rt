@@ -1,10 +1,10 @@
 //! What is wrong with a line that says nothing. No contract says what is told: it helps who wrote the line.
 
-use crate::lines::{body_of, cut};
-use crate::wanted::are_first_words;
+use crate::lines::body_of;
+use crate::wanted::verdict_of;
 use ll_rights::limits::WORD_BYTES;
-use ll_rights::{Access, Kind, Right};
-use ll_wire::LINE_LIMIT;
+use ll_rights::{Access, Errno, Kind, Right};
+use ll_wire::{LINE_LIMIT, read_first_words, split_line};
 use std::alloc::{AllocError, Global};
 
 /// What lines are of, which tells what they may say.
@@ -260,6 +260,18 @@ fn step<'a>(
     }
 }
 
+// Whether this is what a reply begins with, or what is wanted of the layers.
+fn is_begun(alloc: Global, words: &[u8]) -> Result<bool, AllocError> {
+    if verdict_of(words).is_some() {
+        return Ok(true);
+    }
+    match read_first_words(alloc, words) {
+        Ok(_) => Ok(true),
+        Err(Errno::BadLine) => Ok(false),
+        Err(_) => Err(AllocError),
+    }
+}
+
 // Blames the first word that no reply has here.
 fn blame_reply(alloc: Global, column: usize, reply: &str) -> Result<Blame, AllocError> {
     let mut end = 0;
@@ -267,7 +279,7 @@ fn blame_reply(alloc: Global, column: usize, reply: &str) -> Result<Blame, Alloc
         let start = end;
         end = word.len().saturating_add(end);
         if let Some(words) = reply.as_bytes().get(..end)
-            && !are_first_words(alloc, words)?
+            && !is_begun(alloc, words)?
         {
             let column = column.saturating_add(start);
             return Ok(Blame::new(column, "a reply is expected that the tree could give"));
@@ -341,7 +353,7 @@ fn line_at(text: &[u8], number: usize) -> &[u8] {
     let mut rest = text;
     let mut left = number;
     while !rest.is_empty() {
-        let (line, more) = cut(rest);
+        let (line, more) = split_line(rest);
         if left <= 1 {
             return line;
         }

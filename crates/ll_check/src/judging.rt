@@ -1,14 +1,16 @@
 //! Replies, judged.
 
-ghost use Rattle.std.specs.Prelude.{◌≡◌, ◌+◌, ◌-◌, ◌++◌, ◌∷◌, ◌<◌, ◌≤◌, ◌^◌, ℕ, List, codes, map, IfOk, OnOk};
+ghost use Rattle.std.specs.Prelude.{◌≡◌, ◌+◌, ◌-◌, ◌++◌, ◌<◌, ◌^◌, codes, length, string_bytes, IfOk, OnOk};
 ghost use Rattle.std.specs.Prelude.{if◌then◌else◌};
-ghost use Rattle.ll_wire.specs.Pieces.{pieces};
-ghost use Rattle.ll_check.specs.Checks.{Meaning, failed, meaning_of, passed, test as tested, verdicts, want_of};
-ghost use Rattle.ll_check.specs.Report.{Counts, expected, heading, report, shown, shows};
+ghost use Rattle.ll_wire.specs.Grammar.{reply_line};
+ghost use Rattle.ll_session.specs.CallsRun.{call_line};
+ghost use Rattle.ll_check.specs.Report.{Judges, expected, heading, judged, shown, shows};
 
-use crate::line::{CheckLine, Wanted};
-use crate::lines::cut;
-use crate::passing::passes;
+use crate::reading::Test;
+use crate::wanted::{Wanted, push_wanted};
+use ll_seq::Reply;
+use ll_session::reply_line;
+use ll_wire::{command_text, is_spelled};
 use std::alloc::{AllocError, Global};
 
 /// What is shown of tests.
@@ -39,75 +41,47 @@ pub struct Tally {
     pub failed: u64,
 }
 
-/// A test, and where it stands: in which file, and in which of its lines, from 1.
-#[derive(Clone, Copy)]
-struct Placed<'a> {
-    file: &'a [u8],
-    number: usize,
-    command: &'a [u8],
-    wanted: Wanted<'a>,
-}
-
 // What must come is written at the end.
-fn push_expected(out: &mut Vec<u8>, wanted: Wanted<'_>) -> Result<(), AllocError>
-    ensures { OnOk result (out.new.items ≡ out.old.items ++ expected (want_of wanted.entry)) }
+fn push_expected(out: &mut Vec<u8>, alloc: Global, wanted: &Wanted) -> Result<(), AllocError>
+    ensures { OnOk result (out.new.items ≡ out.old.items ++ expected wanted.now) }
 {
     out.extend_from_slice(b"expected ")?;
-    match wanted {
-        Wanted::Success => out.extend_from_slice(b"neither refused nor denied")?,
-        Wanted::Whole(text) => out.extend_from_slice(text)?,
-        Wanted::Beginning(words) => {
-            out.extend_from_slice(words)?;
-            out.extend_from_slice(b" ..")?;
-        }
-    }
-    out.extend_from_slice(b"\n")
+    push_wanted(out, alloc, wanted)
+}
+
+/// The line of the test's command.
+pub fn command_of(alloc: Global, test: &Test) -> Result<String, AllocError>
+    ensures { IfOk result (λ line. string_bytes line ≡ call_line test.now.call) }
+{
+    is_spelled(&test.call.call);
+    command_text(alloc, test.call.client, &test.call.call)
 }
 
 // The place and the command are written at the end.
-fn push_heading(out: &mut Vec<u8>, alloc: Global, test: Placed<'_>) -> Result<(), AllocError>
-    ensures { OnOk result (out.new.items ≡ out.old.items
-        ++ heading test.entry.file.now test.entry.number test.entry.command.now) }
+fn push_heading(
+    out: &mut Vec<u8>,
+    alloc: Global,
+    file: &[u8],
+    test: &Test,
+) -> Result<(), AllocError>
+    ensures { OnOk result (out.new.items ≡ out.old.items ++ heading file.now test.now) }
 {
-    let number = test.number.to_string(alloc)?;
-    out.extend_from_slice(test.file)?;
+    let number = test.line.to_string(alloc)?;
+    let command = command_of(alloc, test)?;
+    out.extend_from_slice(file)?;
     out.extend_from_slice(b":")?;
     out.extend_from_slice(number.as_bytes())?;
     out.extend_from_slice(b": ")?;
-    out.extend_from_slice(test.command)?;
-    out.extend_from_slice(b"\n")
+    out.extend_from_slice(command.as_bytes())
 }
 
 // What came is written at the end.
-fn push_got(out: &mut Vec<u8>, line: &[u8]) -> Result<(), AllocError>
-    ensures { OnOk result (out.new.items ≡ out.old.items ++ (codes "got " ++ line.now)) }
+fn push_got(out: &mut Vec<u8>, alloc: Global, reply: &Reply) -> Result<(), AllocError>
+    ensures { OnOk result (out.new.items ≡ out.old.items ++ (codes "got " ++ reply_line reply.now)) }
 {
+    let line = reply_line(alloc, reply)?;
     out.extend_from_slice(b"got ")?;
-    out.extend_from_slice(line)
-}
-
-// What is shown of a test, if it is shown, is written at the end.
-fn push_shown(
-    out: &mut Vec<u8>,
-    alloc: Global,
-    detail: Detail,
-    test: Placed<'_>,
-    passes: bool,
-    line: &[u8],
-) -> Result<(), AllocError>
-    ensures { OnOk result (out.new.items ≡ out.old.items
-        ++ shown detail test.entry.file.now test.entry.number test.entry.command.now (want_of test.entry.wanted)
-        passes line.now) }
-{
-    if !detail.shows(passes) {
-        return Ok(());
-    }
-    push_heading(out, alloc, test)?;
-    if passes {
-        return push_got(out, line);
-    }
-    push_expected(out, test.wanted)?;
-    push_got(out, line)
+    out.extend_from_slice(line.as_bytes())
 }
 
 impl Tally {
@@ -126,71 +100,58 @@ impl Tally {
     }
 }
 
-// Judges a test by the next line of the replies. What comes after that is left.
-fn judge_test<'a>(
-    out: &mut Vec<u8>,
-    alloc: Global,
-    detail: Detail,
-    test: Placed<'_>,
-    replies: &'a [u8],
-    tally: &mut Tally,
-) -> Result<&'a [u8], AllocError>
-    requires passed { tally.old.passed < 2 ^ 64 - 1 }
-    requires failed { tally.old.failed < 2 ^ 64 - 1 }
-    ensures report { IfOk result (λ rest. (ms : List Meaning) → out.old.items
-        ++ report detail test.entry.file.now test.entry.number
-        (tested test.entry.command.now (want_of test.entry.wanted) ∷ ms)
-        (pieces replies.entry.now)
-        ≡ out.new.items ++ report detail test.entry.file.now (test.entry.number + 1) ms (pieces rest.now)) }
-    ensures verdict { IfOk result (λ rest. Counts tally.old tally.new
-        (tested test.entry.command.now (want_of test.entry.wanted)) (pieces replies.entry.now) (pieces rest.now)) }
-    ensures one { tally.new.passed + tally.new.failed ≤ tally.old.passed + tally.old.failed + 1 }
-{
-    if replies.is_empty() {
-        tally.count(false);
-        push_shown(out, alloc, detail, test, false, b"nothing\n")?;
-        return Ok(replies);
-    }
-    let (line, rest) = cut(replies);
-    let passes = passes(test.wanted, line);
-    tally.count(passes);
-    push_shown(out, alloc, detail, test, passes, line)?;
-    Ok(rest)
+/// What a report says of the tests of this file, and how much of them is shown.
+#[derive(Clone, Copy)]
+pub struct Reporter<'a> {
+    pub alloc: Global,
+    pub detail: Detail,
+    pub file: &'a [u8],
 }
 
-/// Judges a file's tests by the lines of their replies, and writes the report on them at the end.
-pub fn judge(
-    out: &mut Vec<u8>,
-    alloc: Global,
-    detail: Detail,
-    file: &[u8],
-    lines: &[CheckLine<'_>],
-    replies: &[u8],
-) -> Result<Tally, AllocError>
-    ensures report { OnOk result (out.new.items ≡ out.old.items
-        ++ report detail file.now 1 (map meaning_of lines.now) (pieces replies.now)) }
-    ensures passed { IfOk result (λ tally. tally.passed
-        ≡ passed (verdicts (map meaning_of lines.now) (pieces replies.now))) }
-    ensures failed { IfOk result (λ tally. tally.failed
-        ≡ failed (verdicts (map meaning_of lines.now) (pieces replies.now))) }
-{
-    let mut tally = Tally {
-        passed: 0,
-        failed: 0,
-    };
-    let mut rest = replies;
-    let mut number = 0;
-    for line in lines {
-        number += 1;
-        if let CheckLine::Test(command, wanted) = line {
-            let test = Placed {
-                file,
-                number,
-                command,
-                wanted: *wanted,
-            };
-            rest = judge_test(out, alloc, detail, test, rest, &mut tally)?;
+impl Reporter<'_> {
+    // What is shown of a test, if it is shown, is written at the end.
+    fn push_shown(
+        &self,
+        out: &mut Vec<u8>,
+        test: &Test,
+        passes: bool,
+        reply: &Reply,
+    ) -> Result<(), AllocError>
+        ensures { OnOk result (out.new.items ≡ out.old.items
+            ++ shown self.now.detail self.now.file.now (judged test.now reply.now passes)) }
+    {
+        if !self.detail.shows(passes) {
+            return Ok(());
         }
+        push_heading(out, self.alloc, self.file, test)?;
+        if !passes {
+            push_expected(out, self.alloc, &test.wanted)?;
+        }
+        push_got(out, self.alloc, reply)
     }
-    Ok(tally)
+
+    /// Judges a file's tests by their replies, and writes the report on them at the end.
+    pub fn judge(
+        &self,
+        out: &mut Vec<u8>,
+        tests: &[Test],
+        replies: &[Reply],
+    ) -> Result<Tally, AllocError>
+        requires { length tests.now ≡ length replies.now }
+        ensures { IfOk result (Judges self.now.detail self.now.file.now tests.now replies.now
+            out.old.items out.new.items) }
+    {
+        let mut tally = Tally {
+            passed: 0,
+            failed: 0,
+        };
+        for i in 0..tests.len() {
+            let test = &tests[i];
+            let reply = &replies[i];
+            let passes = test.wanted.is_met(reply);
+            tally.count(passes);
+            self.push_shown(out, test, passes, reply)?;
+        }
+        Ok(tally)
+    }
 }

@@ -1,23 +1,9 @@
 //! A text's lines.
 
-ghost use Rattle.std.specs.Prelude.{◌≡◌, ◌<◌, ◌∷◌, ◌++◌, [], ℕ, List, length, IfOk, IfSome, IfNone};
-ghost use Rattle.ll_wire.specs.Pieces.{pieces};
+ghost use Rattle.std.specs.Prelude.{◌≡◌, ◌∷◌, ◌++◌, [], List, ℕ, IfOk, IfSome, IfNone};
 ghost use Rattle.ll_check.specs.Checks.{body_of};
 
-use memchr::memchr;
 use std::alloc::{AllocError, Global};
-
-/// The first line of these bytes, its line feed included where it has one, and what comes after it.
-pub fn cut(bytes: &[u8]) -> (&[u8], &[u8])
-    requires { 0 < length bytes.now }
-    ensures first { pieces bytes.now ≡ result.0.now ∷ pieces result.1.now }
-    ensures shorter { length result.1.now < length bytes.now }
-{
-    match memchr(b'\n', bytes) {
-        Some(end) => bytes.split_at(end + 1),
-        None => (bytes, &[]),
-    }
-}
 
 /// A line without its line feed, if it has one.
 #[tactic(auto, using(crate::proofs::Bodies::if_ended, crate::proofs::Bodies::if_open, crate::proofs::Bodies::if_empty))]

@@ -1,6 +1,7 @@
 //! What is told of a profile that is refused.
 
 use ll_seq::{Call, Entry, Reply};
+use ll_session::reply_line;
 use ll_wire::{command_text, is_spelled, reply_text_behind};
 use std::alloc::{AllocError, Global};
 
@@ -77,13 +78,13 @@ pub fn profile_call_text(
     format!(in alloc; "{place}: {answered}")
 }
 
-/// Tells that a profile is refused: of which of its calls, and by which reply's line. No contract says how.
+/// Tells that a profile is refused: of which of its calls, and by which reply. No contract says how.
 pub fn push_refusal(
     out: &mut Vec<u8>,
     alloc: Global,
     file: &[u8],
     entries: &[Entry],
-    line: &[u8],
+    refusal: &Reply,
 ) -> Result<(), AllocError> {
     out.extend_from_slice(file)?;
     out.extend_from_slice(b": profile refused: ")?;
@@ -96,6 +97,9 @@ pub fn push_refusal(
             let told = profile_call_text(alloc, progress, call, reply)?;
             out.extend_from_slice(told.as_bytes())
         }
-        _ => out.extend_from_slice(line),
+        _ => {
+            let line = reply_line(alloc, refusal)?;
+            out.extend_from_slice(line.as_bytes())
+        }
     }
 }

@@ -1,191 +1,200 @@
-//! Lines of a file of checks, read.
+//! What the reply to a test's command must be.
 
-ghost use Rattle.std.specs.Prelude.{◌≡◌, ◌<◌, ◌≤◌, ◌++◌, ℕ, codes, length, IfOk, IfSome, IfNone, MatchBool};
-ghost use Rattle.std.specs.Prelude.{map, option_map};
+ghost use Rattle.std.specs.Prelude.{◌≡◌, ◌↔◌, ◌++◌, ◌<◌, IfOk, IsTrue, OnOk, codes, List, ℕ};
+ghost use Rattle.std.specs.List.{join_with_byte};
+ghost use Rattle.ll_rights.specs.Right.{right_text};
+ghost use Rattle.ll_decide.specs.Denial.{place_text};
+ghost use Rattle.ll_wire.specs.FirstWords.{SpellsFirst};
+ghost use Rattle.ll_wire.specs.Grammar.{reply_tokens, IsReply};
 ghost use Rattle.ll_wire.specs.Reads.{Finds};
-ghost use Rattle.ll_check.specs.Checks.{AreFirstWords, IsCommand, IsSilent, IsWholeReply, SpellsAt, SpellsBody};
-ghost use Rattle.ll_check.specs.Checks.{Completes, SpellsLine, SpellsWant, Want, meaning_of, want_of};
+ghost use Rattle.ll_check.specs.Wanted.{Satisfies, SpellsVerdict, SpellsWanted, is_allowed, is_success, wanted_text};
 
-use crate::line::{CheckLine, Wanted};
-use crate::lines::{body_of, ended, strip_back, strip_front};
-use ll_rights::Errno;
-use ll_rights::limits::TREE_CLIENTS;
-use ll_wire::{read_command, read_reply};
+use crate::lines::{ended, strip_back, strip_front};
+use ll_decide::Place;
+use ll_rights::{Errno, Right};
+use ll_seq::Reply;
+use ll_session::reply_line;
+use ll_wire::{FirstWords, first_words_text, read_first_words, read_reply};
 use std::alloc::{AllocError, Global};
 
-fn is_silent(body: &[u8]) -> bool
-    ensures { MatchBool result (IsSilent body.now) (IsSilent body.now → ⊥) }
-{
-    body.iter().all(|b| *b == b' ') || body.first() == Some(&b'#')
+/// What the reply to a command must be.
+#[derive(Drop)]
+pub enum Wanted {
+    /// Any that neither refuses nor denies.
+    Success,
+    /// Any that the tree gives and that denies nothing, whatever else it refuses.
+    Allowed,
+    /// A denial.
+    Denied,
+    /// A denial of this right.
+    DeniedRight(Right),
+    /// A denial of this right at this place.
+    DeniedAt(Right, Place),
+    /// This one.
+    Whole(Reply),
+    /// One that begins with these words.
+    First(FirstWords),
 }
 
-fn is_command(alloc: Global, text: &[u8]) -> Result<bool, AllocError>
-    ensures { IfOk result (λ is. MatchBool is (IsCommand text.now) (IsCommand text.now → ⊥)) }
+fn is_success(reply: &Reply) -> bool
+    ensures { result ≡ is_success reply.now }
 {
-    let line = ended(alloc, text)?;
-    match read_command(alloc, line.as_slice(), TREE_CLIENTS as u64) {
-        Ok(_) => Ok(true),
-        Err(Errno::BadLine) => Ok(false),
+    !matches!(reply, Reply::Refused(_) | Reply::Denied(_))
+}
+
+// Whether the tree has answered so, and no layer denies the call.
+fn is_allowed(reply: &Reply) -> bool
+    ensures { result ≡ is_allowed reply.now }
+{
+    match reply {
+        Reply::Denied(_) => false,
+        Reply::Refused(Errno::HistoryFull | Errno::NoMemory | Errno::BadLine) => false,
+        _ => true,
+    }
+}
+
+impl Wanted {
+    /// Whether the reply is as wanted.
+    pub fn is_met(&self, reply: &Reply) -> bool
+        ensures { IsTrue result ↔ Satisfies self.now reply.now }
+    {
+        match (self, reply) {
+            (Wanted::Success, reply) => is_success(reply),
+            (Wanted::Allowed, reply) => is_allowed(reply),
+            (Wanted::Denied, reply) => reply.is_denial(),
+            (Wanted::DeniedRight(right), Reply::Denied(denial)) => denial.right == *right,
+            (Wanted::DeniedAt(right, place), Reply::Denied(denial)) => {
+                denial.right == *right && denial.place == *place
+            }
+            (Wanted::DeniedRight(_) | Wanted::DeniedAt(_, _), _) => false,
+            (Wanted::Whole(given), reply) => reply.is(given),
+            (Wanted::First(words), reply) => words.begin(reply),
+        }
+    }
+}
+
+fn right_of(text: &[u8]) -> Option<Right>
+    ensures { Finds (λ right. (right < 15) × (text.now ≡ right_text right)) result }
+{
+    match str::from_utf8(text) {
+        Ok(text) => Right::parse(text),
+        Err(_) => None,
+    }
+}
+
+fn right_before(text: &[u8], back: &[u8]) -> Option<Right>
+    ensures { Finds (λ right. (right < 15) × (text.now ≡ right_text right ++ back.now)) result }
+{
+    right_of(strip_back(text, back)?)
+}
+
+fn denied_at(text: &[u8]) -> Option<(Right, Place)>
+    ensures { Finds (λ v. (v.0 < 15) × (text.now ≡ right_text v.0 ++ (codes " " ++ place_text v.1))) result }
+{
+    if let Some(right) = right_before(text, b" at") {
+        return Some((right, Place::At));
+    }
+    if let Some(right) = right_before(text, b" old") {
+        return Some((right, Place::Old));
+    }
+    match right_before(text, b" new") {
+        Some(right) => Some((right, Place::New)),
+        None => None,
+    }
+}
+
+/// What is wanted of the layers, where the text says that.
+pub fn verdict_of(text: &[u8]) -> Option<Wanted>
+    ensures { Finds (SpellsVerdict text.now) result }
+{
+    if text == b"allowed".as_slice() {
+        return Some(Wanted::Allowed);
+    }
+    if text == b"denied".as_slice() {
+        return Some(Wanted::Denied);
+    }
+    let denied = strip_front(text, b"denied ")?;
+    if let Some(right) = right_of(denied) {
+        return Some(Wanted::DeniedRight(right));
+    }
+    match denied_at(denied) {
+        Some((right, place)) => Some(Wanted::DeniedAt(right, place)),
+        None => None,
+    }
+}
+
+// The first words, where the text has them, and ` ..` behind them.
+fn first_words_of(alloc: Global, text: &[u8]) -> Result<Option<FirstWords>, AllocError>
+    ensures { IfOk result (Finds (λ words. (front : List ℕ) × (text.now ≡ front ++ codes " ..")
+        × SpellsFirst front words)) }
+{
+    let Some(front) = strip_back(text, b" ..") else {
+        return Ok(None);
+    };
+    match read_first_words(alloc, front) {
+        Ok(words) => Ok(Some(words)),
+        Err(Errno::BadLine) => Ok(None),
         Err(_) => Err(AllocError),
     }
 }
 
-fn is_reply(alloc: Global, text: &[u8]) -> Result<bool, AllocError>
-    ensures { IfOk result (λ is. MatchBool is (IsWholeReply text.now) (IsWholeReply text.now → ⊥)) }
+fn reply_of(alloc: Global, text: &[u8]) -> Result<Option<Reply>, AllocError>
+    ensures { IfOk result (Finds (λ reply. IsReply reply × (text.now ≡ join_with_byte 32 (reply_tokens reply)))) }
 {
     let line = ended(alloc, text)?;
     match read_reply(alloc, line.as_slice()) {
-        Ok(_) => Ok(true),
-        Err(Errno::BadLine) => Ok(false),
+        Ok(reply) => Ok(Some(reply)),
+        Err(Errno::BadLine) => Ok(None),
         Err(_) => Err(AllocError),
     }
 }
 
-fn is_reply_with(alloc: Global, words: &[u8], ending: &str) -> Result<bool, AllocError>
-    ensures { IfOk result (λ is. MatchBool is (IsWholeReply (words.now ++ ending.now))
-        (IsWholeReply (words.now ++ ending.now) → ⊥)) }
+/// What must come, where the text behind the sign `=` says that.
+pub fn read_wanted(alloc: Global, text: &[u8]) -> Result<Option<Wanted>, AllocError>
+    ensures { IfOk result (Finds (SpellsWanted text.now)) }
 {
-    let mut text = Vec::from_slice(alloc, words)?;
-    text.extend_from_slice(ending.as_bytes())?;
-    is_reply(alloc, text.as_slice())
-}
-
-// Whether one of these endings makes the words a whole reply.
-fn is_completed(alloc: Global, words: &[u8], endings: &[&str]) -> Result<bool, AllocError>
-    ensures { IfOk result (λ is. MatchBool is (Completes (map (λ e. e.now) endings.now) words.now)
-        (Completes (map (λ e. e.now) endings.now) words.now → ⊥)) }
-{
-    for ending in endings {
-        if is_reply_with(alloc, words, ending)? {
-            return Ok(true);
-        }
+    if let Some(wanted) = verdict_of(text) {
+        return Ok(Some(wanted));
     }
-    Ok(false)
-}
-
-#[tactic(auto, unfolding(crate::specs::Checks::AreFirstWords))]
-pub fn are_first_words(alloc: Global, words: &[u8]) -> Result<bool, AllocError>
-    ensures { IfOk result (λ is. MatchBool is (AreFirstWords words.now) (AreFirstWords words.now → ⊥)) }
-{
-    let endings = [
-        "",
-        " 0",
-        " -",
-        " 0 reg 0 0",
-        " reg 0 0",
-        " 0 0",
-        " EXDEV layer 1 refer at",
-        " layer 1 refer at",
-        " 1 refer at",
-        " refer at",
-        " at",
-        " 3 ENOENT",
-        " ENOENT",
-        " EEXIST",
-        " ENOTDIR",
-        " EISDIR",
-        " ENOTEMPTY",
-        " EINVAL",
-        " EPERM",
-        " EBUSY",
-        " EBADF",
-        " EMFILE",
-        " ENOSPC",
-        " EMLINK",
-        " ENAMETOOLONG",
-        " EFBIG",
-        " ELOOP",
-        " ENXIO",
-        " E2BIG",
-        " ENOMSG",
-        " HistoryFull",
-        " NoMemory",
-        " BadLine",
-    ];
-    is_completed(alloc, words, &endings)
-}
-
-// The words, where the text has words that a reply begins with, and ` ..` behind them.
-fn words_of<'a>(alloc: Global, text: &'a [u8]) -> Result<Option<&'a [u8]>, AllocError>
-    ensures { IfOk result (λ found. Finds (λ words. (text.entry.now ≡ words ++ codes " ..") × AreFirstWords words)
-        (option_map (λ words. words.now) found)) }
-{
-    let Some(words) = strip_back(text, b" ..") else {
-        return Ok(None);
-    };
-    let are_words = are_first_words(alloc, words)?;
-    if are_words { Ok(Some(words)) } else { Ok(None) }
-}
-
-// What must come, where the text spells it.
-fn wanted_of<'a>(alloc: Global, text: &'a [u8]) -> Result<Option<Wanted<'a>>, AllocError>
-    ensures { IfOk result (λ found. Finds (SpellsWant text.entry.now) (option_map want_of found)) }
-{
-    let words = words_of(alloc, text)?;
+    let words = first_words_of(alloc, text)?;
     if let Some(words) = words {
-        return Ok(Some(Wanted::Beginning(words)));
+        return Ok(Some(Wanted::First(words)));
     }
-    let is_whole = is_reply(alloc, text)?;
-    if is_whole {
-        Ok(Some(Wanted::Whole(text)))
-    } else {
-        Ok(None)
+    let reply = reply_of(alloc, text)?;
+    match reply {
+        Some(reply) => Ok(Some(Wanted::Whole(reply))),
+        None => Ok(None),
     }
 }
 
-// What must come, where the command ends here and the sign `=` stands behind it.
-fn wanted_at<'a>(
-    alloc: Global,
-    body: &'a [u8],
-    place: usize,
-) -> Result<Option<Wanted<'a>>, AllocError>
-    requires { place ≤ length body.now }
-    ensures { IfOk result (λ found. Finds (SpellsAt body.entry.now place) (option_map want_of found)) }
+fn push_denied(out: &mut Vec<u8>, right: Right, place: &[u8]) -> Result<(), AllocError>
+    ensures { OnOk result (out.new.items ≡ out.old.items ++ (codes "denied " ++ (right_text right ++ place.now))) }
 {
-    let (command, rest) = body.split_at(place);
-    let Some(text) = strip_front(rest, b" = ") else {
-        return Ok(None);
-    };
-    let is = is_command(alloc, command)?;
-    if is { wanted_of(alloc, text) } else { Ok(None) }
+    out.extend_from_slice(b"denied ")?;
+    out.extend_from_slice(right.text().as_bytes())?;
+    out.extend_from_slice(place)
 }
 
-// The test whose command has something behind it.
-fn followed_test<'a>(alloc: Global, body: &'a [u8]) -> Result<Option<CheckLine<'a>>, AllocError>
-    ensures some { IfOk result (λ found. IfSome found (λ line. SpellsBody body.entry.now (meaning_of line))) }
-    ensures none { IfOk result (λ found. IfNone found ((place : ℕ) (want : Want) → place < length body.entry.now
-        → SpellsAt body.entry.now place want → ⊥)) }
+/// The line of what is wanted is written at the end.
+pub fn push_wanted(out: &mut Vec<u8>, alloc: Global, wanted: &Wanted) -> Result<(), AllocError>
+    ensures { OnOk result (out.new.items ≡ out.old.items ++ (wanted_text wanted.now ++ codes "\n")) }
 {
-    for place in 0..body.len() {
-        let found = wanted_at(alloc, body, place)?;
-        if let Some(wanted) = found {
-            let (command, _) = body.split_at(place);
-            return Ok(Some(CheckLine::Test(command, wanted)));
+    match wanted {
+        Wanted::Success => out.extend_from_slice(b"neither refused nor denied\n"),
+        Wanted::Allowed => out.extend_from_slice(b"allowed\n"),
+        Wanted::Denied => out.extend_from_slice(b"denied\n"),
+        Wanted::DeniedRight(right) => push_denied(out, *right, b"\n"),
+        Wanted::DeniedAt(right, Place::At) => push_denied(out, *right, b" at\n"),
+        Wanted::DeniedAt(right, Place::Old) => push_denied(out, *right, b" old\n"),
+        Wanted::DeniedAt(right, Place::New) => push_denied(out, *right, b" new\n"),
+        Wanted::Whole(reply) => {
+            let line = reply_line(alloc, reply)?;
+            out.extend_from_slice(line.as_bytes())
+        }
+        Wanted::First(words) => {
+            let text = first_words_text(alloc, words)?;
+            out.extend_from_slice(text.as_bytes())?;
+            out.extend_from_slice(b" ..\n")
         }
     }
-    Ok(None)
-}
-
-// What a line's text says, if it says anything.
-fn line_of<'a>(alloc: Global, body: &'a [u8]) -> Result<Option<CheckLine<'a>>, AllocError>
-    ensures { IfOk result (λ found. Finds (SpellsBody body.entry.now) (option_map meaning_of found)) }
-{
-    if is_silent(body) {
-        return Ok(Some(CheckLine::Silent));
-    }
-    let is = is_command(alloc, body)?;
-    if is {
-        return Ok(Some(CheckLine::Test(body, Wanted::Success)));
-    }
-    followed_test(alloc, body)
-}
-
-/// What a line says, if it says anything.
-pub fn read_check_line<'a>(
-    alloc: Global,
-    line: &'a [u8],
-) -> Result<Option<CheckLine<'a>>, AllocError>
-    ensures { IfOk result (λ found. Finds (SpellsLine line.entry.now) (option_map meaning_of found)) }
-{
-    line_of(alloc, body_of(line))
 }

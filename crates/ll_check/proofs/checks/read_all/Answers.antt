@@ -1,8 +1,8 @@
-use Rattle.std.proofs.Common.{◌≡◌, ℕ, ◌+◌, ◌++◌, ◌∷◌, [], suc, List, map, take, refl, subst, sym, arith}
+use Rattle.std.proofs.Common.{◌≡◌, ℕ, ◌+◌, ◌++◌, ◌∷◌, [], suc, List, take, refl, subst, sym, arith}
 use Rattle.std.specs.List.{AllZip}
 use Rattle.std.proofs.lemmas.Grind.{common_steps}
 use Rattle.ll_wire.specs.Pieces.{pieces}
-use Rattle.ll_check.specs.Checks.{SpellsLine, meaning_of}
+use Rattle.ll_check.specs.Checks.{AreTests}
 use Rattle.ll_check.specs.declared.checks.ReadFile.{ReadFile}
 use Rattle.ll_check.specs.Files.{IsReadAs}
 use Rattle.ll_check.proofs.Files.{bad_line, read_more}
@@ -21,8 +21,8 @@ loop-file-preserved c =
     let next : suc i ≡ i + 1 = omega arith in
     let is : IsReadAs text file = (
       refl,
-      subst (λ (x : List ℕ). AllZip SpellsLine (pieces x) (map meaning_of checks.lines.items)) c.as_slice.ensures.value
-          c.in-Ok.ensures.told,
+      subst (λ (x : List ℕ). AreTests 1 (pieces x) checks.tests.items) c.as_slice.ensures.value
+          c.in-Ok.ensures.tests,
     ) in
     let more = read_more texts i c.loop-file.files.items text file c.loop-file-test.true c.index-texts-file.is
     c.loop-file.invariant is in

@@ -12,7 +12,7 @@ returns-in-Ok-clause-setup c =
     let order = checked_in c.args.options.now in
     let is = c.in-Ok.ensures.setup in
     let w = c.with_room.ensures in
-    with_room order c.args.policy.now HISTORY_ENTRIES c.args.lines c.in-Ok.setup c.with_room.result
+    with_room order c.args.policy.now HISTORY_ENTRIES c.args.tests c.in-Ok.setup c.with_room.result
     (subst (λ (x : List ℕ). IsSetup (run_of order HISTORY_ENTRIES) x c.in-Ok.setup) is.1 is.2)
     w.rules w.nodes w.history w.loader w.profile
 
