@@ -1,6 +1,8 @@
+pub mod Accepting
 pub mod Choosing
 pub mod Clearing
 pub mod Denials
+pub mod Demanding
 pub mod Growing
 pub mod Judging
 pub mod Leasts

@@ -16,7 +16,8 @@ use Rattle.ll_decide.proofs.OneByOne.{holds_none}
 use Rattle.ll_decide.specs.Judge.{grants_along}
 use Rattle.ll_decide.specs.declared.demands.On.{On}
 use Rattle.ll_decide.specs.declared.demands.On.TheVariants.{Itself, Other, Parent, Entered}
-use Rattle.ll_why.specs.Changes.{IsChange, changed, rule_on, with_more}
+use Rattle.ll_seq.specs.State.{State}
+use Rattle.ll_why.specs.Changes.{IsChange, changed, is_added, rule_on, with_more}
 use Rattle.ll_why.specs.Places.{granted_with}
 use Rattle.ll_why.specs.Reasons.{chain_of}
 use Rattle.ll_why.specs.declared.asks.Asks.{Asks}
@@ -89,18 +90,23 @@ handled_same true x r only = refl
 handled_same false true r only = sym (only refl)
 handled_same false false r only = refl
 
+refer_bit : (q a h : Bool) → ((q && a) && not h) ≡ true → q ≡ true
+refer_bit true a h e = refl
+refer_bit false a h e = absurd (cc e)
+
 four : (n b p q r s : Bool) → (n || ((((b || p) || q) || r) || s)) ≡ ((n || b) || (((p || q) || r) || s))
 four true b p q r s = refl
 four false true p q r s = refl
 four false false p q r s = refl
 
-module _ (asks : Asks) (layer : Layer) (change : LayerChange) (is : IsChange asks layer change) (right : ℕ)
-    (known : right < 15) where
+module _ (level : ℕ) (s : State) (asks : Asks) (layer : Layer) (change : LayerChange)
+    (is : IsChange level s asks layer change) (right : ℕ) (known : right < 15) where
   restricts_same : restricts (changed layer change) right ≡ restricts layer right
   restricts_same =
       ap (λ b. b || (right == refer)) (holds-or layer.handled change.handled.0 right)
       ∙ handled_same (holds layer.handled right) (holds change.handled.0 right) (right == refer)
-      (λ new. eq-eqb right refer (is.handled right known new))
+      (λ new. refer_bit (right == refer) (is_added change right) (holds layer.handled right)
+      (sym (is.handled right known) ∙ new))
 
   abbrev added : On → Bool
   added from = holds (rule_on change from).rights.0 right

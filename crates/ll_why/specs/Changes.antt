@@ -1,17 +1,20 @@
 -- The least change of a client's layers that would let a call through. own
-use Rattle.std.specs.Prelude.{◌≡◌, ℕ, ◌+◌, ◌-◌, ◌<◌, ◌≤◌, Bool, true, ◌&&◌, ◌||◌, List, [], ◌∷◌, length, ◌==◌}
-use Rattle.std.specs.Prelude.{bit_or, if◌then◌else◌, slice_index}
+use Rattle.std.specs.Prelude.{◌≡◌, ◌≢◌, ℕ, ◌+◌, ◌-◌, ◌<◌, ◌≤◌, Bool, true, not, ◌&&◌, ◌||◌, List, [], ◌∷◌, length, ◌==◌}
+use Rattle.std.specs.Prelude.{Option, Some, None, bit_or, if◌then◌else◌, slice_index}
+use Rattle.std.specs.declared.alloc.Global.{Global}
+use Rattle.std.specs.declared.vec.Vec.{Vec}
 use Rattle.std.specs.List.{AllZip}
-use Rattle.ll_rights.specs.Access.{holds}
+use Rattle.ll_rights.specs.declared.kind.Kind.{Kind}
+use Rattle.ll_rights.specs.Access.{holds, is_within, known_set}
 use Rattle.ll_rights.specs.Right.{refer}
 use Rattle.ll_rules.specs.Layer.{Layer}
-use Rattle.ll_rules.specs.Rules.{with_rule}
+use Rattle.ll_rules.specs.Rules.{rule_refusals, with_rule}
 use Rattle.ll_decide.specs.declared.demands.On.{On}
 use Rattle.ll_decide.specs.declared.demands.On.TheVariants.{Itself, Other, Parent, Left, Entered}
 use Rattle.ll_seq.specs.Asked.{call_denials}
 use Rattle.ll_seq.specs.declared.call.Call.{Call}
 use Rattle.ll_seq.specs.declared.client.ClientRecord.{ClientRecord}
-use Rattle.ll_seq.specs.State.{State}
+use Rattle.ll_seq.specs.State.{State, kind_of}
 use Rattle.ll_why.specs.Reasons.{chain_of}
 use Rattle.ll_why.specs.declared.asks.Asks.{Asks}
 use Rattle.ll_why.specs.declared.change.LayerChange.{LayerChange}
@@ -29,11 +32,6 @@ abbrev pub is_added : LayerChange → ℕ → Bool
 is_added change right =
     holds change.itself.rights.0 right || holds change.other.rights.0 right || holds change.entered.rights.0 right
     || holds change.parent.rights.0 right
-
-abbrev pub is_nothing : LayerChange → Bool
-is_nothing change =
-    ((change.itself.rights.0 == 0) && (change.other.rights.0 == 0)) && (change.entered.rights.0 == 0)
-    && (change.parent.rights.0 == 0)
 
 -- the ruleset with these rights for the inode, if there are any
 abbrev pub with_more : Layer → Ruled → Layer
@@ -55,16 +53,29 @@ all_changed (layer ∷ layers) (change ∷ changes) = changed layer change ∷ a
 abbrev pub end_of : List ℕ → ℕ
 end_of inodes = slice_index inodes (length inodes - 1)
 
--- Rights are added where the call's paths and their directories end; and all that are added are handled then, of which
--- none is handled anew but refer
-pub record IsChange (asks : Asks) (layer : Layer) (change : LayerChange) : Type 0 where
-  pub ends : (on : On) → (rule_on change on).inode ≡ end_of (chain_of asks on)
-  pub handled : (right : ℕ) → right < 15 → holds change.handled.0 right ≡ true → right ≡ refer
-  pub legal : (on : On) (right : ℕ) → right < 15 → holds (rule_on change on).rights.0 right ≡ true
-      → holds (bit_or layer.handled change.handled.0) right ≡ true
+-- the level knows the rights, and a ruleset that handles what the layer does takes a rule of them on a node of this
+-- kind, if there is any
+pub record TakesRule (level : ℕ) (layer : Layer) (kind : Kind) (rights : ℕ) : Type 0 where
+  pub known : is_within rights (known_set level) ≡ true
+  pub taken : rights ≢ 0 → rule_refusals layer kind rights ≡ []
 
-abbrev pub AreChanges : Asks → List Layer → List LayerChange → Type 0
-AreChanges asks domain changes = AllZip (λ change layer. IsChange asks layer change) changes domain
+-- where there is no node, there is no rule
+abbrev pub Takes : ℕ → Layer → Option Kind → ℕ → Type 0
+Takes level layer None rights = rights ≡ 0
+Takes level layer (Some kind) rights = TakesRule level layer kind rights
+
+-- Rights are added where the call's paths and their directories end. Handled anew is refer, where a rule is to hold it
+-- and the layer doesn't handle it, and nothing else. All this a tree of this level accepts
+pub record IsChange (level : ℕ) (s : State) (asks : Asks) (layer : Layer) (change : LayerChange) : Type 0 where
+  pub ends : (on : On) → (rule_on change on).inode ≡ end_of (chain_of asks on)
+  pub handled : (right : ℕ) → right < 15 → holds change.handled.0 right
+      ≡ (((right == refer) && is_added change right) && not (holds layer.handled right))
+  pub known : is_within change.handled.0 (known_set level) ≡ true
+  pub taken : (on : On)
+      → Takes level (changed layer change) (kind_of s (rule_on change on).inode) (rule_on change on).rights.0
+
+abbrev pub AreChanges : ℕ → State → Asks → List Layer → List LayerChange → Type 0
+AreChanges level s asks domain changes = AllZip (λ change layer. IsChange level s asks layer change) changes domain
 
 -- policy allows the call where the client's layers are changed so
 abbrev pub IsAllowed : State → ClientRecord → Call → List LayerChange → Type 0
@@ -87,11 +98,21 @@ IsWithin one other = (on : On) (right : ℕ) → right < 15 → holds (rule_on o
 
 -- The changes let the call through. Of all that do, each right is added by these in the narrowest way; and no others
 -- that leave out some of these rights do
-pub record AreLeast (s : State) (c : ClientRecord) (call : Call) (asks : Asks) (changes : List LayerChange) : Type 0
-  where
-    pub are : AreChanges asks c.domain changes
-    pub allowed : IsAllowed s c call changes
-    pub narrowest : (others : List LayerChange) → AreChanges asks c.domain others → IsAllowed s c call others
-        → AllZip (λ one other. (right : ℕ) → right < 15 → width one right ≤ width other right) changes others
-    pub needed : (others : List LayerChange) → AreChanges asks c.domain others → IsAllowed s c call others
-        → AllZip IsWithin others changes → AllZip IsWithin changes others
+pub record AreLeast (level : ℕ) (s : State) (c : ClientRecord) (call : Call) (asks : Asks) (changes : List LayerChange)
+    : Type 0 where
+  pub are : AreChanges level s asks c.domain changes
+  pub allowed : IsAllowed s c call changes
+  pub narrowest : (others : List LayerChange) → AreChanges level s asks c.domain others → IsAllowed s c call others
+      → AllZip (λ one other. (right : ℕ) → right < 15 → width one right ≤ width other right) changes others
+  pub needed : (others : List LayerChange) → AreChanges level s asks c.domain others → IsAllowed s c call others
+      → AllZip IsWithin others changes → AllZip IsWithin changes others
+
+-- no changes let the call through
+abbrev pub NoneAllows : ℕ → State → ClientRecord → Call → Asks → Type 0
+NoneAllows level s c call asks =
+    (others : List LayerChange) → AreChanges level s asks c.domain others → IsAllowed s c call others → ⊥
+
+-- the least changes are found where some let the call through
+abbrev pub IsLeastFound : ℕ → State → ClientRecord → Call → Asks → Option (Vec LayerChange Global) → Type 0
+IsLeastFound level s c call asks None = NoneAllows level s c call asks
+IsLeastFound level s c call asks (Some changes) = AreLeast level s c call asks changes.items

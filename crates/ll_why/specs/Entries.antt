@@ -1,5 +1,5 @@
 -- What is told of an entry of a history. own
-use Rattle.std.specs.Prelude.{◌≡◌, ◌⊎◌, ℕ, ◌-◌, ◌≤◌, ◌<◌, true, false, not, List, [], ◌∷◌, ◌++◌, Option, Some, None}
+use Rattle.std.specs.Prelude.{◌≡◌, ◌⊎◌, ℕ, ◌-◌, ◌≤◌, ◌<◌, false, not, List, [], ◌∷◌, ◌++◌, Option, Some}
 use Rattle.std.specs.Prelude.{codes, decimal, length, slice_get, string_bytes, take, if◌then◌else◌}
 use Rattle.std.specs.List.{concat}
 use Rattle.std.specs.Option.{option_map_or}
@@ -60,7 +60,7 @@ pub record IsTextOf (s : State) (entries : List Entry) (number : ℕ) (text : Li
   pub opening : List ℕ
   pub at : slice_get entries (number - 1) ≡ Some entry
   pub stands : IsStanding (state_after s (take (number - 1) entries)) entry standing
-  pub explained : IsExplained (state_after s (take (number - 1) entries)) entry.client entry.call told
+  pub explained : IsExplained s.rules.abi (state_after s (take (number - 1) entries)) entry.client entry.call told
   pub opened : IsOpeningText s (opening_behind (take (number - 1) entries) entry told) opening
   pub is : text ≡ entry_text number entry standing told ++ opening
 

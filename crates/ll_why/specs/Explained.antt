@@ -1,11 +1,13 @@
 -- Why a call is denied in a tree, or isn't, with the least change that would let it through. own
-use Rattle.std.specs.Prelude.{◌≡◌, ℕ, List, Option, Some, None, true, false}
+use Rattle.std.specs.Prelude.{◌≡◌, ℕ, Option, Some, None, true, false}
+use Rattle.std.specs.declared.alloc.Global.{Global}
+use Rattle.std.specs.declared.vec.Vec.{Vec}
 use Rattle.ll_rights.specs.Map.{has}
 use Rattle.ll_seq.specs.State.{State}
 use Rattle.ll_seq.specs.Step.{client_of}
 use Rattle.ll_seq.specs.declared.call.Call.{Call}
 use Rattle.ll_seq.specs.declared.client.ClientRecord.{ClientRecord}
-use Rattle.ll_why.specs.Changes.{AreLeast}
+use Rattle.ll_why.specs.Changes.{IsLeastFound}
 use Rattle.ll_why.specs.Reasons.{IsAnswered, IsWhy, kept_number}
 use Rattle.ll_why.specs.declared.change.LayerChange.{LayerChange}
 use Rattle.ll_why.specs.declared.reason.Reason.{Reason}
@@ -13,18 +15,18 @@ use Rattle.ll_why.specs.declared.why.Why.{Why}
 use Rattle.ll_why.specs.declared.why.Why.TheVariants.{Judged}
 use Rattle.ll_why.specs.declared.explanation.Explanation.{Explanation}
 
--- where the client's layers are asked, these are the least changes that let its call through
-abbrev pub AreLeastFor : State → ClientRecord → Call → Why → List LayerChange → Type 0
-AreLeastFor s c call why changes =
-    (reason : Reason) → why ≡ Judged reason → kept_number call ≡ None → AreLeast s c call reason.asks changes
+-- where the client's layers are asked, this is the least change that lets its call through, in a tree of this level
+abbrev pub AreLeastFor : ℕ → State → ClientRecord → Call → Why → Option (Vec LayerChange Global) → Type 0
+AreLeastFor level s c call why found =
+    (reason : Reason) → why ≡ Judged reason → kept_number call ≡ None → IsLeastFound level s c call reason.asks found
 
 -- Why policy lets the client's call pass, or doesn't; that the step answers so; and the least change
-pub record Explains (s : State) (n : ℕ) (call : Call) (told : Explanation) : Type 0 where
+pub record Explains (level : ℕ) (s : State) (n : ℕ) (call : Call) (told : Explanation) : Type 0 where
   pub why : IsWhy s (client_of s n) call told.why
   pub answered : IsAnswered s n call told.why
-  pub changes : AreLeastFor s (client_of s n) call told.why told.changes.items
+  pub changes : AreLeastFor level s (client_of s n) call told.why told.changes
 
 -- a client that is there has its call explained
-abbrev pub IsExplained : State → ℕ → Call → Option Explanation → Type 0
-IsExplained s n call None = has s.clients n ≡ false
-IsExplained s n call (Some told) = (has s.clients n ≡ true) × Explains s n call told
+abbrev pub IsExplained : ℕ → State → ℕ → Call → Option Explanation → Type 0
+IsExplained level s n call None = has s.clients n ≡ false
+IsExplained level s n call (Some told) = (has s.clients n ≡ true) × Explains level s n call told

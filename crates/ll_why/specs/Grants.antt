@@ -1,5 +1,5 @@
 -- What one layer grants of some rights on a path, and by which rules. own
-use Rattle.std.specs.Prelude.{◌≡◌, ℕ, ◌<◌, Bool, not, ◌&&◌, List, length, take, Some, slice_get}
+use Rattle.std.specs.Prelude.{◌≡◌, ℕ, ◌<◌, ◌≤◌, Bool, not, ◌&&◌, List, length, take, Some, slice_get}
 use Rattle.std.specs.List.{list_any}
 use Rattle.ll_rights.specs.Access.{holds}
 use Rattle.ll_rules.specs.Layer.{Layer, grants_on, has_rule, restricts}
@@ -12,13 +12,14 @@ is_first layer before inode right = not (list_any (has_rule layer right) before)
 
 -- Each of the rights is one that the layer doesn't restrict, one that a rule grants, or one that it doesn't grant on a
 -- path of these inodes. Rules are told by the inode's place on the path, and of several that grant a right the one
--- nearest the root
+-- nearest the root. Told are no rights but these
 pub record AreGrants (layer : Layer) (inodes : List ℕ) (rights : ℕ) (g : Grants) : Type 0 where
+  pub fewer : (g.free.0 ≤ rights) × (g.missing.0 ≤ rights)
   pub free : (right : ℕ) → right < 15 → holds g.free.0 right ≡ (holds rights right && not (restricts layer right))
   pub missing : (right : ℕ) → right < 15
       → holds g.missing.0 right ≡ (holds rights right && not (grants_on layer inodes right))
   pub places : length g.ruled.items ≡ length inodes
   pub ruled : (place : ℕ) (r : Ruled) → slice_get g.ruled.items place ≡ Some r →
-      (slice_get inodes place ≡ Some r.inode)
+      (slice_get inodes place ≡ Some r.inode) × (r.rights.0 ≤ rights)
       × ((right : ℕ) → right < 15 → holds r.rights.0 right
       ≡ ((holds rights right && restricts layer right) && is_first layer (take place inodes) r.inode right))

@@ -1,5 +1,5 @@
 -- Which entry opened the descriptor that decides a call, and what is told of it. own
-use Rattle.std.specs.Prelude.{◌≡◌, ℕ, ◌+◌, ◌==◌, ◌&&◌, Bool, true, false, List, [], ◌∷◌, ◌++◌, Option, Some, None}
+use Rattle.std.specs.Prelude.{◌≡◌, ℕ, ◌==◌, ◌&&◌, Bool, false, List, [], ◌∷◌, ◌++◌, Option, Some, None}
 use Rattle.std.specs.Prelude.{codes, decimal, is_some, length, option_and_then, if◌then◌else◌}
 use Rattle.std.specs.List.{concat}
 use Rattle.std.specs.Option.{option_map_or}
@@ -77,7 +77,7 @@ pub record TellsOpening (s : State) (upto : List Entry) (e : Entry) (text : List
   pub target : Target
   pub told : Option Explanation
   pub opens : target_opened e.call ≡ Some target
-  pub explained : IsExplained (state_after s upto) e.client (Truncate target 0) told
+  pub explained : IsExplained s.rules.abi (state_after s upto) e.client (Truncate target 0) told
   pub is : text ≡ opening_text (length upto) e (Truncate target 0) told
 
 -- and where there is no opening to tell of, nothing is

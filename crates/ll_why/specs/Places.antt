@@ -1,16 +1,18 @@
 -- The search for the least change of one layer, for the code's helpers: no public contract cites this file.
-use Rattle.std.specs.Prelude.{◌≡◌, ℕ, ◌<◌, Bool, false, not, ◌&&◌, ◌||◌, List, ◌==◌, find}
+use Rattle.std.specs.Prelude.{◌≡◌, ◌≢◌, ℕ, ◌<◌, ◌^◌, Bool, false, not, ◌&&◌, ◌||◌, List, None, ◌==◌, bit_and, find}
 use Rattle.std.specs.List.{list_any, range_with_len}
 use Rattle.std.specs.Option.{option_map_or}
-use Rattle.ll_rights.specs.Access.{holds}
+use Rattle.ll_rights.specs.Access.{holds, known_set}
 use Rattle.ll_rules.specs.Layer.{Layer, grants_on}
 use Rattle.ll_decide.specs.Demands.{gaining, lacking}
 use Rattle.ll_decide.specs.declared.demands.Demands.{Demands}
 use Rattle.ll_decide.specs.declared.demands.On.{On}
 use Rattle.ll_decide.specs.declared.demands.On.TheVariants.{Itself, Other, Parent, Left, Entered}
 use Rattle.ll_decide.specs.declared.denial.Place.TheVariants.{At, Old, New}
+use Rattle.ll_seq.specs.State.{State, kind_of}
 use Rattle.ll_why.specs.Changes.{IsChange, end_of, rule_on}
 use Rattle.ll_why.specs.Reasons.{chain_of}
+use Rattle.ll_why.specs.Rights.{meant}
 use Rattle.ll_why.specs.declared.asks.Asks.{Asks}
 use Rattle.ll_why.specs.declared.change.LayerChange.{LayerChange}
 use Rattle.ll_why.specs.declared.places.Places.{Places}
@@ -66,6 +68,21 @@ chosen_by number on = holds number (bit_on on)
 abbrev pub passes : Asks → Layer → ℕ → ℕ → Bool
 passes asks layer right number = not (denies (granted_with asks layer (chosen_by number)) asks.demands right)
 
+-- what a rule may hold where this ends: what the level knows and means something for the node
+abbrev pub may_hold : ℕ → State → Asks → On → ℕ
+may_hold level s asks on = bit_and (known_set level) (meant (kind_of s (end_of (chain_of asks on))))
+
+-- the right is among the set of each place that is chosen
+abbrev pub fits : (On → ℕ) → (On → Bool) → ℕ → Bool
+fits sets chosen right =
+    (((holds (sets Itself) right || not (chosen Itself)) && (holds (sets Other) right || not (chosen Other)))
+    && (holds (sets Entered) right || not (chosen Entered))) && (holds (sets Parent) right || not (chosen Parent))
+
+-- and rules may hold it there
+abbrev pub serves : ℕ → State → Asks → Layer → ℕ → ℕ → Bool
+serves level s asks layer right number =
+    passes asks layer right number && fits (may_hold level s asks) (chosen_by number) right
+
 -- the least of these numbers that passes stands for the place
 abbrev pub is_chosen : List ℕ → (ℕ → Bool) → On → Bool
 is_chosen numbers test on = option_map_or (λ number. chosen_by number on) (find test numbers) false
@@ -73,11 +90,22 @@ is_chosen numbers test on = option_map_or (λ number. chosen_by number on) (find
 abbrev pub numbers : List ℕ
 numbers = range_with_len 0 16
 
--- the change adds each right at the narrowest places
-pub record IsLeastOf (asks : Asks) (layer : Layer) (change : LayerChange) : Type 0 where
-  pub is : IsChange asks layer change
+-- some right can't be added so that the layer doesn't deny it
+abbrev pub IsBarred : ℕ → State → Asks → Layer → Type 0
+IsBarred level s asks layer =
+    (right : ℕ) × ((right < 15) × (find (serves level s asks layer right) numbers ≡ None))
+
+-- each right can, and is at the narrowest places
+pub record AreLeastSets (level : ℕ) (s : State) (asks : Asks) (layer : Layer) (sets : On → ℕ) : Type 0 where
+  pub known : (on : On) → sets on < 2 ^ 15
+  pub found : (right : ℕ) → right < 15 → find (serves level s asks layer right) numbers ≢ None
   pub chosen : (on : On) (right : ℕ) → right < 15
-      → holds (rule_on change on).rights.0 right ≡ is_chosen numbers (passes asks layer right) on
+      → holds (sets on) right ≡ is_chosen numbers (serves level s asks layer right) on
+
+-- the change adds each right so
+pub record IsLeastOf (level : ℕ) (s : State) (asks : Asks) (layer : Layer) (change : LayerChange) : Type 0 where
+  pub is : IsChange level s asks layer change
+  pub least : AreLeastSets level s asks layer (λ on. (rule_on change on).rights.0)
 
 -- the places of a call that are on the path of each
 pub record AreWays (asks : Asks) (ways : Ways) : Type 0 where

@@ -1,12 +1,15 @@
 -- Why a client's layers deny a call, or allow it. own
-use Rattle.std.specs.Prelude.{◌≡◌, ◌≢◌, ℕ, ◌<◌, List, [], Option, Some, None, MatchOption, slice_get}
+use Rattle.std.specs.Prelude.{◌≡◌, ◌≢◌, ℕ, ◌<◌, ◌≤◌, ◌^◌, List, [], Option, Some, None, MatchOption, slice_get}
 use Rattle.std.specs.List.{AllByRecursion, AllZip}
 use Rattle.ll_rights.specs.Access.{holds}
 use Rattle.ll_rules.specs.Layer.{Layer}
-use Rattle.ll_decide.specs.Demands.{gaining, set_on}
+use Rattle.ll_decide.specs.Demands.{gaining, set_of, set_on}
 use Rattle.ll_decide.specs.Judge.{grants_along}
+use Rattle.ll_decide.specs.declared.demands.Demands.{Demands}
 use Rattle.ll_decide.specs.declared.demands.On.{On}
 use Rattle.ll_decide.specs.declared.demands.On.TheVariants.{Itself, Other, Parent, Left, Entered}
+use Rattle.ll_decide.specs.declared.demands.Way.{Way}
+use Rattle.ll_decide.specs.declared.demands.Way.TheVariants.{There, Back}
 use Rattle.ll_decide.specs.declared.denial.Denial.{Denial}
 use Rattle.ll_decide.specs.declared.denial.Place.TheVariants.{Old, New}
 use Rattle.ll_seq.specs.Asked.{call_denials}
@@ -35,9 +38,15 @@ chain_of asks Parent = asks.first.parent.items
 chain_of asks Left = asks.first.parent.items
 chain_of asks Entered = asks.second.parent.items
 
+-- no bit is asked that is no right's
+pub record AreKnown (d : Demands) : Type 0 where
+  pub asked : (on : On) → set_on d on < 2 ^ 15
+  pub moved : (way : Way) → set_of d way < 2 ^ 15
+
 -- the sets are those that the definitions demand of the call, and the chains those of its paths
 pub record AreAsked (s : State) (call : Call) (asks : Asks) : Type 0 where
   pub demands : AreDemands s call asks.demands
+  pub known : AreKnown asks.demands
   pub chains : (on : On) → chain_of asks on ≡ chains s call on
 
 abbrev pub grants_in : LayerReason → On → Grants
@@ -50,6 +59,7 @@ grants_in told Entered = told.entered
 -- for each thing which of the rights asked on it the layer grants, and by which rule; and what would be gained
 pub record IsLayerReason (asks : Asks) (layer : Layer) (told : LayerReason) : Type 0 where
   pub grants : (on : On) → AreGrants layer (chain_of asks on) (set_on asks.demands on) (grants_in told on)
+  pub fewer : (told.there.0 ≤ set_of asks.demands There) × (told.back.0 ≤ set_of asks.demands Back)
   pub there : (right : ℕ) → right < 15
       → holds told.there.0 right ≡ gaining (grants_along (chain_of asks) layer) asks.demands right New
   pub back : (right : ℕ) → right < 15

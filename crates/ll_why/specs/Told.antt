@@ -2,6 +2,8 @@
 use Rattle.std.specs.Prelude.{ℕ, ◌-◌, ◌==◌, List, [], ◌∷◌, ◌++◌, Option, Some, None, codes, decimal, length, take}
 use Rattle.std.specs.Prelude.{if◌then◌else◌}
 use Rattle.std.specs.List.{concat, enumerate_from, flat_map}
+use Rattle.std.specs.declared.alloc.Global.{Global}
+use Rattle.std.specs.declared.vec.Vec.{Vec}
 use Rattle.ll_rights.specs.Access.{access_text}
 use Rattle.ll_path.specs.Path.{Path, path_text}
 use Rattle.ll_decide.specs.Demands.{place_on, set_on}
@@ -90,10 +92,15 @@ added_line call asks layer on rights =
 -- what has to be added to a layer, by its number
 abbrev pub change_lines : Call → Asks → ℕ × LayerChange → List ℕ
 change_lines call asks change =
-    let layer = concat (codes "would pass with layer " ∷ decimal change.0 ∷ []) in
+    let layer = concat (codes "no layer would deny it with layer " ∷ decimal change.0 ∷ []) in
     rights_line (concat (layer ∷ codes " handling" ∷ [])) change.1.handled.0
     ++ flat_map (λ on. added_line call asks layer on (rule_on change.1 on).rights.0)
     (Itself ∷ Other ∷ Left ∷ Entered ∷ [])
+
+-- what has to be added to each layer, the oldest first; or that nothing that may be added lets the call through
+abbrev pub all_change_lines : Call → Asks → Option (Vec LayerChange Global) → List ℕ
+all_change_lines call asks None = codes "  no rule of this level lets it pass\n"
+all_change_lines call asks (Some changes) = flat_map (change_lines call asks) (enumerate_from 1 changes.items)
 
 -- a denial stands in the call's reply
 abbrev pub undenied_line : Option Denial → List ℕ
@@ -101,17 +108,17 @@ undenied_line None = codes "  no layer denies it\n"
 undenied_line (Some denial) = []
 
 -- what is asked, what each layer makes of it, the oldest first, and what would let the call through
-abbrev pub reason_lines : Call → Reason → List LayerChange → List ℕ
+abbrev pub reason_lines : Call → Reason → Option (Vec LayerChange Global) → List ℕ
 reason_lines call reason changes = concat (
     undenied_line reason.denial ∷ flat_map (asked_line call reason.asks) each_on
     ∷ flat_map (layer_lines call reason.asks) (enumerate_from 1 reason.layers.items)
-    ∷ flat_map (change_lines call reason.asks) (enumerate_from 1 changes) ∷ [])
+    ∷ all_change_lines call reason.asks changes ∷ [])
 
 -- ftruncate asks no layer: what its descriptor's opening has found decides it
-abbrev pub why_text : Call → Why → List LayerChange → List ℕ
+abbrev pub why_text : Call → Why → Option (Vec LayerChange Global) → List ℕ
 why_text call (Refused errno) changes = codes "  refused before any layer is asked\n"
 why_text call (Kept denial) changes = codes "  decided by what the descriptor keeps since its opening\n"
 why_text call (Judged reason) changes = reason_lines call reason changes
 
 abbrev pub told_text : Call → Explanation → List ℕ
-told_text call told = why_text call told.why told.changes.items
+told_text call told = why_text call told.why told.changes

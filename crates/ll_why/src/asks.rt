@@ -6,6 +6,7 @@ ghost use Rattle.ll_seq.specs.declared.client.ClientRecord as record_of;
 ghost use Rattle.ll_why.specs.Reasons.{AreAsked};
 
 use crate::chain::PathChains;
+use crate::demands::known_demands;
 use ll_decide::Demands;
 use ll_plain::Plain;
 use ll_seq::{Call, Found, demands_of};
@@ -33,7 +34,7 @@ impl Asks {
         let first = PathChains::of_first(alloc, tree, call)?;
         let second = PathChains::of_second(alloc, tree, call)?;
         Ok(Asks {
-            demands: demands_of(call, found),
+            demands: known_demands(demands_of(call, found)),
             first,
             second,
         })

@@ -1,40 +1,33 @@
 //! The least change of a client's layers that would let a call through.
 
-ghost use Rattle.std.specs.Prelude.{◌≡◌, ◌<◌, ◌==◌, ℕ, ◌&&◌, ◌||◌, not, [], ◌∷◌, ◌++◌, None, IfOk, OnOk};
-ghost use Rattle.std.specs.List.{AllZip};
+ghost use Rattle.std.specs.Prelude.{◌≡◌, ◌<◌, ◌≤◌, ◌==◌, ℕ, ◌&&◌, ◌||◌, not, [], ◌∷◌, ◌++◌, None, IfOk, OnOk};
+ghost use Rattle.std.specs.Prelude.{MatchOption};
 ghost use Rattle.ll_rights.specs.Access.{holds};
 ghost use Rattle.ll_rights.specs.Right.{refer};
 ghost use Rattle.ll_decide.specs.declared.demands.On as asked_on;
-ghost use Rattle.ll_seq.specs.State.{State};
 ghost use Rattle.ll_seq.specs.declared.call.Call as call_of;
 ghost use Rattle.ll_seq.specs.declared.client.ClientRecord as record_of;
-ghost use Rattle.ll_why.specs.Changes.{AreLeast, end_of, is_added, is_nothing, rule_on};
-ghost use Rattle.ll_why.specs.Places.{IsLeastOf, set_in};
+ghost use Rattle.ll_why.specs.Changes.{IsLeastFound, end_of, is_added, rule_on};
+ghost use Rattle.ll_why.specs.Places.{IsBarred, IsLeastOf, set_in};
 ghost use Rattle.ll_why.specs.Reasons.{AreAsked, chain_of, kept_number};
 
 use crate::asks::Asks;
 use crate::grants::{Ruled, without};
 use crate::places::{Sets, both, end_of, least_sets};
-use ll_rights::Access;
-use ll_rules::{Domain, Layer};
+use ll_plain::Plain;
+use ll_rights::{Abi, Access};
+use ll_rules::Layer;
 use std::alloc::{AllocError, Global};
 
 /// What is added to one layer: rules on the nodes of a call's two paths, and on their directories.
 #[derive(Clone, Copy)]
 pub struct LayerChange {
-    /// What the layer has to handle besides: refer, where a rule is to hold it and the layer doesn't handle it.
+    /// What the layer has to handle too: refer, where a rule is to hold it and the layer doesn't handle it.
     pub handled: Access,
     pub itself: Ruled,
     pub other: Ruled,
     pub entered: Ruled,
     pub parent: Ruled,
-}
-
-/// A change of a client's layers.
-#[derive(Drop)]
-pub struct Change {
-    /// What is added to each layer, the oldest first.
-    pub layers: Vec<LayerChange>,
 }
 
 // A rule of these rights where the path ends.
@@ -48,9 +41,10 @@ fn rule_at(inodes: &[u64], rights: Access) -> Ruled
     }
 }
 
-// What the layer has to handle besides, so that rules can hold these rights.
+// What the layer has to handle too, so that rules can hold these rights.
 fn newly_handled(layer: &Layer, sets: Sets) -> Access
-    ensures { (right : ℕ) → right < 15 → holds result.0 right
+    ensures fewer { result.0 ≤ 0x2000 }
+    ensures rights { (right : ℕ) → right < 15 → holds result.0 right
         ≡ (((right == refer) && (holds sets.itself.0 right || holds sets.other.0 right || holds sets.entered.0 right
         || holds sets.parent.0 right)) && not (holds layer.now.handled right)) }
 {
@@ -63,18 +57,11 @@ fn newly_handled(layer: &Layer, sets: Sets) -> Access
 }
 
 impl LayerChange {
-    /// Whether nothing is added.
-    pub fn is_empty(&self) -> bool
-        ensures { result ≡ is_nothing self.now }
-    {
-        let nodes = self.itself.rights.0 == 0 && self.other.rights.0 == 0;
-        nodes && self.entered.rights.0 == 0 && self.parent.rights.0 == 0
-    }
-
     // To the layer these sets are added.
     fn of_sets(layer: &Layer, asks: &Asks, sets: Sets) -> LayerChange
         ensures ends { (on : asked_on.On) → (rule_on result on).inode ≡ end_of (chain_of asks.now on) }
         ensures sets { (on : asked_on.On) → (rule_on result on).rights.0 ≡ set_in sets on }
+        ensures few { result.handled.0 ≤ 0x2000 }
         ensures handled { (right : ℕ) → right < 15 → holds result.handled.0 right
             ≡ (((right == refer) && is_added result right) && not (holds layer.now.handled right)) }
     {
@@ -87,11 +74,15 @@ impl LayerChange {
         }
     }
 
-    // What lets the call through.
-    fn of_layer(layer: &Layer, asks: &Asks) -> LayerChange
-        ensures { IsLeastOf asks.now layer.now result }
+    // What lets the call through, if a change of this level does.
+    fn of_layer(tree: &Plain, level: Abi, layer: &Layer, asks: &Asks) -> Option<LayerChange>
+        ensures { MatchOption result (IsBarred level tree.now asks.now layer.now)
+            (IsLeastOf level tree.now asks.now layer.now) }
     {
-        LayerChange::of_sets(layer, asks, least_sets(layer, asks))
+        match least_sets(tree, level, layer, asks) {
+            Some(sets) => Some(LayerChange::of_sets(layer, asks, sets)),
+            None => None,
+        }
     }
 }
 
@@ -103,28 +94,25 @@ fn push_change(changes: &mut Vec<LayerChange>, change: LayerChange) -> Result<()
     Ok(())
 }
 
-// What lets the call through, for each layer.
-fn least_changes(
+/// The least change of each of the layers, the oldest first, by which they would let a call through that asks this, in
+/// a tree of this level; or None where none that such a tree accepts does.
+pub fn change_for(
     alloc: Global,
+    tree: &Plain,
+    level: Abi,
     layers: &[Layer],
     asks: &Asks,
-) -> Result<Vec<LayerChange>, AllocError>
-    ensures { IfOk result (λ changes. AllZip (λ change layer. IsLeastOf asks.now layer change) changes.items
-        layers.now) }
+) -> Result<Option<Vec<LayerChange>>, AllocError>
+    ensures { IfOk result (λ found. (c : record_of.ClientRecord) (call : call_of.Call)
+        → c.domain ≡ layers.now → kept_number call ≡ None → AreAsked tree.now call asks.now
+        → IsLeastFound level tree.now c call asks.now found) }
 {
     let mut changes = Vec::new(alloc);
     for layer in layers {
-        push_change(&mut changes, LayerChange::of_layer(layer, asks))?;
+        match LayerChange::of_layer(tree, level, layer, asks) {
+            Some(change) => push_change(&mut changes, change)?,
+            None => return Ok(None),
+        }
     }
-    Ok(changes)
-}
-
-/// The least change of the layers that would let a call through that asks this.
-pub fn change_for(alloc: Global, domain: &Domain, asks: &Asks) -> Result<Change, AllocError>
-    ensures { IfOk result (λ change. (s : State) (c : record_of.ClientRecord) (call : call_of.Call)
-        → c.domain ≡ domain.now → kept_number call ≡ None → AreAsked s call asks.now
-        → AreLeast s c call asks.now change.layers.items) }
-{
-    let layers = least_changes(alloc, domain.layers(), asks)?;
-    Ok(Change { layers })
+    Ok(Some(changes))
 }

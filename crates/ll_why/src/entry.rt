@@ -10,7 +10,7 @@ ghost use Rattle.ll_why.specs.Told.{told_text};
 use crate::explanation::{Explanation, call_line, explain};
 use crate::text::concat;
 use ll_plain::Plain;
-use ll_rights::Errno;
+use ll_rights::{Abi, Errno};
 use ll_seq::{Call, Entry, Reply};
 use ll_wire::reply_text_behind;
 use std::alloc::{AllocError, Global};
@@ -54,17 +54,18 @@ pub(crate) fn answer_at(tree: &mut Plain, entry: &Entry) -> Result<Standing, All
     Ok(Standing::Answers(reply))
 }
 
-/// The client's call explained, where the client is there.
+/// The client's call explained in a tree of this level, where the client is there.
 pub(crate) fn explain_at(
     alloc: Global,
     tree: &Plain,
+    level: Abi,
     client: u64,
     call: &Call,
 ) -> Result<Option<Explanation>, AllocError>
-    ensures { IfOk result (IsExplained tree.now client call.now) }
+    ensures { IfOk result (IsExplained level tree.now client call.now) }
 {
     match tree.client(client) {
-        Some(caller) => Ok(Some(explain(alloc, tree, caller, call)?)),
+        Some(caller) => Ok(Some(explain(alloc, tree, level, caller, call)?)),
         None => Ok(None),
     }
 }

@@ -1,7 +1,6 @@
 //! Why a client's call is denied, or isn't, with the change that would let it through.
 
 ghost use Rattle.std.specs.Prelude.{◌≡◌, ℕ, IfOk, string_bytes};
-ghost use Rattle.ll_seq.specs.State.{State};
 ghost use Rattle.ll_seq.specs.Step.{client_of};
 ghost use Rattle.ll_seq.specs.declared.call.Call as call_of;
 ghost use Rattle.ll_seq.specs.declared.client.ClientRecord as record_of;
@@ -13,6 +12,7 @@ ghost use Rattle.ll_why.specs.Told.{told_text};
 use crate::layers::reason_lines;
 use crate::{LayerChange, Why, change_for, why_of};
 use ll_plain::Plain;
+use ll_rights::Abi;
 use ll_rules::Domain;
 use ll_seq::{Call, ClientRecord};
 use ll_wire::{command_text, is_spelled};
@@ -22,36 +22,41 @@ use std::alloc::{AllocError, Global};
 #[derive(Drop)]
 pub struct Explanation {
     pub why: Why,
-    /// What is added to each layer, the oldest first; nothing where no layer is asked.
-    pub changes: Vec<LayerChange>,
+    /// What is added to each layer, the oldest first; None where nothing that the tree accepts lets the call through,
+    /// or no layer is asked.
+    pub changes: Option<Vec<LayerChange>>,
 }
 
 // The least changes that let the call through, where layers are asked.
-fn changes_for(alloc: Global, domain: &Domain, why: &Why) -> Result<Vec<LayerChange>, AllocError>
-    ensures { IfOk result (λ changes. (s : State) (c : record_of.ClientRecord) (call : call_of.Call)
-        → c.domain ≡ domain.now → IsWhy s c call why.now → AreLeastFor s c call why.now changes.items) }
+fn changes_for(
+    alloc: Global,
+    tree: &Plain,
+    level: Abi,
+    domain: &Domain,
+    why: &Why,
+) -> Result<Option<Vec<LayerChange>>, AllocError>
+    ensures { IfOk result (λ found. (c : record_of.ClientRecord) (call : call_of.Call)
+        → c.domain ≡ domain.now → IsWhy tree.now c call why.now → AreLeastFor level tree.now c call why.now found) }
 {
     match why {
-        Why::Judged(reason) => {
-            let change = change_for(alloc, domain, &reason.asks)?;
-            Ok(change.layers)
-        }
-        Why::Refused(_) | Why::Kept(_) => Ok(Vec::new(alloc)),
+        Why::Judged(reason) => change_for(alloc, tree, level, domain.layers(), &reason.asks),
+        Why::Refused(_) | Why::Kept(_) => Ok(None),
     }
 }
 
-/// Why the caller's call would be denied in the tree, or wouldn't.
+/// Why the caller's call would be denied in the tree, which is of this level, or wouldn't.
 pub fn explain(
     alloc: Global,
     tree: &Plain,
+    level: Abi,
     caller: &ClientRecord,
     call: &Call,
 ) -> Result<Explanation, AllocError>
     ensures { IfOk result (λ told. (n : ℕ) → client_of tree.now n ≡ caller.now
-        → Explains tree.now n call.now told) }
+        → Explains level tree.now n call.now told) }
 {
     let why = why_of(alloc, tree, caller, call)?;
-    let changes = changes_for(alloc, &caller.domain, &why)?;
+    let changes = changes_for(alloc, tree, level, &caller.domain, &why)?;
     Ok(Explanation { why, changes })
 }
 
@@ -77,7 +82,7 @@ impl Explanation {
                 alloc,
                 "  decided by what the descriptor keeps since its opening\n",
             ),
-            Why::Judged(reason) => reason_lines(alloc, call, reason, self.changes.as_slice()),
+            Why::Judged(reason) => reason_lines(alloc, call, reason, &self.changes),
         }
     }
 }

@@ -38,7 +38,8 @@ pub(crate) fn without(rights: Access, others: Access) -> Access
 
 // Those of the rights that the layer restricts.
 fn restricted(layer: &Layer, rights: Access) -> Access
-    ensures { (right : ℕ) → right < 15
+    ensures fewer { result.0 ≤ rights.0 }
+    ensures rights { (right : ℕ) → right < 15
         → holds result.0 right ≡ (holds rights.0 right && restricts layer.now right) }
 {
     let all = layer.handled().with(Access::REFER);
@@ -47,7 +48,8 @@ fn restricted(layer: &Layer, rights: Access) -> Access
 
 // Those of the rights that the rule on the inode grants.
 fn rule_grants(layer: &Layer, rights: Access, inode: u64) -> Access
-    ensures { (right : ℕ) → right < 15
+    ensures fewer { result.0 ≤ rights.0 }
+    ensures rights { (right : ℕ) → right < 15
         → holds result.0 right ≡ (holds rights.0 right && has_rule layer.now right inode) }
 {
     Access(rights.0 & layer.rule(inode).0)
@@ -55,7 +57,8 @@ fn rule_grants(layer: &Layer, rights: Access, inode: u64) -> Access
 
 /// Those of the rights that the layer doesn't grant on a path of these inodes.
 pub(crate) fn lacked(layer: &Layer, inodes: &[u64], rights: Access) -> Access
-    ensures { (right : ℕ) → right < 15
+    ensures fewer { result.0 ≤ rights.0 }
+    ensures rights { (right : ℕ) → right < 15
         → holds result.0 right ≡ (holds rights.0 right && not (grants_on layer.now inodes.now right)) }
 {
     let mut missing = restricted(layer, rights);

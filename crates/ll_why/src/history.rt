@@ -83,7 +83,8 @@ fn text_of(
     let before = &entries[..number - 1];
     let mut tree = tree_after(alloc, header, before)?;
     let entry = &entries[number - 1];
-    let told = explain_at(alloc, &tree, entry.client, &entry.call)?;
+    let level = header.version.rules().abi;
+    let told = explain_at(alloc, &tree, level, entry.client, &entry.call)?;
     let standing = standing_at(&mut tree, entry, stands)?;
     let text = entry_text(alloc, number, entry, &standing, &told)?;
     let opening = opening_lines(alloc, header, before, entry, &told)?;

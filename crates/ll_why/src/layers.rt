@@ -3,7 +3,8 @@
 ghost use Rattle.std.specs.Prelude.{◌≡◌, IfOk, string_bytes};
 ghost use Rattle.std.specs.List.{enumerate_from, flat_map};
 ghost use Rattle.ll_why.specs.Reasons.{grants_in};
-ghost use Rattle.ll_why.specs.Told.{added_line, asked_line, change_lines, each_on, gain_line, grant_lines};
+ghost use Rattle.ll_why.specs.Told.{added_line, all_change_lines, asked_line, change_lines, each_on, gain_line};
+ghost use Rattle.ll_why.specs.Told.{grant_lines};
 ghost use Rattle.ll_why.specs.Told.{layer_lines, on_lines, path_on, reason_lines, rule_line, undenied_line};
 
 use crate::paths::{asked_line, node_text, seat_text, upper_text};
@@ -184,7 +185,10 @@ fn change_lines(
     ensures { IfOk result (λ text. string_bytes text ≡ change_lines call.now asks.now (number, change.now)) }
 {
     let number = number.to_string(alloc)?;
-    let layer = concat(alloc, &["would pass with layer ", number.as_str()])?;
+    let layer = concat(
+        alloc,
+        &["no layer would deny it with layer ", number.as_str()],
+    )?;
     let handling = concat(alloc, &[layer.as_str(), " handling"])?;
     let handled = rights_line(alloc, handling.as_str(), change.handled)?;
     let layer = layer.as_str();
@@ -220,8 +224,23 @@ fn all_layer_lines(
     Ok(text)
 }
 
-// What has to be added to each layer, the oldest first.
+// What has to be added to each layer, the oldest first; or that nothing that may be added lets the call through.
 fn all_change_lines(
+    alloc: Global,
+    call: &Call,
+    asks: &Asks,
+    changes: &Option<Vec<LayerChange>>,
+) -> Result<String, AllocError>
+    ensures { IfOk result (λ text. string_bytes text ≡ all_change_lines call.now asks.now changes.now) }
+{
+    match changes {
+        Some(changes) => each_change_lines(alloc, call, asks, changes.as_slice()),
+        None => String::from_str(alloc, "  no rule of this level lets it pass\n"),
+    }
+}
+
+// What has to be added to each of the layers, the oldest first.
+fn each_change_lines(
     alloc: Global,
     call: &Call,
     asks: &Asks,
@@ -271,7 +290,7 @@ pub(crate) fn reason_lines(
     alloc: Global,
     call: &Call,
     reason: &Reason,
-    changes: &[LayerChange],
+    changes: &Option<Vec<LayerChange>>,
 ) -> Result<String, AllocError>
     ensures { IfOk result (λ text. string_bytes text ≡ reason_lines call.now reason.now changes.now) }
 {

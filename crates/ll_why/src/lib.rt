@@ -4,6 +4,7 @@
 mod asks;
 mod chain;
 mod change;
+mod demands;
 mod entry;
 mod explanation;
 mod grants;
@@ -15,18 +16,16 @@ mod places;
 mod reason;
 mod rights;
 mod text;
-mod told;
 mod tree;
 mod why;
 
 pub use asks::Asks;
 pub use chain::PathChains;
-pub use change::{Change, LayerChange, change_for};
+pub use change::{LayerChange, change_for};
 pub use entry::Standing;
 pub use explanation::{Explanation, call_line, explain};
 pub use grants::{Grants, Ruled};
 pub use history::{HistoryWhy, explain_entry, why_entry, why_not};
 pub use reason::{LayerReason, Reason};
 pub use rights::{PathRights, rights_on};
-pub use told::Told;
-pub use why::{Why, why_of};
+pub use why::{Why, kept_number, why_of};

@@ -175,7 +175,8 @@ fn lines_of(alloc: Global, header: &Header, opening: &Opening<'_>) -> Result<Str
 {
     let tree = tree_after(alloc, header, opening.upto)?;
     let truncate = truncate_of(alloc, opening.target)?;
-    let told = explain_at(alloc, &tree, opening.last.client, &truncate)?;
+    let level = header.version.rules().abi;
+    let told = explain_at(alloc, &tree, level, opening.last.client, &truncate)?;
     opening_text(alloc, opening.upto.len(), opening.last, &truncate, &told)
 }
 

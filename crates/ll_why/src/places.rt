@@ -1,20 +1,24 @@
 //! Where rights have to be added so that a layer lets a call through: the search for the narrowest places.
 
-ghost use Rattle.std.specs.Prelude.{◌≡◌, ◌<◌, ◌==◌, ℕ, Bool, ◌&&◌, ◌||◌};
+ghost use Rattle.std.specs.Prelude.{◌≡◌, ◌<◌, ◌≤◌, ◌==◌, ◌^◌, ℕ, Bool, ◌&&◌, ◌||◌, MatchOption, bit_and};
 ghost use Rattle.std.specs.List.{list_any};
-ghost use Rattle.ll_rights.specs.Access.{holds};
+ghost use Rattle.ll_rights.specs.Access.{holds, known_set};
 ghost use Rattle.ll_rules.specs.Layer.{grants_on};
 ghost use Rattle.ll_decide.specs.declared.demands.On as asked_on;
 ghost use Rattle.ll_why.specs.Changes.{end_of};
-ghost use Rattle.ll_why.specs.Places.{AreWays, chosen_by, denies, is_among, is_chosen, is_reached, leads, numbers};
-ghost use Rattle.ll_why.specs.Places.{passes, set_in};
+ghost use Rattle.ll_why.specs.Places.{AreLeastSets, AreWays, IsBarred, chosen_by, denies, fits, is_among, is_reached};
+ghost use Rattle.ll_why.specs.Places.{leads, may_hold, set_in};
+ghost use Rattle.ll_seq.specs.State.{kind_of};
 ghost use Rattle.ll_why.specs.Reasons.{chain_of};
+ghost use Rattle.ll_why.specs.Rights.{meant};
 ghost use Rattle.ll_why.specs.declared.asks.Asks as asks_of;
 
 use crate::asks::Asks;
 use crate::grants::{lacked, without};
+use crate::rights::meaningful;
 use ll_decide::Demands;
-use ll_rights::Access;
+use ll_plain::Plain;
+use ll_rights::{Abi, Access};
 use ll_rules::Layer;
 
 /// A set of rights for each place where rights may be added.
@@ -72,7 +76,8 @@ fn has_bit(number: u64, bit: u8) -> bool
 
 /// Those of the rights that are among the others too.
 pub(crate) fn both(rights: Access, others: Access) -> Access
-    ensures { (right : ℕ) → holds result.0 right ≡ (holds rights.0 right && holds others.0 right) }
+    ensures fewer { result.0 ≤ rights.0 }
+    ensures rights { (right : ℕ) → holds result.0 right ≡ (holds rights.0 right && holds others.0 right) }
 {
     Access(rights.0 & others.0)
 }
@@ -86,7 +91,8 @@ fn all_if(rights: Access, test: bool) -> Access
 
 // These rights too where the test says so.
 fn more_if(rights: Access, test: bool, more: Access) -> Access
-    ensures { (right : ℕ) → holds result.0 right ≡ (holds rights.0 right || (test && holds more.0 right)) }
+    ensures known { rights.0 < 2 ^ 15 → more.0 < 2 ^ 15 → result.0 < 2 ^ 15 }
+    ensures rights { (right : ℕ) → holds result.0 right ≡ (holds rights.0 right || (test && holds more.0 right)) }
 {
     if test { rights.with(more) } else { rights }
 }
@@ -139,7 +145,9 @@ impl Sets {
 
     // These rights too at these places.
     fn with(self, places: Places, rights: Access) -> Sets
-        ensures { (on : asked_on.On) (right : ℕ) → holds (set_in result on) right
+        ensures known { ((on : asked_on.On) → set_in self on < 2 ^ 15) → rights.0 < 2 ^ 15
+            → (on : asked_on.On) → set_in result on < 2 ^ 15 }
+        ensures rights { (on : asked_on.On) (right : ℕ) → holds (set_in result on) right
             ≡ (holds (set_in self on) right || (is_among places on && holds rights.0 right)) }
     {
         Sets {
@@ -148,6 +156,29 @@ impl Sets {
             entered: more_if(self.entered, places.entered, rights),
             parent: more_if(self.parent, places.parent, rights),
         }
+    }
+
+    // What a rule may hold where each path of a call ends, and each directory's.
+    fn allowed(tree: &Plain, level: Abi, asks: &Asks) -> Sets
+        ensures { (on : asked_on.On) → set_in result on ≡ may_hold level tree.now asks.now on }
+    {
+        Sets {
+            itself: allowed_on(tree, level, &asks.first.itself),
+            other: allowed_on(tree, level, &asks.second.itself),
+            entered: allowed_on(tree, level, &asks.second.parent),
+            parent: allowed_on(tree, level, &asks.first.parent),
+        }
+    }
+
+    // The rights that are among the sets of all these places.
+    fn shared(self, places: Places) -> Access
+        ensures { (right : ℕ) → right < 15 → holds result.0 right ≡ fits (set_in self) (is_among places) right }
+    {
+        let itself = all_if(self.itself, !places.itself);
+        let other = all_if(self.other, !places.other);
+        let entered = all_if(self.entered, !places.entered);
+        let parent = all_if(self.parent, !places.parent);
+        both(both(both(itself, other), entered), parent)
     }
 
     // What the layer grants on each path of a call, and on each directory's.
@@ -184,6 +215,13 @@ fn granted_on(layer: &Layer, inodes: &[u64]) -> Access
     without(Access::ALL, lacked(layer, inodes, Access::ALL))
 }
 
+// What a rule may hold on the node where a path of these inodes ends: what the level knows and its kind can hold.
+fn allowed_on(tree: &Plain, level: Abi, inodes: &[u64]) -> Access
+    ensures { result.0 ≡ bit_and (known_set level) (meant (kind_of tree.now (end_of inodes.now))) }
+{
+    Access(Access::known(level).0 & meaningful(tree.kind(end_of(inodes))).0)
+}
+
 impl Ways {
     // Of a call.
     fn of_call(asks: &Asks) -> Ways
@@ -213,11 +251,13 @@ impl Ways {
     }
 }
 
-/// The rights that have to be added to the layer so that it lets the call through, each at the narrowest places.
-pub(crate) fn least_sets(layer: &Layer, asks: &Asks) -> Sets
-    ensures { (on : asked_on.On) (right : ℕ) → right < 15 → holds (set_in result on) right
-        ≡ is_chosen numbers (passes asks.now layer.now right) on }
+/// The rights that have to be added to the layer so that it lets the call through, each at the narrowest places where
+/// rules may hold it; or None where a right can't be added so that it does.
+pub(crate) fn least_sets(tree: &Plain, level: Abi, layer: &Layer, asks: &Asks) -> Option<Sets>
+    ensures { MatchOption result (IsBarred level tree.now asks.now layer.now)
+        (λ sets. AreLeastSets level tree.now asks.now layer.now (set_in sets)) }
 {
+    let allowed = Sets::allowed(tree, level, asks);
     let granted = Sets::granted(layer, asks);
     let ways = Ways::of_call(asks);
     let mut added = Sets::NONE;
@@ -225,9 +265,9 @@ pub(crate) fn least_sets(layer: &Layer, asks: &Asks) -> Sets
     for number in 0..16 {
         let places = Places::of_number(number);
         let denied = ways.added(granted, places).denied(&asks.demands);
-        let passing = without(rest, denied);
+        let passing = both(without(rest, denied), allowed.shared(places));
         added = added.with(places, passing);
         rest = without(rest, passing);
     }
-    added
+    if rest.0 == 0 { Some(added) } else { None }
 }

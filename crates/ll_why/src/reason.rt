@@ -1,6 +1,6 @@
 //! Why a client's layers deny what a call asks, or allow it.
 
-ghost use Rattle.std.specs.Prelude.{◌≡◌, ◌<◌, ℕ, ◌&&◌, not, List, [], ◌∷◌, ◌++◌, length, IfOk, OnOk};
+ghost use Rattle.std.specs.Prelude.{◌≡◌, ◌<◌, ◌≤◌, ℕ, ◌&&◌, not, List, [], ◌∷◌, ◌++◌, length, IfOk, OnOk};
 ghost use Rattle.std.specs.List.{AllZip};
 ghost use Rattle.ll_rights.specs.Access.{holds};
 ghost use Rattle.ll_rules.specs.Layer as layer_of;
@@ -46,7 +46,8 @@ pub struct Reason {
 
 // Those of the rights that the layer grants on the one path and not on the other.
 fn gained(layer: &Layer, rights: Access, into: &[u64], from: &[u64]) -> Access
-    ensures { (right : ℕ) → right < 15 → holds result.0 right
+    ensures fewer { result.0 ≤ rights.0 }
+    ensures rights { (right : ℕ) → right < 15 → holds result.0 right
         ≡ (holds rights.0 right && grants_on layer.now into.now right && not (grants_on layer.now from.now right)) }
 {
     let had = without(rights, lacked(layer, into, rights));

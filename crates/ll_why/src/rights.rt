@@ -24,8 +24,8 @@ pub struct PathRights {
     pub layers: Vec<Grants>,
 }
 
-// The rights that mean something for what a path names.
-fn meaningful(kind: Option<Kind>) -> Access
+/// The rights that mean something for what a path names.
+pub(crate) fn meaningful(kind: Option<Kind>) -> Access
     ensures { result.0 ≡ meant kind }
 {
     match kind {

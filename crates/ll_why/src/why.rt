@@ -27,8 +27,8 @@ pub enum Why {
     Judged(Reason),
 }
 
-// The descriptor whose opening kept what decides the call.
-fn kept_number(call: &Call) -> Option<u64>
+/// The descriptor whose opening kept what decides the call.
+pub fn kept_number(call: &Call) -> Option<u64>
     ensures { result ≡ kept_number call.now }
 {
     match call {

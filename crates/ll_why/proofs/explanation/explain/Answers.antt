@@ -13,5 +13,5 @@ returns c = λ n is.
     record {
       why = why;
       answered = c.in_ok-why.ensures.answered n is;
-      changes = c.in_ok-changes.ensures s (client_of s n) call (ap (λ (r : ClientRecord). r.domain) is) why;
+      changes = c.in_ok-changes.ensures (client_of s n) call (ap (λ (r : ClientRecord). r.domain) is) why;
     }

@@ -4,7 +4,7 @@ use Rattle.ll_rights.specs.Access.{holds}
 use Rattle.ll_decide.proofs.Bits.{holds-and}
 use Rattle.ll_why.proofs.grants.rule_grants.Goals as goal
 
-pub returns : goal.returns
-returns c right known =
+pub returns-clause-rights : goal.returns-clause-rights
+returns-clause-rights c right known =
     holds-and c.args.rights.0 c.rule.result.0 right
     ∙ ap (λ n. holds c.args.rights.0 right && holds n right) c.rule.ensures

@@ -1,8 +1,9 @@
-use Rattle.std.proofs.Common.{ℕ, List, [], ◌++◌, ap, sym, subst, ◌∙◌, string_bytes}
+use Rattle.std.proofs.Common.{ℕ, ◌-◌, List, [], ◌++◌, take, ap, sym, subst, ◌∙◌, string_bytes}
 use Rattle.std.proofs.lemmas.List.{append-nil}
 use Rattle.std.proofs.lemmas.Result.{IfOk-weaker}
-use Rattle.ll_seq.specs.History.{MayStand}
+use Rattle.ll_seq.specs.History.{MayStand, state_after}
 use Rattle.ll_seq.specs.State.{State}
+use Rattle.ll_seq.specs.declared.rules.Rules.{Rules}
 use Rattle.ll_audit.specs.Saved.{opened}
 use Rattle.ll_why.specs.Entries.{IsStanding, entry_text}
 use Rattle.ll_why.specs.Explained.{IsExplained}
@@ -38,8 +39,11 @@ returns c =
       at = here (opened c.args.header.now) c.args.entries.now c.args.number e c.requires.first c.requires.last
           c.index-entries-number.is;
       stands = subst (λ (z : State). IsStanding z e standing) c.in_ok-tree.ensures.tree c.in_ok-standing.ensures;
-      explained = subst (λ (z : State). IsExplained z e.client e.call told) c.in_ok-tree.ensures.tree
-          c.in_ok-told.ensures;
+      explained = subst (λ (n : ℕ). IsExplained n (state_after (opened c.args.header.now)
+          (take (c.args.number - 1) c.args.entries.now)) e.client e.call told)
+          (ap (λ (r : Rules). r.abi) c.rules-level.ensures)
+          (subst (λ (z : State). IsExplained c.rules-level.result.abi z e.client e.call told) c.in_ok-tree.ensures.tree
+          c.in_ok-told.ensures);
       opened = c.in_ok-opening.ensures;
       is = is
           ∙ ap (λ (l : List ℕ). l ++ (opening ++ [])) (c.as_str.ensures.value ∙ c.in_ok-text.ensures)

@@ -12,9 +12,9 @@ returns c =
     let call = c.args.call.now in
     let asks = c.args.asks.now in
     let change = c.args.change.now in
-    let named : List ℕ = concat (codes "would pass with layer " ∷ decimal c.args.number ∷ []) in
+    let named : List ℕ = concat (codes "no layer would deny it with layer " ∷ decimal c.args.number ∷ []) in
     let own = c.in_ok-layer.ensures
-    ∙ ap (λ (n : List ℕ). concat (codes "would pass with layer " ∷ n ∷ []))
+    ∙ ap (λ (n : List ℕ). concat (codes "no layer would deny it with layer " ∷ n ∷ []))
     (c.as_str.ensures.value ∙ c.in_ok-number.ensures.ok) in
     let layer : c.as_str-layer.result.now ≡ named = c.as_str-layer.ensures.value ∙ own in
     let handling : c.as_str-3.result.now ≡ concat (named ∷ codes " handling" ∷ []) =

@@ -1,8 +1,11 @@
-use Rattle.std.proofs.Common.{◌≡◌, length, ap, subst, ◌∙◌}
+use Rattle.std.proofs.Common.{◌≡◌, ℕ, length, ap, subst, ◌∙◌}
 use Rattle.std.proofs.lemmas.Result.{IfOk-weaker}
+use Rattle.ll_seq.specs.History.{state_after}
 use Rattle.ll_seq.specs.State.{State}
 use Rattle.ll_seq.specs.declared.call.Call.{Call}
 use Rattle.ll_seq.specs.declared.call.Call.TheVariants.{Truncate}
+use Rattle.ll_seq.specs.declared.rules.Rules.{Rules}
+use Rattle.ll_audit.specs.Saved.{opened}
 use Rattle.ll_why.specs.Explained.{IsExplained}
 use Rattle.ll_why.specs.Opening.{opening_text}
 use Rattle.ll_why.proofs.opening.lines_of.Goals as goal
@@ -17,8 +20,11 @@ returns c =
       target = o.target.now;
       told = told;
       opens = c.requires.target;
-      explained = subst (λ (z : State). IsExplained z e.client (Truncate o.target.now 0) told)
+      explained = subst (λ (n : ℕ). IsExplained n (state_after (opened c.args.header.now) o.upto.now) e.client
+          (Truncate o.target.now 0) told) (ap (λ (r : Rules). r.abi) c.rules-level.ensures)
+          (subst (λ (z : State). IsExplained c.rules-level.result.abi z e.client (Truncate o.target.now 0) told)
           c.in_ok-tree.ensures.tree
-          (subst (λ (call : Call). IsExplained c.in_ok-tree.tree e.client call told) truncate c.in_ok-told.ensures);
+          (subst (λ (call : Call). IsExplained c.rules-level.result.abi c.in_ok-tree.tree e.client call told) truncate
+          c.in_ok-told.ensures));
       is = is ∙ ap (λ (call : Call). opening_text (length o.upto.now) e call told) truncate;
     }) c.opening_text.ensures

@@ -13,7 +13,7 @@ returns c = record {
       let layer = c.args.layer.now in
       let inodes = c.args.inodes.now in
       c.without.ensures.rights right known
-      ∙ ap (λ b. holds 0x7fff right && not b) (c.lacked.ensures right known)
+      ∙ ap (λ b. holds 0x7fff right && not b) (c.lacked.ensures.rights right known)
       ∙ not_lacked (holds 0x7fff right) (grants_on layer inodes right)
       ∙ ap (λ b. b && grants_on layer inodes right) (holds_all right known);
 }

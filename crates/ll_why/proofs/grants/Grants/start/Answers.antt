@@ -15,12 +15,13 @@ returns c =
     let set = c.args.rights.0 in
     let layer = c.args.layer.now in
     record {
+      fewer = (c.without.ensures.fewer, c.restricted-asked.ensures.fewer);
       free = λ right known.
           c.without.ensures.rights right known
-          ∙ ap (λ b. holds set right && not b) (c.restricted-asked.ensures right known)
+          ∙ ap (λ b. holds set right && not b) (c.restricted-asked.ensures.rights right known)
           ∙ none_free (holds set right) (restricts layer right);
       missing = λ right known.
-          c.restricted-asked.ensures right known ∙ not_granted (holds set right) (restricts layer right);
+          c.restricted-asked.ensures.rights right known ∙ not_granted (holds set right) (restricts layer right);
       places = ap length c.new.ensures.items;
       ruled = λ place r e. absurd (none place r (ap (λ l. slice_get l place) (sym c.new.ensures.items) ∙ e));
     }

@@ -13,9 +13,9 @@ returns c right known =
     let new = holds_with _ _ _ right c.with-new.ensures
     ∙ (λ i. c.without-3.ensures.rights right known i || c.without-4.ensures.rights right known i) in
     let back = c.without-back.ensures.rights right known
-    ∙ ap (λ b. b && not (holds sets.other.0 right)) (c.both.ensures right) in
+    ∙ ap (λ b. b && not (holds sets.other.0 right)) (c.both.ensures.rights right) in
     let there = c.without-there.ensures.rights right known
-    ∙ ap (λ b. b && not (holds sets.itself.0 right)) (c.both-2.ensures right) in
+    ∙ ap (λ b. b && not (holds sets.itself.0 right)) (c.both-2.ensures.rights right) in
     holds_with _ _ _ right c.with-4.ensures
     ∙ (λ i. (holds_with _ _ _ right c.with-3.ensures
     ∙ (λ j. (holds_with _ _ _ right c.with-2.ensures

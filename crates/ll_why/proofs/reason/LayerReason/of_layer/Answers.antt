@@ -36,8 +36,9 @@ returns c =
         | Entered ↦ subst (λ (l : List ℕ). AreGrants layer l d.entered.0 told.entered) entered
             c.in_ok-on_entered.ensures
       ];
-      there = λ right known. c.gained-there.ensures right known
+      fewer = (c.gained-there.ensures.fewer, c.gained-back.ensures.fewer);
+      there = λ right known. c.gained-there.ensures.rights right known
           ∙ (λ i. holds d.there.0 right && grants_on layer (entered i) right && not (grants_on layer (itself i) right));
-      back = λ right known. c.gained-back.ensures right known
+      back = λ right known. c.gained-back.ensures.rights right known
           ∙ (λ i. holds d.back.0 right && grants_on layer (parent i) right && not (grants_on layer (other i) right));
     }

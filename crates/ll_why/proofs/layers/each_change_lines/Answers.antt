@@ -5,7 +5,7 @@ use Rattle.ll_why.specs.declared.change.LayerChange.{LayerChange}
 use Rattle.ll_why.specs.declared.grants.Ruled.{Ruled}
 use Rattle.ll_why.specs.Told.{change_lines}
 use Rattle.ll_why.proofs.Growing.{came}
-use Rattle.ll_why.proofs.layers.all_change_lines.Goals as goal
+use Rattle.ll_why.proofs.layers.each_change_lines.Goals as goal
 
 no_rule : Ruled
 no_rule = record { inode = 0; rights = record { 0 = 0 } }

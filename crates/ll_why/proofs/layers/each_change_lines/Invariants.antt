@@ -1,7 +1,7 @@
 use Rattle.std.proofs.Common.{◌≡◌, ◌+◌, ◌++◌, drop, string_bytes}
 use Rattle.std.specs.List.{enumerate_from, flat_map}
 use Rattle.ll_why.specs.Told.{change_lines}
-use Rattle.ll_why.proofs.layers.all_change_lines.Given as goal
+use Rattle.ll_why.proofs.layers.each_change_lines.Given as goal
 
 -- what is still to come
 abbrev pub invariant-loop-index : goal.invariant-loop-index
