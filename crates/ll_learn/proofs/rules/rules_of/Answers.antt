@@ -1,0 +1,48 @@
+use Rattle.std.proofs.Common.{◌≡◌, ◌<◌, ◌≤◌, ◌==◌, ◌&&◌, ◌||◌, ◌∙◌, ℕ, Bool, Some, ap, sym, take, length, get_or, List}
+use Rattle.std.proofs.Common.{subst, eq-eqb, true}
+use Rattle.std.specs.List.{list_any}
+use Rattle.std.proofs.lemmas.List.{take_all}
+use Rattle.ll_seq.specs.State.{State}
+use Rattle.ll_seq.specs.Tree.{named}
+use Rattle.ll_learn.specs.declared.site.Site.{Site}
+use Rattle.ll_learn.specs.Draft.{has}
+use Rattle.ll_learn.proofs.Given.{any_at, any_more, met_at, parted}
+use Rattle.ll_learn.proofs.rules.rules_of.Goals as goal
+
+pub loop-site-preserved : goal.loop-site-preserved
+loop-site-preserved c =
+    let rows = c.args.sites.now.rows.items in
+    let i = c.loop-site.site-index in
+    let site = c.site-item.result in
+    let draft = c.args.draft.now in
+    let value = c.deref-site-items.ensures.value in
+    let lt : i < length rows = subst (λ (l : List Site). i < length l) value c.loop-site-test.true in
+    let is : site ≡ get_or rows i site = subst (λ (l : List Site). site ≡ get_or l i site) value c.site-item.is in
+    record {
+      rules = λ inode right known.
+          let p : Site → Bool = λ s. s.inode == inode in
+          c.in_ok-add_rule.ensures.rules inode right known
+          ∙ ap (λ b. b || ((site.inode == inode) && has draft right inode))
+          (c.loop-site.invariant.rules inode right known)
+          ∙ parted (list_any p (take i rows)) (site.inode == inode) (has draft right inode)
+          ∙ ap (λ b. b && has draft right inode) (sym (any_more p rows i site lt is));
+      named = λ s all are.
+          let each = (are.each i site lt).named in
+          let here : named s site.path ≡ Some site.inode =
+          subst (λ (x : Site). named s x.path ≡ Some x.inode) (sym is) each in
+          c.in_ok-add_rule.ensures.named s here (c.loop-site.invariant.named s all are);
+    }
+
+pub returns-clause-rules : goal.returns-clause-rules
+returns-clause-rules c inode right known =
+    let rows = c.args.sites.now.rows.items in
+    let i = c.loop-site.site-index in
+    let p : Site → Bool = λ s. s.inode == inode in
+    let draft = c.args.draft.now in
+    let end : length rows ≤ i =
+    subst (λ (l : List Site). length l ≤ i) c.deref-site-items.ensures.value c.loop-site-test.false in
+    c.loop-site.invariant.rules inode right known
+    ∙ ap (λ l. list_any p l && has draft right inode) (take_all i rows end)
+    ∙ met_at (list_any p rows) (has draft right inode) (λ at.
+    let can = c.requires inode right known at in
+    any_at p rows can.1.0 can.0 can.1.1 (eq-eqb can.0.inode inode can.2))

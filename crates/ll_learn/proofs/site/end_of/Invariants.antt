@@ -1,0 +1,12 @@
+use Rattle.std.proofs.Common.{◌≡◌, ◌++◌}
+use Rattle.ll_path.specs.Path.{Path}
+use Rattle.ll_seq.specs.Tree.{named}
+use Rattle.ll_learn.proofs.site.end_of.Given as goal
+
+-- the names so far are those in front of what is left
+abbrev pub invariant-loop-name : goal.invariant-loop-name
+invariant-loop-name l = record {
+  can : (goal.iterator-loop-name).can_next l.name-iterator;
+  finite : (goal.iterator-loop-name).is_finite l.name-iterator;
+  front : (front : Path) × (l.fn.path ≡ front ++ l.name-iterator) × (l.end ≡ named l.tree front);
+}

@@ -1,0 +1,136 @@
+-- Layers that are being learned: which rights they hold where, and what is needed of each right. own
+use Rattle.std.specs.Prelude.{◌≡◌, ◌<◌, ◌==◌, ◌&&◌, ◌||◌, ℕ, Bool, true, false, not, List, [], ◌∷◌, Option, Some, None}
+use Rattle.std.specs.Prelude.{find, slice_get, slice_index_or, if◌then◌else◌}
+use Rattle.std.specs.List.{list_all, list_any}
+use Rattle.std.specs.Option.{option_or}
+use Rattle.ll_rights.specs.declared.access.Access.{Access}
+use Rattle.ll_rights.specs.Access.{holds}
+use Rattle.ll_rights.specs.Right.{refer}
+use Rattle.ll_rules.specs.Layer.{Layer, has_rule}
+use Rattle.ll_seq.specs.State.{root}
+use Rattle.ll_learn.specs.declared.draft.Draft.{Draft}
+use Rattle.ll_learn.specs.declared.draft.Scope.{Scope}
+use Rattle.ll_learn.specs.declared.draft.Reason.{Reason}
+use Rattle.ll_learn.specs.declared.draft.Reason.TheVariants.{Asks, Moves}
+use Rattle.ll_learn.specs.declared.needs.Asked.{Asked}
+use Rattle.ll_learn.specs.declared.needs.Moved.{Moved}
+use Rattle.ll_learn.specs.declared.needs.Needs.{Needs}
+
+abbrev pub no_rights : Access
+no_rights = record { 0 = 0 }
+
+-- of sets of rights, one for each inode: whether the inode's holds the right
+abbrev pub right_at : List Access → ℕ → ℕ → Bool
+right_at sets right inode = holds (slice_index_or sets inode no_rights).0 right
+
+abbrev pub has : Draft → ℕ → ℕ → Bool
+has draft = right_at draft.rules.items
+
+abbrev pub may_have : Scope → ℕ → ℕ → Bool
+may_have scope = right_at scope.may.items
+
+-- the draft is of this layer
+pub record IsOf (draft : Draft) (layer : Layer) : Type 0 where
+  pub handled : layer.handled ≡ draft.handled.0
+  pub rules : (inode right : ℕ) → right < 15 → has_rule layer right inode ≡ has draft right inode
+
+-- a layer within the scope restricts the right
+abbrev pub is_restricted : Scope → ℕ → Bool
+is_restricted scope right = holds scope.handled.0 right || (right == refer)
+
+-- what rules may hold is handled, and the root's rule may hold it too
+pub record IsScope (scope : Scope) : Type 0 where
+  pub handled : (inode right : ℕ) → right < 15 → may_have scope right inode ≡ true
+      → holds scope.handled.0 right ≡ true
+  pub top : (inode right : ℕ) → right < 15 → may_have scope right inode ≡ true → may_have scope right root ≡ true
+
+-- the layer is within the scope
+pub record IsInScope (scope : Scope) (layer : Layer) : Type 0 where
+  pub handled : layer.handled ≡ scope.handled.0
+  pub rules : (inode right : ℕ) → right < 15 → has_rule layer right inode ≡ true → may_have scope right inode ≡ true
+
+-- ---- Where a right comes to stand
+
+-- the last of these inodes whose rule may hold the right
+abbrev pub last_of : (ℕ → Bool) → List ℕ → Option ℕ
+last_of may [] = None
+last_of may (inode ∷ inodes) = option_or (last_of may inodes) (if may inode then Some inode else None)
+
+abbrev pub is_some_at : Option ℕ → ℕ → Bool
+is_some_at None inode = false
+is_some_at (Some other) inode = other == inode
+
+-- the inode takes what is asked below it, and its rule may hold the right
+abbrev pub is_upper : Scope → ℕ → ℕ → Bool
+is_upper scope right inode = may_have scope right inode && list_any (λ i. i == inode) scope.beneath.items
+
+-- On a path of these inodes: the first that takes what is asked below it; else the last whose rule may hold the right
+abbrev pub place_of : Scope → ℕ → List ℕ → Option ℕ
+place_of scope right inodes =
+    option_or (find (is_upper scope right) inodes) (last_of (may_have scope right) inodes)
+
+abbrev pub is_asked_at : Scope → ℕ → List Asked → ℕ → Bool
+is_asked_at scope right asks inode = list_any
+    (λ (a : Asked). holds a.rights.0 right && is_some_at (place_of scope right a.inodes.items) inode) asks
+
+abbrev pub is_mended_at : Scope → ℕ → List Moved → ℕ → Bool
+is_mended_at scope right moves inode = list_any
+    (λ (m : Moved). holds m.rights.0 right && is_some_at (place_of scope right m.from.items) inode) moves
+
+-- the right is asked on a path of which this is the place, or on the own path of a node that moves
+abbrev pub is_placed : Scope → Needs → ℕ → ℕ → Bool
+is_placed scope needs right inode =
+    is_asked_at scope right needs.asks.items inode || is_mended_at scope right needs.moves.items inode
+
+-- ---- One right, that the rules of these inodes hold
+
+-- of these inodes but one
+abbrev pub without : ℕ → (ℕ → Bool) → ℕ → Bool
+without inode held other = held other && not (other == inode)
+
+-- where the right is asked a rule holds it
+abbrev pub is_granted : (ℕ → Bool) → ℕ → Asked → Bool
+is_granted held right a = not (holds a.rights.0 right) || list_any held a.inodes.items
+
+-- no move lets it be gained
+abbrev pub is_gainless : (ℕ → Bool) → ℕ → Moved → Bool
+is_gainless held right m =
+    not (holds m.rights.0 right) || (not (list_any held m.into.items) || list_any held m.from.items)
+
+abbrev pub is_met : (ℕ → Bool) → ℕ → Needs → Bool
+is_met held right needs =
+    list_all (is_granted held right) needs.asks.items && list_all (is_gainless held right) needs.moves.items
+
+-- what is needed of the right is met, by rules that stand in its places, and not without any one of them
+pub record IsLeast (scope : Scope) (needs : Needs) (right : ℕ) (held : ℕ → Bool) : Type 0 where
+  pub placed : (inode : ℕ) → held inode ≡ true → is_placed scope needs right inode ≡ true
+  pub met : is_restricted scope right ≡ true → is_met held right needs ≡ true
+  pub needed : (inode : ℕ) → held inode ≡ true → is_met (without inode held) right needs ≡ false
+
+-- ---- What can't be met
+
+-- The ask of this number has a right that layers of the scope restrict and that none of its inodes' rules may hold
+abbrev pub IsUnmet : Scope → List Asked → ℕ → Type 0
+IsUnmet scope asks number = (a : Asked) × (slice_get asks number ≡ Some a) × (right : ℕ) × (right < 15)
+    × (is_restricted scope right ≡ true) × (is_granted (may_have scope right) right a ≡ false)
+
+-- ---- Which rules are sure to be of the least layer
+
+-- the right is asked where this inode is the last whose rule may hold it
+abbrev pub is_charge : Scope → ℕ → ℕ → Asked → Bool
+is_charge scope right inode a =
+    holds a.rights.0 right && is_some_at (last_of (may_have scope right) a.inodes.items) inode
+
+-- each right of a rule is asked where no rule that is nearer may hold it
+abbrev pub IsCharged : Scope → Needs → Draft → Type 0
+IsCharged scope needs draft = (inode right : ℕ) → right < 15 → has draft right inode ≡ true
+    → list_any (is_charge scope right inode) needs.asks.items ≡ true
+
+-- ---- Why a right stands in a rule
+
+-- which ask isn't granted, or which move lets the right be gained
+abbrev pub IsReason : (ℕ → Bool) → ℕ → List Asked → List Moved → Reason → Type 0
+IsReason held right asks moves (Asks origin) = (number : ℕ) × (a : Asked) × (slice_get asks number ≡ Some a)
+    × (a.origin ≡ origin) × (is_granted held right a ≡ false)
+IsReason held right asks moves (Moves origin) = (number : ℕ) × (m : Moved) × (slice_get moves number ≡ Some m)
+    × (m.origin ≡ origin) × (is_gainless held right m ≡ false)

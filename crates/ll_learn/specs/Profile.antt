@@ -1,0 +1,40 @@
+-- The text of a learned profile, in the format of policies (docs/PROGRAM.md, "Policies"). own
+use Rattle.std.specs.Prelude.{ℕ, Bool, ◌==◌, ◌||◌, List, [], ◌∷◌, ◌++◌, codes, if◌then◌else◌}
+use Rattle.std.specs.Prelude.{Option, Some, None}
+use Rattle.std.specs.List.{concat, flat_map}
+use Rattle.ll_rights.specs.Access.{access_text}
+use Rattle.ll_path.specs.Path.{path_text}
+use Rattle.ll_learn.specs.declared.needs.Origin.{Origin}
+use Rattle.ll_learn.specs.declared.profile.Rule.{Rule}
+use Rattle.ll_learn.specs.declared.profile.Profile.{Profile}
+
+-- in a string of TOML a quotation mark (34) and a backslash (92) stand behind a backslash
+abbrev pub toml_byte : ℕ → List ℕ
+toml_byte b = if (b == 34) || (b == 92) then 92 ∷ b ∷ [] else b ∷ []
+
+-- a text without control characters, as a string of TOML
+abbrev pub toml_string : List ℕ → List ℕ
+toml_string text = 34 ∷ (flat_map toml_byte text ++ 34 ∷ [])
+
+-- what is promised of the profile
+abbrev pub head_line : Bool → List ℕ
+head_line is_least =
+    if is_least then codes "# least: each layer under which these calls pass grants all that this one grants\n"
+    else codes "# passes, and no single right can be left out\n"
+
+-- the comment on an entry, if there is one. note: the line on it
+abbrev pub comment : (Origin → List ℕ) → Option Origin → List ℕ
+comment note None = []
+comment note (Some entry) = concat (codes "# " ∷ note entry ∷ [])
+
+-- behind an empty line, and a comment on what needs it first
+abbrev pub rule_text : (Origin → List ℕ) → List ℕ → Rule → List ℕ
+rule_text note name rule = concat (
+    codes "\n" ∷ comment note rule.needed_by ∷ codes "[[profile." ∷ name ∷ codes ".layer.rule]]\npath = "
+    ∷ toml_string (path_text rule.path) ∷ codes "\nrights = \"" ∷ access_text rule.rights.0 ∷ codes "\"\n" ∷ [])
+
+-- one layer, and its rules in order
+abbrev pub profile_text : (Origin → List ℕ) → List ℕ → Profile → List ℕ
+profile_text note name profile = concat (
+    head_line profile.is_least ∷ codes "[[profile." ∷ name ∷ codes ".layer]]\nhandled = \""
+    ∷ access_text profile.handled.0 ∷ codes "\"\n" ∷ flat_map (rule_text note name) profile.rules.items ∷ [])

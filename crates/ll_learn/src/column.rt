@@ -1,0 +1,257 @@
+//! On which inodes rules hold one right: as few as what is needed of it allows.
+
+ghost use Rattle.std.specs.Prelude.{◌≡◌, ◌<◌, ◌==◌, ◌||◌, ◌&&◌, ℕ, true, false, length, slice_set, IfOk};
+ghost use Rattle.std.specs.List.{list_all, list_any};
+ghost use Rattle.ll_learn.specs.Columns.{AreFromRoot, Grows, Shrinks, free_count, held_count, is_at};
+ghost use Rattle.ll_learn.specs.Draft.{IsLeast, IsScope, is_asked_at, is_gainless, is_granted, is_mended_at, is_met};
+ghost use Rattle.ll_learn.specs.Draft.{is_some_at, may_have, place_of, without};
+ghost use Rattle.ll_learn.specs.Needs.{AreRooted};
+
+use crate::draft::Scope;
+use crate::needs::{Asked, Moved, Needs};
+use ll_rights::Right;
+use std::alloc::{AllocError, Global};
+
+// No rule on so many inodes holds the right.
+fn none_held(alloc: Global, count: usize) -> Result<Vec<bool>, AllocError>
+    ensures len { IfOk result (λ held. length held.items ≡ count) }
+    ensures none { IfOk result (λ held. (inode : ℕ) → is_at held.items inode ≡ false) }
+{
+    let held = vec![in alloc; false; count]?;
+    Ok(held)
+}
+
+// Whether a rule on the inode holds the right.
+fn is_held(held: &[bool], inode: u64) -> bool
+    ensures { result ≡ is_at held.now inode }
+{
+    let place = inode as usize;
+    place < held.len() && held[place]
+}
+
+// Whether a rule on one of the inodes does.
+fn is_on(held: &[bool], inodes: &[u64]) -> bool
+    ensures { result ≡ list_any (is_at held.now) inodes.now }
+{
+    inodes.iter().any(|inode| is_held(held, *inode))
+}
+
+// Whether a rule on another of the inodes than this one does.
+fn is_on_without(held: &[bool], out: u64, inodes: &[u64]) -> bool
+    ensures { result ≡ list_any (without out (is_at held.now)) inodes.now }
+{
+    inodes
+        .iter()
+        .any(|inode| is_held(held, *inode) && *inode != out)
+}
+
+/// Whether the right is granted where it is asked, without one inode's rule.
+pub(crate) fn is_granted_without(held: &[bool], out: u64, right: Right, asked: &Asked) -> bool
+    ensures { result ≡ is_granted (without out (is_at held.now)) right asked.now }
+{
+    !asked.rights.holds(right) || is_on_without(held, out, &asked.inodes)
+}
+
+/// Whether the move lets the right not be gained, without one inode's rule.
+pub(crate) fn is_gainless_without(held: &[bool], out: u64, right: Right, moved: &Moved) -> bool
+    ensures { result ≡ is_gainless (without out (is_at held.now)) right moved.now }
+{
+    !moved.rights.holds(right)
+        || (!is_on_without(held, out, &moved.into) || is_on_without(held, out, &moved.from))
+}
+
+// Whether that is so wherever it is asked.
+fn are_granted_without(held: &[bool], out: u64, right: Right, asks: &[Asked]) -> bool
+    ensures { result ≡ list_all (is_granted (without out (is_at held.now)) right) asks.now }
+{
+    asks.iter()
+        .all(|asked| is_granted_without(held, out, right, asked))
+}
+
+// Whether that is so of each move.
+fn are_gainless_without(held: &[bool], out: u64, right: Right, moves: &[Moved]) -> bool
+    ensures { result ≡ list_all (is_gainless (without out (is_at held.now)) right) moves.now }
+{
+    moves
+        .iter()
+        .all(|moved| is_gainless_without(held, out, right, moved))
+}
+
+// Whether what is needed of the right is met, without one inode's rule.
+fn is_met_without(held: &[bool], out: u64, right: Right, needs: &Needs) -> bool
+    ensures { result ≡ is_met (without out (is_at held.now)) right needs.now }
+{
+    are_granted_without(held, out, right, &needs.asks)
+        && are_gainless_without(held, out, right, &needs.moves)
+}
+
+// Whether the move lets the right not be gained.
+fn is_gainless(held: &[bool], right: Right, moved: &Moved) -> bool
+    ensures { result ≡ is_gainless (is_at held.now) right moved.now }
+{
+    !moved.rights.holds(right) || (!is_on(held, &moved.into) || is_on(held, &moved.from))
+}
+
+// The inode's rule is to hold the right, or not to hold it.
+fn set_held(held: &mut Vec<bool>, inode: u64, value: bool)
+    ensures { held.new.items ≡ slice_set held.old.items inode value }
+{
+    let place = inode as usize;
+    if place < held.len() {
+        held[place] = value;
+    }
+}
+
+// A rule on the path is to hold the right.
+fn grow(held: &mut Vec<bool>, right: Right, inodes: &[u64], scope: &Scope)
+    requires len { length held.old.items ≡ length scope.now.may.items }
+    requires some { list_any (may_have scope.now right) inodes.now ≡ true }
+    ensures grows { Grows (is_some_at (place_of scope.now right inodes.now)) held.old.items held.new.items }
+    ensures on { list_any (is_at held.new.items) inodes.now ≡ true }
+    ensures more { list_any (is_at held.old.items) inodes.now ≡ false
+        → free_count held.new.items < free_count held.old.items }
+{
+    if let Some(inode) = scope.place_of(right, inodes) {
+        set_held(held, inode, true);
+    }
+}
+
+// Rules are to hold the right wherever it is asked.
+fn charge(held: &mut Vec<bool>, right: Right, asks: &[Asked], scope: &Scope)
+    requires len { length held.old.items ≡ length scope.now.may.items }
+    requires can { list_all (is_granted (may_have scope.now right) right) asks.now ≡ true }
+    ensures grows { Grows (is_asked_at scope.now right asks.now) held.old.items held.new.items }
+    ensures met { list_all (is_granted (is_at held.new.items) right) asks.now ≡ true }
+{
+    for asked in asks {
+        if asked.rights.holds(right) {
+            grow(held, right, &asked.inodes, scope);
+        }
+    }
+}
+
+// Rules on the nodes' own paths are to hold the right where moves would let it be gained. Whether any would.
+fn close_once(held: &mut Vec<bool>, right: Right, moves: &[Moved], scope: &Scope) -> bool
+    requires known { right < 15 }
+    requires scope { IsScope scope.now }
+    requires rooted { AreFromRoot moves.now }
+    requires len { length held.old.items ≡ length scope.now.may.items }
+    requires within { (inode : ℕ) → is_at held.old.items inode ≡ true → may_have scope.now right inode ≡ true }
+    ensures grows { Grows (is_mended_at scope.now right moves.now) held.old.items held.new.items }
+    ensures kept { result ≡ false → held.new.items ≡ held.old.items }
+    ensures more { result ≡ true → free_count held.new.items < free_count held.old.items }
+    ensures done { result ≡ false → list_all (is_gainless (is_at held.new.items) right) moves.now ≡ true }
+{
+    let mut changed = false;
+    for moved in moves {
+        if !is_gainless(held, right, moved) {
+            grow(held, right, &moved.from, scope);
+            changed = true;
+        }
+    }
+    changed
+}
+
+// That again and again, until no move would let the right be gained.
+fn close(held: &mut Vec<bool>, right: Right, moves: &[Moved], scope: &Scope)
+    requires known { right < 15 }
+    requires scope { IsScope scope.now }
+    requires rooted { AreFromRoot moves.now }
+    requires len { length held.old.items ≡ length scope.now.may.items }
+    requires within { (inode : ℕ) → is_at held.old.items inode ≡ true → may_have scope.now right inode ≡ true }
+    ensures grows { Grows (is_mended_at scope.now right moves.now) held.old.items held.new.items }
+    ensures done { list_all (is_gainless (is_at held.new.items) right) moves.now ≡ true }
+{
+    let mut changed = true;
+    while changed {
+        changed = close_once(held, right, moves, scope);
+    }
+}
+
+// The inode's rule is not to hold the right, if what is needed is met all the same. Whether that is so.
+fn leave_out(held: &mut Vec<bool>, inode: u64, right: Right, needs: &Needs) -> bool
+    ensures kept { result ≡ false → held.new.items ≡ held.old.items }
+    ensures needed { result ≡ false → is_at held.old.items inode ≡ true
+        → is_met (without inode (is_at held.old.items)) right needs.now ≡ false }
+    ensures out { result ≡ true → is_at held.old.items inode ≡ true }
+    ensures less { result ≡ true → held.new.items ≡ slice_set held.old.items inode false }
+    ensures met { result ≡ true → is_met (without inode (is_at held.old.items)) right needs.now ≡ true }
+{
+    if !is_held(held, inode) || !is_met_without(held, inode, right, needs) {
+        return false;
+    }
+    set_held(held, inode, false);
+    true
+}
+
+// Leaves out what can be left out, one inode after the other. Whether any could.
+fn prune_in(held: &mut Vec<bool>, right: Right, needs: &Needs, order: &[u64]) -> bool
+    requires { is_met (is_at held.old.items) right needs.now ≡ true }
+    ensures shrinks { Shrinks held.old.items held.new.items }
+    ensures met { is_met (is_at held.new.items) right needs.now ≡ true }
+    ensures kept { result ≡ false → held.new.items ≡ held.old.items }
+    ensures less { result ≡ true → held_count held.new.items < held_count held.old.items }
+{
+    let mut changed = false;
+    for inode in order {
+        if leave_out(held, *inode, right, needs) {
+            changed = true;
+        }
+    }
+    changed
+}
+
+// That in the order of the inodes' numbers.
+fn prune_all(held: &mut Vec<bool>, right: Right, needs: &Needs) -> bool
+    requires { is_met (is_at held.old.items) right needs.now ≡ true }
+    ensures shrinks { Shrinks held.old.items held.new.items }
+    ensures met { is_met (is_at held.new.items) right needs.now ≡ true }
+    ensures kept { result ≡ false → held.new.items ≡ held.old.items }
+    ensures less { result ≡ true → held_count held.new.items < held_count held.old.items }
+    ensures needed { result ≡ false → (inode : ℕ) → is_at held.new.items inode ≡ true
+        → is_met (without inode (is_at held.new.items)) right needs.now ≡ false }
+{
+    let mut changed = false;
+    for inode in 0..held.len() as u64 {
+        if leave_out(held, inode, right, needs) {
+            changed = true;
+        }
+    }
+    changed
+}
+
+// Leaves out what can be left out, until nothing can.
+fn prune(held: &mut Vec<bool>, right: Right, needs: &Needs, order: &[u64])
+    requires { is_met (is_at held.old.items) right needs.now ≡ true }
+    ensures shrinks { Shrinks held.old.items held.new.items }
+    ensures met { is_met (is_at held.new.items) right needs.now ≡ true }
+    ensures needed { (inode : ℕ) → is_at held.new.items inode ≡ true
+        → is_met (without inode (is_at held.new.items)) right needs.now ≡ false }
+{
+    let mut again = true;
+    while again {
+        let early = prune_in(held, right, needs, order);
+        again = early || prune_all(held, right, needs);
+    }
+}
+
+/// On which inodes rules hold the right in a layer of the scope from which nothing can be left out.
+pub(crate) fn least_column(
+    alloc: Global,
+    right: Right,
+    needs: &Needs,
+    scope: &Scope,
+) -> Result<Vec<bool>, AllocError>
+    requires known { right < 15 }
+    requires scope { IsScope scope.now }
+    requires rooted { AreRooted needs.now }
+    requires can { list_all (is_granted (may_have scope.now right) right) needs.now.asks.items ≡ true }
+    ensures len { IfOk result (λ held. length held.items ≡ length scope.now.may.items) }
+    ensures least { IfOk result (λ held. IsLeast scope.now needs.now right (is_at held.items)) }
+{
+    let mut held = none_held(alloc, scope.may.len())?;
+    charge(&mut held, right, &needs.asks, scope);
+    close(&mut held, right, &needs.moves, scope);
+    prune(&mut held, right, needs, &scope.order);
+    Ok(held)
+}

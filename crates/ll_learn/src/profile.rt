@@ -1,0 +1,162 @@
+//! Learned profiles, and their text as a policy has it.
+
+ghost use Rattle.std.specs.Prelude.{◌≡◌, ◌++◌, ◌<◌, IfOk, OnOk, map, string_bytes};
+ghost use Rattle.std.specs.List.{concat, flat_map};
+ghost use Rattle.ll_path.specs.Word.{IsWord};
+ghost use Rattle.ll_learn.specs.Profile.{comment, head_line, profile_text, rule_text, toml_byte, toml_string};
+
+use crate::needs::Origin;
+use ll_path::Path;
+use ll_rights::Access;
+use std::alloc::{AllocError, Global};
+
+/// A rule of a learned layer.
+#[derive(Drop)]
+pub struct Rule {
+    /// The node at the cut, and a path that names it there.
+    pub inode: u64,
+    pub path: Path,
+    pub rights: Access,
+    /// The first entry that needs one of the rights.
+    pub needed_by: Option<Origin>,
+}
+
+/// What comments say of entries.
+pub trait Notes {
+    ghost use Rattle.std.specs.Prelude.{ℕ, List, IfOk, string_bytes, ◌≡◌};
+    ghost use Rattle.ll_learn.specs.declared.needs.Origin as origins;
+
+    ghost note: { Self → origins.Origin → List ℕ };
+
+    /// Returns the line on the entry. Errors: memory ran out.
+    fn line(&self, alloc: Global, entry: Origin) -> Result<String, AllocError>
+        ensures { IfOk result (λ text. string_bytes text ≡ note self.now entry) };
+}
+
+/// A profile of one layer.
+#[derive(Drop)]
+pub struct Profile {
+    /// Whether each layer under which the calls pass grants all that this one grants.
+    pub is_least: bool,
+    pub handled: Access,
+    pub rules: Vec<Rule>,
+}
+
+// Concatenates the parts.
+fn concat(alloc: Global, parts: &[&str]) -> Result<String, AllocError>
+    ensures { IfOk result (λ text. string_bytes text ≡ concat (map (λ p. p.now) parts.now)) }
+{
+    let mut text = String::new(alloc);
+    for part in parts {
+        text.push_str(part)?;
+    }
+    Ok(text)
+}
+
+fn push_byte(text: &mut String, byte: u8) -> Result<(), AllocError>
+    requires { byte < 128 }
+    ensures { OnOk result (string_bytes text.new ≡ string_bytes text.old ++ toml_byte byte) }
+{
+    if byte == b'"' || byte == b'\\' {
+        text.push('\\')?;
+    }
+    text.push(byte as char)
+}
+
+fn toml_string(alloc: Global, told: &str) -> Result<String, AllocError>
+    requires { IsWord told.now }
+    ensures { IfOk result (λ text. string_bytes text ≡ toml_string told.now) }
+{
+    let mut text = String::from_str(alloc, "\"")?;
+    for byte in told.as_bytes() {
+        push_byte(&mut text, *byte)?;
+    }
+    text.push_str("\"")?;
+    Ok(text)
+}
+
+fn head_line(is_least: bool) -> &'static str
+    ensures { result.now ≡ head_line is_least }
+{
+    if is_least {
+        "# least: each layer under which these calls pass grants all that this one grants\n"
+    } else {
+        "# passes, and no single right can be left out\n"
+    }
+}
+
+// The comment on the entry, if there is one.
+fn comment<N: Notes>(alloc: Global, notes: &N, entry: Option<Origin>) -> Result<String, AllocError>
+    ensures { IfOk result (λ text. string_bytes text ≡ comment (N.note notes.now) entry) }
+{
+    let Some(entry) = entry else {
+        return Ok(String::new(alloc));
+    };
+    let line = notes.line(alloc, entry)?;
+    concat(alloc, &["# ", line.as_str()])
+}
+
+impl Rule {
+    // Its table in the profile of this name.
+    fn text<N: Notes>(&self, alloc: Global, notes: &N, name: &str) -> Result<String, AllocError>
+        ensures { IfOk result (λ text. string_bytes text ≡ rule_text (N.note notes.now) name.now self.now) }
+    {
+        let comment = comment(alloc, notes, self.needed_by)?;
+        let path = toml_string(alloc, self.path.as_str())?;
+        let rights = self.rights.text(alloc)?;
+        concat(
+            alloc,
+            &[
+                "\n",
+                comment.as_str(),
+                "[[profile.",
+                name,
+                ".layer.rule]]\npath = ",
+                path.as_str(),
+                "\nrights = \"",
+                rights.as_str(),
+                "\"\n",
+            ],
+        )
+    }
+}
+
+// The tables of these rules.
+fn rules_text<N: Notes>(
+    alloc: Global,
+    notes: &N,
+    name: &str,
+    rules: &[Rule],
+) -> Result<String, AllocError>
+    ensures { IfOk result (λ text. string_bytes text ≡ flat_map (rule_text (N.note notes.now) name.now) rules.now) }
+{
+    let mut text = String::new(alloc);
+    for rule in rules {
+        let table = rule.text(alloc, notes, name)?;
+        text.push_str(table.as_str())?;
+    }
+    Ok(text)
+}
+
+impl Profile {
+    /// Returns the profile's text under this name. Errors: memory ran out.
+    pub fn text<N: Notes>(&self, alloc: Global, notes: &N, name: &str) -> Result<String, AllocError>
+        ensures { IfOk result (λ text. string_bytes text ≡ profile_text (N.note notes.now) name.now self.now) }
+    {
+        let handled = self.handled.text(alloc)?;
+        let rules = rules_text(alloc, notes, name, self.rules.as_slice())?;
+        let head = String::from_str(alloc, head_line(self.is_least))?;
+        concat(
+            alloc,
+            &[
+                head.as_str(),
+                "[[profile.",
+                name,
+                ".layer]]\nhandled = \"",
+                handled.as_str(),
+                "\"\n",
+                rules.as_str(),
+            ],
+        )
+    }
+}

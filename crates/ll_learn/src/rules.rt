@@ -1,0 +1,172 @@
+//! The rules of a draft, with paths and reasons.
+
+ghost use Rattle.std.specs.Prelude.{◌≡◌, ◌<◌, ◌^◌, ◌⊎◌, ◌==◌, ◌&&◌, ◌||◌, ◌++◌, ◌∷◌, [], ℕ, true, false, IfOk, IfSome};
+ghost use Rattle.std.specs.Prelude.{None, Ok, OnOk, Some};
+ghost use Rattle.ll_rights.specs.Access.{holds};
+ghost use Rattle.std.specs.List.{list_any};
+ghost use Rattle.ll_seq.specs.State.{State};
+ghost use Rattle.ll_seq.specs.Tree.{named};
+ghost use Rattle.ll_learn.specs.Draft.{has};
+ghost use Rattle.ll_learn.specs.Lesson.{AreNamed, AreRulesOf, CanHold, IsNeededBy, gives, origin_of};
+ghost use Rattle.ll_learn.specs.Sites.{AreSites};
+
+use crate::draft::{Draft, Reason};
+use crate::needs::{Needs, Origin};
+use crate::profile::Rule;
+use crate::site::{Site, Sites, copy_of};
+use crate::solution::reason_of;
+use ll_rights::{Access, Right};
+use std::alloc::{AllocError, Global};
+
+// The rights of the draft's rule on the inode.
+fn rights_on(draft: &Draft, inode: u64) -> Access
+    ensures known { result.0 < 2 ^ 15 }
+    ensures rights { (right : ℕ) → right < 15 → holds result.0 right ≡ has draft.now right inode }
+{
+    let place = inode as usize;
+    if place < draft.rules.len() {
+        Access(draft.rules[place].0 & Access::ALL.0)
+    } else {
+        Access(0)
+    }
+}
+
+// The entry that the reason is of.
+fn origin_of(reason: Reason) -> Origin
+    ensures { result ≡ origin_of reason }
+{
+    match reason {
+        Reason::Asks(origin) => origin,
+        Reason::Moves(origin) => origin,
+    }
+}
+
+// The earlier one of two entries, if there are two.
+fn earlier(first: Option<Origin>, second: Origin) -> Origin
+    ensures { (first ≡ Some result) ⊎ (result ≡ second) }
+{
+    match first {
+        Some(origin) if (origin.history, origin.entry) <= (second.history, second.entry) => origin,
+        _ => second,
+    }
+}
+
+// The earlier one of the first entry so far and the one that needs this right on the inode, if one does.
+fn with_need(
+    alloc: Global,
+    draft: &Draft,
+    needs: &Needs,
+    inode: u64,
+    right: Right,
+    first: Option<Origin>,
+) -> Result<Option<Origin>, AllocError>
+    ensures { IfSome first (IsNeededBy draft.now needs.now inode)
+        → IfOk result (λ after. IfSome after (IsNeededBy draft.now needs.now inode)) }
+{
+    if !draft.has(right, inode) {
+        return Ok(first);
+    }
+    match reason_of(alloc, draft, needs, right, inode)? {
+        Some(reason) => Ok(Some(earlier(first, origin_of(reason)))),
+        None => Ok(first),
+    }
+}
+
+// The first entry that needs one of the rights of the rule on the inode.
+fn first_need(
+    alloc: Global,
+    draft: &Draft,
+    needs: &Needs,
+    inode: u64,
+) -> Result<Option<Origin>, AllocError>
+    ensures { IfOk result (λ first. IfSome first (IsNeededBy draft.now needs.now inode)) }
+{
+    let mut first = None;
+    for right in Right::ALL {
+        first = with_need(alloc, draft, needs, inode, right, first)?;
+    }
+    Ok(first)
+}
+
+// The draft's rule on the node, if it has one.
+fn rule_on(
+    alloc: Global,
+    draft: &Draft,
+    needs: &Needs,
+    site: &Site,
+) -> Result<Option<Rule>, AllocError>
+    ensures none { result ≡ Ok None → (right : ℕ) → right < 15 → has draft.now right site.now.inode ≡ false }
+    ensures inode { IfOk result (λ found. IfSome found (λ rule. rule.inode ≡ site.now.inode)) }
+    ensures path { IfOk result (λ found. IfSome found (λ rule. rule.path ≡ site.now.path)) }
+    ensures rights { IfOk result (λ found. IfSome found (λ rule. (right : ℕ) → right < 15
+        → holds rule.rights.0 right ≡ has draft.now right site.now.inode)) }
+    ensures known { IfOk result (λ found. IfSome found (λ rule. rule.rights.0 < 2 ^ 15)) }
+    ensures reason { IfOk result (λ found. IfSome found (λ rule.
+        IfSome rule.needed_by (IsNeededBy draft.now needs.now rule.inode))) }
+{
+    let inode = site.inode;
+    let rights = rights_on(draft, inode);
+    if rights.0 == 0 {
+        return Ok(None);
+    }
+    let path = copy_of(alloc, &site.path)?;
+    let needed_by = first_need(alloc, draft, needs, inode)?;
+    Ok(Some(Rule {
+        inode,
+        path,
+        rights,
+        needed_by,
+    }))
+}
+
+// The rule comes behind the others.
+fn push_rule(rules: &mut Vec<Rule>, rule: Rule) -> Result<(), AllocError>
+    ensures { OnOk result (rules.new.items ≡ rules.old.items ++ rule ∷ []) }
+{
+    match rules.push(rule) {
+        Ok(()) => Ok(()),
+        Err(refused) => {
+            drop(refused);
+            Err(AllocError)
+        }
+    }
+}
+
+// The draft's rule on the node comes behind the others, if it has one.
+fn add_rule(
+    alloc: Global,
+    draft: &Draft,
+    needs: &Needs,
+    site: &Site,
+    rules: &mut Vec<Rule>,
+) -> Result<(), AllocError>
+    ensures rules { OnOk result ((inode right : ℕ) → right < 15 → list_any (gives inode right) rules.new.items
+        ≡ (list_any (gives inode right) rules.old.items
+        || ((site.now.inode == inode) && has draft.now right inode))) }
+    ensures named { OnOk result ((s : State) → named s site.now.path ≡ Some site.now.inode
+        → AreNamed s rules.old.items → AreNamed s rules.new.items) }
+{
+    match rule_on(alloc, draft, needs, site)? {
+        Some(rule) => push_rule(rules, rule),
+        None => Ok(()),
+    }
+}
+
+/// Returns the draft's rules, which are on these nodes, in their order. Errors: memory ran out.
+pub(crate) fn rules_of(
+    alloc: Global,
+    draft: &Draft,
+    needs: &Needs,
+    sites: &Sites,
+) -> Result<Vec<Rule>, AllocError>
+    requires { (inode right : ℕ) → right < 15 → has draft.now right inode ≡ true → CanHold sites.now inode right }
+    ensures rules { IfOk result (λ rules. AreRulesOf draft.now rules.items) }
+    ensures named { IfOk result (λ rules. (s : State) (all : ℕ) → AreSites s all sites.now
+        → AreNamed s rules.items) }
+{
+    let mut rules = Vec::new(alloc);
+    for site in &sites.rows {
+        add_rule(alloc, draft, needs, site, &mut rules)?;
+    }
+    Ok(rules)
+}

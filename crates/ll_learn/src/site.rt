@@ -1,0 +1,252 @@
+//! Where nodes are in a tree, and what rules on them may grant.
+
+ghost use Rattle.std.specs.Prelude.{◌≡◌, ◌<◌, ◌-◌, ◌^◌, ◌++◌, ◌∷◌, [], true, IfOk, IfSome, OnOk, None, length};
+ghost use Rattle.std.specs.Prelude.{option_and_then, string_bytes};
+ghost use Rattle.ll_rights.specs.Map.{has};
+ghost use Rattle.ll_path.specs.Path.{path_of_text, path_refusals};
+ghost use Rattle.ll_path.specs.Word.{IsWord};
+ghost use Rattle.ll_seq.specs.State.{State, child};
+ghost use Rattle.ll_seq.specs.Tree.{named};
+ghost use Rattle.ll_learn.specs.Sites.{AreSites, IsSite, may_grant};
+
+use ll_path::{Name, Path, Target, Word};
+use ll_plain::Plain;
+use ll_rights::limits::TREE_NODES;
+use ll_rights::{Access, Kind};
+use ll_seq::{Call, Listing, ROOT, Reply};
+use std::alloc::{AllocError, Global};
+
+/// A node with a name.
+#[derive(Drop)]
+pub struct Site {
+    pub inode: u64,
+    /// A path that names it.
+    pub path: Path,
+    /// What a rule on it may grant.
+    pub may: Access,
+}
+
+// What stands under the name in the directory that was found so far.
+fn below(tree: &Plain, end: Option<u64>, name: &str) -> Option<u64>
+    ensures { result ≡ option_and_then (λ d. child tree.now d name.now) end }
+{
+    match end {
+        None => None,
+        Some(directory) => tree.child(directory, name),
+    }
+}
+
+/// The node that the path names.
+pub(crate) fn end_of(tree: &Plain, path: &Path) -> Option<u64>
+    ensures { result ≡ named tree.now path.now }
+{
+    let mut end = Some(ROOT);
+    for name in path.names() {
+        end = below(tree, end, name);
+    }
+    end
+}
+
+// What a rule on the inode may grant of these rights.
+fn may_grant(tree: &Plain, all: Access, inode: u64) -> Access
+    ensures { result.0 ≡ may_grant tree.now all.0 inode }
+{
+    if inode == ROOT {
+        return all;
+    }
+    match tree.kind(inode) {
+        None => Access(0),
+        Some(kind) => Access(all.0 & kind.relevant().0),
+    }
+}
+
+impl Site {
+    // The node that the path names, where rules may grant of these rights. None if the path names none.
+    fn of_path(tree: &Plain, all: Access, path: Path) -> Option<Site>
+        ensures { IfSome result (IsSite tree.now all.0) }
+    {
+        let inode = end_of(tree, &path)?;
+        let may = may_grant(tree, all, inode);
+        Some(Site { inode, path, may })
+    }
+}
+
+// A copy of the text, as a word.
+fn word_of(alloc: Global, text: &str) -> Result<Word, AllocError>
+    requires { IsWord text.now }
+    ensures { IfOk result (λ word. word ≡ text.now) }
+{
+    match Word::new(String::from_str(alloc, text)?) {
+        Ok(word) => Ok(word),
+        Err(_) => unreachable!(),
+    }
+}
+
+// The path that the text spells, if it spells one.
+fn path_of(text: String) -> Option<Path>
+    ensures some { IfSome result (λ path. path ≡ path_of_text (string_bytes text)) }
+    ensures none { result ≡ None → IsWord (string_bytes text) → path_refusals (string_bytes text) ≡ [] → ⊥ }
+{
+    match Word::new(text) {
+        Ok(word) => match Path::parse(word) {
+            Ok(path) => Some(path),
+            Err(_) => None,
+        },
+        Err(_) => None,
+    }
+}
+
+// The root's path.
+fn root_path(alloc: Global) -> Result<Path, AllocError>
+    ensures { IfOk result (λ path. path ≡ []) }
+{
+    match path_of(String::from_str(alloc, "/")?) {
+        Some(path) => Ok(path),
+        None => unreachable!(),
+    }
+}
+
+/// A copy of the path. Errors: memory ran out.
+pub(crate) fn copy_of(alloc: Global, path: &Path) -> Result<Path, AllocError>
+    ensures { IfOk result (λ copy. copy ≡ path.now) }
+{
+    match path_of(String::from_str(alloc, path.as_str())?) {
+        Some(copy) => Ok(copy),
+        None => unreachable!(),
+    }
+}
+
+// The path with one name more. None if it is too long.
+fn path_below(alloc: Global, path: &Path, name: &Name) -> Result<Option<Path>, AllocError> {
+    let mut text = String::from_str(alloc, path.as_str())?;
+    if !path.is_root() {
+        text.push_str("/")?;
+    }
+    text.push_str(name.as_str())?;
+    Ok(path_of(text))
+}
+
+// The names in the directory, which the client may list.
+fn names_in(
+    alloc: Global,
+    tree: &mut Plain,
+    client: u64,
+    path: &Path,
+) -> Result<Listing, AllocError>
+    requires caller { has tree.old.clients client ≡ true }
+    requires next { tree.old.next < 2 ^ 64 - 1 }
+    ensures { OnOk result (tree.new ≡ tree.old) }
+{
+    let target = Target::read(word_of(alloc, path.as_str())?);
+    match tree.apply(client, &Call::ReadDir(target), client) {
+        Reply::Listed(names) => Ok(names),
+        _ => Err(AllocError),
+    }
+}
+
+// The site comes behind the others.
+fn push_site(rows: &mut Vec<Site>, site: Site) -> Result<(), AllocError>
+    ensures { OnOk result (rows.new.items ≡ rows.old.items ++ site ∷ []) }
+{
+    match rows.push(site) {
+        Ok(()) => Ok(()),
+        Err(refused) => {
+            drop(refused);
+            Err(AllocError)
+        }
+    }
+}
+
+/// The nodes of a tree that have names, from the root down.
+#[derive(Drop)]
+pub struct Sites {
+    pub rows: Vec<Site>,
+}
+
+impl Sites {
+    // The root alone.
+    fn of_root(alloc: Global, all: Access) -> Result<Sites, AllocError>
+        ensures { IfOk result (λ sites. (s : State) → AreSites s all.0 sites) }
+    {
+        let root = Site {
+            inode: ROOT,
+            path: root_path(alloc)?,
+            may: all,
+        };
+        Ok(Sites {
+            rows: vec![in alloc; root]?,
+        })
+    }
+
+    // Whether the inode is among them.
+    fn has(&self, inode: u64) -> bool {
+        self.rows.iter().any(|site| site.inode == inode)
+    }
+
+    // Adds the node that the path names, unless it is among them.
+    fn add(&mut self, tree: &Plain, all: Access, path: Path) -> Result<(), AllocError>
+        requires { AreSites tree.now all.0 self.old }
+        ensures { OnOk result (AreSites tree.now all.0 self.new) }
+    {
+        let Some(site) = Site::of_path(tree, all, path) else {
+            return Ok(());
+        };
+        if self.has(site.inode) {
+            return Ok(());
+        }
+        push_site(&mut self.rows, site)
+    }
+
+    // Adds what is directly below the node of this index.
+    fn add_below(
+        &mut self,
+        alloc: Global,
+        tree: &mut Plain,
+        client: u64,
+        all: Access,
+        index: usize,
+    ) -> Result<(), AllocError>
+        requires caller { has tree.old.clients client ≡ true }
+        requires next { tree.old.next < 2 ^ 64 - 1 }
+        requires index { index < length self.old.rows.items }
+        requires sites { AreSites tree.old all.0 self.old }
+        ensures same { OnOk result (tree.new ≡ tree.old) }
+        ensures sites { OnOk result (AreSites tree.old all.0 self.new) }
+    {
+        let directory = &self.rows[index];
+        if tree.kind(directory.inode) != Some(Kind::Dir) {
+            return Ok(());
+        }
+        let above = copy_of(alloc, &directory.path)?;
+        let names = names_in(alloc, tree, client, &directory.path)?;
+        for name in names.names() {
+            if let Some(path) = path_below(alloc, &above, name)? {
+                self.add(tree, all, path)?;
+            }
+        }
+        Ok(())
+    }
+
+    /// Returns the nodes with names, where rules may grant of these rights. The client, which has no layer, lists the
+    /// directories. Errors: memory ran out.
+    pub fn of_tree(
+        alloc: Global,
+        tree: &mut Plain,
+        client: u64,
+        all: Access,
+    ) -> Result<Sites, AllocError>
+        requires caller { has tree.old.clients client ≡ true }
+        requires next { tree.old.next < 2 ^ 64 - 1 }
+        ensures same { OnOk result (tree.new ≡ tree.old) }
+        ensures sites { IfOk result (AreSites tree.old all.0) }
+    {
+        let mut sites = Sites::of_root(alloc, all)?;
+        for index in 0..TREE_NODES {
+            if index >= sites.rows.len() {
+                return Ok(sites);
+            }
+            sites.add_below(alloc, tree, client, all, index)?;
+        }
+        Ok(sites)
+    }
+}
