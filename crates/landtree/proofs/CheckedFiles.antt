@@ -5,9 +5,8 @@ use Rattle.std.specs.Prelude.{IfErr, IfOk, IfSome, OnOk}
 use Rattle.std.specs.List.{AllZip}
 use Rattle.std.specs.Borrow.{Bor}
 use Rattle.std.proofs.lemmas.List.{map-append, take_more}
-use Rattle.clap.specs.Words.{HasKind, IsAmong, Kinds, kind_of}
+use Rattle.clap.specs.Words.{HasKind, Kinds, kind_of}
 use Rattle.clap.specs.declared.error.Error.{Error}
-use Rattle.clap.specs.declared.error.kind.ErrorKind.{ErrorKind}
 use Rattle.ll_wire.specs.Transcript.{Writes}
 use Rattle.ll_options.specs.Options.{CheckOrder, ExportOrder}
 use Rattle.ll_runs.specs.declared.checked.Checked.{Checked}
@@ -23,6 +22,7 @@ use Rattle.ll_check.specs.Files.{IsCheck, MayFail, source_of}
 use Rattle.ll_check.proofs.Told.{each_more}
 use Rattle.ll_commands.specs.Export.{IsExport, ended_by}
 use Rattle.landtree.specs.Checked.{EndsChecked, check_of}
+use Rattle.landtree.proofs.Starved.{ran_out}
 
 module _ (texts : Option (List ℕ) → Option (List ℕ)) where
   -- one file more
@@ -88,14 +88,10 @@ module _ (texts : Option (List ℕ) → Option (List ℕ)) where
       let known = a_text (text_in texts order.policy) in
       subst (FailsCheck texts order) (sym e) (known.0, known.1, inr (inr (inr refl)))
 
-  -- where clap finds no fault and the words aren't read, memory ran out
   pub starved : (order : CheckOrder) (kinds : Kinds) (e : Error) (r : Result Conclusion Failure) → HasKind kinds e
       → kinds ≡ [] → IfSome (failure_by (kind_of e)) (λ why. r ≡ Err why) → EndsCheck texts order r
-  starved order kinds e r (inl out) none told =
-      let is : r ≡ Err failure.NoMemory =
-      subst (λ (k : ErrorKind). IfSome (failure_by k) (λ why. r ≡ Err why)) out told in
-      subst (EndsCheck texts order) (sym is) (unread order failure.NoMemory (inr refl))
-  starved order kinds e r (inr among) none told = absurd (subst (IsAmong (kind_of e)) none among)
+  starved order kinds e r kind none told =
+      ran_out (EndsCheck texts order) kinds e r kind none told (unread order failure.NoMemory (inr refl))
 
   -- what is exported was checked
   pub exported : (order : ExportOrder) (policy told : List ℕ) (end : Checked) (Q : List ℕ → Type 0)

@@ -1,2 +1,5 @@
 pub mod CheckedFiles
 pub mod HintLines
+pub mod Starved
+pub mod TextsTold
+pub mod Runs

@@ -1,14 +1,15 @@
 //! What each command does, over the files that its words name.
 
 ghost use Rattle.std.specs.Prelude.{◌≡◌, ℕ, true, false, List, Option, None, Some, Err, IfErr, IfOk, IfSome};
+ghost use Rattle.std.specs.Prelude.{option_map};
 ghost use Rattle.ll_runs.specs.Sources.{named, text_in};
-ghost use Rattle.ll_options.specs.Options.{fits, fits_schedule, fits_why};
+ghost use Rattle.ll_options.specs.Options.{asked_by, fits, fits_learn, fits_schedule, fits_why, learn_in};
 ghost use Rattle.ll_options.specs.Options.{fits_serve, order_in, rights_in, scheduled_in, served_in, why_in};
-ghost use Rattle.ll_runs.specs.Failure.{EndsAudit, EndsRights, EndsRun, EndsSchedule};
-ghost use Rattle.ll_runs.specs.Failure.{EndsServe, IsOfDevices, IsRunEnd};
-ghost use Rattle.ll_runs.specs.Policy.{MayFail};
-ghost use Rattle.ll_commands.specs.Rights as rights;
-ghost use Rattle.ll_commands.specs.Why.{EndsWhy};
+ghost use Rattle.ll_runs.specs.Failure.{EndsAudit, EndsSchedule, EndsServe, IsOfDevices};
+ghost use Rattle.ll_runs.specs.Policy.{EndsRun, IsRun, MayFail};
+ghost use Rattle.ll_commands.specs.Learn.{EndsLearn};
+ghost use Rattle.ll_commands.specs.Rights.{EndsRights};
+ghost use Rattle.ll_commands.specs.Why.{EndsWhy, file_asked};
 ghost use Rattle.ll_commands.specs.Serving as serving;
 ghost use Rattle.ll_audit.specs.Saved.{Judges};
 ghost use Rattle.ll_wire.specs.Pieces.{pieces};
@@ -17,15 +18,20 @@ use crate::hints::Hints;
 use crate::misfits::Misfit;
 use ll_audit::Verdict;
 use ll_commands::{
-    Binds, Log, draw_in, explain_schedule, perform_schedule, serve, setup_by, tell_rights,
-    tell_why, window_by,
+    Binds, Log, draw_in, explain_schedule, learn_history, perform_schedule, serve, setup_by,
+    tell_learned, tell_rights, tell_why, window_by,
 };
-use ll_options::{Question, RightsOptions, RunOptions, ScheduleOptions, ServeOptions, WhyOptions};
+use ll_options::{
+    LearnOptions, Lessons, Question, RightsOptions, RunOptions, ScheduleOptions, ServeOptions,
+    WhyOptions,
+};
 use ll_runs::{
     Clash, Conclusion, Device, Failure, Late, NewFile, Purpose, Shown, Sources, audit, named,
     read_text, run,
 };
-use std::io::{IsTerminal, Read};
+use ll_wire::Destination;
+use std::alloc::Global;
+use std::io::{IsTerminal, Read, Write};
 use std::sync::Wait;
 use std::thread::Threads;
 
@@ -48,6 +54,25 @@ fn policy_of<'a>(name: Option<&'a str>) -> Option<Purpose<'a>> {
     })
 }
 
+// Runs the script over these devices.
+fn run_over<H: Wait, P: Read, R: Read, W: Write, F: Destination>(
+    rt: &H,
+    alloc: Global,
+    options: &RunOptions,
+    policy: &mut P,
+    script: &mut R,
+    out: &mut W,
+    file: &mut F,
+) -> Result<Conclusion, Failure>
+    ensures done { IfOk result (λ end. (text : List ℕ) × (script' out out' blank file file' : Option (List ℕ))
+        × IfSome (P.remaining policy.old) (λ told. text ≡ told)
+        × IsRun (order_in options.now) text end (R.remaining script.old) script' out out' blank file file') }
+    ensures failure { IfErr result (λ failure. (text : List ℕ) × IfSome (P.remaining policy.old) (λ told. text ≡ told)
+        × MayFail (order_in options.now) text failure) }
+{
+    run(rt, alloc, options, policy, script, out, file)
+}
+
 // Sets up the run that is wanted, runs the script, and saves the history, if a file is named.
 fn run_script<S: Sources + Wait>(
     rt: &HostRuntime,
@@ -55,10 +80,7 @@ fn run_script<S: Sources + Wait>(
     options: &RunOptions,
     hints: &mut Hints,
 ) -> Result<Conclusion, Failure>
-    ensures end { IfOk result (IsRunEnd (order_in options.now)) }
-    ensures failure { IfErr result (λ failure. (text : List ℕ)
-        × IfSome (text_in (S.texts sources.now) (order_in options.now).policy) (λ told. text ≡ told)
-        × MayFail (order_in options.now) text failure) }
+    ensures { EndsRun (S.texts sources.now) (order_in options.now) result }
 {
     let keeps = hints.are_wanted();
     let keeps_lines = keeps && options.strict;
@@ -70,7 +92,7 @@ fn run_script<S: Sources + Wait>(
     );
     let mut script = Late::keeping(rt.alloc(), sources, named(options.script), keeps_lines);
     let mut file = history_file(rt, options.save, keeps);
-    let ended = run(
+    let ended = run_over(
         sources,
         rt.alloc(),
         options,
@@ -94,8 +116,7 @@ pub fn run_options<S: Sources + Wait>(
     hints: &mut Hints,
 ) -> Result<Conclusion, Failure>
     ensures unfit { fits (order_in options.now) ≡ false → result ≡ Err Failure.CommandLine }
-    ensures run { fits (order_in options.now) ≡ true → (order_in options.now).profile ≡ None
-        → EndsRun (order_in options.now) result }
+    ensures run { fits (order_in options.now) ≡ true → EndsRun (S.texts sources.now) (order_in options.now) result }
 {
     if !options.fit() {
         hints.of_misfit(Misfit::of_run(options));
@@ -254,8 +275,8 @@ fn tell_file<S: Sources>(
     sources: &S,
     options: &RightsOptions,
     hints: &mut Hints,
-) -> Result<(), Failure>
-    ensures { IfErr result (λ failure. (text : List ℕ) × rights.MayFail (rights_in options.now) text failure) }
+) -> Result<Conclusion, Failure>
+    ensures { EndsRights (S.texts sources.now) (rights_in options.now) result }
 {
     let mut file = Late::keeping(
         rt.alloc(),
@@ -266,7 +287,7 @@ fn tell_file<S: Sources>(
     let told = tell_rights(rt.alloc(), options, &mut file, &mut rt.stdout());
     hints.of_input("policy", &file);
     match told {
-        Ok(()) => Ok(()),
+        Ok(()) => Ok(Conclusion::Done),
         Err(failure) => {
             hints.of_rights(options, &failure, file.text());
             Err(failure)
@@ -281,19 +302,19 @@ pub fn rights_options<S: Sources>(
     options: &RightsOptions,
     hints: &mut Hints,
 ) -> Result<Conclusion, Failure>
-    ensures { EndsRights result }
+    ensures { EndsRights (S.texts sources.now) (rights_in options.now) result }
 {
-    match tell_file(rt, sources, options, hints) {
-        Ok(()) => Ok(Conclusion::Done),
-        Err(failure) => {
-            hints.of_misfit(Misfit::of_rights(rt.alloc(), options));
-            Err(failure)
-        }
+    let ended = tell_file(rt, sources, options, hints);
+    if ended.is_err() {
+        hints.of_misfit(Misfit::of_rights(rt.alloc(), options));
     }
+    ended
 }
 
-// The file that is asked about: a history's, or a policy's.
-fn file_asked<'a>(options: &WhyOptions<'a>) -> Option<&'a str> {
+// The file that is asked about: a history's, or a policy's. Standard input has no name.
+fn file_asked<'a>(options: &WhyOptions<'a>) -> Option<&'a str>
+    ensures { option_map (λ name. name.now) result ≡ file_asked (asked_by (why_in options.now)) }
+{
     match options.question() {
         Some(Question::Entry(history, _)) => named(history),
         Some(Question::Command(policy, _, _)) => Some(policy),
@@ -309,7 +330,8 @@ pub fn why_options<S: Sources>(
     hints: &mut Hints,
 ) -> Result<Conclusion, Failure>
     ensures unfit { fits_why (why_in options.now) ≡ false → result ≡ Err Failure.CommandLine }
-    ensures why { EndsWhy result }
+    ensures why { fits_why (why_in options.now) ≡ true
+        → EndsWhy (S.texts sources.now) (why_in options.now) result }
 {
     if !options.fit() {
         hints.of_misfit(Some(Misfit::NeitherEntryNorCommand));
@@ -320,6 +342,55 @@ pub fn why_options<S: Sources>(
     hints.of_input("file", &file);
     hints.of_question(options, &told, &file);
     told
+}
+
+// Learns from a saved history.
+fn learn_file<S: Sources>(
+    rt: &HostRuntime,
+    sources: &S,
+    options: &LearnOptions,
+    history: &str,
+    client: Option<u64>,
+    hints: &mut Hints,
+) -> Result<Conclusion, Failure>
+    ensures { EndsLearn result }
+{
+    let mut file = Late::keeping(rt.alloc(), sources, named(history), hints.are_wanted());
+    let learned = learn_history(rt.alloc(), options, client, &mut file);
+    hints.of_input("history", &file);
+    let learned = match learned {
+        Ok(learned) => learned,
+        Err(failure) => return Err(failure),
+    };
+    tell_learned(
+        rt.alloc(),
+        options,
+        history,
+        &learned,
+        &mut rt.stdout(),
+        &mut rt.stderr(),
+    )
+}
+
+// `learn`.
+pub fn learn_options<S: Sources>(
+    rt: &HostRuntime,
+    sources: &S,
+    options: &LearnOptions,
+    hints: &mut Hints,
+) -> Result<Conclusion, Failure>
+    ensures unfit { fits_learn (learn_in options.now) ≡ false → result ≡ Err Failure.CommandLine }
+    ensures learn { EndsLearn result }
+{
+    match options.lessons() {
+        Some(Lessons::History(history, client)) => {
+            learn_file(rt, sources, options, history, client, hints)
+        }
+        _ => {
+            hints.of_misfit(Some(Misfit::NeitherChecksNorHistory));
+            Err(Failure::CommandLine)
+        }
+    }
 }
 
 // Serves the streams that come to a port, and saves the history, if a file is named.
@@ -334,7 +405,13 @@ fn serve_port<S: Sources + Threads + Wait + Sync, B: Binds>(
         × IfSome (text_in (S.texts sources.now) (served_in options.now).policy) (λ told. text ≡ told)
         × serving.MayFail (served_in options.now) text out out' file file' failure) }
 {
-    let log = Log::new(sources, options, rt.stderr(), rt.stderr().is_terminal());
+    let log = Log::new(
+        sources,
+        rt.alloc(),
+        options,
+        rt.stderr(),
+        rt.stderr().is_terminal(),
+    );
     let keeps = hints.are_wanted();
     let mut policy = Late::keeping(
         rt.alloc(),

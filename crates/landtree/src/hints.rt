@@ -352,11 +352,11 @@ impl Notes for Hints {
             return;
         }
         self.denials = self.denials.saturating_add(1);
-        let (Ok(file), Ok(command)) = (str::from_utf8(test.file), str::from_utf8(test.command))
-        else {
+        let Ok(file) = str::from_utf8(test.file) else {
             return;
         };
         let line = test.line;
+        let command = test.command;
         if let Ok(Some(text)) = explain_entry(self.alloc, header, test.entries, test.number)
             && let Ok(place) = format!(in self.alloc; "{file}:{line}")
             && let Ok(told) = format!(in self.alloc; "{command}\n{text}")

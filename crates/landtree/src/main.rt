@@ -19,16 +19,21 @@ ghost use Rattle.ll_options.specs.Options.{CheckOrder, EndsWell, ExportOrder, Ri
 ghost use Rattle.ll_options.specs.Options.{is_checked};
 ghost use Rattle.ll_options.specs.Options.{ServeOrder, fits, fits_check, fits_export, fits_schedule, fits_serve};
 ghost use Rattle.ll_options.specs.Options.{landtree, ordered_by, ordered_in, to_audit, to_check, to_export, to_rights};
+ghost use Rattle.ll_options.specs.Options.{LearnOrder, fits_learn, to_learn};
 ghost use Rattle.ll_options.specs.Options.{WhyOrder, fits_why, to_run, to_schedule, to_serve, to_why};
+ghost use Rattle.ll_commands.specs.Learn.{EndsLearn};
+ghost use Rattle.ll_commands.specs.Rights.{EndsRights};
 ghost use Rattle.ll_commands.specs.Why.{EndsWhy};
-ghost use Rattle.ll_runs.specs.Failure.{EndsAudit, EndsExport, EndsRights, EndsRun, EndsSchedule};
+ghost use Rattle.ll_runs.specs.Failure.{EndsAudit, EndsExport, EndsSchedule};
+ghost use Rattle.ll_runs.specs.Policy.{EndsRun};
 ghost use Rattle.ll_check.specs.Ends.{EndsCheck};
 ghost use Rattle.landtree.specs.Checked.{EndsChecked};
 ghost use Rattle.ll_runs.specs.Failure.{EndsServe, failure_by};
 
 use checks::{check_options, export_options};
 use commands::{
-    audit_file, rights_options, run_options, schedule_options, serve_options, why_options,
+    audit_file, learn_options, rights_options, run_options, schedule_options, serve_options,
+    why_options,
 };
 use hints::Hints;
 use ll_commands::{Binds, Loopback};
@@ -80,14 +85,15 @@ fn carry_out<S: Sources + Threads + Wait + Sync, B: Binds>(
     ensures unfit { (order : RunOrder) → ordered_in options.now ≡ to_run order → fits order ≡ false
         → result ≡ Err Failure.CommandLine }
     ensures run { (order : RunOrder) → ordered_in options.now ≡ to_run order → fits order ≡ true
-        → order.profile ≡ None → EndsRun order result }
+        → EndsRun (S.texts sources.now) order result }
     ensures audit { (file : Text) → ordered_in options.now ≡ to_audit file
         → EndsAudit (S.texts sources.now (named file)) result }
     ensures unfit_schedule { (order : ScheduleOrder) → ordered_in options.now ≡ to_schedule order
         → fits_schedule order ≡ false → result ≡ Err Failure.CommandLine }
     ensures schedule { (order : ScheduleOrder) → ordered_in options.now ≡ to_schedule order
         → fits_schedule order ≡ true → EndsSchedule result }
-    ensures rights { (order : RightsOrder) → ordered_in options.now ≡ to_rights order → EndsRights result }
+    ensures rights { (order : RightsOrder) → ordered_in options.now ≡ to_rights order
+        → EndsRights (S.texts sources.now) order result }
     ensures unfit_check { (order : CheckOrder) → ordered_in options.now ≡ to_check order → fits_check order ≡ false
         → result ≡ Err Failure.CommandLine }
     ensures check { (order : CheckOrder) → ordered_in options.now ≡ to_check order → fits_check order ≡ true
@@ -104,7 +110,11 @@ fn carry_out<S: Sources + Threads + Wait + Sync, B: Binds>(
         → fits_export order ≡ true → is_checked order ≡ true → EndsChecked (S.texts sources.now) order result }
     ensures unfit_why { (order : WhyOrder) → ordered_in options.now ≡ to_why order → fits_why order ≡ false
         → result ≡ Err Failure.CommandLine }
-    ensures why { (order : WhyOrder) → ordered_in options.now ≡ to_why order → EndsWhy result }
+    ensures why { (order : WhyOrder) → ordered_in options.now ≡ to_why order → fits_why order ≡ true
+        → EndsWhy (S.texts sources.now) order result }
+    ensures unfit_learn { (order : LearnOrder) → ordered_in options.now ≡ to_learn order → fits_learn order ≡ false
+        → result ≡ Err Failure.CommandLine }
+    ensures learn { (order : LearnOrder) → ordered_in options.now ≡ to_learn order → EndsLearn result }
 {
     match options {
         Options::Run(options) => run_options(rt, sources, options, hints),
@@ -115,6 +125,7 @@ fn carry_out<S: Sources + Threads + Wait + Sync, B: Binds>(
         Options::Serve(options) => serve_options(rt, sources, ports, options, hints),
         Options::Export(options) => export_options(rt, sources, options, hints),
         Options::Why(options) => why_options(rt, sources, options, hints),
+        Options::Learn(options) => learn_options(rt, sources, options, hints),
     }
 }
 
@@ -134,7 +145,7 @@ fn run_words<S: Sources + Threads + Wait + Sync, B: Binds>(
         → (result ≡ Err Failure.CommandLine) ⊎ (result ≡ Err Failure.NoMemory) }
     ensures run { (order : RunOrder) → fault_of landtree (map (λ w. w.now) words.now) ≡ []
         → ordered_by (map (λ w. w.now) words.now) ≡ Some (to_run order) → fits order ≡ true
-        → order.profile ≡ None → EndsRun order result }
+        → EndsRun (S.texts sources.now) order result }
     ensures audit { (file : Text) → fault_of landtree (map (λ w. w.now) words.now) ≡ []
         → ordered_by (map (λ w. w.now) words.now) ≡ Some (to_audit file)
         → EndsAudit (S.texts sources.now (named file)) result }
@@ -145,7 +156,8 @@ fn run_words<S: Sources + Threads + Wait + Sync, B: Binds>(
         → ordered_by (map (λ w. w.now) words.now) ≡ Some (to_schedule order) → fits_schedule order ≡ true
         → EndsSchedule result }
     ensures rights { (order : RightsOrder) → fault_of landtree (map (λ w. w.now) words.now) ≡ []
-        → ordered_by (map (λ w. w.now) words.now) ≡ Some (to_rights order) → EndsRights result }
+        → ordered_by (map (λ w. w.now) words.now) ≡ Some (to_rights order)
+        → EndsRights (S.texts sources.now) order result }
     ensures unfit_check { (order : CheckOrder) → fault_of landtree (map (λ w. w.now) words.now) ≡ []
         → ordered_by (map (λ w. w.now) words.now) ≡ Some (to_check order) → fits_check order ≡ false
         → (result ≡ Err Failure.CommandLine) ⊎ (result ≡ Err Failure.NoMemory) }
@@ -171,7 +183,13 @@ fn run_words<S: Sources + Threads + Wait + Sync, B: Binds>(
         → ordered_by (map (λ w. w.now) words.now) ≡ Some (to_why order) → fits_why order ≡ false
         → (result ≡ Err Failure.CommandLine) ⊎ (result ≡ Err Failure.NoMemory) }
     ensures why { (order : WhyOrder) → fault_of landtree (map (λ w. w.now) words.now) ≡ []
-        → ordered_by (map (λ w. w.now) words.now) ≡ Some (to_why order) → EndsWhy result }
+        → ordered_by (map (λ w. w.now) words.now) ≡ Some (to_why order) → fits_why order ≡ true
+        → EndsWhy (S.texts sources.now) order result }
+    ensures unfit_learn { (order : LearnOrder) → fault_of landtree (map (λ w. w.now) words.now) ≡ []
+        → ordered_by (map (λ w. w.now) words.now) ≡ Some (to_learn order) → fits_learn order ≡ false
+        → (result ≡ Err Failure.CommandLine) ⊎ (result ≡ Err Failure.NoMemory) }
+    ensures learn { (order : LearnOrder) → fault_of landtree (map (λ w. w.now) words.now) ≡ []
+        → ordered_by (map (λ w. w.now) words.now) ≡ Some (to_learn order) → EndsLearn result }
 {
     match Options::read(rt.alloc(), words) {
         Ok(options) => carry_out(rt, sources, ports, &options, hints),

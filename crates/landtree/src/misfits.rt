@@ -31,6 +31,8 @@ pub enum Misfit<'a> {
     NoPath(&'a str),
     /// Of `why`.
     NeitherEntryNorCommand,
+    /// Of `learn`.
+    NeitherChecksNorHistory,
 }
 
 impl Display for Misfit<'_> {
@@ -56,6 +58,9 @@ impl Display for Misfit<'_> {
                     "why takes HISTORY K, or a command in quotes with --policy and --profile",
                 )
             }
+            Misfit::NeitherChecksNorHistory => f.write_str(
+                "learn doesn't learn from files of checks yet: run --save writes a history, learn --history reads it",
+            ),
             Misfit::NoPath(word) => write!(
                 f,
                 "{word} is no path: / is expected, or / and a name again and again"

@@ -1,15 +1,16 @@
 -- Why nothing is told.
-use Rattle.std.specs.Prelude.{◌≡◌, ◌⊎◌, ℕ, List, refl}
+use Rattle.std.specs.Prelude.{◌≡◌, ◌⊎◌, ℕ, List, Option, Some, None, refl}
 use Rattle.std.proofs.Common.{inl, inr}
 use Rattle.ll_seq.specs.declared.call.Call.{Call}
-use Rattle.ll_options.specs.Options.{RunOrder}
+use Rattle.ll_options.specs.Options.{Asked, RunOrder, of_command, of_entry}
 use Rattle.ll_runs.specs.Policy.{IsSetup}
 use Rattle.ll_runs.specs.declared.failure.Failure.{Failure}
 use Rattle.ll_runs.specs.declared.failure.Failure.TheVariants.{CommandLine, Policy, Opening, File, Output, Socket}
 use Rattle.ll_runs.specs.declared.failure.Failure.TheVariants.{NoMemory}
 use Rattle.ll_session.specs.declared.setup.Setup.{Setup}
 use Rattle.ll_commands.specs.Opening.{FailsSo, IsStopped}
-use Rattle.ll_commands.specs.Why.{CommandFails, EntryFails, IsCommand}
+use Rattle.ll_commands.specs.Why.{Answers, CommandFails, EntryFails, Fails, IsCommand}
+use Rattle.ll_commands.specs.declared.why.Answer.{Answer}
 
 module _ (run : RunOrder) (word file : List ℕ) where
   pub by_word : (f : Failure) → (f ≡ CommandLine) ⊎ (f ≡ NoMemory)
@@ -49,3 +50,10 @@ by_file number file Output (inr e) = absurd (cc e)
 by_file number file Socket (inl e) = absurd (cc e)
 by_file number file Socket (inr e) = absurd (cc e)
 by_file number file NoMemory is = tt
+
+-- where something is answered, memory may be wanted
+pub lacks_memory : (nodes : ℕ) (asked : Option Asked) (file : List ℕ) (answer : Answer)
+    → Answers nodes asked file answer → Fails nodes asked file NoMemory
+lacks_memory nodes None file answer is = absurd is
+lacks_memory nodes (Some (of_entry history number)) file answer is = tt
+lacks_memory nodes (Some (of_command policy profile word)) file answer is = tt

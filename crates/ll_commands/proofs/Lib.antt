@@ -9,3 +9,4 @@ pub mod Numbers
 pub mod Rows
 pub mod Stopping
 pub mod Texts
+pub mod Written

@@ -12,7 +12,7 @@ use Rattle.ll_runs.specs.declared.failure.Failure.TheVariants.{CommandLine, Poli
 use Rattle.ll_runs.specs.declared.failure.Failure.TheVariants.{NoMemory}
 use Rattle.ll_session.specs.declared.setup.Setup.{Setup}
 use Rattle.ll_commands.specs.Opening.{FailsSo, IsStopped}
-use Rattle.ll_commands.specs.Rights.{AreRows, HasBadWord, IsOfWords, MayFail, paths_told, run_of}
+use Rattle.ll_commands.specs.Rights.{AreRows, HasBadWord, IsOfWords, LacksTable, paths_told, run_of}
 use Rattle.ll_commands.specs.Table.{row_line}
 
 pub fails_so : (P Q : Type 0) (f : Failure) → (P → Q) → FailsSo P f → FailsSo Q f
@@ -52,31 +52,31 @@ left None = ([], tt)
 left (Some told) = (told, refl)
 
 module _ (order : RightsOrder) (text : List ℕ) where
-  pub by_words : (f : Failure) → IsOfWords f → (f ≡ CommandLine → HasBadWord order.paths) → MayFail order text f
+  pub by_words : (f : Failure) → IsOfWords f → (f ≡ CommandLine → HasBadWord order.paths) → LacksTable order text f
   by_words CommandLine is bad = inl (bad refl)
   by_words (Policy fault) is bad = absurd is
   by_words Opening is bad = absurd is
   by_words File is bad = tt
-  by_words Output is bad = tt
+  by_words Output is bad = absurd is
   by_words Socket is bad = absurd is
   by_words NoMemory is bad = tt
 
-  pub by_setup : (f : Failure) → Lacks (run_of order) text f → MayFail order text f
+  pub by_setup : (f : Failure) → Lacks (run_of order) text f → LacksTable order text f
   by_setup CommandLine lacks = inr lacks
   by_setup (Policy fault) lacks = lacks
   by_setup Opening lacks = absurd lacks
   by_setup File lacks = tt
-  by_setup Output lacks = tt
+  by_setup Output lacks = absurd lacks
   by_setup Socket lacks = absurd lacks
   by_setup NoMemory lacks = tt
 
   pub by_opening : (setup : Setup) (f : Failure) → IsSetup (run_of order) text setup → FailsSo (IsStopped setup) f
-      → MayFail order text f
+      → LacksTable order text f
   by_opening setup CommandLine is fails = absurd fails
   by_opening setup (Policy fault) is fails = absurd fails
   by_opening setup Opening is fails = (setup, is, fails)
   by_opening setup File is fails = tt
-  by_opening setup Output is fails = tt
+  by_opening setup Output is fails = absurd fails
   by_opening setup Socket is fails = absurd fails
   by_opening setup NoMemory is fails = tt
 

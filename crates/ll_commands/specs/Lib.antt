@@ -1,11 +1,14 @@
 pub mod CProgram
 pub mod Confinement
+pub mod Counts
 pub mod Export
 pub mod Json
 pub mod Loading
 pub mod Opening
+pub mod Output
 pub mod Rights
 pub mod Schedules
 pub mod Serving
 pub mod Table
 pub mod Why
+pub mod Learn

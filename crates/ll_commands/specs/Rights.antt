@@ -1,6 +1,6 @@
 -- The rights of a policy's profile, told as a table. own
 use Rattle.std.specs.Prelude.{◌≡◌, ◌≢◌, ◌⊎◌, ⊤, ℕ, Bool, List, [], ◌∷◌, ◌++◌, map, codes, Option, Some, None}
-use Rattle.std.specs.Prelude.{false, option_to_list}
+use Rattle.std.specs.Prelude.{IfSome, Result, Ok, Err, false, option_to_list}
 use Rattle.std.specs.List.{flat_map}
 use Rattle.std.specs.Option.{option_map_or}
 use Rattle.clap.specs.Words.{Text}
@@ -17,6 +17,8 @@ use Rattle.ll_seq.specs.State.{State}
 use Rattle.ll_seq.specs.Step.{client_of}
 use Rattle.ll_options.specs.Options.{RightsOrder, RunOrder}
 use Rattle.ll_runs.specs.Policy.{IsSetup, Lacks}
+use Rattle.ll_runs.specs.declared.conclusion.Conclusion.{Conclusion}
+use Rattle.ll_runs.specs.declared.conclusion.Conclusion.TheVariants.{Checked, Done, Judged, Stopped}
 use Rattle.ll_runs.specs.declared.failure.Failure.{Failure}
 use Rattle.ll_runs.specs.declared.failure.Failure.TheVariants.{CommandLine, Policy, Opening, File, Output, Socket}
 use Rattle.ll_runs.specs.declared.failure.Failure.TheVariants.{NoMemory}
@@ -24,7 +26,9 @@ use Rattle.ll_session.specs.declared.setup.Setup.{Setup}
 use Rattle.ll_why.specs.Rights.{AreRights}
 use Rattle.ll_why.specs.declared.rights.PathRights.{PathRights}
 use Rattle.ll_commands.specs.Opening.{Opens, IsStopped}
+use Rattle.ll_commands.specs.Output.{FailsToTell}
 use Rattle.ll_commands.specs.Table.{row_line}
+use Rattle.ll_wire.specs.Transcript.{Writes}
 
 -- a line for each path, in order
 abbrev pub AreRows : State → List Layer → Bool → List Path → List ℕ → Type 0
@@ -97,16 +101,32 @@ abbrev pub HasBadWord : List Text → Type 0
 HasBadWord [] = ⊥
 HasBadWord (word ∷ words) = IsBadWord word ⊎ HasBadWord words
 
--- Why there is no table: a word spells no path; there is no setup; a call that the policy asks for is refused; it can't
--- be written; want of memory
-abbrev pub MayFail : RightsOrder → List ℕ → Failure → Type 0
-MayFail order text CommandLine = HasBadWord order.paths ⊎ Lacks (run_of order) text CommandLine
-MayFail order text (Policy fault) = Lacks (run_of order) text (Policy fault)
-MayFail order text Opening = (setup : Setup) × IsSetup (run_of order) text setup × IsStopped setup
-MayFail order text File = ⊤
-MayFail order text Output = ⊤
-MayFail order text Socket = ⊥
-MayFail order text NoMemory = ⊤
+-- Why there is no table: a word spells no path; there is no setup; a call that the policy asks for is refused; the file
+-- can't be read; want of memory
+abbrev pub LacksTable : RightsOrder → List ℕ → Failure → Type 0
+LacksTable order text CommandLine = HasBadWord order.paths ⊎ Lacks (run_of order) text CommandLine
+LacksTable order text (Policy fault) = Lacks (run_of order) text (Policy fault)
+LacksTable order text Opening = (setup : Setup) × IsSetup (run_of order) text setup × IsStopped setup
+LacksTable order text File = ⊤
+LacksTable order text Output = ⊥
+LacksTable order text Socket = ⊥
+LacksTable order text NoMemory = ⊤
+
+-- why no table is written whole, where the policy's file has this text
+abbrev pub MayFail : RightsOrder → List ℕ → (out out' : Option (List ℕ)) → Failure → Type 0
+MayFail order text out out' failure = FailsToTell (IsTable order text) (LacksTable order text) out out' failure
+
+-- The table is that of the policy that the words name, and is written; or it isn't written whole
+abbrev pub EndsRights : (texts : Option (List ℕ) → Option (List ℕ)) → RightsOrder → Result Conclusion Failure → Type 0
+EndsRights texts order (Ok Done) =
+    (text : List ℕ) × IfSome (texts (Some order.policy)) (λ told. text ≡ told)
+    × (out out' : Option (List ℕ)) × Writes out out' (IsTable order text)
+EndsRights texts order (Ok (Stopped stopped)) = ⊥
+EndsRights texts order (Ok (Judged verdict)) = ⊥
+EndsRights texts order (Ok (Checked end)) = ⊥
+EndsRights texts order (Err failure) =
+    (text : List ℕ) × IfSome (texts (Some order.policy)) (λ told. text ≡ told)
+    × (out out' : Option (List ℕ)) × MayFail order text out out' failure
 
 -- the paths of the words can't be told
 abbrev pub IsOfWords : Failure → Type 0

@@ -1,6 +1,6 @@
 -- What `why` tells, of an entry of a history or of a command. own
 use Rattle.std.specs.Prelude.{◌≡◌, ◌⊎◌, ⊤, ℕ, false, List, [], ◌∷◌, ◌++◌, codes, Option, Some, None, Result, Ok, Err}
-use Rattle.std.specs.Prelude.{string_bytes}
+use Rattle.std.specs.Prelude.{IfSome, string_bytes}
 use Rattle.clap.specs.Words.{Text}
 use Rattle.ll_rights.specs.Map.{has}
 use Rattle.ll_seq.specs.State.{State}
@@ -14,12 +14,15 @@ use Rattle.ll_audit.specs.declared.verdict.Verdict.TheVariants as verdict
 use Rattle.ll_options.specs.Options.{Asked, RunOrder, WhyOrder, asked_by, of_command, of_entry}
 use Rattle.ll_runs.specs.Policy.{IsSetup, Lacks}
 use Rattle.ll_runs.specs.declared.conclusion.Conclusion.{Conclusion}
-use Rattle.ll_runs.specs.declared.conclusion.Conclusion.TheVariants.{Checked, Done, Judged, Stopped}
+use Rattle.ll_runs.specs.declared.conclusion.Conclusion.TheVariants.{Done, Judged}
 use Rattle.ll_runs.specs.declared.failure.Failure.{Failure}
 use Rattle.ll_runs.specs.declared.failure.Failure.TheVariants.{CommandLine, Policy, Opening, File, Output, Socket}
 use Rattle.ll_runs.specs.declared.failure.Failure.TheVariants.{NoMemory}
 use Rattle.ll_session.specs.declared.setup.Setup.{Setup}
+use Rattle.ll_runs.specs.Sources.{named}
+use Rattle.ll_wire.specs.Transcript.{Writes}
 use Rattle.ll_commands.specs.Opening.{IsStopped, Opens}
+use Rattle.ll_commands.specs.Output.{FailsToTell}
 use Rattle.ll_why.specs.Entries.{IsHistoryWhy}
 use Rattle.ll_why.specs.Explained.{Explains}
 use Rattle.ll_why.specs.Told.{told_text}
@@ -33,11 +36,11 @@ abbrev pub command_text : Call → Reply → Explanation → List ℕ
 command_text call reply told =
     line_of (call_tokens call) ++ line_of (codes "answered" ∷ reply_tokens reply) ++ told_text call told
 
--- the text is of a call of this client's in this state, and of what its step answers
-pub record IsCallWhy (s : State) (client : ℕ) (call : Call) (text : List ℕ) : Type 0 where
+-- the text is of a call of this client's in this state of a tree of this level, and of what its step answers
+pub record IsCallWhy (level : ℕ) (s : State) (client : ℕ) (call : Call) (text : List ℕ) : Type 0 where
   pub told : Explanation
   pub reply : Reply
-  pub explains : Explains s client call told
+  pub explains : Explains level s client call told
   pub answered : (fresh : ℕ) × (has s.clients fresh ≡ false) × (reply ≡ (step s client call fresh).0)
   pub is : text ≡ command_text call reply told
 
@@ -67,7 +70,7 @@ pub record IsCommandWhy (run : RunOrder) (policy word text : List ℕ) : Type 0 
   pub is_setup : IsSetup run policy setup
   pub opens : Opens setup client state
   pub spells : IsCommand word call
-  pub is : IsCallWhy state client call text
+  pub is : IsCallWhy setup.rules.abi state client call text
 
 abbrev pub EntryAnswers : ℕ → List ℕ → Answer → Type 0
 EntryAnswers number file (Told text) = IsHistoryWhy (pieces file) number (history.Told text)
@@ -95,6 +98,10 @@ answer_text (BadLine line) = verdict_line (verdict.BadLine line)
 abbrev pub conclusion_of : Answer → Conclusion
 conclusion_of (Told text) = Done
 conclusion_of (BadLine line) = Judged (verdict.BadLine line)
+
+-- an answer is written
+abbrev pub IsTold : WhyOrder → (file written : List ℕ) → Type 0
+IsTold order file written = (answer : Answer) × IsAnswer order file answer × (written ≡ answer_text answer)
 
 -- so much is written, and so it is concluded
 abbrev pub IsToldSo : WhyOrder → List ℕ → Conclusion → List ℕ → Type 0
@@ -131,21 +138,24 @@ Fails nodes (Some (of_entry name number)) file failure = EntryFails number file 
 Fails nodes (Some (of_command policy profile word)) file failure =
     CommandFails (run_by policy profile nodes) word file failure
 
-abbrev pub MayFail : WhyOrder → List ℕ → Failure → Type 0
-MayFail order file failure = (failure ≡ Output) ⊎ Fails order.nodes (asked_by order) file failure
+abbrev pub LacksAnswer : WhyOrder → List ℕ → Failure → Type 0
+LacksAnswer order file failure = Fails order.nodes (asked_by order) file failure
 
--- it is told, or the history's first bad line is; or why not: by any failure but a listener's
-abbrev pub EndsWhy : Result Conclusion Failure → Type 0
-EndsWhy (Ok Done) = ⊤
-EndsWhy (Ok (Stopped stopped)) = ⊥
-EndsWhy (Ok (Judged (verdict.Legal entries))) = ⊥
-EndsWhy (Ok (Judged (verdict.Illegal entry))) = ⊥
-EndsWhy (Ok (Judged (verdict.BadLine line))) = ⊤
-EndsWhy (Ok (Checked end)) = ⊥
-EndsWhy (Err CommandLine) = ⊤
-EndsWhy (Err (Policy fault)) = ⊤
-EndsWhy (Err Opening) = ⊤
-EndsWhy (Err File) = ⊤
-EndsWhy (Err Output) = ⊤
-EndsWhy (Err Socket) = ⊥
-EndsWhy (Err NoMemory) = ⊤
+-- why no answer is written whole, where the file has this text
+abbrev pub MayFail : WhyOrder → List ℕ → (out out' : Option (List ℕ)) → Failure → Type 0
+MayFail order file out out' failure = FailsToTell (IsTold order file) (LacksAnswer order file) out out' failure
+
+-- the file that is asked about: a history's, or a policy's; standard input has no name
+abbrev pub file_asked : Option Asked → Option (List ℕ)
+file_asked None = None
+file_asked (Some (of_entry history number)) = named history
+file_asked (Some (of_command policy profile word)) = Some policy
+
+-- What is asked is told of the file that the words name, or the history's first bad line is; or it isn't written whole
+abbrev pub EndsWhy : (texts : Option (List ℕ) → Option (List ℕ)) → WhyOrder → Result Conclusion Failure → Type 0
+EndsWhy texts order (Ok conclusion) =
+    (file : List ℕ) × IfSome (texts (file_asked (asked_by order))) (λ told. file ≡ told)
+    × (out out' : Option (List ℕ)) × Writes out out' (IsToldSo order file conclusion)
+EndsWhy texts order (Err failure) =
+    (file : List ℕ) × IfSome (texts (file_asked (asked_by order))) (λ told. file ≡ told)
+    × (out out' : Option (List ℕ)) × MayFail order file out out' failure

@@ -11,7 +11,7 @@ ghost use Rattle.ll_commands.specs.Why.{IsCallWhy, IsCommand, command_text};
 
 use crate::open_tree;
 use ll_plain::Plain;
-use ll_rights::Errno;
+use ll_rights::{Abi, Errno};
 use ll_runs::Failure;
 use ll_seq::{Call, Reply};
 use ll_session::Setup;
@@ -68,17 +68,23 @@ fn command_text(
     Ok(text)
 }
 
-// What is told of the client's call in the tree, which is used up.
-fn call_why(alloc: Global, mut tree: Plain, client: u64, call: &Call) -> Result<String, AllocError>
+// What is told of the client's call in the tree, which is of this level and is used up.
+fn call_why(
+    alloc: Global,
+    mut tree: Plain,
+    level: Abi,
+    client: u64,
+    call: &Call,
+) -> Result<String, AllocError>
     requires caller { has tree.clients client ≡ true }
     requires call { is_connect call.now ≡ false }
     requires next { tree.next < 2 ^ 64 - 1 }
-    ensures { IfOk result (λ text. IsCallWhy tree client call.now (string_bytes text)) }
+    ensures { IfOk result (λ text. IsCallWhy level tree client call.now (string_bytes text)) }
 {
     let Some(caller) = tree.client(client) else {
         unreachable!()
     };
-    let told = explain(alloc, &tree, caller, call)?;
+    let told = explain(alloc, &tree, level, caller, call)?;
     let fresh = tree.free_number();
     let reply = tree.apply(client, call, fresh);
     if wants_memory(&reply) {
@@ -107,7 +113,7 @@ fn loader_fits(loader: &Option<Vec<Call>>)
 pub(crate) fn told_of_setup(alloc: Global, setup: &Setup, call: &Call) -> Result<String, Failure>
     requires { is_connect call.now ≡ false }
     ensures told { IfOk result (λ text. (client : ℕ) × (s : State) × Opens setup.now client s
-        × IsCallWhy s client call.now (string_bytes text)) }
+        × IsCallWhy setup.now.rules.abi s client call.now (string_bytes text)) }
     ensures failure { IfErr result (FailsSo (IsStopped setup.now)) }
 {
     let opened = match open_tree(alloc, setup) {
@@ -117,7 +123,7 @@ pub(crate) fn told_of_setup(alloc: Global, setup: &Setup, call: &Call) -> Result
     let client = opened.client;
     fits(setup.profile.as_slice());
     loader_fits(&setup.loader);
-    match call_why(alloc, opened.tree, client, call) {
+    match call_why(alloc, opened.tree, setup.rules.abi, client, call) {
         Ok(text) => Ok(text),
         Err(_) => Err(Failure::NoMemory),
     }

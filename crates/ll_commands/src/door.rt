@@ -1,6 +1,6 @@
 //! Hands streams to the workers of a serve.
 
-use crate::counting::{Counted, Heard, measured};
+use crate::bounded::{Heard, Told, bounded};
 use crate::log::Log;
 use crate::port::{Listens, Missed};
 use ll_options::ServeOptions;
@@ -46,11 +46,11 @@ impl<'a, H: Wait, L: Listens + Drop, E: Write> Door<'a, H, L, E> {
 impl<H: Wait, L: Listens + Drop, E: Write> Accepts for Door<'_, H, L, E> {
     type In = Heard<L::In>;
 
-    type Out = Counted<L::Out>;
+    type Out = Told<L::Out>;
 
     // Accepts a stream. After a failed stream, or too many failures of the listener in a row, one stream less is
     // expected.
-    fn accept(&self) -> Option<(Heard<L::In>, Counted<L::Out>)> {
+    fn accept(&self) -> Option<(Heard<L::In>, Told<L::Out>)> {
         let mut ends = None;
         if let Some(listener) = self.listener.read(self.rt).as_ref() {
             for failures in 0..FAILURES {
@@ -76,6 +76,6 @@ impl<H: Wait, L: Listens + Drop, E: Write> Accepts for Door<'_, H, L, E> {
             *self.listener.write(self.rt) = None;
         }
         let (reader, writer) = ends?;
-        measured(self.alloc, self.room, reader, writer).ok()
+        bounded(self.alloc, self.room, reader, writer).ok()
     }
 }

@@ -1,6 +1,6 @@
 //! Serves all streams on one tree.
 
-ghost use Rattle.std.specs.Prelude.{◌≡◌, ◌≤◌, ◌+◌, ◌++◌, ℕ, List, [], IfErr, IfOk, OnOk, IfSome, map};
+ghost use Rattle.std.specs.Prelude.{◌≡◌, ◌≤◌, ◌+◌, ◌++◌, ℕ, List, [], IfErr, IfOk, OnOk, IfSome, length, map};
 ghost use Rattle.std.specs.Io.KnownBytes.{Appends};
 ghost use Rattle.std.specs.List.{All};
 ghost use Rattle.ll_client.specs.Closed.{IsClosed};
@@ -11,6 +11,7 @@ ghost use Rattle.ll_session.specs.Session.{AreOthers};
 ghost use Rattle.ll_wire.specs.Entries.{IsEntry};
 ghost use Rattle.ll_commands.specs.Serving.{IsServed, MayStop, listening};
 
+use crate::bounded::{Heard, Told};
 use crate::closing::close;
 use crate::door::Door;
 use crate::listening::listen;
@@ -22,9 +23,9 @@ use ll_client::{Account, Blank, Client, Shape};
 use ll_options::ServeOptions;
 use ll_runs::Failure;
 use ll_seq::{Call, History};
-use ll_session::{Host, Keeps, Party, Setup, gather, serve_on};
+use ll_session::{Host, Keeps, Party, Served, Setup, gather, serve_on};
 use ll_walk::NoGate;
-use std::alloc::Global;
+use std::alloc::{AllocError, Global};
 use std::io::Write;
 use std::marker::Brand;
 use std::sync::Wait;
@@ -53,6 +54,35 @@ fn fresh<N: Shape>(
     .ok()?;
     let party = Party::<N>::new(alloc, setup.history as u64).ok()?;
     Some((tree, party))
+}
+
+// Serves the streams of the door: as many workers, and as many streams, as the options ask for.
+fn serve_door<
+    N: Shape + Send + Sync,
+    H: Threads + Wait + Sync,
+    L: Listens + Send + Sync + Drop,
+    K: Keeps + Sync,
+    E: Write + Send,
+>(
+    rt: &H,
+    alloc: Global,
+    host: &Host<N, NoGate, K>,
+    door: &Door<'_, H, L, E>,
+    options: &ServeOptions,
+    log: &Log<'_, H, E>,
+) -> Result<Vec<Vec<Served<N, Heard<L::In>, Told<L::Out>>>>, AllocError>
+    ensures workers { IfOk result (λ rooms. length rooms.items ≡ options.now.workers) }
+    ensures most { IfOk result (λ rooms. All (λ room. length room.items ≤ options.now.connections) rooms.items) }
+{
+    serve_on(
+        rt,
+        alloc,
+        host,
+        door,
+        log,
+        options.workers,
+        options.connections,
+    )
 }
 
 // Serves the listener's streams, and closes the tree. Returns its history. Errors: NoMemory.
@@ -88,15 +118,7 @@ fn serve_all<
         profile,
     };
     let door = Door::new(rt, alloc, listener, options, log);
-    let served = serve_on(
-        rt,
-        alloc,
-        &host,
-        &door,
-        log,
-        options.workers,
-        options.connections,
-    );
+    let served = serve_door(rt, alloc, &host, &door, options, log);
     log.end();
     let Ok(rooms) = served else {
         return Err(Failure::NoMemory);

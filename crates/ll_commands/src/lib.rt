@@ -1,21 +1,24 @@
-//! The commands beside run, check and audit: serve, rights, why, schedule and export, as the program's words ask for
+//! The commands but run, check and audit: serve, rights, why, learn, schedule, export, as the program's words ask for
 //! them.
 #![tactic(auto)]
 
+mod bounded;
 mod c_program;
 mod closing;
 mod commands;
 mod confinement;
-mod counting;
+mod counts;
 mod door;
 mod exporting;
 mod fixed;
 mod hosting;
 mod json;
+mod learn;
 mod listening;
 mod loading;
 mod log;
 mod opening;
+mod output;
 mod port;
 mod rights;
 mod room;
@@ -30,6 +33,7 @@ pub use c_program::c_text;
 pub use confinement::{Confinement, Flaw, FlawedProfile, LayerFlaw, RuleFlaw};
 pub use exporting::{export, export_checked, exported, flaw_of};
 pub use json::json_text;
+pub use learn::{Learned, learn_history, tell_learned};
 pub use log::Log;
 pub use opening::{Opened, open_tree};
 pub use port::{Binds, Listens, Loopback, Missed, Port};

@@ -9,6 +9,7 @@ ghost use Rattle.ll_commands.specs.Loading.{HasLoaded};
 ghost use Rattle.ll_commands.specs.Serving.{EndsEarly, listening};
 
 use crate::loading::load;
+use crate::output::write_text;
 use crate::port::Binds;
 use ll_calls::Tree;
 use ll_client::Shape;
@@ -17,9 +18,9 @@ use ll_runs::Failure;
 use ll_seq::Call;
 use ll_session::Party;
 use ll_walk::Gate;
-use ll_wire::{Pair, line_text, write_out};
+use ll_wire::line_text;
 use std::alloc::{AllocError, Global};
-use std::io::{Write, empty};
+use std::io::Write;
 use std::sync::Wait;
 
 // The line that tells the port.
@@ -40,19 +41,7 @@ fn tell_port<W: Write>(alloc: Global, port: u16, out: &mut W) -> Result<(), Fail
     let Ok(line) = port_line(alloc, port) else {
         return Err(Failure::NoMemory);
     };
-    let mut ends = Pair {
-        reader: &mut empty(),
-        writer: out,
-        reads: 0,
-        owed: 0,
-        is_answering: false,
-        is_input_broken: false,
-        is_output_broken: false,
-    };
-    match write_out(&mut ends, line.as_str().as_bytes()) {
-        Ok(()) => Ok(()),
-        Err(_) => Err(Failure::Output),
-    }
+    write_text(line.as_str(), out)
 }
 
 /// The loader comes to a fresh tree, if there is one, and makes its calls; then the port is bound, and told. Whatever

@@ -1,11 +1,17 @@
 //! What is told of connections on standard error.
 
-use crate::counting::{Counted, Heard, Tally, refusal_of, trouble_of};
+ghost use Rattle.std.specs.Prelude.{◌≡◌, length};
+ghost use Rattle.ll_commands.specs.Counts.{plus};
+
+use crate::bounded::{Heard, Told, trouble_of};
+use crate::counts::Counts;
 use crate::trouble::Troubled;
 use ll_client::Shape;
 use ll_options::ServeOptions;
-use ll_session::{Served, Stream, Watches};
+use ll_seq::Reply;
+use ll_session::{Served, Stream, Watches, reply_line};
 use ll_wire::SessionFault;
+use std::alloc::Global;
 use std::fmt::Display;
 use std::io;
 use std::io::Write;
@@ -24,18 +30,20 @@ enum Telling {
 // What was told so far, and where. Nobody is told that it can't be written.
 #[derive(Drop)]
 struct Desk<E> {
+    alloc: Global,
     err: E,
     telling: Telling,
     // How many seconds a connection may wait for its peer.
     idle: u64,
     open: u64,
     connections: u64,
-    clients: u64,
-    tally: Tally,
+    total: Counts,
 }
 
 impl<E: Write> Desk<E> {
-    fn tell_open(&mut self) {
+    fn tell_open(&mut self)
+        ensures { self.new.total ≡ self.old.total }
+    {
         let open = self.open;
         if self.telling == Telling::Open {
             let _ = write!(self.err, "\r{open} open ");
@@ -51,46 +59,51 @@ impl<E: Write> Desk<E> {
         self.tell_open();
     }
 
-    // Tells of a connection with so many clients, and how it has ended.
-    fn tell_end<D: Display>(&mut self, number: u64, clients: u64, tally: Tally, end: &D) {
+    // Tells what a connection has counted, and how it has ended.
+    fn tell_end<D: Display>(&mut self, number: u64, counts: Counts, end: &D)
+        ensures { self.new.total ≡ self.old.total }
+    {
         if self.telling == Telling::Lines {
-            let Tally { lines, denials, .. } = tally;
-            let _ = writeln!(
-                self.err,
-                "connection {number} went: {clients} clients, {lines} lines, {denials} denied, {end}"
-            );
+            let _ = writeln!(self.err, "connection {number} went: {counts}, {end}");
         }
     }
 
     fn tell_ended<N: Shape, R, W>(
         &mut self,
-        stream: &Stream<Heard<R>, Counted<W>>,
-        served: &Served<N, Heard<R>, Counted<W>>,
-    ) {
-        let clients = served.clients.len() as u64;
-        let (number, tally) = (stream.number, stream.writer.tally());
-        let refusal = refusal_of(&stream.reader, &stream.writer).map(str::from_utf8);
-        match (&served.ended, refusal) {
-            (Ok(()), Some(Ok(reply))) => self.tell_end(number, clients, tally, &reply),
-            (Ok(()), _) => self.tell_end(number, clients, tally, &"at its end"),
+        stream: &Stream<Heard<R>, Told<W>>,
+        served: &Served<N, Heard<R>, Told<W>>,
+        refusal: Option<&Reply>,
+    )
+        ensures { self.new.total ≡ self.old.total }
+    {
+        let (number, counts) = (stream.number, Counts::of(served));
+        match (&served.outcome.ended, refusal) {
+            (Ok(()), Some(reply)) => match reply_line(self.alloc, reply) {
+                Ok(line) => self.tell_end(number, counts, &line.as_str().trim_end()),
+                Err(error) => self.tell_end(number, counts, &error),
+            },
+            (Ok(()), None) => self.tell_end(number, counts, &"at its end"),
             (Err(SessionFault::Read | SessionFault::Write), _)
                 if let Some(trouble) = trouble_of(&stream.reader, &stream.writer) => {
                 let idle = self.idle;
-                self.tell_end(number, clients, tally, &Troubled { trouble, idle });
+                self.tell_end(number, counts, &Troubled { trouble, idle });
             }
-            (Err(fault), _) => self.tell_end(number, clients, tally, fault),
+            (Err(fault), _) => self.tell_end(number, counts, fault),
         }
     }
 
     fn went<N: Shape, R, W>(
         &mut self,
-        stream: &Stream<Heard<R>, Counted<W>>,
-        served: &Served<N, Heard<R>, Counted<W>>,
-    ) {
+        stream: &Stream<Heard<R>, Told<W>>,
+        served: &Served<N, Heard<R>, Told<W>>,
+        refusal: Option<&Reply>,
+    )
+        ensures { self.new.total ≡ plus self.old.total
+            (record { clients = length served.now.clients.items; tally = served.now.outcome.tally }) }
+    {
         self.open = self.open.saturating_sub(1);
-        self.clients = self.clients.saturating_add(served.clients.len() as u64);
-        self.tally = self.tally.plus(stream.writer.tally());
-        self.tell_ended(stream, served);
+        self.total = self.total.plus(Counts::of(served));
+        self.tell_ended(stream, served, refusal);
         self.tell_open();
     }
 
@@ -101,15 +114,11 @@ impl<E: Write> Desk<E> {
     }
 
     fn end(&mut self) {
-        let (connections, clients) = (self.connections, self.clients);
-        let Tally { lines, denials, .. } = self.tally;
+        let (connections, total) = (self.connections, self.total);
         let _ = match self.telling {
             Telling::Nothing => Ok(()),
             Telling::Open => writeln!(self.err, ""),
-            Telling::Lines => writeln!(
-                self.err,
-                "{connections} connections: {clients} clients, {lines} lines, {denials} denied"
-            ),
+            Telling::Lines => writeln!(self.err, "{connections} connections: {total}"),
         };
     }
 }
@@ -123,7 +132,7 @@ pub struct Log<'a, H, E> {
 }
 
 impl<'a, H: Wait, E: Write> Log<'a, H, E> {
-    pub fn new(rt: &'a H, options: &ServeOptions, err: E, is_watched: bool) -> Self {
+    pub fn new(rt: &'a H, alloc: Global, options: &ServeOptions, err: E, is_watched: bool) -> Self {
         let telling = if options.log {
             Telling::Lines
         } else if is_watched {
@@ -132,13 +141,13 @@ impl<'a, H: Wait, E: Write> Log<'a, H, E> {
             Telling::Nothing
         };
         let desk = Mutex::new(Desk {
+            alloc,
             err,
             telling,
             idle: options.idle.unwrap_or(0),
             open: 0,
             connections: 0,
-            clients: 0,
-            tally: Tally::NOTHING,
+            total: Counts::none(),
         });
         Log { rt, desk }
     }
@@ -154,16 +163,17 @@ impl<'a, H: Wait, E: Write> Log<'a, H, E> {
     }
 }
 
-impl<H: Wait, E: Write, R, W> Watches<Heard<R>, Counted<W>> for Log<'_, H, E> {
-    fn came(&self, stream: &Stream<Heard<R>, Counted<W>>) {
+impl<H: Wait, E: Write, R, W> Watches<Heard<R>, Told<W>> for Log<'_, H, E> {
+    fn came(&self, stream: &Stream<Heard<R>, Told<W>>) {
         self.desk.lock(self.rt).came(stream.number);
     }
 
     fn went<N: Shape>(
         &self,
-        stream: &Stream<Heard<R>, Counted<W>>,
-        served: &Served<N, Heard<R>, Counted<W>>,
+        stream: &Stream<Heard<R>, Told<W>>,
+        served: &Served<N, Heard<R>, Told<W>>,
+        refusal: Option<&Reply>,
     ) {
-        self.desk.lock(self.rt).went(stream, served);
+        self.desk.lock(self.rt).went(stream, served, refusal);
     }
 }

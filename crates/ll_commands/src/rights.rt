@@ -9,10 +9,11 @@ ghost use Rattle.ll_options.specs.Options.{order_in, rights_in};
 ghost use Rattle.ll_path.specs.Path.{path_of_text};
 ghost use Rattle.ll_runs.specs.declared.failure.Failure.{Failure};
 ghost use Rattle.ll_seq.specs.Step.{client_of};
-ghost use Rattle.ll_commands.specs.Rights.{AddsRows, AreRows, HasBadWord, IsBadWord, IsOfWords, IsTable, MayFail};
-ghost use Rattle.ll_commands.specs.Rights.{made_path, made_paths, paths_told, run_of, target_path};
+ghost use Rattle.ll_commands.specs.Rights.{AddsRows, AreRows, HasBadWord, IsBadWord, IsOfWords, IsTable, LacksTable};
+ghost use Rattle.ll_commands.specs.Rights.{MayFail, made_path, made_paths, paths_told, run_of, target_path};
 
 use crate::opening::{Opened, open_tree};
+use crate::output::write_text;
 use crate::table::row_text;
 use ll_options::{RightsOptions, RunOptions};
 use ll_path::{Path, Target, Word};
@@ -22,7 +23,6 @@ use ll_runs::{Failure, setup_of};
 use ll_seq::Call;
 use ll_session::Setup;
 use ll_why::rights_on;
-use ll_wire::write_whole;
 use std::alloc::{AllocError, Global};
 use std::io::{Read, Write};
 
@@ -238,7 +238,7 @@ pub fn rights_table<R: Read>(
     ensures table { IfOk result (λ table. (text : List ℕ) × IfSome (R.remaining file.old) (λ told. text ≡ told)
         × IsTable (rights_in options.now) text (string_bytes table)) }
     ensures failure { IfErr result (λ failure. (text : List ℕ) × IfSome (R.remaining file.old) (λ told. text ≡ told)
-        × MayFail (rights_in options.now) text failure) }
+        × LacksTable (rights_in options.now) text failure) }
 {
     let paths = match paths_of(alloc, options.paths.as_slice()) {
         Ok(paths) => paths,
@@ -258,7 +258,8 @@ pub fn rights_table<R: Read>(
     }
 }
 
-/// Tells the rights that the options ask for, by the policy in this file.
+/// Tells the rights that the options ask for, by the policy in this file. Writes nothing before the table is complete,
+/// and not again after a failure.
 pub fn tell_rights<R: Read, W: Write>(
     alloc: Global,
     options: &RightsOptions,
@@ -268,14 +269,11 @@ pub fn tell_rights<R: Read, W: Write>(
     ensures table { OnOk result ((text : List ℕ) × IfSome (R.remaining file.old) (λ told. text ≡ told)
         × Writes (W.contents out.old) (W.contents out.new) (IsTable (rights_in options.now) text)) }
     ensures failure { IfErr result (λ failure. (text : List ℕ) × IfSome (R.remaining file.old) (λ told. text ≡ told)
-        × MayFail (rights_in options.now) text failure) }
+        × MayFail (rights_in options.now) text (W.contents out.old) (W.contents out.new) failure) }
 {
     let table = match rights_table(alloc, options, file) {
         Ok(table) => table,
         Err(failure) => return Err(failure),
     };
-    match write_whole(out, table.as_str()) {
-        Ok(()) => Ok(()),
-        Err(_) => Err(Failure::Output),
-    }
+    write_text(table.as_str(), out)
 }

@@ -5,15 +5,16 @@ ghost use Rattle.std.specs.Io.KnownBytes.{Appends};
 ghost use Rattle.ll_rights.specs.declared.limits.TheConstants.{TREE_NODES};
 ghost use Rattle.ll_wire.specs.Transcript.{Writes};
 ghost use Rattle.ll_options.specs.Options.{order_in, why_in};
-ghost use Rattle.ll_commands.specs.Why.{CommandAnswers, CommandFails, EndsWhy, EntryAnswers, EntryFails, IsAnswer};
-ghost use Rattle.ll_commands.specs.Why.{IsToldSo, MayFail, answer_text, conclusion_of, run_by};
+ghost use Rattle.ll_wire.specs.Writing.{AppendsFront};
+ghost use Rattle.ll_commands.specs.Why.{CommandAnswers, CommandFails, EntryAnswers, EntryFails, IsAnswer};
+ghost use Rattle.ll_commands.specs.Why.{IsToldSo, LacksAnswer, MayFail, answer_text, conclusion_of, run_by};
 
 use crate::commands::{call_of, told_of_setup};
+use crate::output::write_text;
 use ll_audit::Verdict;
 use ll_options::{Question, RunOptions, WhyOptions};
 use ll_runs::{Conclusion, Failure, read_text, setup_of};
 use ll_why::{HistoryWhy, why_entry};
-use ll_wire::write_whole;
 use std::alloc::Global;
 use std::io::{Read, Write};
 
@@ -98,7 +99,7 @@ pub fn answer_of<R: Read>(
     ensures told { IfOk result (λ answer. (text : List ℕ) × IfSome (R.remaining file.old) (λ told. text ≡ told)
         × IsAnswer (why_in options.now) text answer) }
     ensures failure { IfErr result (λ failure. (text : List ℕ) × IfSome (R.remaining file.old) (λ told. text ≡ told)
-        × MayFail (why_in options.now) text failure) }
+        × LacksAnswer (why_in options.now) text failure) }
 {
     match options.question() {
         None => Err(Failure::CommandLine),
@@ -112,18 +113,17 @@ pub fn answer_of<R: Read>(
 // The answer, written whole.
 fn write_answer<W: Write>(alloc: Global, answer: &Answer, out: &mut W) -> Result<(), Failure>
     ensures ok { OnOk result (Appends (W.contents out.old) (W.contents out.new) (answer_text answer.now)) }
-    ensures failure { IfErr result (λ failure. (failure ≡ Failure.Output) ⊎ (failure ≡ Failure.NoMemory)) }
+    ensures failure { IfErr result (λ failure. ((failure ≡ Failure.NoMemory)
+        × (W.contents out.new ≡ W.contents out.old))
+        ⊎ ((failure ≡ Failure.Output)
+        × AppendsFront (W.contents out.old) (W.contents out.new) (answer_text answer.now))) }
 {
-    let written = match answer {
-        Answer::Told(text) => write_whole(out, text.as_str()),
+    match answer {
+        Answer::Told(text) => write_text(text.as_str(), out),
         Answer::BadLine(line) => match Verdict::BadLine(*line).text(alloc) {
-            Ok(text) => write_whole(out, text.as_str()),
-            Err(_) => return Err(Failure::NoMemory),
+            Ok(text) => write_text(text.as_str(), out),
+            Err(_) => Err(Failure::NoMemory),
         },
-    };
-    match written {
-        Ok(()) => Ok(()),
-        Err(_) => Err(Failure::Output),
     }
 }
 
@@ -136,7 +136,8 @@ fn conclusion_of(answer: &Answer) -> Conclusion
     }
 }
 
-/// Tells what the options ask for, of the history or by the policy in this file.
+/// Tells what the options ask for, of the history or by the policy in this file. Writes nothing before the answer is
+/// complete, and not again after a failure.
 pub fn tell_why<R: Read, W: Write>(
     alloc: Global,
     options: &WhyOptions,
@@ -146,8 +147,7 @@ pub fn tell_why<R: Read, W: Write>(
     ensures told { IfOk result (λ conclusion. (text : List ℕ) × IfSome (R.remaining file.old) (λ told. text ≡ told)
         × Writes (W.contents out.old) (W.contents out.new) (IsToldSo (why_in options.now) text conclusion)) }
     ensures failure { IfErr result (λ failure. (text : List ℕ) × IfSome (R.remaining file.old) (λ told. text ≡ told)
-        × MayFail (why_in options.now) text failure) }
-    ensures ends { EndsWhy result }
+        × MayFail (why_in options.now) text (W.contents out.old) (W.contents out.new) failure) }
 {
     let answer = match answer_of(alloc, options, file) {
         Ok(answer) => answer,

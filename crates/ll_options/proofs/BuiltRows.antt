@@ -22,7 +22,8 @@ use Rattle.ll_options.specs.Options.{abi, audit, check, connection_numbers, conn
 use Rattle.ll_options.specs.Options.{room, room_megabytes}
 use Rattle.ll_options.specs.Options.{flag, history, history_numbers, idle, needed, node_numbers, nodes, paths, port}
 use Rattle.ll_options.specs.Options.{ports, rights, run, schedule, script, serve, valued, why, worker_numbers, workers}
-use Rattle.ll_options.specs.Options.{line_number, line_numbers, repeated, words}
+use Rattle.ll_options.specs.Options.{client_numbers, counted, learn, lessons, line_number, line_numbers, repeated}
+use Rattle.ll_options.specs.Options.{rule_numbers, saved, words}
 use Rattle.ll_options.proofs.ArgumentsUsed.{Keeps, no_faults}
 
 -- ---- what the rows of a subcommand hold
@@ -156,6 +157,13 @@ why_built = with_built why.top
     (placed words ∷ filled (valued (codes "policy")) ∷ filled (valued (codes "profile")) ∷ filled nodes ∷ help_built
     ∷ [])
 
+abbrev pub learn_built : Shape
+learn_built = with_built learn.top
+    (placed lessons ∷ filled (valued (codes "policy")) ∷ filled saved
+    ∷ filled (counted (codes "client") client_numbers) ∷ filled (valued (codes "name"))
+    ∷ filled (valued (codes "never")) ∷ filled (repeated (codes "beneath"))
+    ∷ filled (counted (codes "most") rule_numbers) ∷ filled nodes ∷ help_built ∷ [])
+
 -- ---- what each of them keeps
 
 single_keeps : (name : Text) → IsOther name → Keeps Good (placed (record (new_rule name) { required = true }))
@@ -183,6 +191,13 @@ valued_keeps name = option_keeps name None [] false
 
 needed_keeps : (name : Text) → IsOther name → Keeps Good (filled (needed name))
 needed_keeps name = option_keeps name None [] true
+
+saved_keeps : Keeps Good (filled saved)
+saved_keeps again [] rows e g = absurd cc
+saved_keeps again (v ∷ vs) rows e g =
+    let how = reading_by (filled saved) in
+    good_values (codes "saved") how CommandLine v vs _ (others (codes "saved") v how refl)
+    (good_without (codes "saved") rows g)
 
 flag_keeps : (name : Text) → IsOther name → Keeps Good (filled (flag name))
 flag_keeps name other again [] rows e g = good_values name AsWritten CommandLine (codes "true") [] _
@@ -481,5 +496,32 @@ why_keeps p a e = found_there (Keeps Good) p why_built.rules a (
   (
     valued_keeps (codes "policy") refl,
     (valued_keeps (codes "profile") refl, (nodes_keep, (help_keeps, tt))),
+  ),
+) e
+
+pub learn_keeps : AllKeep learn_built
+learn_keeps p a e = found_there (Keeps Good) p learn_built.rules a (
+  several_keep (codes "FILE") false refl,
+  (
+    valued_keeps (codes "policy") refl,
+    (
+      saved_keeps,
+      (
+        option_keeps (codes "client") (Some client_numbers) [] false refl,
+        (
+          valued_keeps (codes "name") refl,
+          (
+            valued_keeps (codes "never") refl,
+            (
+              repeated_keeps (codes "beneath") refl,
+              (
+                option_keeps (codes "most") (Some rule_numbers) [] false refl,
+                (nodes_keep, (help_keeps, tt)),
+              ),
+            ),
+          ),
+        ),
+      ),
+    ),
   ),
 ) e

@@ -14,7 +14,7 @@ use Rattle.clap.proofs.ValueTestLemmas.{Accepts-accepts, accepts-Accepts}
 use Rattle.clap.specs.Matches.{matched_of, raw_values}
 use Rattle.clap.proofs.WalkLemmas.{both, first_value-rows, raw_values-rows}
 use Rattle.ll_options.specs.Options.{CheckOrder, ExportOrder, RightsOrder, RunOrder, ScheduleOrder, ServeOrder}
-use Rattle.ll_options.specs.Options.{WhyOrder}
+use Rattle.ll_options.specs.Options.{LearnOrder, WhyOrder}
 use Rattle.ll_options.specs.Options.{number_in}
 use Rattle.ll_options.specs.declared.denied.Denied.{Denied}
 use Rattle.ll_options.specs.declared.export.Form.{Form}
@@ -183,6 +183,22 @@ abbrev pub together_why : Option (List Text) → Option ℕ → Option Text → 
 together_why told n policy profile =
     option_and_then (λ p. option_map (λ k. record { words = p; policy = policy; profile = profile; nodes = k }) n) told
 
+-- the same of a learning
+abbrev pub together_learned : (files beneath : List Text) → (policy history name never : Option Text)
+    → (client most n : Option ℕ) → Option LearnOrder
+together_learned files beneath policy history name never client most n =
+    option_map (λ k. record {
+      files = files;
+      policy = policy;
+      history = history;
+      client = client;
+      name = name;
+      never = never;
+      beneath = beneath;
+      most = most;
+      nodes = k;
+    }) n
+
 pub whole : (p : Option Text) (n m l : Option ℕ) (q r s : Option Text) (t : Bool) (path : Text) (nodes most : ℕ)
     → p ≡ Some path → n ≡ Some nodes → m ≡ Some most
     → is_some (together p n m l q r s t) ≡ true
@@ -218,3 +234,8 @@ pub whole_why : (p : Option (List Text)) (n : Option ℕ) (q r : Option Text) (t
     → p ≡ Some told → n ≡ Some nodes
     → is_some (together_why p n q r) ≡ true
 whole_why p n q r told nodes e f = rw (e, f) refl
+
+pub whole_learn : (files beneath : List Text) (policy history name never : Option Text) (client most n : Option ℕ)
+    (nodes : ℕ) → n ≡ Some nodes
+    → is_some (together_learned files beneath policy history name never client most n) ≡ true
+whole_learn files beneath policy history name never client most n nodes e = rw e refl

@@ -1,5 +1,5 @@
 -- Words in which clap finds no fault want a run, with a script and its numbers, an audit of a file, a schedule,
--- rights, a check, a serving with its port and its numbers, an export, or a why.
+-- rights, a check, a serving with its port and its numbers, an export, a why, or a learning.
 use Rattle.std.proofs.Common.{◌≡◌, ◌≢◌, ◌∙◌, ap, ap₂, subst, ℕ, Bool, true, false, cond, codes, refl, sym, List, []}
 use Rattle.std.proofs.Common.{◌∷◌, not, Option, Some, None, is_some, ◌||◌, true≢false}
 use Rattle.std.specs.Prelude.{option_and_then, option_map, slice_get}
@@ -20,19 +20,20 @@ use Rattle.clap.specs.Values.{read_as}
 use Rattle.clap.specs.declared.builder.value_parser.Reading.{Reading}
 use Rattle.clap.specs.declared.builder.value_parser.Reading.TheVariants.{AsWritten}
 use Rattle.ll_options.specs.Options.{check_order, connection_numbers, export_order, history_numbers, landtree}
+use Rattle.ll_options.specs.Options.{learn_order, to_learn}
 use Rattle.ll_options.specs.Options.{node_numbers, number_in, number_of, ordered, ordered_by, ports, rights_order}
 use Rattle.ll_options.specs.Options.{room_megabytes}
 use Rattle.ll_options.specs.Options.{run_order, schedule_order, serve_order, to_audit, to_check, to_export, to_rights}
 use Rattle.ll_options.specs.Options.{to_run, to_schedule, to_serve, to_why, why_order, worker_numbers}
 use Rattle.ll_options.proofs.Entered.{built_enters}
 use Rattle.ll_options.proofs.Numbers.{whole, whole_check, whole_export, whole_rights, whole_schedule, whole_serve}
-use Rattle.ll_options.proofs.Numbers.{whole_why}
+use Rattle.ll_options.proofs.Numbers.{whole_learn, whole_why}
 use Rattle.ll_options.proofs.Defaults.{EndsIn, ends_in}
 use Rattle.ll_options.proofs.BuiltRows.{AreRead, Good, GoodRow, IsOther, IsRead, audit_built, audit_keeps, check_built}
 use Rattle.ll_options.proofs.BuiltRows.{check_keeps, connections_read, export_built, export_keeps, history_read}
 use Rattle.ll_options.proofs.BuiltRows.{nodes_read, others, rights_built, rights_keep, room_read, run_built, run_keeps}
 use Rattle.ll_options.proofs.BuiltRows.{schedule_built, schedule_keeps, serve_built, serve_keeps, why_built}
-use Rattle.ll_options.proofs.BuiltRows.{why_keeps, workers_read}
+use Rattle.ll_options.proofs.BuiltRows.{learn_built, learn_keeps, why_keeps, workers_read}
 
 -- ---- what is read of the rows
 
@@ -243,6 +244,10 @@ export_ends = ends_in export_built export_keeps (
 why_ends : (rest : List Text) → level_fault why_built [] nothing_held rest false [] ≡ [] → Ends why_built rest
 why_ends = ends_in why_built why_keeps (tt, (tt, (tt, (nodes_default, (tt, tt)))))
 
+learn_ends : (rest : List Text) → level_fault learn_built [] nothing_held rest false [] ≡ [] → Ends learn_built rest
+learn_ends = ends_in learn_built learn_keeps
+    (tt, (tt, (tt, (tt, (tt, (tt, (tt, (tt, (nodes_default, (tt, tt))))))))))
+
 run_wanted : (rest : List Text) → level_fault run_built [] nothing_held rest false [] ≡ []
     → is_some (run_order (rows_after run_built.rules [] rest)) ≡ true
 run_wanted rest e =
@@ -322,6 +327,14 @@ why_wanted rest e =
     let n = nodes_of rows ends.0 (ends.1.1.1.1.0 tt) in
     whole_why _ _ _ _ told.0 n.0 told.1 n.1
 
+learn_wanted : (rest : List Text) → level_fault learn_built [] nothing_held rest false [] ≡ []
+    → is_some (learn_order (rows_after learn_built.rules [] rest)) ≡ true
+learn_wanted rest e =
+    let rows = rows_after learn_built.rules [] rest in
+    let ends = learn_ends rest e in
+    let n = nodes_of rows ends.0 (ends.1.1.1.1.1.1.1.1.1.0 tt) in
+    whole_learn _ _ _ _ _ _ _ _ _ n.0 n.1
+
 is_some-map : {A B : Type 0} (f : A → B) (o : Option A) → is_some o ≡ true → is_some (option_map f o) ≡ true
 is_some-map f None e = e
 is_some-map f (Some x) e = refl
@@ -335,7 +348,7 @@ pub never_none : (words : List Text) → fault_of landtree words ≡ [] → orde
 never_none words e none =
     let found = built_enters (built landtree)
     (run_built ∷ audit_built ∷ schedule_built ∷ rights_built ∷ check_built ∷ serve_built ∷ export_built ∷ why_built
-    ∷ []) _
+    ∷ learn_built ∷ []) _
     refl refl refl Wants (
       λ rest f. is_some-map to_run _ (run_wanted rest f),
       (
@@ -350,7 +363,10 @@ never_none words e none =
                 λ rest f. is_some-map to_serve _ (serve_wanted rest f),
                 (
                   λ rest f. is_some-map to_export _ (export_wanted rest f),
-                  (λ rest f. is_some-map to_why _ (why_wanted rest f), tt),
+                  (
+                    λ rest f. is_some-map to_why _ (why_wanted rest f),
+                    (λ rest f. is_some-map to_learn _ (learn_wanted rest f), tt),
+                  ),
                 ),
               ),
             ),

@@ -2,18 +2,13 @@
 use Rattle.std.specs.Prelude.{bytes_eq, ◌==◌, ◌≡◌, ◌⊎◌, ℕ, List, [], ◌∷◌, Option, Some, None, is_some, option_and_then}
 use Rattle.std.specs.Prelude.{option_map, codes, Bool, true, false, not, map, unwrap_or, ◌&&◌, if◌then◌else◌, is_none}
 use Rattle.std.specs.Prelude.{length, nat_eq, nat_le}
-use Rattle.std.specs.List.{fold, list_all, slice_split, starts_with}
+use Rattle.std.specs.List.{list_all, slice_split, starts_with}
 use Rattle.std.specs.Option.{option_map_or}
 use Rattle.std.specs.Str.Parse.{digits_value, without_leading_plus}
 use Rattle.clap.specs.declared.error.kind.ErrorKind.TheVariants.{DisplayHelp, DisplayVersion}
-use Rattle.clap.specs.declared.builder.action.ArgAction.TheVariants.{Append, SetTrue}
-use Rattle.clap.specs.Words.{App, IsAmong, Kinds, Row, Rule, Text, all_of, first_of, new_app, new_rule, one_of}
-use Rattle.clap.specs.Words.{subcommand_of, with_rule, with_subcommand}
-use Rattle.clap.specs.Lexer.{usize_max}
-use Rattle.clap.specs.Simple.{on_top}
+use Rattle.clap.specs.Words.{IsAmong, Kinds, Row, Text, all_of, first_of, one_of, subcommand_of}
 use Rattle.clap.specs.ValueTests.{accepts}
 use Rattle.clap.specs.declared.builder.value_parser.ValueParser.{ValueParser}
-use Rattle.clap.specs.declared.builder.value_parser.ValueParser.TheVariants.{Unsigned}
 use Rattle.ll_options.specs.declared.options.RunOptions.{RunOptions}
 use Rattle.ll_options.specs.declared.options.ScheduleOptions.{ScheduleOptions}
 use Rattle.ll_options.specs.declared.rights.RightsOptions.{RightsOptions}
@@ -28,161 +23,16 @@ use Rattle.ll_options.specs.declared.why.Question.TheVariants.{Command, Entry}
 use Rattle.ll_options.specs.declared.why.WhyOptions.{WhyOptions}
 use Rattle.ll_options.specs.declared.options.Options.{Options}
 use Rattle.ll_options.specs.declared.options.Options.TheVariants.{Run, Schedule, Rights, Audit, Check, Serve, Export}
-use Rattle.ll_options.specs.declared.options.Options.TheVariants.{Why}
-
-abbrev pub script : Rule
-script = record (new_rule (codes "SCRIPT")) { required = true }
-
--- an option of this name, with one value
-abbrev pub valued : Text → Rule
-valued name = record (new_rule name) { long = Some name; value_names = 1 }
-
--- from 1 to 4,096, in decimal digits, before which a plus may stand
-abbrev pub node_numbers : ValueParser
-node_numbers = Unsigned 1 4096
-
--- from 1 to 3, in the same way
-abbrev pub levels : ValueParser
-levels = Unsigned 1 3
-
--- how many nodes may live: 1,024 where the words don't say
-abbrev pub nodes : Rule
-nodes = record (valued (codes "nodes")) { parser = Some node_numbers; defaults = codes "1024" ∷ [] }
-
--- from 1 to 1,000,000
-abbrev pub history_numbers : ValueParser
-history_numbers = Unsigned 1 1000000
-
--- how many entries the history may have: 10,000 where the words don't say
-abbrev pub history : Rule
-history = record (valued (codes "history")) { parser = Some history_numbers; defaults = codes "10000" ∷ [] }
-
--- the level of Landlock's ABI
-abbrev pub abi : Rule
-abi = record (valued (codes "abi")) { parser = Some levels }
-
--- an option of this name, without a value
-abbrev pub flag : Text → Rule
-flag name = record (new_rule name) { long = Some name; action = Some SetTrue }
-
-abbrev pub run : App
-run = fold with_rule (new_app (codes "run"))
-    (script ∷ nodes ∷ abi ∷ valued (codes "policy") ∷ valued (codes "profile") ∷ history ∷ valued (codes "save")
-    ∷ flag (codes "strict") ∷ [])
-
-abbrev pub file : Rule
-file = record (new_rule (codes "FILE")) { required = true }
-
-abbrev pub audit : App
-audit = with_rule (new_app (codes "audit")) file
-
--- from 1 to 1,000,000,000
-abbrev pub line_numbers : ValueParser
-line_numbers = Unsigned 1 1000000000
-
--- an option of this name, whose value is the number of a line
-abbrev pub line_number : Text → Rule
-line_number name = record (valued name) { parser = Some line_numbers }
-
-abbrev pub schedule : App
-schedule = fold with_rule (new_app (codes "schedule"))
-    (file ∷ nodes ∷ abi ∷ history ∷ valued (codes "picture") ∷ line_number (codes "from") ∷ line_number (codes "to")
-    ∷ [])
-
--- one path or more
-abbrev pub paths : Rule
-paths = record (new_rule (codes "PATH")) {
-  range = Some (record { start_inclusive = 1; end_inclusive = usize_max });
-}
-
--- an option of this name, with one value, that must be there
-abbrev pub needed : Text → Rule
-needed name = record (valued name) { required = true }
-
-abbrev pub rights : App
-rights = fold with_rule (new_app (codes "rights"))
-    (paths ∷ needed (codes "policy") ∷ needed (codes "profile") ∷ nodes ∷ flag (codes "layers") ∷ [])
-
--- one file or more
-abbrev pub files : Rule
-files = record file { range = Some (record { start_inclusive = 1; end_inclusive = usize_max }) }
-
-abbrev pub check : App
-check = fold with_rule (new_app (codes "check"))
-    (files ∷ nodes ∷ abi ∷ valued (codes "policy") ∷ valued (codes "profile") ∷ flag (codes "quiet")
-    ∷ flag (codes "verbose") ∷ [])
-
--- from 1 to 65,535
-abbrev pub ports : ValueParser
-ports = Unsigned 1 65535
-
--- the port that is listened at, which must be there
-abbrev pub port : Rule
-port = record (needed (codes "port")) { parser = Some ports }
-
--- from 1 to 32
-abbrev pub worker_numbers : ValueParser
-worker_numbers = Unsigned 1 32
-
--- how many connections are served at a time: 4 where the words don't say
-abbrev pub workers : Rule
-workers = record (valued (codes "workers")) { parser = Some worker_numbers; defaults = codes "4" ∷ [] }
-
--- from 1 to 62
-abbrev pub connection_numbers : ValueParser
-connection_numbers = Unsigned 1 62
-
--- how many connections are served in all: 1 where the words don't say
-abbrev pub connections : Rule
-connections = record (valued (codes "connections")) { parser = Some connection_numbers; defaults = codes "1" ∷ [] }
-
--- from 1 to 3,600
-abbrev pub idle_seconds : ValueParser
-idle_seconds = Unsigned 1 3600
-
--- after how many seconds without a byte a connection is given up
-abbrev pub idle : Rule
-idle = record (valued (codes "idle")) { parser = Some idle_seconds }
-
--- from 1 to 65,536
-abbrev pub room_megabytes : ValueParser
-room_megabytes = Unsigned 1 65536
-
--- how many megabytes a connection's lines and replies may take: 64 where the words don't say
-abbrev pub room : Rule
-room = record (valued (codes "room")) { parser = Some room_megabytes; defaults = codes "64" ∷ [] }
-
-abbrev pub serve : App
-serve = fold with_rule (new_app (codes "serve"))
-    (port ∷ workers ∷ connections ∷ idle ∷ room ∷ flag (codes "log") ∷ nodes ∷ abi
-    ∷ valued (codes "policy") ∷ valued (codes "profile") ∷ history ∷ valued (codes "save") ∷ [])
-
--- an option with a value, with each use one more
-abbrev pub repeated : Text → Rule
-repeated name = record (valued name) { action = Some Append }
-
-abbrev pub export : App
-export = fold with_rule (new_app (codes "export"))
-    (needed (codes "policy") ∷ needed (codes "profile") ∷ needed (codes "as") ∷ valued (codes "root")
-    ∷ repeated (codes "also") ∷ flag (codes "follow") ∷ valued (codes "deny") ∷ flag (codes "exact")
-    ∷ flag (codes "best-effort") ∷ repeated (codes "checked") ∷ [])
-
--- a history and a number, or a command
-abbrev pub words : Rule
-words = record (new_rule (codes "WORD")) {
-  required = true;
-  range = Some (record { start_inclusive = 1; end_inclusive = usize_max });
-}
-
-abbrev pub why : App
-why = fold with_rule (new_app (codes "why")) (words ∷ valued (codes "policy") ∷ valued (codes "profile") ∷ nodes ∷ [])
-
-abbrev pub landtree : App
-landtree =
-    let top = on_top (λ s. record s { has_version = true; subcommand_required = true }) (new_app (codes "landtree")) in
-    let scheduled = with_subcommand (with_subcommand (with_subcommand top run.top) audit.top) schedule.top in
-    let checked = with_subcommand (with_subcommand scheduled rights.top) check.top in
-    with_subcommand (with_subcommand (with_subcommand checked serve.top) export.top) why.top
+use Rattle.ll_options.specs.declared.options.Options.TheVariants.{Learn, Why}
+use Rattle.ll_options.specs.declared.learn.Lessons.{Lessons}
+use Rattle.ll_options.specs.declared.learn.Lessons.TheVariants.{Checks, History}
+use Rattle.ll_options.specs.declared.learn.LearnOptions.{LearnOptions}
+pub use Rattle.ll_options.specs.Apps.{abi, audit, check, client_numbers, connection_numbers, connections, counted}
+pub use Rattle.ll_options.specs.Apps.{export, file, files, flag, history, history_numbers, idle, idle_seconds}
+pub use Rattle.ll_options.specs.Apps.{landtree, learn, lessons, levels, line_number, line_numbers, needed}
+pub use Rattle.ll_options.specs.Apps.{node_numbers, nodes, paths, port, ports, repeated, rights, room}
+pub use Rattle.ll_options.specs.Apps.{room_megabytes, rule_numbers, run, saved, schedule, script, serve, valued}
+pub use Rattle.ll_options.specs.Apps.{why, words, worker_numbers, workers}
 
 pub record RunOrder : Type 0 where
   pub script : Text
@@ -251,6 +101,17 @@ pub record WhyOrder : Type 0 where
   pub profile : Option Text
   pub nodes : ℕ
 
+pub record LearnOrder : Type 0 where
+  pub files : List Text
+  pub policy : Option Text
+  pub history : Option Text
+  pub client : Option ℕ
+  pub name : Option Text
+  pub never : Option Text
+  pub beneath : List Text
+  pub most : Option ℕ
+  pub nodes : ℕ
+
 pub data Order : Type 0 where
   to_run : RunOrder → Order
   to_audit : Text → Order
@@ -260,6 +121,7 @@ pub data Order : Type 0 where
   to_serve : ServeOrder → Order
   to_export : ExportOrder → Order
   to_why : WhyOrder → Order
+  to_learn : LearnOrder → Order
 
 abbrev pub order_in : RunOptions → RunOrder
 order_in o =
@@ -348,6 +210,21 @@ why_in o =
     let text = option_map (λ t. t.now) in
     record { words = map (λ t. t.now) o.words.items; policy = text o.policy; profile = text o.profile; nodes = o.nodes }
 
+abbrev pub learn_in : LearnOptions → LearnOrder
+learn_in o =
+    let text = option_map (λ t. t.now) in
+    record {
+      files = map (λ t. t.now) o.files.items;
+      policy = text o.policy;
+      history = text o.history;
+      client = o.client;
+      name = text o.name;
+      never = text o.never;
+      beneath = map (λ t. t.now) o.beneath.items;
+      most = o.most;
+      nodes = o.nodes;
+    }
+
 abbrev pub ordered_in : Options → Order
 ordered_in (Run o) = to_run (order_in o)
 ordered_in (Schedule o) = to_schedule (scheduled_in o)
@@ -357,6 +234,7 @@ ordered_in (Check o) = to_check (checked_in o)
 ordered_in (Serve o) = to_serve (served_in o)
 ordered_in (Export o) = to_export (exported_in o)
 ordered_in (Why o) = to_why (why_in o)
+ordered_in (Learn o) = to_learn (learn_in o)
 
 -- the number that the text writes, if the parser accepts it
 abbrev pub number_in : ValueParser → Text → Option ℕ
@@ -509,6 +387,21 @@ why_order rows =
     (number_of (codes "nodes") node_numbers rows))
     (all_of (codes "WORD") rows)
 
+abbrev pub learn_order : List Row → Option LearnOrder
+learn_order rows =
+    option_map (λ n. record {
+      files = unwrap_or (all_of (codes "FILE") rows) [];
+      policy = first_of (codes "policy") rows;
+      history = first_of (codes "saved") rows;
+      client = number_of (codes "client") client_numbers rows;
+      name = first_of (codes "name") rows;
+      never = first_of (codes "never") rows;
+      beneath = unwrap_or (all_of (codes "beneath") rows) [];
+      most = number_of (codes "most") rule_numbers rows;
+      nodes = n;
+    })
+    (number_of (codes "nodes") node_numbers rows)
+
 abbrev pub ordered : Text → List Row → Option Order
 ordered name rows =
     if bytes_eq name (codes "run") then option_map to_run (run_order rows)
@@ -518,6 +411,7 @@ ordered name rows =
     else if bytes_eq name (codes "serve") then option_map to_serve (serve_order rows)
     else if bytes_eq name (codes "export") then option_map to_export (export_order rows)
     else if bytes_eq name (codes "why") then option_map to_why (why_order rows)
+    else if bytes_eq name (codes "learn") then option_map to_learn (learn_order rows)
     else option_map to_audit (first_of (codes "FILE") rows)
 
 -- of the subcommand that is named, and of its matches
@@ -594,6 +488,26 @@ asked_by o = asked_in o.words o.policy o.profile
 
 abbrev pub fits_why : WhyOrder → Bool
 fits_why o = is_some (asked_by o)
+
+-- what `learn` learns from: files of checks, by a policy's nodes, or a history, for one of its clients
+pub data Lesson : Type 0 where
+  of_checks : (policy : Text) → Lesson
+  of_history : (history : Text) → Option ℕ → Lesson
+
+abbrev pub lessons_of : Lessons → Lesson
+lessons_of (Checks policy) = of_checks policy.now
+lessons_of (History history client) = of_history history.now client
+
+abbrev pub lessons_in : List Text → (policy history : Option Text) → Option ℕ → Option Lesson
+lessons_in (first ∷ others) (Some policy) None None = Some (of_checks policy)
+lessons_in [] None (Some name) client = Some (of_history name client)
+lessons_in told policy kept client = None
+
+abbrev pub lessons_by : LearnOrder → Option Lesson
+lessons_by o = lessons_in o.files o.policy o.history o.client
+
+abbrev pub fits_learn : LearnOrder → Bool
+fits_learn o = is_some (lessons_by o)
 
 -- Words with these faults end well: there is none, or help or the version is asked for
 abbrev pub EndsWell : Kinds → Type 0

@@ -7,9 +7,10 @@ ghost use Rattle.clap.specs.Words.{App, app_of, new_app, new_rule, rule_of, with
 ghost use Rattle.clap.specs.declared.builder.command.Command.TheViews.{out-Command as fields_of};
 ghost use Rattle.clap.specs.declared.builder.value_parser.ValueParser.TheVariants.{Unsigned};
 ghost use Rattle.ll_options.specs.Options.{abi, audit, check, connections, export, flag, history};
-ghost use Rattle.ll_options.specs.Options.{idle, landtree, line_number, nodes, port, repeated, rights, room, run};
-ghost use Rattle.ll_options.specs.Options.{schedule, serve, valued, why, workers};
+ghost use Rattle.ll_options.specs.Options.{idle, landtree, line_number, nodes, port, repeated, rights, room};
+ghost use Rattle.ll_options.specs.Options.{run, schedule, serve, valued, why, workers};
 
+use crate::learn::learn_command;
 use crate::options::LINES;
 use crate::serve::{CONNECTIONS, IDLE_SECONDS, PORTS, ROOM_MEGABYTES, WORKERS};
 use clap::{Arg, ArgAction, Command, value_parser};
@@ -17,7 +18,12 @@ use ll_rights::limits::{HISTORY_ENTRIES, TREE_NODES};
 use std::alloc::{AllocError, Global};
 
 // An option with one value.
-fn valued<'a>(alloc: Global, name: &'a str, value_name: &'a str, help: &'a str) -> Arg<'a>
+pub(crate) fn valued<'a>(
+    alloc: Global,
+    name: &'a str,
+    value_name: &'a str,
+    help: &'a str,
+) -> Arg<'a>
     ensures rule { rule_of result ≡ valued name.entry.now }
     ensures local { result.global ≡ false }
 {
@@ -28,7 +34,7 @@ fn valued<'a>(alloc: Global, name: &'a str, value_name: &'a str, help: &'a str) 
 }
 
 // An option whose value is a number from 1 to `most`.
-fn numbered<'a>(
+pub(crate) fn numbered<'a>(
     alloc: Global,
     name: &'a str,
     value_name: &'a str,
@@ -62,7 +68,7 @@ fn demanded<'a>(alloc: Global, name: &'a str, help: &'a str) -> Arg<'a>
 }
 
 // Lets a positional argument take one value or more.
-fn one_or_more<'a>(argument: Arg<'a>) -> Arg<'a>
+pub(crate) fn one_or_more<'a>(argument: Arg<'a>) -> Arg<'a>
     ensures rule { rule_of result ≡ record (rule_of argument.entry) {
       range = Some (record { start_inclusive = 1; end_inclusive = usize_max });
     } }
@@ -71,7 +77,7 @@ fn one_or_more<'a>(argument: Arg<'a>) -> Arg<'a>
     argument.num_args(1..)
 }
 
-fn nodes_option<'a>(alloc: Global) -> Arg<'a>
+pub(crate) fn nodes_option<'a>(alloc: Global) -> Arg<'a>
     ensures rule { rule_of result ≡ nodes }
     ensures local { result.global ≡ false }
 {
@@ -106,7 +112,7 @@ fn history_option<'a>(alloc: Global) -> Arg<'a>
     .default_value("10000")
 }
 
-fn policy_option<'a>(alloc: Global) -> Arg<'a>
+pub(crate) fn policy_option<'a>(alloc: Global) -> Arg<'a>
     ensures rule { rule_of result ≡ valued (codes "policy") }
     ensures local { result.global ≡ false }
 {
@@ -143,7 +149,7 @@ fn save_option<'a>(alloc: Global) -> Arg<'a>
 }
 
 // A command with this help text and these arguments.
-fn command_of<'a>(
+pub(crate) fn command_of<'a>(
     alloc: Global,
     name: &'a str,
     about: &'a str,
@@ -412,7 +418,12 @@ fn serve_command<'a>(alloc: Global) -> Result<Command<'a>, AllocError>
 }
 
 // An option with a value that may be repeated.
-fn repeated<'a>(alloc: Global, name: &'a str, value_name: &'a str, help: &'a str) -> Arg<'a>
+pub(crate) fn repeated<'a>(
+    alloc: Global,
+    name: &'a str,
+    value_name: &'a str,
+    help: &'a str,
+) -> Arg<'a>
     ensures rule { rule_of result ≡ repeated name.entry.now }
     ensures local { result.global ≡ false }
 {
@@ -539,5 +550,6 @@ pub fn landtree_command<'a>(alloc: Global) -> Result<Command<'a>, AllocError>
     let with_check = joined(with_rights, check_command(alloc));
     let with_serve = joined(with_check, serve_command(alloc));
     let with_export = joined(with_serve, export_command(alloc));
-    joined(with_export, why_command(alloc))
+    let with_why = joined(with_export, why_command(alloc));
+    joined(with_why, learn_command(alloc))
 }

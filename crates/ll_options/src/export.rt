@@ -1,11 +1,12 @@
 //! The options of `export`.
 
-ghost use Rattle.std.specs.Prelude.{◌≡◌, codes, map, option_and_then, option_map, unwrap_or, [], IfOk};
+ghost use Rattle.std.specs.Prelude.{◌≡◌, codes, map, option_and_then, option_map, IfOk};
 ghost use Rattle.std.specs.List.{list_all};
 ghost use Rattle.ll_options.specs.Options.{is_absolute};
 
 use crate::denied::Denied;
 use crate::options::CheckOptions;
+use crate::values::texts_of;
 use clap::ArgMatches;
 use std::alloc::{AllocError, Global};
 
@@ -74,7 +75,7 @@ fn are_absolute(paths: &[&str]) -> bool
 }
 
 impl<'a> ExportOptions<'a> {
-    ghost use Rattle.clap.specs.Words.{all_of, first_of, found_of, rows_of};
+    ghost use Rattle.clap.specs.Words.{first_of, found_of, rows_of};
     ghost use Rattle.ll_options.specs.Options.{denied_of, export_order, exported_in, fits_export, form_of, is_checked};
 
     // The form among clap's matches.
@@ -96,23 +97,6 @@ impl<'a> ExportOptions<'a> {
         }
     }
 
-    // All values of an option that may be repeated.
-    #[tactic(auto, using(crate::proofs::Numbers::texts_told))]
-    fn values_of(
-        alloc: Global,
-        export: &ArgMatches<'a>,
-        name: &'static str,
-    ) -> Result<Vec<&'a str>, AllocError>
-        ensures { IfOk result (λ values. map (λ t. t.now) values.items
-            ≡ unwrap_or (all_of name.now (rows_of (found_of export.now))) []) }
-    {
-        let mut values = Vec::new(alloc);
-        if let Some(told) = export.get_strs(name) {
-            values.extend_from_slice(told)?;
-        }
-        Ok(values)
-    }
-
     /// Reads the options of `export` from clap's matches. Errors: memory ran out.
     #[tactic(auto, using(crate::proofs::Numbers::text_told))]
     pub(crate) fn of_matches(
@@ -121,8 +105,8 @@ impl<'a> ExportOptions<'a> {
     ) -> Result<Option<ExportOptions<'a>>, AllocError>
         ensures { IfOk result (λ o. option_map exported_in o ≡ export_order (rows_of (found_of export.now))) }
     {
-        let also = ExportOptions::values_of(alloc, export, "also")?;
-        let checked = ExportOptions::values_of(alloc, export, "checked")?;
+        let also = texts_of(alloc, export, "also")?;
+        let checked = texts_of(alloc, export, "checked")?;
         let Some(policy) = export.get_str("policy") else {
             return Ok(None);
         };

@@ -5,6 +5,7 @@ mod command;
 mod denied;
 mod export;
 mod inputs;
+mod learn;
 mod options;
 mod rights;
 mod serve;
@@ -13,6 +14,7 @@ mod why;
 
 pub use denied::Denied;
 pub use export::{ExportOptions, Form};
+pub use learn::{LearnOptions, Lessons};
 pub use options::{CheckOptions, Options, RunOptions, ScheduleOptions};
 pub use rights::RightsOptions;
 pub use serve::ServeOptions;

@@ -6,6 +6,7 @@ ghost use Rattle.ll_rights.specs.declared.limits.TheConstants.{HISTORY_ENTRIES, 
 use crate::command::landtree_command;
 use crate::export::ExportOptions;
 use crate::inputs::{file_of, names_input};
+use crate::learn::LearnOptions;
 use crate::rights::RightsOptions;
 use crate::serve::ServeOptions;
 use crate::values::number_of;
@@ -242,6 +243,7 @@ pub enum Options<'a> {
     Serve(ServeOptions<'a>),
     Export(ExportOptions<'a>),
     Why(WhyOptions<'a>),
+    Learn(LearnOptions<'a>),
 }
 
 impl<'a> Options<'a> {
@@ -295,6 +297,12 @@ impl<'a> Options<'a> {
         if name == "why" {
             return match WhyOptions::of_matches(alloc, matches)? {
                 Some(why) => Ok(Some(Options::Why(why))),
+                None => Ok(None),
+            };
+        }
+        if name == "learn" {
+            return match LearnOptions::of_matches(alloc, matches)? {
+                Some(learn) => Ok(Some(Options::Learn(learn))),
                 None => Ok(None),
             };
         }

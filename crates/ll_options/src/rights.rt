@@ -1,9 +1,9 @@
 //! The options of `rights`.
 
-ghost use Rattle.std.specs.Prelude.{◌≡◌, ◌≤◌, codes, map, option_map, unwrap_or, [], IfOk};
+ghost use Rattle.std.specs.Prelude.{◌≡◌, ◌≤◌, codes, option_map, IfOk};
 ghost use Rattle.ll_rights.specs.declared.limits.TheConstants.{TREE_NODES};
 
-use crate::values::number_of;
+use crate::values::{number_of, texts_of};
 use clap::ArgMatches;
 use ll_rights::limits::TREE_NODES;
 use std::alloc::{AllocError, Global};
@@ -22,21 +22,8 @@ pub struct RightsOptions<'a> {
 }
 
 impl<'a> RightsOptions<'a> {
-    ghost use Rattle.clap.specs.Words.{all_of, found_of, rows_of};
+    ghost use Rattle.clap.specs.Words.{found_of, rows_of};
     ghost use Rattle.ll_options.specs.Options.{is_set, rights_in, rights_order};
-
-    // The paths among clap's matches. Errors: memory ran out.
-    #[tactic(auto, using(crate::proofs::Numbers::texts_told))]
-    fn paths_of(alloc: Global, rights: &ArgMatches<'a>) -> Result<Vec<&'a str>, AllocError>
-        ensures { IfOk result (λ paths. map (λ t. t.now) paths.items
-            ≡ unwrap_or (all_of (codes "PATH") (rows_of (found_of rights.now))) []) }
-    {
-        let mut paths = Vec::new(alloc);
-        if let Some(told) = rights.get_strs("PATH") {
-            paths.extend_from_slice(told)?;
-        }
-        Ok(paths)
-    }
 
     // Whether `--layers` is given.
     #[tactic(auto, using(crate::proofs::Numbers::text_told))]
@@ -57,7 +44,7 @@ impl<'a> RightsOptions<'a> {
     ) -> Result<Option<RightsOptions<'a>>, AllocError>
         ensures { IfOk result (λ o. option_map rights_in o ≡ rights_order (rows_of (found_of rights.now))) }
     {
-        let paths = RightsOptions::paths_of(alloc, rights)?;
+        let paths = texts_of(alloc, rights, "PATH")?;
         let Some(policy) = rights.get_str("policy") else {
             return Ok(None);
         };

@@ -1,4 +1,4 @@
-//! What layers grant on the inodes of a tree, and why a move is denied, which the program doesn't ask.
+//! What layers grant on the inodes of a tree, which the program doesn't ask.
 
 ghost use Rattle.std.specs.Prelude.{◌≡◌, ◌≢◌, ◌≤◌, ◌+◌, false, true};
 ghost use Rattle.ll_rights.specs.Map.{has};
@@ -9,8 +9,7 @@ use crate::calls::target;
 use ll_plain::Plain;
 use ll_rights::{Abi, Access, Errno, Kind};
 use ll_rules::{Domain, Ruleset};
-use ll_seq::{Call, ClientRecord, Reply, Rules};
-use ll_why::{Told, Why, change_for, why_of};
+use ll_seq::{Call, Reply, Rules};
 use std::alloc::{AllocError, Global};
 use std::process::Abort;
 
@@ -63,25 +62,6 @@ impl Yard {
         let is_done = self.does(rt, &call);
         drop(call);
         is_done
-    }
-
-    /// Allows these rights on the path, by the client's first ruleset.
-    fn allows(&mut self, rt: &impl Abort, alloc: Global, path: &str, rights: Access) -> bool {
-        let Some(path) = target(alloc, path) else {
-            return false;
-        };
-        let call = Call::Allow(0, path, rights);
-        let is_done = self.does(rt, &call);
-        drop(call);
-        is_done
-    }
-
-    /// Confines the client by a layer that lets it move everything, and read files in `/pub` alone.
-    fn confines(&mut self, rt: &impl Abort, alloc: Global) -> bool {
-        self.does(rt, &Call::Ruleset(Access(0x2004)))
-            && self.allows(rt, alloc, "/", Access(0x2000))
-            && self.allows(rt, alloc, "/pub", Access(0x4))
-            && self.does(rt, &Call::Confine(0))
     }
 
     /// What the domain's layer of this number grants on the inode.
@@ -157,49 +137,6 @@ fn is_reached(rt: &impl Abort, alloc: Global) -> Option<bool> {
     let is_linked = yard.links(rt, alloc, "/priv/f", "/pub/f");
     let is_two_names = reaches(rt, &yard, &domain, TWO_NAMES);
     Some(is_one_name && is_linked && is_two_names)
-}
-
-/// Why the call is denied and what would let it through, in lines.
-fn told(alloc: Global, tree: &Plain, caller: &ClientRecord, call: &Call) -> Option<String> {
-    let why = why_of(alloc, tree, caller, call).ok()?;
-    let Why::Judged(reason) = &why else {
-        return None;
-    };
-    let change = change_for(alloc, &caller.domain, &reason.asks).ok()?;
-    let change = Some(&change);
-    let told = Told {
-        call,
-        why: &why,
-        change,
-    };
-    format!(in alloc; "{told}").ok()
-}
-
-/// A file that only the rule on `/pub` lets be read gains that by a move there. With the same right on the file, it
-/// wouldn't.
-fn is_told(alloc: Global, yard: &Yard) -> Option<bool> {
-    let call = Call::Rename(target(alloc, "/priv/f")?, target(alloc, "/pub/f")?);
-    let text = told(alloc, &yard.tree, yard.tree.client(1)?, &call);
-    drop(call);
-    let text = text?;
-    let is_denial = text
-        .as_str()
-        .starts_with("denied EXDEV layer 1 read_file new\n");
-    let is_change = text
-        .as_str()
-        .ends_with("would pass with layer 1; on /priv/f: read_file\n");
-    Some(is_denial && is_change)
-}
-
-#[test]
-fn why_a_move_is_denied(rt: HostRuntime) {
-    let alloc = rt.alloc();
-    let Some(mut yard) = made(&rt, alloc) else {
-        assert!(rt; false);
-        return;
-    };
-    assert!(rt; yard.confines(&rt, alloc));
-    assert!(rt; is_told(alloc, &yard) == Some(true));
 }
 
 #[test]

@@ -12,7 +12,7 @@ use ll_audit::audit;
 use ll_calls::Tree;
 use ll_client::{Account, Blank, Client, Locked, Shape};
 use ll_rights::{Abi, Kind};
-use ll_seq::Rules;
+use ll_seq::{Reply, Rules};
 use ll_session::{
     Host, NoKeeper, Served, Stream, Watches, add_all, gather, hand_over, serve_streams,
 };
@@ -119,13 +119,15 @@ impl Watches<Source<'static>, Paper> for Reader {
         &self,
         stream: &Stream<Source<'static>, Paper>,
         served: &Served<N, Source<'static>, Paper>,
+        refusal: Option<&Reply>,
     ) {
+        let _ = refusal;
         let expected = if stream.number == 1 {
             HELD_REPLIES
         } else {
             FREE_REPLIES
         };
-        if served.ended.is_ok() && stream.writer.text.as_slice() == expected {
+        if served.outcome.ended.is_ok() && stream.writer.text.as_slice() == expected {
             self.flags.right.fetch_add(1, Ordering::SeqCst);
         }
     }

@@ -1,20 +1,9 @@
-use Rattle.std.proofs.Common.{◌≡◌, ◌∙◌, ℕ, List, Option, None, Some, Bor, IfErr, IfSome, Result, Ok, Err, subst, ap}
-use Rattle.std.specs.Prelude.{option_map, unwrap_or}
-use Rattle.ll_runs.specs.Sources.{text_in}
+use Rattle.std.proofs.Common.{◌≡◌, ℕ, List, Option, IfErr, IfSome, Result, Ok, Err}
 use Rattle.ll_options.specs.Options.{ServeOrder, served_in}
 use Rattle.ll_runs.specs.declared.failure.Failure.{Failure}
 use Rattle.ll_commands.specs.Serving as serving
+use Rattle.landtree.proofs.Runs.{policy_text}
 use Rattle.landtree.proofs.commands.serve_port.Goals as goal
-
--- What is read of the policy's file is its text, if one is named
-policy_text : (texts : Option (List ℕ) → Option (List ℕ)) (policy : Option (Bor (List ℕ)))
-    (word otherwise : Bor (List ℕ)) (left : Option (List ℕ)) (text : List ℕ)
-    → word ≡ unwrap_or policy otherwise → left ≡ texts (Some word.now)
-    → IfSome left (λ told. text ≡ told)
-    → IfSome (text_in texts (option_map (λ (t : Bor (List ℕ)). t.now) policy)) (λ told. text ≡ told)
-policy_text texts None word otherwise left text is read told = tt
-policy_text texts (Some w) word otherwise left text is read told =
-    subst (λ o. IfSome o (λ known. text ≡ known)) (read ∙ ap (λ (v : Bor (List ℕ)). texts (Some v.now)) is) told
 
 -- Of what is written nothing is told
 of_some_devices : {A : Type 0} (r : Result A Failure) (order : ServeOrder)

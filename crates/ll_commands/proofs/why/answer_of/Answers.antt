@@ -11,7 +11,7 @@ pub returns-in-None-clause-failure : goal.returns-in-None-clause-failure
 returns-in-None-clause-failure g c =
     let t = left (g.R.Read.remaining c.args.file.now) in
     let nodes = c.args.options.now.nodes in
-    (t.0, t.1, inr (subst (λ (a : Option Asked). Fails nodes a t.0 CommandLine) c.in-None.ensures refl))
+    (t.0, t.1, subst (λ (a : Option Asked). Fails nodes a t.0 CommandLine) c.in-None.ensures refl)
 
 pub returns-in-Some-Command-clause-failure : goal.returns-in-Some-Command-clause-failure
 returns-in-Some-Command-clause-failure g c =
@@ -22,6 +22,6 @@ returns-in-Some-Command-clause-failure g c =
     IfErr-weaker c.answer_of_command.result _ _ (λ failure h. (
       h.0,
       h.1,
-      inr (subst (λ (a : Option Asked). Fails nodes a h.0 failure) asked
-          (subst (λ (run : RunOrder). CommandFails run word h.0 failure) c.run_by.ensures h.2)),
+      subst (λ (a : Option Asked). Fails nodes a h.0 failure) asked
+          (subst (λ (run : RunOrder). CommandFails run word h.0 failure) c.run_by.ensures h.2),
     )) c.answer_of_command.ensures.failure

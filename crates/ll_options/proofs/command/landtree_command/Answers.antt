@@ -22,4 +22,5 @@ returns c =
     let checks = c.joined-with_check.ensures _ _ tells c.check_command.ensures.app in
     let serves = c.joined-with_serve.ensures _ _ checks c.serve_command.ensures.app in
     let exports = c.joined-with_export.ensures _ _ serves c.export_command.ensures.app in
-    c.joined.ensures _ _ exports c.why_command.ensures.app
+    let explains = c.joined-with_why.ensures _ _ exports c.why_command.ensures.app in
+    c.joined.ensures _ _ explains c.learn_command.ensures.app

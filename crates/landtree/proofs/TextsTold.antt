@@ -1,0 +1,46 @@
+-- What is told of a file that the words name.
+use Rattle.std.specs.Prelude.{◌≡◌, ℕ, List, IfErr, IfOk, IfSome, OnOk, Option, Some, Result, Ok, Err}
+use Rattle.std.proofs.Common.{subst}
+use Rattle.ll_options.specs.Options.{RightsOrder, WhyOrder, asked_by}
+use Rattle.ll_runs.specs.declared.conclusion.Conclusion.{Conclusion}
+use Rattle.ll_runs.specs.declared.conclusion.Conclusion.TheVariants.{Done}
+use Rattle.ll_runs.specs.declared.failure.Failure.{Failure}
+use Rattle.ll_wire.specs.Transcript.{Writes}
+use Rattle.ll_commands.specs.Rights as rights
+use Rattle.ll_commands.specs.Rights.{EndsRights, IsTable}
+use Rattle.ll_commands.specs.Why as why
+use Rattle.ll_commands.specs.Why.{EndsWhy, IsToldSo, file_asked}
+
+module _ (texts : Option (List ℕ) → Option (List ℕ)) (order : WhyOrder) (left out out' : Option (List ℕ))
+    (read : left ≡ texts (file_asked (asked_by order))) where
+  known : (text : List ℕ) → IfSome left (λ told. text ≡ told)
+      → IfSome (texts (file_asked (asked_by order))) (λ told. text ≡ told)
+  known text is = subst (λ o. IfSome o (λ told. text ≡ told)) read is
+
+  pub why_ends : (r : Result Conclusion Failure)
+      → IfOk r (λ conclusion. (text : List ℕ) × IfSome left (λ told. text ≡ told)
+      × Writes out out' (IsToldSo order text conclusion))
+      → IfErr r (λ failure. (text : List ℕ) × IfSome left (λ told. text ≡ told)
+      × why.MayFail order text out out' failure)
+      → EndsWhy texts order r
+  why_ends (Ok conclusion) told fails = (told.0, known told.0 told.1, out, out', told.2)
+  why_ends (Err failure) told fails = (fails.0, known fails.0 fails.1, out, out', fails.2)
+
+-- how a table is concluded that is told so
+abbrev pub ended : {A : Type 0} → Result A Failure → Result Conclusion Failure
+ended (Ok done) = Ok Done
+ended (Err failure) = Err failure
+
+module _ (texts : Option (List ℕ) → Option (List ℕ)) (order : RightsOrder) (left out out' : Option (List ℕ))
+    (read : left ≡ texts (Some order.policy)) where
+  of_policy : (text : List ℕ) → IfSome left (λ told. text ≡ told)
+      → IfSome (texts (Some order.policy)) (λ told. text ≡ told)
+  of_policy text is = subst (λ o. IfSome o (λ told. text ≡ told)) read is
+
+  pub rights_end : {A : Type 0} (r : Result A Failure)
+      → OnOk r ((text : List ℕ) × IfSome left (λ told. text ≡ told) × Writes out out' (IsTable order text))
+      → IfErr r (λ failure. (text : List ℕ) × IfSome left (λ told. text ≡ told)
+      × rights.MayFail order text out out' failure)
+      → EndsRights texts order (ended r)
+  rights_end (Ok done) told fails = (told.0, of_policy told.0 told.1, out, out', told.2)
+  rights_end (Err failure) told fails = (fails.0, of_policy fails.0 fails.1, out, out', fails.2)

@@ -1,0 +1,10 @@
+use Rattle.ll_options.specs.Options.{order_in}
+use Rattle.landtree.proofs.Runs.{run_packed}
+use Rattle.landtree.proofs.commands.run_over.Goals as goal
+
+pub returns-clause-done : goal.returns-clause-done
+returns-clause-done g c =
+    run_packed (order_in c.args.options.now) c.run.result (g.P.Read.remaining c.args.policy.now)
+    (g.R.Read.remaining c.args.script.now) (g.R.Read.remaining c.run.new.script) (g.W.Write.contents c.args.out.now)
+    (g.W.Write.contents c.run.new.out) (g.F.Destination.blank c.args.file.now)
+    (g.F.Destination.contents c.args.file.now) (g.F.Destination.contents c.run.new.file) c.run.ensures.done
