@@ -12,7 +12,7 @@ from .commands import Commands, ExportOptions, LearnOptions
 from .confine import NOT_CONFINED, NOT_RUN, NOT_THERE, NO_ENTRY, become, own_environment, prepare
 from .errors import Fault, LandtreeError, ProgramFault
 from .lint import lint
-from .tour import Tour, TourOptions, need_learn, tour
+from .tour import Tour, TourOptions, need_program, tour
 from .trace import convert, record
 from .trace.converting import names_beside
 from .values import Rights
@@ -83,7 +83,7 @@ def export_options(options: argparse.Namespace) -> ExportOptions:
 
 def run_learn(options: argparse.Namespace) -> int:
     commands = commands_of(options)
-    need_learn(commands)
+    need_program(commands)
     learned = commands.learn(options.files, options.policy, learn_options(options))
     sys.stdout.write(learned.profile)
     for line in learned.hints.splitlines():

@@ -12,15 +12,15 @@ import subprocess
 from dataclasses import dataclass, field
 from typing import Iterable, List, Optional, Sequence, Tuple, Union
 
-from .errors import Fault, LandtreeError, ProgramFault, TimedOut
+from .errors import LandtreeError, ProgramFault, TimedOut
 from .exported import Exported, exported_of
-from .histories import learned_by_history
+from .histories import learned_of
 from .values import Rights, RightsLike
 
 File = Union[str, "os.PathLike[str]"]
 
 ASKED = re.compile(r"  +asked on (\S+) \((at|old|new)\): (\S+)")
-CHANGE = re.compile(r"  +would pass with layer (\d+)(?: and a rule on (\S+)| handling): (\S+)")
+CHANGE = re.compile(r"  +no layer would deny it with layer (\d+)(?: and a rule on (\S+)| handling): (\S+)")
 SUM = re.compile(r"(\d+) passed, (\d+) failed")
 SHOWN = re.compile(r"(.*):(\d+): (.*)")
 VERDICT = re.compile(r"(legal|illegal at|bad line) (\d+)")
@@ -56,7 +56,8 @@ class Change:
 
 @dataclass(frozen=True)
 class Why:
-    """Why a call was answered so. With all `changes` no layer denies it; there are none if no layer does.
+    """Why a call was answered so. With all `changes` no layer denies it; there are none if no layer does, or if no
+    change that the tree accepts helps.
 
     `text` is all that the program has written.
     """
@@ -203,27 +204,18 @@ class Commands:
         return exported_of(self.run("export", *words))
 
     def learn(self, files: Iterable[File], nodes: File, options: LearnOptions = LearnOptions()) -> Learned:
-        """Returns the least profile under which the tests of these files pass, on a policy's nodes.
+        """Returns the least profile under which the tests of a file pass, on a policy's nodes. There may be one file.
 
-        A program whose `learn` reads histories alone learns from that of one file, and takes no option but the name.
+        What the file can't teach is a `Fault`.
         """
-        if not self.learns_from_checks():
-            if len(options.words()) > 1:
-                raise Fault(f"{os.fspath(self.program)}: its `learn` has no --never, --beneath and --most")
-            return Learned(learned_by_history(self, files, nodes, options.name), "")
-        words = [f"--policy={os.fspath(nodes)}", *options.words(), "--", *(os.fspath(it) for it in files)]
-        ended = self.ended("learn", *words)
+        return learned_of(self, files, nodes, options)
+
+    def learn_history(self, history: File, options: LearnOptions = LearnOptions()) -> Learned:
+        """Returns the least profile under which the calls of a saved history get the same replies."""
+        ended = self.ended("learn", f"--history={os.fspath(history)}", *options.words())
         if ended.returncode:
             raise fault_of(ended)
         return Learned(ended.stdout, ended.stderr)
-
-    def learns_from_checks(self) -> bool:
-        """Says whether the program's `learn` reads files of checks."""
-        return "--policy" in self.ended("learn", "--help").stdout
-
-    def knows(self, command: str) -> bool:
-        """Says whether the program has a command of this name."""
-        return self.ended(command, "--help").returncode == 0
 
     def version(self) -> str:
         return self.ended("--version").stdout.strip()

@@ -1,4 +1,4 @@
-"""Turns files of checks into a saved history, for a program whose `learn` reads histories and no checks."""
+"""Learns from a file of checks by the history of a run of it, as the program's `learn` reads histories."""
 
 from __future__ import annotations
 
@@ -13,41 +13,52 @@ from .policy_text import read_policy
 from .values import TREE_NODES
 
 if TYPE_CHECKING:
-    from .commands import Commands
+    from .commands import Commands, Learned, LearnOptions
 
 File = Union[str, "os.PathLike[str]"]
 
 
-def script_of(text: str) -> List[str]:
-    """Returns the commands of a file of checks, without comments and replies. What must be denied is left out."""
-    commands = []
-    for line in text.splitlines():
-        command, _, reply = line.partition(" = ")
-        if command.strip() and not command.startswith("#") and not reply.startswith("denied"):
-            commands.append(command)
-    return commands
+def learned_of(commands: Commands, files: Iterable[File], nodes: File, options: LearnOptions) -> Learned:
+    """Returns what the program learns from the calls of a file of checks.
 
-
-def learned_by_history(commands: Commands, files: Iterable[File], nodes: File, name: str) -> str:
-    """Returns what the program learns from the calls of a file of checks. Each must be answered as the file says."""
+    A call that must be denied isn't made. Each other one must be answered as the file says, and each test must pass
+    under the profile.
+    """
     checks = list(files)
     if len(checks) != 1:
-        raise Fault(f"{os.fspath(commands.program)}: its `learn` reads one file of checks at a time")
-    need_passing(commands, checks[0], nodes)
-    script = script_of(Path(checks[0]).read_text(encoding="ascii"))
+        raise Fault("learn: it learns from one file of checks at a time")
+    lines = made(Path(checks[0]).read_text(encoding="ascii"))
+    with tempfile.TemporaryDirectory(prefix="landtree-") as folder:
+        room = Path(folder)
+        (room / "checks").write_text("".join(f"{it}\n" for it in lines), encoding="ascii")
+        need_passing(commands, room / "checks", checks[0], nodes)
+        save_run(commands, [it.partition(" = ")[0] for it in lines if it], nodes, room)
+        learned = commands.learn_history(room / "history", options)
+        policy = Path(nodes).read_text(encoding="utf-8")
+        (room / "policy.toml").write_text(f"{policy}\n{learned.profile}", encoding="utf-8")
+        need_passing(commands, checks[0], checks[0], room / "policy.toml", options.name)
+    return learned
+
+
+def made(text: str) -> List[str]:
+    """Returns the lines of a file of checks. Those without a test, or with one that must be denied, are empty."""
+    lines = [line.strip() for line in text.splitlines()]
+    return ["" if it.startswith("#") or it.partition(" = ")[2].startswith("denied") else it for it in lines]
+
+
+def save_run(commands: Commands, script: List[str], nodes: File, room: Path) -> None:
+    """Makes the calls in a new tree of a policy's nodes, and saves their history."""
+    (room / "calls").write_text("".join(f"{it}\n" for it in script), encoding="ascii")
     entries = entries_of(read_policy(nodes).nodes) + len(script) + 2
-    with tempfile.TemporaryDirectory(prefix="landtree-") as room:
-        calls, history = Path(room) / "calls", Path(room) / "history"
-        calls.write_text("".join(f"{it}\n" for it in script), encoding="ascii")
-        how = [f"--policy={os.fspath(nodes)}", f"--nodes={TREE_NODES}", f"--history={entries}", f"--save={history}"]
-        commands.run("run", "--strict", *how, "--", os.fspath(calls))
-        return commands.run("learn", f"--history={history}", f"--name={name}")
+    how = [f"--policy={os.fspath(nodes)}", f"--nodes={TREE_NODES}", f"--history={entries}"]
+    commands.run("run", *how, f"--save={room / 'history'}", "--", os.fspath(room / "calls"))
 
 
-def need_passing(commands: Commands, file: File, nodes: File) -> None:
-    """Raises `Fault` if a test of a file isn't answered as it says under no layer, but for one that must be denied."""
-    checked = commands.check([file], nodes)
-    for it in (it for it in checked.failures if not it.expected.startswith("denied")):
-        raise Fault(f"{it.file}:{it.line}: {it.command}: {it.expected} is expected, and it gets {it.got}")
+def need_passing(commands: Commands, file: File, named: File, policy: File, profile: str = "") -> None:
+    """Raises `Fault` if a test isn't answered as it says, with its line."""
+    checked = commands.check([file], policy, profile or None)
+    for it in checked.failures:
+        got = f"{it.got} under the profile" if profile else it.got
+        raise Fault(f"{os.fspath(named)}:{it.line}: {it.command}: {it.expected} is expected, and it gets {got}")
     if not checked.passed:
-        raise Fault(f"{os.fspath(file)}: it has no test")
+        raise Fault(f"{os.fspath(named)}: it has no test")

@@ -61,7 +61,7 @@ class TourOptions:
 
 def tour(words: Sequence[str], options: TourOptions, commands: Commands = Commands()) -> Tour:
     """Makes the tour of a program. What can't be done is a `Fault`, before the program is run if that can be."""
-    need_learn(commands)
+    need_program(commands)
     need_strace()
     folder = new_folder(options.folder)
     here = os.getcwd()
@@ -79,13 +79,11 @@ def tour(words: Sequence[str], options: TourOptions, commands: Commands = Comman
     return Tour(recorded, converted, learned, policy, status, denied)
 
 
-def need_learn(commands: Commands) -> None:
+def need_program(commands: Commands) -> None:
     try:
-        knows = commands.knows("learn")
+        commands.version()
     except OSError as error:
         raise Fault(f"{os.fspath(commands.program)}: {error.strerror}") from None
-    if not knows:
-        raise Fault(f"{os.fspath(commands.program)}: {commands.version() or 'it'} has no command `learn`")
 
 
 def new_folder(folder: Path) -> Path:

@@ -13,7 +13,7 @@ PACKAGE = HERE.parent
 TOP = PACKAGE.parent.parent
 sys.path.insert(0, str(PACKAGE))
 
-from landtree import Commands, Fault, landlock  # noqa: E402
+from landtree import Fault, landlock  # noqa: E402
 
 # The program, which test_package.py sets.
 PROGRAM = os.environ.get("LANDTREE_PROGRAM", str(TOP / "crates/landtree/out/landtree"))
@@ -57,15 +57,6 @@ class Case(unittest.TestCase):
         path.parent.mkdir(parents=True, exist_ok=True)
         path.write_text(text)
         return path
-
-    def learner(self):
-        """Returns the program, or a stand-in for it if it has no `learn`."""
-        if Commands(PROGRAM).knows("learn"):
-            return PROGRAM
-        text = f'#!/bin/sh\nexec {sys.executable} {HERE}/stand_in.py {PROGRAM} "$@"\n'
-        program = self.put("stand-in/landtree", text)
-        program.chmod(0o755)
-        return str(program)
 
     def wants_fault(self, text, call, *words, **options):
         """Wants a call to raise a fault of one line, which is this text."""

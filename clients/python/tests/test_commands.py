@@ -84,35 +84,35 @@ class Results(Case):
         self.assertRaises(TimedOut, Commands(slow, timeout=0.2).audit, "x")
 
     def test_learning(self):
-        text = '#!/bin/sh\n[ "$3" != --help ] || { echo "--policy"; exit; }\n'
-        program = self.put("learner", f'{text}echo "# least: it is so"\nprintf "%s\\n" "$@"\necho hint >&2\n')
+        text = '#!/bin/sh\necho "# least: it is so"\nprintf "%s\\n" "$@"\necho hint >&2\n'
+        program = self.put("learner", text)
         program.chmod(0o755)
         options = LearnOptions("b", "truncate,read_file", ["/usr"], 9)
-        learned = Commands(program).learn(["a.check"], "n.toml", options)
-        words = "learn --explain --policy=n.toml --name=b --beneath=/usr --never=read_file,truncate --most=9 -- a.check"
+        learned = Commands(program).learn_history("h", options)
+        words = "learn --explain --history=h --name=b --beneath=/usr --never=read_file,truncate --most=9"
         self.assertEqual(learned.profile, "\n".join(["# least: it is so", *words.split(" "), ""]))
         self.assertEqual((learned.is_least, learned.hints), (True, "hint\n"))
 
+    def test_learning_what_a_file_of_checks_does(self):
+        learned = self.commands.learn([CHECKS], POLICY)
+        policy = self.put("p.toml", f"{POLICY.read_text()}\n{learned.profile}")
+        checked = self.commands.check([CHECKS], policy, "learned")
+        self.assertEqual((learned.is_least, checked.passed, checked.is_well), (True, 20, True))
 
-    def test_learning_by_a_history(self):
-        # This program's `learn` shows the history that it reads. All else is done by the real program.
-        learn = '[ "$3" = --help ] || cat "${3#--history=}"; exit'
-        program = self.put("landtree", f'#!/bin/sh\n[ "$1" != learn ] || {{ {learn}; }}\nexec {PROGRAM} "$@"\n')
-        program.chmod(0o755)
+    def test_what_a_file_of_checks_cannot_teach(self):
         nodes = self.put("n.toml", 'version = 2\nabi = 3\n[[node]]\npath = "/f"\nkind = "reg"\n')
-        checks = self.put("c.check", "# Calls.\nopen r /f = fd 0\n\nclose 0\nopen w /f = denied EACCES ..\nlist /")
-        commands = Commands(program)
-        history = commands.learn([checks], nodes).profile.splitlines()
-        made = ["1 connect = ok", "1 make reg /f = ok", "2 connect = ok"]
-        called = ["2 open r /f = fd 0", "2 close 0 = ok", "2 list / = names f"]
-        self.assertEqual(history, ["landtree-history 3 nodes 4096 abi 3", *made, *called])
-        for options in (LearnOptions(never="refer"), LearnOptions(beneath=["/usr"]), LearnOptions(most=3)):
-            text = f"{program}: its `learn` has no --never, --beneath and --most"
-            self.wants_fault(text, commands.learn, [checks], nodes, options)
-        checks.write_text("list / = names f\nopen r /g = fd 0\n")
-        text = f"{checks}:2: open r /g: fd 0 is expected, and it gets refused 3 ENOENT"
-        self.wants_fault(text, commands.learn, [checks], nodes)
-        self.wants_fault(f"{program}: its `learn` reads one file of checks at a time", commands.learn, [], nodes)
+        checks = self.put("c.check", "# Calls.\n\nlist / = names f\nopen r /g = fd 0\n")
+        said = f"{checks}:4: open r /g: fd 0 is expected, and it gets refused 3 ENOENT"
+        self.wants_fault(said, self.commands.learn, [checks], nodes)
+        checks.write_text("open r /f = fd 0\nopen r /f = denied ..\n")
+        said = f"{checks}:2: open r /f: denied .. is expected, and it gets fd 1 under the profile"
+        self.wants_fault(said, self.commands.learn, [checks], nodes)
+        checks.write_text("# None.\nopen r /f = denied ..\n")
+        self.wants_fault(f"{checks}: it has no test", self.commands.learn, [checks], nodes)
+        self.wants_fault("learn: it learns from one file of checks at a time", self.commands.learn, [], nodes)
+        with self.assertRaises(ProgramFault) as caught:
+            self.commands.learn([CHECKS], POLICY, LearnOptions(most=1))
+        self.assertEqual(caught.exception.status, 2)
 
 
 class Exports(Case):

@@ -5,7 +5,7 @@ import re
 import subprocess
 import sys
 
-from tests.support import LONGEST, PACKAGE, TOP, Case, needs_landlock, needs_strace, needs_tools
+from tests.support import LONGEST, PACKAGE, PROGRAM, TOP, Case, needs_landlock, needs_strace, needs_tools
 
 from landtree import load_policy
 
@@ -22,7 +22,7 @@ def blocks():
 class Guide(Case):
     def setUp(self):
         super().setUp()
-        self.put("bin/landtree", f'#!/bin/sh\nexec {self.learner()} "$@"\n').chmod(0o755)
+        self.put("bin/landtree", f'#!/bin/sh\nexec {PROGRAM} "$@"\n').chmod(0o755)
         path = f"{self.room}/bin:{os.environ['PATH']}"
         self.environment = {**os.environ, "PATH": path, "PYTHONPATH": str(PACKAGE), "PYTHONDONTWRITEBYTECODE": "1"}
         self.how = {"cwd": self.room, "env": self.environment, "timeout": LONGEST, "text": True, "check": False}

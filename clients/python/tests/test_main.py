@@ -48,17 +48,13 @@ class Words(Case):
     def test_learn(self):
         nodes = self.put("n.toml", 'version = 2\nabi = 3\n[[node]]\npath = "/f"\nkind = "reg"\n')
         checks = self.put("c.check", "open r /f = fd 0\n")
-        ended = self.run_module("learn", checks, "--policy", nodes, "--name", "p", "--program", self.learner())
+        ended = self.run_module("learn", checks, "--policy", nodes, "--name", "p", "--program", PROGRAM)
         self.assertEqual(ended.returncode, 0, ended.stderr)
         (layer,) = load_policy(nodes.read_text() + ended.stdout).profiles["p"]
         self.assertEqual(layer, Layer(Rights.ALL, [Rule("/f", Rights.READ_FILE)]))
         checks.write_text("open r /g = fd 0\n")
-        ended = self.run_module("learn", checks, "--policy", nodes, "--program", self.learner())
+        ended = self.run_module("learn", checks, "--policy", nodes, "--program", PROGRAM)
         self.assertEqual((ended.returncode, ended.stdout), (2, ""))
-        old = self.put("old", "#!/bin/sh\nexit 2\n")
-        old.chmod(0o755)
-        ended = self.run_module("learn", checks, "--policy", nodes, "--program", old)
-        self.assertEqual((ended.returncode, ended.stderr), (2, f"landtree: {old}: it has no command `learn`\n"))
 
     def test_bytes_that_steer_a_terminal(self):
         ended = self.run_module("lint", "a\x1b[2J\nb")
@@ -200,10 +196,9 @@ class Touring(Case):
         super().setUp()
         self.home = self.room / "home"
         self.home.mkdir()
-        self.program = self.learner()
 
     def tour(self, *words):
-        return self.run_module("try", "--program", self.program, *words, cwd=self.home)
+        return self.run_module("try", "--program", PROGRAM, *words, cwd=self.home)
 
     def test_a_program(self):
         (self.home / "f").write_text("one\n")
@@ -243,19 +238,14 @@ class Touring(Case):
         self.assertEqual((ended.returncode, ended.stderr), (125, "landtree: landtree.try: File exists\n"))
         self.assertFalse((self.home / "ran").exists())
 
-    def test_a_program_without_learn(self):
-        old = self.put("old", '#!/bin/sh\n[ "$1" = --version ] && echo "landtree 0.0"\nexit 2\n')
-        old.chmod(0o755)
-        ended = self.run_module("try", "--program", old, "--", "touch", "ran", cwd=self.home)
-        said = f"landtree: {old}: landtree 0.0 has no command `learn`\n"
-        self.assertEqual((ended.returncode, ended.stderr), (125, said))
+    def test_no_program(self):
         ended = self.run_module("try", "--program", self.room / "none", "--", "touch", "ran", cwd=self.home)
         said = f"landtree: {self.room}/none: No such file or directory\n"
         self.assertEqual((ended.returncode, ended.stderr), (125, said))
         self.assertEqual(list(self.home.iterdir()), [])
 
     def test_what_cannot_be_learned(self):
-        text = '#!/bin/sh\n[ "$3" = --help ] && echo --policy && exit\necho "run.check:1: why" >&2\nexit 3\n'
+        text = '#!/bin/sh\n[ "$1" = --version ] && exit\necho "run.check:1: why" >&2\nexit 3\n'
         self.put("bad", text).chmod(0o755)
         ended = self.run_module("try", "--program", self.room / "bad", "--", "touch", "ran", cwd=self.home)
         said = f"landtree: {self.home}/landtree.try/run.check: no profile is learned: run.check:1: why\n"

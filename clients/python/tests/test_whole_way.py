@@ -2,7 +2,7 @@
 
 A program is recorded, its profile is learned, and it is run under this profile by the kernel: it must end as it did
 unconfined, and the kernel may deny no call. Then single rights are left out, 100 of all programs: each time the kernel
-must deny a call. Where the program has no command `learn` yet, a stand-in learns.
+must deny a call.
 """
 
 import hashlib
@@ -42,7 +42,7 @@ def left(folder, is_same):
 class WholeWay(Case):
     def setUp(self):
         super().setUp()
-        self.commands = Commands(self.learner(), timeout=LONGEST)
+        self.commands = Commands(PROGRAM, timeout=LONGEST)
         self.work = self.room / "work"
         self.policy = self.room / "policy.toml"
 
