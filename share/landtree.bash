@@ -2,7 +2,7 @@
 _landtree() {
     local word=${COMP_WORDS[COMP_CWORD]} before=${COMP_WORDS[COMP_CWORD - 1]} options
     if [ "$COMP_CWORD" -eq 1 ]; then
-        options="run audit schedule rights why check serve export help --explain --help --version"
+        options="run audit schedule rights why learn check serve export help --explain --help --version"
         mapfile -t COMPREPLY < <(compgen -W "$options" -- "$word")
         return
     fi
@@ -23,11 +23,11 @@ _landtree() {
         mapfile -t COMPREPLY < <(compgen -W "tcp ioctl_dev signal abstract_unix_socket" -- "$word")
         return
         ;;
-    --root | --also)
+    --root | --also | --beneath)
         mapfile -t COMPREPLY < <(compgen -d -- "$word")
         return
         ;;
-    --nodes | --history | --from | --to | --profile | --port | --workers | --connections | --idle | --room) return ;;
+    --nodes | --history | --from | --to | --profile | --port | --workers | --connections | --idle | --room | --client | --name | --never | --most) return ;;
     esac
     case ${COMP_WORDS[1]} in
     run) options="--nodes --abi --history --policy --profile --save --strict --explain --help" ;;
@@ -35,6 +35,7 @@ _landtree() {
     schedule) options="--nodes --abi --history --picture --from --to --explain --help" ;;
     rights) options="--policy --profile --nodes --layers --explain --help" ;;
     why) options="--policy --profile --nodes --explain --help" ;;
+    learn) options="--policy --history --client --name --never --beneath --most --nodes --explain --help" ;;
     check) options="--nodes --abi --policy --profile --quiet --verbose --explain --help" ;;
     serve)
         options="--port --workers --connections --idle --room --log --nodes --abi --history --policy --profile --save --explain --help"
@@ -42,7 +43,7 @@ _landtree() {
     export)
         options="--policy --profile --as --root --also --follow --deny --exact --best-effort --checked --explain --help"
         ;;
-    help) options="run audit schedule rights why check serve export" ;;
+    help) options="run audit schedule rights why learn check serve export" ;;
     *) return ;;
     esac
     case $word in

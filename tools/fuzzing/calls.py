@@ -20,6 +20,8 @@ def beneath(path, top):
 class Maker:
     """Makes calls, most of which find what they name: it takes in what was answered before."""
 
+    words, names = [*CALLS, *OFTEN], ["a", "a", "b", "b", "c", "=", "x" * 255]
+
     def __init__(self, rng):
         self.rng, self.kinds = rng, {"/": "dir"}
         self.opened, self.rulesets = {1: 0}, {1: 0}
@@ -64,7 +66,7 @@ class Maker:
     # ---- parts of calls
 
     def under(self, path):
-        return f"{path.rstrip('/')}/{self.rng.choice(['a', 'a', 'b', 'b', 'c', '=', 'x' * 255])}"
+        return f"{path.rstrip('/')}/{self.rng.choice(self.names)}"
 
     def there(self, kinds=KINDS):
         """A path that is there, of such a kind where one is; seldom the root."""
@@ -121,7 +123,7 @@ class Maker:
     # ---- calls
 
     def call(self, client):
-        word = self.rng.choice([*CALLS, *OFTEN])
+        word = self.rng.choice(self.words)
         if self.rng.random() < 0.8:
             word = "open" if word in ON_DESCRIPTOR and not self.opened[client] else word
             word = "stat" if word in ("allow", "confine") and not self.rulesets[client] else word
