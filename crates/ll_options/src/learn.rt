@@ -56,7 +56,7 @@ pub struct LearnOptions<'a> {
 
 impl<'a> LearnOptions<'a> {
     ghost use Rattle.clap.specs.Words.{found_of, rows_of};
-    ghost use Rattle.ll_options.specs.Options.{fits_learn, learn_in, learn_order, lessons_by, lessons_of};
+    ghost use Rattle.ll_options.specs.Options.{learn_in, learn_order, lessons_by, lessons_of};
 
     /// Reads the options of `learn` from clap's matches. Errors: memory ran out.
     #[tactic(auto, using(crate::proofs::Numbers::text_told))]
@@ -99,14 +99,6 @@ impl<'a> LearnOptions<'a> {
             ([], None, Some(history)) => Some(Lessons::History(history, self.client)),
             _ => None,
         }
-    }
-
-    /// Reports whether the options fit together: files of checks with a policy and without a client, or a history
-    /// alone.
-    pub fn fit(&self) -> bool
-        ensures { result ≡ fits_learn (learn_in self.now) }
-    {
-        self.lessons().is_some()
     }
 }
 
