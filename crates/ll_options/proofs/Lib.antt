@@ -1,9 +1,0 @@
-pub mod Entered
-pub mod ArgumentsUsed
-pub mod Matched
-pub mod Numbers
-pub mod BuiltRows
-pub mod Defaults
-pub mod Ordered
-pub mod Added
-pub mod DeniedWords

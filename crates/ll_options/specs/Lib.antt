@@ -1,2 +1,0 @@
-pub mod Apps
-pub mod Options

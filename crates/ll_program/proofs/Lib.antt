@@ -1,0 +1,11 @@
+pub mod Entered
+pub mod ArgumentsUsed
+pub mod Matched
+pub mod Numbers
+pub mod BuiltRows
+pub mod Defaults
+pub mod Ordered
+pub mod Added
+pub mod DeniedWords
+pub mod Known
+pub mod Stopping

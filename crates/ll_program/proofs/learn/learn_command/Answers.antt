@@ -1,0 +1,46 @@
+use Rattle.std.proofs.Common.{IfOk, List, ap, ap₂, codes, map, refl, subst, sym, ◌∙◌, ◌∷◌, ◌≡◌, fold}
+use Rattle.clap.specs.Words.{Rule, app_of, new_app, rule_of, with_rule}
+use Rattle.clap.specs.declared.builder.arg.Arg.{Arg}
+use Rattle.ll_program.proofs.Added.{AreLocal, several}
+use Rattle.ll_program.proofs.learn.learn_command.Goals as goal
+
+pub returns-clause-app : goal.returns-clause-app
+returns-clause-app c =
+    subst (λ (rules : List Rule). IfOk c.command_of.result
+    (λ command. app_of command ≡ fold with_rule (new_app (codes "learn")) rules))
+    (ap (map rule_of) c.in_ok-arguments.ensures.items
+    ∙ ap₂ ◌∷◌ (c.one_or_more.ensures.rule ∙ ap several (ap rule_of c.help-files.ensures ∙ c.new.ensures.rule))
+    (ap₂ ◌∷◌ c.policy_option.ensures.rule
+    (ap₂ ◌∷◌ c.saved_option.ensures.rule
+    (ap₂ ◌∷◌ c.client_option.ensures.rule
+    (ap₂ ◌∷◌ c.valued.ensures.rule
+    (ap₂ ◌∷◌ c.valued-2.ensures.rule
+    (ap₂ ◌∷◌ c.repeated.ensures.rule
+    (ap₂ ◌∷◌ c.most_option.ensures.rule
+    (ap₂ ◌∷◌ c.nodes_option.ensures.rule refl)))))))))
+    c.command_of.ensures.app
+
+pub command_of-requires : goal.command_of-requires
+command_of-requires c =
+    subst AreLocal (sym c.in_ok-arguments.ensures.items) (
+      c.one_or_more.ensures.local ∙ (ap (λ (a : Arg). a.global) c.help-files.ensures ∙ c.new.ensures.optional.1),
+      (
+        c.policy_option.ensures.local,
+        (
+          c.saved_option.ensures.local,
+          (
+            c.client_option.ensures.local,
+            (
+              c.valued.ensures.local,
+              (
+                c.valued-2.ensures.local,
+                (
+                  c.repeated.ensures.local,
+                  (c.most_option.ensures.local, (c.nodes_option.ensures.local, tt)),
+                ),
+              ),
+            ),
+          ),
+        ),
+      ),
+    )

@@ -1,0 +1,45 @@
+use Rattle.std.proofs.Common.{◌≡◌, ◌+◌, ◌++◌, ◌∷◌, [], ℕ, List, add-one, map, take, drop, drop-cons, get_or, ap, sym}
+use Rattle.std.proofs.Common.{subst, ◌∙◌}
+use Rattle.std.proofs.Common.{inl, inr, refl}
+use Rattle.std.specs.Borrow.{Bor}
+use Rattle.std.proofs.lemmas.List.{take_more}
+use Rattle.ll_path.specs.Path.{path_of_text}
+use Rattle.ll_program.specs.Paths.{HasBadWord}
+use Rattle.ll_program.proofs.paths.paths_of.Goals as goal
+
+map_more : (words : List (Bor (List ℕ))) (word : Bor (List ℕ))
+    → map path_of_text (map (λ w. w.now) (words ++ word ∷ []))
+    ≡ map path_of_text (map (λ w. w.now) words) ++ path_of_text word.now ∷ []
+map_more [] word = refl
+map_more (w ∷ words) word = ap (λ l. path_of_text w.now ∷ l) (map_more words word)
+
+none : Bor (List ℕ)
+none = record { ref_ptr = (0, 0); now = [] }
+
+pub loop-word-preserved : goal.loop-word-preserved
+unfolding none
+loop-word-preserved c =
+    let words = c.args.words.now in
+    let i = c.loop-word.word-index in
+    let word = get_or words i none in
+    let split : drop i words ≡ word ∷ drop (i + 1) words =
+    drop-cons words i none c.loop-word-test.true ∙ ap (λ k. word ∷ drop k words) (sym (add-one i)) in
+    let last : take (i + 1) words ≡ take i words ++ word ∷ [] = take_more words i none c.loop-word-test.true in
+    record {
+      so_far = c.in-Ok-push_path.ensures.ok ∙ ap (λ p. c.loop-word.paths.items ++ p ∷ []) c.in-Ok.ensures.path
+          ∙ ap (λ l. l ++ path_of_text word.now ∷ []) c.loop-word.invariant.so_far
+          ∙ sym (ap (λ l. map path_of_text (map (λ w. w.now) l)) last ∙ map_more (take i words) word);
+      bad = λ h. c.loop-word.invariant.bad (subst (λ (l : List (Bor (List ℕ))). HasBadWord (map (λ w. w.now) l))
+          (sym split) (inr h));
+    }
+
+pub returns-in-Err-clause-bad : goal.returns-in-Err-clause-bad
+unfolding none
+returns-in-Err-clause-bad c told =
+    let words = c.args.words.now in
+    let i = c.loop-word.word-index in
+    let word = get_or words i none in
+    let split : drop i words ≡ word ∷ drop (i + 1) words =
+    drop-cons words i none c.loop-word-test.true ∙ ap (λ k. word ∷ drop k words) (sym (add-one i)) in
+    c.loop-word.invariant.bad (subst (λ (l : List (Bor (List ℕ))). HasBadWord (map (λ w. w.now) l)) (sym split)
+    (inl (c.in-Err.ensures.bad told)))

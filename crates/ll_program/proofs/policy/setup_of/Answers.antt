@@ -1,0 +1,37 @@
+use Rattle.ll_program.specs.Options.{tree_in}
+use Rattle.ll_program.proofs.Known.{a_text, same_text, set_by_level, set_by_plan, unread}
+use Rattle.ll_program.proofs.policy.setup_of.Goals as goal
+
+pub returns-then-is_none-clause-setup : goal.returns-then-is_none-clause-setup
+returns-then-is_none-clause-setup g c =
+    let text = a_text (g.R.Read.remaining c.args.file.now) in (
+      text.0,
+      text.1,
+      (
+        c.by_level.ensures.nodes,
+        c.by_level.ensures.history,
+        set_by_level c.args.options.now text.0 c.by_level.result c.if-is_none.ensures c.by_level.ensures.setup,
+      ),
+    )
+
+pub returns-in-Err-clause-failure : goal.returns-in-Err-clause-failure
+returns-in-Err-clause-failure g c =
+    let text = a_text (g.R.Read.remaining c.args.file.now) in
+    (text.0, text.1, unread (tree_in c.args.options.now) text.0 c.in-Err.failure c.in-Err.ensures.failure)
+
+pub returns-clause-failure : goal.returns-clause-failure
+returns-clause-failure g c = (
+  c.as_slice.result.now,
+  same_text (g.R.Read.remaining c.args.file.now) c.as_slice.result.now c.in-Ok.text.items c.as_slice.ensures.value
+      c.in-Ok.ensures.text,
+  c.in-Err-policy_of.ensures.failure (tree_in c.args.options.now),
+)
+
+pub returns-in-Ok-policy_of-clause-setup : goal.returns-in-Ok-policy_of-clause-setup
+returns-in-Ok-policy_of-clause-setup g c =
+    set_by_plan c.args.options.now c.as_slice.result.now (g.R.Read.remaining c.args.file.now) c.in-Ok-policy_of.policy
+    c.by_policy.result
+    (same_text (g.R.Read.remaining c.args.file.now) c.as_slice.result.now c.in-Ok.text.items
+    c.as_slice.ensures.value c.in-Ok.ensures.text)
+    c.if-is_none.ensures c.in-Ok-policy_of.ensures.plan c.by_policy.ensures.nodes c.by_policy.ensures.history
+    c.by_policy.ensures.setup

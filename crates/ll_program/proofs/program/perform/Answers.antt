@@ -1,0 +1,13 @@
+use Rattle.std.proofs.Common.{rules}
+use Rattle.ll_program.proofs.Stopping.{by_devices, moved}
+use Rattle.ll_program.proofs.program.perform.Goals as goal
+
+pub returns-clause-transcript : goal.returns-clause-transcript
+returns-clause-transcript g c =
+    moved c.perform_over.result c.args.setup c.args.is_strict (λ it. it.stop) (λ it. it.run.history.entries)
+    (g.R.Read.remaining c.args.script.now) (g.R.Read.remaining c.perform_over.new.ends.reader.now) _
+    (g.W.Write.contents c.args.out.now) (g.W.Write.contents c.perform_over.new.ends.writer.now) _ (search rules)
+    (search rules) c.perform_over.ensures.transcript
+
+pub returns-clause-failure : goal.returns-clause-failure
+returns-clause-failure g c = by_devices c.perform_over.result c.args.setup _ _ c.perform_over.ensures.failure

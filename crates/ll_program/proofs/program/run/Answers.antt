@@ -1,0 +1,53 @@
+use Rattle.std.proofs.Common.{List, Option, inl, inr, subst, ℕ}
+use Rattle.ll_program.specs.Options.{TreeOrder, order_in}
+use Rattle.ll_program.specs.Policy.{IsSaved, IsSetup}
+use Rattle.ll_program.proofs.Known.{lacking}
+use Rattle.ll_program.proofs.Stopping.{untold}
+use Rattle.ll_program.proofs.program.run.Goals as goal
+
+pub returns-in-Err-clause-failure : goal.returns-in-Err-clause-failure
+returns-in-Err-clause-failure g c =
+    let h = c.in-Err.ensures.failure in
+    let order = order_in c.args.options.now in
+    (h.0, h.1, inl (lacking order c.tree.result h.0 c.in-Err.failure c.tree.ensures c.in-Err.ensures.named h.2))
+
+pub returns-in-Err-perform-clause-failure : goal.returns-in-Err-perform-clause-failure
+returns-in-Err-perform-clause-failure g c =
+    let s = c.in-Ok.ensures.setup in
+    let h = c.in-Err-perform.ensures.failure in
+    let set = subst (λ (o : TreeOrder). IsSetup o s.0 c.in-Ok.setup) c.tree.ensures s.2 in
+    (s.0, s.1, inr (inl (c.in-Ok.setup, set, h.0, h.1, h.2)))
+
+pub returns-in-Err-conclude-clause-failure : goal.returns-in-Err-conclude-clause-failure
+returns-in-Err-conclude-clause-failure g c =
+    let s = c.in-Ok.ensures.setup in
+    untold (order_in c.args.options.now) (g.P.Read.remaining c.args.policy.now) c.in-Ok.setup
+    (s.0, s.1, subst (λ (o : TreeOrder). IsSetup o s.0 c.in-Ok.setup) c.tree.ensures s.2)
+    c.in-Err-conclude.failure c.in-Err-conclude.ensures.failure
+
+pub returns-in-Ok-save_where_named-clause-done : goal.returns-in-Ok-save_where_named-clause-done
+returns-in-Ok-save_where_named-clause-done g c =
+    let p = c.in-Ok-perform in
+    let s = c.in-Ok.ensures.setup in
+    let order = order_in c.args.options.now in
+    let old = g.F.Destination.contents c.args.file.now in
+    let new = g.F.Destination.contents c.save_where_named.new.file in
+    let entries = p.it.run.history.entries in
+    let saved = c.in-Ok-save_where_named.ensures.saved c.in-Ok.setup c.header_of-header.ensures.header in (
+      s.0,
+      s.1,
+      (
+        c.in-Ok.setup,
+        entries,
+        p.it.stop,
+        subst (λ (o : TreeOrder). IsSetup o s.0 c.in-Ok.setup) c.tree.ensures s.2,
+        p.ensures.legal,
+        p.ensures.transcript,
+        p.ensures.lax,
+        subst (λ (b : Option (List ℕ)). IsSaved order.save c.in-Ok.setup entries b old new)
+            c.begin_record-record.ensures.again
+            (subst (λ (old : Option (List ℕ)). IsSaved order.save c.in-Ok.setup entries
+            (g.F.Destination.blank c.begin_record-record.new.file) old new) c.begin_record-record.ensures.same saved),
+        c.in-Ok-conclude.ensures.end,
+      ),
+    )

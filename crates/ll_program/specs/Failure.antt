@@ -1,0 +1,157 @@
+-- How the program ends where it fails. own
+use Rattle.std.specs.Prelude.{◌≡◌, ◌≢◌, ◌⊎◌, ◌++◌, ⊤, ℕ, Bool, true, List, Option, Some, None, Result, Ok, Err, codes}
+use Rattle.std.specs.Prelude.{IfSome, decimal}
+use Rattle.clap.specs.declared.error.kind.ErrorKind.{ErrorKind}
+use Rattle.clap.specs.declared.error.kind.ErrorKind.TheVariants.{DisplayHelp, DisplayVersion}
+use Rattle.clap.specs.declared.error.kind.ErrorKind.TheVariants as kind
+use Rattle.ll_policy.specs.declared.fault.PolicyFault.{PolicyFault}
+use Rattle.ll_policy.specs.declared.fault.PolicyFault.TheVariants as wrong
+use Rattle.ll_session.specs.declared.fault.RunFault.{RunFault}
+use Rattle.ll_session.specs.declared.fault.RunFault.TheVariants as run
+use Rattle.ll_session.specs.declared.stop.Stop.{Stop}
+use Rattle.ll_session.specs.declared.stop.Stop.TheVariants.{AtLine, AtOpening}
+use Rattle.ll_wire.specs.declared.fault.SessionFault.{SessionFault}
+use Rattle.ll_wire.specs.declared.fault.SessionFault.TheVariants as session
+use Rattle.ll_audit.specs.declared.auditing.FileAuditFault.{FileAuditFault}
+use Rattle.ll_audit.specs.declared.auditing.FileAuditFault.TheVariants as audit
+use Rattle.ll_audit.specs.declared.saving.SaveFault.{SaveFault}
+use Rattle.ll_audit.specs.declared.saving.SaveFault.TheVariants as saving
+use Rattle.ll_audit.specs.declared.verdict.Verdict.TheVariants.{Legal, Illegal, BadLine}
+use Rattle.ll_audit.specs.Saved.{Judges}
+use Rattle.ll_wire.specs.Grammar.{reply_line}
+use Rattle.ll_wire.specs.Pieces.{pieces}
+use Rattle.ll_program.specs.declared.failure.Failure.{Failure}
+use Rattle.ll_program.specs.declared.failure.Failure.TheVariants.{CommandLine, Policy, Opening, File, Output, Socket}
+use Rattle.ll_program.specs.declared.failure.Failure.TheVariants.{NoMemory}
+use Rattle.ll_program.specs.declared.conclusion.Conclusion.{Conclusion}
+use Rattle.ll_program.specs.declared.conclusion.Conclusion.TheVariants.{Checked, Done, Judged, Stopped}
+use Rattle.ll_program.specs.declared.checked.Checked.TheVariants as checked
+
+abbrev pub failure_in_session : SessionFault → Failure
+failure_in_session session.Read = File
+failure_in_session session.Write = Output
+failure_in_session session.NoMemory = NoMemory
+failure_in_session session.TooLong = File
+
+abbrev pub failure_of : RunFault → Failure
+failure_of run.Opening = Opening
+failure_of (run.Session fault) = failure_in_session fault
+
+abbrev pub failure_in : PolicyFault → Failure
+failure_in wrong.NoMemory = NoMemory
+failure_in fault = Policy fault
+
+abbrev pub status_of : Failure → ℕ
+status_of CommandLine = 2
+status_of (Policy fault) = 2
+status_of Opening = 2
+status_of File = 1
+status_of Output = 1
+status_of Socket = 1
+status_of NoMemory = 4
+
+-- help and the version are no failure
+abbrev pub failure_by : ErrorKind → Option Failure
+failure_by DisplayHelp = None
+failure_by DisplayVersion = None
+failure_by kind.OutOfMemory = Some NoMemory
+failure_by _ = Some CommandLine
+
+abbrev pub failure_by_saving : SaveFault → Failure
+failure_by_saving saving.Write = File
+failure_by_saving saving.NoMemory = NoMemory
+
+abbrev pub failure_at : FileAuditFault → Failure
+failure_at audit.Read = File
+failure_at audit.Write = Output
+failure_at audit.NoMemory = NoMemory
+
+-- 3 only for a history that isn't found legal, for checks of which one fails, and for a strict run that ends early
+abbrev pub status_by : Conclusion → ℕ
+status_by Done = 0
+status_by (Stopped stopped) = 3
+status_by (Judged (Legal entries)) = 0
+status_by (Judged (Illegal entry)) = 3
+status_by (Judged (BadLine line)) = 3
+status_by (Checked checked.Passed) = 0
+status_by (Checked checked.Failed) = 3
+status_by (Checked checked.BadLine) = 2
+
+abbrev pub status_at : Result Conclusion Failure → ℕ
+status_at (Ok conclusion) = status_by conclusion
+status_at (Err failure) = status_of failure
+
+-- the line on standard error; which fault of a policy it tells, no definition says
+abbrev pub line_of : Failure → Option (List ℕ)
+line_of CommandLine = Some (codes "landtree: command line")
+line_of (Policy fault) = None
+line_of Opening = Some (codes "landtree: opening call refused")
+line_of File = Some (codes "landtree: file")
+line_of Output = Some (codes "landtree: output")
+line_of Socket = Some (codes "landtree: socket")
+line_of NoMemory = Some (codes "landtree: no memory")
+
+-- where a strict run of the script with this name has ended, and the line of the reply
+abbrev pub stop_line : List ℕ → Stop → List ℕ
+stop_line script (AtLine line reply) = script ++ (codes ":" ++ decimal line ++ codes ": ") ++ reply_line reply
+stop_line script (AtOpening reply) = script ++ codes ": before line 1: " ++ reply_line reply
+
+-- saving a history, drawing a picture: its file or memory
+abbrev pub IsOfSaving : Failure → Type 0
+IsOfSaving File = ⊤
+IsOfSaving NoMemory = ⊤
+IsOfSaving failure = ⊥
+
+-- an audit, a schedule: its file or its picture's, its output, memory
+abbrev pub IsOfDevices : Failure → Type 0
+IsOfDevices File = ⊤
+IsOfDevices Output = ⊤
+IsOfDevices NoMemory = ⊤
+IsOfDevices failure = ⊥
+
+-- an audit ends with the answer for the bytes of its file, where these are known
+abbrev pub EndsAudit : Option (List ℕ) → Result Conclusion Failure → Type 0
+EndsAudit text (Ok Done) = ⊥
+EndsAudit text (Ok (Stopped stopped)) = ⊥
+EndsAudit text (Ok (Judged verdict)) = IfSome text (λ bytes. Judges (pieces bytes) verdict)
+EndsAudit text (Ok (Checked end)) = ⊥
+EndsAudit text (Err failure) = IsOfDevices failure
+
+abbrev pub EndsSchedule : Result Conclusion Failure → Type 0
+EndsSchedule (Ok Done) = ⊤
+EndsSchedule (Ok (Stopped stopped)) = ⊥
+EndsSchedule (Ok (Judged verdict)) = ⊥
+EndsSchedule (Ok (Checked end)) = ⊥
+EndsSchedule (Err failure) = IsOfDevices failure
+
+-- Serving is done, or ends by a failure: by a wrong command line only for a profile that is asked for and not there
+abbrev pub EndsServe : Option (List ℕ) → Result Conclusion Failure → Type 0
+EndsServe profile (Ok Done) = ⊤
+EndsServe profile (Ok (Stopped stopped)) = ⊥
+EndsServe profile (Ok (Judged verdict)) = ⊥
+EndsServe profile (Ok (Checked end)) = ⊥
+EndsServe profile (Err CommandLine) = profile ≢ None
+EndsServe profile (Err (Policy fault)) = ⊤
+EndsServe profile (Err Opening) = ⊤
+EndsServe profile (Err File) = ⊤
+EndsServe profile (Err Output) = ⊤
+EndsServe profile (Err Socket) = ⊤
+EndsServe profile (Err NoMemory) = ⊤
+
+-- what keeps a profile from being exported where nothing is run: any failure but a refused call and a listener's
+abbrev pub IsOfExport : Failure → Type 0
+IsOfExport CommandLine = ⊤
+IsOfExport (Policy fault) = ⊤
+IsOfExport Opening = ⊥
+IsOfExport File = ⊤
+IsOfExport Output = ⊤
+IsOfExport Socket = ⊥
+IsOfExport NoMemory = ⊤
+
+-- A profile is exported, or why not. Where it must pass checks first, checks that don't pass may end it, or any failure
+abbrev pub EndsExport : (is_checked : Bool) → Result Conclusion Failure → Type 0
+EndsExport is_checked (Ok Done) = ⊤
+EndsExport is_checked (Ok (Stopped stopped)) = ⊥
+EndsExport is_checked (Ok (Judged verdict)) = ⊥
+EndsExport is_checked (Ok (Checked end)) = (is_checked ≡ true) × (end ≢ checked.Passed)
+EndsExport is_checked (Err failure) = (is_checked ≡ true) ⊎ IsOfExport failure

@@ -1,0 +1,122 @@
+-- What the words and the policy's file set up. own
+use Rattle.std.specs.Prelude.{bytes_eq, ◌≡◌, ◌≢◌, ◌⊎◌, ⊤, ℕ, true, List, [], Option, Some, None, option_map, slice_get}
+use Rattle.std.specs.Prelude.{false, unwrap_or, is_some, IfSome, string_bytes, Result, Ok, Err}
+use Rattle.std.specs.Io.KnownBytes.{Appends}
+use Rattle.std.specs.Map.{lookup}
+use Rattle.std.specs.Str.{IsUtf8}
+use Rattle.toml.specs.Parse.{parse_document}
+use Rattle.ll_seq.specs.declared.call.Call.{Call}
+use Rattle.ll_seq.specs.declared.reply.Entry.{Entry}
+use Rattle.ll_seq.specs.History.{IsLegal}
+use Rattle.ll_seq.specs.State.{start}
+use Rattle.ll_policy.specs.declared.fault.PolicyFault.TheVariants.{NotToml}
+use Rattle.ll_policy.specs.Faults.{document_faults}
+use Rattle.ll_policy.specs.Plan.{Plan, IsPlanOf}
+use Rattle.ll_program.specs.declared.failure.Failure.{Failure}
+use Rattle.ll_program.specs.declared.failure.Failure.TheVariants.{CommandLine, Policy, Opening, File, Output, Socket}
+use Rattle.ll_program.specs.declared.failure.Failure.TheVariants.{NoMemory}
+use Rattle.ll_session.specs.declared.fault.RunFault.{RunFault}
+use Rattle.ll_session.specs.declared.setup.Setup.{Setup}
+use Rattle.ll_session.specs.declared.stop.Stop.{Stop}
+use Rattle.ll_program.specs.declared.conclusion.Conclusion.{Conclusion}
+use Rattle.ll_program.specs.declared.conclusion.Conclusion.TheVariants.{Checked, Done, Judged, Stopped}
+use Rattle.ll_program.specs.Failure.{failure_of, IsOfSaving, stop_line}
+use Rattle.ll_program.specs.Sources.{named, text_in}
+use Rattle.ll_wire.specs.declared.header.Header.{Header}
+use Rattle.ll_wire.specs.declared.header.Version.TheVariants.{Three}
+use Rattle.ll_session.specs.Run.{MayEnd, RunsAs}
+use Rattle.ll_wire.specs.Transcript.{Writes}
+use Rattle.ll_audit.specs.Saved.{saved_text}
+use Rattle.ll_program.specs.Options.{RunOrder, TreeOrder, tree_of}
+
+-- the calls of the profile that is wanted, none where none is. There is no answer where the plan hasn't that profile
+abbrev pub profile_of : Option (List ℕ) → Plan → Option (List Call)
+profile_of None plan = Some []
+profile_of (Some name) plan = lookup (bytes_eq name) plan.profiles
+
+-- the setup by a policy with this plan
+pub record ByPlan (order : TreeOrder) (plan : Plan) (setup : Setup) : Type 0 where
+  pub rules : setup.rules ≡ record { abi = plan.abi; copies = true }
+  pub loader : option_map (λ calls. calls.items) setup.loader ≡ Some plan.opening
+  pub profile : Some setup.profile.items ≡ profile_of order.profile plan
+
+-- the setup without a policy
+pub record ByLevel (order : TreeOrder) (setup : Setup) : Type 0 where
+  pub rules : setup.rules ≡ record { abi = unwrap_or order.level 3; copies = true }
+  pub loader : setup.loader ≡ None
+  pub profile : setup.profile.items ≡ []
+
+-- the setup by the policy in this text, if a file of one is named
+abbrev pub IsSetBy : Option (List ℕ) → TreeOrder → List ℕ → Setup → Type 0
+IsSetBy None order text setup = ByLevel order setup
+IsSetBy (Some file) order text setup = (plan : Plan) × IsPlanOf (parse_document text) plan × ByPlan order plan setup
+
+-- The setup that is wanted, where the policy's file has this text
+abbrev pub IsSetup : TreeOrder → List ℕ → Setup → Type 0
+IsSetup order text setup =
+    (setup.nodes ≡ order.nodes) × (setup.history ≡ order.history) × IsSetBy order.policy order text setup
+
+-- Why there is no setup: the first of what is wrong with the policy's text, a profile that a right policy
+-- hasn't, a file that can't be read, want of memory
+abbrev pub Lacks : TreeOrder → List ℕ → Failure → Type 0
+Lacks order text (Policy fault) =
+    ((IsUtf8 text → ⊥) × (fault ≡ NotToml))
+    ⊎ (IsUtf8 text × (slice_get (document_faults (parse_document text)) 0 ≡ Some fault))
+Lacks order text CommandLine =
+    (plan : Plan) × IsPlanOf (parse_document text) plan × (profile_of order.profile plan ≡ None)
+Lacks order text File = ⊤
+Lacks order text NoMemory = ⊤
+Lacks order text Opening = ⊥
+Lacks order text Output = ⊥
+Lacks order text Socket = ⊥
+
+-- the header of the history of a run that is set up so
+abbrev pub header_of : Setup → Header
+header_of setup = record { version = Three setup.rules.abi; nodes = setup.nodes }
+
+-- what stands in a file: where it is named, a run's history under the header of that run, written into what was blank;
+-- and else what stood there
+abbrev pub IsSaved : Option (List ℕ) → Setup → List Entry → (blank old new : Option (List ℕ)) → Type 0
+IsSaved None setup entries blank old new = new ≡ old
+IsSaved (Some name) setup entries blank old new = Appends blank new (saved_text (header_of setup) entries)
+
+-- what the program concludes from what ended a strict run of the script with this name, if anything did
+abbrev pub IsConcluded : List ℕ → Option Stop → Conclusion → Type 0
+IsConcluded script None end = end ≡ Done
+IsConcluded script (Some stop) (Stopped stopped) = string_bytes stopped.line ≡ stop_line script stop
+IsConcluded script (Some stop) Done = ⊥
+IsConcluded script (Some stop) (Judged verdict) = ⊥
+IsConcluded script (Some stop) (Checked end) = ⊥
+
+-- A run of the setup that is wanted, where the policy's file has this text: what was read of the script and written,
+-- and what is saved, are of one history, which is legal in the setup's tree. It is concluded by what ended it: only a
+-- strict run is ended before its script
+abbrev pub IsRun : RunOrder → List ℕ → Conclusion → (script script' out out' blank file file' : Option (List ℕ))
+    → Type 0
+IsRun order text end script script' out out' blank file file' =
+    (setup : Setup) × (entries : List Entry) × (stop : Option Stop) × IsSetup (tree_of order) text setup
+    × IsLegal (start setup.rules setup.nodes) entries
+    × IfSome script (λ input. Writes out out' (λ written.
+    RunsAs order.strict setup input script' written stop entries))
+    × (order.strict ≡ false → stop ≡ None)
+    × IsSaved order.save setup entries blank file file' × IsConcluded order.script stop end
+
+-- Why nothing is run to its end and saved: a policy is named, and there is no setup by it, or a fault ends the run of
+-- the setup there is, or a history that is to be saved can't be
+abbrev pub MayFail : RunOrder → List ℕ → Failure → Type 0
+MayFail order text failure =
+    ((is_some order.policy ≡ true) × Lacks (tree_of order) text failure)
+    ⊎ ((setup : Setup) × IsSetup (tree_of order) text setup × (fault : RunFault)
+    × MayEnd setup fault × (failure ≡ failure_of fault))
+    ⊎ ((is_some order.save ≡ true) × IsOfSaving failure)
+
+-- A run ends so, where the files have these texts: it is done, or stopped, as one of the script that is named; or it
+-- fails, by a wrong command line only for a profile that is asked for and not there, and never by a listener
+abbrev pub EndsRun : (texts : Option (List ℕ) → Option (List ℕ)) → RunOrder → Result Conclusion Failure → Type 0
+EndsRun texts order (Ok end) =
+    (text : List ℕ) × (script' out out' blank file file' : Option (List ℕ))
+    × IfSome (text_in texts order.policy) (λ told. text ≡ told)
+    × IsRun order text end (texts (named order.script)) script' out out' blank file file'
+EndsRun texts order (Err CommandLine) = order.profile ≢ None
+EndsRun texts order (Err Socket) = ⊥
+EndsRun texts order (Err failure) = ⊤

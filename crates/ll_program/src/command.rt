@@ -1,0 +1,555 @@
+//! The command line that clap reads.
+
+ghost use Rattle.std.specs.List.{AllByRecursion, fold};
+ghost use Rattle.std.specs.Prelude.{◌≡◌, ◌≤◌, codes, map, IfOk, Some, false, true};
+ghost use Rattle.clap.specs.Lexer.{usize_max};
+ghost use Rattle.clap.specs.Words.{App, app_of, new_app, new_rule, rule_of, with_rule, with_subcommand};
+ghost use Rattle.clap.specs.declared.builder.command.Command.TheViews.{out-Command as fields_of};
+ghost use Rattle.clap.specs.declared.builder.value_parser.ValueParser.TheVariants.{Unsigned};
+ghost use Rattle.ll_program.specs.Options.{abi, audit, check, connections, export, flag, history};
+ghost use Rattle.ll_program.specs.Options.{idle, landtree, line_number, nodes, port, repeated, rights, room};
+ghost use Rattle.ll_program.specs.Options.{run, schedule, serve, valued, why, workers};
+
+use crate::learn::learn_command;
+use crate::options::LINES;
+use crate::serve::{CONNECTIONS, IDLE_SECONDS, PORTS, ROOM_MEGABYTES, WORKERS};
+use clap::{Arg, ArgAction, Command, value_parser};
+use ll_rights::limits::{HISTORY_ENTRIES, TREE_NODES};
+use std::alloc::{AllocError, Global};
+
+// An option with one value.
+pub(crate) fn valued<'a>(
+    alloc: Global,
+    name: &'a str,
+    value_name: &'a str,
+    help: &'a str,
+) -> Arg<'a>
+    ensures rule { rule_of result ≡ valued name.entry.now }
+    ensures local { result.global ≡ false }
+{
+    Arg::new(alloc, name)
+        .long(name)
+        .value_name(value_name)
+        .help(help)
+}
+
+// An option whose value is a number from 1 to `most`.
+pub(crate) fn numbered<'a>(
+    alloc: Global,
+    name: &'a str,
+    value_name: &'a str,
+    most: u64,
+    help: &'a str,
+) -> Arg<'a>
+    requires { most ≤ 1000000000 }
+    ensures rule { rule_of result ≡ record (valued name.entry.now) { parser = Some (Unsigned 1 most) } }
+    ensures local { result.global ≡ false }
+{
+    valued(alloc, name, value_name, help).value_parser(value_parser!(u64).range(1..=most as i64))
+}
+
+// An option without a value.
+fn flag<'a>(alloc: Global, name: &'a str, help: &'a str) -> Arg<'a>
+    ensures rule { rule_of result ≡ flag name.entry.now }
+    ensures local { result.global ≡ false }
+{
+    Arg::new(alloc, name)
+        .long(name)
+        .action(ArgAction::SetTrue)
+        .help(help)
+}
+
+// A required positional argument.
+fn demanded<'a>(alloc: Global, name: &'a str, help: &'a str) -> Arg<'a>
+    ensures rule { rule_of result ≡ record (new_rule name.entry.now) { required = true } }
+    ensures local { result.global ≡ false }
+{
+    Arg::new(alloc, name).required(true).help(help)
+}
+
+// Lets a positional argument take one value or more.
+pub(crate) fn one_or_more<'a>(argument: Arg<'a>) -> Arg<'a>
+    ensures rule { rule_of result ≡ record (rule_of argument.entry) {
+      range = Some (record { start_inclusive = 1; end_inclusive = usize_max });
+    } }
+    ensures local { result.global ≡ argument.entry.global }
+{
+    argument.num_args(1..)
+}
+
+pub(crate) fn nodes_option<'a>(alloc: Global) -> Arg<'a>
+    ensures rule { rule_of result ≡ nodes }
+    ensures local { result.global ≡ false }
+{
+    numbered(
+        alloc,
+        "nodes",
+        "N",
+        TREE_NODES as u64,
+        "How many nodes may live in the tree, the root counted",
+    )
+    .default_value("1024")
+}
+
+fn abi_option<'a>(alloc: Global, help: &'a str) -> Arg<'a>
+    ensures rule { rule_of result ≡ abi }
+    ensures local { result.global ≡ false }
+{
+    numbered(alloc, "abi", "A", 3, help)
+}
+
+fn history_option<'a>(alloc: Global) -> Arg<'a>
+    ensures rule { rule_of result ≡ history }
+    ensures local { result.global ≡ false }
+{
+    numbered(
+        alloc,
+        "history",
+        "H",
+        HISTORY_ENTRIES as u64,
+        "How many calls the tree may answer in all, each a line of its history",
+    )
+    .default_value("10000")
+}
+
+pub(crate) fn policy_option<'a>(alloc: Global) -> Arg<'a>
+    ensures rule { rule_of result ≡ valued (codes "policy") }
+    ensures local { result.global ≡ false }
+{
+    valued(
+        alloc,
+        "policy",
+        "FILE",
+        "A policy's file: nodes that are made first, layers of profiles, and the level",
+    )
+}
+
+fn profile_option<'a>(alloc: Global) -> Arg<'a>
+    ensures rule { rule_of result ≡ valued (codes "profile") }
+    ensures local { result.global ≡ false }
+{
+    valued(
+        alloc,
+        "profile",
+        "NAME",
+        "The policy's profile whose layers the first client gets",
+    )
+}
+
+fn save_option<'a>(alloc: Global) -> Arg<'a>
+    ensures rule { rule_of result ≡ valued (codes "save") }
+    ensures local { result.global ≡ false }
+{
+    valued(
+        alloc,
+        "save",
+        "FILE",
+        "The file that the history is written to at the end",
+    )
+}
+
+// A command with this help text and these arguments.
+pub(crate) fn command_of<'a>(
+    alloc: Global,
+    name: &'a str,
+    about: &'a str,
+    arguments: Vec<Arg<'a>>,
+) -> Result<Command<'a>, AllocError>
+    requires { AllByRecursion (λ argument. argument.global ≡ false) arguments.items }
+    ensures app { IfOk result (λ command. app_of command
+        ≡ fold with_rule (new_app name.entry.now) (map rule_of arguments.entry.items)) }
+    ensures local { IfOk result (λ command. (fields_of command).has_globals ≡ false) }
+{
+    Command::new(alloc, name).about(about).args(arguments)
+}
+
+fn run_command<'a>(alloc: Global) -> Result<Command<'a>, AllocError>
+    ensures app { IfOk result (λ command. app_of command ≡ run) }
+    ensures local { IfOk result (λ command. (fields_of command).has_globals ≡ false) }
+{
+    let arguments = vec![in alloc;
+        demanded(
+            alloc,
+            "SCRIPT",
+            "The script's file, or `-` for standard input"
+        ),
+        nodes_option(alloc),
+        abi_option(
+            alloc,
+            "The level of Landlock's ABI, whose rights a ruleset may handle (3; not beside a policy)",
+        ),
+        policy_option(alloc),
+        profile_option(alloc),
+        history_option(alloc),
+        save_option(alloc),
+        flag(
+            alloc,
+            "strict",
+            "End with status 3 at a line that says nothing, or whose layer or client is refused",
+        ),
+    ]?;
+    command_of(
+        alloc,
+        "run",
+        "Runs a script: a command a line in, a reply a line out",
+        arguments,
+    )
+}
+
+fn audit_command<'a>(alloc: Global) -> Result<Command<'a>, AllocError>
+    ensures app { IfOk result (λ command. app_of command ≡ audit) }
+    ensures local { IfOk result (λ command. (fields_of command).has_globals ≡ false) }
+{
+    let file = demanded(
+        alloc,
+        "FILE",
+        "The history's file, or `-` for standard input",
+    );
+    let arguments = vec![in alloc; file]?;
+    command_of(
+        alloc,
+        "audit",
+        "Judges a saved history: how many entries are legal, or the first that isn't",
+        arguments,
+    )
+}
+
+fn line_option<'a>(alloc: Global, name: &'a str, help: &'a str) -> Arg<'a>
+    ensures rule { rule_of result ≡ line_number name.entry.now }
+    ensures local { result.global ≡ false }
+{
+    numbered(alloc, name, "K", LINES, help)
+}
+
+fn schedule_command<'a>(alloc: Global) -> Result<Command<'a>, AllocError>
+    ensures app { IfOk result (λ command. app_of command ≡ schedule) }
+    ensures local { IfOk result (λ command. (fields_of command).has_globals ≡ false) }
+{
+    let arguments = vec![in alloc;
+        demanded(
+            alloc,
+            "FILE",
+            "The schedule's file, or `-` for standard input"
+        ),
+        nodes_option(alloc),
+        abi_option(
+            alloc,
+            "The level of Landlock's ABI, whose rights a ruleset may handle (3)",
+        ),
+        history_option(alloc),
+        valued(
+            alloc,
+            "picture",
+            "OUT",
+            "The file that the schedule's picture is drawn into at the end, as SVG",
+        ),
+        line_option(
+            alloc,
+            "from",
+            "The first line of the schedule that is drawn (1)"
+        ),
+        line_option(
+            alloc,
+            "to",
+            "The last line that is drawn (the schedule's last)"
+        ),
+    ]?;
+    command_of(
+        alloc,
+        "schedule",
+        "Makes steps of many clients' calls: a step a line in, what came of it a line out",
+        arguments,
+    )
+}
+
+fn rights_command<'a>(alloc: Global) -> Result<Command<'a>, AllocError>
+    ensures app { IfOk result (λ command. app_of command ≡ rights) }
+    ensures local { IfOk result (λ command. (fields_of command).has_globals ≡ false) }
+{
+    let paths = Arg::new(alloc, "PATH").help("A path; where there is none, the policy's nodes");
+    let arguments = vec![in alloc;
+        one_or_more(paths),
+        policy_option(alloc).required(true),
+        profile_option(alloc).required(true),
+        nodes_option(alloc),
+        flag(
+            alloc,
+            "layers",
+            "What each layer grants, and by the rule on which directory",
+        ),
+    ]?;
+    command_of(
+        alloc,
+        "rights",
+        "Tells which rights all layers of a profile grant on paths",
+        arguments,
+    )
+}
+
+fn check_command<'a>(alloc: Global) -> Result<Command<'a>, AllocError>
+    ensures app { IfOk result (λ command. app_of command ≡ check) }
+    ensures local { IfOk result (λ command. (fields_of command).has_globals ≡ false) }
+{
+    let files = demanded(alloc, "FILE", "Files of checks, `-` for standard input");
+    let arguments = vec![in alloc;
+        one_or_more(files),
+        nodes_option(alloc),
+        abi_option(
+            alloc,
+            "The level of Landlock's ABI, whose rights a ruleset may handle (3; not beside a policy)",
+        ),
+        policy_option(alloc),
+        profile_option(alloc),
+        flag(
+            alloc,
+            "quiet",
+            "Only how many tests pass, and how many fail"
+        ),
+        flag(
+            alloc,
+            "verbose",
+            "Each test and its reply, not only those that fail"
+        ),
+    ]?;
+    command_of(
+        alloc,
+        "check",
+        "Checks a tree's replies: a command and what must come a line, and how many were so",
+        arguments,
+    )
+}
+
+fn port_option<'a>(alloc: Global) -> Arg<'a>
+    ensures rule { rule_of result ≡ port }
+    ensures local { result.global ≡ false }
+{
+    numbered(
+        alloc,
+        "port",
+        "P",
+        PORTS,
+        "The port that is listened at, on this machine alone",
+    )
+    .required(true)
+}
+
+fn workers_option<'a>(alloc: Global) -> Arg<'a>
+    ensures rule { rule_of result ≡ workers }
+    ensures local { result.global ≡ false }
+{
+    numbered(
+        alloc,
+        "workers",
+        "W",
+        WORKERS as u64,
+        "How many connections are served at a time",
+    )
+    .default_value("4")
+}
+
+fn connections_option<'a>(alloc: Global) -> Arg<'a>
+    ensures rule { rule_of result ≡ connections }
+    ensures local { result.global ≡ false }
+{
+    numbered(
+        alloc,
+        "connections",
+        "K",
+        CONNECTIONS as u64,
+        "How many connections are served in all, before the program ends",
+    )
+    .default_value("1")
+}
+
+fn idle_option<'a>(alloc: Global) -> Arg<'a>
+    ensures rule { rule_of result ≡ idle }
+    ensures local { result.global ≡ false }
+{
+    numbered(
+        alloc,
+        "idle",
+        "S",
+        IDLE_SECONDS,
+        "After how many seconds without a byte a connection is given up",
+    )
+}
+
+fn room_option<'a>(alloc: Global) -> Arg<'a>
+    ensures rule { rule_of result ≡ room }
+    ensures local { result.global ≡ false }
+{
+    numbered(
+        alloc,
+        "room",
+        "MB",
+        ROOM_MEGABYTES,
+        "How many megabytes a connection's lines and replies may take",
+    )
+    .default_value("64")
+}
+
+fn serve_command<'a>(alloc: Global) -> Result<Command<'a>, AllocError>
+    ensures app { IfOk result (λ command. app_of command ≡ serve) }
+    ensures local { IfOk result (λ command. (fields_of command).has_globals ≡ false) }
+{
+    let arguments = vec![in alloc;
+        port_option(alloc),
+        workers_option(alloc),
+        connections_option(alloc),
+        idle_option(alloc),
+        room_option(alloc),
+        flag(alloc, "log", "Each connection and its end, a line"),
+        nodes_option(alloc),
+        abi_option(
+            alloc,
+            "The level of Landlock's ABI, whose rights a ruleset may handle (3; not beside a policy)",
+        ),
+        policy_option(alloc),
+        profile_option(alloc),
+        history_option(alloc),
+        save_option(alloc),
+    ]?;
+    command_of(
+        alloc,
+        "serve",
+        "Serves clients over TCP: a command a line in, a reply a line out, on one tree",
+        arguments,
+    )
+}
+
+// An option with a value that may be repeated.
+pub(crate) fn repeated<'a>(
+    alloc: Global,
+    name: &'a str,
+    value_name: &'a str,
+    help: &'a str,
+) -> Arg<'a>
+    ensures rule { rule_of result ≡ repeated name.entry.now }
+    ensures local { result.global ≡ false }
+{
+    valued(alloc, name, value_name, help).action(ArgAction::Append)
+}
+
+fn form_option<'a>(alloc: Global) -> Arg<'a>
+    ensures rule { rule_of result ≡ record (valued (codes "as")) { required = true } }
+    ensures local { result.global ≡ false }
+{
+    valued(
+        alloc,
+        "as",
+        "FORM",
+        "What is written: c, a C program that confines itself so, or json",
+    )
+    .required(true)
+}
+
+fn export_command<'a>(alloc: Global) -> Result<Command<'a>, AllocError>
+    ensures app { IfOk result (λ command. app_of command ≡ export) }
+    ensures local { IfOk result (λ command. (fields_of command).has_globals ≡ false) }
+{
+    let arguments = vec![in alloc;
+        policy_option(alloc).required(true),
+        profile_option(alloc).required(true),
+        form_option(alloc),
+        valued(
+            alloc,
+            "root",
+            "DIR",
+            "The directory that stands for the policy's root, by its absolute path (/)"
+        ),
+        repeated(
+            alloc,
+            "also",
+            "PATH",
+            "An absolute path on which each layer grants reading and executing too; may be repeated",
+        ),
+        flag(
+            alloc,
+            "follow",
+            "Follow links on rules' paths: whoever may write below the root decides what is granted",
+        ),
+        valued(
+            alloc,
+            "deny",
+            "LIST",
+            "Deny these too: tcp, ioctl_dev, signal and abstract_unix_socket, with commas between",
+        ),
+        flag(
+            alloc,
+            "exact",
+            "Refuse to run where a rule's rights would be cut, since its path is no directory",
+        ),
+        flag(
+            alloc,
+            "best-effort",
+            "Run with what the kernel can enforce, in place of refusing to run",
+        ),
+        repeated(
+            alloc,
+            "checked",
+            "FILE",
+            "Write only if the profile passes this file of checks; may be repeated",
+        ),
+    ]?;
+    command_of(
+        alloc,
+        "export",
+        "Writes a policy's profile as a C program or as JSON",
+        arguments,
+    )
+}
+
+fn why_command<'a>(alloc: Global) -> Result<Command<'a>, AllocError>
+    ensures app { IfOk result (λ command. app_of command ≡ why) }
+    ensures local { IfOk result (λ command. (fields_of command).has_globals ≡ false) }
+{
+    let words = demanded(
+        alloc,
+        "WORD",
+        "A history's file, or `-` for standard input, and an entry's number; or a command",
+    );
+    let arguments = vec![in alloc;
+        one_or_more(words),
+        policy_option(alloc),
+        profile_option(alloc),
+        nodes_option(alloc),
+    ]?;
+    command_of(
+        alloc,
+        "why",
+        "Tells why a call was denied, or wasn't, and what would let it pass",
+        arguments,
+    )
+}
+
+// Adds a subcommand, if memory sufficed for both.
+fn joined<'a>(
+    command: Result<Command<'a>, AllocError>,
+    subcommand: Result<Command<'a>, AllocError>,
+) -> Result<Command<'a>, AllocError>
+    requires { IfOk subcommand (λ s. (fields_of s).has_globals ≡ false) }
+    ensures { (top added : App) → IfOk command.entry (λ c. app_of c ≡ top)
+        → IfOk subcommand.entry (λ s. app_of s ≡ added)
+        → IfOk result (λ r. app_of r ≡ with_subcommand top added.top) }
+{
+    command?.subcommand(subcommand?)
+}
+
+/// Returns the program's command line for clap. Errors: memory ran out.
+pub fn landtree_command<'a>(alloc: Global) -> Result<Command<'a>, AllocError>
+    ensures { IfOk result (λ command. app_of command ≡ landtree) }
+{
+    let top = Command::new(alloc, "landtree")
+        .about("A file tree in memory whose clients confine themselves with Landlock rulesets")
+        .version("0.1.0 (rattle-kit-13f)")
+        .subcommand_required(true);
+    let with_run = joined(Ok(top), run_command(alloc));
+    let with_audit = joined(with_run, audit_command(alloc));
+    let with_schedule = joined(with_audit, schedule_command(alloc));
+    let with_rights = joined(with_schedule, rights_command(alloc));
+    let with_check = joined(with_rights, check_command(alloc));
+    let with_serve = joined(with_check, serve_command(alloc));
+    let with_export = joined(with_serve, export_command(alloc));
+    let with_why = joined(with_export, why_command(alloc));
+    joined(with_why, learn_command(alloc))
+}

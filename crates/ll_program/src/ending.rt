@@ -1,0 +1,28 @@
+//! How the program ends.
+
+ghost use Rattle.std.specs.Prelude.{◌≡◌};
+ghost use Rattle.std.specs.Process.{exit_status};
+ghost use Rattle.ll_program.specs.Failure.{status_at};
+
+use crate::conclusion::Conclusion;
+use crate::failure::Failure;
+use std::process::ExitCode;
+
+/// Says on standard error why the program fails, where it does, or what has ended a strict run. The status that it ends
+/// with.
+pub fn concluded(rt: &HostRuntime, ended: Result<Conclusion, Failure>) -> ExitCode
+    ensures { exit_status result ≡ status_at ended }
+{
+    match ended {
+        Ok(conclusion) => {
+            if let Conclusion::Stopped(stopped) = &conclusion {
+                let _ = eprint!(rt; "{stopped}");
+            }
+            ExitCode::from(conclusion.status())
+        }
+        Err(failure) => {
+            let _ = eprintln!(rt; "{failure}");
+            ExitCode::from(failure.status())
+        }
+    }
+}

@@ -1,0 +1,53 @@
+//! What the program is asked by its words, and how it runs scripts, audits histories, fails and ends.
+#![tactic(auto)]
+
+mod checked;
+mod clash;
+mod command;
+mod conclusion;
+mod denied;
+mod draft;
+mod ending;
+mod export;
+mod failure;
+mod input;
+mod inputs;
+mod learn;
+mod options;
+mod output;
+mod paths;
+mod policy;
+mod program;
+mod rights;
+mod serve;
+mod shown;
+mod standard;
+mod stopped;
+mod text;
+mod tree;
+mod values;
+mod why;
+
+pub use checked::Checked;
+pub use clash::{Clash, Device, Purpose};
+pub use conclusion::Conclusion;
+pub use denied::Denied;
+pub use draft::Draft;
+pub use ending::concluded;
+pub use export::{ExportOptions, Form};
+pub use failure::Failure;
+pub use input::{Late, Sources, named};
+pub use learn::{LearnOptions, Lessons};
+pub use options::{CheckOptions, Options, RunOptions, ScheduleOptions};
+pub use output::NewFile;
+pub use paths::paths_of;
+pub use policy::{policy_of, setup_of};
+pub use program::{Recorded, audit, begin_record, header_of, run, save_history};
+pub use rights::RightsOptions;
+pub use serve::ServeOptions;
+pub use shown::Shown;
+pub use standard::Standard;
+pub use stopped::Stopped;
+pub use text::{read_text, write_text};
+pub use tree::TreeOptions;
+pub use why::{Question, WhyOptions};

@@ -1,0 +1,298 @@
+//! Runs and audits, as the program makes them.
+
+ghost use Rattle.std.specs.Prelude.{◌≡◌, ◌≤◌, ◌^◌, ℕ, List, OnOk, OnErr, IfOk, IfErr, IfSome, None, is_some, true};
+ghost use Rattle.std.specs.Prelude.{false};
+ghost use Rattle.std.specs.Io.KnownBytes.{Appends};
+ghost use Rattle.std.specs.List.{All};
+ghost use Rattle.ll_rights.specs.declared.limits.TheConstants.{TREE_NODES};
+ghost use Rattle.ll_wire.specs.Devices.{IsWhole};
+ghost use Rattle.ll_wire.specs.Transcript.{Writes};
+ghost use Rattle.ll_program.specs.Options.{order_in};
+ghost use Rattle.ll_audit.specs.Saved.{Judges, saved_text, verdict_line};
+ghost use Rattle.ll_session.specs.declared.fault.RunFault.{RunFault};
+ghost use Rattle.ll_session.specs.declared.setup.Setup.{Setup};
+ghost use Rattle.ll_session.specs.Run.{EndsBy, MayEnd, RunsAs};
+ghost use Rattle.ll_wire.specs.Entries.{IsEntry, header_tokens};
+ghost use Rattle.ll_wire.specs.Grammar.{line_of};
+ghost use Rattle.ll_wire.specs.Pieces.{pieces};
+ghost use Rattle.ll_program.specs.declared.failure.Failure.{Failure};
+ghost use Rattle.ll_program.specs.Failure.{failure_of, IsOfDevices, IsOfSaving};
+ghost use Rattle.ll_program.specs.Policy.{header_of, IsConcluded, IsRun, IsSaved, MayFail};
+ghost use Rattle.ll_seq.specs.History.{IsLegal};
+ghost use Rattle.ll_seq.specs.State.{start};
+
+use crate::RunOptions;
+use crate::conclusion::Conclusion;
+use crate::failure::Failure;
+use crate::policy::setup_of;
+use crate::stopped::Stopped;
+use ll_audit::{Progress, Verdict, record_in, run_audit, save_in};
+use ll_seq::History;
+use ll_session::{Chronicle, Manner, NoKeeper, Run, Setup, Stop, run_over};
+use ll_wire::{Destination, Ends, Header, Pair, Version};
+use std::alloc::Global;
+use std::io::{Read, Write};
+use std::sync::Wait;
+
+/// A history, and the record that was kept of it, if one was.
+#[derive(Drop)]
+pub struct Recorded<D> {
+    pub history: History,
+    pub record: Option<D>,
+}
+
+// A run, and what has ended it before its script, if anything has.
+#[derive(Drop)]
+struct Performed<D> {
+    run: Recorded<D>,
+    stop: Option<Stop>,
+}
+
+impl<D> Performed<D> {
+    // A run of which this record was kept.
+    fn of(run: Run, record: Option<D>) -> Performed<D>
+        ensures history { result.run.history ≡ run.history }
+        ensures stop { result.stop ≡ run.stop }
+    {
+        let Run { history, stop } = run;
+        Performed {
+            run: Recorded { history, record },
+            stop,
+        }
+    }
+}
+
+// Runs a script over a tree that is set up so, strictly or not. A record that has the header is kept of its history
+// meanwhile; with a failure, what was answered is in the record.
+fn perform_over<H: Wait, D: Write + Drop, E: Ends>(
+    rt: &H,
+    alloc: Global,
+    setup: Setup,
+    is_strict: bool,
+    record: Option<D>,
+    ends: &mut E,
+) -> Result<Performed<D>, Failure>
+    requires whole { IsWhole (E.devices ends.old) }
+    requires answered { (E.devices ends.old).owed ≡ 0 }
+    requires reads { (E.devices ends.old).reads ≤ 2 ^ 62 }
+    ensures transcript { IfOk result (λ it. IfSome (E.devices ends.old).remaining (λ input.
+        Writes (E.devices ends.old).contents (E.devices ends.new).contents (λ text.
+        RunsAs is_strict setup input (E.devices ends.new).remaining text it.stop it.run.history.entries))) }
+    ensures lax { IfOk result (λ it. is_strict ≡ false → it.stop ≡ None) }
+    ensures legal { IfOk result (λ it. IsLegal (start setup.rules setup.nodes) it.run.history.entries) }
+    ensures entries { IfOk result (λ it. All IsEntry it.run.history.entries) }
+    ensures failure { IfErr result (λ failure. (fault : RunFault) × MayEnd setup fault
+        × (failure ≡ failure_of fault) × EndsBy setup fault (E.devices ends.old) (E.devices ends.new)) }
+    ensures same { E.names ends.new ≡ E.names ends.old }
+{
+    let Some(draft) = record else {
+        let manner = Manner {
+            is_strict,
+            keeper: &NoKeeper,
+        };
+        return match run_over(rt, alloc, setup, &manner, ends) {
+            Ok(run) => Ok(Performed::of(run, None)),
+            Err(fault) => Err(Failure::of_run(fault)),
+        };
+    };
+    let chronicle = Chronicle::new(alloc, draft);
+    let manner = Manner {
+        is_strict,
+        keeper: &chronicle,
+    };
+    match run_over(rt, alloc, setup, &manner, ends) {
+        Ok(run) => Ok(Performed::of(run, Some(chronicle.into_parts().0))),
+        Err(fault) => Err(Failure::of_run(fault)),
+    }
+}
+
+// The same, from a reader to a writer.
+fn perform<H: Wait, D: Write + Drop, R: Read, W: Write>(
+    rt: &H,
+    alloc: Global,
+    setup: Setup,
+    is_strict: bool,
+    record: Option<D>,
+    script: &mut R,
+    out: &mut W,
+) -> Result<Performed<D>, Failure>
+    ensures transcript { IfOk result (λ it. IfSome (R.remaining script.old) (λ input.
+        Writes (W.contents out.old) (W.contents out.new) (λ text.
+        RunsAs is_strict setup input (R.remaining script.new) text it.stop it.run.history.entries))) }
+    ensures lax { IfOk result (λ it. is_strict ≡ false → it.stop ≡ None) }
+    ensures legal { IfOk result (λ it. IsLegal (start setup.rules setup.nodes) it.run.history.entries) }
+    ensures entries { IfOk result (λ it. All IsEntry it.run.history.entries) }
+    ensures failure { IfErr result (λ failure. (fault : RunFault)
+        × MayEnd setup fault × (failure ≡ failure_of fault)) }
+{
+    let mut ends = Pair {
+        reader: script,
+        writer: out,
+        reads: 0,
+        owed: 0,
+        is_answering: true,
+        is_input_broken: false,
+        is_output_broken: false,
+    };
+    perform_over(rt, alloc, setup, is_strict, record, &mut ends)
+}
+
+/// The header of the history of a run that is set up so.
+pub fn header_of(setup: &Setup) -> Header
+    ensures header { result ≡ header_of setup.now }
+    ensures some { 1 ≤ result.nodes }
+    ensures most { result.nodes ≤ TREE_NODES }
+{
+    Header {
+        version: Version::Three(setup.rules.abi),
+        nodes: setup.nodes,
+    }
+}
+
+/// Begins the record of a history under this header, if a file is named for the history.
+pub fn begin_record<F: Destination>(
+    alloc: Global,
+    header: Header,
+    save: Option<&str>,
+    file: &mut F,
+) -> Option<F::Draft>
+    requires some { 1 ≤ header.nodes }
+    requires most { header.nodes ≤ TREE_NODES }
+    ensures begun { IfSome result (λ draft.
+        Appends (F.blank file.old) (F.Draft.contents draft) (line_of (header_tokens header))) }
+    ensures same { F.contents file.new ≡ F.contents file.old }
+    ensures again { F.blank file.new ≡ F.blank file.old }
+{
+    match save {
+        Some(_) => record_in(alloc, header, file),
+        None => None,
+    }
+}
+
+// Removes a record, if there is one.
+fn remove_record<F: Destination>(record: Option<F::Draft>, file: &mut F)
+    ensures { F.contents file.new ≡ F.contents file.old }
+{
+    if let Some(draft) = record {
+        file.remove(draft);
+    }
+}
+
+/// Saves a history under this header, and removes the record of it then. With a failure what stood in the file stays,
+/// and the record with it.
+pub fn save_history<F: Destination>(
+    alloc: Global,
+    header: Header,
+    run: Recorded<F::Draft>,
+    file: &mut F,
+) -> Result<(), Failure>
+    requires some { 1 ≤ header.nodes }
+    requires most { header.nodes ≤ TREE_NODES }
+    requires entries { All IsEntry run.history.entries }
+    ensures saved { OnOk result (Appends (F.blank file.old) (F.contents file.new)
+        (saved_text header run.history.entries)) }
+    ensures kept { OnErr result (F.contents file.new ≡ F.contents file.old) }
+    ensures failure { IfErr result IsOfSaving }
+{
+    let Recorded { history, record } = run;
+    match save_in(alloc, header, history.entries(), file) {
+        Ok(()) => {
+            remove_record(record, file);
+            Ok(())
+        }
+        Err(fault) => Err(Failure::of_saving(fault)),
+    }
+}
+
+// Saves a history where a file is named for it.
+fn save_where_named<F: Destination>(
+    alloc: Global,
+    options: &RunOptions,
+    header: Header,
+    run: Recorded<F::Draft>,
+    file: &mut F,
+) -> Result<(), Failure>
+    requires some { 1 ≤ header.nodes }
+    requires most { header.nodes ≤ TREE_NODES }
+    requires entries { All IsEntry run.history.entries }
+    ensures saved { (setup : Setup) → header ≡ header_of setup → OnOk result (IsSaved (order_in options.now).save setup
+        run.history.entries (F.blank file.old) (F.contents file.old) (F.contents file.new)) }
+    ensures kept { OnErr result (F.contents file.new ≡ F.contents file.old) }
+    ensures failure { IfErr result (λ failure. (is_some (order_in options.now).save ≡ true) × IsOfSaving failure) }
+{
+    if options.save.is_none() {
+        return Ok(());
+    }
+    save_history(alloc, header, run, file)
+}
+
+// What the program concludes from what ended the run of this script.
+fn conclude(alloc: Global, script: &str, stop: Option<Stop>) -> Result<Conclusion, Failure>
+    ensures end { IfOk result (IsConcluded script.now stop) }
+    ensures failure { IfErr result (λ failure. failure ≡ Failure.NoMemory) }
+{
+    let Some(stop) = stop else {
+        return Ok(Conclusion::Done);
+    };
+    match Stopped::of(alloc, script, &stop) {
+        Ok(stopped) => Ok(Conclusion::Stopped(stopped)),
+        Err(_) => Err(Failure::NoMemory),
+    }
+}
+
+/// Runs a script as the options ask for it: where they name a policy, by the one that `policy` reads. Where they name a
+/// file for the history, it is saved into `file`, under the header of its tree, also where a strict run ends early.
+pub fn run<H: Wait, P: Read, R: Read, W: Write, F: Destination>(
+    rt: &H,
+    alloc: Global,
+    options: &RunOptions,
+    policy: &mut P,
+    script: &mut R,
+    out: &mut W,
+    file: &mut F,
+) -> Result<Conclusion, Failure>
+    ensures done { IfOk result (λ end. (text : List ℕ) × IfSome (P.remaining policy.old) (λ told. text ≡ told)
+        × IsRun (order_in options.now) text end (R.remaining script.old) (R.remaining script.new)
+        (W.contents out.old) (W.contents out.new)
+        (F.blank file.old) (F.contents file.old) (F.contents file.new)) }
+    ensures kept { OnErr result (F.contents file.new ≡ F.contents file.old) }
+    ensures failure { IfErr result (λ failure. (text : List ℕ) × IfSome (P.remaining policy.old) (λ told. text ≡ told)
+        × MayFail (order_in options.now) text failure) }
+{
+    let setup = match setup_of(alloc, &options.tree(), policy) {
+        Ok(setup) => setup,
+        Err(failure) => return Err(failure),
+    };
+    let record = begin_record(alloc, header_of(&setup), options.save, file);
+    let header = header_of(&setup);
+    let it = match perform(rt, alloc, setup, options.strict, record, script, out) {
+        Ok(it) => it,
+        Err(failure) => return Err(failure),
+    };
+    let Performed { run, stop } = it;
+    let end = match conclude(alloc, options.script, stop) {
+        Ok(end) => end,
+        Err(failure) => return Err(failure),
+    };
+    match save_where_named(alloc, options, header, run, file) {
+        Ok(()) => Ok(end),
+        Err(failure) => Err(failure),
+    }
+}
+
+/// Judges the history in a file, and writes the answer's line.
+pub fn audit<R: Read, W: Write, P: Progress>(
+    alloc: Global,
+    file: &mut R,
+    out: &mut W,
+    progress: &mut P,
+) -> Result<Verdict, Failure>
+    ensures verdict { IfOk result (λ verdict. IfSome (R.remaining file.old) (λ bytes. Judges (pieces bytes) verdict)) }
+    ensures answer { IfOk result (λ verdict. Appends (W.contents out.old) (W.contents out.new) (verdict_line verdict)) }
+    ensures failure { IfErr result IsOfDevices }
+{
+    match run_audit(alloc, file, out, progress) {
+        Ok(verdict) => Ok(verdict),
+        Err(failure) => Err(Failure::of_audit(failure)),
+    }
+}

@@ -1,0 +1,45 @@
+//! Whole texts of files.
+
+ghost use Rattle.std.specs.Prelude.{◌≡◌, ◌⊎◌, IfOk, IfErr, IfSome, OnOk};
+ghost use Rattle.std.specs.Io.KnownBytes.{Appends};
+ghost use Rattle.ll_wire.specs.Writing.{AppendsFront};
+ghost use Rattle.ll_program.specs.declared.failure.Failure.{Failure};
+
+use crate::failure::Failure;
+use ll_wire::{Pair, write_out};
+use std::alloc::Global;
+use std::io::{ErrorKind, Read, Write, empty};
+
+/// The whole text of a policy's or a schedule's file.
+pub fn read_text<R: Read>(alloc: Global, file: &mut R) -> Result<Vec<u8>, Failure>
+    ensures text { IfOk result (λ text. IfSome (R.remaining file.old) (λ told. text.items ≡ told)) }
+    ensures failure { IfErr result (λ failure. (failure ≡ Failure.File) ⊎ (failure ≡ Failure.NoMemory)) }
+{
+    let mut text = Vec::new(alloc);
+    match file.read_to_end(&mut text) {
+        Ok(_) => Ok(text),
+        Err(error) if error.kind() == ErrorKind::OutOfMemory => Err(Failure::NoMemory),
+        Err(_) => Err(Failure::File),
+    }
+}
+
+/// Writes the text whole, to an output of the program. Doesn't retry after a failure.
+pub fn write_text<W: Write>(text: &str, out: &mut W) -> Result<(), Failure>
+    ensures ok { OnOk result (Appends (W.contents out.old) (W.contents out.new) text.now) }
+    ensures failure { IfErr result (λ failure. (failure ≡ Failure.Output)
+        × AppendsFront (W.contents out.old) (W.contents out.new) text.now) }
+{
+    let mut ends = Pair {
+        reader: &mut empty(),
+        writer: out,
+        reads: 0,
+        owed: 0,
+        is_answering: false,
+        is_input_broken: false,
+        is_output_broken: false,
+    };
+    match write_out(&mut ends, text.as_bytes()) {
+        Ok(()) => Ok(()),
+        Err(_) => Err(Failure::Output),
+    }
+}

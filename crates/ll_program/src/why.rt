@@ -1,0 +1,84 @@
+//! The options of `why`.
+
+ghost use Rattle.std.specs.Prelude.{◌≡◌, ◌≤◌, codes, map, option_map, IfOk};
+ghost use Rattle.ll_rights.specs.declared.limits.TheConstants.{HISTORY_ENTRIES, TREE_NODES};
+
+use crate::values::{number_in, number_of};
+use clap::ArgMatches;
+use ll_rights::limits::{HISTORY_ENTRIES, TREE_NODES};
+use std::alloc::{AllocError, Global};
+
+/// What `why` explains.
+#[derive(Clone, Copy)]
+pub enum Question<'a> {
+    /// A command, made in a new tree set up by a policy: the policy file, the client's profile, and the command.
+    Command(&'a str, &'a str, &'a str),
+    /// The reply of an entry in a saved history: the file (`-` is standard input), and the entry's number from 1.
+    Entry(&'a str, u64),
+}
+
+/// The options of `why`: the words, which are a history and an entry's number, or a command; for a command the policy
+/// file and the profile; and the limit of live nodes.
+#[derive(Drop)]
+pub struct WhyOptions<'a> {
+    pub words: Vec<&'a str>,
+    pub policy: Option<&'a str>,
+    pub profile: Option<&'a str>,
+    pub nodes: usize,
+    ghost some: { 1 ≤ nodes },
+    ghost most: { nodes ≤ TREE_NODES },
+}
+
+impl<'a> WhyOptions<'a> {
+    ghost use Rattle.clap.specs.Words.{found_of, rows_of};
+    ghost use Rattle.ll_program.specs.Options.{asked_by, fits_why, question_of, why_in, why_order};
+
+    /// Reads the options of `why` from clap's matches. Errors: memory ran out.
+    #[tactic(auto, using(crate::proofs::Numbers::text_told, crate::proofs::Numbers::texts_told))]
+    pub(crate) fn of_matches(
+        alloc: Global,
+        why: &ArgMatches<'a>,
+    ) -> Result<Option<WhyOptions<'a>>, AllocError>
+        ensures { IfOk result (λ o. option_map why_in o ≡ why_order (rows_of (found_of why.now))) }
+    {
+        let Some(words) = why.get_strs("WORD") else {
+            return Ok(None);
+        };
+        let Some(nodes) = number_of(why, "nodes", 1, TREE_NODES as u64) else {
+            return Ok(None);
+        };
+        let words = Vec::from_slice(alloc, words)?;
+        let policy = why.get_str("policy");
+        let profile = why.get_str("profile");
+        Ok(Some(WhyOptions {
+            words,
+            policy,
+            profile,
+            nodes: nodes as usize,
+        }))
+    }
+
+    /// Returns what to explain, if the options fit together.
+    pub fn question(&self) -> Option<Question<'a>>
+        ensures { option_map question_of result ≡ asked_by (why_in self.now) }
+    {
+        match (self.words.as_slice(), self.policy, self.profile) {
+            ([command], Some(policy), Some(profile)) => {
+                Some(Question::Command(policy, profile, command))
+            }
+            ([history, number], None, None) => {
+                let number = number_in(number, 1, HISTORY_ENTRIES as u64)?;
+                Some(Question::Entry(history, number))
+            }
+            _ => None,
+        }
+    }
+
+    /// Reports whether the options fit together: a history and a number alone, or a command with a policy and a
+    /// profile.
+    pub fn fit(&self) -> bool
+        ensures { result ≡ fits_why (why_in self.now) }
+    {
+        self.question().is_some()
+    }
+}

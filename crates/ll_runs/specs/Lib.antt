@@ -1,4 +1,0 @@
-pub mod Failure
-pub mod Policy
-pub mod Sources
-pub mod Stopped
